@@ -1,0 +1,9 @@
+pub mod Causes
+pub mod Memory
+pub mod Standard
+pub mod Attrs
+pub mod Ranges
+pub mod Span
+pub mod Space
+pub mod Layout
+pub mod Within

@@ -1,0 +1,20 @@
+//! The vocabulary of the monitor: spaces, ranges, rows, attributes, and the ends of byte streams.
+#![tactic(auto)]
+
+mod attrs;
+mod memory;
+mod range;
+mod reserved;
+mod row;
+mod space;
+mod standard;
+mod stream;
+
+pub use attrs::{Attrs, AttrsFault};
+pub use memory::{MemSink, MemSource};
+pub use range::{Range, Ranges};
+pub use reserved::append_reserved;
+pub use row::Row;
+pub use space::{PAGE_SIZE, Place, Space, SpaceFault, Target};
+pub use standard::{StdSink, StdSource};
+pub use stream::{Failed, Sink, Source};

@@ -1,0 +1,106 @@
+// Streams over memory, which tell all their bytes.
+ghost use Rattle.std.specs.Prelude.{◌≡◌, [], IfOk};
+ghost use Rattle.damon_types.specs.Memory.{Taken};
+
+use crate::{Failed, Sink, Source, append_reserved};
+use std::alloc::{AllocError, Global};
+use std::marker::Model;
+
+/// A source of bytes in memory. It never fails.
+#[derive(Drop)]
+pub struct MemSource<'a> {
+    bytes: &'a [u8],
+}
+
+impl<'a> Model for MemSource<'a> {
+    ghost use Rattle.std.specs.Prelude.{ℕ, List};
+
+    ghost Value = { List ℕ };
+
+    ghost view = { λ s. s.bytes.now };
+}
+
+impl<'a> MemSource<'a> {
+    /// A source with these bytes left.
+    pub fn new(bytes: &'a [u8]) -> MemSource<'a>
+        ensures { result ≡ bytes.now }
+    {
+        MemSource { bytes }
+    }
+}
+
+impl Source for MemSource<'_> {
+    ghost use Rattle.std.specs.Prelude.{Some};
+
+    ghost left = { λ s. Some s };
+
+    ghost faults = { λ _. 0 };
+
+    fn read(&mut self, buf: &mut [u8]) -> Result<usize, Failed> {
+        let count = self.bytes.len().min(buf.len());
+        let (front, rest) = self.bytes.split_at(count);
+        buf[..count].copy_from_slice(front);
+        self.bytes = rest;
+        Ok(count)
+    }
+}
+
+/// A sink that keeps what it takes, as long as there is room. A write of a piece that is not empty
+/// fails where no room is left.
+#[derive(Drop)]
+pub struct MemSink {
+    bytes: Vec<u8>,
+    room: u32,
+    faults: u64,
+}
+
+impl Model for MemSink {
+    ghost use Rattle.std.specs.Prelude.{◌≤◌, vec_capacity};
+    ghost use Rattle.damon_types.specs.Memory.{Taken};
+
+    ghost Value = { Taken };
+
+    ghost view = { λ s. record { bytes = s.bytes.items; room = s.room; faults = s.faults } };
+
+    ghost invariant = { λ s. s.room ≤ vec_capacity s.bytes };
+}
+
+impl MemSink {
+    /// A sink with room for so many bytes. Takes memory for them; `write` takes none.
+    pub fn new(alloc: Global, room: u32) -> Result<MemSink, AllocError>
+        ensures { IfOk result (λ s. s ≡ record { bytes = []; room = room; faults = 0 }) }
+    {
+        let bytes = Vec::with_capacity(alloc, room as usize)?;
+        Ok(MemSink {
+            bytes,
+            room,
+            faults: 0,
+        })
+    }
+
+    /// What was taken.
+    pub fn bytes(&self) -> &[u8]
+        ensures { result.now ≡ self.now.bytes }
+    {
+        &self.bytes
+    }
+}
+
+impl Sink for MemSink {
+    ghost use Rattle.std.specs.Prelude.{Some};
+
+    ghost taken = { λ s. Some s.bytes };
+
+    ghost faults = { λ s. s.faults };
+
+    fn write(&mut self, piece: &[u8]) -> Result<usize, Failed> {
+        let room = (self.room as usize).saturating_sub(self.bytes.len());
+        let count = piece.len().min(room);
+        if count == 0 && !piece.is_empty() {
+            self.faults = self.faults.saturating_add(1);
+            return Err(Failed);
+        }
+        append_reserved(&mut self.bytes, &piece[..count]);
+        Ok(count)
+    }
+}

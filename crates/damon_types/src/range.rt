@@ -1,0 +1,113 @@
+ghost use Rattle.std.specs.Prelude.{◌≡◌, ◌+◌, ◌^◌, ◌<◌, ◌≤◌, [], ◌∷◌, ◌++◌, length, slice_get, IfOk};
+ghost use Rattle.damon_types.specs.Ranges.{RangeList, InOrder, page_total, end_of, Follows};
+
+use crate::append_reserved;
+use std::alloc::{AllocError, Global};
+use std::marker::Model;
+
+/// A run of pages of one target that is watched.
+#[derive(Clone, Copy, Debug, PartialEq, Eq)]
+pub struct Range {
+    /// The target that the pages belong to.
+    pub target: u32,
+    /// The number of the first page.
+    pub first: u32,
+    /// How many pages there are, at least 1.
+    pub pages: u32,
+    /// A label of the user's, by which filters choose.
+    pub class: u8,
+}
+
+/// Ranges by target, then address, without overlap, with room for a fixed number of them. Two that
+/// are adjacent remain two.
+#[derive(Drop)]
+pub struct Ranges {
+    items: Vec<Range>,
+    cap: u32,
+}
+
+impl Model for Ranges {
+    ghost use Rattle.damon_types.specs.Ranges.{RangeList, IsRangeList};
+
+    ghost Value = { RangeList };
+
+    ghost view = { λ r. record { list = r.items.items; cap = r.cap } };
+
+    ghost use Rattle.std.specs.Prelude.{◌≤◌, vec_capacity};
+
+    ghost invariant = { λ r. IsRangeList r.items.items r.cap (vec_capacity r.items) };
+}
+
+impl Ranges {
+    /// The empty list, with room for so many ranges. Takes memory for them; no other call does.
+    pub fn new(alloc: Global, cap: u32) -> Result<Ranges, AllocError>
+        ensures { IfOk result (λ r. r ≡ record { list = []; cap = cap }) }
+    {
+        let items = Vec::with_capacity(alloc, cap as usize)?;
+        Ok(Ranges { items, cap })
+    }
+
+    /// For how many ranges there is room.
+    pub fn cap(&self) -> u32
+        ensures { result ≡ self.now.cap }
+    {
+        self.cap
+    }
+
+    /// The number of ranges.
+    pub fn len(&self) -> u32
+        ensures len { result ≡ length self.now.list }
+        ensures room { result ≤ self.now.cap }
+        ensures order { InOrder self.now.list }
+    {
+        self.items.len() as u32
+    }
+
+    /// The range with this index.
+    pub fn get(&self, index: u32) -> Range
+        requires { index < length self.now.list }
+        ensures { slice_get self.now.list index ≡ Some result }
+    {
+        self.items[index as usize]
+    }
+
+    /// Empties the list.
+    pub fn clear(&mut self)
+        ensures { self.new ≡ record self.old { list = [] } }
+    {
+        self.items.clear();
+    }
+
+    /// Appends a range that comes after the last one.
+    pub fn push(&mut self, range: Range)
+        requires room { length self.old.list < self.old.cap }
+        requires pages { 1 ≤ range.pages }
+        requires end { range.first + range.pages < 2 ^ 32 }
+        requires after { Follows self.old.list range }
+        ensures { self.new ≡ record self.old { list = self.old.list ++ range ∷ [] } }
+    {
+        self.items.push_reserved(range);
+    }
+
+    /// Makes the list another one, for which there is room.
+    pub fn copy_from(&mut self, other: &Ranges)
+        requires { length other.now.list ≤ self.old.cap }
+        ensures list { self.new ≡ record self.old { list = other.now.list } }
+        ensures order { InOrder other.now.list }
+    {
+        self.items.clear();
+        append_reserved(&mut self.items, &other.items);
+    }
+
+    /// The pages of all ranges.
+    pub fn total(&self) -> u32
+        ensures total { result ≡ page_total self.now.list }
+        ensures order { InOrder self.now.list }
+    {
+        let mut total = 0;
+        for range in &self.items {
+            total += range.pages;
+        }
+        total
+    }
+}

@@ -1,0 +1,183 @@
+ghost use Rattle.std.specs.Prelude.{◌≡◌, ℕ, ◌^◌, ◌<◌, length, slice_get, slice_index, IfOk};
+ghost use Rattle.damon_types.specs.Space.{pages_of, offset, page_of, IsSpace, ChecksTo, MadeOf};
+
+use std::alloc::{AllocError, Global};
+use std::marker::Model;
+use thiserror::Error;
+
+/// The bytes of a page.
+pub const PAGE_SIZE: u64 = 4096;
+
+const MAX_TARGETS: usize = 64;
+
+const MAX_PAGES: u32 = 1_048_576;
+
+/// An address range whose pages can be watched: whole pages from an address on.
+#[derive(Clone, Copy, Debug, PartialEq, Eq)]
+pub struct Target {
+    /// The address of the first byte, a multiple of the page size.
+    pub base: u64,
+    /// How many pages there are, from 1 to 1,048,576.
+    pub pages: u32,
+}
+
+/// Where a page lies: its target, and the address of its first byte.
+#[derive(Clone, Copy, Debug, PartialEq, Eq)]
+pub struct Place {
+    pub target: u32,
+    pub addr: u64,
+}
+
+/// Why a list of targets makes no space.
+#[derive(Clone, Copy, Debug, PartialEq, Eq, Error)]
+pub enum SpaceFault {
+    #[error("NoTarget")]
+    NoTarget,
+    #[error("TooManyTargets")]
+    TooManyTargets { count: u32 },
+    #[error("BadPages")]
+    BadPages { index: u32 },
+    #[error("BadBase")]
+    BadBase { index: u32 },
+    #[error("TooManyPages")]
+    TooManyPages { total: u64 },
+    #[error("Memory")]
+    Memory,
+}
+
+/// The targets of a monitor, from 1 to 64 with at most 1,048,576 pages in all. Their pages are
+/// numbered from 0: first those of target 0 by address, then those of target 1, and so on.
+#[derive(Clone, Drop)]
+pub struct Space {
+    targets: Vec<Target>,
+    offsets: Vec<u32>,
+    pages: u32,
+}
+
+impl Model for Space {
+    ghost use Rattle.std.specs.Prelude.{List};
+    ghost use Rattle.damon_types.specs.declared.space.Target.{Target};
+
+    ghost Value = { List Target };
+
+    ghost use Rattle.damon_types.specs.Layout.{IsLayout};
+
+    ghost view = { λ s. s.targets.items };
+
+    ghost invariant = { λ s. IsLayout s.targets.items s.offsets.items s.pages };
+}
+
+impl Space {
+    /// A space of these targets, or the first limit that they break: of the list, then of a
+    /// target by its index, its pages before its base, then of all pages. Takes memory.
+    pub fn new(alloc: Global, targets: &[Target]) -> Result<Space, SpaceFault>
+        requires { length targets.now < 2 ^ 32 }
+        ensures exact { MadeOf targets.now result }
+    {
+        let pages = check_targets(targets)?;
+        let offsets = match offsets_of(alloc, targets) {
+            Ok(offsets) => offsets,
+            Err(_) => return Err(SpaceFault::Memory),
+        };
+        match targets.to_vec(alloc) {
+            Ok(targets) => Ok(Space {
+                targets,
+                offsets,
+                pages,
+            }),
+            Err(_) => Err(SpaceFault::Memory),
+        }
+    }
+
+    /// The number of targets.
+    pub fn targets(&self) -> u32
+        ensures count { result ≡ length self.now }
+        ensures sound { IsSpace self.now }
+    {
+        self.targets.len() as u32
+    }
+
+    /// The number of pages of all targets.
+    pub fn pages(&self) -> u32
+        ensures { result ≡ pages_of self.now }
+    {
+        self.pages
+    }
+
+    /// The target with this index.
+    pub fn target(&self, index: u32) -> Target
+        requires { index < length self.now }
+        ensures { slice_get self.now index ≡ Some result }
+    {
+        self.targets[index as usize]
+    }
+
+    /// The page that holds the byte at an address of a target: None exactly where there is no
+    /// such target or the byte is outside its pages.
+    pub fn page_of(&self, target: u32, addr: u64) -> Option<u32>
+        ensures { result ≡ page_of self.now target addr }
+    {
+        let index = target as usize;
+        if index >= self.targets.len() {
+            return None;
+        }
+        let first = self.offsets[index];
+        let target = self.targets[index];
+        if target.base <= addr && addr < target.base + PAGE_SIZE * u64::from(target.pages) {
+            Some(first + ((addr - target.base) / PAGE_SIZE) as u32)
+        } else {
+            None
+        }
+    }
+}
+
+// The pages of targets that break no limit.
+fn check_targets(targets: &[Target]) -> Result<u32, SpaceFault>
+    requires { length targets.now < 2 ^ 32 }
+    ensures { ChecksTo targets.now result }
+{
+    if targets.is_empty() {
+        return Err(SpaceFault::NoTarget);
+    }
+    if targets.len() > MAX_TARGETS {
+        return Err(SpaceFault::TooManyTargets {
+            count: targets.len() as u32,
+        });
+    }
+    let mut pages = 0u32;
+    for (index, target) in targets.iter().enumerate() {
+        if target.pages < 1 || target.pages > MAX_PAGES {
+            return Err(SpaceFault::BadPages {
+                index: index as u32,
+            });
+        }
+        let size = PAGE_SIZE * u64::from(target.pages);
+        if target.base % PAGE_SIZE != 0 || target.base > (1 << 63) - size {
+            return Err(SpaceFault::BadBase {
+                index: index as u32,
+            });
+        }
+        pages += target.pages;
+    }
+    if pages > MAX_PAGES {
+        return Err(SpaceFault::TooManyPages {
+            total: u64::from(pages),
+        });
+    }
+    Ok(pages)
+}
+
+// The first page of each target.
+fn offsets_of(alloc: Global, targets: &[Target]) -> Result<Vec<u32>, AllocError>
+    requires { pages_of targets.now < 2 ^ 32 }
+    ensures count { IfOk result (λ v. length v.items ≡ length targets.now) }
+    ensures each { IfOk result (λ v. (i : ℕ) → i < length targets.now → slice_index v.items i ≡ offset targets.now i) }
+{
+    let mut offsets = Vec::new(alloc);
+    let mut next = 0;
+    for target in targets {
+        offsets.push(next)?;
+        next += target.pages;
+    }
+    Ok(offsets)
+}
