@@ -1,0 +1,2 @@
+pub mod TilingLemmas
+pub mod DivisionLemmas

@@ -1,0 +1,5 @@
+pub mod Rows
+pub mod Tiles
+pub mod Tiling
+pub mod Division
+pub mod Regions

@@ -1,0 +1,24 @@
+// What holds of the definitions, for the crates above.
+ghost use Rattle.std.specs.Prelude.{ℕ, ◌≤◌, List, [], ◌∷◌, length};
+ghost use Rattle.std.specs.List.{AllByRecursion};
+ghost use Rattle.damon_types.specs.declared.range.Range.{Range as range};
+ghost use Rattle.damon_types.specs.Ranges.{InOrder};
+ghost use Rattle.damon_types.specs.Span.{Span, spans};
+ghost use Rattle.region_list.specs.Tiles.{Tiles};
+ghost use Rattle.region_list.specs.Tiling.{Tiling};
+ghost use Rattle.region_list.specs.Division.{divided};
+
+/// Rows that tile ranges range by range tile them page by page.
+pub fn tiling_is_per_page()
+    ensures { (unit : ℕ) (gs : List range) (rows : List Span) → 1 ≤ unit → InOrder gs → Tiling unit gs rows → Tiles gs rows unit }
+{}
+
+/// The initial division tiles its ranges.
+pub fn division_tiles()
+    ensures { (unit min : ℕ) (gs : List range) → 1 ≤ unit → AllByRecursion (λ g. unit ≤ g.pages) gs → Tiling unit gs (spans (divided unit min gs)) }
+{}
+
+/// One range is divided into at most as many rows as are aimed at.
+pub fn one_range_is_divided_within()
+    ensures { (unit min : ℕ) (g : range) → 1 ≤ g.pages → 1 ≤ min → length (divided unit min (g ∷ [])) ≤ min }
+{}

@@ -1,0 +1,77 @@
+ghost use Rattle.std.specs.Prelude.{◌≡◌, ◌<◌, [], ◌∷◌, ◌++◌, length, slice_get, IfOk};
+
+use damon_types::Row;
+use std::alloc::{AllocError, Global};
+use std::marker::Model;
+
+/// A list of rows with room for a fixed number of them. The rows need not tile anything.
+#[derive(Drop)]
+pub struct RowBuf {
+    rows: Vec<Row>,
+    cap: u32,
+}
+
+impl Model for RowBuf {
+    ghost use Rattle.std.specs.Prelude.{◌≤◌, vec_capacity};
+    ghost use Rattle.region_list.specs.Rows.{RowList, IsRoomFor};
+
+    ghost Value = { RowList };
+
+    ghost view = { λ b. record { rows = b.rows.items; cap = b.cap } };
+
+    ghost invariant = { λ b. IsRoomFor b.rows.items b.cap (vec_capacity b.rows) };
+}
+
+impl RowBuf {
+    /// The empty list, with room for so many rows. Takes memory for them; no other call does.
+    pub fn new(alloc: Global, cap: u32) -> Result<RowBuf, AllocError>
+        ensures { IfOk result (λ b. b ≡ record { rows = []; cap = cap }) }
+    {
+        let rows = Vec::with_capacity(alloc, cap as usize)?;
+        Ok(RowBuf { rows, cap })
+    }
+
+    /// For how many rows there is room.
+    pub fn cap(&self) -> u32
+        ensures { result ≡ self.now.cap }
+    {
+        self.cap
+    }
+
+    /// The number of rows.
+    pub fn len(&self) -> u32
+        ensures { result ≡ length self.now.rows }
+    {
+        self.rows.len() as u32
+    }
+
+    /// The row with this index.
+    pub fn get(&self, index: u32) -> Row
+        requires { index < length self.now.rows }
+        ensures { slice_get self.now.rows index ≡ Some result }
+    {
+        self.rows[index as usize]
+    }
+
+    /// The rows in order.
+    pub fn as_slice(&self) -> &[Row]
+        ensures { result.now ≡ self.now.rows }
+    {
+        &self.rows
+    }
+
+    /// Appends a row.
+    pub fn push(&mut self, row: Row)
+        requires { length self.old.rows < self.old.cap }
+        ensures { self.new ≡ record self.old { rows = self.old.rows ++ row ∷ [] } }
+    {
+        self.rows.push_reserved(row);
+    }
+
+    /// Empties the list.
+    pub fn clear(&mut self)
+        ensures { self.new ≡ record self.old { rows = [] } }
+    {
+        self.rows.clear();
+    }
+}
