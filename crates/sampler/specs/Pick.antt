@@ -1,0 +1,27 @@
+-- The pages that a pass checks.
+use Rattle.std.specs.Prelude.{◌≡◌, ℕ, ◌+◌, ◌%◌, ◌≤◌, ◌<◌, ◌^◌, Bool, List, [], ◌∷◌, length}
+use Rattle.damon_types.specs.declared.row.Row.{Row}
+
+-- the page of a row that a word picks
+abbrev pub pick : Row → ℕ → ℕ
+pick r w = r.start + w % r.pages
+
+-- one pick for each row and its word
+abbrev pub picks_of : List Row → List ℕ → List ℕ
+picks_of [] ws = []
+picks_of (r ∷ rs) [] = []
+picks_of (r ∷ rs) (w ∷ ws) = pick r w ∷ picks_of rs ws
+
+-- the pages of a pass, whether the check of each was a hit, and how many fit
+pub record PickList : Type 0 where
+  pub pages : List ℕ
+  pub bits : List Bool
+  pub cap : ℕ
+
+-- each page has a bit, and there is room for both
+pub record IsPickList (pages : List ℕ) (bits : List Bool) (cap page_room bit_room : ℕ) : Type 0 where
+  pub same : length bits ≡ length pages
+  pub room : length pages ≤ cap
+  pub small : cap < 2 ^ 32
+  pub pages_reserved : cap ≤ page_room
+  pub bits_reserved : cap ≤ bit_room

@@ -1,0 +1,120 @@
+ghost use Rattle.std.specs.Prelude.{◌≡◌, ◌≤◌, ◌<◌, [], false, length, count_by, slice_get, slice_set, replicate, IfOk, vec_len, vec_capacity};
+ghost use Rattle.sampler.specs.Pick.{PickList, picks_of};
+
+use region_list::Regions;
+use std::alloc::{AllocError, Global};
+use std::marker::Model;
+
+/// The pages that a pass checks, one for each row, each with a bit that says whether its check was
+/// a hit. There is room for a fixed number of them.
+#[derive(Drop)]
+pub struct Picks {
+    pages: Vec<u32>,
+    bits: Vec<bool>,
+    cap: u32,
+}
+
+impl Model for Picks {
+    ghost use Rattle.std.specs.Prelude.{vec_capacity};
+    ghost use Rattle.sampler.specs.Pick.{PickList, IsPickList};
+
+    ghost Value = { PickList };
+
+    ghost view = { λ p. record { pages = p.pages.items; bits = p.bits.items; cap = p.cap } };
+
+    ghost invariant = { λ p. IsPickList p.pages.items p.bits.items p.cap (vec_capacity p.pages) (vec_capacity p.bits) };
+}
+
+impl Picks {
+    /// No picks, with room for so many. Takes memory for them; no other call does.
+    pub fn new(alloc: Global, cap: u32) -> Result<Picks, AllocError>
+        ensures { IfOk result (λ p. p ≡ record { pages = []; bits = []; cap = cap }) }
+    {
+        let pages = Vec::with_capacity(alloc, cap as usize)?;
+        let bits = Vec::with_capacity(alloc, cap as usize)?;
+        Ok(Picks { pages, bits, cap })
+    }
+
+    /// For how many picks there is room.
+    pub fn cap(&self) -> u32
+        ensures { result ≡ self.now.cap }
+    {
+        self.cap
+    }
+
+    /// The number of picks. Each has a bit.
+    pub fn len(&self) -> u32
+        ensures len { result ≡ length self.now.pages }
+        ensures bits { result ≡ length self.now.bits }
+        ensures room { result ≤ self.now.cap }
+    {
+        self.pages.len() as u32
+    }
+
+    /// The page of pick `k`.
+    pub fn page(&self, k: u32) -> u32
+        requires { k < length self.now.pages }
+        ensures { slice_get self.now.pages k ≡ Some result }
+    {
+        self.pages[k as usize]
+    }
+
+    /// Whether the check of pick `k` was a hit.
+    pub fn hit(&self, k: u32) -> bool
+        requires { k < length self.now.pages }
+        ensures { slice_get self.now.bits k ≡ Some result }
+    {
+        self.bits[k as usize]
+    }
+
+    /// How many checks were hits.
+    pub fn hits(&self) -> u32
+        ensures { result ≡ count_by (λ hit. hit) self.now.bits }
+    {
+        self.bits.iter().filter(|hit| **hit).count() as u32
+    }
+
+    /// Says whether the check of pick `k` was a hit.
+    pub fn set(&mut self, k: u32, hit: bool)
+        requires { k < length self.old.pages }
+        ensures { self.new ≡ record self.old { bits = slice_set self.old.bits k hit } }
+    {
+        self.bits[k as usize] = hit;
+    }
+}
+
+/// Picks a page of each row: that of row i by word i. No check is a hit so far.
+pub fn set_picks(regions: &Regions, words: &[u32], picks: &mut Picks)
+    requires words { length words.now ≡ length regions.now.rows }
+    requires room { length regions.now.rows ≤ picks.old.cap }
+    ensures { picks.new ≡ record picks.old { pages = picks_of regions.now.rows words.now; bits = replicate (length regions.now.rows) false } }
+{
+    pick_pages(regions, words, &mut picks.pages);
+    clear_bits(&mut picks.bits, regions.len());
+}
+
+// Picks a page of each row by its word.
+fn pick_pages(regions: &Regions, words: &[u32], pages: &mut Vec<u32>)
+    requires words { length words.now ≡ length regions.now.rows }
+    requires room { length regions.now.rows ≤ vec_capacity pages.old }
+    ensures pages { pages.new.items ≡ picks_of regions.now.rows words.now }
+    ensures capacity { vec_capacity pages.new ≡ vec_capacity pages.old }
+{
+    pages.clear();
+    for index in 0..regions.len() {
+        let row = regions.row(index);
+        pages.push_reserved(row.start + words[index as usize] % row.pages);
+    }
+}
+
+// Makes the list so many bits that are not set.
+fn clear_bits(bits: &mut Vec<bool>, count: u32)
+    requires { count ≤ vec_capacity bits.old }
+    ensures bits { bits.new.items ≡ replicate count false }
+    ensures capacity { vec_capacity bits.new ≡ vec_capacity bits.old }
+{
+    bits.clear();
+    for _ in 0..count {
+        bits.push_reserved(false);
+    }
+}
