@@ -1,0 +1,29 @@
+-- What a monitor is started with, and its limits.
+use Rattle.std.specs.Prelude.{ℕ, ◌≤◌, List, length, All}
+use Rattle.damon_types.specs.declared.space.Target.{Target}
+use Rattle.damon_types.specs.declared.range.Range.{Range}
+use Rattle.damon_types.specs.declared.attrs.Attrs.{Attrs}
+use Rattle.damon_types.specs.Attrs.{IsAttrs}
+use Rattle.damon_types.specs.Within.{AreWithin}
+
+-- the parts of a setup
+pub record SetupValue : Type 0 where
+  pub space : List Target
+  pub unit : ℕ
+  pub cap : ℕ
+  pub attrs : Attrs
+  pub ranges : List Range
+
+-- a setup within its limits
+pub record IsSetup (v : SetupValue) : Type 0 where
+  pub unit_some : 1 ≤ v.unit
+  pub unit_most : v.unit ≤ 1048576
+  pub cap_some : 3 ≤ v.cap
+  pub cap_most : v.cap ≤ 4096
+  pub attrs : IsAttrs v.attrs
+  pub max_cap : v.attrs.max ≤ v.cap
+  pub ranges_some : 1 ≤ length v.ranges
+  pub ranges_most : length v.ranges ≤ v.attrs.max
+  pub wide : All (λ g. v.unit ≤ g.pages) v.ranges
+  pub classes : All (λ g. g.class ≤ 15) v.ranges
+  pub within : AreWithin v.space v.ranges
