@@ -1,0 +1,43 @@
+-- What holds of each state that is reached.
+use Rattle.std.specs.Prelude.{◌≡◌, ℕ, ◌+◌, ◌≤◌, ◌<◌, true, false, List, [], ◌∷◌}
+use Rattle.std.specs.List.{enumerate_from}
+use Rattle.damon_types.specs.Span.{Span, spans}
+use Rattle.region_list.specs.Tiles.{Tiles}
+use Rattle.damon_core.specs.Note.{Note, checked, finished, voided, clears_of, checks_of, touched_after_clear}
+use Rattle.damon_core.specs.State.{State, row_count}
+
+-- page k lies in row k, for each row
+abbrev pub OneInEach : List ℕ → List Span → Type 0
+OneInEach [] [] = Unit {0}
+OneInEach (p ∷ ps) (s ∷ ss) = (s.start ≤ p) × (p < s.start + s.pages) × OneInEach ps ss
+OneInEach [] (s ∷ ss) = ⊥
+OneInEach (p ∷ ps) [] = ⊥
+
+-- The pass cleared one page of each row and checked the same page of each row, in order and once each.
+pub record ChecksEachRow (notes : List Note) (pass : ℕ) (rows : List Span) : Type 0 where
+  pub pages : List ℕ
+  pub one_in_each : OneInEach pages rows
+  pub cleared : clears_of notes pass ≡ enumerate_from 0 pages
+  pub checked : checks_of notes pass ≡ enumerate_from 0 pages
+
+-- each pass that ends among these notes, by all notes: a finished one checks each row, a void one checks nothing
+abbrev pub EachPassChecks : List Note → List Note → Type 0
+EachPassChecks all [] = Unit {0}
+EachPassChecks all (finished n rows ∷ earlier) = ChecksEachRow all n rows × EachPassChecks all earlier
+EachPassChecks all (voided n ∷ earlier) = (checks_of all n ≡ []) × EachPassChecks all earlier
+EachPassChecks all (_ ∷ earlier) = EachPassChecks all earlier
+
+-- each check that was a hit rests on a touch of its page after the pass had cleared it
+abbrev pub EachHitRests : List Note → Type 0
+EachHitRests [] = Unit {0}
+EachHitRests (checked n k p true ∷ earlier) = (touched_after_clear earlier n k p ≡ true) × EachHitRests earlier
+EachHitRests (_ ∷ earlier) = EachHitRests earlier
+
+-- The rows tile their ranges with at least `unit` pages each; there are at most `max`, which is at most `cap`;
+-- each finished pass checks one page of each row; each hit rests on a touch.
+pub record Bound (s : State) : Type 0 where
+  pub tiles : Tiles s.core.regions.ranges (spans s.core.regions.rows) s.core.regions.unit
+  pub few : row_count s.core ≤ s.core.attrs.max
+  pub most : s.core.attrs.max ≤ s.core.regions.cap
+  pub passes : EachPassChecks s.notes s.notes
+  pub hits : EachHitRests s.notes

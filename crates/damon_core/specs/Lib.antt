@@ -1,0 +1,10 @@
+pub mod Note
+pub mod Totals
+pub mod State
+pub mod Event
+pub mod After
+pub mod Reached
+pub mod Stands
+pub mod Shown
+pub mod Bound
+pub mod Kept

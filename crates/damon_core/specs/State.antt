@@ -1,0 +1,46 @@
+-- The state of a monitor, as the definitions see it.
+use Rattle.std.specs.Prelude.{ℕ, List, [], length}
+use Rattle.damon_types.specs.declared.space.Target.{Target}
+use Rattle.damon_types.specs.declared.attrs.Attrs.{Attrs}
+use Rattle.region_list.specs.Regions.{RegionList}
+use Rattle.region_list.specs.Division.{divided}
+use Rattle.live_commit.specs.declared.phase.Phase.{Phase}
+use Rattle.live_commit.specs.declared.phase.Phase.TheVariants.{Idle}
+use Rattle.live_commit.specs.Setup.{SetupValue}
+use Rattle.damon_core.specs.Note.{Note}
+
+-- What a monitor shows of itself: its targets, attributes, regions and phase, the picks of the pass that
+-- was prepared last, the passes in all, and those since the last aggregation.
+pub record Core : Type 0 where
+  pub space : List Target
+  pub attrs : Attrs
+  pub regions : RegionList
+  pub phase : Phase
+  pub picks : List ℕ
+  pub ticks : ℕ
+  pub since : ℕ
+
+-- a state: what a monitor shows, and all that has happened, the newest first
+pub record State : Type 0 where
+  pub core : Core
+  pub notes : List Note
+
+-- how many rows there are
+abbrev pub row_count : Core → ℕ
+row_count c = length c.regions.rows
+
+-- what a monitor shows before the first event: the division of the ranges
+abbrev pub opening_core : SetupValue → Core
+opening_core v = record {
+  space = v.space;
+  attrs = v.attrs;
+  regions = record { ranges = v.ranges; rows = divided v.unit v.attrs.min v.ranges; unit = v.unit; cap = v.cap; max = v.attrs.max };
+  phase = Idle;
+  picks = [];
+  ticks = 0;
+  since = 0;
+}
+
+-- the state before the first event
+abbrev pub opening : SetupValue → State
+opening v = record { core = opening_core v; notes = [] }

@@ -1,0 +1,14 @@
+// What holds of each state to which events lead.
+ghost use Rattle.damon_core.specs.State.{State};
+ghost use Rattle.damon_core.specs.Reached.{ReachedByHit};
+ghost use Rattle.damon_core.specs.Bound.{Bound};
+
+/// In each state to which fitting events lead, where the result of each load is that of its page, the
+/// rows tile their ranges within the limits, each finished pass checked one page of each row, and each
+/// hit rests on a touch of its page since the pass cleared it.
+pub fn reached_states_are_bound()
+    ensures { (s : State) → ReachedByHit s → Bound s }
+{
+    region_list::tiling_is_per_page();
+    region_list::division_tiles();
+}

@@ -1,0 +1,5 @@
+#![tactic(auto)]
+
+mod laws;
+
+pub use laws::reached_states_are_bound;
