@@ -1,1 +1,4 @@
 pub mod Keeping
+pub mod Tallying
+pub mod Standing
+pub mod RowFacts

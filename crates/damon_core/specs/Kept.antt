@@ -5,6 +5,7 @@ use Rattle.damon_types.specs.declared.space.Target.{Target}
 use Rattle.damon_types.specs.declared.attrs.Attrs.{Attrs}
 use Rattle.damon_types.specs.Attrs.{IsAttrs}
 use Rattle.damon_types.specs.Space.{pages_of}
+use Rattle.damon_types.specs.Within.{AreWithin}
 use Rattle.region_list.specs.Regions.{RegionList}
 use Rattle.sampler.specs.Pick.{PickList}
 use Rattle.live_commit.specs.declared.phase.Phase.{Phase}
@@ -59,7 +60,7 @@ pub record IsMonitor (space : List Target) (attrs : Attrs) (regions : RegionList
   pub some : 0 < length regions.rows
   pub few : length regions.rows ≤ regions.cap
   pub cap_few : regions.cap ≤ 4096
-  pub rows_in : AllByRecursion (λ r. (1 ≤ r.pages) × (r.start + r.pages ≤ pages_of space)) regions.rows
+  pub ranges_in : AreWithin space regions.ranges
   pub counts : AllByRecursion (λ r. r.count ≤ since) regions.rows
   pub room : regions.cap ≤ picks.cap
   pub within : IsWithin phase (length regions.rows)

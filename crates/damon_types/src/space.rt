@@ -47,7 +47,7 @@ pub enum SpaceFault {
 
 /// The targets of a monitor, from 1 to 64 with at most 1,048,576 pages in all. Their pages are
 /// numbered from 0: first those of target 0 by address, then those of target 1, and so on.
-#[derive(Clone, Drop)]
+#[derive(Drop)]
 pub struct Space {
     targets: Vec<Target>,
     offsets: Vec<u32>,
@@ -128,6 +128,18 @@ impl Space {
         } else {
             None
         }
+    }
+}
+
+impl Clone for Space {
+    ghost is_clone = { λ old new. new ≡ old };
+
+    fn clone(&self) -> Result<Self, AllocError> {
+        Ok(Space {
+            targets: self.targets.clone()?,
+            offsets: self.offsets.clone()?,
+            pages: self.pages,
+        })
     }
 }
 

@@ -1,0 +1,281 @@
+ghost use Rattle.std.specs.Prelude.{◌≡◌, ◌^◌, ◌≤◌, ◌<◌, true, length, slice_get, IfOk};
+ghost use Rattle.damon_types.specs.Space.{pages_of};
+ghost use Rattle.damon_types.specs.Span.{spans};
+ghost use Rattle.region_list.specs.Division.{divided};
+ghost use Rattle.region_list.specs.Tiling.{Tiling};
+ghost use Rattle.live_commit.specs.SetupView.{value_of};
+ghost use Rattle.damon_core.specs.Note.{is_cleared};
+ghost use Rattle.damon_core.specs.State.{State, opening, opening_core, row_count};
+ghost use Rattle.damon_core.specs.Event.{IsClearing, IsLoading, IsObserving, load_index, prepare as prepare_event, clear as clear_event, load as load_event, observe as observe_event};
+ghost use Rattle.damon_core.specs.After.{phase_after_clear, phase_after_pass};
+ghost use Rattle.damon_core.specs.Reached.{Reached};
+ghost use Rattle.damon_core.specs.Stands.{Stands, IsEvent};
+ghost use Rattle.damon_core.specs.Shown.{after_prepare, after_clear, after_load, after_observe, ended};
+ghost use Rattle.damon_core.specs.Kept.{IsInPass, cleared_so_far};
+
+use damon_types::{Attrs, Space};
+use live_commit::{Phase, Setup};
+use region_list::{Regions, RowBuf, divide, one_range_is_divided_within};
+use sampler::{Picks, set_picks};
+use std::alloc::{AllocError, Global};
+use std::marker::Model;
+
+/// A monitor of regions. Each call that changes it is one event of the state machine: in each state
+/// for which the monitor stands the event fits, and afterwards it stands for the state after it. The
+/// results of the loads are handed in. Time is counted in passes (ticks).
+#[derive(Drop)]
+pub struct Monitor {
+    space: Space,
+    attrs: Attrs,
+    regions: Regions,
+    phase: Phase,
+    picks: Picks,
+    ticks: u64,
+    since: u32,
+    // The hits of the pass so far, counted as they come, so that no second look at the picks is needed.
+    found: u32,
+    checks: u64,
+    hits: u64,
+}
+
+impl Model for Monitor {
+    ghost use Rattle.damon_core.specs.Stands.{MonitorView};
+
+    ghost Value = { MonitorView };
+
+    ghost use Rattle.damon_core.specs.Kept.{IsMonitor};
+
+    ghost view = { λ m. record {
+      core = record { space = m.space; attrs = m.attrs; regions = m.regions; phase = m.phase; picks = m.picks.pages; ticks = m.ticks; since = m.since };
+      bits = m.picks.bits;
+      found = m.found;
+      checks = m.checks;
+      hits = m.hits;
+    } };
+
+    ghost invariant = { λ m. IsMonitor m.space m.attrs m.regions m.phase m.picks m.ticks m.since m.found m.checks m.hits };
+}
+
+impl Monitor {
+    /// A monitor before its first pass, with the division of the setup's one range as its rows. Takes
+    /// memory; no other call does.
+    pub fn new(alloc: Global, setup: &Setup) -> Result<Monitor, AllocError>
+        requires { length setup.now.ranges.list ≡ 1 }
+        ensures core { IfOk result (λ m. m.core ≡ opening_core (value_of setup.now)) }
+        ensures opening { IfOk result (λ m. Stands m (opening (value_of setup.now))) }
+    {
+        let regions = first_regions(alloc, setup)?;
+        let picks = Picks::new(alloc, setup.cap)?;
+        let space = setup.space.clone()?;
+        let _rows = regions.len();
+        Ok(Monitor {
+            space,
+            attrs: setup.attrs,
+            regions,
+            phase: Phase::Idle,
+            picks,
+            ticks: 0,
+            since: 0,
+            found: 0,
+            checks: 0,
+            hits: 0,
+        })
+    }
+
+    /// Where the monitor is in its pass.
+    pub fn phase(&self) -> Phase
+        ensures phase { result ≡ self.now.core.phase }
+    {
+        self.phase
+    }
+
+    /// The passes that have ended, void ones among them.
+    pub fn ticks(&self) -> u64
+        ensures { result ≡ self.now.core.ticks }
+    {
+        self.ticks
+    }
+
+    /// The attributes in force.
+    pub fn attrs(&self) -> Attrs
+        ensures { result ≡ self.now.core.attrs }
+    {
+        self.attrs
+    }
+
+    /// The rows, with the ranges that they tile.
+    pub fn rows(&self) -> &Regions
+        ensures { result.now ≡ self.now.core.regions }
+    {
+        &self.regions
+    }
+
+    /// How many loads the finished passes made.
+    pub fn checks(&self) -> u64
+        ensures { result ≡ self.now.checks }
+    {
+        self.checks
+    }
+
+    /// How many of them were hits: how often a count was raised.
+    pub fn hits(&self) -> u64
+        ensures { result ≡ self.now.hits }
+    {
+        self.hits
+    }
+
+    /// The picks of the pass that was prepared last with the results of their loads so far, and none
+    /// before the first pass.
+    pub fn picks(&self) -> &Picks
+        ensures pages { result.now.pages ≡ self.now.core.picks }
+        ensures bits { result.now.bits ≡ self.now.bits }
+    {
+        &self.picks
+    }
+
+    /// Prepares a pass: picks a page of each row, that of row i by word i.
+    pub fn prepare(&mut self, words: &[u32])
+        requires idle { self.old.core.phase ≡ Phase.Idle }
+        requires words { length words.now ≡ row_count self.old.core }
+        ensures shown { self.new ≡ after_prepare words.now self.old }
+        ensures event { IsEvent self.old self.new (prepare_event words.now) }
+    {
+        let _rows = self.regions.len();
+        set_picks(&self.regions, words, &mut self.picks);
+        let _picks = self.picks.len();
+        self.found = 0;
+        self.phase = Phase::Clearing { next: 0 };
+    }
+
+    /// The page of pick `k` of the pass under way.
+    pub fn pick(&self, k: u32) -> u32
+        requires pass { IsInPass self.now.core.phase }
+        requires within { k < row_count self.now.core }
+        ensures page { slice_get self.now.core.picks k ≡ Some result }
+        ensures inside { result < pages_of self.now.core.space }
+        ensures cleared { (s : State) → Reached s → Stands self.now s → k < cleared_so_far self.now.core.phase (row_count self.now.core) → is_cleared s.notes result ≡ true }
+    {
+        self.picks.page(k)
+    }
+
+    /// Takes note that the page of the next pick was cleared.
+    pub fn cleared(&mut self)
+        requires { IsClearing self.old.core.phase }
+        ensures shown { self.new ≡ after_clear self.old }
+        ensures event { IsEvent self.old self.new clear_event }
+    {
+        if let Phase::Clearing { next } = self.phase {
+            self.phase = phase_after(next, self.regions.len());
+        }
+    }
+
+    /// Takes note that the page of the next pick was loaded, with this result.
+    pub fn loaded(&mut self, hit: bool)
+        requires { IsLoading self.old.core.phase (row_count self.old.core) }
+        ensures shown { self.new ≡ after_load hit self.old }
+        ensures event { IsEvent self.old self.new (load_event hit) }
+    {
+        let index = next_load(self.phase);
+        let _picks = self.picks.len();
+        self.picks.set(index, hit);
+        self.found += u32::from(hit);
+        self.phase = Phase::Checking { next: index + 1 };
+    }
+
+    /// Ends the pass. One that is not void raises the count of each row whose load was a hit.
+    pub fn observe(&mut self)
+        requires phase { IsObserving self.old.core.phase (row_count self.old.core) }
+        requires ticks { self.old.core.ticks < 2 ^ 40 }
+        ensures shown { self.new ≡ after_observe self.old }
+        ensures event { IsEvent self.old self.new observe_event }
+    {
+        match self.phase {
+            Phase::Checking { .. } => self.finish_pass(),
+            _ => self.void_pass(),
+        }
+    }
+
+    // Ends a pass whose picks are all loaded.
+    fn finish_pass(&mut self)
+        requires phase { self.old.core.phase ≡ Phase.Checking (row_count self.old.core) }
+        requires ticks { self.old.core.ticks < 2 ^ 40 }
+        ensures shown { self.new ≡ ended self.old.core.phase self.old }
+        ensures bits { length self.old.bits ≡ row_count self.old.core }
+    {
+        let _picks = self.picks.len();
+        sampler::observe(&mut self.regions, &self.picks);
+        self.checks += u64::from(self.regions.len());
+        self.hits += u64::from(self.found);
+        self.ticks += 1;
+        self.since += 1;
+        self.phase = phase_between(self.since, self.attrs.aggr);
+    }
+
+    // Ends a void pass.
+    fn void_pass(&mut self)
+        requires phase { self.old.core.phase ≡ Phase.Void }
+        requires ticks { self.old.core.ticks < 2 ^ 40 }
+        ensures { self.new ≡ ended self.old.core.phase self.old }
+    {
+        self.ticks += 1;
+        self.since += 1;
+        self.phase = phase_between(self.since, self.attrs.aggr);
+    }
+}
+
+// The regions of a monitor before its first pass.
+fn first_regions(alloc: Global, setup: &Setup) -> Result<Regions, AllocError>
+    requires { length setup.now.ranges.list ≡ 1 }
+    ensures { IfOk result (λ r. r ≡ (opening_core (value_of setup.now)).regions) }
+{
+    let rows = first_rows(alloc, setup)?;
+    let mut regions = Regions::new(alloc, setup.unit, setup.cap, setup.attrs.max)?;
+    regions.replace(&setup.ranges, &rows, setup.attrs.max);
+    Ok(regions)
+}
+
+// The rows of a monitor before its first pass.
+fn first_rows(alloc: Global, setup: &Setup) -> Result<RowBuf, AllocError>
+    requires { length setup.now.ranges.list ≡ 1 }
+    ensures rows { IfOk result (λ b. b.rows ≡ divided setup.now.unit setup.now.attrs.min setup.now.ranges.list) }
+    ensures tiling { IfOk result (λ b. Tiling setup.now.unit setup.now.ranges.list (spans b.rows)) }
+    ensures few { IfOk result (λ b. length b.rows ≤ setup.now.attrs.max) }
+{
+    let mut rows = RowBuf::new(alloc, setup.ranges.len() + setup.attrs.min)?;
+    divide(&setup.ranges, setup.unit, setup.attrs.min, &mut rows);
+    one_range_is_divided_within();
+    Ok(rows)
+}
+
+// The phase after a clear.
+fn phase_after(next: u32, rows: u32) -> Phase
+    requires { next < rows }
+    ensures { result ≡ phase_after_clear next rows }
+{
+    if next + 1 == rows {
+        Phase::Armed
+    } else {
+        Phase::Clearing { next: next + 1 }
+    }
+}
+
+// The phase between two passes, so many passes after the last aggregation.
+fn phase_between(since: u32, aggr: u32) -> Phase
+    ensures { result ≡ phase_after_pass since aggr }
+{
+    if since >= aggr {
+        Phase::Due
+    } else {
+        Phase::Idle
+    }
+}
+
+// The pick that is loaded next.
+fn next_load(phase: Phase) -> u32
+    ensures { result ≡ load_index phase }
+{
+    match phase {
+        Phase::Checking { next } => next,
+        _ => 0,
+    }
+}
