@@ -1,0 +1,86 @@
+-- The hits of each state that is reached rest on touches.
+use Rattle.std.proofs.Common.{◌≡◌, ℕ, zero, suc, ◌+◌, ◌≤◌, ◌<◌, Bool, true, false, List, [], ◌∷◌, length, refl, sym, ap, ◌∙◌, subst, inl, inr, arith}
+use Rattle.std.specs.Prelude.{◌==◌, ◌&&◌, ◌||◌, nat_le, slice_index}
+use Rattle.std.proofs.lemmas.Bool.{cases_eq, cases_Bool, or_cases, or_left, or_right, and_parts}
+use Rattle.std.proofs.lemmas.Bool.Decides.{nat_tests}
+use Rattle.live_commit.specs.declared.phase.Phase.{Phase}
+use Rattle.live_commit.specs.declared.phase.Phase.TheVariants.{Idle, Clearing, Armed, Checking, Void, Due}
+use Rattle.live_commit.specs.Setup.{SetupValue}
+use Rattle.damon_core.specs.Note.{Note, touched, cleared, checked, finished, voided, dropped, metric, turned, is_cleared, is_touched, has_clear, touched_after_clear, hit}
+use Rattle.damon_core.specs.State.{State, row_count, opening}
+use Rattle.damon_core.specs.Event.{IsLoading, load_index}
+use Rattle.damon_core.specs.After.{phase_after_clear, phase_after_pass, cleared_at}
+use Rattle.damon_core.specs.Reached.{CanOpen, Reached}
+use Rattle.damon_core.specs.Kept.{cleared_so_far}
+use Rattle.damon_core.proofs.Keeping.{Keeps, any_result, reached_keeps}
+
+-- the pass has cleared each pick before the one that comes next
+pub record HasClears (s : State) : Type 0 where
+  pub each : (k : ℕ) → k < cleared_so_far s.core.phase (row_count s.core) → has_clear s.notes (s.core.ticks + 1) k (slice_index s.core.picks k) ≡ true
+
+cleared-after_clear : (i k rows : ℕ) → k < cleared_so_far (phase_after_clear i rows) rows → k ≤ i
+cleared-after_clear i k rows below = elim (i + 1 == rows) as (λ b. (i + 1 == rows) ≡ b → k ≤ i) [
+  | true ↦ λ is. (let e : phase_after_clear i rows ≡ Armed = rw is refl in let all : k < rows = subst (λ ph. k < cleared_so_far ph rows) e below in grind (arith, nat_tests))
+  | false ↦ λ isnt. (let e : phase_after_clear i rows ≡ Clearing (i + 1) = rw isnt refl in let some : k < i + 1 = subst (λ ph. k < cleared_so_far ph rows) e below in omega arith)
+] refl
+
+cleared-after_pass : (since aggr rows k : ℕ) → k < cleared_so_far (phase_after_pass since aggr) rows → ⊥
+cleared-after_pass since aggr rows k below = elim (nat_le aggr since) as (λ b. (nat_le aggr since) ≡ b → ⊥) [
+  | true ↦ λ is. (let none : cleared_so_far (phase_after_pass since aggr) rows ≡ 0 = rw is refl in omega arith)
+  | false ↦ λ isnt. (let none : cleared_so_far (phase_after_pass since aggr) rows ≡ 0 = rw isnt refl in omega arith)
+] refl
+
+cleared-loading : (ph : Phase) (k rows : ℕ) → IsLoading ph rows → cleared_so_far ph rows ≡ rows
+cleared-loading Armed k rows fits = refl
+cleared-loading (Checking i) k rows fits = refl
+cleared-loading Idle k rows fits = absurd fits
+cleared-loading (Clearing i) k rows fits = absurd fits
+cleared-loading Void k rows fits = absurd fits
+cleared-loading Due k rows fits = absurd fits
+
+clears_after_clear : (s : State) (i : ℕ) → s.core.phase ≡ Clearing i → HasClears s → HasClears (cleared_at i s)
+clears_after_clear s i is h = record { each = λ k below. later k (cleared-after_clear i k (row_count s.core) below) }
+  where
+    later : (k : ℕ) → k ≤ i → has_clear (cleared_at i s).notes (s.core.ticks + 1) k (slice_index s.core.picks k) ≡ true
+    later k below = elim (cases_eq i k) [
+      | inl same ↦ (
+          let here : (s.core.ticks + 1 == s.core.ticks + 1) ≡ true = grind (arith, nat_tests) in
+          let index : (i == k) ≡ true = grind (arith, nat_tests) in
+          let page : (slice_index s.core.picks i == slice_index s.core.picks k) ≡ true = grind (arith, nat_tests) in
+          rw (here, index, page) refl)
+      | inr other ↦ or_right _ _ (h.each k (subst (λ (ph : Phase). k < cleared_so_far ph (row_count s.core)) (sym is) (omega arith)))
+    ]
+
+-- each step keeps the clears
+pub clears_kept : (Q : State → Bool → Type 0) → Keeps Q HasClears
+clears_kept Q = record {
+  opens = λ v can. record { each = λ k below. absurd (omega arith) };
+  touching = λ s p h. record { each = h.each };
+  preparing = λ s ws idle count h. record { each = λ k below. absurd (omega arith) };
+  clearing = clears_after_clear;
+  loading = λ s i hit fits is known h. record { each = λ k below. h.each k (omega (arith, below, cleared-loading s.core.phase i (row_count s.core) fits)) };
+  finishing = λ s is h. record { each = λ k below. absurd (cleared-after_pass (s.core.since + 1) s.core.attrs.aggr _ k below) };
+  voiding = λ s is h. record { each = λ k below. absurd (cleared-after_pass (s.core.since + 1) s.core.attrs.aggr _ k below) };
+}
+
+last_of_three : (a b c : Bool) → (a && (b && c)) ≡ true → c ≡ true
+last_of_three a b c all = (and_parts b c (and_parts a (b && c) all).1).1
+
+-- a page that a pass cleared is cleared
+is_cleared-from_has_clear : (notes : List Note) (n k p : ℕ) → has_clear notes n k p ≡ true → is_cleared notes p ≡ true
+is_cleared-from_has_clear [] n k p has = has
+is_cleared-from_has_clear (cleared m j q ∷ notes) n k p has = elim (or_cases ((m == n) && ((j == k) && (q == p))) (has_clear notes n k p) has) [
+  | inl here ↦ or_left (q == p) (is_cleared notes p) (last_of_three (m == n) (j == k) (q == p) here)
+  | inr before ↦ or_right (q == p) (is_cleared notes p) (is_cleared-from_has_clear notes n k p before)
+]
+is_cleared-from_has_clear (touched q ∷ notes) n k p has = is_cleared-from_has_clear notes n k p has
+is_cleared-from_has_clear (checked m j q h ∷ notes) n k p has = is_cleared-from_has_clear notes n k p has
+is_cleared-from_has_clear (finished m rows ∷ notes) n k p has = is_cleared-from_has_clear notes n k p has
+is_cleared-from_has_clear (voided m ∷ notes) n k p has = is_cleared-from_has_clear notes n k p has
+is_cleared-from_has_clear (dropped m ∷ notes) n k p has = is_cleared-from_has_clear notes n k p has
+is_cleared-from_has_clear (metric m ∷ notes) n k p has = is_cleared-from_has_clear notes n k p has
+is_cleared-from_has_clear (turned m t ∷ notes) n k p has = is_cleared-from_has_clear notes n k p has
+
+-- in each state that is reached the picks before the one that comes next are cleared
+pub reached_cleared : (s : State) → Reached s → (k : ℕ) → k < cleared_so_far s.core.phase (row_count s.core) → is_cleared s.notes (slice_index s.core.picks k) ≡ true
+reached_cleared s reached k below = is_cleared-from_has_clear s.notes (s.core.ticks + 1) k (slice_index s.core.picks k) ((reached_keeps HasClears (clears_kept any_result) s reached).each k below)
