@@ -1,16 +1,15 @@
 -- The hits of each state that is reached rest on touches.
-use Rattle.std.proofs.Common.{◌≡◌, ℕ, zero, suc, ◌+◌, ◌≤◌, ◌<◌, Bool, true, false, cond, List, [], ◌∷◌, length, refl, sym, ap, ◌∙◌, subst, inl, inr, arith}
-use Rattle.std.specs.Prelude.{◌==◌, ◌&&◌, ◌||◌, nat_le, slice_index}
+use Rattle.std.proofs.Common.{◌≡◌, ℕ, ◌+◌, ◌≤◌, ◌<◌, Bool, true, false, cond, List, [], ◌∷◌, refl, sym, ◌∙◌, subst, inl, inr, arith}
+use Rattle.std.specs.Prelude.{◌==◌, ◌&&◌, nat_le, slice_index}
 use Rattle.std.proofs.lemmas.Bool.{cases_eq, or_cases, or_left, or_right, and_parts, and_from, both_ways, false≢true}
 use Rattle.std.proofs.lemmas.Bool.Decides.{nat_tests}
 use Rattle.live_commit.specs.declared.phase.Phase.{Phase}
 use Rattle.live_commit.specs.declared.phase.Phase.TheVariants.{Idle, Clearing, Armed, Checking, Void, Due}
-use Rattle.live_commit.specs.Setup.{SetupValue}
 use Rattle.damon_core.specs.Note.{Note, touched, cleared, checked, finished, voided, dropped, metric, turned, is_cleared, is_touched, has_clear, touched_after_clear, hit}
-use Rattle.damon_core.specs.State.{State, row_count, opening}
+use Rattle.damon_core.specs.State.{State, row_count}
 use Rattle.damon_core.specs.Event.{IsLoading, load_index, next_hit}
 use Rattle.damon_core.specs.After.{phase_after_clear, phase_after_pass, cleared_at, loaded_at}
-use Rattle.damon_core.specs.Reached.{CanOpen, Reached}
+use Rattle.damon_core.specs.Reached.{Reached}
 use Rattle.damon_core.specs.Kept.{cleared_so_far}
 use Rattle.damon_core.specs.Bound.{EachHitRests}
 use Rattle.damon_core.proofs.Keeping.{Keeps, any_result, true_result, reached_keeps}
@@ -20,28 +19,28 @@ use Rattle.damon_core.proofs.Rows.{TilesEachPage, DivisionTiles, HasRows, rows_k
 pub record HasClears (s : State) : Type 0 where
   pub each : (k : ℕ) → k < cleared_so_far s.core.phase (row_count s.core) → has_clear s.notes (s.core.ticks + 1) k (slice_index s.core.picks k) ≡ true
 
-cleared-after_clear : (i k rows : ℕ) → k < cleared_so_far (phase_after_clear i rows) rows → k ≤ i
-cleared-after_clear i k rows below = elim (i + 1 == rows) as (λ b. (i + 1 == rows) ≡ b → k ≤ i) [
+cleared_so_far-after_clear : (i k rows : ℕ) → k < cleared_so_far (phase_after_clear i rows) rows → k ≤ i
+cleared_so_far-after_clear i k rows below = elim (i + 1 == rows) as (λ b. (i + 1 == rows) ≡ b → k ≤ i) [
   | true ↦ λ is. (let e : phase_after_clear i rows ≡ Armed = rw is refl in let all : k < rows = subst (λ ph. k < cleared_so_far ph rows) e below in grind (arith, nat_tests))
   | false ↦ λ isnt. (let e : phase_after_clear i rows ≡ Clearing (i + 1) = rw isnt refl in let some : k < i + 1 = subst (λ ph. k < cleared_so_far ph rows) e below in omega arith)
 ] refl
 
-cleared-after_pass : (since aggr rows k : ℕ) → k < cleared_so_far (phase_after_pass since aggr) rows → ⊥
-cleared-after_pass since aggr rows k below = elim (nat_le aggr since) as (λ b. (nat_le aggr since) ≡ b → ⊥) [
+cleared_so_far-after_pass : (since aggr rows k : ℕ) → k < cleared_so_far (phase_after_pass since aggr) rows → ⊥
+cleared_so_far-after_pass since aggr rows k below = elim (nat_le aggr since) as (λ b. (nat_le aggr since) ≡ b → ⊥) [
   | true ↦ λ is. (let none : cleared_so_far (phase_after_pass since aggr) rows ≡ 0 = rw is refl in omega arith)
   | false ↦ λ isnt. (let none : cleared_so_far (phase_after_pass since aggr) rows ≡ 0 = rw isnt refl in omega arith)
 ] refl
 
-cleared-loading : (ph : Phase) (k rows : ℕ) → IsLoading ph rows → cleared_so_far ph rows ≡ rows
-cleared-loading Armed k rows fits = refl
-cleared-loading (Checking i) k rows fits = refl
-cleared-loading Idle k rows fits = absurd fits
-cleared-loading (Clearing i) k rows fits = absurd fits
-cleared-loading Void k rows fits = absurd fits
-cleared-loading Due k rows fits = absurd fits
+cleared_so_far-loading : (ph : Phase) (k rows : ℕ) → IsLoading ph rows → cleared_so_far ph rows ≡ rows
+cleared_so_far-loading Armed k rows fits = refl
+cleared_so_far-loading (Checking i) k rows fits = refl
+cleared_so_far-loading Idle k rows fits = absurd fits
+cleared_so_far-loading (Clearing i) k rows fits = absurd fits
+cleared_so_far-loading Void k rows fits = absurd fits
+cleared_so_far-loading Due k rows fits = absurd fits
 
 clears_after_clear : (s : State) (i : ℕ) → s.core.phase ≡ Clearing i → HasClears s → HasClears (cleared_at i s)
-clears_after_clear s i is h = record { each = λ k below. later k (cleared-after_clear i k (row_count s.core) below) }
+clears_after_clear s i is h = record { each = λ k below. later k (cleared_so_far-after_clear i k (row_count s.core) below) }
   where
     later : (k : ℕ) → k ≤ i → has_clear (cleared_at i s).notes (s.core.ticks + 1) k (slice_index s.core.picks k) ≡ true
     later k below = elim (cases_eq i k) [
@@ -60,9 +59,9 @@ clears_kept Q = record {
   touching = λ s p h. record { each = h.each };
   preparing = λ s ws idle count h. record { each = λ k below. absurd (omega arith) };
   clearing = clears_after_clear;
-  loading = λ s i hit fits is known h. record { each = λ k below. h.each k (omega (arith, below, cleared-loading s.core.phase i (row_count s.core) fits)) };
-  finishing = λ s is h. record { each = λ k below. absurd (cleared-after_pass (s.core.since + 1) s.core.attrs.aggr _ k below) };
-  voiding = λ s is h. record { each = λ k below. absurd (cleared-after_pass (s.core.since + 1) s.core.attrs.aggr _ k below) };
+  loading = λ s i hit fits is known h. record { each = λ k below. h.each k (omega (arith, below, cleared_so_far-loading s.core.phase i (row_count s.core) fits)) };
+  finishing = λ s is h. record { each = λ k below. absurd (cleared_so_far-after_pass (s.core.since + 1) s.core.attrs.aggr _ k below) };
+  voiding = λ s is h. record { each = λ k below. absurd (cleared_so_far-after_pass (s.core.since + 1) s.core.attrs.aggr _ k below) };
 }
 
 last_of_three : (a b c : Bool) → (a && (b && c)) ≡ true → c ≡ true
@@ -118,20 +117,20 @@ pub record HasHits (s : State) : Type 0 where
   pub clears : HasClears s
   pub rests : EachHitRests s.notes
 
-load_index-cleared : (ph : Phase) (rows : ℕ) → 0 < rows → IsLoading ph rows → load_index ph < cleared_so_far ph rows
-load_index-cleared Armed rows some fits = some
-load_index-cleared (Checking k) rows some fits = fits
-load_index-cleared Idle rows some fits = absurd fits
-load_index-cleared (Clearing k) rows some fits = absurd fits
-load_index-cleared Void rows some fits = absurd fits
-load_index-cleared Due rows some fits = absurd fits
+load_index-below : (ph : Phase) (rows : ℕ) → 0 < rows → IsLoading ph rows → load_index ph < cleared_so_far ph rows
+load_index-below Armed rows some fits = some
+load_index-below (Checking k) rows some fits = fits
+load_index-below Idle rows some fits = absurd fits
+load_index-below (Clearing k) rows some fits = absurd fits
+load_index-below Void rows some fits = absurd fits
+load_index-below Due rows some fits = absurd fits
 
-rests_after_check : (notes : List Note) (n k p : ℕ) (hit : Bool) → (hit ≡ true → touched_after_clear notes n k p ≡ true) → EachHitRests notes → EachHitRests (checked n k p hit ∷ notes)
-rests_after_check notes n k p true sound rests = (sound refl, rests)
-rests_after_check notes n k p false sound rests = rests
+EachHitRests-after_check : (notes : List Note) (n k p : ℕ) (hit : Bool) → (hit ≡ true → touched_after_clear notes n k p ≡ true) → EachHitRests notes → EachHitRests (checked n k p hit ∷ notes)
+EachHitRests-after_check notes n k p true sound rests = (sound refl, rests)
+EachHitRests-after_check notes n k p false sound rests = rests
 
 load_rests : (s : State) (k : ℕ) (hit : Bool) → IsLoading s.core.phase (row_count s.core) → load_index s.core.phase ≡ k → hit ≡ next_hit s → HasHits s → EachHitRests (loaded_at k hit s).notes
-load_rests s k hit fits is known h = rests_after_check s.notes (s.core.ticks + 1) k (slice_index s.core.picks k) hit sound h.rests
+load_rests s k hit fits is known h = EachHitRests-after_check s.notes (s.core.ticks + 1) k (slice_index s.core.picks k) hit sound h.rests
   where
     sound : hit ≡ true → touched_after_clear s.notes (s.core.ticks + 1) k (slice_index s.core.picks k) ≡ true
     sound found =
@@ -139,7 +138,7 @@ load_rests s k hit fits is known h = rests_after_check s.notes (s.core.ticks + 1
         let next : next_hit s ≡ true = sym known ∙ found in
         let here : (is_cleared s.notes page && is_touched s.notes page) ≡ true = subst (λ (i : ℕ). (is_cleared s.notes (slice_index s.core.picks i) && is_touched s.notes (slice_index s.core.picks i)) ≡ true) is next in
         let touch : is_touched s.notes page ≡ true = (and_parts (is_cleared s.notes page) (is_touched s.notes page) here).1 in
-        let below : k < cleared_so_far s.core.phase (row_count s.core) = subst (λ (i : ℕ). i < cleared_so_far s.core.phase (row_count s.core)) is (load_index-cleared s.core.phase (row_count s.core) h.rows.some fits) in
+        let below : k < cleared_so_far s.core.phase (row_count s.core) = subst (λ (i : ℕ). i < cleared_so_far s.core.phase (row_count s.core)) is (load_index-below s.core.phase (row_count s.core) h.rows.some fits) in
         touched_after_clear-from_is_touched s.notes (s.core.ticks + 1) k page touch (h.clears.each k below)
 
 -- each step keeps the hits, where the results of loads are those of their pages

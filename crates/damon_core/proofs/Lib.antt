@@ -1,3 +1,5 @@
 pub mod Keeping
 pub mod Rows
 pub mod Hits
+pub mod Passes
+pub mod Bounding
