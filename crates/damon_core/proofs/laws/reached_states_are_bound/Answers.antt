@@ -1,5 +1,5 @@
-use Rattle.damon_core.proofs.Keeping.{reached_keeps, reached_by_hit_keeps, reached_of}
+use Rattle.damon_core.proofs.Bounding.{reached_bound}
 use Rattle.damon_core.proofs.laws.reached_states_are_bound.Goals as goal
 
 pub returns : goal.returns
-returns c s reached = let r = reached_of s reached in ?
+returns c = reached_bound c.tiling_is_per_page.ensures c.division_tiles.ensures

@@ -1,0 +1,113 @@
+-- The rows of each state that is reached: they tile their ranges within the limits.
+use Rattle.std.proofs.Common.{◌≡◌, ℕ, suc, ◌+◌, ◌≤◌, ◌<◌, Bool, true, false, List, [], ◌∷◌, length, refl, sym, ap, subst, length-append, arith}
+use Rattle.std.specs.Prelude.{◌==◌, nat_le}
+use Rattle.std.specs.List.{AllByRecursion}
+use Rattle.std.proofs.lemmas.Bool.Decides.{nat_tests}
+use Rattle.std.proofs.lemmas.List.{length-map}
+use Rattle.std.proofs.lemmas.List.Elements.{recursion_from_All}
+use Rattle.damon_types.specs.declared.range.Range.{Range}
+use Rattle.damon_types.specs.declared.row.Row.{Row}
+use Rattle.damon_types.specs.Ranges.{InOrder, end_of}
+use Rattle.damon_types.specs.Span.{Span, span_of, spans}
+use Rattle.region_list.specs.Tiles.{Tiles}
+use Rattle.region_list.specs.Tiling.{Chain, Tiling}
+use Rattle.region_list.specs.Division.{divided}
+use Rattle.live_commit.specs.declared.phase.Phase.{Phase}
+use Rattle.live_commit.specs.declared.phase.Phase.TheVariants.{Idle, Clearing, Armed, Checking, Void, Due}
+use Rattle.live_commit.specs.Setup.{SetupValue}
+use Rattle.damon_core.specs.Note.{Note}
+use Rattle.damon_core.specs.State.{State, row_count, opening}
+use Rattle.damon_core.specs.Event.{IsLoading, load_index}
+use Rattle.damon_core.specs.After.{counted_from, phase_after_clear, phase_after_pass}
+use Rattle.damon_core.specs.Reached.{CanOpen}
+use Rattle.damon_core.specs.Kept.{IsWithin}
+use Rattle.damon_core.proofs.Keeping.{Keeps}
+
+-- what the law of region_list says of a tiling
+abbrev pub TilesEachPage : Type 0
+TilesEachPage = (unit : ℕ) (gs : List Range) (rows : List Span) → 1 ≤ unit → InOrder gs → Tiling unit gs rows → Tiles gs rows unit
+
+-- what the law of region_list says of the division
+abbrev pub DivisionTiles : Type 0
+DivisionTiles = (unit min : ℕ) (gs : List Range) → 1 ≤ unit → AllByRecursion (λ g. unit ≤ g.pages) gs → Tiling unit gs (spans (divided unit min gs))
+
+-- what is kept of the rows
+pub record HasRows (s : State) : Type 0 where
+  pub tiles : Tiles s.core.regions.ranges (spans s.core.regions.rows) s.core.regions.unit
+  pub wide : 1 ≤ s.core.regions.unit
+  pub some : 0 < row_count s.core
+  pub few : row_count s.core ≤ s.core.attrs.max
+  pub most : s.core.attrs.max ≤ s.core.regions.cap
+  pub within : IsWithin s.core.phase (row_count s.core)
+
+pub spans-counted_from : (k : ℕ) (notes : List Note) (n : ℕ) (rows : List Row) → spans (counted_from k notes n rows) ≡ spans rows
+spans-counted_from k notes n [] = refl
+spans-counted_from k notes n (r ∷ rows) = ap (λ ss. span_of r ∷ ss) (spans-counted_from (k + 1) notes n rows)
+
+pub length-counted_from : (k : ℕ) (notes : List Note) (n : ℕ) (rows : List Row) → length (counted_from k notes n rows) ≡ length rows
+length-counted_from k notes n [] = refl
+length-counted_from k notes n (r ∷ rows) = ap suc (length-counted_from (k + 1) notes n rows)
+
+-- a chain over at least one page has a row
+chain_some : (unit t from to : ℕ) (ss : List Span) → from < to → Chain unit t from to ss → 0 < length ss
+chain_some unit t from to [] further chain = absurd (omega (arith, chain))
+chain_some unit t from to (s ∷ ss) further chain = omega arith
+
+-- a tiling of at least one range has a row
+tiling_some : (unit : ℕ) (gs : List Range) (ss : List Span) → 1 ≤ unit → 1 ≤ length gs → AllByRecursion (λ g. unit ≤ g.pages) gs → Tiling unit gs ss → 0 < length ss
+tiling_some unit [] ss some any wide tiling = absurd (omega arith)
+tiling_some unit (g ∷ gs) ss some any wide tiling = omega (arith, ap length tiling.2, length-append tiling.0 tiling.1, chain_some unit g.target g.first (end_of g) tiling.0 (omega (arith, wide.0)) tiling.3)
+
+within_after_clear : (k rows : ℕ) → k < rows → IsWithin (phase_after_clear k rows) rows
+within_after_clear k rows below = elim (k + 1 == rows) as (λ b. (k + 1 == rows) ≡ b → IsWithin (phase_after_clear k rows) rows) [
+  | true ↦ λ is. rw is tt
+  | false ↦ λ isnt. (let more : k + 1 < rows = grind (arith, nat_tests) in rw isnt more)
+] refl
+
+within_after_pass : (since aggr rows : ℕ) → IsWithin (phase_after_pass since aggr) rows
+within_after_pass since aggr rows = elim (nat_le aggr since) as (λ b. (nat_le aggr since) ≡ b → IsWithin (phase_after_pass since aggr) rows) [ true ↦ λ is. rw is tt | false ↦ λ isnt. rw isnt tt ] refl
+
+within_after_load : (ph : Phase) (k rows : ℕ) → 0 < rows → IsLoading ph rows → load_index ph ≡ k → k + 1 ≤ rows
+within_after_load Armed k rows some fits is = omega arith
+within_after_load (Checking i) k rows some fits is = omega (arith, fits)
+within_after_load Idle k rows some fits is = absurd fits
+within_after_load (Clearing i) k rows some fits is = absurd fits
+within_after_load Void k rows some fits is = absurd fits
+within_after_load Due k rows some fits is = absurd fits
+
+rows_open : TilesEachPage → DivisionTiles → (v : SetupValue) → CanOpen v → HasRows (opening v)
+rows_open per_page division v can =
+    let wide = recursion_from_All (λ (g : Range). v.unit ≤ g.pages) v.ranges can.sound.wide in
+    let rows = divided v.unit v.attrs.min v.ranges in
+    let tiling : Tiling v.unit v.ranges (spans rows) = division v.unit v.attrs.min v.ranges can.sound.unit_some wide in
+    let some : 0 < length (spans rows) = tiling_some v.unit v.ranges (spans rows) can.sound.unit_some can.sound.ranges_some wide tiling in
+    record {
+      tiles = per_page v.unit v.ranges (spans rows) can.sound.unit_some can.order tiling;
+      wide = can.sound.unit_some;
+      some = omega (arith, some, length-map rows span_of);
+      few = can.few;
+      most = can.sound.max_cap;
+      within = tt;
+    }
+
+-- each step keeps the rows
+pub rows_kept : (Q : State → Bool → Type 0) → TilesEachPage → DivisionTiles → Keeps Q HasRows
+rows_kept Q per_page division = record {
+  opens = rows_open per_page division;
+  touching = λ s p h. record { tiles = h.tiles; wide = h.wide; some = h.some; few = h.few; most = h.most; within = h.within };
+  preparing = λ s ws idle count h. record { tiles = h.tiles; wide = h.wide; some = h.some; few = h.few; most = h.most; within = h.some };
+  clearing = λ s k is h. record { tiles = h.tiles; wide = h.wide; some = h.some; few = h.few; most = h.most; within = within_after_clear k (row_count s.core) (subst (λ (ph : Phase). IsWithin ph (row_count s.core)) is h.within) };
+  loading = λ s k hit fits is known h. record { tiles = h.tiles; wide = h.wide; some = h.some; few = h.few; most = h.most; within = within_after_load s.core.phase k (row_count s.core) h.some fits is };
+  finishing = λ s is h.
+      (let same = length-counted_from 0 s.notes (s.core.ticks + 1) s.core.regions.rows in
+      let places = spans-counted_from 0 s.notes (s.core.ticks + 1) s.core.regions.rows in
+      record {
+        tiles = subst (λ (ss : List Span). Tiles s.core.regions.ranges ss s.core.regions.unit) (sym places) h.tiles;
+        wide = h.wide;
+        some = omega (arith, h.some, same);
+        few = omega (arith, h.few, same);
+        most = h.most;
+        within = within_after_pass (s.core.since + 1) s.core.attrs.aggr (length (counted_from 0 s.notes (s.core.ticks + 1) s.core.regions.rows));
+      });
+  voiding = λ s is h. record { tiles = h.tiles; wide = h.wide; some = h.some; few = h.few; most = h.most; within = within_after_pass (s.core.since + 1) s.core.attrs.aggr (row_count s.core) };
+}
