@@ -1,2 +1,5 @@
 pub mod Hex
 pub mod Values
+pub mod Pieces
+pub mod Numbers
+pub mod Addresses
