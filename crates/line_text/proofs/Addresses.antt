@@ -1,11 +1,12 @@
 -- The spelling of an address is read back, and what is read has one spelling.
-use Rattle.std.proofs.Common.{◌≡◌, ◌≢◌, ℕ, zero, suc, ◌+◌, ◌-◌, ◌*◌, ◌/◌, ◌%◌, ◌^◌, ◌<◌, ◌≤◌, Bool, true, false, cond, ◌&&◌, List, [], ◌∷◌, ◌++◌, length, get_or, codes, Option, Some, None, refl, sym, ap, subst, ◌∙◌, arith, append_assoc, append-nil, length-append}
+use Rattle.std.proofs.Common.{◌≡◌, ◌≢◌, ℕ, zero, suc, ◌+◌, ◌-◌, ◌*◌, ◌/◌, ◌%◌, ◌^◌, ◌<◌, ◌≤◌, Bool, true, false, cond, ◌&&◌, List, [], ◌∷◌, ◌++◌, length, get_or, codes, Option, Some, None, refl, sym, ap, subst, ◌∙◌, arith, append_assoc, append-nil, length-append, All, IsSome}
 use Rattle.std.specs.Prelude.{option_and_then}
 use Rattle.std.specs.Fmt.{digits, digit_glyph}
 use Rattle.std.proofs.Math.Nat.{pow-suc, pow-le-pow_right}
 use Rattle.std.proofs.lemmas.Bool.Decides.{nat_tests}
 use Rattle.std.proofs.lemmas.Fmt.{hex_one_digit}
 use Rattle.std.proofs.Math.ListN.{get_or-append}
+use Rattle.std.proofs.lemmas.List.Elements.{All-nil, All-cons, All-push}
 use Rattle.std.proofs.lemmas.Option.{option_and_then_some}
 use Rattle.line_text.specs.Address.{hex_digit, hex_on, hex_number, address, spelled_address}
 use Rattle.line_text.specs.Line.{after_prefix}
@@ -125,3 +126,11 @@ pub address-Some : (n : ℕ) (word : List ℕ) → address word ≡ Some n → (
 address-Some n word e = option_and_then_some hex_number (after_prefix (codes "0x") word) n e (λ ds is found.
     let told = hex_number-Some n ds found in
     (after_prefix-Some (codes "0x") word ds is ∙ ap (λ xs. codes "0x" ++ xs) told.0, told.1))
+
+glyph_is_digit : (d : ℕ) → d < 16 → IsSome (hex_digit (digit_glyph false d))
+glyph_is_digit d small = rw (hex_digit-glyph d small)
+
+pub digits-hex : (n : ℕ) → n < 2 ^ 64 → All (λ c. IsSome (hex_digit c)) (digits 16 false n)
+digits-hex = hex_by_steps (λ _ ds. All (λ c. IsSome (hex_digit c)) ds)
+    (λ m small. All-cons (λ c. IsSome (hex_digit c)) (digit_glyph false m) [] (glyph_is_digit m small) (All-nil (λ c. IsSome (hex_digit c))))
+    (λ m ds large front. All-push (λ c. IsSome (hex_digit c)) ds (digit_glyph false (m % 16)) front (glyph_is_digit (m % 16) (omega arith)))

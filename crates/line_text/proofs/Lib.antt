@@ -3,3 +3,4 @@ pub mod Values
 pub mod Pieces
 pub mod Numbers
 pub mod Addresses
+mod Examples

@@ -1,6 +1,8 @@
 -- A decimal spelling is read back, and what is read has one spelling.
-use Rattle.std.proofs.Common.{◌≡◌, ◌≢◌, ℕ, zero, suc, ◌+◌, ◌-◌, ◌*◌, ◌^◌, ◌<◌, ◌≤◌, Bool, true, false, cond, ◌&&◌, List, [], ◌∷◌, length, get_or, Option, Some, None, decimal, refl, sym, ap, subst, ◌∙◌, arith, rules}
+use Rattle.std.proofs.Common.{◌≡◌, ◌≢◌, ℕ, zero, suc, ◌+◌, ◌-◌, ◌*◌, ◌^◌, ◌<◌, ◌≤◌, Bool, true, false, cond, ◌&&◌, List, [], ◌∷◌, length, get_or, Option, Some, None, decimal, refl, sym, ap, subst, ◌∙◌, arith, rules, All, IsTrue}
+use Rattle.std.specs.Char.{is_ascii_digit}
 use Rattle.std.specs.Str.{all_ascii_digits}
+use Rattle.std.proofs.lemmas.List.Elements.{All-nil, All-cons}
 use Rattle.std.proofs.lemmas.Bool.Decides.{nat_tests}
 use Rattle.std.proofs.lemmas.Fmt.{digits_decimal, digits_value-decimal, decimal_nonempty, decimal_digit, first_decimal, decimal-digits_value}
 use Rattle.std.proofs.lemmas.Str.Parse.{IsNumeralModel, numerals_by_fold}
@@ -46,3 +48,10 @@ number-Some most n word small e =
     let told = number_tells most n word e in
     let canonical = told.0 in
     (sym (decimal-digits_value own word canonical.digits canonical.some canonical.front (omega (arith, told.1, told.2))) ∙ ap decimal told.1, told.2)
+
+digits_each : (word : List ℕ) → all_ascii_digits word ≡ true → All (λ c. IsTrue (is_ascii_digit c)) word
+digits_each [] e = All-nil (λ c. IsTrue (is_ascii_digit c))
+digits_each (c ∷ cs) e = All-cons (λ d. IsTrue (is_ascii_digit d)) c cs (grind (arith, nat_tests)) (digits_each cs (grind (arith, nat_tests)))
+
+pub digits-decimal : (n : ℕ) → n < 2 ^ 64 → All (λ c. IsTrue (is_ascii_digit c)) (decimal n)
+digits-decimal n small = digits_each (decimal n) (digits_decimal own n small)

@@ -1,5 +1,5 @@
 -- A text is its first piece, the byte that ends it, and the rest.
-use Rattle.std.proofs.Common.{◌≡◌, ◌≢◌, ℕ, ◌+◌, ◌<◌, ◌≤◌, Bool, true, false, cond, List, [], ◌∷◌, ◌++◌, ◌==◌, nat_lt, nat_eq, length, get_or, take, drop, suc, Option, Some, None, eq-eqb, add-one, refl, sym, ap, subst, ◌∙◌, arith, All, length-append}
+use Rattle.std.proofs.Common.{◌≡◌, ◌≢◌, ℕ, ◌+◌, ◌<◌, ◌≤◌, Bool, true, false, cond, List, [], ◌∷◌, ◌++◌, ◌==◌, nat_lt, nat_eq, length, get_or, take, drop, suc, Option, Some, None, ◌↔◌, eq-eqb, add-one, refl, sym, ap, subst, ◌∙◌, arith, All, length-append}
 use borrow.Author.Tests.{eqb-true, ne_eqb}
 use Rattle.std.proofs.Math.ListN.{get_or-append}
 use Rattle.std.proofs.lemmas.List.Elements.{All-from_get_or}
@@ -82,3 +82,20 @@ split_at_byte-append byte piece rest none =
     let longer = length-append piece (byte ∷ rest) in
     let within : nat_lt (length piece) (length (piece ++ byte ∷ rest)) ≡ true = grind (arith, nat_tests) in
     rw (at, within, take-append_seam piece (byte ∷ rest), add-one, drop_past piece rest byte)
+
+nowhere : (byte : ℕ) (bytes : List ℕ) → All (λ c. c ≢ byte) bytes → position_or_len (λ c. c == byte) bytes ≡ length bytes
+nowhere byte bytes all =
+    position_or_len_is (λ c. c == byte) bytes (length bytes) 0 (omega arith) (λ k low. ne_eqb _ byte (all k 0 low)) (λ past. absurd (omega arith))
+
+-- nothing is taken exactly where no byte is the one that is sought
+pub split_at_byte-None : (byte : ℕ) (bytes : List ℕ) → (split_at_byte byte bytes ≡ None) ↔ All (λ c. c ≢ byte) bytes
+split_at_byte-None byte bytes = (
+  λ none. All-from_get_or (λ c. c ≢ byte) bytes 0 (λ k low same. by (nat_lt (position_or_len (λ c. c == byte) bytes) (length bytes)) refl none k low same),
+  λ all. let at = nowhere byte bytes all in let past : nat_lt (length bytes) (length bytes) ≡ false = grind (arith, nat_tests) in rw (at, past),
+)
+  where
+    by : (t : Bool) → nat_lt (position_or_len (λ c. c == byte) bytes) (length bytes) ≡ t
+        → option_map {U = List ℕ × List ℕ} (λ n. (take n bytes, drop (n + 1) bytes)) (cond t (Some (position_or_len (λ c. c == byte) bytes)) None) ≡ None
+        → (k : ℕ) → k < length bytes → get_or bytes k 0 ≢ byte
+    by true here none k low same = absurd cc
+    by false past none k low same = before byte bytes k (grind (arith, nat_tests)) same

@@ -1,7 +1,8 @@
 -- What reading and spelling have to do with each other.
-use Rattle.std.specs.Prelude.{◌≡◌, ◌≢◌, ℕ, ◌^◌, ◌<◌, ◌≤◌, List, ◌∷◌, ◌++◌, All, Option, Some}
-use Rattle.std.specs.Fmt.{decimal}
-use Rattle.line_text.specs.Address.{address, spelled_address}
+use Rattle.std.specs.Prelude.{◌≡◌, ◌≢◌, ℕ, ◌^◌, ◌<◌, ◌≤◌, List, ◌∷◌, ◌++◌, All, Option, Some, None, false, ◌↔◌, IsTrue, IsSome}
+use Rattle.std.specs.Char.{is_ascii_digit}
+use Rattle.std.specs.Fmt.{decimal, digits}
+use Rattle.line_text.specs.Address.{address, hex_digit, spelled_address}
 use Rattle.line_text.specs.Line.{after_prefix}
 use Rattle.line_text.specs.Number.{number}
 
@@ -37,3 +38,15 @@ StripsFront = (front rest : List ℕ) → after_prefix front (front ++ rest) ≡
 -- what is left follows the text that was taken from the front
 abbrev pub StripsOnlyFront : Type 0
 StripsOnlyFront = (front bytes rest : List ℕ) → after_prefix front bytes ≡ Some rest → bytes ≡ front ++ rest
+
+-- nothing is taken exactly where the bytes have none of that byte
+abbrev pub TakesNoPiece : (List ℕ → Option (List ℕ × List ℕ)) → ℕ → Type 0
+TakesNoPiece first byte = (bytes : List ℕ) → (first bytes ≡ None) ↔ All (λ c. c ≢ byte) bytes
+
+-- the decimal spelling of a number has digits alone
+abbrev pub SpellsDigits : Type 0
+SpellsDigits = (n : ℕ) → n < 2 ^ 64 → All (λ c. IsTrue (is_ascii_digit c)) (decimal n)
+
+-- the spelling of an address is `0x` and hexadecimal digits alone
+abbrev pub SpellsHexDigits : Type 0
+SpellsHexDigits = (n : ℕ) → n < 2 ^ 64 → All (λ c. IsSome (hex_digit c)) (digits 16 false n)

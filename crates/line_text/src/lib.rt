@@ -9,10 +9,13 @@ mod laws;
 mod line;
 /// Decimal numbers: reading and writing.
 mod number;
+#[cfg(test)]
+mod tests;
 
 pub use address::{read_address, write_address};
 pub use laws::{
-    address_is_spelled, decimal_is_read, front_is_stripped, line_is_taken, number_is_decimal,
+    address_is_spelled, decimal_has_digits, decimal_is_read, front_is_stripped, line_is_taken,
+    no_line_is_taken, no_word_is_taken, number_is_decimal, spelled_address_has_digits,
     spelled_address_is_read, stripped_front_was_first, taken_line_is_first, taken_word_is_first,
     word_is_taken,
 };
