@@ -1,5 +1,5 @@
 -- Words that are read and refused, lines that are taken apart, and spellings.
-use Rattle.std.proofs.Common.{◌≡◌, ◌-◌, ◌^◌, [], ◌∷◌, ◌++◌, codes, Some, None, decimal, refl}
+use Rattle.std.proofs.Common.{◌≡◌, ◌-◌, ◌^◌, [], codes, Some, None, decimal, refl}
 use Rattle.std.specs.Fmt.{digits}
 use Rattle.line_text.specs.Line.{first_line, first_word, after_prefix}
 use Rattle.line_text.specs.Number.{number}

@@ -1,9 +1,8 @@
 -- A text is its first piece, the byte that ends it, and the rest.
-use Rattle.std.proofs.Common.{◌≡◌, ◌≢◌, ℕ, ◌+◌, ◌<◌, ◌≤◌, Bool, true, false, cond, List, [], ◌∷◌, ◌++◌, ◌==◌, nat_lt, nat_eq, length, get_or, take, drop, suc, Option, Some, None, ◌↔◌, eq-eqb, add-one, refl, sym, ap, subst, ◌∙◌, arith, All, length-append}
+use Rattle.std.proofs.Common.{◌≡◌, ◌≢◌, ℕ, ◌+◌, ◌<◌, Bool, true, false, cond, List, [], ◌∷◌, ◌++◌, ◌==◌, nat_lt, nat_eq, length, get_or, take, drop, suc, Option, Some, None, ◌↔◌, eq-eqb, add-one, refl, ap, subst, ◌∙◌, arith, All, length-append}
 use borrow.Author.Tests.{eqb-true, ne_eqb}
 use Rattle.std.proofs.Math.ListN.{get_or-append}
 use Rattle.std.proofs.lemmas.List.Elements.{All-from_get_or}
-use Rattle.std.specs.Prelude.{position}
 use Rattle.std.specs.Option.{option_map}
 use Rattle.std.specs.List.{position_or_len, starts_with}
 use Rattle.std.proofs.lemmas.Bool.Decides.{nat_tests, Decides-eqb}

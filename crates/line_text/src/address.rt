@@ -2,7 +2,6 @@ ghost use Rattle.std.specs.Prelude.{◌≡◌, ◌++◌, ◌+◌, ◌≤◌, ◌
 ghost use Rattle.std.specs.Fmt.{digits, digit_glyph};
 ghost use Rattle.line_text.specs.Address.{address, hex_digit, hex_number, hex_on, spelled_address};
 
-use crate::line::strip;
 use std::alloc::AllocError;
 
 /// The address that a word spells: `0x0`, or `0x` and at most 16 hexadecimal digits in lower case
@@ -10,8 +9,10 @@ use std::alloc::AllocError;
 pub fn read_address(word: &[u8]) -> Option<u64>
     ensures exact { result ≡ address word.now }
 {
-    let digits = strip(word, b"0x")?;
-    read_hex(digits)
+    match word {
+        [b'0', b'x', digits @ ..] => read_hex(digits),
+        _ => None,
+    }
 }
 
 // The number that hexadecimal digits spell.

@@ -49,7 +49,7 @@ pub fn strip<'a>(line: &'a [u8], front: &[u8]) -> Option<&'a [u8]>
 
 /// Whether two texts have the same bytes.
 pub fn same_text(a: &[u8], b: &[u8]) -> bool
-    ensures exact { IsTrue result ↔ (a.now ≡ b.now) }
+    ensures { IsTrue result ↔ (a.now ≡ b.now) }
 {
     a == b
 }

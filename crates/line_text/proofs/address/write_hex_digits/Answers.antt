@@ -1,4 +1,4 @@
-use Rattle.std.proofs.Common.{◌≡◌, ◌+◌, ◌-◌, ◌%◌, ◌<◌, ◌≤◌, ◌^◌, length, false, arith, append_assoc}
+use Rattle.std.proofs.Common.{◌≡◌, ◌+◌, ◌-◌, false, arith, append_assoc}
 use Rattle.std.proofs.lemmas.List.{drop-set, length-set}
 use Rattle.std.proofs.lemmas.Fmt.{hex_one_digit}
 use Rattle.line_text.proofs.Hex.{hex_step, length-hex_step, length-hex_one, length-hex-le}
