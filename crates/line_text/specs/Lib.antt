@@ -1,0 +1,4 @@
+pub mod Line
+pub mod Number
+pub mod Address
+pub mod Laws

@@ -1,0 +1,23 @@
+//! Lines of a text, words of a line, and decimal and hexadecimal numbers with one spelling each.
+#![tactic(auto)]
+
+/// Hexadecimal addresses: reading and writing.
+mod address;
+/// What reading and spelling have to do with each other.
+mod laws;
+/// The lines of a text and the words of a line.
+mod line;
+/// Decimal numbers: reading and writing.
+mod number;
+#[cfg(test)]
+mod tests;
+
+pub use address::{read_address, write_address};
+pub use laws::{
+    address_is_spelled, decimal_has_digits, decimal_is_read, front_is_stripped, line_is_taken,
+    no_line_is_taken, no_word_is_taken, number_is_decimal, spelled_address_has_digits,
+    spelled_address_is_read, stripped_front_was_first, taken_line_is_first, taken_word_is_first,
+    word_is_taken,
+};
+pub use line::{next_line, next_word, same_text, strip};
+pub use number::{read_number, read_number_8, read_number_32, write_number};
