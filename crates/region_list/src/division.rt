@@ -73,3 +73,6 @@ fn fresh_row(target: u32, start: u32, pages: u32) -> Row
         age: 0,
     }
 }
+
+#[cfg(test)]
+mod tests;

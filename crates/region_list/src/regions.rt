@@ -138,3 +138,6 @@ impl Regions {
         row.age = age;
     }
 }
+
+#[cfg(test)]
+mod tests;

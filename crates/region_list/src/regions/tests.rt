@@ -1,0 +1,48 @@
+use super::*;
+use crate::divide;
+use damon_types::Range;
+use std::test::Fail;
+
+#[test]
+fn rows_of_a_division_are_kept(rt: HostRuntime) -> Result<(), Fail> {
+    let alloc = rt.alloc();
+    let mut ranges = Ranges::new(alloc, 4)?;
+    ranges.push(Range {
+        target: 1,
+        first: 3,
+        pages: 5,
+        class: 2,
+    });
+    let mut rows = RowBuf::new(alloc, 11)?;
+    divide(&ranges, 2, 10, &mut rows);
+    assert!(rt; rows.len() <= 6);
+
+    let mut regions = Regions::new(alloc, 2, 8, 7)?;
+    assert_eq!(rt; (regions.len(), regions.max(), regions.room()), (0, 7, 7));
+    regions.replace(&ranges, &rows, 6);
+    assert_eq!(rt; (regions.len(), regions.max(), regions.room()), (2, 6, 4));
+    assert_eq!(rt; (regions.cap(), regions.unit()), (8, 2));
+    assert_eq!(rt; (regions.ranges().len(), regions.ranges().cap()), (1, 8));
+
+    regions.set_values(1, 9, 8, 7);
+    let first = Row {
+        target: 1,
+        start: 3,
+        pages: 2,
+        count: 0,
+        last: 0,
+        age: 0,
+    };
+    let second = Row {
+        target: 1,
+        start: 5,
+        pages: 3,
+        count: 9,
+        last: 8,
+        age: 7,
+    };
+    assert_eq!(rt; regions.row(0), first);
+    assert_eq!(rt; regions.row(1), second);
+    assert_eq!(rt; regions.len(), 2);
+    Ok(())
+}
