@@ -94,3 +94,20 @@ place_found ts offsets pages i page first t layout within from to is first_is =
     let ends : page < offset ts i + t.pages = omega (arith, offset-next ts i t held, ap (offset ts) (add-one i)) in
     let target : IsTarget t = rw (← is) at (layout.sound.each i t within) in
     rw begins (place_of_held ts i page t held from ends, page_of_first_byte ts i page t held from ends, omega (arith, target.end))
+
+-- the target of a page that is there
+located : (ts : List Target) (page : ℕ) → page < pages_of ts → (i : ℕ) × (t : Target) × (slice_get ts i ≡ Some t) × (offset ts i ≤ page) × (page < offset ts i + t.pages)
+located [] page below = absurd (omega arith)
+located (t ∷ ts) page below =
+    elim (cases_lt page t.pages) [
+      | inl here ↦ (0, t, refl, omega arith, omega arith)
+      | inr later ↦
+          let rest = located ts (page - t.pages) (omega (arith, sum_by-cons (λ (u : Target). u.pages) t ts)) in
+          (suc rest.0, rest.1, rest.2, omega (arith, rest.3, offset-suc t ts rest.0), omega (arith, later, rest.4, offset-suc t ts rest.0))
+    ]
+
+-- the page of the first byte of a page is that page
+pub page_of-place_of : (ts : List Target) (page : ℕ) → page < pages_of ts → page_of ts (place_of ts page).target (place_of ts page).addr ≡ Some page
+page_of-place_of ts page below =
+    let at = located ts page below in
+    rw (place_of_held ts at.0 page at.1 at.2 at.3 at.4) (page_of_first_byte ts at.0 page at.1 at.2 at.3 at.4)

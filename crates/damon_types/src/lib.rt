@@ -2,6 +2,7 @@
 #![tactic(auto)]
 
 mod attrs;
+mod laws;
 mod memory;
 mod range;
 mod reserved;
@@ -11,6 +12,7 @@ mod standard;
 mod stream;
 
 pub use attrs::{Attrs, AttrsFault};
+pub use laws::pages_are_numbered;
 pub use memory::{MemSink, MemSource};
 pub use range::{Range, Ranges};
 pub use reserved::append_reserved;

@@ -73,6 +73,7 @@ impl Space {
     pub fn new(alloc: Global, targets: &[Target]) -> Result<Space, SpaceFault>
         requires { length targets.now < 2 ^ 32 }
         ensures exact { MadeOf targets.now result }
+        ensures sound { IfOk result (λ s. IsSpace s) }
     {
         let pages = check_targets(targets)?;
         let offsets = match offsets_of(alloc, targets) {
