@@ -8,5 +8,4 @@ ghost use Rattle.damon_types.specs.Space.{IsSpace, pages_of, page_of, place_of};
 /// the pages of its bytes are numbered alike.
 pub fn pages_are_numbered()
     ensures numbered { (ts : List Target) (page : ℕ) → IsSpace ts → page < pages_of ts → page_of ts (place_of ts page).target (place_of ts page).addr ≡ Some page }
-{
-}
+{}

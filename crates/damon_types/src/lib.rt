@@ -10,6 +10,10 @@ mod row;
 mod space;
 mod standard;
 mod stream;
+#[cfg(test)]
+mod stream_tests;
+#[cfg(test)]
+mod value_tests;
 
 pub use attrs::{Attrs, AttrsFault};
 pub use laws::pages_are_numbered;

@@ -1,4 +1,4 @@
-use Rattle.std.proofs.Common.{◌≡◌, ◌<◌, ◌-◌, get_or, arith, ap, sym}
+use Rattle.std.proofs.Common.{arith, ap, sym}
 use Rattle.damon_types.specs.Ranges.{RangeList}
 use Rattle.damon_types.proofs.ClassLemmas.{class_of_none, last_begun-IsRange, class_of_held, class_of_passed}
 use Rattle.damon_types.proofs.range.Ranges.class_of.Goals as goal
