@@ -1,5 +1,5 @@
 -- The limits of attributes.
-use Rattle.std.specs.Prelude.{ℕ, ◌≤◌, Bool, ◌&&◌, nat_lt, nat_le, Result, Ok, Err, if◌then◌else◌}
+use Rattle.std.specs.Prelude.{◌≤◌, ◌&&◌, nat_lt, nat_le, Result, Ok, Err, if◌then◌else◌}
 use Rattle.damon_types.specs.declared.attrs.Attrs.{Attrs}
 use Rattle.damon_types.specs.declared.attrs.AttrsFault.{AttrsFault}
 use Rattle.damon_types.specs.declared.attrs.AttrsFault.TheVariants.{MinTooSmall, MinOverMax, AggrOutOfRange}

@@ -1,5 +1,5 @@
 -- Ranges that lie in a space.
-use Rattle.std.specs.Prelude.{ℕ, ◌+◌, ◌≤◌, ◌<◌, All, List, length}
+use Rattle.std.specs.Prelude.{◌+◌, ◌≤◌, ◌<◌, All, List, length}
 use Rattle.damon_types.specs.declared.space.Target.{Target}
 use Rattle.damon_types.specs.declared.range.Range.{Range}
 use Rattle.damon_types.specs.Ranges.{end_of}

@@ -1,5 +1,5 @@
-ghost use Rattle.std.specs.Prelude.{◌≡◌};
-ghost use Rattle.damon_types.specs.Attrs.{checked_attrs};
+ghost use Rattle.std.specs.Prelude.{◌≡◌, OnOk};
+ghost use Rattle.damon_types.specs.Attrs.{IsAttrs, checked_attrs};
 
 /// The attributes of a monitor: how many regions it keeps, and how often it aggregates.
 #[derive(Clone, Copy, Debug, PartialEq, Eq)]
@@ -28,6 +28,7 @@ impl Attrs {
     /// Whether the attributes are within their limits, or else the first that is not.
     pub fn check(&self) -> Result<(), AttrsFault>
         ensures exact { result ≡ checked_attrs self.now }
+        ensures within { OnOk result (IsAttrs self.now) }
     {
         let Attrs { min, max, aggr } = *self;
         if min < LEAST_MIN {

@@ -2,6 +2,7 @@
 #![tactic(auto)]
 
 mod attrs;
+mod laws;
 mod memory;
 mod range;
 mod reserved;
@@ -9,8 +10,13 @@ mod row;
 mod space;
 mod standard;
 mod stream;
+#[cfg(test)]
+mod stream_tests;
+#[cfg(test)]
+mod value_tests;
 
 pub use attrs::{Attrs, AttrsFault};
+pub use laws::pages_are_numbered;
 pub use memory::{MemSink, MemSource};
 pub use range::{Range, Ranges};
 pub use reserved::append_reserved;

@@ -1,6 +1,9 @@
 // Streams over memory, which tell all their bytes.
-ghost use Rattle.std.specs.Prelude.{◌≡◌, [], IfOk};
-ghost use Rattle.damon_types.specs.Memory.{Taken};
+ghost use Rattle.std.specs.Prelude.{◌≡◌, ◌<◌, ◌↔◌, [], length, min, Some, Ok, IfOk, IsErr, is_err, if◌then◌else◌};
+ghost use Rattle.std.specs.Io.{ReadsAtMost, WritesAtMost};
+ghost use Rattle.std.specs.Io.KnownBytes.{ReadConsumes, WriteAppends};
+ghost use Rattle.damon_types.specs.Causes.{HasCause};
+ghost use Rattle.damon_types.specs.Memory.{spare, raised};
 
 use crate::{Failed, Sink, Source, append_reserved};
 use std::alloc::{AllocError, Global};
@@ -30,13 +33,17 @@ impl<'a> MemSource<'a> {
 }
 
 impl Source for MemSource<'_> {
-    ghost use Rattle.std.specs.Prelude.{Some};
-
     ghost left = { λ s. Some s };
 
     ghost faults = { λ _. 0 };
 
-    fn read(&mut self, buf: &mut [u8]) -> Result<usize, Failed> {
+    /// Gives as many bytes as are left and fit the buffer.
+    fn read(&mut self, buf: &mut [u8]) -> Result<usize, Failed>
+        ensures bound { ReadsAtMost result buf.new }
+        ensures bytes { ReadConsumes (Some self.old) (Some self.new) result buf.new }
+        ensures cause { HasCause 0 0 result }
+        ensures count { result ≡ Ok (min (length self.old) (length buf.old)) }
+    {
         let count = self.bytes.len().min(buf.len());
         let (front, rest) = self.bytes.split_at(count);
         buf[..count].copy_from_slice(front);
@@ -87,13 +94,22 @@ impl MemSink {
 }
 
 impl Sink for MemSink {
-    ghost use Rattle.std.specs.Prelude.{Some};
-
     ghost taken = { λ s. Some s.bytes };
 
     ghost faults = { λ s. s.faults };
 
-    fn write(&mut self, piece: &[u8]) -> Result<usize, Failed> {
+    /// Takes as much of the piece as there is room for.
+    fn write(&mut self, piece: &[u8]) -> Result<usize, Failed>
+        ensures bound { WritesAtMost result piece.now }
+        ensures bytes { WriteAppends (Some self.old.bytes) (Some self.new.bytes) result piece.now }
+        ensures some { 0 < length piece.now → IfOk result (λ n. 0 < n) }
+        ensures cause { HasCause self.old.faults self.new.faults result }
+
+        ensures count { IfOk result (λ n. n ≡ min (length piece.now) (spare self.old)) }
+        ensures full { IsErr result ↔ ((0 < length piece.now) × (spare self.old ≡ 0)) }
+        ensures faults { self.new.faults ≡ (if is_err result then raised self.old.faults else self.old.faults) }
+        ensures room { self.new.room ≡ self.old.room }
+    {
         let room = (self.room as usize).saturating_sub(self.bytes.len());
         let count = piece.len().min(room);
         if count == 0 && !piece.is_empty() {

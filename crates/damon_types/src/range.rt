@@ -1,5 +1,6 @@
 ghost use Rattle.std.specs.Prelude.{◌≡◌, ◌+◌, ◌^◌, ◌<◌, ◌≤◌, [], ◌∷◌, ◌++◌, length, slice_get, IfOk};
-ghost use Rattle.damon_types.specs.Ranges.{RangeList, InOrder, page_total, end_of, Follows};
+ghost use Rattle.std.specs.List.Sorted.{IsPartitionPoint};
+ghost use Rattle.damon_types.specs.Ranges.{RangeList, InOrder, page_total, class_of, Follows};
 
 use crate::append_reserved;
 use std::alloc::{AllocError, Global};
@@ -109,5 +110,30 @@ impl Ranges {
             total += range.pages;
         }
         total
+    }
+
+    /// The class of the range that holds the page: None exactly where no range does.
+    pub fn class_of(&self, page: u32) -> Option<u8>
+        ensures { result ≡ class_of self.now.list page }
+    {
+        let begun = self.begun_at(page);
+        if begun == 0 {
+            return None;
+        }
+        let range = self.items[begun - 1];
+        if page < range.first + range.pages {
+            Some(range.class)
+        } else {
+            None
+        }
+    }
+
+    // How many ranges begin at or before the page.
+    fn begun_at(&self, page: u32) -> usize
+        ensures within { result ≤ length self.now.list }
+        ensures parts { IsPartitionPoint (λ g. g.first ≤ page) (λ g. page < g.first) self.now.list result }
+        ensures order { InOrder self.now.list }
+    {
+        self.items.partition_point(|range| range.first <= page)
     }
 }

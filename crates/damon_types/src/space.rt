@@ -1,5 +1,5 @@
-ghost use Rattle.std.specs.Prelude.{◌≡◌, ℕ, ◌^◌, ◌<◌, length, slice_get, slice_index, IfOk};
-ghost use Rattle.damon_types.specs.Space.{pages_of, offset, page_of, IsSpace, ChecksTo, MadeOf};
+ghost use Rattle.std.specs.Prelude.{◌≡◌, ℕ, ◌+◌, ◌^◌, ◌≤◌, ◌<◌, length, slice_get, slice_index, IfOk};
+ghost use Rattle.damon_types.specs.Space.{pages_of, offset, page_of, place_of, IsSpace, ChecksTo, MadeOf};
 
 use std::alloc::{AllocError, Global};
 use std::marker::Model;
@@ -73,6 +73,7 @@ impl Space {
     pub fn new(alloc: Global, targets: &[Target]) -> Result<Space, SpaceFault>
         requires { length targets.now < 2 ^ 32 }
         ensures exact { MadeOf targets.now result }
+        ensures sound { IfOk result (λ s. IsSpace s) }
     {
         let pages = check_targets(targets)?;
         let offsets = match offsets_of(alloc, targets) {
@@ -128,6 +129,32 @@ impl Space {
         } else {
             None
         }
+    }
+
+    /// Where the first byte of a page lies.
+    pub fn addr_of(&self, page: u32) -> Place
+        requires { page < pages_of self.now }
+        ensures place { result ≡ place_of self.now page }
+        ensures inverse { page_of self.now result.target result.addr ≡ Some page }
+        ensures below { result.addr < 2 ^ 63 }
+    {
+        let index = self.target_of(page);
+        let first = self.offsets[index];
+        let target = self.targets[index];
+        Place {
+            target: index as u32,
+            addr: target.base + PAGE_SIZE * u64::from(page - first),
+        }
+    }
+
+    // The target that a page belongs to: the last one that begins at or before it.
+    fn target_of(&self, page: u32) -> usize
+        requires { page < pages_of self.now }
+        ensures within { result < length self.now }
+        ensures from { offset self.now result ≤ page }
+        ensures to { page < offset self.now (result + 1) }
+    {
+        self.offsets.partition_point(|first| *first <= page) - 1
     }
 }
 

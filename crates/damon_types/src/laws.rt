@@ -1,0 +1,11 @@
+// Laws of the definitions that the contracts cite, for proofs about callers. No function here does
+// anything.
+ghost use Rattle.std.specs.Prelude.{◌≡◌, ℕ, ◌<◌, List, Some};
+ghost use Rattle.damon_types.specs.declared.space.Target.{Target};
+ghost use Rattle.damon_types.specs.Space.{IsSpace, pages_of, page_of, place_of};
+
+/// The page that holds the first byte of a page is that page: the places of a space's pages and
+/// the pages of its bytes are numbered alike.
+pub fn pages_are_numbered()
+    ensures numbered { (ts : List Target) (page : ℕ) → IsSpace ts → page < pages_of ts → page_of ts (place_of ts page).target (place_of ts page).addr ≡ Some page }
+{}

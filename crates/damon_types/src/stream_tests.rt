@@ -1,0 +1,69 @@
+// Streams over memory, and over readers and writers of std.
+use crate::{Failed, MemSink, MemSource, Sink, Source, StdSink, StdSource};
+use std::io::Cursor;
+use std::process::Abort;
+use std::test::Fail;
+
+// Reads two bytes at a time, and sees that these pieces come.
+fn expect_pieces(rt: &impl Abort, source: &mut impl Source, pieces: &[&[u8]]) {
+    for piece in pieces {
+        let mut buf = [0; 2];
+        assert_eq!(rt; source.read(&mut buf), Ok(piece.len()));
+        assert!(rt; piece.len() <= 2);
+        assert_eq!(rt; &buf[..piece.len()], *piece);
+    }
+}
+
+// Writes each piece, and sees that it is answered so.
+fn expect_answers(
+    rt: &impl Abort,
+    sink: &mut impl Sink,
+    answers: &[(&[u8], Result<usize, Failed>)],
+) {
+    for (piece, answer) in answers {
+        assert_eq!(rt; sink.write(piece), *answer);
+    }
+}
+
+#[test]
+fn a_source_in_memory_gives_pieces(rt: HostRuntime) {
+    let pieces: [&[u8]; 5] = [b"ab", b"cd", b"e", b"", b""];
+    expect_pieces(&rt, &mut MemSource::new(b"abcde"), &pieces);
+}
+
+#[test]
+fn a_sink_in_memory_fills_up(rt: HostRuntime) -> Result<(), Fail> {
+    let mut sink = MemSink::new(rt.alloc(), 3)?;
+    let answers: [(&[u8], Result<usize, Failed>); 5] = [
+        (b"ab", Ok(2)),
+        (b"cd", Ok(1)),
+        (b"d", Err(Failed)),
+        (b"", Ok(0)),
+        (b"de", Err(Failed)),
+    ];
+    expect_answers(&rt, &mut sink, &answers);
+    assert_eq!(rt; sink.bytes(), b"abc".as_slice());
+    Ok(())
+}
+
+#[test]
+fn a_reader_of_std_gives_pieces(rt: HostRuntime) {
+    let bytes: &[u8] = b"abc";
+    let pieces: [&[u8]; 3] = [b"ab", b"c", b""];
+    expect_pieces(&rt, &mut StdSource::new(bytes), &pieces);
+}
+
+// The cursor answers Ok(0) when its three bytes are written.
+#[test]
+fn a_writer_of_std_that_takes_nothing_has_failed(rt: HostRuntime) {
+    let mut bytes = [0; 3];
+    let mut sink = StdSink::new(Cursor::new(bytes.as_mut_slice()));
+    let answers: [(&[u8], Result<usize, Failed>); 4] = [
+        (b"ab", Ok(2)),
+        (b"cd", Ok(1)),
+        (b"d", Err(Failed)),
+        (b"", Ok(0)),
+    ];
+    expect_answers(&rt, &mut sink, &answers);
+    assert_eq!(rt; bytes, *b"abc");
+}
