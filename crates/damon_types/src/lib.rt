@@ -18,7 +18,7 @@ mod value_tests;
 pub use attrs::{Attrs, AttrsFault};
 pub use laws::pages_are_numbered;
 pub use memory::{MemSink, MemSource};
-pub use range::{Range, Ranges};
+pub use range::{Range, RangeSpec, Ranges};
 pub use reserved::append_reserved;
 pub use row::Row;
 pub use space::{PAGE_SIZE, Place, Space, SpaceFault, Target};

@@ -19,6 +19,19 @@ pub struct Range {
     pub class: u8,
 }
 
+/// A range by addresses, as the user writes it.
+#[derive(Clone, Copy, Debug, PartialEq, Eq)]
+pub struct RangeSpec {
+    /// The target that the range lies in.
+    pub target: u32,
+    /// The address of the first byte, a multiple of the page size.
+    pub from: u64,
+    /// The address after the last byte, a multiple of the page size.
+    pub to: u64,
+    /// A label of the user's, from 0 to 15.
+    pub class: u8,
+}
+
 /// Ranges by target, then address, without overlap, with room for a fixed number of them. Two that
 /// are adjacent remain two.
 #[derive(Drop)]
