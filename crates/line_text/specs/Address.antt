@@ -19,7 +19,7 @@ hex_number [] = None
 hex_number (c ∷ []) = hex_digit c
 hex_number (c ∷ d ∷ ds) = if c == 48 then None else if nat_le (length (c ∷ d ∷ ds)) 16 then hex_on 0 (c ∷ d ∷ ds) else None
 
--- the address that a word spells
+-- the address that a word spells: `0x` and those digits
 abbrev pub address : List ℕ → Option ℕ
 address word = option_and_then hex_number (after_prefix (codes "0x") word)
 
