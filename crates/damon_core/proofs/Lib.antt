@@ -2,6 +2,7 @@ pub mod Keeping
 pub mod Tallying
 pub mod Standing
 pub mod RowFacts
+pub mod Between
 pub mod Rows
 pub mod Hits
 pub mod Passes

@@ -16,7 +16,7 @@ use Rattle.damon_core.specs.After.{after, prepared_core, passed_core, phase_afte
 use Rattle.damon_core.specs.Reached.{Reached}
 use Rattle.damon_core.specs.Stands.{MonitorView, Stands, bit_at, last_pass}
 use Rattle.damon_core.specs.Shown.{after_prepare, after_clear, after_load, after_observe, phase_by_clear, with_counts, ended}
-use Rattle.damon_core.specs.Kept.{loaded_so_far}
+use Rattle.damon_core.specs.Kept.{loaded_so_far, HasPicks}
 use Rattle.damon_core.proofs.Tallying.{reached_early, reached_tallied, pass_hits_le, loading_pass, last_pass-phase_after_clear, last_pass-phase_after_pass}
 
 bit_at-replicate : (n k : ℕ) → bit_at (replicate n false) k ≡ false
@@ -179,3 +179,12 @@ observe_fits m s stands fits = subst (λ (c : Core). IsObserving c.phase (row_co
 
 pub prepare_fits : (m : MonitorView) (s : State) (ws : List ℕ) → Stands m s → m.core.phase ≡ Idle → length ws ≡ row_count m.core → (s.core.phase ≡ Idle) × (length ws ≡ row_count s.core)
 prepare_fits m s ws stands idle len = (ap (λ (c : Core). c.phase) (sym stands.same) ∙ idle, len ∙ ap row_count stands.same)
+
+-- a load has a pick
+pub load_has_pick : (ph : Phase) (rows n : ℕ) → HasPicks ph rows n → 0 < rows → IsLoading ph rows → load_index ph < n
+load_has_pick Armed rows n has some fits = omega arith
+load_has_pick (Checking k) rows n has some fits = omega arith
+load_has_pick (Clearing k) rows n has some fits = absurd fits
+load_has_pick Idle rows n has some fits = absurd fits
+load_has_pick Void rows n has some fits = absurd fits
+load_has_pick Due rows n has some fits = absurd fits
