@@ -1,4 +1,5 @@
-ghost use Rattle.std.specs.Prelude.{◌≡◌, ◌^◌, ◌≤◌, ◌<◌, true, length, slice_get, IfOk};
+ghost use Rattle.std.specs.List.{AllByRecursion};
+ghost use Rattle.std.specs.Prelude.{◌≡◌, ◌+◌, ◌^◌, ◌≤◌, ◌<◌, true, length, slice_get, IfOk};
 ghost use Rattle.damon_types.specs.Space.{pages_of};
 ghost use Rattle.damon_types.specs.Span.{spans};
 ghost use Rattle.region_list.specs.Division.{divided};
@@ -11,7 +12,7 @@ ghost use Rattle.damon_core.specs.After.{phase_after_clear, phase_after_pass};
 ghost use Rattle.damon_core.specs.Reached.{Reached};
 ghost use Rattle.damon_core.specs.Stands.{Stands, IsEvent};
 ghost use Rattle.damon_core.specs.Shown.{after_prepare, after_clear, after_load, after_observe, ended};
-ghost use Rattle.damon_core.specs.Kept.{IsInPass, cleared_so_far};
+ghost use Rattle.damon_core.specs.Kept.{IsInPass, IsWithin, cleared_so_far};
 
 use damon_types::{Attrs, Space};
 use live_commit::{Phase, Setup};
@@ -82,9 +83,10 @@ impl Monitor {
         })
     }
 
-    /// Where the monitor is in its pass.
+    /// Where the monitor is in its pass. The pick of a phase is one of the rows.
     pub fn phase(&self) -> Phase
         ensures phase { result ≡ self.now.core.phase }
+        ensures within { IsWithin self.now.core.phase (row_count self.now.core) }
     {
         self.phase
     }
@@ -103,10 +105,13 @@ impl Monitor {
         self.attrs
     }
 
-    /// The rows, with the ranges that they tile.
+    /// The rows, with the ranges that they tile. Each has a page, and its pages are pages of the space.
     pub fn rows(&self) -> &Regions
-        ensures { result.now ≡ self.now.core.regions }
+        ensures rows { result.now ≡ self.now.core.regions }
+        ensures in_space { AllByRecursion (λ r. (1 ≤ r.pages) × (r.start + r.pages ≤ pages_of self.now.core.space)) self.now.core.regions.rows }
+        ensures some { 0 < row_count self.now.core }
     {
+        let _rows = self.regions.len();
         &self.regions
     }
 

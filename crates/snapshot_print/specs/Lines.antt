@@ -1,0 +1,64 @@
+-- The text of a state.
+use Rattle.std.specs.Prelude.{ℕ, ◌+◌, ◌*◌, List, ◌++◌, length, codes}
+use Rattle.std.specs.List.{flat_map}
+use Rattle.std.specs.Fmt.{decimal}
+use Rattle.damon_types.specs.declared.space.Target.{Target}
+use Rattle.damon_types.specs.declared.row.Row.{Row}
+use Rattle.damon_types.specs.Space.{place_of}
+use Rattle.live_commit.specs.declared.phase.Phase.{Phase}
+use Rattle.live_commit.specs.declared.phase.Phase.TheVariants.{Idle, Clearing, Armed, Checking, Void, Due}
+use Rattle.line_text.specs.Address.{spelled_address}
+use Rattle.damon_core.specs.State.{Core, row_count}
+use Rattle.damon_core.specs.Stands.{MonitorView}
+use Rattle.snapshot_print.specs.declared.form.Form.{Form}
+use Rattle.snapshot_print.specs.declared.form.Form.TheVariants.{Text}
+
+infixr 20 ◌then◌
+-- one text and then another
+abbrev pub ◌then◌ : List ℕ → List ℕ → List ℕ
+a then b = a ++ b
+
+-- the name of a phase
+abbrev pub phase_name : Phase → List ℕ
+phase_name Idle = codes "idle"
+phase_name (Clearing k) = codes "clearing"
+phase_name Armed = codes "armed"
+phase_name (Checking k) = codes "checking"
+phase_name Void = codes "void"
+phase_name Due = codes "due"
+
+-- the address of the first byte of a page
+abbrev pub page_address : List Target → ℕ → ℕ
+page_address space page = (place_of space page).addr
+
+-- where a row lies: from the address of its first page to that after its last one
+abbrev pub place_part : List Target → Row → List ℕ
+place_part space r =
+    codes "row " then decimal r.target then codes " " then spelled_address (page_address space r.start)
+    then codes "-" then spelled_address (page_address space r.start + 4096 * r.pages)
+
+-- what was counted of a row
+abbrev pub count_part : Row → List ℕ
+count_part r = codes " count=" then decimal r.count then codes " last=" then decimal r.last then codes " age=" then decimal r.age then codes "\n"
+
+-- the line of a row
+abbrev pub row_line : List Target → Row → List ℕ
+row_line space r = place_part space r ++ count_part r
+
+-- the lines of rows
+abbrev pub row_lines : List Target → List Row → List ℕ
+row_lines space rows = flat_map (row_line space) rows
+
+-- the first line of a show
+abbrev pub show_line : Core → List ℕ
+show_line c = codes "show tick=" then decimal c.ticks then codes " phase=" then phase_name c.phase then codes " rows=" then decimal (row_count c) then codes "\n"
+
+-- what a show writes of a state
+abbrev pub show_text : Form → Core → List ℕ
+show_text Text c = show_line c ++ row_lines c.space c.regions.rows
+
+-- what is written at the end
+abbrev pub end_text : Form → MonitorView → List ℕ
+end_text Text m =
+    codes "end ticks=" then decimal m.core.ticks then codes " rows=" then decimal (row_count m.core)
+    then codes " checks=" then decimal m.checks then codes " hits=" then decimal m.hits then codes "\n"
