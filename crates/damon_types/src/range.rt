@@ -80,7 +80,7 @@ impl Ranges {
     }
 
     /// Appends a range that has a page and comes after the last one: of its target, or of a later
-    /// one, and not before its end. There is room for it.
+    /// one, and not before its end. There is room for it, and it ends before page 2^32.
     pub fn push(&mut self, range: Range)
         requires room { length self.old.list < self.old.cap }
         requires pages { 1 ≤ range.pages }
