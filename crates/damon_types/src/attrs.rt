@@ -12,11 +12,14 @@ pub struct Attrs {
     pub aggr: u32,
 }
 
-/// The limit that attributes break.
+/// The first limit that attributes break, in the order of the variants.
 #[derive(Clone, Copy, Debug, PartialEq, Eq)]
 pub enum AttrsFault {
+    /// `min` is below 3.
     MinTooSmall { min: u32 },
+    /// `min` is above `max`.
     MinOverMax { min: u32, max: u32 },
+    /// `aggr` is 0 or above 1,000.
     AggrOutOfRange { aggr: u32 },
 }
 

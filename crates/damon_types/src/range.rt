@@ -77,7 +77,7 @@ impl Ranges {
         self.items.len() as u32
     }
 
-    /// The range with this index.
+    /// The range with this index, which is below `len()`.
     pub fn get(&self, index: u32) -> Range
         requires { index < length self.now.list }
         ensures { slice_get self.now.list index ≡ Some result }
@@ -92,7 +92,8 @@ impl Ranges {
         self.items.clear();
     }
 
-    /// Appends a range that comes after the last one.
+    /// Appends a range that has a page and comes after the last one: of its target, or of a later
+    /// one, and not before its end. There is room for it, and it ends before page 2^32.
     pub fn push(&mut self, range: Range)
         requires room { length self.old.list < self.old.cap }
         requires pages { 1 ≤ range.pages }
@@ -103,7 +104,7 @@ impl Ranges {
         self.items.push_reserved(range);
     }
 
-    /// Makes the list another one, for which there is room.
+    /// Makes the list that of `other`, for which there is room.
     pub fn copy_from(&mut self, other: &Ranges)
         requires { length other.now.list ≤ self.old.cap }
         ensures list { self.new ≡ record self.old { list = other.now.list } }

@@ -15,7 +15,8 @@ const MAX_PAGES: u32 = 1_048_576;
 /// An address range whose pages can be watched: whole pages from an address on.
 #[derive(Clone, Copy, Debug, PartialEq, Eq)]
 pub struct Target {
-    /// The address of the first byte, a multiple of the page size.
+    /// The address of the first byte, a multiple of the page size. The last page ends at or below
+    /// 2^63.
     pub base: u64,
     /// How many pages there are, from 1 to 1,048,576.
     pub pages: u32,
@@ -24,23 +25,31 @@ pub struct Target {
 /// Where a page lies: its target, and the address of its first byte.
 #[derive(Clone, Copy, Debug, PartialEq, Eq)]
 pub struct Place {
+    /// The index of the target.
     pub target: u32,
+    /// The address of the page's first byte.
     pub addr: u64,
 }
 
 /// Why a list of targets makes no space.
 #[derive(Clone, Copy, Debug, PartialEq, Eq, Error)]
 pub enum SpaceFault {
+    /// The list is empty.
     #[error("NoTarget")]
     NoTarget,
+    /// There are more than 64 targets.
     #[error("TooManyTargets")]
     TooManyTargets { count: u32 },
+    /// The target with this index has no page, or more than 1,048,576.
     #[error("BadPages")]
     BadPages { index: u32 },
+    /// The target with this index does not begin with a page, or ends above 2^63.
     #[error("BadBase")]
     BadBase { index: u32 },
+    /// The targets have more than 1,048,576 pages in all.
     #[error("TooManyPages")]
     TooManyPages { total: u64 },
+    /// No memory is left. The targets break no limit.
     #[error("Memory")]
     Memory,
 }
@@ -105,7 +114,7 @@ impl Space {
         self.pages
     }
 
-    /// The target with this index.
+    /// The target with this index, which is below `targets()`.
     pub fn target(&self, index: u32) -> Target
         requires { index < length self.now }
         ensures { slice_get self.now index ≡ Some result }
@@ -131,7 +140,7 @@ impl Space {
         }
     }
 
-    /// Where the first byte of a page lies.
+    /// Where the first byte of a page lies, whose number is below `pages()`.
     pub fn addr_of(&self, page: u32) -> Place
         requires { page < pages_of self.now }
         ensures place { result ≡ place_of self.now page }

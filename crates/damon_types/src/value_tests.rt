@@ -1,18 +1,8 @@
 // Spaces, attributes and ranges at values that were worked out by hand.
-ghost use Rattle.std.specs.Prelude.{◌^◌, ◌<◌, length};
-
 use crate::{Attrs, AttrsFault, Place, Range, Ranges, Space, SpaceFault, Target};
-use std::alloc::Global;
 use std::test::Fail;
 
 const LARGE: u32 = 1_048_576;
-
-// The first limit that the targets break.
-fn fault(alloc: Global, targets: &[Target]) -> Option<SpaceFault>
-    requires { length targets.now < 2 ^ 32 }
-{
-    Space::new(alloc, targets).err()
-}
 
 const fn target(base: u64, pages: u32) -> Target {
     Target { base, pages }
@@ -60,39 +50,45 @@ fn pages_have_places(rt: HostRuntime) -> Result<(), Fail> {
 
 #[test]
 fn targets_have_limits(rt: HostRuntime) {
-    let alloc = rt.alloc();
     let high = (1 << 63) - 0x1000;
-    assert_eq!(rt; fault(alloc, &[]), Some(SpaceFault::NoTarget));
-    assert_eq!(rt; fault(alloc, &[target(0, 1); 64]), None);
-    assert_eq!(rt;
-        fault(alloc, &[target(0, 1); 65]),
-        Some(SpaceFault::TooManyTargets { count: 65 })
-    );
-    assert_eq!(rt;
-        fault(alloc, &[target(0x10001, 0)]),
-        Some(SpaceFault::BadPages { index: 0 })
-    );
-    assert_eq!(rt;
-        fault(alloc, &[target(0, LARGE + 1)]),
-        Some(SpaceFault::BadPages { index: 0 })
-    );
-    assert_eq!(rt;
-        fault(alloc, &[target(0x10001, 3)]),
-        Some(SpaceFault::BadBase { index: 0 })
-    );
-    assert_eq!(rt; fault(alloc, &[target(high, 1)]), None);
-    assert_eq!(rt;
-        fault(alloc, &[target(high, 2)]),
-        Some(SpaceFault::BadBase { index: 0 })
-    );
-    assert_eq!(rt;
-        fault(alloc, &[target(0, 1), target(1, 1), target(0, 0)]),
-        Some(SpaceFault::BadBase { index: 1 })
-    );
-    assert_eq!(rt;
-        fault(alloc, &[target(0, LARGE), target(0, 1)]),
-        Some(SpaceFault::TooManyPages { total: 1_048_577 })
-    );
+    let cases: [(&[Target], Option<SpaceFault>); 10] = [
+        (&[], Some(SpaceFault::NoTarget)),
+        (&[target(0, 1); 64], None),
+        (
+            &[target(0, 1); 65],
+            Some(SpaceFault::TooManyTargets { count: 65 }),
+        ),
+        (
+            &[target(0x10001, 0)],
+            Some(SpaceFault::BadPages { index: 0 }),
+        ),
+        (
+            &[target(0, LARGE + 1)],
+            Some(SpaceFault::BadPages { index: 0 }),
+        ),
+        (
+            &[target(0x10001, 3)],
+            Some(SpaceFault::BadBase { index: 0 }),
+        ),
+        (&[target(high, 1)], None),
+        (&[target(high, 2)], Some(SpaceFault::BadBase { index: 0 })),
+        (
+            &[target(0, 1), target(1, 1), target(0, 0)],
+            Some(SpaceFault::BadBase { index: 1 }),
+        ),
+        (
+            &[target(0, LARGE), target(0, 1)],
+            Some(SpaceFault::TooManyPages { total: 1_048_577 }),
+        ),
+    ];
+    for (targets, fault) in cases {
+        assert!(rt; targets.len() <= 65);
+        assert_eq!(rt;
+            Space::new(rt.alloc(), targets).err(),
+            fault,
+            "of {targets:?}"
+        );
+    }
 }
 
 #[test]
