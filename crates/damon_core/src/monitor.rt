@@ -12,7 +12,7 @@ ghost use Rattle.damon_core.specs.After.{phase_after_clear, phase_after_pass};
 ghost use Rattle.damon_core.specs.Reached.{Reached};
 ghost use Rattle.damon_core.specs.Stands.{Stands, IsEvent};
 ghost use Rattle.damon_core.specs.Shown.{after_prepare, after_clear, after_load, after_observe, ended};
-ghost use Rattle.damon_core.specs.Kept.{IsInPass, IsWithin, cleared_so_far};
+ghost use Rattle.damon_core.specs.Kept.{IsInPass, IsWithin, SinceWithin, cleared_so_far};
 
 use damon_types::{Attrs, Space};
 use live_commit::{Phase, Setup};
@@ -83,10 +83,12 @@ impl Monitor {
         })
     }
 
-    /// Where the monitor is in its pass. The pick of a phase is one of the rows.
+    /// Where the monitor is in its pass. The pick of a phase is one of the rows, and an aggregation is
+    /// due once there are `aggr` passes since the last one.
     pub fn phase(&self) -> Phase
         ensures phase { result ≡ self.now.core.phase }
         ensures within { IsWithin self.now.core.phase (row_count self.now.core) }
+        ensures since { SinceWithin self.now.core.phase self.now.core.since self.now.core.attrs.aggr }
     {
         self.phase
     }

@@ -1,0 +1,59 @@
+-- A state with the random words that are still to come, and the next step from it.
+use Rattle.std.specs.Prelude.{◌≡◌, ℕ, true, false, zero, suc, ◌+◌, ◌-◌, ◌*◌, ◌==◌, List, [], ◌∷◌, ◌++◌, slice_index, if◌then◌else◌}
+use Rattle.rand_core.specs.Stream.{Stream}
+use Rattle.live_commit.specs.declared.phase.Phase.{Phase}
+use Rattle.live_commit.specs.declared.phase.Phase.TheVariants.{Idle, Clearing, Armed, Checking, Void, Due}
+use Rattle.damon_core.specs.State.{Core, State, row_count}
+use Rattle.damon_core.specs.Event.{Event, prepare, clear, load, observe, aggregate, load_page, next_hit}
+use Rattle.damon_core.specs.After.{after}
+use Rattle.damon_world.specs.Draws.{drawn, drawn_rest}
+use Rattle.damon_world.specs.declared.world.Stepped.{Stepped}
+use Rattle.damon_world.specs.declared.world.Stepped.TheVariants.{Prepared, Cleared, Loaded, Observed}
+
+pub record Moment : Type 0 where
+  pub state : State
+  pub stream : Stream
+
+-- how many random words the next step draws
+abbrev pub draws_in : Phase → Core → ℕ
+draws_in Idle c = row_count c
+draws_in Due c = 2 * c.attrs.max
+draws_in _ c = 0
+
+abbrev pub draws : Core → ℕ
+draws c = draws_in c.phase c
+
+-- the event of the next step, with the next random words and the true result of a load
+abbrev pub event_in : Phase → State → Stream → Event
+event_in Idle s stream = prepare (drawn (row_count s.core) stream)
+event_in (Clearing k) s stream = clear
+event_in Armed s stream = load (next_hit s)
+event_in (Checking k) s stream = if k == row_count s.core then observe else load (next_hit s)
+event_in Void s stream = observe
+event_in Due s stream = aggregate (drawn (2 * s.core.attrs.max) stream)
+
+abbrev pub next_event : State → Stream → Event
+next_event s stream = event_in s.core.phase s stream
+
+-- what a step tells of what it did
+abbrev pub Tells : Phase → State → Stepped → Type 0
+Tells Idle s told = told ≡ Prepared
+Tells (Clearing k) s told = told ≡ Cleared (slice_index s.core.picks k)
+Tells Armed s told = told ≡ Loaded (load_page s) (next_hit s)
+Tells (Checking k) s told = told ≡ (if k == row_count s.core then Observed false else Loaded (load_page s) (next_hit s))
+Tells Void s told = told ≡ Observed true
+Tells Due s told = ⊥
+
+-- the moment after the next step
+abbrev pub stepped : Moment → Moment
+stepped m = record { state = after m.state (next_event m.state m.stream); stream = drawn_rest (draws m.state.core) m.stream }
+
+-- the moment after so many steps
+abbrev pub stepped_times : ℕ → Moment → Moment
+stepped_times zero m = m
+stepped_times (suc n) m = stepped (stepped_times n m)
+
+-- the events of so many steps, in order
+abbrev pub events_of_steps : ℕ → Moment → List Event
+events_of_steps zero m = []
+events_of_steps (suc n) m = events_of_steps n m ++ next_event (stepped_times n m).state (stepped_times n m).stream ∷ []

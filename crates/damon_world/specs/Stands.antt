@@ -1,0 +1,24 @@
+-- What a world shows, and for which states it stands.
+use Rattle.std.specs.Prelude.{◌≡◌, ℕ, ◌<◌, List, slice_index}
+use Rattle.damon_types.specs.Space.{pages_of}
+use Rattle.damon_core.specs.Note.{word_of}
+use Rattle.damon_core.specs.State.{State}
+use Rattle.damon_core.specs.Event.{Event, Fits}
+use Rattle.damon_core.specs.After.{after}
+use Rattle.damon_core.specs.Reached.{Reached}
+use Rattle.damon_core.specs.Stands.{MonitorView, Stands}
+
+-- a world: its monitor, the words of its pages, and its source of random words
+pub record WorldView (R : Type 0) : Type 0 where
+  pub monitor : MonitorView
+  pub words : List ℕ
+  pub source : R
+
+-- the world stands for the state: its monitor does, and each page's word is the one that the notes give
+pub record StandsFor {R : Type 0} (w : WorldView R) (s : State) : Type 0 where
+  pub monitor : Stands w.monitor s
+  pub words : (p : ℕ) → p < pages_of w.monitor.core.space → slice_index w.words p ≡ word_of s.notes p
+
+-- In each state for which the world stands the event fits, and afterwards it stands for the state after it.
+abbrev pub IsEvent : {R : Type 0} → WorldView R → WorldView R → Event → Type 0
+IsEvent old new e = (s : State) → Reached s → StandsFor old s → Fits s e × StandsFor new (after s e)

@@ -1,0 +1,195 @@
+ghost use Rattle.std.specs.Prelude.{◌≡◌, ◌≢◌, ◌+◌, ◌/◌, ◌^◌, ◌≤◌, ◌<◌, ℕ, ◌↔◌, IsTrue, IfOk, length, slice_index, vec_capacity};
+ghost use Rattle.damon_types.specs.Space.{pages_of};
+ghost use Rattle.live_commit.specs.SetupView.{value_of};
+ghost use Rattle.damon_core.specs.State.{State, opening, opening_core, row_count};
+ghost use Rattle.damon_core.specs.Event.{Fits, IsLoading, IsObserving, load_index, touch as touch_event};
+ghost use Rattle.damon_core.specs.After.{after};
+ghost use Rattle.damon_core.specs.Reached.{Reached};
+ghost use Rattle.damon_world.specs.Draws.{drawn, drawn_rest};
+ghost use Rattle.damon_world.specs.Stands.{StandsFor, IsEvent};
+ghost use Rattle.damon_world.specs.Moment.{draws, next_event, Tells};
+ghost use Rattle.damon_world.specs.Left.{steps_to_due};
+ghost use Rattle.damon_world.specs.Step.{IsStep};
+
+use damon_core::Monitor;
+use live_commit::{Phase, Setup};
+use rand_core::Rng;
+use std::alloc::{AllocError, Global};
+use std::marker::Model;
+
+/// What a step did.
+#[derive(Clone, Copy, Debug, PartialEq, Eq)]
+pub enum Stepped {
+    /// A pass was prepared.
+    Prepared,
+    /// The accessed mark of the page was cleared.
+    Cleared { page: u32 },
+    /// The accessed mark of the page was looked at: it was accessed since its clear, or not.
+    Loaded { page: u32, hit: bool },
+    /// The pass was observed, as a void one or not.
+    Observed { void: bool },
+}
+
+/// A monitor with the pages of one thread. A page's word is `2 × c + t`, where c is the pass that
+/// cleared it last, 0 if none did, and t is 1 where it was touched since.
+#[derive(Drop)]
+pub struct World<R: Rng> {
+    monitor: Monitor,
+    words: Vec<u64>,
+    // The random words of a step, in room that is taken once.
+    drawn: Vec<u32>,
+    source: R,
+}
+
+impl<R: Rng> Model for World<R> {
+    ghost use Rattle.damon_world.specs.Stands.{WorldView};
+
+    ghost Value = { WorldView R };
+
+    ghost use Rattle.std.specs.Prelude.{vec_capacity};
+    ghost use Rattle.damon_world.specs.Kept.{IsWorld};
+
+    ghost view = { λ w. record { monitor = w.monitor; words = w.words.items; source = w.source } };
+
+    ghost invariant = { λ w. IsWorld w.monitor w.words.items (vec_capacity w.drawn) };
+}
+
+impl<R: Rng + Drop> World<R> {
+    /// A world before its first event: no page was touched. Takes memory; no other call does.
+    pub fn new(alloc: Global, setup: &Setup, source: R) -> Result<World<R>, AllocError>
+        requires { length setup.now.ranges.list ≡ 1 }
+        ensures core { IfOk result (λ w. w.monitor.core ≡ opening_core (value_of setup.now)) }
+        ensures source { IfOk result (λ w. w.source ≡ source) }
+        ensures opening { IfOk result (λ w. StandsFor w (opening (value_of setup.now))) }
+    {
+        let monitor = Monitor::new(alloc, setup)?;
+        let words = vec![in alloc; 0; setup.space.pages() as usize]?;
+        let drawn = Vec::with_capacity(alloc, setup.cap as usize)?;
+        Ok(World {
+            monitor,
+            words,
+            drawn,
+            source,
+        })
+    }
+
+    /// The monitor.
+    pub fn monitor(&self) -> &Monitor
+        ensures { result.now ≡ self.now.monitor }
+    {
+        &self.monitor
+    }
+
+    /// Touches a page, and gives the tag: the pass that cleared the page last, 0 where none did.
+    pub fn touch(&mut self, page: u32) -> u64
+        requires { page < pages_of self.old.monitor.core.space }
+        ensures tag { result ≡ slice_index self.old.words page / 2 }
+        ensures monitor { self.new.monitor ≡ self.old.monitor }
+        ensures source { self.new.source ≡ self.old.source }
+        ensures event { IsEvent self.old self.new (touch_event page) }
+    {
+        let word = self.words[page as usize];
+        self.words[page as usize] = word | 1;
+        word / 2
+    }
+
+    /// Carries out the monitor's next step. An aggregation is not carried out yet. The passes in all
+    /// are below 2^40.
+    pub fn step(&mut self) -> Stepped
+        requires not_due { self.old.monitor.core.phase ≢ Phase.Due }
+        requires ticks { self.old.monitor.core.ticks < 2 ^ 40 }
+
+        // The random words are drawn from the front of the stream, as many as the step wants.
+        ensures words { R.stream self.new.source ≡ drawn_rest (draws self.old.monitor.core) (R.stream self.old.source) }
+
+        // In each state for which the world stands the step is the next event.
+        ensures event { (s : State) → Reached s → StandsFor self.old s → Fits s (next_event s (R.stream self.old.source)) × StandsFor self.new (after s (next_event s (R.stream self.old.source))) }
+        ensures told { (s : State) → Reached s → StandsFor self.old s → Tells s.core.phase s result }
+
+        // What a caller needs for the next step.
+        ensures left { steps_to_due self.new.monitor.core + 1 ≡ steps_to_due self.old.monitor.core }
+        ensures passes { self.new.monitor.core.ticks ≤ self.old.monitor.core.ticks + 1 }
+        ensures space { self.new.monitor.core.space ≡ self.old.monitor.core.space }
+    {
+        match self.monitor.phase() {
+            Phase::Idle => self.prepare(),
+            Phase::Clearing { next } => self.clear(next),
+            Phase::Armed => self.load(0),
+            Phase::Checking { next } => self.check(next),
+            Phase::Void => self.observe(true),
+            Phase::Due => unreachable!(),
+        }
+    }
+
+    // Prepares a pass by the next random words.
+    fn prepare(&mut self) -> Stepped
+        requires { self.old.monitor.core.phase ≡ Phase.Idle }
+        ensures { IsStep R.stream self.old self.new result }
+    {
+        let rows = self.monitor.rows().len();
+        draw(&mut self.source, rows, &mut self.drawn);
+        self.monitor.prepare(&self.drawn);
+        Stepped::Prepared
+    }
+
+    // Clears the page of pick `next`.
+    fn clear(&mut self, next: u32) -> Stepped
+        requires phase { self.old.monitor.core.phase ≡ Phase.Clearing next }
+        requires ticks { self.old.monitor.core.ticks < 2 ^ 40 }
+        ensures { IsStep R.stream self.old self.new result }
+    {
+        let page = self.monitor.pick(next);
+        self.words[page as usize] = 2 * (self.monitor.ticks() + 1);
+        self.monitor.cleared();
+        Stepped::Cleared { page }
+    }
+
+    // Loads the page of pick `next`, or observes the pass where all are loaded.
+    fn check(&mut self, next: u32) -> Stepped
+        requires phase { self.old.monitor.core.phase ≡ Phase.Checking next }
+        requires ticks { self.old.monitor.core.ticks < 2 ^ 40 }
+        ensures { IsStep R.stream self.old self.new result }
+    {
+        if next < self.monitor.rows().len() {
+            self.load(next)
+        } else {
+            self.observe(false)
+        }
+    }
+
+    // Loads the page of pick `next`.
+    fn load(&mut self, next: u32) -> Stepped
+        requires phase { IsLoading self.old.monitor.core.phase (row_count self.old.monitor.core) }
+        requires index { next ≡ load_index self.old.monitor.core.phase }
+        ensures { IsStep R.stream self.old self.new result }
+    {
+        let page = self.monitor.pick(next);
+        let hit = self.words[page as usize] % 2 == 1;
+        self.monitor.loaded(hit);
+        Stepped::Loaded { page, hit }
+    }
+
+    // Ends the pass.
+    fn observe(&mut self, void: bool) -> Stepped
+        requires phase { IsObserving self.old.monitor.core.phase (row_count self.old.monitor.core) }
+        requires void { IsTrue void ↔ (self.old.monitor.core.phase ≡ Phase.Void) }
+        requires ticks { self.old.monitor.core.ticks < 2 ^ 40 }
+        ensures { IsStep R.stream self.old self.new result }
+    {
+        self.monitor.observe();
+        Stepped::Observed { void }
+    }
+}
+
+// Draws so many random words.
+fn draw<R: Rng>(source: &mut R, count: u32, words: &mut Vec<u32>)
+    requires { count ≤ vec_capacity words.old }
+    ensures words { words.new.items ≡ drawn count (R.stream source.old) }
+    ensures capacity { vec_capacity words.new ≡ vec_capacity words.old }
+    ensures rest { R.stream source.new ≡ drawn_rest count (R.stream source.old) }
+{
+    words.clear();
+    for _ in 0..count {
+        words.push_reserved(source.next_u32());
+    }
+}
