@@ -1,2 +1,4 @@
 pub mod Drawing
 pub mod Words
+pub mod Leaving
+pub mod Stepping

@@ -135,6 +135,7 @@ impl<R: Rng + Drop> World<R> {
     // Clears the page of pick `next`.
     fn clear(&mut self, next: u32) -> Stepped
         requires phase { self.old.monitor.core.phase ≡ Phase.Clearing next }
+        requires within { next < row_count self.old.monitor.core }
         requires ticks { self.old.monitor.core.ticks < 2 ^ 40 }
         ensures { IsStep R.stream self.old self.new result }
     {
@@ -147,6 +148,7 @@ impl<R: Rng + Drop> World<R> {
     // Loads the page of pick `next`, or observes the pass where all are loaded.
     fn check(&mut self, next: u32) -> Stepped
         requires phase { self.old.monitor.core.phase ≡ Phase.Checking next }
+        requires within { next ≤ row_count self.old.monitor.core }
         requires ticks { self.old.monitor.core.ticks < 2 ^ 40 }
         ensures { IsStep R.stream self.old self.new result }
     {
@@ -163,6 +165,7 @@ impl<R: Rng + Drop> World<R> {
         requires index { next ≡ load_index self.old.monitor.core.phase }
         ensures { IsStep R.stream self.old self.new result }
     {
+        let _rows = self.monitor.rows();
         let page = self.monitor.pick(next);
         let hit = self.words[page as usize] % 2 == 1;
         self.monitor.loaded(hit);

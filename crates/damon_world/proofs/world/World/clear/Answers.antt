@@ -1,7 +1,19 @@
+use Rattle.std.proofs.Common.{◌≡◌, ◌+◌, ◌*◌, ◌<◌, set, ap, sym, subst, ◌∙◌}
+use Rattle.live_commit.specs.declared.phase.Phase.TheVariants.{Clearing}
+use Rattle.damon_core.specs.State.{row_count}
+use Rattle.damon_world.specs.Stands.{WorldView}
+use Rattle.damon_world.specs.Step.{IsStep}
+use Rattle.damon_world.specs.declared.world.Stepped.TheVariants.{Cleared}
+use Rattle.damon_world.proofs.Stepping.{clear_step}
 use Rattle.damon_world.proofs.world.World.clear.Goals as goal
 
-pub pick-page-requires-clause-within : goal.pick-page-requires-clause-within
-pick-page-requires-clause-within g c = ?
-
 pub returns : goal.returns
-returns g c = ?
+returns g c =
+    let inside = c.self.inside in
+    let stream = g.R.Rng.stream in
+    let page = c.pick-page.result in
+    let clearing : inside.monitor.core.phase ≡ Clearing c.args.next = ap (λ w. w.monitor.core.phase) c.self.view_is ∙ c.requires.phase in
+    let below = subst (λ w. c.args.next < row_count w.monitor.core) (sym c.self.view_is) c.requires.within in
+    let new : WorldView g.row.R.Denot = record { monitor = c.cleared.new.self; words = set inside.words.items page (2 * (c.ticks.result + 1)); source = inside.source } in
+    subst (λ w. IsStep stream w new (Cleared page)) c.self.view_is
+    (clear_step stream inside.monitor c.cleared.new.self inside.words.items inside.source c.args.next page (2 * (c.ticks.result + 1)) clearing below c.pick-page.ensures.page c.pick-page.ensures.inside c.self.invariant.each (ap (λ n. 2 * (n + 1)) c.ticks.ensures) c.cleared.ensures.shown c.cleared.ensures.event)
