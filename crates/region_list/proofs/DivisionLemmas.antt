@@ -1,14 +1,14 @@
 -- The rows of a division tile the range.
-use Rattle.std.proofs.Common.{◌≡◌, ℕ, zero, suc, ◌+◌, ◌-◌, ◌*◌, ◌/◌, ◌≤◌, ◌<◌, ◌^◌, List, [], ◌∷◌, refl, sym, ap, ◌∙◌, subst, Some, length, drop, add-one, length-append, arith}
+use Rattle.std.proofs.Common.{◌≡◌, ℕ, zero, suc, ◌+◌, ◌-◌, ◌*◌, ◌/◌, ◌≤◌, ◌<◌, List, [], ◌∷◌, refl, sym, ap, ◌∙◌, Some, length, drop, add-one, length-append, arith}
 use Rattle.std.specs.Prelude.{slice_get, sum_by}
 use Rattle.std.specs.List.{flat_map, AllByRecursion}
 use Rattle.std.proofs.Math.Nat.{div-mul-le_self, mul-div-le, le_of_mul-le-mul_left, le-div_iff_mul-le}
 use Rattle.std.proofs.Math.Seq.{drop-cons}
 use Rattle.std.proofs.lemmas.List.{map-append, append-nil}
-use Rattle.std.proofs.lemmas.List.Sums.{sum_by-cons}
-use Rattle.std.proofs.lemmas.Option.{get_or_from_slice_get}
+use Rattle.std.proofs.lemmas.List.Sums.{sum_by-cons, get_or-le-sum_by}
+use Rattle.std.proofs.lemmas.Option.{get_or_from_slice_get, slice_get_within}
 use Rattle.damon_types.specs.declared.range.Range.{Range}
-use Rattle.damon_types.specs.Ranges.{end_of, page_total, OrderedFrom}
+use Rattle.damon_types.specs.Ranges.{end_of, page_total}
 use Rattle.damon_types.specs.Span.{spans, span_of}
 use Rattle.region_list.specs.Tiling.{Chain, Tiling}
 use Rattle.region_list.specs.Division.{fresh, rows_from, range_rows, divided, parts}
@@ -21,12 +21,7 @@ rows_from_more t size end (suc (suc n)) start more =
     let fewer : suc (suc n) - 1 ≡ suc n = omega arith in
     rw fewer refl
 
--- the last row
-pub rows_from_last : (t size end n start : ℕ) → 1 ≤ n → n ≤ 1 → rows_from t size end n start ≡ fresh t start (end - start) ∷ []
-rows_from_last t size end zero start some last = absurd (omega arith)
-rows_from_last t size end (suc zero) start some last = refl
-rows_from_last t size end (suc (suc n)) start some last = absurd (omega arith)
-
+-- the rows go from the first page to the end
 pub chain_rows : (unit t size end n start : ℕ) → unit ≤ size → 1 ≤ n → start + size * n ≤ end → Chain unit t start end (spans (rows_from t size end n start))
 chain_rows unit t size end zero start wide some fits = absurd (omega arith)
 chain_rows unit t size end (suc zero) start wide some fits = (refl, refl, omega arith, omega arith)
@@ -38,6 +33,7 @@ pub peel : (s n : ℕ) → 1 ≤ n → s + s * (n - 1) ≡ s * n
 peel s zero some = absurd (omega arith)
 peel s (suc m) some = let e : suc m - 1 ≡ m = omega arith in rw e (omega arith)
 
+-- there are as many rows as are asked for
 pub length-rows_from : (t size end n start : ℕ) → length (rows_from t size end n start) ≡ n
 length-rows_from t size end zero start = refl
 length-rows_from t size end (suc zero) start = refl
@@ -50,22 +46,26 @@ length-divided_le unit least total (g ∷ gs) =
     let k = parts unit least total g in
     omega (arith, length-divided_le unit least total gs, sum_by-cons (λ (h : Range). h.pages * least / total) g gs, length-append (range_rows unit least total g) (flat_map (range_rows unit least total) gs), length-rows_from g.target (g.pages / k) (end_of g) k g.first)
 
+-- the shares of the ranges are together at most what is aimed at
 shares_le : (least total : ℕ) (gs : List Range) → total * sum_by (λ g. g.pages * least / total) gs ≤ page_total gs * least
 shares_le least total [] = omega arith
 shares_le least total (g ∷ gs) =
     rw (sum_by-cons (λ (h : Range). h.pages * least / total) g gs, sum_by-cons (λ (h : Range). h.pages) g gs) (omega (arith, shares_le least total gs, mul-div-le (g.pages * least) total))
 
+-- the division has room
 pub divided_fits : (unit least : ℕ) (gs : List Range) → 0 < page_total gs → length (divided unit least gs) ≤ length gs + least
 divided_fits unit least gs some =
     let total = page_total gs in
     let shares : sum_by (λ g. g.pages * least / total) gs ≤ least = le_of_mul-le-mul_left {k = total} (shares_le least total gs) some in
     omega (arith, length-divided_le unit least total gs, shares)
 
+-- a range is divided into a row at least
 parts_some : (unit least total : ℕ) (g : Range) → 1 ≤ unit → unit ≤ g.pages → 1 ≤ parts unit least total g
 parts_some unit least total g some wide =
     let most : 1 ≤ g.pages / unit = (le-div_iff_mul-le some).1 (omega arith) in
     omega (arith, most)
 
+-- and into rows of at least the unit
 parts_wide : (unit least total : ℕ) (g : Range) → 1 ≤ unit → unit ≤ g.pages → unit ≤ g.pages / parts unit least total g
 parts_wide unit least total g some wide =
     let k = parts unit least total g in
@@ -87,23 +87,14 @@ divided_tiling unit least total (g ∷ gs) some wide =
       divided_tiling unit least total gs some wide.1,
     )
 
+-- the ranges from one on: it and the others
 pub drop_next : (gs : List Range) (i : ℕ) (g : Range) → i < length gs → slice_get gs i ≡ Some g → drop i gs ≡ g ∷ drop (i + 1) gs
 drop_next gs i g here is = drop-cons gs i g here ∙ ap (λ x. x ∷ drop (suc i) gs) (get_or_from_slice_get gs i g g is) ∙ ap (λ n. g ∷ drop n gs) (sym (add-one i))
 
+-- a range has no more pages than all have
 pub pages_within : (gs : List Range) (i : ℕ) (g : Range) → slice_get gs i ≡ Some g → g.pages ≤ page_total gs
-pages_within [] i g is = absurd (cc is)
-pages_within (h ∷ gs) zero g is = let e : h ≡ g = cc in omega (arith, sum_by-cons (λ (x : Range). x.pages) h gs, ap (λ (x : Range). x.pages) e)
-pages_within (h ∷ gs) (suc i) g is = omega (arith, pages_within gs i g is, sum_by-cons (λ (x : Range). x.pages) h gs)
-
-pub all_at : (P : Range → Type 0) (gs : List Range) (i : ℕ) (g : Range) → AllByRecursion P gs → slice_get gs i ≡ Some g → P g
-all_at P [] i g all is = absurd (cc is)
-all_at P (h ∷ gs) zero g all is = let e : h ≡ g = cc in subst P e all.0
-all_at P (h ∷ gs) (suc i) g all is = all_at P gs i g all.1 is
-
-pub end_at : (t p : ℕ) (gs : List Range) (i : ℕ) (g : Range) → OrderedFrom t p gs → slice_get gs i ≡ Some g → end_of g < 2 ^ 32
-end_at t p [] i g ordered is = absurd (cc is)
-end_at t p (h ∷ gs) zero g ordered is = let e : h ≡ g = cc in subst (λ x. end_of x < 2 ^ 32) e ordered.2.end
-end_at t p (h ∷ gs) (suc i) g ordered is = end_at h.target (end_of h) gs i g ordered.3 is
+pages_within gs i g is =
+    omega (arith, get_or-le-sum_by (λ (h : Range). h.pages) gs i g (slice_get_within gs i g is), ap (λ (h : Range). h.pages) (get_or_from_slice_get gs i g g is))
 
 -- one range has all the pages, so its share is what is aimed at
 pub length-divided_one : (unit least : ℕ) (g : Range) → 1 ≤ g.pages → 1 ≤ least → length (divided unit least (g ∷ [])) ≤ least

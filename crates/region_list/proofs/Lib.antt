@@ -1,2 +1,3 @@
+pub mod AllLemmas
 pub mod TilingLemmas
 pub mod DivisionLemmas

@@ -1,15 +1,18 @@
 -- Chains of rows give a tiling, page by page.
-use Rattle.std.proofs.Common.{◌≡◌, ℕ, zero, suc, ◌+◌, ◌^◌, ◌≤◌, ◌<◌, Some, Bool, true, false, cond, List, [], ◌∷◌, ◌++◌, refl, sym, ap, ◌∙◌, subst, arith}
+use Rattle.std.proofs.Common.{length, ◌≡◌, ℕ, zero, suc, ◌+◌, ◌^◌, ◌≤◌, ◌<◌, Some, Bool, true, false, cond, List, [], ◌∷◌, ◌++◌, refl, sym, ap, ◌∙◌, subst, arith}
 use Rattle.std.specs.Prelude.{slice_get, ◌&&◌, ◌||◌, ◌==◌, nat_le, nat_lt, count_by, Any}
 use Rattle.std.specs.List.{list_any, AllByRecursion}
 use Rattle.std.proofs.lemmas.Bool.Decides.{nat_tests}
 use Rattle.std.proofs.lemmas.List.Sums.{sum_by-cons, sum_by-append}
+use Rattle.std.proofs.lemmas.Option.{slice_get-map, slice_get_read}
+use Rattle.std.specs.Option.{option_map}
 use Rattle.damon_types.specs.declared.range.Range.{Range}
 use Rattle.damon_types.specs.Ranges.{OrderedFrom, InOrder, end_of}
 use Rattle.damon_types.specs.declared.row.Row.{Row}
 use Rattle.damon_types.specs.Span.{Span, span_of, spans}
 use Rattle.region_list.specs.Tiles.{span_holds, range_holds, LiesIn, Tiles, RiseFrom}
 use Rattle.region_list.specs.Tiling.{Chain, Tiling}
+use Rattle.region_list.proofs.AllLemmas.{all_append, all_weaker, all_at}
 
 abbrev ones : Bool → ℕ
 ones b = cond b 1 0
@@ -70,14 +73,6 @@ tiling_once unit t from (g ∷ gs) ss q p ordered tiling =
     ∙ ap (λ n. ones (range_holds q p g) + n) (tiling_once unit g.target (end_of g) gs back q p ordered.3 tiling.4)
     ∙ join_any (range_holds q p g) (list_any (range_holds q p) gs) (λ held. none_before g.target (end_of g) gs q p ordered.3 (held_before g q p held))
 
-all_append : (P : Span → Type 0) (xs ys : List Span) → AllByRecursion P xs → AllByRecursion P ys → AllByRecursion P (xs ++ ys)
-all_append P [] ys all more = more
-all_append P (x ∷ xs) ys all more = (all.0, all_append P xs ys all.1 more)
-
-all_map : (P Q : Span → Type 0) (xs : List Span) → ((s : Span) → P s → Q s) → AllByRecursion P xs → AllByRecursion Q xs
-all_map P Q [] f all = tt
-all_map P Q (x ∷ xs) f all = (f x all.0, all_map P Q xs f all.1)
-
 chain_size : (unit t from to : ℕ) (ss : List Span) → Chain unit t from to ss → AllByRecursion (λ s. unit ≤ s.pages) ss
 chain_size unit t from to [] chain = tt
 chain_size unit t from to (s ∷ ss) chain = (chain.2, chain_size unit t (from + s.pages) to ss chain.3)
@@ -122,8 +117,8 @@ tiling_within unit [] ss tiling = subst (λ us. AllByRecursion (λ (s : Span). A
 tiling_within unit (g ∷ gs) ss tiling =
     subst (λ us. AllByRecursion (λ (s : Span). Any (LiesIn s) (g ∷ gs)) us) (sym tiling.2)
     (all_append (λ s. Any (LiesIn s) (g ∷ gs)) tiling.0 tiling.1
-    (all_map (λ s. LiesIn s g) (λ s. Any (LiesIn s) (g ∷ gs)) tiling.0 (λ s lies. first_any s g gs lies) (chain_within unit g g.first tiling.0 (omega arith) tiling.3))
-    (all_map (λ s. Any (LiesIn s) gs) (λ s. Any (LiesIn s) (g ∷ gs)) tiling.1 (λ s any. later_any s g gs any) (tiling_within unit gs tiling.1 tiling.4)))
+    (all_weaker (λ s. LiesIn s g) (λ s. Any (LiesIn s) (g ∷ gs)) tiling.0 (λ s lies. first_any s g gs lies) (chain_within unit g g.first tiling.0 (omega arith) tiling.3))
+    (all_weaker (λ s. Any (LiesIn s) gs) (λ s. Any (LiesIn s) (g ∷ gs)) tiling.1 (λ s any. later_any s g gs any) (tiling_within unit gs tiling.1 tiling.4)))
 
 -- what is kept gives what is promised
 pub tiles : (unit : ℕ) (gs : List Range) (ss : List Span) → 1 ≤ unit → InOrder gs → Tiling unit gs ss → Tiles gs ss unit
@@ -134,28 +129,23 @@ tiles unit gs ss some ordered tiling = record {
   rise = tiling_rise unit 0 0 gs ss some ordered tiling;
 }
 
-chain_end : (unit t from to : ℕ) (ss : List Span) → Chain unit t from to ss → AllByRecursion (λ s. s.start + s.pages ≤ to) ss
-chain_end unit t from to [] chain = tt
-chain_end unit t from to (s ∷ ss) chain = (omega (arith, chain.1, chain_le unit t (from + s.pages) to ss chain.3), chain_end unit t (from + s.pages) to ss chain.3)
+-- a range that is listed ends below the limit of a page number
+pub end_at : (t p : ℕ) (gs : List Range) (i : ℕ) (g : Range) → OrderedFrom t p gs → slice_get gs i ≡ Some g → end_of g < 2 ^ 32
+end_at t p [] i g ordered is = absurd (cc is)
+end_at t p (h ∷ gs) zero g ordered is = let e : h ≡ g = cc in subst (λ x. end_of x < 2 ^ 32) e ordered.2.end
+end_at t p (h ∷ gs) (suc i) g ordered is = end_at h.target (end_of h) gs i g ordered.3 is
 
--- all rows end below the limit of a page number
-tiling_end : (unit t from : ℕ) (gs : List Range) (ss : List Span) → OrderedFrom t from gs → Tiling unit gs ss → AllByRecursion (λ s. s.start + s.pages < 2 ^ 32) ss
-tiling_end unit t from [] ss ordered tiling = subst (λ us. AllByRecursion (λ (s : Span). s.start + s.pages < 2 ^ 32) us) (sym tiling) tt
-tiling_end unit t from (g ∷ gs) ss ordered tiling =
-    let end : end_of g < 2 ^ 32 = ordered.2.end in
-    subst (λ us. AllByRecursion (λ (s : Span). s.start + s.pages < 2 ^ 32) us) (sym tiling.2)
-    (all_append (λ s. s.start + s.pages < 2 ^ 32) tiling.0 tiling.1
-    (all_map (λ s. s.start + s.pages ≤ end_of g) (λ s. s.start + s.pages < 2 ^ 32) tiling.0 (λ s low. omega arith) (chain_end unit g.target g.first (end_of g) tiling.0 tiling.3))
-    (tiling_end unit g.target (end_of g) gs tiling.1 ordered.3 tiling.4))
+lies_end : (gs : List Range) (s : Span) → InOrder gs → Any (LiesIn s) gs → s.start + s.pages < 2 ^ 32
+lies_end gs s ordered any =
+    omega (arith, any.4.to, end_at 0 0 gs any.0 any.1 ordered (slice_get_read gs (length gs) any.0 any.1 refl any.2 (sym any.3)))
 
 -- a fact of each row's place holds of the row at an index
 at_index : (P : Span → Type 0) (rows : List Row) (i : ℕ) (r : Row) → AllByRecursion P (spans rows) → slice_get rows i ≡ Some r → P (span_of r)
-at_index P [] i r all is = absurd (cc is)
-at_index P (q ∷ rows) zero r all is = let e : q ≡ r = cc in subst (λ (x : Row). P (span_of x)) e all.0
-at_index P (q ∷ rows) (suc i) r all is = at_index P rows i r all.1 is
+at_index P rows i r all is = all_at P (spans rows) i (span_of r) all (slice_get-map span_of rows i ∙ ap (λ o. option_map span_of o) is)
 
 pub row_size : (unit : ℕ) (gs : List Range) (rows : List Row) (i : ℕ) (r : Row) → Tiling unit gs (spans rows) → slice_get rows i ≡ Some r → unit ≤ r.pages
 row_size unit gs rows i r tiling is = at_index (λ s. unit ≤ s.pages) rows i r (tiling_size unit gs (spans rows) tiling) is
 
 pub row_end : (unit : ℕ) (gs : List Range) (rows : List Row) (i : ℕ) (r : Row) → InOrder gs → Tiling unit gs (spans rows) → slice_get rows i ≡ Some r → r.start + r.pages < 2 ^ 32
-row_end unit gs rows i r ordered tiling is = at_index (λ s. s.start + s.pages < 2 ^ 32) rows i r (tiling_end unit 0 0 gs (spans rows) ordered tiling) is
+row_end unit gs rows i r ordered tiling is =
+    lies_end gs (span_of r) ordered (at_index (λ s. Any (LiesIn s) gs) rows i r (tiling_within unit gs (spans rows) tiling) is)

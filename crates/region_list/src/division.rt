@@ -10,7 +10,8 @@ use damon_types::{Range, Ranges, Row};
 
 /// Makes the list the initial division of the ranges: each range of p pages is divided into
 /// `max(1, p × min div total)` rows, but at most `p div unit`, of equal size, the last with the rest.
-/// Counts and ages are 0. This division is the project's own.
+/// Counts and ages are 0. `unit` is not 0, each range has at least `unit` pages, and there is room for
+/// `min` rows more than there are ranges. This division is the project's own.
 pub fn divide(ranges: &Ranges, unit: u32, min: u32, rows: &mut RowBuf)
     requires unit { 1 ≤ unit }
     requires wide { AllByRecursion (λ g. unit ≤ g.pages) ranges.now.list }

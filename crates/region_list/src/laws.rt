@@ -8,17 +8,18 @@ ghost use Rattle.region_list.specs.Tiles.{Tiles};
 ghost use Rattle.region_list.specs.Tiling.{Tiling};
 ghost use Rattle.region_list.specs.Division.{divided};
 
-/// Rows that tile ranges range by range tile them page by page.
+/// Rows that tile ranges range by range tile them page by page, where a row has at least one page and
+/// the ranges are in order.
 pub fn tiling_is_per_page()
     ensures { (unit : ℕ) (gs : List range) (rows : List Span) → 1 ≤ unit → InOrder gs → Tiling unit gs rows → Tiles gs rows unit }
 {}
 
-/// The initial division tiles its ranges.
+/// The initial division tiles its ranges, where each has at least `unit` pages.
 pub fn division_tiles()
     ensures { (unit min : ℕ) (gs : List range) → 1 ≤ unit → AllByRecursion (λ g. unit ≤ g.pages) gs → Tiling unit gs (spans (divided unit min gs)) }
 {}
 
-/// One range is divided into at most as many rows as are aimed at.
+/// One range is divided into at most `min` rows, where `min` is not 0.
 pub fn one_range_is_divided_within()
     ensures { (unit min : ℕ) (g : range) → 1 ≤ g.pages → 1 ≤ min → length (divided unit min (g ∷ [])) ≤ min }
 {}

@@ -34,7 +34,9 @@ impl Model for Regions {
 }
 
 impl Regions {
-    /// No ranges and no rows, with room for `cap` of each. Takes memory for them; no other call does.
+    /// No ranges and no rows, with room for `cap` of each; at most `max` rows are allowed, from 1 to
+    /// `cap`, each of at least `unit` pages, which is not 0. Takes memory for them, and no other call
+    /// does; the error is that there is none.
     pub fn new(alloc: Global, unit: u32, cap: u32, max: u32) -> Result<Regions, AllocError>
         requires unit { 1 ≤ unit }
         requires least { 1 ≤ max }
@@ -52,7 +54,9 @@ impl Regions {
         })
     }
 
-    /// Puts these ranges, these rows that tile them and this `max` in place of what was there.
+    /// Puts these ranges, these rows and this `max` in place of what was there. The rows tile the
+    /// ranges by this list's unit and are at most `max`, which is from 1 to `cap`; there are at most
+    /// `cap` ranges.
     pub fn replace(&mut self, ranges: &Ranges, rows: &RowBuf, max: u32)
         requires tiling { Tiling self.old.unit ranges.now.list (spans rows.now.rows) }
         requires few { length rows.now.rows ≤ max }
@@ -94,7 +98,7 @@ impl Regions {
         self.cap
     }
 
-    /// The least pages of a row.
+    /// The fewest pages that a row may have.
     pub fn unit(&self) -> u32
         ensures { result ≡ self.now.unit }
     {
@@ -116,7 +120,8 @@ impl Regions {
         &self.ranges
     }
 
-    /// The row with this index. What holds of each row comes with it.
+    /// The row with this index, which is below the number of rows. What holds of each row comes with
+    /// it: it has at least `unit` pages, and ends below 2^32.
     pub fn row(&self, index: u32) -> Row
         requires { index < length self.now.rows }
         ensures row { slice_get self.now.rows index ≡ Some result }
@@ -127,7 +132,8 @@ impl Regions {
         self.rows[index as usize]
     }
 
-    /// Gives the row with this index other numbers; where it lies stays.
+    /// Gives the row with this index, which is below the number of rows, another count, last count and
+    /// age. Where it lies stays.
     pub fn set_values(&mut self, index: u32, count: u32, last: u32, age: u32)
         requires { index < length self.old.rows }
         ensures { self.new ≡ record self.old { rows = with_values self.old.rows index count last age } }

@@ -23,7 +23,8 @@ impl Model for RowBuf {
 }
 
 impl RowBuf {
-    /// The empty list, with room for so many rows. Takes memory for them; no other call does.
+    /// The empty list, with room for `cap` rows. Takes memory for them, and no other call does; the
+    /// error is that there is none.
     pub fn new(alloc: Global, cap: u32) -> Result<RowBuf, AllocError>
         ensures { IfOk result (λ b. b ≡ record { rows = []; cap = cap }) }
     {
@@ -45,7 +46,7 @@ impl RowBuf {
         self.rows.len() as u32
     }
 
-    /// The row with this index.
+    /// The row with this index, which is below the number of rows.
     pub fn get(&self, index: u32) -> Row
         requires { index < length self.now.rows }
         ensures { slice_get self.now.rows index ≡ Some result }
@@ -60,7 +61,7 @@ impl RowBuf {
         &self.rows
     }
 
-    /// Appends a row.
+    /// Appends a row, for which there is room.
     pub fn push(&mut self, row: Row)
         requires { length self.old.rows < self.old.cap }
         ensures { self.new ≡ record self.old { rows = self.old.rows ++ row ∷ [] } }
@@ -68,7 +69,7 @@ impl RowBuf {
         self.rows.push_reserved(row);
     }
 
-    /// Empties the list.
+    /// Empties the list. The room stays.
     pub fn clear(&mut self)
         ensures { self.new ≡ record self.old { rows = [] } }
     {

@@ -1,5 +1,5 @@
 -- The counts of rows after a pass.
-use Rattle.std.specs.Prelude.{ℕ, ◌+◌, Bool, List, [], ◌∷◌, cond}
+use Rattle.std.specs.Prelude.{◌+◌, Bool, List, [], ◌∷◌, cond}
 use Rattle.damon_types.specs.declared.row.Row.{Row}
 
 -- a row with its count raised by one where its check was a hit

@@ -6,7 +6,8 @@ ghost use Rattle.sampler.specs.Counted.{raised, raised_row};
 use crate::Picks;
 use region_list::Regions;
 
-/// Raises by one the count of each row whose check was a hit.
+/// Raises by one the count of each row whose check was a hit. Nothing else changes. There are as many
+/// picks as rows, and no count is the greatest that a `u32` holds.
 pub fn observe(regions: &mut Regions, picks: &Picks)
     requires picks { length picks.now.pages ≡ length regions.old.rows }
     requires small { AllByRecursion (λ r. r.count + 1 < 2 ^ 32) regions.old.rows }

@@ -26,7 +26,8 @@ impl Model for Picks {
 }
 
 impl Picks {
-    /// No picks, with room for so many. Takes memory for them; no other call does.
+    /// No picks, with room for `cap` of them. Takes memory for them, and no other call does; the error
+    /// is that there is none.
     pub fn new(alloc: Global, cap: u32) -> Result<Picks, AllocError>
         ensures { IfOk result (λ p. p ≡ record { pages = []; bits = []; cap = cap }) }
     {
@@ -51,7 +52,7 @@ impl Picks {
         self.pages.len() as u32
     }
 
-    /// The page of pick `k`.
+    /// The number of the page of pick `k`, which is below the number of picks.
     pub fn page(&self, k: u32) -> u32
         requires { k < length self.now.pages }
         ensures { slice_get self.now.pages k ≡ Some result }
@@ -59,7 +60,7 @@ impl Picks {
         self.pages[k as usize]
     }
 
-    /// Whether the check of pick `k` was a hit.
+    /// Whether the check of pick `k`, which is below the number of picks, was a hit.
     pub fn hit(&self, k: u32) -> bool
         requires { k < length self.now.pages }
         ensures { slice_get self.now.bits k ≡ Some result }
@@ -74,7 +75,7 @@ impl Picks {
         self.bits.iter().filter(|hit| **hit).count() as u32
     }
 
-    /// Says whether the check of pick `k` was a hit.
+    /// Records whether the check of pick `k`, which is below the number of picks, was a hit.
     pub fn set(&mut self, k: u32, hit: bool)
         requires { k < length self.old.pages }
         ensures { self.new ≡ record self.old { bits = slice_set self.old.bits k hit } }
@@ -83,7 +84,8 @@ impl Picks {
     }
 }
 
-/// Picks a page of each row: that of row i by word i. No check is a hit so far.
+/// Picks a page of each row: of row `i` the page `start + word i mod pages`. No check is a hit so far.
+/// There are as many words as rows, and room for as many picks.
 pub fn set_picks(regions: &Regions, words: &[u32], picks: &mut Picks)
     requires words { length words.now ≡ length regions.now.rows }
     requires room { length regions.now.rows ≤ picks.old.cap }

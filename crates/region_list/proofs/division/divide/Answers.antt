@@ -6,7 +6,9 @@ use Rattle.damon_types.specs.Span.{spans}
 use Rattle.region_list.specs.Rows.{RowList}
 use Rattle.region_list.specs.Tiling.{Tiling}
 use Rattle.region_list.specs.Division.{range_rows, rows_from}
-use Rattle.region_list.proofs.DivisionLemmas.{drop_next, pages_within, all_at, end_at, divided_fits, divided_tiling, length-rows_from}
+use Rattle.region_list.proofs.AllLemmas.{all_at}
+use Rattle.region_list.proofs.TilingLemmas.{end_at}
+use Rattle.region_list.proofs.DivisionLemmas.{drop_next, pages_within, divided_fits, divided_tiling, length-rows_from}
 use Rattle.region_list.proofs.division.divide.Goals as goal
 
 pub parts-count-requires-clause-total : goal.parts-count-requires-clause-total

@@ -1,10 +1,11 @@
-use Rattle.std.proofs.Common.{◌≡◌, ◌<◌, ◌+◌, ◌^◌, length, take, get_or, set, ap, sym, ◌∙◌, subst, false, length-take, add-one, arith, Some}
-use Rattle.std.proofs.lemmas.Option.{get_or_from_slice_get}
+use Rattle.std.proofs.Common.{◌≡◌, ◌<◌, ◌+◌, ◌^◌, length, take, get_or, set, ap, sym, ◌∙◌, subst, false, length-take, add-one, arith}
+use Rattle.std.proofs.lemmas.Option.{get_or_from_slice_get, slice_get-get_or}
+use Rattle.region_list.proofs.AllLemmas.{all_at}
 use Rattle.damon_types.specs.declared.row.Row.{Row}
 use Rattle.region_list.specs.Regions.{RegionList}
 use Rattle.region_list.specs.Rows.{no_row}
 use Rattle.sampler.specs.Counted.{raised, raised_row}
-use Rattle.sampler.proofs.Raised.{length-raised, raised_later, raised_more, small_row}
+use Rattle.sampler.proofs.Raised.{length-raised, raised_later, raised_more}
 use Rattle.sampler.proofs.counting.observe.Goals as goal
 
 pub raise_row-requires-clause-within : goal.raise_row-requires-clause-within
@@ -17,7 +18,8 @@ pub raise_row-requires-clause-small : goal.raise_row-requires-clause-small
 raise_row-requires-clause-small c =
     let rows = c.args.regions.now.rows in
     let same = ap (λ (r : RegionList). get_or r.rows c.loop-index.index no_row) c.loop-index.invariant ∙ raised_later c.args.picks.now.bits rows c.loop-index.index no_row in
-    subst (λ (r : Row). r.count + 1 < 2 ^ 32) (sym same) (small_row rows c.loop-index.index no_row (omega (arith, c.len-index-end.ensures.len)) c.requires.small)
+    let is = slice_get-get_or rows c.loop-index.index no_row (omega (arith, c.len-index-end.ensures.len)) in
+    subst (λ (r : Row). r.count + 1 < 2 ^ 32) (sym same) (all_at (λ (r : Row). r.count + 1 < 2 ^ 32) rows c.loop-index.index _ c.requires.small is)
 
 pub loop-index-preserved : goal.loop-index-preserved
 loop-index-preserved c =

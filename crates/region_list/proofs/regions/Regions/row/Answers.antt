@@ -1,6 +1,5 @@
-use Rattle.std.proofs.Common.{◌≡◌, ◌<◌, length, Some, ap, sym, ◌∙◌, arith}
-use Rattle.std.specs.Prelude.{slice_get}
-use Rattle.std.proofs.lemmas.Option.{slice_get-get_or}
+use Rattle.std.proofs.Common.{◌<◌, length, refl, ap, arith}
+use Rattle.std.proofs.lemmas.Option.{slice_get_read}
 use Rattle.region_list.specs.Regions.{RegionList}
 use Rattle.region_list.proofs.TilingLemmas.{row_size, row_end}
 use Rattle.region_list.proofs.regions.Regions.row.Goals as goal
@@ -8,10 +7,9 @@ use Rattle.region_list.proofs.regions.Regions.row.Goals as goal
 pub returns-clause-size : goal.returns-clause-size
 returns-clause-size c =
     let rows = c.self.inside.rows.items in
-    let row = c.index.result.now in
     let here : c.args.index < length rows = omega (arith, c.requires, ap (λ (r : RegionList). length r.rows) c.self.view_is) in
-    let is : slice_get rows c.args.index ≡ Some row = slice_get-get_or rows c.args.index row here ∙ ap (λ r. Some r) (sym c.index.ensures) in
-    omega (arith, row_size _ _ rows c.args.index row c.self.invariant.0.tiling is, ap (λ (r : RegionList). r.unit) c.self.view_is)
+    let is = slice_get_read rows (length rows) c.args.index c.index.result.now refl here c.index.ensures in
+    omega (arith, row_size _ _ rows c.args.index _ c.self.invariant.0.tiling is, ap (λ (r : RegionList). r.unit) c.self.view_is)
 
 pub returns-clause-some : goal.returns-clause-some
 returns-clause-some c = omega (arith, returns-clause-size c, c.self.invariant.0.unit, ap (λ (r : RegionList). r.unit) c.self.view_is)
@@ -19,7 +17,6 @@ returns-clause-some c = omega (arith, returns-clause-size c, c.self.invariant.0.
 pub returns-clause-end : goal.returns-clause-end
 returns-clause-end c =
     let rows = c.self.inside.rows.items in
-    let row = c.index.result.now in
     let here : c.args.index < length rows = omega (arith, c.requires, ap (λ (r : RegionList). length r.rows) c.self.view_is) in
-    let is : slice_get rows c.args.index ≡ Some row = slice_get-get_or rows c.args.index row here ∙ ap (λ r. Some r) (sym c.index.ensures) in
-    row_end _ _ rows c.args.index row c.self.invariant.0.order c.self.invariant.0.tiling is
+    let is = slice_get_read rows (length rows) c.args.index c.index.result.now refl here c.index.ensures in
+    row_end _ _ rows c.args.index _ c.self.invariant.0.order c.self.invariant.0.tiling is
