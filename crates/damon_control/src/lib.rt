@@ -1,6 +1,7 @@
 //! Scripts: what a text spells, and the reader of such texts.
 #![tactic(auto)]
 
+mod fields;
 mod reader;
 mod script;
 
