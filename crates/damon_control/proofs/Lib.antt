@@ -1,0 +1,4 @@
+mod Options
+mod LineLemmas
+mod BodyLemmas
+mod PageLemmas

@@ -1,3 +1,6 @@
 pub mod Script
 pub mod ScriptView
 pub mod Views
+pub mod Lines
+pub mod Limits
+pub mod Body

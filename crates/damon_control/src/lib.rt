@@ -1,9 +1,12 @@
 //! Scripts: what a text spells, and the reader of such texts.
 #![tactic(auto)]
 
+mod commands;
 mod fields;
+mod laws;
 mod reader;
 mod script;
 
+pub use laws::lines_begin_with_first;
 pub use reader::{ReadFail, read_script};
 pub use script::{Command, Script};

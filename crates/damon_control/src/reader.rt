@@ -4,7 +4,7 @@ ghost use Rattle.damon_control.specs.Script.{script_of};
 ghost use Rattle.damon_control.specs.ScriptView.{said_by};
 
 use crate::Script;
-use std::alloc::Global;
+use std::alloc::{AllocError, AllocFailed, Global};
 
 /// Why a text was not read as a script.
 #[derive(Clone, Copy, Debug, PartialEq, Eq)]
@@ -13,6 +13,26 @@ pub enum ReadFail {
     /// shows. Other scripts are not built yet.
     NotYet,
     Memory,
+}
+
+impl From<AllocError> for ReadFail {
+    ghost use Rattle.damon_control.specs.declared.reader.ReadFail.TheVariants.{Memory};
+
+    ghost from_gives = { λ _ e. e ≡ Memory };
+
+    fn from(_error: AllocError) -> ReadFail {
+        ReadFail::Memory
+    }
+}
+
+impl<T: Drop> From<AllocFailed<T>> for ReadFail {
+    ghost use Rattle.damon_control.specs.declared.reader.ReadFail.TheVariants.{Memory};
+
+    ghost from_gives = { λ _ e. e ≡ Memory };
+
+    fn from(_error: AllocFailed<T>) -> ReadFail {
+        ReadFail::Memory
+    }
 }
 
 /// Reads a script. Takes memory.
