@@ -4,3 +4,4 @@ pub mod Views
 pub mod Lines
 pub mod Limits
 pub mod Body
+pub mod Head

@@ -6,6 +6,7 @@ mod fields;
 mod laws;
 mod reader;
 mod script;
+mod setup;
 
 pub use laws::lines_begin_with_first;
 pub use reader::{ReadFail, read_script};
