@@ -1,5 +1,6 @@
 -- The head of a script, as a text.
 use Rattle.std.specs.Prelude.{ℕ, ◌≤◌, List, [], ◌∷◌, codes, Option, Some, None}
+use Rattle.std.specs.Option.{option_map}
 use Rattle.damon_types.specs.declared.space.Target.{Target}
 use Rattle.damon_types.specs.declared.range.Range.{Range}
 use Rattle.damon_types.specs.declared.attrs.Attrs.{Attrs}
@@ -49,3 +50,7 @@ pub record FitsTarget (t : Target) (unit : ℕ) (g : Range) : Type 0 where
   pub wide : unit ≤ g.pages
   pub class : g.class ≤ 15
   pub within : LiesInTarget (t ∷ []) g
+
+-- the text behind a first line `begin`
+abbrev pub behind_begin : List ℕ → Option (List ℕ)
+behind_begin text = option_map (λ (line : Unit {0} × List ℕ). line.1) (at_line (keyword (codes "begin")) text)

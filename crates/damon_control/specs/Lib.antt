@@ -5,3 +5,4 @@ pub mod Lines
 pub mod Limits
 pub mod Body
 pub mod Head
+pub mod Parts

@@ -1,10 +1,11 @@
 // The head of a script: the lines of its setup, and the setup that is made of them.
-ghost use Rattle.std.specs.Prelude.{◌≡◌, ◌≤◌, ◌&&◌, true, false, [], ◌∷◌, is_ok, Some, None, IfOk, IfSome, IsErrOf};
+ghost use Rattle.std.specs.Prelude.{◌≡◌, ◌≤◌, ◌&&◌, true, false, [], ◌∷◌, length, is_ok, Some, None, IfOk, IfSome, IsErrOf};
 ghost use Rattle.std.specs.Bool.{OnTrue};
+ghost use Rattle.std.specs.Option.{option_copied};
 ghost use Rattle.damon_types.specs.declared.space.Target.{Target};
 ghost use Rattle.damon_types.specs.Space.{IsSpace, IsTarget, checked};
 ghost use Rattle.live_commit.specs.SetupView.{value_of};
-ghost use Rattle.damon_control.specs.Head.{AreLimits, FitsTarget, head_of, setup_made};
+ghost use Rattle.damon_control.specs.Head.{AreLimits, FitsTarget, behind_begin, head_of, setup_made};
 ghost use Rattle.damon_control.specs.Script.{is_held, is_within, only_if, pages_in};
 ghost use Rattle.damon_control.specs.Views.{view_front};
 
@@ -65,10 +66,20 @@ pub fn read_head(text: &[u8]) -> Option<(Head, &[u8])>
     Some((head, text))
 }
 
+// Reads the line `begin`, and gives the text behind it.
+pub fn read_begin(text: &[u8]) -> Option<&[u8]>
+    ensures { option_copied result ≡ behind_begin text.now }
+{
+    let (line, text) = next_line(text)?;
+    read_keyword(b"begin", line)?;
+    Some(text)
+}
+
 // Makes the setup that a head says.
 pub fn make_setup(alloc: Global, head: &Head) -> Result<Setup, ReadFail>
     ensures setup { IfOk result (λ s. setup_made head.now ≡ Some (value_of s)) }
     ensures not_yet { IsErrOf result ReadFail.NotYet → setup_made head.now ≡ None }
+    ensures one_range { IfOk result (λ s. length s.ranges.list ≡ 1) }
 {
     let Head {
         unit,
