@@ -8,6 +8,6 @@ mod reader;
 mod script;
 mod setup;
 
-pub use laws::lines_begin_with_first;
+pub use laws::{lines_begin_with_first, scripts_have_parts};
 pub use reader::{ReadFail, read_script};
 pub use script::{Command, Script};

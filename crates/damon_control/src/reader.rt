@@ -1,13 +1,12 @@
 ghost use Rattle.std.specs.Prelude.{◌≡◌, ◌≤◌, ◌<◌, Some, None, IfOk, IsErrOf, length, All};
 ghost use Rattle.damon_types.specs.Space.{pages_of};
 ghost use Rattle.damon_control.specs.Limits.{StepsWithin, TouchesWithin};
-ghost use Rattle.damon_control.specs.Parts.{script_by_parts};
 ghost use Rattle.damon_control.specs.Script.{script_of};
 ghost use Rattle.damon_control.specs.ScriptView.{said_by};
 
 use crate::commands::read_commands;
 use crate::setup::{make_setup, read_begin, read_head};
-use crate::{Script, lines_begin_with_first};
+use crate::{Script, scripts_have_parts};
 use std::alloc::{AllocError, AllocFailed, Global};
 
 /// Why a text was not read as a script.
@@ -48,21 +47,10 @@ pub fn read_script(alloc: Global, text: &[u8]) -> Result<Script, ReadFail>
     ensures touches { IfOk result (λ s. All (TouchesWithin (pages_of s.setup.space)) s.commands.items) }
     ensures steps { IfOk result (λ s. All StepsWithin s.commands.items) }
 {
-    lines_begin_with_first();
-    read_parts(alloc, text)
-}
-
-// Reads the head of a script, then its body.
-fn read_parts(alloc: Global, text: &[u8]) -> Result<Script, ReadFail>
-    ensures script { IfOk result (λ s. script_by_parts text.now ≡ Some (said_by s)) }
-    ensures not_yet { IsErrOf result ReadFail.NotYet → script_by_parts text.now ≡ None }
-    ensures one_range { IfOk result (λ s. length s.setup.ranges.list ≡ 1) }
-    ensures touches { IfOk result (λ s. All (TouchesWithin (pages_of s.setup.space)) s.commands.items) }
-    ensures steps { IfOk result (λ s. All StepsWithin s.commands.items) }
-{
-    let (head, text) = read_head(text).ok_or(ReadFail::NotYet)?;
+    scripts_have_parts();
+    let (head, behind) = read_head(text).ok_or(ReadFail::NotYet)?;
     let setup = make_setup(alloc, &head)?;
-    let body = read_begin(text).ok_or(ReadFail::NotYet)?;
+    let body = read_begin(behind).ok_or(ReadFail::NotYet)?;
     let commands = read_commands(alloc, &setup.space, body)?;
     Ok(Script {
         seed: head.seed,
