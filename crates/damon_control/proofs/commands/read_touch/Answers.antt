@@ -1,0 +1,6 @@
+use Rattle.std.proofs.Common.{sym, ◌∙◌}
+use Rattle.damon_control.proofs.PageLemmas.{page_of-below}
+use Rattle.damon_control.proofs.commands.read_touch.Goals as goal
+
+pub returns-clause-touches : goal.returns-clause-touches
+returns-clause-touches c = page_of-below c.args.space.now c.in_ok-target.target c.in_ok-addr.addr c.in_ok-page.page (sym c.page_of.ensures ∙ c.in_ok-page.was)
