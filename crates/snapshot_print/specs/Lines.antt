@@ -53,9 +53,13 @@ row_lines space rows = flat_map (row_line space) rows
 abbrev pub show_line : Core → List ℕ
 show_line c = codes "show tick=" then decimal c.ticks then codes " phase=" then phase_name c.phase then codes " rows=" then decimal (row_count c) then codes "\n"
 
+-- the text of a state: its first line and the lines of its rows
+abbrev pub state_text : Core → List ℕ
+state_text c = show_line c ++ row_lines c.space c.regions.rows
+
 -- what a show writes of a state
 abbrev pub show_text : Form → Core → List ℕ
-show_text Text c = show_line c ++ row_lines c.space c.regions.rows
+show_text Text c = state_text c
 
 -- what is written at the end
 abbrev pub end_text : Form → MonitorView → List ℕ

@@ -1,14 +1,23 @@
-ghost use Rattle.std.specs.Prelude.{◌≡◌, ◌++◌, OnOk};
-ghost use Rattle.snapshot_print.specs.Lines.{show_text, end_text};
+ghost use Rattle.std.specs.Prelude.{◌≡◌, ◌+◌, ◌≤◌, ◌++◌, OnErr, OnOk};
+ghost use Rattle.std.specs.Fmt.{decimal};
+ghost use Rattle.std.specs.List.{AllByRecursion};
+ghost use Rattle.damon_types.specs.Space.{pages_of};
+ghost use Rattle.line_text.specs.Address.{spelled_address};
+ghost use Rattle.snapshot_print.specs.Lines.{count_part, end_text, phase_name, place_part, row_line, row_lines, show_line, show_text, state_text};
+ghost use Rattle.snapshot_print.specs.Kept.{KeepsFront};
 
 use crate::Form;
 use damon_core::Monitor;
-use damon_types::Space;
+use damon_types::{PAGE_SIZE, Row, Space};
+use line_text::{write_address, write_number};
+use live_commit::Phase;
+use region_list::Regions;
 use std::alloc::{AllocError, Global};
 
-/// Appends the text of the state.
+/// Appends what a show writes of the state: a line with the tick, the phase and the number of rows,
+/// then a line for each row in order. Where memory runs out, nothing is appended.
 pub fn print_show(
-    alloc: Global,
+    _alloc: Global,
     out: &mut Vec<u8>,
     form: Form,
     monitor: &Monitor,
@@ -16,20 +25,169 @@ pub fn print_show(
 ) -> Result<(), AllocError>
     requires { space.now ≡ monitor.now.core.space }
     ensures ok { OnOk result (out.new.items ≡ out.old.items ++ show_text form monitor.now.core) }
+    ensures err { OnErr result (out.new.items ≡ out.old.items) }
 {
-    Err(AllocError)
+    let before = out.len();
+    let printed = match form {
+        Form::Text => print_state(out, monitor, space),
+    };
+    if printed.is_err() {
+        out.truncate(before);
+    }
+    printed
 }
 
-/// Appends the last line of a report.
+/// Appends the last line of a report: the ticks, the rows, and the checks and hits of all finished
+/// passes. Where memory runs out, nothing is appended.
 pub fn print_end(
-    alloc: Global,
+    _alloc: Global,
     out: &mut Vec<u8>,
     form: Form,
     monitor: &Monitor,
-    space: &Space,
+    _space: &Space,
 ) -> Result<(), AllocError>
-    requires { space.now ≡ monitor.now.core.space }
+    requires { _space.now ≡ monitor.now.core.space }
     ensures ok { OnOk result (out.new.items ≡ out.old.items ++ end_text form monitor.now) }
+    ensures err { OnErr result (out.new.items ≡ out.old.items) }
 {
-    Err(AllocError)
+    let before = out.len();
+    let printed = match form {
+        Form::Text => print_totals(out, monitor),
+    };
+    if printed.is_err() {
+        out.truncate(before);
+    }
+    printed
+}
+
+// Appends the first line of a show and the lines of the rows.
+#[tactic(auto, using(crate::proofs::Appending::keeping))]
+fn print_state(out: &mut Vec<u8>, monitor: &Monitor, space: &Space) -> Result<(), AllocError>
+    requires { space.now ≡ monitor.now.core.space }
+    ensures ok { OnOk result (out.new.items ≡ out.old.items ++ state_text monitor.now.core) }
+    ensures kept { KeepsFront out.old.items out.new.items }
+{
+    print_first_line(out, monitor)?;
+    print_rows(out, monitor.rows(), space)
+}
+
+// Appends the first line of a show.
+#[tactic(auto, using(crate::proofs::Appending::keeping))]
+fn print_first_line(out: &mut Vec<u8>, monitor: &Monitor) -> Result<(), AllocError>
+    ensures ok { OnOk result (out.new.items ≡ out.old.items ++ show_line monitor.now.core) }
+    ensures kept { KeepsFront out.old.items out.new.items }
+{
+    print_field(out, b"show tick=", monitor.ticks())?;
+    print_word(out, b" phase=", phase_name(monitor.phase()))?;
+    print_field(out, b" rows=", u64::from(monitor.rows().len()))?;
+    out.extend_from_slice(b"\n")
+}
+
+// Appends the last line of a report.
+#[tactic(auto, using(crate::proofs::Appending::keeping))]
+fn print_totals(out: &mut Vec<u8>, monitor: &Monitor) -> Result<(), AllocError>
+    ensures ok { OnOk result (out.new.items ≡ out.old.items ++ end_text Form.Text monitor.now) }
+    ensures kept { KeepsFront out.old.items out.new.items }
+{
+    print_field(out, b"end ticks=", monitor.ticks())?;
+    print_field(out, b" rows=", u64::from(monitor.rows().len()))?;
+    print_field(out, b" checks=", monitor.checks())?;
+    print_field(out, b" hits=", monitor.hits())?;
+    out.extend_from_slice(b"\n")
+}
+
+// Appends the lines of the rows.
+#[tactic(auto, using(crate::proofs::Appending::keeping, crate::proofs::Appending::keeps_before, crate::proofs::Rows::more_rows))]
+fn print_rows(out: &mut Vec<u8>, rows: &Regions, space: &Space) -> Result<(), AllocError>
+    requires { AllByRecursion (λ r. (1 ≤ r.pages) × (r.start + r.pages ≤ pages_of space.now)) rows.now.rows }
+    ensures ok { OnOk result (out.new.items ≡ out.old.items ++ row_lines space.now rows.now.rows) }
+    ensures kept { KeepsFront out.old.items out.new.items }
+{
+    for index in 0..rows.len() {
+        print_row(out, &rows.row(index), space)?;
+    }
+    Ok(())
+}
+
+// Appends the line of a row.
+#[tactic(auto, using(crate::proofs::Appending::keeping))]
+fn print_row(out: &mut Vec<u8>, row: &Row, space: &Space) -> Result<(), AllocError>
+    requires some { 1 ≤ row.now.pages }
+    requires within { row.now.start + row.now.pages ≤ pages_of space.now }
+    ensures ok { OnOk result (out.new.items ≡ out.old.items ++ row_line space.now row.now) }
+    ensures kept { KeepsFront out.old.items out.new.items }
+{
+    row_place(out, row, space)?;
+    row_counts(out, row)
+}
+
+// Appends where a row lies.
+#[tactic(auto, using(crate::proofs::Appending::keeping))]
+fn row_place(out: &mut Vec<u8>, row: &Row, space: &Space) -> Result<(), AllocError>
+    requires some { 1 ≤ row.now.pages }
+    requires within { row.now.start + row.now.pages ≤ pages_of space.now }
+    ensures ok { OnOk result (out.new.items ≡ out.old.items ++ place_part space.now row.now) }
+    ensures kept { KeepsFront out.old.items out.new.items }
+{
+    let from = space.addr_of(row.start).addr;
+    let to = from + PAGE_SIZE * u64::from(row.pages);
+    print_field(out, b"row ", u64::from(row.target))?;
+    print_address(out, b" ", from)?;
+    print_address(out, b"-", to)
+}
+
+// Appends what was counted of a row.
+#[tactic(auto, using(crate::proofs::Appending::keeping))]
+fn row_counts(out: &mut Vec<u8>, row: &Row) -> Result<(), AllocError>
+    ensures ok { OnOk result (out.new.items ≡ out.old.items ++ count_part row.now) }
+    ensures kept { KeepsFront out.old.items out.new.items }
+{
+    print_field(out, b" count=", u64::from(row.count))?;
+    print_field(out, b" last=", u64::from(row.last))?;
+    print_field(out, b" age=", u64::from(row.age))?;
+    out.extend_from_slice(b"\n")
+}
+
+// Appends a text and a word.
+#[tactic(auto, using(crate::proofs::Appending::keeping))]
+fn print_word(out: &mut Vec<u8>, name: &[u8], word: &[u8]) -> Result<(), AllocError>
+    ensures ok { OnOk result (out.new.items ≡ out.old.items ++ name.now ++ word.now) }
+    ensures kept { KeepsFront out.old.items out.new.items }
+{
+    out.extend_from_slice(name)?;
+    out.extend_from_slice(word)
+}
+
+// Appends a text and a number in decimal digits.
+#[tactic(auto, using(crate::proofs::Appending::keeping))]
+fn print_field(out: &mut Vec<u8>, name: &[u8], value: u64) -> Result<(), AllocError>
+    ensures ok { OnOk result (out.new.items ≡ out.old.items ++ name.now ++ decimal value) }
+    ensures kept { KeepsFront out.old.items out.new.items }
+{
+    out.extend_from_slice(name)?;
+    write_number(out, value)
+}
+
+// Appends a text and an address.
+#[tactic(auto, using(crate::proofs::Appending::keeping))]
+fn print_address(out: &mut Vec<u8>, name: &[u8], value: u64) -> Result<(), AllocError>
+    ensures ok { OnOk result (out.new.items ≡ out.old.items ++ name.now ++ spelled_address value) }
+    ensures kept { KeepsFront out.old.items out.new.items }
+{
+    out.extend_from_slice(name)?;
+    write_address(out, value)
+}
+
+// The name of a phase.
+fn phase_name(phase: Phase) -> &'static [u8]
+    ensures { result.now ≡ phase_name phase }
+{
+    match phase {
+        Phase::Idle => b"idle",
+        Phase::Clearing { .. } => b"clearing",
+        Phase::Armed => b"armed",
+        Phase::Checking { .. } => b"checking",
+        Phase::Void => b"void",
+        Phase::Due => b"due",
+    }
 }
