@@ -9,7 +9,6 @@ use Rattle.live_commit.specs.declared.phase.Phase.{Phase}
 use Rattle.live_commit.specs.declared.phase.Phase.TheVariants.{Idle, Clearing, Armed, Checking, Void, Due}
 use Rattle.line_text.specs.Address.{spelled_address}
 use Rattle.damon_core.specs.State.{Core, row_count}
-use Rattle.damon_core.specs.Stands.{MonitorView}
 use Rattle.snapshot_print.specs.declared.form.Form.{Form}
 use Rattle.snapshot_print.specs.declared.form.Form.TheVariants.{Text}
 
@@ -61,8 +60,8 @@ state_text c = show_line c ++ row_lines c.space c.regions.rows
 abbrev pub show_text : Form → Core → List ℕ
 show_text Text c = state_text c
 
--- what is written at the end
-abbrev pub end_text : Form → MonitorView → List ℕ
-end_text Text m =
-    codes "end ticks=" then decimal m.core.ticks then codes " rows=" then decimal (row_count m.core)
-    then codes " checks=" then decimal m.checks then codes " hits=" then decimal m.hits then codes "\n"
+-- what is written at the end, of the checks and hits of all finished passes
+abbrev pub end_text : Form → Core → ℕ → ℕ → List ℕ
+end_text Text c checks hits =
+    codes "end ticks=" then decimal c.ticks then codes " rows=" then decimal (row_count c)
+    then codes " checks=" then decimal checks then codes " hits=" then decimal hits then codes "\n"

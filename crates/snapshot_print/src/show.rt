@@ -47,7 +47,7 @@ pub fn print_end(
     _space: &Space,
 ) -> Result<(), AllocError>
     requires { _space.now ≡ monitor.now.core.space }
-    ensures ok { OnOk result (out.new.items ≡ out.old.items ++ end_text form monitor.now) }
+    ensures ok { OnOk result (out.new.items ≡ out.old.items ++ end_text form monitor.now.core monitor.now.checks monitor.now.hits) }
     ensures err { OnErr result (out.new.items ≡ out.old.items) }
 {
     let before = out.len();
@@ -86,7 +86,7 @@ fn print_first_line(out: &mut Vec<u8>, monitor: &Monitor) -> Result<(), AllocErr
 // Appends the last line of a report.
 #[tactic(auto, using(crate::proofs::Appending::keeping))]
 fn print_totals(out: &mut Vec<u8>, monitor: &Monitor) -> Result<(), AllocError>
-    ensures ok { OnOk result (out.new.items ≡ out.old.items ++ end_text Form.Text monitor.now) }
+    ensures ok { OnOk result (out.new.items ≡ out.old.items ++ end_text Form.Text monitor.now.core monitor.now.checks monitor.now.hits) }
     ensures kept { KeepsFront out.old.items out.new.items }
 {
     print_field(out, b"end ticks=", monitor.ticks())?;

@@ -1,6 +1,6 @@
 use Rattle.std.proofs.Common.{◌≡◌, ◌<◌, ◌+◌, ◌^◌, length, take, get_or, set, ap, sym, ◌∙◌, subst, false, length-take, add-one, arith}
 use Rattle.std.proofs.lemmas.Option.{get_or_from_slice_get, slice_get-get_or}
-use Rattle.region_list.proofs.AllLemmas.{all_at}
+use Rattle.std.proofs.lemmas.List.Elements.{All-get_or, All-from_recursion}
 use Rattle.damon_types.specs.declared.row.Row.{Row}
 use Rattle.region_list.specs.Regions.{RegionList}
 use Rattle.region_list.specs.Rows.{no_row}
@@ -17,9 +17,10 @@ raise_row-requires-clause-within c =
 pub raise_row-requires-clause-small : goal.raise_row-requires-clause-small
 raise_row-requires-clause-small c =
     let rows = c.args.regions.now.rows in
-    let same = ap (λ (r : RegionList). get_or r.rows c.loop-index.index no_row) c.loop-index.invariant ∙ raised_later c.args.picks.now.bits rows c.loop-index.index no_row in
-    let is = slice_get-get_or rows c.loop-index.index no_row (omega (arith, c.len-index-end.ensures.len)) in
-    subst (λ (r : Row). r.count + 1 < 2 ^ 32) (sym same) (all_at (λ (r : Row). r.count + 1 < 2 ^ 32) rows c.loop-index.index _ c.requires.small is)
+    let i = c.loop-index.index in
+    let same = ap (λ (r : RegionList). get_or r.rows i no_row) c.loop-index.invariant ∙ raised_later c.args.picks.now.bits rows i no_row in
+    let here : i < length rows = omega (arith, c.len-index-end.ensures.len) in
+    subst (λ (r : Row). r.count + 1 < 2 ^ 32) (sym same) (All-get_or (λ (r : Row). r.count + 1 < 2 ^ 32) rows i no_row here (All-from_recursion (λ (r : Row). r.count + 1 < 2 ^ 32) rows c.requires.small))
 
 pub loop-index-preserved : goal.loop-index-preserved
 loop-index-preserved c =
