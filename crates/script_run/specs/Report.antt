@@ -2,6 +2,7 @@
 use Rattle.std.specs.Prelude.{List, [], ◌∷◌, ◌++◌, ℕ}
 use Rattle.damon_core.specs.Totals.{checks_made, hits_made}
 use Rattle.damon_core.specs.State.{Core, State, opening}
+use Rattle.damon_core.specs.Stands.{MonitorView}
 use Rattle.damon_core.specs.Event.{Event, show}
 use Rattle.damon_core.specs.After.{after}
 use Rattle.snapshot_print.specs.declared.form.Form.{Form}
@@ -27,6 +28,10 @@ text_from form s (e ∷ es) = event_text form s e ++ text_from form (after s e) 
 -- the report of events from the opening of a setup
 abbrev pub report : Form → SetupValue → List Event → List ℕ
 report form setup events = text_from form (opening setup) events
+
+-- what is written at the end, by what the monitor shows
+abbrev pub shown_last : Form → MonitorView → List ℕ
+shown_last form m = end_text form m.core m.checks m.hits
 
 -- what a command writes, by what the monitor shows before it
 abbrev pub command_text : Form → Core → Command → List ℕ

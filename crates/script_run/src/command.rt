@@ -1,10 +1,12 @@
-ghost use Rattle.std.specs.Prelude.{◌≡◌, ◌+◌, ◌-◌, ◌≤◌, ◌<◌, ◌++◌, ◌^◌, OnErr, OnOk};
+ghost use Rattle.std.specs.Prelude.{◌≡◌, ◌+◌, ◌≤◌, ◌<◌, ◌∷◌, ◌++◌, ◌^◌, ℕ, List, OnErr, OnOk};
 ghost use Rattle.damon_types.specs.Space.{pages_of};
+ghost use Rattle.damon_control.specs.declared.script.Command.{Command as command_type};
+ghost use Rattle.damon_control.specs.Script.{ScriptValue};
 ghost use Rattle.damon_control.specs.Limits.{TouchesWithin};
 ghost use Rattle.damon_world.specs.Left.{steps_to_due};
 ghost use Rattle.script_run.specs.Unfold.{steps_of as steps_in};
 ghost use Rattle.script_run.specs.Report.{command_text};
-ghost use Rattle.script_run.specs.Played.{CanStep, MakesSteps, Plays};
+ghost use Rattle.script_run.specs.Played.{CanStep, MakesSteps, Plays, Progress};
 
 use damon_control::Command;
 use damon_types::Space;
@@ -40,6 +42,7 @@ pub fn run_command<R: Rng + Drop>(
     // The world has made the command's events, and the text is theirs.
     ensures plays { OnOk result (Plays R.stream world.old world.new command) }
     ensures text { OnOk result (out.new.items ≡ out.old.items ++ command_text form world.old.monitor.core command) }
+    ensures progress { OnOk result ((s : ScriptValue) (rest : List command_type) (text : List ℕ) → Progress R.stream form s world.old (command ∷ rest) text → Progress R.stream form s world.new rest (text ++ command_text form world.old.monitor.core command)) }
     ensures err { OnErr result (out.new.items ≡ out.old.items) }
 
     // What a caller needs for the next command.
