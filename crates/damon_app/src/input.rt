@@ -60,11 +60,12 @@ pub fn read_all<S: Source>(alloc: Global, source: &mut S) -> Result<Vec<u8>, Inp
     let mut bytes = Vec::new(alloc);
     'reads: while bytes.len() <= INPUT_LIMIT {
         let room = PIECE.min(INPUT_LIMIT + 1 - bytes.len());
-        let count = source.read(&mut piece[..room])?;
+        let part = &mut piece[..room];
+        let count = source.read(part)?;
         if count == 0 {
             return Ok(bytes);
         }
-        bytes.extend_from_slice(&piece[..count])?;
+        bytes.extend_from_slice(&part[..count])?;
     }
     Err(InputFault::TooLong)
 }
