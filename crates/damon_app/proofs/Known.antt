@@ -1,9 +1,10 @@
 -- Bytes that a source gave and a sink took in several calls.
 use Rattle.std.proofs.Common.{◌≡◌, ℕ, ◌+◌, ◌≤◌, List, [], ◌++◌, length, take, drop, Some, None, Option, IsSome, sym, ap, ◌∙◌, subst, append_assoc, append-nil, take-append-drop, length-append, arith, refl}
 use Rattle.std.specs.Io.KnownBytes.{Consumes, Appends, Keeps}
-use Rattle.std.proofs.KnownBytes.{Appends-nil, Appends-trans, Appends-kept}
+use Rattle.std.proofs.KnownBytes.{Consumes-nil, Appends-nil, Appends-trans, Appends-kept}
 use Rattle.std.proofs.Math.Seq.{take-length, take-append-add}
 use Rattle.std.proofs.lemmas.List.{take-append-le}
+use Rattle.damon_app.specs.Given.{GaveOver, GaveUpTo}
 use Rattle.damon_app.specs.Taken.{WritesPart, Written}
 
 -- known bytes that went once are as many as those that went
@@ -11,6 +12,14 @@ pub Consumes-length : (a b : Option (List ℕ)) (xs ys : List ℕ) → IsSome a 
 Consumes-length None b xs ys known first second = absurd (cc known)
 Consumes-length (Some us) None xs ys known first second = absurd first
 Consumes-length (Some us) (Some vs) xs ys known first second = omega (arith, ap length first, ap length second, length-append xs vs, length-append ys vs)
+
+-- a source that was not called gave nothing
+pub GaveUpTo-none : (limit : ℕ) (a : Option (List ℕ)) → GaveUpTo limit a a
+GaveUpTo-none limit a = ([], omega arith, Consumes-nil a)
+
+-- known bytes that were few were not many
+pub GaveUpTo-not_over : (limit : ℕ) (a b : Option (List ℕ)) → IsSome a → GaveUpTo limit a b → GaveOver limit a b → ⊥
+GaveUpTo-not_over limit a b known (few, within, first) (many, over, second) = omega (arith, within, over, Consumes-length a b few many known first second)
 
 -- ---- parts of a text
 

@@ -1,4 +1,4 @@
-ghost use Rattle.std.specs.Prelude.{◌≡◌, ◌≤◌, ◌<◌, ◌-◌, ◌⊎◌, length, slice_index, vec_len, vec_capacity, IfSome, OnOk, OnErr};
+ghost use Rattle.std.specs.Prelude.{◌≡◌, ◌≤◌, ◌<◌, ◌-◌, ◌⊎◌, [], length, slice_index, vec_len, vec_capacity, IfSome, IsOk, OnOk, OnErr};
 ghost use Rattle.std.specs.Io.KnownBytes.{Appends};
 ghost use Rattle.damon_types.specs.Causes.{HasCause};
 ghost use Rattle.damon_app.specs.Taken.{Written, WritesPart};
@@ -14,6 +14,7 @@ pub fn write_all<K: Sink>(sink: &mut K, text: &[u8]) -> Result<(), Failed>
     ensures all { OnOk result (Appends (K.taken sink.old) (K.taken sink.new) text.now) }
     ensures part { WritesPart (K.taken sink.old) (K.taken sink.new) text.now }
     ensures cause { HasCause (K.faults sink.old) (K.faults sink.new) result }
+    ensures empty { text.now ≡ [] → sink.new ≡ sink.old }
 {
     let mut rest = text;
     'pieces: while !rest.is_empty() {
@@ -65,15 +66,22 @@ fn last_line_feed(bytes: &[u8]) -> Option<usize>
 }
 
 /// Hands the text to the sink once it has [`PIECE`] bytes or more, and empties it. A shorter text
-/// and its sink are left alone. After a failure the text is as it was.
+/// and its sink are left alone. After a failure the text is as it was, and the sink is left alone.
 pub fn flush_if_full<K: Sink>(sink: &mut K, text: &mut Vec<u8>) -> Result<(), Failed>
+    // No byte is lost, and none comes twice.
     ensures kept { OnOk result (Written (K.taken sink.old) text.old.items (K.taken sink.new) text.new.items) }
-    ensures short { OnOk result (vec_len text.new < PIECE) }
+    ensures emptied { OnOk result (PIECE ≤ vec_len text.old → text.new.items ≡ []) }
+    ensures capacity { vec_capacity text.new ≡ vec_capacity text.old }
+
+    // A failure.
     ensures part { OnErr result (WritesPart (K.taken sink.old) (K.taken sink.new) text.old.items) }
     ensures err { OnErr result (text.new.items ≡ text.old.items) }
     ensures cause { HasCause (K.faults sink.old) (K.faults sink.new) result }
-    ensures alone { vec_len text.old < PIECE → sink.new ≡ sink.old }
-    ensures capacity { vec_capacity text.new ≡ vec_capacity text.old }
+
+    // A text that is shorter than a piece.
+    ensures short_ok { vec_len text.old < PIECE → IsOk result }
+    ensures short_text { vec_len text.old < PIECE → text.new.items ≡ text.old.items }
+    ensures short_sink { vec_len text.old < PIECE → sink.new ≡ sink.old }
 {
     if text.len() < PIECE {
         return Ok(());

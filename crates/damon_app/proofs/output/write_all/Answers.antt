@@ -1,4 +1,4 @@
-use Rattle.std.proofs.Common.{sym, subst, arith}
+use Rattle.std.proofs.Common.{◌<◌, length, ap, sym, subst, arith, rules, length-append}
 use Rattle.damon_app.specs.Taken.{WritesPart}
 use Rattle.damon_app.proofs.Known.{WritesPart-longer, Written-part, Written-then, parts_joined}
 use Rattle.damon_app.proofs.output.write_all.Goals as goal
@@ -17,7 +17,9 @@ pieces-preserved g c =
     let taken = g.K.Sink.taken in
     let rest = c.pieces.rest.now in
     let joined = parts_joined c.piece_length.result rest c.split_at.result.0.now c.split_at.result.1.now c.split_at.ensures.front c.split_at.ensures.back in
+    let some : 0 < length rest = search rules in
     record {
       written = Written-then _ (taken c.pieces.sink) _ _ rest _ c.pieces.invariant.written (c.split_at.result.0.now, c.in_ok-write_piece.ensures.all, joined);
+      unused = λ none. absurd (omega (arith, some, ap length none, ap length c.pieces.invariant.written.2, length-append c.pieces.invariant.written.0 rest));
       later = omega (arith, c.in_ok-write_piece.ensures.cause.later, c.pieces.invariant.later);
     }
