@@ -1,0 +1,12 @@
+//! The program that replays a script.
+#![tactic(auto)]
+
+/// Reading an input to its end.
+mod input;
+/// Handing a text to a sink.
+mod output;
+#[cfg(test)]
+mod tests;
+
+pub use input::{INPUT_LIMIT, InputFault, read_all};
+pub use output::{PIECE, flush_if_full, write_all};

@@ -1,0 +1,92 @@
+ghost use Rattle.std.specs.Prelude.{◌≡◌, ◌≤◌, ◌<◌, ◌-◌, ◌⊎◌, [], length, slice_index, vec_len, vec_capacity, IfSome, IsOk, OnOk, OnErr};
+ghost use Rattle.std.specs.Io.KnownBytes.{Appends};
+ghost use Rattle.damon_types.specs.Causes.{HasCause};
+ghost use Rattle.damon_app.specs.Taken.{Written, WritesPart};
+
+use damon_types::{Failed, Sink};
+
+/// The bytes that are read or handed over at once: 64 KiB.
+pub const PIECE: usize = 65_536;
+
+/// Hands a text to the sink, until all of it is taken. A text longer than [`PIECE`] goes in pieces
+/// that end at line ends. After a failure the sink is left alone.
+pub fn write_all<K: Sink>(sink: &mut K, text: &[u8]) -> Result<(), Failed>
+    ensures all { OnOk result (Appends (K.taken sink.old) (K.taken sink.new) text.now) }
+    ensures part { WritesPart (K.taken sink.old) (K.taken sink.new) text.now }
+    ensures cause { HasCause (K.faults sink.old) (K.faults sink.new) result }
+    ensures empty { text.now ≡ [] → sink.new ≡ sink.old }
+{
+    let mut rest = text;
+    'pieces: while !rest.is_empty() {
+        let (piece, later) = rest.split_at(piece_length(rest));
+        write_piece(sink, piece)?;
+        rest = later;
+    }
+    Ok(())
+}
+
+// Hands a piece to the sink, until all of it is taken.
+fn write_piece<K: Sink>(sink: &mut K, piece: &[u8]) -> Result<(), Failed>
+    ensures all { OnOk result (Appends (K.taken sink.old) (K.taken sink.new) piece.now) }
+    ensures part { WritesPart (K.taken sink.old) (K.taken sink.new) piece.now }
+    ensures cause { HasCause (K.faults sink.old) (K.faults sink.new) result }
+{
+    let mut rest = piece;
+    'writes: while !rest.is_empty() {
+        let count = sink.write(rest)?;
+        let (_, later) = rest.split_at(count);
+        rest = later;
+    }
+    Ok(())
+}
+
+// How many bytes of a text are handed over first: whole lines of at most `PIECE` bytes, or all where
+// the text is no longer or its first line is.
+fn piece_length(text: &[u8]) -> usize
+    ensures within { result ≤ length text.now }
+    ensures some { 0 < length text.now → 0 < result }
+    ensures lines { (result ≡ length text.now) ⊎ ((result ≤ PIECE) × (slice_index text.now (result - 1) ≡ 10)) }
+{
+    if text.len() <= PIECE {
+        return text.len();
+    }
+    let (front, _) = text.split_at(PIECE);
+    match last_line_feed(front) {
+        Some(last) => last + 1,
+        None => text.len(),
+    }
+}
+
+// Where the last LF stands.
+fn last_line_feed(bytes: &[u8]) -> Option<usize>
+    ensures within { IfSome result (λ last. last < length bytes.now) }
+    ensures found { IfSome result (λ last. slice_index bytes.now last ≡ 10) }
+{
+    bytes.iter().rposition(|byte| *byte == b'\n')
+}
+
+/// Hands the text to the sink once it has [`PIECE`] bytes or more, and empties it. A shorter text
+/// and its sink are left alone. After a failure the text is as it was, and the sink is left alone.
+pub fn flush_if_full<K: Sink>(sink: &mut K, text: &mut Vec<u8>) -> Result<(), Failed>
+    // No byte is lost, and none comes twice.
+    ensures kept { OnOk result (Written (K.taken sink.old) text.old.items (K.taken sink.new) text.new.items) }
+    ensures emptied { OnOk result (PIECE ≤ vec_len text.old → text.new.items ≡ []) }
+    ensures capacity { vec_capacity text.new ≡ vec_capacity text.old }
+
+    // A failure.
+    ensures part { OnErr result (WritesPart (K.taken sink.old) (K.taken sink.new) text.old.items) }
+    ensures err { OnErr result (text.new.items ≡ text.old.items) }
+    ensures cause { HasCause (K.faults sink.old) (K.faults sink.new) result }
+
+    // A text that is shorter than a piece.
+    ensures short_ok { vec_len text.old < PIECE → IsOk result }
+    ensures short_text { vec_len text.old < PIECE → text.new.items ≡ text.old.items }
+    ensures short_sink { vec_len text.old < PIECE → sink.new ≡ sink.old }
+{
+    if text.len() < PIECE {
+        return Ok(());
+    }
+    write_all(sink, text)?;
+    text.clear();
+    Ok(())
+}
