@@ -1,4 +1,4 @@
-ghost use Rattle.std.specs.Prelude.{◌≡◌, ◌+◌, ◌≤◌, ◌++◌, OnErr, OnOk};
+ghost use Rattle.std.specs.Prelude.{◌≡◌, ◌+◌, ◌≤◌, ◌++◌, take, codes, OnErr, OnOk};
 ghost use Rattle.std.specs.Fmt.{decimal};
 ghost use Rattle.std.specs.List.{AllByRecursion};
 ghost use Rattle.damon_types.specs.Space.{pages_of};
@@ -17,7 +17,7 @@ use std::alloc::{AllocError, Global};
 /// Appends what a show writes of the state: a line with the tick, the phase and the number of rows,
 /// then a line for each row in order. Where memory runs out, nothing is appended.
 pub fn print_show(
-    _alloc: Global,
+    alloc: Global,
     out: &mut Vec<u8>,
     form: Form,
     monitor: &Monitor,
@@ -31,22 +31,19 @@ pub fn print_show(
     let printed = match form {
         Form::Text => print_state(out, monitor, space),
     };
-    if printed.is_err() {
-        out.truncate(before);
-    }
-    printed
+    whole_or_nothing(out, before, printed)
 }
 
 /// Appends the last line of a report: the ticks, the rows, and the checks and hits of all finished
 /// passes. Where memory runs out, nothing is appended.
 pub fn print_end(
-    _alloc: Global,
+    alloc: Global,
     out: &mut Vec<u8>,
     form: Form,
     monitor: &Monitor,
-    _space: &Space,
+    space: &Space,
 ) -> Result<(), AllocError>
-    requires { _space.now ≡ monitor.now.core.space }
+    requires { space.now ≡ monitor.now.core.space }
     ensures ok { OnOk result (out.new.items ≡ out.old.items ++ end_text form monitor.now.core monitor.now.checks monitor.now.hits) }
     ensures err { OnErr result (out.new.items ≡ out.old.items) }
 {
@@ -54,6 +51,19 @@ pub fn print_end(
     let printed = match form {
         Form::Text => print_totals(out, monitor),
     };
+    whole_or_nothing(out, before, printed)
+}
+
+// Takes the text from `before` on back where the rest of it could not be appended.
+fn whole_or_nothing(
+    out: &mut Vec<u8>,
+    before: usize,
+    printed: Result<(), AllocError>,
+) -> Result<(), AllocError>
+    ensures same { result ≡ printed }
+    ensures ok { OnOk result (out.new.items ≡ out.old.items) }
+    ensures err { OnErr result (out.new.items ≡ take before out.old.items) }
+{
     if printed.is_err() {
         out.truncate(before);
     }
@@ -77,10 +87,11 @@ fn print_first_line(out: &mut Vec<u8>, monitor: &Monitor) -> Result<(), AllocErr
     ensures ok { OnOk result (out.new.items ≡ out.old.items ++ show_line monitor.now.core) }
     ensures kept { KeepsFront out.old.items out.new.items }
 {
+    let rows = monitor.rows().len();
     print_field(out, b"show tick=", monitor.ticks())?;
     print_word(out, b" phase=", phase_name(monitor.phase()))?;
-    print_field(out, b" rows=", u64::from(monitor.rows().len()))?;
-    out.extend_from_slice(b"\n")
+    print_field(out, b" rows=", u64::from(rows))?;
+    end_line(out)
 }
 
 // Appends the last line of a report.
@@ -93,7 +104,7 @@ fn print_totals(out: &mut Vec<u8>, monitor: &Monitor) -> Result<(), AllocError>
     print_field(out, b" rows=", u64::from(monitor.rows().len()))?;
     print_field(out, b" checks=", monitor.checks())?;
     print_field(out, b" hits=", monitor.hits())?;
-    out.extend_from_slice(b"\n")
+    end_line(out)
 }
 
 // Appends the lines of the rows.
@@ -145,7 +156,7 @@ fn row_counts(out: &mut Vec<u8>, row: &Row) -> Result<(), AllocError>
     print_field(out, b" count=", u64::from(row.count))?;
     print_field(out, b" last=", u64::from(row.last))?;
     print_field(out, b" age=", u64::from(row.age))?;
-    out.extend_from_slice(b"\n")
+    end_line(out)
 }
 
 // Appends a text and a word.
@@ -176,6 +187,15 @@ fn print_address(out: &mut Vec<u8>, name: &[u8], value: u64) -> Result<(), Alloc
 {
     out.extend_from_slice(name)?;
     write_address(out, value)
+}
+
+// Ends a line.
+#[tactic(auto, using(crate::proofs::Appending::keeping))]
+fn end_line(out: &mut Vec<u8>) -> Result<(), AllocError>
+    ensures ok { OnOk result (out.new.items ≡ out.old.items ++ codes "\n") }
+    ensures kept { KeepsFront out.old.items out.new.items }
+{
+    out.extend_from_slice(b"\n")
 }
 
 // The name of a phase.
