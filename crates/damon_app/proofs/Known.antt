@@ -1,5 +1,5 @@
 -- Bytes that a source gave and a sink took in several calls.
-use Rattle.std.proofs.Common.{◌≡◌, ℕ, ◌+◌, ◌≤◌, List, [], ◌++◌, length, take, drop, Some, None, Option, IsSome, sym, ap, ◌∙◌, subst, append_assoc, append-nil, take-append-drop, length-append, arith, refl}
+use Rattle.std.proofs.Common.{◌≡◌, ℕ, ◌+◌, ◌≤◌, ◌<◌, List, [], ◌∷◌, get_or, ◌++◌, length, take, drop, Some, None, Option, IsSome, sym, ap, ◌∙◌, subst, append_assoc, append-nil, take-append-drop, length-append, arith, refl}
 use Rattle.std.specs.Io.KnownBytes.{Consumes, Appends, Keeps}
 use Rattle.std.proofs.KnownBytes.{Consumes-nil, Appends-nil, Appends-trans, Appends-kept}
 use Rattle.std.proofs.Math.Seq.{take-length, take-append-add}
@@ -65,3 +65,13 @@ Written-all a b c text rest (front, first, is) second = subst (Appends a c) (sym
 -- the sink took a part of what was left
 pub Written-part : (a b c : Option (List ℕ)) (text rest : List ℕ) → Written a text b rest → WritesPart b c rest → WritesPart a c text
 Written-part a b c text rest (front, first, is) second = subst (WritesPart a c) (sym is) (WritesPart-after a b c front rest first second)
+
+-- a list of one
+pub only_one : {A : Type 0} (xs : List A) (x : A) → 1 ≤ length xs → length xs < 2 → x ≡ get_or xs 0 x → xs ≡ x ∷ []
+only_one [] x some few is = absurd (omega arith)
+only_one (y ∷ []) x some few is = cc
+only_one (y ∷ z ∷ ys) x some few is = absurd (omega arith)
+
+-- what the sink took so far is a part of the text
+pub Written-so_far : (a b : Option (List ℕ)) (text rest : List ℕ) → Written a text b rest → WritesPart a b text
+Written-so_far a b text rest (front, first, is) = subst (WritesPart a b) (sym is) (WritesPart-longer a b front rest (WritesPart-whole a b front first))

@@ -1,2 +1,5 @@
 pub mod Given
 pub mod Taken
+pub mod Causes
+pub mod Replay
+pub mod Answers

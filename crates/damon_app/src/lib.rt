@@ -5,8 +5,14 @@
 mod input;
 /// Handing a text to a sink.
 mod output;
+/// The top call.
+mod replay;
+/// How a run ends.
+mod status;
 #[cfg(test)]
 mod tests;
 
 pub use input::{INPUT_LIMIT, InputFault, read_all};
 pub use output::{PIECE, flush_if_full, write_all};
+pub use replay::replay_main;
+pub use status::Status;

@@ -1,0 +1,30 @@
+-- What the answer of a replay says of what was read and written.
+use Rattle.std.specs.Prelude.{◌≡◌, ◌≢◌, ◌⊎◌, ◌↔◌, ℕ, List, Option, Result, Ok, Err, IfSome, IsSome}
+use Rattle.std.specs.Io.KnownBytes.{IsAtEnd}
+use Rattle.damon_types.specs.Causes.{Rose}
+use Rattle.damon_app.specs.declared.status.Status.{Status}
+use Rattle.damon_app.specs.declared.status.Status.TheVariants as statuses
+use Rattle.damon_app.specs.Given.{GaveOver}
+use Rattle.damon_app.specs.Replay.{IsRead, IsUnwritten, NoScript, Replays, WritesFront}
+
+-- the answer that a result becomes
+abbrev pub status_of : Result (Unit {0}) Status → Status
+status_of (Ok done) = statuses.Ok
+status_of (Err status) = status
+
+-- a stream before and after: the bytes that it tells, and how often it has failed
+pub record Ends : Type 0 where
+  pub bytes : Option (List ℕ)
+  pub faults : ℕ
+
+-- What an answer says, where `same` is that the sink was left alone.
+pub record IsAnswer (limit : ℕ) (source source' sink sink' : Ends) (same : Type 0) (answer : Status) : Type 0 where
+  pub ok : answer ≡ statuses.Ok → IfSome source.bytes (λ bytes. Replays bytes sink.bytes sink'.bytes)
+  pub end : IsRead answer → IsAtEnd source'.bytes
+  pub too_long : answer ≢ statuses.Memory → IsSome source.bytes → (answer ≡ statuses.TooLong) ↔ GaveOver limit source.bytes source'.bytes
+  pub not_yet : IsRead answer → IfSome source.bytes (λ bytes. (answer ≡ statuses.NotYet) ↔ NoScript bytes)
+  pub read : answer ≡ statuses.ReadFault → Rose source.faults source'.faults
+  pub write : answer ≡ statuses.WriteFault → Rose sink.faults sink'.faults
+  pub asked : answer ≢ statuses.Usage
+  pub unwritten : IsUnwritten answer → same
+  pub front : IfSome source.bytes (λ bytes. same ⊎ WritesFront bytes sink.bytes sink'.bytes)
