@@ -1,5 +1,5 @@
 // Sources and sinks that deal in small pieces and fail at a stated call.
-ghost use Rattle.std.specs.Prelude.{◌≡◌, ◌≤◌, length};
+ghost use Rattle.std.specs.Prelude.{◌≡◌, ◌≤◌, None, length};
 
 use crate::{INPUT_LIMIT, InputFault, PIECE, flush_if_full, read_all, write_all};
 use damon_types::{Failed, Sink, Source};
