@@ -1,4 +1,4 @@
-ghost use Rattle.std.specs.Prelude.{◌≡◌, ◌≤◌, ◌<◌, ◌-◌, ◌⊎◌, [], length, slice_index, vec_len, vec_capacity, IfSome, IsOk, OnOk, OnErr};
+ghost use Rattle.std.specs.Prelude.{◌≡◌, ◌≤◌, ◌<◌, ◌-◌, ◌≢◌, ◌⊎◌, [], All, length, take, slice_index, vec_len, vec_capacity, IfSome, IfNone, IsOk, OnOk, OnErr};
 ghost use Rattle.std.specs.Io.KnownBytes.{Appends};
 ghost use Rattle.damon_types.specs.Causes.{HasCause};
 ghost use Rattle.damon_app.specs.Taken.{Written, WritesPart};
@@ -41,11 +41,12 @@ fn write_piece<K: Sink>(sink: &mut K, piece: &[u8]) -> Result<(), Failed>
 }
 
 // How many bytes of a text are handed over first: whole lines of at most `PIECE` bytes, or all where
-// the text is no longer or its first line is.
+// the text is no longer or has no line end there.
 fn piece_length(text: &[u8]) -> usize
     ensures within { result ≤ length text.now }
     ensures some { 0 < length text.now → 0 < result }
-    ensures lines { (result ≡ length text.now) ⊎ ((result ≤ PIECE) × (slice_index text.now (result - 1) ≡ 10)) }
+    ensures lines { (result ≡ length text.now) ⊎ (slice_index text.now (result - 1) ≡ 10) }
+    ensures short { (result ≤ PIECE) ⊎ All (λ byte. byte ≢ 10) (take PIECE text.now) }
 {
     if text.len() <= PIECE {
         return text.len();
@@ -61,6 +62,7 @@ fn piece_length(text: &[u8]) -> usize
 fn last_line_feed(bytes: &[u8]) -> Option<usize>
     ensures within { IfSome result (λ last. last < length bytes.now) }
     ensures found { IfSome result (λ last. slice_index bytes.now last ≡ 10) }
+    ensures absent { IfNone result (All (λ byte. byte ≢ 10) bytes.now) }
 {
     bytes.iter().rposition(|byte| *byte == b'\n')
 }

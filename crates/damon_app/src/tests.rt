@@ -1,5 +1,5 @@
 // Sources and sinks that deal in small pieces and fail at a stated call.
-ghost use Rattle.std.specs.Prelude.{◌≡◌, ◌≤◌, length};
+ghost use Rattle.std.specs.Prelude.{◌≡◌, ◌≤◌, None, length};
 
 use crate::{INPUT_LIMIT, InputFault, PIECE, flush_if_full, read_all, write_all};
 use damon_types::{Failed, Sink, Source};
@@ -175,7 +175,10 @@ fn pieces_end_at_line_ends(rt: HostRuntime) -> Result<(), Fail> {
     let mut whole = KeptSink::new(rt.alloc(), 1_000_000, 0);
     assert_eq!(rt; write_all(&mut whole, &text), Ok(()));
     assert_eq!(rt; whole.taken.as_slice(), text.as_slice());
-    assert_eq!(rt; whole.handed.as_slice(), [65_500, 65_500, 65_500, 3_500].as_slice());
+    assert_eq!(rt;
+        whole.handed.as_slice(),
+        [65_500, 65_500, 65_500, 3_500].as_slice()
+    );
 
     let mut short = KeptSink::new(rt.alloc(), 60_000, 0);
     assert_eq!(rt; write_all(&mut short, &text), Ok(()));

@@ -8,4 +8,4 @@ returns-in-Some-clause-lines c =
     let last = c.in-Some.last in
     let below : last < 65536 = omega (arith, c.in-Some.ensures.within, c.split_at.ensures.front_len) in
     let before : last + 1 - 1 ≡ last = omega arith in
-    inr (omega arith, rw before (sym (get_or-take 65536 text last 0 below) ∙ ap (λ zs. get_or zs last 0) (sym c.split_at.ensures.front) ∙ c.in-Some.ensures.found))
+    inr (rw before (sym (get_or-take 65536 text last 0 below) ∙ ap (λ zs. get_or zs last 0) (sym c.split_at.ensures.front) ∙ c.in-Some.ensures.found))
