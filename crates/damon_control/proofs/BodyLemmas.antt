@@ -1,17 +1,12 @@
 -- The commands of a body, line by line.
-use Rattle.std.proofs.Common.{◌≡◌, ◌≢◌, ◌⊎◌, inl, inr, ℕ, ◌+◌, ◌≤◌, ◌<◌, nat_le, true, false, List, [], ◌∷◌, ◌++◌, Option, Some, None, refl, ap, sym, ◌∙◌, arith, append_assoc, append-nil, ◌==◌, length}
-use Rattle.std.specs.Prelude.{sum_by, if◌then◌else◌}
+use Rattle.std.proofs.Common.{◌≡◌, ◌⊎◌, inl, inr, ℕ, false, List, [], ◌∷◌, Option, Some, None, refl, ◌==◌, length}
 use Rattle.std.specs.Option.{option_map}
-use Rattle.std.proofs.lemmas.Bool.Decides.{nat_tests}
-use Rattle.std.proofs.lemmas.List.Sums.{sum_by-append}
 use Rattle.damon_types.specs.declared.space.Target.{Target}
-use Rattle.damon_control.specs.declared.script.Command.{Command}
-use Rattle.damon_control.specs.Script.{◌>>=◌, lines_of, command_of, commands_of, weight}
+use Rattle.damon_control.specs.Script.{lines_of, command_of}
 use Rattle.line_text.specs.Line.{first_line}
 use Rattle.damon_control.specs.Lines.{HasLines}
-use Rattle.damon_control.specs.Body.{commands_in, within_work, body_of}
+use Rattle.damon_control.specs.Body.{commands_in}
 use Rattle.damon_control.proofs.LineLemmas.{lines_of-some}
-use Rattle.damon_control.proofs.Options.{bind_to_none}
 
 -- a text that has no line has no commands
 pub commands_in-no_line : (space : List Target) (text : List ℕ) → HasLines text (first_line text) → first_line text ≡ None → commands_in space text ≡ None

@@ -4,7 +4,6 @@ use Rattle.std.specs.Prelude.{Option}
 use Rattle.damon_control.specs.Script.{◌>>=◌}
 
 module _ {A B : Type 0} (o : Option A) where
-
   -- what ends in nothing is nothing
   pub bind_to_none : (f : A → Option B) → ((x : A) → f x ≡ None) → (o >>= f) ≡ None
   bind_to_none f none = by o

@@ -1,6 +1,6 @@
 -- The pages of bytes.
-use Rattle.std.proofs.Common.{◌≡◌, ℕ, ◌+◌, ◌-◌, ◌*◌, ◌/◌, ◌<◌, ◌≤◌, Bool, true, false, List, [], ◌∷◌, take, zero, suc, Some, None, refl, ap, sym, ◌∙◌, arith}
-use Rattle.std.specs.Prelude.{Option, slice_get, sum_by, if◌then◌else◌}
+use Rattle.std.proofs.Common.{◌≡◌, ℕ, ◌+◌, ◌-◌, ◌*◌, ◌/◌, ◌<◌, ◌≤◌, List, [], ◌∷◌, take, zero, suc, Some, None, refl, ap, arith}
+use Rattle.std.specs.Prelude.{Option, slice_get}
 use Rattle.std.proofs.lemmas.Bool.Decides.{nat_tests}
 use Rattle.std.proofs.lemmas.List.Sums.{sum_by-cons}
 use Rattle.std.proofs.lemmas.Option.{cond_some}
@@ -15,7 +15,7 @@ offset-le (u ∷ us) zero t is =
     let same : u.pages ≡ t.pages = ap (λ (v : Target). v.pages) held in
     let all : pages_of (u ∷ us) ≡ u.pages + pages_of us = sum_by-cons (λ (v : Target). v.pages) u us in
     omega arith
-offset-le (u ∷ us) (suc i) t is = 
+offset-le (u ∷ us) (suc i) t is =
     let below = offset-le us i t is in
     let all : pages_of (u ∷ us) ≡ u.pages + pages_of us = sum_by-cons (λ (v : Target). v.pages) u us in
     let before : offset (u ∷ us) (suc i) ≡ u.pages + offset us i = sum_by-cons (λ (v : Target). v.pages) u (take i us) in

@@ -1,6 +1,6 @@
 -- A script by its lines is a script by its parts.
 use Rattle.std.proofs.Common.{◌≡◌, ◌⊎◌, inl, inr, ℕ, nat_le, true, false, List, [], ◌∷◌, Option, Some, None, refl, ap, sym, ◌∙◌}
-use Rattle.std.specs.Prelude.{Bool, sum_by, codes, if◌then◌else◌}
+use Rattle.std.specs.Prelude.{Bool, sum_by, codes}
 use Rattle.std.specs.Option.{option_map}
 use Rattle.line_text.specs.Line.{first_line}
 use Rattle.damon_types.specs.declared.space.Target.{Target}
@@ -12,7 +12,7 @@ use Rattle.damon_control.specs.declared.setup.Head.{Head}
 use Rattle.damon_control.specs.Script.{◌>>=◌, only_if, lines_of, keyword, seed_of, unit_of, cap_of, attrs_of, target_of, range_of, setup_of, commands_of, weight, script_of, script_of_lines, ScriptValue}
 use Rattle.damon_control.specs.Lines.{BeginWithFirst, HasLines}
 use Rattle.damon_control.specs.Body.{body_of, commands_in, within_work}
-use Rattle.damon_control.specs.Head.{at_line, behind_begin, head_of, setup_made}
+use Rattle.damon_control.specs.Head.{at_line, behind_begin, setup_made}
 use Rattle.damon_control.specs.Parts.{script_behind, script_by_parts}
 use Rattle.damon_control.proofs.Options.{bind_to_none, bind-same, bind-assoc, bind-swap}
 

@@ -1,6 +1,5 @@
 -- A script by the parts of its text.
-use Rattle.std.specs.Prelude.{◌≡◌, ℕ, List, Option, Some, None}
-use Rattle.damon_types.specs.declared.space.Target.{Target}
+use Rattle.std.specs.Prelude.{◌≡◌, ℕ, List, Option, Some}
 use Rattle.damon_control.specs.declared.setup.Head.{Head}
 use Rattle.damon_control.specs.Body.{body_of}
 use Rattle.damon_control.specs.Head.{behind_begin, head_of, setup_made}

@@ -6,7 +6,8 @@ ghost use Rattle.damon_control.specs.Limits.{StepsWithin, TouchesWithin};
 ghost use Rattle.damon_control.specs.Script.{command_of, only_if, show_of, step_of, touch_of, weight};
 
 use crate::fields::{front_number, read_keyword};
-use crate::{Command, ReadFail, lines_begin_with_first};
+use crate::laws::lines_begin_with_first;
+use crate::{Command, ReadFail};
 use damon_types::Space;
 use line_text::{next_line, read_address, read_number_32, strip};
 use std::alloc::Global;

@@ -5,7 +5,7 @@ ghost use Rattle.damon_control.specs.Parts.{HaveParts};
 
 use line_text::{no_line_is_taken, taken_line_is_first};
 
-/// The lines of a text are its first line and those of what follows it.
+// The lines of a text are its first line and those of what follows it.
 pub fn lines_begin_with_first()
     ensures lines { BeginWithFirst }
 {
@@ -13,7 +13,7 @@ pub fn lines_begin_with_first()
     no_line_is_taken();
 }
 
-/// What a text spells as a script, its parts spell one after another.
+// What a text spells as a script, its parts spell one after another.
 pub fn scripts_have_parts()
     ensures parts { HaveParts }
 {

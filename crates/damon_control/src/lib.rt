@@ -16,6 +16,5 @@ mod setup;
 #[cfg(test)]
 mod tests;
 
-pub use laws::{lines_begin_with_first, scripts_have_parts};
 pub use reader::{ReadFail, read_script};
 pub use script::{Command, Script};

@@ -4,9 +4,10 @@ ghost use Rattle.damon_control.specs.Limits.{StepsWithin, TouchesWithin};
 ghost use Rattle.damon_control.specs.Script.{script_of};
 ghost use Rattle.damon_control.specs.ScriptView.{said_by};
 
+use crate::Script;
 use crate::commands::read_commands;
+use crate::laws::scripts_have_parts;
 use crate::setup::{make_setup, read_begin, read_head};
-use crate::{Script, scripts_have_parts};
 use std::alloc::{AllocError, AllocFailed, Global};
 
 /// Why a text was not read as a script.
@@ -15,6 +16,7 @@ pub enum ReadFail {
     /// The text is no script with one target and one range whose commands are touches, steps and
     /// shows. Other scripts are not built yet.
     NotYet,
+    /// Memory ran out.
     Memory,
 }
 

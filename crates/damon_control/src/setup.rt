@@ -139,7 +139,12 @@ fn pages_of_range(target: Target, unit: u32, range: RangeSpec) -> Option<Range>
     ensures exact { result ≡ only_if (is_held target unit range) (pages_in target range) }
     ensures fits { IfSome result (FitsTarget target unit) }
 {
-    let RangeSpec { from, to, class, .. } = range;
+    let RangeSpec {
+        from,
+        to,
+        class,
+        ..
+    } = range;
     let end = target.base + PAGE_SIZE * u64::from(target.pages);
     let is_whole = from % PAGE_SIZE == 0 && to % PAGE_SIZE == 0;
     let is_inside = range.target == 0 && target.base <= from && to <= end;

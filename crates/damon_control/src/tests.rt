@@ -25,7 +25,11 @@ const LINES: [&str; 13] = [
 fn text_with(alloc: Global, changed: usize, other: &[u8]) -> Result<Vec<u8>, AllocError> {
     let mut text = Vec::new(alloc);
     for (index, line) in LINES.iter().enumerate() {
-        let line = if index == changed { other } else { line.as_bytes() };
+        let line = if index == changed {
+            other
+        } else {
+            line.as_bytes()
+        };
         text.extend_from_slice(line)?;
         text.push(b'\n')?;
     }
@@ -50,9 +54,22 @@ fn reads_a_script(rt: HostRuntime) -> Result<(), Fail> {
     } = script;
     assert_eq!(rt; seed, 42);
     assert_eq!(rt; (setup.unit, setup.cap), (1, 8));
-    assert_eq!(rt; setup.attrs, Attrs { min: 3, max: 8, aggr: 5 });
+    assert_eq!(rt;
+        setup.attrs,
+        Attrs {
+            min: 3,
+            max: 8,
+            aggr: 5
+        }
+    );
     assert!(rt; setup.space.targets() == 1);
-    assert_eq!(rt; setup.space.target(0), Target { base: 0x10000, pages: 3 });
+    assert_eq!(rt;
+        setup.space.target(0),
+        Target {
+            base: 0x10000,
+            pages: 3
+        }
+    );
     let range = Range {
         target: 0,
         first: 0,
@@ -125,13 +142,22 @@ fn refuses_other_lines(rt: HostRuntime) -> Result<(), Fail> {
 fn refuses_other_ends(rt: HostRuntime) -> Result<(), Fail> {
     let mut text = plain_text(rt.alloc())?;
     text.push(b'x')?;
-    assert_eq!(rt; read_script(rt.alloc(), &text).err(), Some(ReadFail::NotYet));
+    assert_eq!(rt;
+        read_script(rt.alloc(), &text).err(),
+        Some(ReadFail::NotYet)
+    );
     text.pop();
     assert!(rt; read_script(rt.alloc(), &text).is_ok());
     text.pop();
-    assert_eq!(rt; read_script(rt.alloc(), &text).err(), Some(ReadFail::NotYet));
+    assert_eq!(rt;
+        read_script(rt.alloc(), &text).err(),
+        Some(ReadFail::NotYet)
+    );
     text.clear();
-    assert_eq!(rt; read_script(rt.alloc(), &text).err(), Some(ReadFail::NotYet));
+    assert_eq!(rt;
+        read_script(rt.alloc(), &text).err(),
+        Some(ReadFail::NotYet)
+    );
     Ok(())
 }
 
@@ -153,6 +179,9 @@ fn bounds_the_work(rt: HostRuntime) -> Result<(), Fail> {
     assert!(rt; read_script(rt.alloc(), &most).is_ok());
     let line = heavy_line(rt.alloc(), b"step 777211")?;
     let more = text_with(rt.alloc(), 8, &line)?;
-    assert_eq!(rt; read_script(rt.alloc(), &more).err(), Some(ReadFail::NotYet));
+    assert_eq!(rt;
+        read_script(rt.alloc(), &more).err(),
+        Some(ReadFail::NotYet)
+    );
     Ok(())
 }
