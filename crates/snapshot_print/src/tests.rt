@@ -137,12 +137,7 @@ fn report(alloc: Global, monitor: &Monitor, space: &Space) -> Result<Vec<u8>, Al
 }
 
 // Whether a report begins with this line.
-fn begins(
-    alloc: Global,
-    monitor: &Monitor,
-    space: &Space,
-    line: &[u8],
-) -> Result<bool, AllocError>
+fn begins(alloc: Global, monitor: &Monitor, space: &Space, line: &[u8]) -> Result<bool, AllocError>
     requires { space.now ≡ monitor.now.core.space }
 {
     let text = report(alloc, monitor, space)?;
@@ -179,11 +174,21 @@ fn names_the_phases(rt: HostRuntime) -> Result<(), Fail> {
     let setup = three_pages(alloc)?;
     let mut monitor = started(alloc, &setup)?;
     prepare(&mut monitor)?;
-    let clearing = begins(alloc, &monitor, &setup.space, b"show tick=0 phase=clearing ")?;
+    let clearing = begins(
+        alloc,
+        &monitor,
+        &setup.space,
+        b"show tick=0 phase=clearing ",
+    )?;
     clear_all(&mut monitor)?;
     let armed = begins(alloc, &monitor, &setup.space, b"show tick=0 phase=armed ")?;
     load_all(&mut monitor)?;
-    let checking = begins(alloc, &monitor, &setup.space, b"show tick=0 phase=checking ")?;
+    let checking = begins(
+        alloc,
+        &monitor,
+        &setup.space,
+        b"show tick=0 phase=checking ",
+    )?;
     assert_eq!(rt; (clearing, armed, checking), (true, true, true));
     Ok(())
 }
