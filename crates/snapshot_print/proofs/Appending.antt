@@ -18,10 +18,12 @@ keeps_through a b c first second =
     let b_is : a ++ drop (length a) b ≡ b = ap (λ t. t ++ drop (length a) b) (sym first.front) ∙ take-append-drop (length a) b in
     let c_is : b ++ drop (length b) c ≡ c = ap (λ t. t ++ drop (length b) c) (sym second.front) ∙ take-append-drop (length b) c in
     let within : length a ≤ length b = subst (λ t. length a ≤ length t) b_is (omega (arith, length-append a (drop (length a) b))) in
-    record { front =
-        ap (λ t. take (length a) t) (sym c_is)
-        ∙ take-append-le (length a) b (drop (length b) c) within
-        ∙ first.front }
+    record {
+      front =
+          ap (λ t. take (length a) t) (sym c_is)
+          ∙ take-append-le (length a) b (drop (length b) c) within
+          ∙ first.front;
+    }
 
 -- the same where something was appended first
 pub keeps_before : (a p b c : List ℕ) → b ≡ a ++ p → KeepsFront b c → KeepsFront a c
