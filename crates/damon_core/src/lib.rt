@@ -6,3 +6,6 @@ mod monitor;
 
 pub use laws::reached_states_are_bound;
 pub use monitor::Monitor;
+
+#[cfg(test)]
+mod tests;

@@ -85,10 +85,10 @@ clear_step {R} stream m new words source k page w clearing below picked inside l
       space = space;
     }
 
-not_last : (k rows : ℕ) → k < rows → (k == rows) ≡ false
+pub not_last : (k rows : ℕ) → k < rows → (k == rows) ≡ false
 not_last k rows below = grind (arith, nat_tests)
 
-is_last : (k rows : ℕ) → k ≡ rows → (k == rows) ≡ true
+pub is_last : (k rows : ℕ) → k ≡ rows → (k == rows) ≡ true
 is_last k rows same = grind (arith, nat_tests)
 
 -- a load is the next event

@@ -4,3 +4,4 @@ pub mod Moment
 pub mod Left
 pub mod Kept
 pub mod Step
+pub mod Pass

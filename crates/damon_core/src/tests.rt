@@ -1,0 +1,126 @@
+// One pass over three pages; the expected values were reckoned by hand.
+ghost use Rattle.std.specs.Prelude.{◌≡◌, ◌≤◌, length, IfOk};
+
+use crate::Monitor;
+use damon_types::{Attrs, Range, Ranges, Space, Target};
+use live_commit::{Phase, Setup};
+use std::alloc::Global;
+use std::process::Abort;
+use std::test::Fail;
+
+// The setup of one target of three pages that is watched whole.
+fn three_pages(alloc: Global, aggr: u32) -> Result<Setup, Fail>
+    requires some { 1 ≤ aggr }
+    requires most { aggr ≤ 1000 }
+    ensures { IfOk result (λ s. length s.ranges.list ≡ 1) }
+{
+    let space = Space::new(alloc, &[Target { base: 0x1_0000, pages: 3 }])?;
+    let mut ranges = Ranges::new(alloc, 8)?;
+    ranges.push(Range {
+        target: 0,
+        first: 0,
+        pages: 3,
+        class: 0,
+    });
+    let attrs = Attrs {
+        min: 3,
+        max: 8,
+        aggr,
+    };
+    Ok(Setup {
+        space,
+        unit: 1,
+        cap: 8,
+        attrs,
+        ranges,
+    })
+}
+
+// Clears the next pick, whose page is this one.
+fn clear(rt: &impl Abort, monitor: &mut Monitor, page: u32) {
+    let Phase::Clearing { next } = monitor.phase() else {
+        panic!(rt; "no clear comes next");
+    };
+    assert_eq!(rt; monitor.pick(next), page);
+    monitor.cleared();
+}
+
+// Prepares a pass of three rows and clears its picks.
+fn begin_pass(rt: &impl Abort, monitor: &mut Monitor) {
+    let Phase::Idle = monitor.phase() else {
+        panic!(rt; "no pass comes next");
+    };
+    assert_eq!(rt; monitor.rows().len(), 3);
+    monitor.prepare(&[0, 0, 0]);
+    for page in 0..3 {
+        clear(rt, monitor, page);
+    }
+}
+
+// Loads the next pick, with this result.
+fn load(rt: &impl Abort, monitor: &mut Monitor, hit: bool) {
+    match monitor.phase() {
+        Phase::Armed => monitor.loaded(hit),
+        Phase::Checking { next } => {
+            assert!(rt; next < monitor.rows().len());
+            monitor.loaded(hit);
+        }
+        _ => panic!(rt; "no load comes next"),
+    }
+}
+
+// Ends the pass, whose picks are all loaded.
+fn end_pass(rt: &impl Abort, monitor: &mut Monitor) {
+    let Phase::Checking { next } = monitor.phase() else {
+        panic!(rt; "no end comes next");
+    };
+    assert_eq!(rt; (next, monitor.rows().len()), (3, 3));
+    assert_eq!(rt; monitor.ticks(), 0);
+    monitor.observe();
+}
+
+// The counts of three rows.
+fn counts(rt: &impl Abort, monitor: &Monitor) -> [u32; 3] {
+    let rows = monitor.rows();
+    assert_eq!(rt; rows.len(), 3);
+    [rows.row(0).count, rows.row(1).count, rows.row(2).count]
+}
+
+#[test]
+fn a_pass_counts_its_hits(rt: HostRuntime) -> Result<(), Fail> {
+    let setup = three_pages(rt.alloc(), 5)?;
+    let mut monitor = Monitor::new(rt.alloc(), &setup)?;
+    assert_eq!(rt; monitor.phase(), Phase::Idle);
+    assert_eq!(rt; monitor.attrs(), setup.attrs);
+    assert_eq!(rt; counts(&rt, &monitor), [0, 0, 0]);
+    assert_eq!(rt; (monitor.ticks(), monitor.checks(), monitor.hits()), (0, 0, 0));
+    assert_eq!(rt; monitor.picks().len(), 0);
+
+    begin_pass(&rt, &mut monitor);
+    assert_eq!(rt; monitor.phase(), Phase::Armed);
+    for hit in [false, true, false] {
+        load(&rt, &mut monitor, hit);
+    }
+    assert_eq!(rt; monitor.phase(), Phase::Checking { next: 3 });
+    assert_eq!(rt; counts(&rt, &monitor), [0, 0, 0]);
+
+    end_pass(&rt, &mut monitor);
+    assert_eq!(rt; monitor.phase(), Phase::Idle);
+    assert_eq!(rt; counts(&rt, &monitor), [0, 1, 0]);
+    assert_eq!(rt; (monitor.ticks(), monitor.checks(), monitor.hits()), (1, 3, 1));
+    Ok(())
+}
+
+#[test]
+fn an_aggregation_is_due_after_its_passes(rt: HostRuntime) -> Result<(), Fail> {
+    let setup = three_pages(rt.alloc(), 1)?;
+    let mut monitor = Monitor::new(rt.alloc(), &setup)?;
+    begin_pass(&rt, &mut monitor);
+    for hit in [true, true, true] {
+        load(&rt, &mut monitor, hit);
+    }
+    end_pass(&rt, &mut monitor);
+    assert_eq!(rt; monitor.phase(), Phase::Due);
+    assert_eq!(rt; counts(&rt, &monitor), [1, 1, 1]);
+    Ok(())
+}

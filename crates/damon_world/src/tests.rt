@@ -1,0 +1,110 @@
+// One pass over three pages with touches in it; the expected values were reckoned by hand.
+ghost use Rattle.std.specs.Prelude.{◌≡◌, ◌≤◌, length, IfOk};
+
+use crate::{Stepped, World};
+use damon_types::{Attrs, Range, Ranges, Space, Target};
+use live_commit::{Phase, Setup};
+use rand_pcg::Lcg64Xsh32;
+use std::alloc::Global;
+use std::process::Abort;
+use std::test::Fail;
+
+// The setup of one target of three pages that is watched whole.
+fn three_pages(alloc: Global) -> Result<Setup, Fail>
+    ensures { IfOk result (λ s. length s.ranges.list ≡ 1) }
+{
+    let space = Space::new(alloc, &[Target { base: 0x1_0000, pages: 3 }])?;
+    let mut ranges = Ranges::new(alloc, 8)?;
+    ranges.push(Range {
+        target: 0,
+        first: 0,
+        pages: 3,
+        class: 0,
+    });
+    let attrs = Attrs {
+        min: 3,
+        max: 8,
+        aggr: 5,
+    };
+    Ok(Setup {
+        space,
+        unit: 1,
+        cap: 8,
+        attrs,
+        ranges,
+    })
+}
+
+// A world of three pages.
+fn new_world(alloc: Global) -> Result<World<Lcg64Xsh32>, Fail> {
+    let setup = three_pages(alloc)?;
+    Ok(World::new(alloc, &setup, Lcg64Xsh32::new(42, 54))?)
+}
+
+// Makes the next step.
+fn step(rt: &impl Abort, world: &mut World<Lcg64Xsh32>) -> Stepped {
+    assert_eq!(rt; world.monitor().ticks(), 0);
+    match world.monitor().phase() {
+        Phase::Due => panic!(rt; "an aggregation is due"),
+        _ => world.step(),
+    }
+}
+
+// Touches a page of the three.
+fn touch(rt: &impl Abort, world: &mut World<Lcg64Xsh32>, page: u32) -> u64 {
+    let rows = world.monitor().rows();
+    assert_eq!(rt; rows.len(), 3);
+    let row = rows.row(2);
+    assert_eq!(rt; row.start + row.pages, 3);
+    assert!(rt; page < 3);
+    world.touch(page)
+}
+
+// Clears each page.
+fn clear(rt: &impl Abort, world: &mut World<Lcg64Xsh32>) {
+    assert_eq!(rt; step(rt, world), Stepped::Prepared);
+    for page in 0..3 {
+        assert_eq!(rt; step(rt, world), Stepped::Cleared { page });
+    }
+}
+
+// Loads each page with these results, and ends the pass.
+fn check(rt: &impl Abort, world: &mut World<Lcg64Xsh32>, hits: [bool; 3]) {
+    for (page, hit) in [(0, hits[0]), (1, hits[1]), (2, hits[2])] {
+        assert_eq!(rt; step(rt, world), Stepped::Loaded { page, hit });
+    }
+    assert_eq!(rt; step(rt, world), Stepped::Observed { void: false });
+}
+
+// The counts of three rows.
+fn counts(rt: &impl Abort, world: &World<Lcg64Xsh32>) -> [u32; 3] {
+    let rows = world.monitor().rows();
+    assert_eq!(rt; rows.len(), 3);
+    [rows.row(0).count, rows.row(1).count, rows.row(2).count]
+}
+
+#[test]
+fn a_touch_between_clear_and_load_is_counted_once(rt: HostRuntime) -> Result<(), Fail> {
+    for times in 1..3 {
+        let mut world = new_world(rt.alloc())?;
+        assert_eq!(rt; touch(&rt, &mut world, 0), 0);
+        clear(&rt, &mut world);
+        for _ in 0..times {
+            assert_eq!(rt; touch(&rt, &mut world, 1), 1);
+        }
+        check(&rt, &mut world, [false, true, false]);
+        assert_eq!(rt; counts(&rt, &world), [0, 1, 0]);
+        assert_eq!(rt; (world.monitor().ticks(), world.monitor().hits()), (1, 1));
+    }
+    Ok(())
+}
+
+#[test]
+fn a_touch_before_the_clear_is_no_hit(rt: HostRuntime) -> Result<(), Fail> {
+    let mut world = new_world(rt.alloc())?;
+    assert_eq!(rt; touch(&rt, &mut world, 1), 0);
+    clear(&rt, &mut world);
+    check(&rt, &mut world, [false, false, false]);
+    assert_eq!(rt; counts(&rt, &world), [0, 0, 0]);
+    Ok(())
+}
