@@ -76,7 +76,9 @@ fn replay<S: Source, K: Sink>(
 {
     let bytes = read_all(alloc, source)?;
     let script = read_script(alloc, &bytes)?;
-    write_report(alloc, &script, sink)
+    write_report(alloc, &script, sink)?;
+    script_states_are_bound();
+    Ok(())
 }
 
 // Runs a script and writes its report as the run goes on.
