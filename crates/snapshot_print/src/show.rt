@@ -15,7 +15,8 @@ use region_list::Regions;
 use std::alloc::{AllocError, Global};
 
 /// Appends what a show writes of the state: a line with the tick, the phase and the number of rows,
-/// then a line for each row in order. Where memory runs out, nothing is appended.
+/// then a line for each row in order, with addresses in bytes. The space is the monitor's. Where
+/// memory runs out, nothing is appended.
 pub fn print_show(
     alloc: Global,
     out: &mut Vec<u8>,
@@ -34,8 +35,8 @@ pub fn print_show(
     whole_or_nothing(out, before, printed)
 }
 
-/// Appends the last line of a report: the ticks, the rows, and the checks and hits of all finished
-/// passes. Where memory runs out, nothing is appended.
+/// Appends the last line of a report: the ticks, the number of rows, and the checks and hits of all
+/// finished passes. The space is the monitor's. Where memory runs out, nothing is appended.
 pub fn print_end(
     alloc: Global,
     out: &mut Vec<u8>,
