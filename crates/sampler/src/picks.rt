@@ -1,4 +1,4 @@
-ghost use Rattle.std.specs.Prelude.{◌≡◌, ◌≤◌, ◌<◌, [], false, length, count_by, slice_get, slice_set, replicate, IfOk, vec_len, vec_capacity};
+ghost use Rattle.std.specs.Prelude.{◌≡◌, ◌≤◌, ◌<◌, [], false, length, slice_get, slice_set, replicate, IfOk, vec_len, vec_capacity};
 ghost use Rattle.sampler.specs.Pick.{PickList, picks_of};
 
 use region_list::Regions;
@@ -66,13 +66,6 @@ impl Picks {
         ensures { slice_get self.now.bits k ≡ Some result }
     {
         self.bits[k as usize]
-    }
-
-    /// How many checks were hits.
-    pub fn hits(&self) -> u32
-        ensures { result ≡ count_by (λ hit. hit) self.now.bits }
-    {
-        self.bits.iter().filter(|hit| **hit).count() as u32
     }
 
     /// Records whether the check of pick `k`, which is below the number of picks, was a hit.

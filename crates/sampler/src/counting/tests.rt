@@ -31,10 +31,10 @@ fn picks_lie_in_their_rows_and_hits_are_counted(rt: HostRuntime) -> Result<(), F
     regions.replace(&ranges, &rows, 3);
 
     let mut picks = Picks::new(alloc, 3)?;
-    assert_eq!(rt; (picks.len(), picks.cap(), picks.hits()), (0, 3, 0));
+    assert_eq!(rt; (picks.len(), picks.cap()), (0, 3));
     let words = [0, 5, 4294967295];
     set_picks(&regions, &words, &mut picks);
-    assert_eq!(rt; (picks.len(), picks.hits()), (3, 0));
+    assert_eq!(rt; picks.len(), 3);
     assert_eq!(rt; [picks.page(0), picks.page(1), picks.page(2)], [20, 25, 29]);
 
     picks.set(0, true);
@@ -43,7 +43,6 @@ fn picks_lie_in_their_rows_and_hits_are_counted(rt: HostRuntime) -> Result<(), F
         [picks.hit(0), picks.hit(1), picks.hit(2)],
         [true, false, true]
     );
-    assert_eq!(rt; picks.hits(), 2);
     observe(&mut regions, &picks);
     assert_eq!(rt;
         [regions.row(0), regions.row(1), regions.row(2)],
@@ -51,6 +50,10 @@ fn picks_lie_in_their_rows_and_hits_are_counted(rt: HostRuntime) -> Result<(), F
     );
 
     set_picks(&regions, &words, &mut picks);
-    assert_eq!(rt; picks.hits(), 0);
+    assert_eq!(rt; picks.len(), 3);
+    assert_eq!(rt;
+        [picks.hit(0), picks.hit(1), picks.hit(2)],
+        [false, false, false]
+    );
     Ok(())
 }
