@@ -1,6 +1,6 @@
 -- Rows of a tiling: where they lie in the space, how many there are, and their counts.
-use Rattle.std.proofs.Common.{◌≡◌, ℕ, zero, suc, ◌+◌, ◌-◌, ◌/◌, ◌%◌, ◌≤◌, ◌<◌, ◌^◌, Bool, true, false, cond, List, [], ◌∷◌, ◌++◌, length, get_or, Some, refl, sym, ap, ◌∙◌, subst, arith}
-use Rattle.std.specs.Prelude.{◌==◌, ◌&&◌, nat_le, nat_lt, count_by, Any, sum_by, take, drop}
+use Rattle.std.proofs.Common.{◌≡◌, ℕ, zero, suc, ◌+◌, ◌/◌, ◌≤◌, ◌<◌, ◌^◌, Bool, true, false, cond, List, [], ◌∷◌, ◌++◌, length, refl, ap, ◌∙◌, subst, arith}
+use Rattle.std.specs.Prelude.{count_by, Any}
 use Rattle.std.specs.List.{AllByRecursion, list_any, flat_map}
 use Rattle.std.proofs.lemmas.Bool.Decides.{nat_tests}
 use Rattle.std.proofs.lemmas.List.Elements.{All-get_or}
@@ -10,12 +10,12 @@ use Rattle.damon_types.specs.declared.range.Range.{Range}
 use Rattle.damon_types.specs.declared.row.Row.{Row}
 use Rattle.damon_types.specs.Ranges.{end_of, page_total}
 use Rattle.damon_types.specs.Span.{Span, span_of, spans}
-use Rattle.damon_types.specs.Space.{pages_of, offset}
+use Rattle.damon_types.specs.Space.{pages_of}
 use Rattle.damon_types.specs.Within.{LiesInTarget, AreWithin}
 use Rattle.region_list.specs.Tiles.{Tiles, LiesIn, span_holds, range_holds}
-use Rattle.region_list.specs.Division.{divided, range_rows, rows_from, fresh, parts}
-use Rattle.sampler.specs.Counted.{raised, raised_row}
-use Rattle.sampler.specs.Pick.{pick, picks_of}
+use Rattle.region_list.specs.Division.{divided, range_rows, rows_from, parts}
+use Rattle.sampler.specs.Counted.{raised}
+use Rattle.sampler.specs.Pick.{picks_of}
 
 -- the pages of a range are pages of the space
 range_end : (ts : List Target) (g : Range) → LiesInTarget ts g → end_of g ≤ pages_of ts

@@ -1,21 +1,20 @@
 -- A monitor that stands for a state stands for the one after each event.
-use Rattle.std.proofs.Common.{◌≡◌, ◌≢◌, inl, inr, ℕ, zero, suc, ◌+◌, ◌≤◌, ◌<◌, Bool, true, false, cond, List, [], ◌∷◌, length, get_or, set, get_or-set_same, get_or-set_other, refl, sym, ap, ◌∙◌, subst, arith}
-use Rattle.std.specs.Prelude.{◌==◌, ◌&&◌, ◌||◌, replicate, slice_index}
+use Rattle.std.proofs.Common.{◌≡◌, ◌≢◌, inl, inr, ℕ, zero, suc, ◌+◌, ◌<◌, Bool, true, false, cond, List, [], ◌∷◌, length, get_or, set, get_or-set_same, get_or-set_other, refl, sym, ap, ◌∙◌, subst, arith}
+use Rattle.std.specs.Prelude.{◌==◌, ◌&&◌, ◌||◌, replicate}
 use Rattle.std.proofs.lemmas.Bool.{cases_eq}
 use Rattle.std.proofs.lemmas.Bool.Decides.{nat_tests}
 use Rattle.damon_types.specs.declared.row.Row.{Row}
-use Rattle.damon_types.specs.Span.{spans}
 use Rattle.live_commit.specs.declared.phase.Phase.{Phase}
 use Rattle.live_commit.specs.declared.phase.Phase.TheVariants.{Idle, Clearing, Armed, Checking, Void, Due}
 use Rattle.sampler.specs.Counted.{raised}
 use Rattle.damon_core.specs.Note.{Note, was_hit}
-use Rattle.damon_core.specs.Totals.{pass_checks, pass_hits, checks_made, hits_made}
+use Rattle.damon_core.specs.Totals.{pass_checks, pass_hits}
 use Rattle.damon_core.specs.State.{State, Core, row_count}
 use Rattle.damon_core.specs.Event.{IsClearing, IsLoading, IsObserving, load_index, prepare, clear, load, observe}
 use Rattle.damon_core.specs.After.{after, prepared_core, passed_core, phase_after_clear, phase_after_pass, by_clear, by_load, by_observe, loaded_at, counted, counted_from}
 use Rattle.damon_core.specs.Reached.{Reached}
 use Rattle.damon_core.specs.Stands.{MonitorView, Stands, bit_at, last_pass}
-use Rattle.damon_core.specs.Shown.{after_prepare, after_clear, after_load, after_observe, phase_by_clear, with_counts, ended}
+use Rattle.damon_core.specs.Shown.{after_prepare, after_clear, after_load, after_observe, phase_by_clear, ended}
 use Rattle.damon_core.specs.Kept.{loaded_so_far, HasPicks}
 use Rattle.damon_core.proofs.Tallying.{reached_early, reached_tallied, pass_hits_le, loading_pass, last_pass-phase_after_clear, last_pass-phase_after_pass}
 

@@ -1,5 +1,5 @@
 -- What holds of each state that is reached.
-use Rattle.std.specs.Prelude.{◌≡◌, ℕ, ◌+◌, ◌≤◌, ◌<◌, true, false, List, [], ◌∷◌}
+use Rattle.std.specs.Prelude.{◌≡◌, ℕ, ◌+◌, ◌≤◌, ◌<◌, true, List, [], ◌∷◌}
 use Rattle.std.specs.List.{enumerate_from}
 use Rattle.damon_types.specs.Span.{Span, spans}
 use Rattle.region_list.specs.Tiles.{Tiles}

@@ -1,8 +1,8 @@
 -- The events of a monitor with its pages, and where each fits.
-use Rattle.std.specs.Prelude.{◌≡◌, ℕ, ◌<◌, Bool, List, [], ◌∷◌, length, slice_index}
+use Rattle.std.specs.Prelude.{◌≡◌, ℕ, ◌<◌, Bool, List, length, slice_index}
 use Rattle.damon_types.specs.Space.{pages_of}
 use Rattle.live_commit.specs.declared.phase.Phase.{Phase}
-use Rattle.live_commit.specs.declared.phase.Phase.TheVariants.{Idle, Clearing, Armed, Checking, Void, Due}
+use Rattle.live_commit.specs.declared.phase.Phase.TheVariants.{Idle, Clearing, Armed, Checking, Void}
 use Rattle.damon_core.specs.Note.{hit}
 use Rattle.damon_core.specs.State.{State, row_count}
 

@@ -1,5 +1,5 @@
 -- What a monitor keeps.
-use Rattle.std.specs.Prelude.{◌≡◌, ℕ, ◌+◌, ◌*◌, ◌≤◌, ◌<◌, List, length}
+use Rattle.std.specs.Prelude.{◌≡◌, ℕ, ◌*◌, ◌≤◌, ◌<◌, List, length}
 use Rattle.std.specs.List.{AllByRecursion}
 use Rattle.damon_types.specs.declared.space.Target.{Target}
 use Rattle.damon_types.specs.declared.attrs.Attrs.{Attrs}
@@ -9,7 +9,7 @@ use Rattle.damon_types.specs.Within.{AreWithin}
 use Rattle.region_list.specs.Regions.{RegionList}
 use Rattle.sampler.specs.Pick.{PickList}
 use Rattle.live_commit.specs.declared.phase.Phase.{Phase}
-use Rattle.live_commit.specs.declared.phase.Phase.TheVariants.{Idle, Clearing, Armed, Checking, Void, Due}
+use Rattle.live_commit.specs.declared.phase.Phase.TheVariants.{Clearing, Armed, Checking, Due}
 
 -- a pass is under way whose picks are those of the rows
 abbrev pub IsInPass : Phase → Type 0

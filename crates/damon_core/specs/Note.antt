@@ -1,5 +1,5 @@
 -- What has happened to a monitor and its pages.
-use Rattle.std.specs.Prelude.{ℕ, ◌+◌, ◌*◌, Bool, true, false, ◌&&◌, ◌||◌, ◌==◌, List, [], ◌∷◌, ◌++◌, if◌then◌else◌, cond}
+use Rattle.std.specs.Prelude.{ℕ, ◌+◌, ◌*◌, Bool, false, ◌&&◌, ◌||◌, ◌==◌, List, [], ◌∷◌, ◌++◌, if◌then◌else◌, cond}
 use Rattle.damon_types.specs.Span.{Span}
 
 -- one thing that has happened; a list of notes has the newest first

@@ -1,5 +1,5 @@
 -- How many checks and hits a monitor has counted.
-use Rattle.std.specs.Prelude.{ℕ, ◌+◌, Bool, ◌&&◌, ◌==◌, List, [], ◌∷◌, cond}
+use Rattle.std.specs.Prelude.{ℕ, ◌+◌, ◌&&◌, ◌==◌, List, [], ◌∷◌, cond}
 use Rattle.damon_core.specs.Note.{Note, checked, finished}
 
 -- how many checks a pass made

@@ -14,7 +14,13 @@ fn three_pages(alloc: Global, aggr: u32) -> Result<Setup, Fail>
     requires most { aggr ≤ 1000 }
     ensures { IfOk result (λ s. length s.ranges.list ≡ 1) }
 {
-    let space = Space::new(alloc, &[Target { base: 0x1_0000, pages: 3 }])?;
+    let space = Space::new(
+        alloc,
+        &[Target {
+            base: 0x1_0000,
+            pages: 3,
+        }],
+    )?;
     let mut ranges = Ranges::new(alloc, 8)?;
     ranges.push(Range {
         target: 0,
@@ -93,7 +99,10 @@ fn a_pass_counts_its_hits(rt: HostRuntime) -> Result<(), Fail> {
     assert_eq!(rt; monitor.phase(), Phase::Idle);
     assert_eq!(rt; monitor.attrs(), setup.attrs);
     assert_eq!(rt; counts(&rt, &monitor), [0, 0, 0]);
-    assert_eq!(rt; (monitor.ticks(), monitor.checks(), monitor.hits()), (0, 0, 0));
+    assert_eq!(rt;
+        (monitor.ticks(), monitor.checks(), monitor.hits()),
+        (0, 0, 0)
+    );
     assert_eq!(rt; monitor.picks().len(), 0);
 
     begin_pass(&rt, &mut monitor);
@@ -107,7 +116,10 @@ fn a_pass_counts_its_hits(rt: HostRuntime) -> Result<(), Fail> {
     end_pass(&rt, &mut monitor);
     assert_eq!(rt; monitor.phase(), Phase::Idle);
     assert_eq!(rt; counts(&rt, &monitor), [0, 1, 0]);
-    assert_eq!(rt; (monitor.ticks(), monitor.checks(), monitor.hits()), (1, 3, 1));
+    assert_eq!(rt;
+        (monitor.ticks(), monitor.checks(), monitor.hits()),
+        (1, 3, 1)
+    );
     Ok(())
 }
 

@@ -5,8 +5,8 @@ use Rattle.std.proofs.lemmas.Bool.Decides.{nat_tests}
 use Rattle.rand_core.specs.Stream.{Stream}
 use Rattle.live_commit.specs.declared.phase.Phase.{Phase}
 use Rattle.live_commit.specs.declared.phase.Phase.TheVariants.{Idle, Clearing, Armed, Checking, Void, Due}
-use Rattle.damon_core.specs.State.{Core, State, row_count}
-use Rattle.damon_core.specs.Event.{Event, observe, load, next_hit}
+use Rattle.damon_core.specs.State.{State, row_count}
+use Rattle.damon_core.specs.Event.{observe, load, next_hit}
 use Rattle.damon_core.specs.After.{after, phase_after_clear, phase_after_pass}
 use Rattle.damon_world.specs.Draws.{drawn_rest}
 use Rattle.damon_world.specs.Moment.{Moment, draws, stepped, stepped_times}

@@ -1,5 +1,5 @@
 -- Each kind of step of a world is its next event.
-use Rattle.std.proofs.Common.{◌≡◌, ◌≢◌, ℕ, zero, suc, ◌+◌, ◌-◌, ◌*◌, ◌%◌, ◌≤◌, ◌<◌, Bool, true, false, cond, List, [], ◌∷◌, length, set, Some, refl, sym, ap, ◌∙◌, subst, arith}
+use Rattle.std.proofs.Common.{◌≡◌, ℕ, suc, ◌+◌, ◌*◌, ◌%◌, ◌<◌, Bool, true, false, cond, List, [], ◌∷◌, length, set, Some, refl, sym, ap, ◌∙◌, subst, arith}
 use Rattle.std.specs.Prelude.{◌==◌, ◌↔◌, IsTrue, slice_get, slice_index}
 use Rattle.std.proofs.lemmas.Bool.Decides.{nat_tests}
 use Rattle.std.proofs.lemmas.Option.{get_or_from_slice_get}
@@ -9,17 +9,17 @@ use Rattle.damon_types.specs.Space.{pages_of}
 use Rattle.sampler.specs.Counted.{raised}
 use Rattle.live_commit.specs.declared.phase.Phase.{Phase}
 use Rattle.live_commit.specs.declared.phase.Phase.TheVariants.{Idle, Clearing, Armed, Checking, Void, Due}
-use Rattle.damon_core.specs.Note.{Note, cleared, word_of, is_cleared, hit}
+use Rattle.damon_core.specs.Note.{cleared, word_of, is_cleared, hit}
 use Rattle.damon_core.specs.State.{Core, State, row_count}
-use Rattle.damon_core.specs.Event.{Event, prepare, clear, load, observe, Fits, IsLoading, IsObserving, load_index, load_page, next_hit}
-use Rattle.damon_core.specs.After.{after, by_clear, by_load, by_observe, phase_after_clear, phase_after_pass}
+use Rattle.damon_core.specs.Event.{prepare, clear, load, observe, Fits, IsLoading, IsObserving, load_index, load_page, next_hit}
+use Rattle.damon_core.specs.After.{after, by_clear, by_load, by_observe, phase_after_pass}
 use Rattle.damon_core.specs.Reached.{Reached}
 use Rattle.damon_core.specs.Kept.{cleared_so_far}
 use Rattle.damon_core.specs.Stands.{MonitorView, Stands, IsEvent}
 use Rattle.damon_core.specs.Shown.{after_prepare, after_clear, after_load, after_observe, ended, phase_by_clear}
 use Rattle.damon_world.specs.Draws.{drawn, drawn_rest}
-use Rattle.damon_world.specs.Stands.{WorldView, StandsFor}
-use Rattle.damon_world.specs.Moment.{draws, draws_in, event_in, next_event, Tells}
+use Rattle.damon_world.specs.Stands.{StandsFor}
+use Rattle.damon_world.specs.Moment.{draws_in, event_in, next_event, Tells}
 use Rattle.damon_world.specs.Left.{steps_from, steps_to_due}
 use Rattle.damon_world.specs.Step.{IsStep}
 use Rattle.damon_world.specs.declared.world.Stepped.TheVariants.{Prepared, Cleared, Loaded, Observed}

@@ -1,5 +1,5 @@
 -- What a world keeps.
-use Rattle.std.specs.Prelude.{◌≡◌, ℕ, ◌≤◌, ◌<◌, List, length}
+use Rattle.std.specs.Prelude.{◌≡◌, ℕ, ◌≤◌, List, length}
 use Rattle.damon_types.specs.Space.{pages_of}
 use Rattle.damon_core.specs.Stands.{MonitorView}
 

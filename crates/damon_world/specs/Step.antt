@@ -1,7 +1,7 @@
 -- One step of a world.
-use Rattle.std.specs.Prelude.{◌≡◌, ℕ, ◌+◌, ◌≤◌}
+use Rattle.std.specs.Prelude.{◌≡◌, ◌+◌, ◌≤◌}
 use Rattle.rand_core.specs.Stream.{Stream}
-use Rattle.damon_core.specs.State.{State, row_count}
+use Rattle.damon_core.specs.State.{State}
 use Rattle.damon_core.specs.Event.{Fits}
 use Rattle.damon_core.specs.After.{after}
 use Rattle.damon_core.specs.Reached.{Reached}

@@ -6,5 +6,4 @@ ghost use Rattle.damon_world.specs.Pass.{EachPassTakesItsSteps};
 /// row's pick, and one to observe it. Then there is one tick more, and none before.
 pub fn a_pass_takes_its_steps()
     ensures { EachPassTakesItsSteps }
-{
-}
+{}

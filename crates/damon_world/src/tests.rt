@@ -13,7 +13,13 @@ use std::test::Fail;
 fn three_pages(alloc: Global) -> Result<Setup, Fail>
     ensures { IfOk result (λ s. length s.ranges.list ≡ 1) }
 {
-    let space = Space::new(alloc, &[Target { base: 0x1_0000, pages: 3 }])?;
+    let space = Space::new(
+        alloc,
+        &[Target {
+            base: 0x1_0000,
+            pages: 3,
+        }],
+    )?;
     let mut ranges = Ranges::new(alloc, 8)?;
     ranges.push(Range {
         target: 0,

@@ -5,9 +5,9 @@ use Rattle.region_list.specs.Regions.{RegionList}
 use Rattle.sampler.specs.Counted.{raised}
 use Rattle.live_commit.specs.declared.phase.Phase.{Phase}
 use Rattle.live_commit.specs.declared.phase.Phase.TheVariants.{Checking}
-use Rattle.damon_core.specs.State.{Core, row_count}
+use Rattle.damon_core.specs.State.{row_count}
 use Rattle.damon_core.specs.After.{phase_after_pass}
-use Rattle.damon_core.specs.Kept.{IsMonitor, IsWithin, HasPicks, SinceWithin, FoundWithin}
+use Rattle.damon_core.specs.Kept.{IsWithin, HasPicks, SinceWithin, FoundWithin}
 use Rattle.damon_core.specs.Stands.{MonitorView}
 use Rattle.damon_core.specs.Shown.{ended}
 use Rattle.damon_core.proofs.RowFacts.{length-raised, counts-raised}

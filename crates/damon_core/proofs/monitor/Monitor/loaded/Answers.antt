@@ -2,7 +2,7 @@ use Rattle.std.proofs.Common.{◌≡◌, ℕ, ◌<◌, ◌+◌, set, Bool, true,
 use mir.Val.{bool_byte}
 use Rattle.live_commit.specs.declared.phase.Phase.TheVariants.{Checking}
 use Rattle.sampler.specs.Pick.{PickList}
-use Rattle.damon_core.specs.State.{Core, row_count}
+use Rattle.damon_core.specs.State.{row_count}
 use Rattle.damon_core.specs.Stands.{MonitorView, Stands}
 use Rattle.damon_core.specs.Event.{IsLoading, load, load_index}
 use Rattle.damon_core.specs.After.{after}

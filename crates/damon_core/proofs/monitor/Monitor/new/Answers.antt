@@ -1,4 +1,4 @@
-use Rattle.std.proofs.Common.{◌≡◌, ℕ, ◌≤◌, ◌<◌, List, [], ◌∷◌, length, ap, sym, subst, ◌∙◌, refl, arith}
+use Rattle.std.proofs.Common.{◌≡◌, ℕ, ◌≤◌, ◌<◌, List, [], ◌∷◌, length, ap, sym, subst, ◌∙◌, arith}
 use Rattle.std.specs.Prelude.{All}
 use Rattle.std.specs.List.{AllByRecursion}
 use Rattle.std.proofs.lemmas.List.Elements.{All-head}
@@ -12,7 +12,6 @@ use Rattle.region_list.specs.Tiles.{Tiles}
 use Rattle.sampler.specs.Pick.{PickList}
 use Rattle.live_commit.specs.Setup.{SetupValue, IsSetup}
 use Rattle.live_commit.specs.SetupView.{value_of}
-use Rattle.damon_core.specs.State.{opening_core}
 use Rattle.damon_core.proofs.RowFacts.{some_row, counts-divided}
 use Rattle.damon_core.proofs.monitor.Monitor.new.Goals as goal
 

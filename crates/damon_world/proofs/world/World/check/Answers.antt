@@ -1,4 +1,4 @@
-use Rattle.std.proofs.Common.{◌≡◌, ◌≤◌, length, ap, sym, subst, ◌∙◌, arith}
+use Rattle.std.proofs.Common.{◌≡◌, length, ap, sym, subst, ◌∙◌, arith}
 use Rattle.region_list.specs.Regions.{RegionList}
 use Rattle.live_commit.specs.declared.phase.Phase.{Phase}
 use Rattle.damon_core.specs.Event.{IsObserving}

@@ -1,12 +1,9 @@
-use Rattle.std.proofs.Common.{◌≡◌, ℕ, ◌<◌, ◌∷◌, length, ap, sym, subst, ◌∙◌, arith}
-use Rattle.std.specs.Prelude.{slice_index, bit_or}
+use Rattle.std.proofs.Common.{◌≡◌, ◌<◌, ◌∷◌, sym, subst, ◌∙◌, arith}
+use Rattle.std.specs.Prelude.{bit_or}
 use Rattle.std.proofs.lemmas.Grind.{get_or_default_zero}
 use Rattle.damon_types.specs.Space.{pages_of}
 use Rattle.damon_core.specs.Note.{touched, word_of}
-use Rattle.damon_core.specs.Event.{touch}
 use Rattle.damon_core.specs.State.{Core}
-use Rattle.damon_core.specs.After.{after}
-use Rattle.damon_core.specs.Stands.{Stands}
 use Rattle.damon_world.specs.Stands.{StandsFor}
 use Rattle.damon_world.proofs.Words.{set_words, word_of-touched_same, word_of-touched_other}
 use Rattle.damon_world.proofs.world.World.touch.Goals as goal
