@@ -24,7 +24,7 @@ use snapshot_print::Form;
 use std::alloc::Global;
 
 /// Does all of the program `damon`: where the words are `replay`, reads a script to its end and writes
-/// the report of its events. It takes no lock, waits for nobody and always returns.
+/// the report of its events. It takes no lock and always returns.
 pub fn replay_main<S: Source, K: Sink>(
     alloc: Global,
     words: &[String],

@@ -55,13 +55,15 @@ keyword text line = ended (after_prefix text line)
     ended (Some []) = Some tt
     ended (Some (b ∷ bs)) = None
 
--- numbers of 8, 32 and 64 bits
+-- a number of 8 bits
 abbrev pub number_8 : List ℕ → Option ℕ
 number_8 word = number (2 ^ 8 - 1) word
 
+-- a number of 32 bits
 abbrev pub number_32 : List ℕ → Option ℕ
 number_32 word = number (2 ^ 32 - 1) word
 
+-- a number of 64 bits
 abbrev pub number_64 : List ℕ → Option ℕ
 number_64 word = number (2 ^ 64 - 1) word
 
@@ -72,13 +74,15 @@ in_front read words = do
   value ← read parts.0
   Some (value, parts.1)
 
--- `seed N`, and others with one number
+-- `seed N`
 abbrev pub seed_of : List ℕ → Option ℕ
 seed_of line = after_prefix (codes "seed ") line >>= number_64
 
+-- `unit PAGES`
 abbrev pub unit_of : List ℕ → Option ℕ
 unit_of line = after_prefix (codes "unit ") line >>= number_32
 
+-- `cap REGIONS`
 abbrev pub cap_of : List ℕ → Option ℕ
 cap_of line = after_prefix (codes "cap ") line >>= number_32
 

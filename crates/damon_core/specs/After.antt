@@ -59,15 +59,18 @@ finished_pass s = record {
 abbrev pub voided_pass : State → State
 voided_pass s = record { core = passed_core s.core; notes = voided (s.core.ticks + 1) ∷ s.notes }
 
+-- what a clear does in each phase where it fits
 abbrev pub by_clear : Phase → State → State
 by_clear (Clearing k) s = cleared_at k s
 by_clear _ s = s
 
+-- what a load with this result does in each phase where it fits
 abbrev pub by_load : Phase → Bool → State → State
 by_load Armed hit s = loaded_at 0 hit s
 by_load (Checking k) hit s = loaded_at k hit s
 by_load _ hit s = s
 
+-- what the end of a pass does in each phase where it fits
 abbrev pub by_observe : Phase → State → State
 by_observe (Checking k) s = finished_pass s
 by_observe Void s = voided_pass s

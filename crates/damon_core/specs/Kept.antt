@@ -55,6 +55,7 @@ abbrev pub SinceWithin : Phase → ℕ → ℕ → Type 0
 SinceWithin Due since aggr = since ≤ aggr
 SinceWithin _ since aggr = since < aggr
 
+-- what a monitor keeps at all times
 pub record IsMonitor (space : List Target) (attrs : Attrs) (regions : RegionList) (phase : Phase) (picks : PickList) (ticks since found checks hits : ℕ) : Type 0 where
   pub attrs_sound : IsAttrs attrs
   pub some : 0 < length regions.rows

@@ -53,6 +53,7 @@ pub record IsSpace (ts : List Target) : Type 0 where
 abbrev pub checked_target : ℕ → Target → Result (Unit {0}) SpaceFault
 checked_target i t = if nat_le 1 t.pages && nat_le t.pages 1048576 then (if (t.base % 4096 == 0) && nat_le (t.base + 4096 * t.pages) (2 ^ 63) then Ok tt else Err (BadBase i)) else Err (BadPages i)
 
+-- the first refusal of two checks
 abbrev pub and_next : Result (Unit {0}) SpaceFault → Result (Unit {0}) SpaceFault → Result (Unit {0}) SpaceFault
 and_next (Err e) next = Err e
 and_next (Ok t) next = next

@@ -4,7 +4,7 @@ ghost use Rattle.damon_types.specs.Attrs.{IsAttrs, checked_attrs};
 /// The attributes of a monitor: how many regions it keeps, and how often it aggregates.
 #[derive(Clone, Copy, Debug, PartialEq, Eq)]
 pub struct Attrs {
-    /// The least number of regions that the initial division aims at, at least 3.
+    /// The number of regions that the initial division aims at, at least 3.
     pub min: u32,
     /// The most regions, at least `min`.
     pub max: u32,

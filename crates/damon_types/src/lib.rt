@@ -1,14 +1,23 @@
 //! The vocabulary of the monitor: spaces, ranges, rows, attributes, and the ends of byte streams.
 #![tactic(auto)]
 
+/// The attributes of a monitor, and their limits.
 mod attrs;
+/// That the pages of a space are numbered without gaps.
 mod laws;
+/// Streams over memory.
 mod memory;
+/// Ranges as they are asked for and as they are watched.
 mod range;
+/// Appending to a vector that has the room.
 mod reserved;
+/// The region as a monitor keeps it.
 mod row;
+/// Targets, their pages and addresses.
 mod space;
+/// Streams over the reader and the writer of std.
 mod standard;
+/// Where bytes come from and go to.
 mod stream;
 #[cfg(test)]
 mod stream_tests;

@@ -8,7 +8,7 @@ pub struct Row {
     pub start: u32,
     /// How many pages the region has.
     pub pages: u32,
-    /// The accesses counted since the last aggregation.
+    /// The passes since the last aggregation whose check in the region was a hit.
     pub count: u32,
     /// The count at the end of the aggregation before.
     pub last: u32,

@@ -12,7 +12,7 @@ const MAX_TARGETS: usize = 64;
 
 const MAX_PAGES: u32 = 1_048_576;
 
-/// An address range whose pages can be watched: whole pages from an address on.
+/// What is watched as one address space: whole pages from an address on.
 #[derive(Clone, Copy, Debug, PartialEq, Eq)]
 pub struct Target {
     /// The address of the first byte, a multiple of the page size. The last page ends at or below
@@ -43,7 +43,7 @@ pub enum SpaceFault {
     /// The target with this index has no page, or more than 1,048,576.
     #[error("BadPages")]
     BadPages { index: u32 },
-    /// The target with this index does not begin with a page, or ends above 2^63.
+    /// The base of the target with this index is no multiple of 4096, or the target ends above 2^63.
     #[error("BadBase")]
     BadBase { index: u32 },
     /// The targets have more than 1,048,576 pages in all.

@@ -22,5 +22,6 @@ abbrev pub steps_from : Phase → ℕ → ℕ → ℕ → ℕ
 steps_from Due rows since aggr = 0
 steps_from phase rows since aggr = steps_in_pass phase rows + (aggr - since - 1) * pass_steps rows
 
+-- the steps from a state until an aggregation is due
 abbrev pub steps_to_due : Core → ℕ
 steps_to_due c = steps_from c.phase (row_count c) c.since c.attrs.aggr

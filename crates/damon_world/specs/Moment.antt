@@ -10,6 +10,7 @@ use Rattle.damon_world.specs.Draws.{drawn, drawn_rest}
 use Rattle.damon_world.specs.declared.world.Stepped.{Stepped}
 use Rattle.damon_world.specs.declared.world.Stepped.TheVariants.{Prepared, Cleared, Loaded, Observed}
 
+-- a state, and the random words from there on
 pub record Moment : Type 0 where
   pub state : State
   pub stream : Stream
@@ -20,6 +21,7 @@ draws_in Idle c = row_count c
 draws_in Due c = 2 * c.attrs.max
 draws_in _ c = 0
 
+-- how many random words the next step from a state draws
 abbrev pub draws : Core → ℕ
 draws c = draws_in c.phase c
 
@@ -32,6 +34,7 @@ event_in (Checking k) s stream = if k == row_count s.core then observe else load
 event_in Void s stream = observe
 event_in Due s stream = aggregate (drawn (2 * s.core.attrs.max) stream)
 
+-- the event of the next step from a state
 abbrev pub next_event : State → Stream → Event
 next_event s stream = event_in s.core.phase s stream
 

@@ -31,7 +31,7 @@ pub enum Stepped {
 }
 
 /// A monitor with the pages of one thread. A page's word is `2 × c + t`, where c is the pass that
-/// cleared it last, 0 if none did, and t is 1 where it was touched since.
+/// cleared it last, 0 if none did, and t is 1 where it was touched since, or ever where none did.
 #[derive(Drop)]
 pub struct World<R: Rng> {
     monitor: Monitor,

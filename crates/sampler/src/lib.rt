@@ -1,7 +1,9 @@
 //! Sampling: one page of each row is picked, and the rows whose pick was accessed are counted.
 #![tactic(auto)]
 
+/// Rows whose check was a hit are counted.
 mod counting;
+/// One page of each row.
 mod picks;
 
 pub use counting::observe;

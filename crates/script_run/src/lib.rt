@@ -1,8 +1,11 @@
 //! What a script's commands mean on a world: their events, and the text that they cause.
 #![tactic(auto)]
 
+/// One command played on a world.
 mod command;
+/// What holds of the states of a script.
 mod laws;
+/// A script from its opening to its end.
 mod script;
 
 pub use command::{run_command, steps_of};
