@@ -19,8 +19,10 @@ fn main(rt: HostRuntime) -> ExitCode {
 
 // Hands the words, standard input and standard output to the top call.
 fn run<R: Env + AllocGlobal + Input + Print>(rt: &R) -> Status {
-    let Ok(args) = env::args(rt) else {
-        return Status::Usage;
+    let args = match env::args(rt) {
+        Ok(args) => args,
+        Err(e) if e.kind() == io::ErrorKind::OutOfMemory => return Status::Memory,
+        Err(_) => return Status::Usage,
     };
     let Ok(words) = args.skip(1).collect::<Vec<String>>(rt.alloc()) else {
         return Status::Memory;
