@@ -68,6 +68,7 @@ impl Monitor {
         let regions = first_regions(alloc, setup)?;
         let picks = Picks::new(alloc, setup.cap)?;
         let space = setup.space.clone()?;
+        // For its clauses alone: the rows tile their ranges and are within their limits.
         let _rows = regions.len();
         Ok(Monitor {
             space,
@@ -113,6 +114,7 @@ impl Monitor {
         ensures in_space { AllByRecursion (λ r. (1 ≤ r.pages) × (r.start + r.pages ≤ pages_of self.now.core.space)) self.now.core.regions.rows }
         ensures some { 0 < row_count self.now.core }
     {
+        // For its clauses alone: the rows tile their ranges and are within their limits.
         let _rows = self.regions.len();
         &self.regions
     }
@@ -147,8 +149,10 @@ impl Monitor {
         ensures shown { self.new ≡ after_prepare words.now self.old }
         ensures event { IsEvent self.old self.new (prepare_event words.now) }
     {
+        // For its clauses alone: the rows tile their ranges and are within their limits.
         let _rows = self.regions.len();
         set_picks(&self.regions, words, &mut self.picks);
+        // For its clauses alone: there is a bit for each pick.
         let _picks = self.picks.len();
         self.found = 0;
         self.phase = Phase::Clearing { next: 0 };
@@ -183,6 +187,7 @@ impl Monitor {
         ensures event { IsEvent self.old self.new (load_event hit) }
     {
         let index = next_load(self.phase);
+        // For its clauses alone: there is a bit for each pick.
         let _picks = self.picks.len();
         self.picks.set(index, hit);
         self.found += u32::from(hit);
@@ -209,6 +214,7 @@ impl Monitor {
         ensures shown { self.new ≡ ended self.old.core.phase self.old }
         ensures bits { length self.old.bits ≡ row_count self.old.core }
     {
+        // For its clauses alone: there is a bit for each pick.
         let _picks = self.picks.len();
         sampler::observe(&mut self.regions, &self.picks);
         self.checks += u64::from(self.regions.len());

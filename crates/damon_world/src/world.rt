@@ -165,7 +165,7 @@ impl<R: Rng + Drop> World<R> {
         requires index { next ≡ load_index self.old.monitor.core.phase }
         ensures { IsStep R.stream self.old self.new result }
     {
-        // Asked for its clause alone: there is a row, so there is a pick.
+        // For its clauses alone: there is a row, so there is a pick.
         let _rows = self.monitor.rows();
         let page = self.monitor.pick(next);
         let hit = self.words[page as usize] % 2 == 1;

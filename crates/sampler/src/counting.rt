@@ -13,6 +13,7 @@ pub fn observe(regions: &mut Regions, picks: &Picks)
     requires small { AllByRecursion (λ r. r.count + 1 < 2 ^ 32) regions.old.rows }
     ensures { regions.new ≡ record regions.old { rows = raised picks.now.bits regions.old.rows } }
 {
+    // For its clauses alone: there is a bit for each pick.
     let _checks = picks.len();
     for index in 0..regions.len() {
         raise_row(regions, index, picks.hit(index));

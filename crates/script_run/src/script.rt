@@ -34,8 +34,10 @@ pub fn open_world(alloc: Global, script: &Script) -> Result<World<Lcg64Xsh32>, A
     ensures core { IfOk result (λ w. w.monitor.core ≡ opening_core (value_of script.now.setup)) }
     ensures can_open { OnOk result (CanOpen (value_of script.now.setup)) }
 {
+    // For its clauses alone: the ranges are in order.
     let _ranges = script.setup.ranges.len();
     let world = World::new(alloc, &script.setup, Lcg64Xsh32::new(script.seed, STREAM))?;
+    // For its clauses alone: the rows tile their ranges.
     let _rows = world.monitor().rows().len();
     Ok(world)
 }
