@@ -3,6 +3,8 @@
 
 /// Hexadecimal addresses: reading and writing.
 mod address;
+/// Hexadecimal digits, written from the last to the first.
+mod hex_digits;
 /// What reading and spelling have to do with each other.
 mod laws;
 /// The lines of a text and the words of a line.
