@@ -1,4 +1,4 @@
-ghost use Rattle.std.specs.Prelude.{◌≡◌, ◌++◌, ◌≤◌, ◌<◌, length, IfSome, OnErr, OnOk};
+ghost use Rattle.std.specs.Prelude.{◌≡◌, ◌++◌, ◌+◌, ◌≤◌, ◌<◌, length, drop, IfSome, OnErr, OnOk};
 ghost use Rattle.line_text.specs.Address.{address, hex_digit, hex_number, hex_on, spelled_address};
 
 use crate::hex_digits::write_hex;
@@ -51,14 +51,28 @@ fn hex_value(byte: u8) -> Option<u8>
 }
 
 /// Appends the spelling of an address. Where memory runs out, nothing is appended.
-#[tactic(auto, using(crate::proofs::Hex::length_hex_le))]
 pub fn write_address(out: &mut Vec<u8>, value: u64) -> Result<(), AllocError>
     ensures ok { OnOk result (out.new.items ≡ out.old.items ++ spelled_address value) }
     ensures err { OnErr result (out.new.items ≡ out.old.items) }
 {
     let mut spelled = [0; 18];
-    let start = write_hex(value, &mut spelled, 18);
-    spelled[start - 1] = b'x';
-    spelled[start - 2] = b'0';
-    out.extend_from_slice(&spelled[start - 2..])
+    let start = address_before(&mut spelled, 18, value);
+    out.extend_from_slice(&spelled[start..])
+}
+
+/// Writes the spelling of an address so that it ends before `end`, and returns where it begins: at
+/// most 18 bytes earlier.
+#[inline]
+#[tactic(auto, using(crate::proofs::Hex::length_hex_le))]
+pub fn address_before(bytes: &mut [u8], end: usize, value: u64) -> usize
+    requires room { 18 ≤ end }
+    requires within { end ≤ length bytes.old }
+    ensures start { result ≤ end }
+    ensures most { end ≤ result + 18 }
+    ensures written { drop result bytes.new ≡ spelled_address value ++ drop end bytes.old }
+{
+    let start = write_hex(value, bytes, end);
+    bytes[start - 1] = b'x';
+    bytes[start - 2] = b'0';
+    start - 2
 }
