@@ -11,7 +11,7 @@ use Rattle.std.proofs.lemmas.Option.{option_and_then_some}
 use Rattle.line_text.specs.Address.{hex_digit, hex_on, hex_number, address, spelled_address}
 use Rattle.line_text.specs.Line.{after_prefix}
 use Rattle.line_text.proofs.Pieces.{after_prefix-Some}
-use Rattle.line_text.proofs.Hex.{hex_by_steps, hex_step, length-hex-le}
+use Rattle.line_text.proofs.Hex.{hex_by_steps, hex_step, length_hex_le}
 
 hex_digit-glyph : (d : ℕ) → d < 16 → hex_digit (digit_glyph false d) ≡ Some d
 hex_digit-glyph d small = grind (arith, nat_tests)
@@ -56,10 +56,10 @@ hex_nonempty : (n : ℕ) → n < 2 ^ 64 → 0 < length (digits 16 false n)
 hex_nonempty = hex_by_steps (λ m ds. 0 < length ds) (λ m l. omega arith) (λ m ds l h. omega (arith, length-append ds (digit_glyph false (m % 16) ∷ [])))
 
 digits_are_canonical : (n : ℕ) → n < 2 ^ 64 → IsCanonicalHex (digits 16 false n)
-digits_are_canonical zero small = record { some = hex_nonempty 0 small; few = length-hex-le 0 small; front = λ z. ap length (hex_one_digit false 0 (omega arith)) }
+digits_are_canonical zero small = record { some = hex_nonempty 0 small; few = length_hex_le 0 small; front = λ z. ap length (hex_one_digit false 0 (omega arith)) }
 digits_are_canonical (suc n) small = record {
   some = hex_nonempty (suc n) small;
-  few = length-hex-le (suc n) small;
+  few = length_hex_le (suc n) small;
   front = λ z. absurd (omega (arith, first_hex (suc n) (omega arith) small));
 }
 

@@ -47,12 +47,6 @@ hex_step n h small =
     hex_is_spelled n ∙ spell_next 63 n [] h ∙ spell_enough 62 63 (n / 16) (last_glyph n ∷ []) (omega arith) (omega arith) ∙ spell-append 64 (n / 16) (last_glyph n ∷ [])
     ∙ ap (λ ds. ds ++ (last_glyph n ∷ [])) (sym (hex_is_spelled (n / 16)))
 
-pub length-hex_step : (n : ℕ) → 16 ≤ n → n < 2 ^ 64 → length (digits 16 false n) ≡ length (digits 16 false (n / 16)) + 1
-length-hex_step n h small = ap length (hex_step n h small) ∙ length-append (digits 16 false (n / 16)) (digit_glyph false (n % 16) ∷ [])
-
-pub length-hex_one : (n : ℕ) → n < 16 → length (digits 16 false n) ≡ 1
-length-hex_one n h = ap length (hex_one_digit false n h)
-
 -- induction on the digits: one digit, then one more at the end
 module _ (P : ℕ → List ℕ → Type 0) (one : (n : ℕ) → n < 16 → P n (digit_glyph false n ∷ [])) (more : (n : ℕ) (ds : List ℕ) → 16 ≤ n → P (n / 16) ds → P n (ds ++ (digit_glyph false (n % 16) ∷ []))) where
   by : (k n : ℕ) → n ≤ k → n < 2 ^ 64 → P n (digits 16 false n)
@@ -70,8 +64,8 @@ length_more m ds l h zero a b = absurd (omega arith)
 length_more m ds l h (suc zero) a b = absurd (omega arith)
 length_more m ds l h (suc (suc j)) a b = omega (arith, length-append ds (digit_glyph false (m % 16) ∷ []), h (suc j) (omega arith) (omega arith))
 
-pub length-hex-le : (n : ℕ) → n < 2 ^ 64 → length (digits 16 false n) ≤ 16
-length-hex-le n small = hex_by_steps (λ m ds. (j : ℕ) → 0 < j → m < 16 ^ j → length ds ≤ j) (λ m l j a b. omega arith) length_more n small 16 (omega arith) (omega arith)
+pub length_hex_le : (n : ℕ) → n < 2 ^ 64 → length (digits 16 false n) ≤ 16
+length_hex_le n small = hex_by_steps (λ m ds. (j : ℕ) → 0 < j → m < 16 ^ j → length ds ≤ j) (λ m l j a b. omega arith) length_more n small 16 (omega arith) (omega arith)
 
 -- one more digit behind fewer than 16 fits 64 bits
 pub hex_room : (i v : ℕ) → i < 16 → v < 16 ^ i → 16 * v + 15 < 2 ^ 64

@@ -1,4 +1,5 @@
 pub mod Hex
+pub mod HexPairs
 pub mod Values
 pub mod Pieces
 pub mod Numbers

@@ -1,7 +1,7 @@
-ghost use Rattle.std.specs.Prelude.{◌≡◌, ◌++◌, ◌+◌, ◌≤◌, ◌<◌, ◌^◌, length, drop, false, IfSome, OnErr, OnOk};
-ghost use Rattle.std.specs.Fmt.{digits, digit_glyph};
+ghost use Rattle.std.specs.Prelude.{◌≡◌, ◌++◌, ◌+◌, ◌≤◌, ◌<◌, length, drop, IfSome, OnErr, OnOk};
 ghost use Rattle.line_text.specs.Address.{address, hex_digit, hex_number, hex_on, spelled_address};
 
+use crate::hex_digits::write_hex;
 use std::alloc::AllocError;
 
 /// The address that a word spells: `0x0`, or `0x` and at most 16 hexadecimal digits in lower case
@@ -56,38 +56,23 @@ pub fn write_address(out: &mut Vec<u8>, value: u64) -> Result<(), AllocError>
     ensures err { OnErr result (out.new.items ≡ out.old.items) }
 {
     let mut spelled = [0; 18];
-    let start = write_hex_digits(value, &mut spelled);
-    spelled[start - 1] = b'x';
-    spelled[start - 2] = b'0';
-    out.extend_from_slice(&spelled[start - 2..])
+    let start = address_before(&mut spelled, 18, value);
+    out.extend_from_slice(&spelled[start..])
 }
 
-// Writes the hexadecimal digits at the end of the bytes, and returns where they begin.
-fn write_hex_digits(value: u64, bytes: &mut [u8; 18]) -> usize
-    ensures start { result + length (digits 16 false value) ≡ 18 }
-    ensures room { 2 ≤ result }
-    ensures written { drop result bytes.new ≡ digits 16 false value }
+/// Writes the spelling of an address so that it ends before `end`, and returns where it begins: at
+/// most 18 bytes earlier.
+#[inline]
+#[tactic(auto, using(crate::proofs::Hex::length_hex_le))]
+pub fn address_before(bytes: &mut [u8], end: usize, value: u64) -> usize
+    requires room { 18 ≤ end }
+    requires within { end ≤ length bytes.old }
+    ensures start { result ≤ end }
+    ensures most { end ≤ result + 18 }
+    ensures written { drop result bytes.new ≡ spelled_address value ++ drop end bytes.old }
 {
-    let mut left = value;
-    let mut at = 18;
-    'digits: while left >= 16 {
-        at -= 1;
-        bytes[at] = glyph_of((left % 16) as u8);
-        left /= 16;
-    }
-    at -= 1;
-    bytes[at] = glyph_of(left as u8);
-    at
-}
-
-// The hexadecimal digit in lower case for a value below 16.
-fn glyph_of(digit: u8) -> u8
-    requires { digit < 16 }
-    ensures { result ≡ digit_glyph false digit }
-{
-    if digit < 10 {
-        b'0' + digit
-    } else {
-        b'a' - 10 + digit
-    }
+    let start = write_hex(value, bytes, end);
+    bytes[start - 1] = b'x';
+    bytes[start - 2] = b'0';
+    start - 2
 }

@@ -3,6 +3,8 @@
 
 /// Hexadecimal addresses: reading and writing.
 mod address;
+/// Hexadecimal digits, written from the last to the first.
+mod hex_digits;
 /// What reading and spelling have to do with each other.
 mod laws;
 /// The lines of a text and the words of a line.
@@ -12,7 +14,7 @@ mod number;
 #[cfg(test)]
 mod tests;
 
-pub use address::{read_address, write_address};
+pub use address::{address_before, read_address, write_address};
 pub use laws::{
     address_is_spelled, decimal_has_digits, decimal_is_read, front_is_stripped, line_is_taken,
     no_line_is_taken, no_word_is_taken, number_is_decimal, spelled_address_has_digits,
@@ -20,4 +22,4 @@ pub use laws::{
     word_is_taken,
 };
 pub use line::{next_line, next_word, same_text, strip};
-pub use number::{read_number, read_number_8, read_number_32, write_number};
+pub use number::{number_before, read_number, read_number_8, read_number_32, write_number};

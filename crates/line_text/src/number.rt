@@ -1,4 +1,4 @@
-ghost use Rattle.std.specs.Prelude.{◌≡◌, ◌++◌, ◌≤◌, ◌^◌, ◌-◌, IfSome, OnErr, OnOk};
+ghost use Rattle.std.specs.Prelude.{◌≡◌, ◌++◌, ◌+◌, ◌≤◌, ◌^◌, ◌-◌, length, drop, IfSome, OnErr, OnOk};
 ghost use Rattle.std.specs.Fmt.{decimal};
 ghost use Rattle.line_text.specs.Number.{digits_up_to, number, with_digit_up_to};
 
@@ -41,6 +41,19 @@ pub fn write_number(out: &mut Vec<u8>, value: u64) -> Result<(), AllocError>
     let mut digits = [0; 20];
     let start = write_digits(value, &mut digits, 20);
     out.extend_from_slice(&digits[start..])
+}
+
+/// Writes the decimal spelling of a number so that it ends before `end`, and returns where it
+/// begins: at most 20 bytes earlier.
+#[inline]
+pub fn number_before(bytes: &mut [u8], end: usize, value: u64) -> usize
+    requires room { 20 ≤ end }
+    requires within { end ≤ length bytes.old }
+    ensures start { result ≤ end }
+    ensures most { end ≤ result + 20 }
+    ensures written { drop result bytes.new ≡ decimal value ++ drop end bytes.old }
+{
+    write_digits(value, bytes, end)
 }
 
 // The number of a word of digits, if it is at most `most`.

@@ -93,6 +93,14 @@ fn writes_numbers_and_addresses(rt: HostRuntime) -> Result<(), Fail> {
 }
 
 #[test]
+fn writes_before_what_stands_there(rt: HostRuntime) {
+    let mut bytes = [b'.'; 48];
+    let address = address_before(&mut bytes, 44, 0x7f00_0000_1000);
+    let number = number_before(&mut bytes, address, 65_536);
+    assert!(rt; same_text(&bytes[number..], b"655360x7f0000001000...."));
+}
+
+#[test]
 fn laws_are_called() {
     decimal_is_read();
     number_is_decimal();

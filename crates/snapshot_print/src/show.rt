@@ -2,14 +2,14 @@ ghost use Rattle.std.specs.Prelude.{◌≡◌, ◌+◌, ◌≤◌, ◌++◌, tak
 ghost use Rattle.std.specs.Fmt.{decimal};
 ghost use Rattle.std.specs.List.{AllByRecursion};
 ghost use Rattle.damon_types.specs.Space.{pages_of};
-ghost use Rattle.line_text.specs.Address.{spelled_address};
-ghost use Rattle.snapshot_print.specs.Lines.{count_part, end_text, phase_name, place_part, row_line, row_lines, show_line, show_text, state_text};
+ghost use Rattle.snapshot_print.specs.Lines.{end_text, phase_name, row_line, row_lines, show_line, show_text, state_text};
 ghost use Rattle.snapshot_print.specs.Kept.{KeepsFront};
 
 use crate::Form;
+use crate::row_text::row_before;
 use damon_core::Monitor;
-use damon_types::{PAGE_SIZE, Row, Space};
-use line_text::{write_address, write_number};
+use damon_types::{Row, Space};
+use line_text::write_number;
 use live_commit::Phase;
 use region_list::Regions;
 use std::alloc::{AllocError, Global};
@@ -129,35 +129,9 @@ fn print_row(out: &mut Vec<u8>, row: &Row, space: &Space) -> Result<(), AllocErr
     ensures ok { OnOk result (out.new.items ≡ out.old.items ++ row_line space.now row.now) }
     ensures kept { KeepsFront out.old.items out.new.items }
 {
-    row_place(out, row, space)?;
-    row_counts(out, row)
-}
-
-// Appends where a row lies.
-#[tactic(auto, using(crate::proofs::Appending::keeping))]
-fn row_place(out: &mut Vec<u8>, row: &Row, space: &Space) -> Result<(), AllocError>
-    requires some { 1 ≤ row.now.pages }
-    requires within { row.now.start + row.now.pages ≤ pages_of space.now }
-    ensures ok { OnOk result (out.new.items ≡ out.old.items ++ place_part space.now row.now) }
-    ensures kept { KeepsFront out.old.items out.new.items }
-{
-    let from = space.addr_of(row.start).addr;
-    let to = from + PAGE_SIZE * u64::from(row.pages);
-    print_field(out, b"row ", u64::from(row.target))?;
-    print_address(out, b" ", from)?;
-    print_address(out, b"-", to)
-}
-
-// Appends what was counted of a row.
-#[tactic(auto, using(crate::proofs::Appending::keeping))]
-fn row_counts(out: &mut Vec<u8>, row: &Row) -> Result<(), AllocError>
-    ensures ok { OnOk result (out.new.items ≡ out.old.items ++ count_part row.now) }
-    ensures kept { KeepsFront out.old.items out.new.items }
-{
-    print_field(out, b" count=", u64::from(row.count))?;
-    print_field(out, b" last=", u64::from(row.last))?;
-    print_field(out, b" age=", u64::from(row.age))?;
-    end_line(out)
+    let mut line = [0; 144];
+    let start = row_before(&mut line, 144, row, space);
+    out.extend_from_slice(&line[start..])
 }
 
 // Appends a text and a word.
@@ -178,16 +152,6 @@ fn print_field(out: &mut Vec<u8>, name: &[u8], value: u64) -> Result<(), AllocEr
 {
     out.extend_from_slice(name)?;
     write_number(out, value)
-}
-
-// Appends a text and an address.
-#[tactic(auto, using(crate::proofs::Appending::keeping))]
-fn print_address(out: &mut Vec<u8>, name: &[u8], value: u64) -> Result<(), AllocError>
-    ensures ok { OnOk result (out.new.items ≡ out.old.items ++ name.now ++ spelled_address value) }
-    ensures kept { KeepsFront out.old.items out.new.items }
-{
-    out.extend_from_slice(name)?;
-    write_address(out, value)
 }
 
 // Ends a line.
