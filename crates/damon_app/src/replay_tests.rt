@@ -7,17 +7,37 @@ use std::process::Abort;
 use std::test::Fail;
 
 // A target of three pages, each of which is watched.
-const HEAD: &str =
-    "damon script 1\nseed 42\nunit 1\ncap 8\nattrs 3 8 5\ntarget 0x10000 3\nrange 0 0x10000 0x13000 0\nbegin\n";
+const HEAD: &str = "\
+damon script 1
+seed 42
+unit 1
+cap 8
+attrs 3 8 5
+target 0x10000 3
+range 0 0x10000 0x13000 0
+begin
+";
 
 // A pass of eight steps, with a touch after the pages were cleared and before they are checked.
 const TOUCHED: &str = "step 4\ntouch 0 0x11000\nstep 4\nshow\n";
 
-const ONE_HIT: &str =
-    "show tick=1 phase=idle rows=3\nrow 0 0x10000-0x11000 count=0 last=0 age=0\nrow 0 0x11000-0x12000 count=1 last=0 age=0\nrow 0 0x12000-0x13000 count=0 last=0 age=0\nend ticks=1 rows=3 checks=3 hits=1\n";
+// What is written where the touch is counted.
+const ONE_HIT: &str = "\
+show tick=1 phase=idle rows=3
+row 0 0x10000-0x11000 count=0 last=0 age=0
+row 0 0x11000-0x12000 count=1 last=0 age=0
+row 0 0x12000-0x13000 count=0 last=0 age=0
+end ticks=1 rows=3 checks=3 hits=1
+";
 
-const NO_HIT: &str =
-    "show tick=1 phase=idle rows=3\nrow 0 0x10000-0x11000 count=0 last=0 age=0\nrow 0 0x11000-0x12000 count=0 last=0 age=0\nrow 0 0x12000-0x13000 count=0 last=0 age=0\nend ticks=1 rows=3 checks=3 hits=0\n";
+// What is written where no touch is counted.
+const NO_HIT: &str = "\
+show tick=1 phase=idle rows=3
+row 0 0x10000-0x11000 count=0 last=0 age=0
+row 0 0x11000-0x12000 count=0 last=0 age=0
+row 0 0x12000-0x13000 count=0 last=0 age=0
+end ticks=1 rows=3 checks=3 hits=0
+";
 
 // The words of a command line.
 fn words_of(alloc: Global, words: &[&str]) -> Result<Vec<String>, AllocError> {
