@@ -8,6 +8,10 @@ mod output;
 /// The top call.
 mod replay;
 /// How a run ends.
+#[cfg(test)]
+mod fakes;
+#[cfg(test)]
+mod replay_tests;
 mod status;
 #[cfg(test)]
 mod tests;

@@ -19,7 +19,9 @@ use damon_control::{Script, read_script};
 use damon_types::{Sink, Source};
 use damon_world::World;
 use rand_core::Rng;
-use script_run::{finish, open_world, run_command, script_states_are_bound, steps_before_due, steps_within};
+use script_run::{
+    finish, open_world, run_command, script_states_are_bound, steps_before_due, steps_within,
+};
 use snapshot_print::Form;
 use std::alloc::Global;
 
@@ -67,11 +69,7 @@ fn asks_replay(words: &[String]) -> bool
 }
 
 // Reads a script and writes its report.
-fn replay<S: Source, K: Sink>(
-    alloc: Global,
-    source: &mut S,
-    sink: &mut K,
-) -> Result<(), Status>
+fn replay<S: Source, K: Sink>(alloc: Global, source: &mut S, sink: &mut K) -> Result<(), Status>
     ensures { IsAnswer INPUT_LIMIT (record { bytes = S.left source.old; faults = S.faults source.old }) (record { bytes = S.left source.new; faults = S.faults source.new }) (record { bytes = K.taken sink.old; faults = K.faults sink.old }) (record { bytes = K.taken sink.new; faults = K.faults sink.new }) (sink.new ≡ sink.old) (status_of result) }
 {
     let bytes = read_all(alloc, source)?;

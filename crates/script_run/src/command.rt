@@ -44,7 +44,7 @@ pub fn run_command<R: Rng + Drop>(
     ensures text { OnOk result (out.new.items ≡ out.old.items ++ command_text form world.old.monitor.core command) }
     ensures progress { OnOk result ((s : ScriptValue) (rest : List command_type) (text : List ℕ) → Progress R.stream form s world.old (command ∷ rest) text → Progress R.stream form s world.new rest (text ++ command_text form world.old.monitor.core command)) }
     ensures err { OnErr result (out.new.items ≡ out.old.items) }
-    ensures stays { OnErr result (world.new ≡ world.old) }
+    ensures unmoved { OnErr result (world.new ≡ world.old) }
 
     // What a caller needs for the next command.
     ensures space_stays { world.new.monitor.core.space ≡ world.old.monitor.core.space }

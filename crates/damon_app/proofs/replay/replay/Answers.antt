@@ -13,24 +13,24 @@ returns-in_err-bytes g c =
     let p = err_from_is_err_and c.from_residual.result c.from_residual.ensures.1 in
     let failed = c.in_err-bytes.ensures in
     rw (p.1, p.2) (not_read INPUT_LIMIT
-      (record { bytes = g.S.Source.left c.args.source.now; faults = g.S.Source.faults c.args.source.now })
-      (record { bytes = g.S.Source.left c.read_all.new.source; faults = g.S.Source.faults c.read_all.new.source })
-      (record { bytes = g.K.Sink.taken c.args.sink.now; faults = g.K.Sink.faults c.args.sink.now })
-      (record { bytes = g.K.Sink.taken c.args.sink.now; faults = g.K.Sink.faults c.args.sink.now })
-      (c.args.sink.now ≡ c.args.sink.now) c.in_err-bytes.field-0.0 refl
-      (λ e. failed.too_long (ap (λ x. Err x) e)) (λ e. failed.within (ap (λ x. Err x) e)) (λ e. failed.cause (ap (λ x. Err x) e)))
+    (record { bytes = g.S.Source.left c.args.source.now; faults = g.S.Source.faults c.args.source.now })
+    (record { bytes = g.S.Source.left c.read_all.new.source; faults = g.S.Source.faults c.read_all.new.source })
+    (record { bytes = g.K.Sink.taken c.args.sink.now; faults = g.K.Sink.faults c.args.sink.now })
+    (record { bytes = g.K.Sink.taken c.args.sink.now; faults = g.K.Sink.faults c.args.sink.now })
+    (c.args.sink.now ≡ c.args.sink.now) c.in_err-bytes.field-0.0 refl
+    (λ e. failed.too_long (ap (λ x. Err x) e)) (λ e. failed.within (ap (λ x. Err x) e)) (λ e. failed.cause (ap (λ x. Err x) e)))
 
 pub returns-in_err-script : goal.returns-in_err-script
 returns-in_err-script g c =
     let p = err_from_is_err_and c.from_residual-in_err-script.result c.from_residual-in_err-script.ensures.1 in
     let read = c.in_ok-bytes.ensures in
     rw (p.1, p.2) (not_spelled INPUT_LIMIT
-      (record { bytes = g.S.Source.left c.args.source.now; faults = g.S.Source.faults c.args.source.now })
-      (record { bytes = g.S.Source.left c.read_all.new.source; faults = g.S.Source.faults c.read_all.new.source })
-      (record { bytes = g.K.Sink.taken c.args.sink.now; faults = g.K.Sink.faults c.args.sink.now })
-      (record { bytes = g.K.Sink.taken c.args.sink.now; faults = g.K.Sink.faults c.args.sink.now })
-      (c.args.sink.now ≡ c.args.sink.now) c.in_ok-bytes.bytes.items c.in_err-script.field-0.0 refl read.all read.end read.limit
-      (λ e. subst (λ bs. script_of bs ≡ None) c.deref.ensures.value (c.in_err-script.ensures.not_yet (ap (λ x. Err x) e))))
+    (record { bytes = g.S.Source.left c.args.source.now; faults = g.S.Source.faults c.args.source.now })
+    (record { bytes = g.S.Source.left c.read_all.new.source; faults = g.S.Source.faults c.read_all.new.source })
+    (record { bytes = g.K.Sink.taken c.args.sink.now; faults = g.K.Sink.faults c.args.sink.now })
+    (record { bytes = g.K.Sink.taken c.args.sink.now; faults = g.K.Sink.faults c.args.sink.now })
+    (c.args.sink.now ≡ c.args.sink.now) c.in_ok-bytes.bytes.items c.in_err-script.field-0.0 refl read.all read.end read.limit
+    (λ e. subst (λ bs. script_of bs ≡ None) c.deref.ensures.value (c.in_err-script.ensures.not_yet (ap (λ x. Err x) e))))
 
 pub returns-in_err-write_report : goal.returns-in_err-write_report
 returns-in_err-write_report g c =
@@ -40,13 +40,13 @@ returns-in_err-write_report g c =
     let script = said_by c.in_ok-script.script in
     let spells = ap script_of (sym c.deref.ensures.value) ∙ c.in_ok-script.ensures.script in
     rw (p.1, p.2) (not_run INPUT_LIMIT
-      (record { bytes = g.S.Source.left c.args.source.now; faults = g.S.Source.faults c.args.source.now })
-      (record { bytes = g.S.Source.left c.read_all.new.source; faults = g.S.Source.faults c.read_all.new.source })
-      (record { bytes = g.K.Sink.taken c.args.sink.now; faults = g.K.Sink.faults c.args.sink.now })
-      (record { bytes = g.K.Sink.taken c.write_report.new.sink; faults = g.K.Sink.faults c.write_report.new.sink })
-      (c.write_report.new.sink ≡ c.args.sink.now) c.in_ok-bytes.bytes.items script c.in_err-write_report.field-0.0
-      read.all read.end read.limit spells failed.answers
-      (λ e. failed.none_written (ap (λ x. Err x) e)) (λ e. failed.not_yet (ap (λ x. Err x) e)) (λ e. failed.unwritten (ap (λ x. Err x) e)) (λ e. failed.cause (ap (λ x. Err x) e)) failed.part)
+    (record { bytes = g.S.Source.left c.args.source.now; faults = g.S.Source.faults c.args.source.now })
+    (record { bytes = g.S.Source.left c.read_all.new.source; faults = g.S.Source.faults c.read_all.new.source })
+    (record { bytes = g.K.Sink.taken c.args.sink.now; faults = g.K.Sink.faults c.args.sink.now })
+    (record { bytes = g.K.Sink.taken c.write_report.new.sink; faults = g.K.Sink.faults c.write_report.new.sink })
+    (c.write_report.new.sink ≡ c.args.sink.now) c.in_ok-bytes.bytes.items script c.in_err-write_report.field-0.0
+    read.all read.end read.limit spells failed.answers
+    (λ e. failed.none_written (ap (λ x. Err x) e)) (λ e. failed.not_yet (ap (λ x. Err x) e)) (λ e. failed.unwritten (ap (λ x. Err x) e)) (λ e. failed.cause (ap (λ x. Err x) e)) failed.part)
 
 pub returns : goal.returns
 returns g c =
@@ -56,16 +56,16 @@ returns g c =
     let bytes = c.in_ok-bytes.bytes.items in
     let is_script : IsScript bytes script = record { spells = ap script_of (sym c.deref.ensures.value) ∙ c.in_ok-script.ensures.script; comes_to_none = ran.none_ok } in
     replayed INPUT_LIMIT
-      (record { bytes = g.S.Source.left c.args.source.now; faults = g.S.Source.faults c.args.source.now })
-      (record { bytes = g.S.Source.left c.read_all.new.source; faults = g.S.Source.faults c.read_all.new.source })
-      (record { bytes = g.K.Sink.taken c.args.sink.now; faults = g.K.Sink.faults c.args.sink.now })
-      (record { bytes = g.K.Sink.taken c.write_report.new.sink; faults = g.K.Sink.faults c.write_report.new.sink })
-      (c.write_report.new.sink ≡ c.args.sink.now) bytes read.all read.end read.limit
-      (record {
-        script = script;
-        is_script = is_script;
-        fit = ran.fit;
-        bound = λ front rest is. c.script_states_are_bound.ensures script front rest ran.can_open ran.fit is;
-        report = ran.all;
-      })
-      (inr (script, is_script, WritesPart-whole (g.K.Sink.taken c.args.sink.now) (g.K.Sink.taken c.write_report.new.sink) (report_of script) ran.all))
+    (record { bytes = g.S.Source.left c.args.source.now; faults = g.S.Source.faults c.args.source.now })
+    (record { bytes = g.S.Source.left c.read_all.new.source; faults = g.S.Source.faults c.read_all.new.source })
+    (record { bytes = g.K.Sink.taken c.args.sink.now; faults = g.K.Sink.faults c.args.sink.now })
+    (record { bytes = g.K.Sink.taken c.write_report.new.sink; faults = g.K.Sink.faults c.write_report.new.sink })
+    (c.write_report.new.sink ≡ c.args.sink.now) bytes read.all read.end read.limit
+    (record {
+      script = script;
+      is_script = is_script;
+      fit = ran.fit;
+      bound = λ front rest is. c.script_states_are_bound.ensures script front rest ran.can_open ran.fit is;
+      report = ran.all;
+    })
+    (inr (script, is_script, WritesPart-whole (g.K.Sink.taken c.args.sink.now) (g.K.Sink.taken c.write_report.new.sink) (report_of script) ran.all))
