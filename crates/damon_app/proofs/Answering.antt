@@ -1,5 +1,5 @@
 -- What the answer of a replay says, failure by failure.
-use Rattle.std.proofs.Common.{◌≡◌, ◌≢◌, ◌⊎◌, inl, inr, ℕ, ◌≤◌, List, [], ◌++◌, length, Option, Some, None, refl, sym, ap, ◌∙◌, subst, append-nil}
+use Rattle.std.proofs.Common.{◌≡◌, ◌⊎◌, inl, inr, ℕ, ◌≤◌, List, ◌++◌, length, Option, Some, None, refl, sym, ap, ◌∙◌, subst, append-nil}
 use Rattle.std.specs.Prelude.{◌↔◌, IsSome, IfSome}
 use Rattle.std.specs.Io.KnownBytes.{Consumes, IsAtEnd}
 use Rattle.damon_types.specs.Causes.{Rose}
@@ -14,7 +14,7 @@ use Rattle.damon_app.specs.declared.status.Status.TheVariants as statuses
 use Rattle.damon_app.specs.Given.{GaveOver, GaveUpTo}
 use Rattle.damon_app.specs.Taken.{WritesPart}
 use Rattle.damon_app.specs.Causes.{input_status, read_status}
-use Rattle.damon_app.specs.Replay.{IsScript, NoScript, Replays, WritesFront, IsRead, IsUnwritten, EndsRun, report_of}
+use Rattle.damon_app.specs.Replay.{NoScript, Replays, WritesFront, EndsRun, report_of}
 use Rattle.damon_app.specs.Answers.{Ends, IsAnswer}
 use Rattle.damon_app.proofs.Known.{GaveUpTo-not_over}
 

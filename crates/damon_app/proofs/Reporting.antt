@@ -1,17 +1,15 @@
 -- A report that is handed over piece by piece.
-use Rattle.std.proofs.Common.{◌≡◌, ◌⊎◌, inl, inr, ℕ, ◌+◌, ◌≤◌, List, [], ◌++◌, Option, refl, sym, ap, ◌∙◌, subst}
-use Rattle.std.specs.Io.KnownBytes.{Appends}
+use Rattle.std.proofs.Common.{ℕ, List, Option, subst}
 use Rattle.rand_core.specs.Stream.{Stream}
 use Rattle.damon_control.specs.declared.script.Command.{Command}
 use Rattle.damon_control.specs.Script.{ScriptValue}
 use Rattle.damon_world.specs.Stands.{WorldView}
-use Rattle.snapshot_print.specs.declared.form.Form.{Form}
 use Rattle.snapshot_print.specs.declared.form.Form.TheVariants.{Text}
 use Rattle.script_run.specs.Report.{text_from}
 use Rattle.script_run.specs.Unfold.{events_from}
 use Rattle.script_run.specs.Played.{Progress}
 use Rattle.damon_app.specs.Replay.{report_of}
-use Rattle.damon_app.specs.Taken.{WritesPart, Written}
+use Rattle.damon_app.specs.Taken.{WritesPart}
 use Rattle.damon_app.proofs.Known.{WritesPart-longer}
 
 -- a front of the text so far is a front of the report

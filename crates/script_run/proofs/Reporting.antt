@@ -1,23 +1,23 @@
 -- The text of a script's events, command by command.
-use Rattle.std.proofs.Common.{◌≡◌, ℕ, zero, suc, ◌+◌, List, [], ◌∷◌, ◌++◌, refl, sym, ap, ◌∙◌, subst, append_assoc, Bool, true, false, cond}
+use Rattle.std.proofs.Common.{◌≡◌, ℕ, zero, suc, List, [], ◌∷◌, ◌++◌, refl, sym, ap, ◌∙◌, subst, append_assoc, Bool, true, false, cond}
 use Rattle.std.specs.Prelude.{◌==◌}
 use Rattle.rand_core.specs.Stream.{Stream}
 use Rattle.live_commit.specs.declared.phase.Phase.{Phase}
 use Rattle.live_commit.specs.declared.phase.Phase.TheVariants.{Idle, Clearing, Armed, Checking, Void, Due}
-use Rattle.damon_core.specs.State.{State, Core, opening, row_count}
-use Rattle.damon_core.specs.Event.{Event, touch, show, observe, load, next_hit}
+use Rattle.damon_core.specs.State.{State, Core, row_count}
+use Rattle.damon_core.specs.Event.{Event, touch, observe, load, next_hit}
 use Rattle.damon_core.specs.After.{after}
-use Rattle.damon_core.specs.Reached.{run, AllFit, Reached}
-use Rattle.damon_world.specs.Stands.{WorldView, StandsFor, IsEvent}
+use Rattle.damon_core.specs.Reached.{AllFit, Reached}
+use Rattle.damon_world.specs.Stands.{WorldView, IsEvent}
 use Rattle.damon_world.specs.Moment.{Moment, event_in, next_event, stepped_times, events_of_steps}
 use Rattle.damon_control.specs.declared.script.Command.{Command}
 use Rattle.damon_control.specs.declared.script.Command.TheVariants.{Touch, Step, Show}
 use Rattle.damon_control.specs.Script.{ScriptValue}
 use Rattle.snapshot_print.specs.declared.form.Form.{Form}
-use Rattle.script_run.specs.Unfold.{events_of, played, events_from, unfold_script}
-use Rattle.script_run.specs.Report.{event_text, text_from, report, command_text}
-use Rattle.script_run.specs.Played.{StandsAt, Plays, Progress}
-use Rattle.script_run.proofs.Runs.{run-append, AllFit-append, Reached-run, run-events_of_steps, run-events_of}
+use Rattle.script_run.specs.Unfold.{events_of, played, events_from}
+use Rattle.script_run.specs.Report.{event_text, text_from, command_text}
+use Rattle.script_run.specs.Played.{Plays, Progress}
+use Rattle.script_run.proofs.Runs.{AllFit-append, Reached-run, run-events_of}
 
 silent_choice : (form : Form) (b : Bool) (s : State) → event_text form s (cond b observe (load (next_hit s))) ≡ []
 silent_choice form true s = refl

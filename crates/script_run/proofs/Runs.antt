@@ -1,20 +1,20 @@
 -- Events one after another.
-use Rattle.std.proofs.Common.{◌≡◌, ℕ, zero, suc, ◌+◌, List, [], ◌∷◌, ◌++◌, refl, sym, ap, ◌∙◌, subst, append_assoc}
+use Rattle.std.proofs.Common.{◌≡◌, ℕ, zero, suc, List, [], ◌∷◌, ◌++◌, refl, sym, ap, ◌∙◌, subst}
 use Rattle.rand_core.specs.Stream.{Stream}
 use Rattle.live_commit.specs.declared.phase.Phase.{Phase}
 use Rattle.live_commit.specs.declared.phase.Phase.TheVariants.{Idle, Clearing, Armed, Checking, Void, Due}
 use Rattle.std.specs.Prelude.{Bool, true, false, cond, ◌==◌}
 use Rattle.damon_core.specs.State.{State, Core, opening, row_count}
-use Rattle.damon_core.specs.Event.{Event, touch, show, Fits, ByHit, observe, load, next_hit}
+use Rattle.damon_core.specs.Event.{Event, Fits, ByHit, observe, load, next_hit}
 use Rattle.damon_core.specs.After.{after}
-use Rattle.damon_core.specs.Reached.{run, AllFit, AllByHit, CanOpen, Reached, ReachedByHit}
+use Rattle.damon_core.specs.Reached.{run, AllFit, AllByHit, Reached}
 use Rattle.damon_world.specs.Draws.{drawn_rest}
 use Rattle.damon_world.specs.Stands.{WorldView, StandsFor}
-use Rattle.damon_world.specs.Moment.{Moment, draws, event_in, next_event, stepped, stepped_times, events_of_steps}
+use Rattle.damon_world.specs.Moment.{Moment, draws, event_in, next_event, stepped_times, events_of_steps}
 use Rattle.damon_control.specs.declared.script.Command.{Command}
 use Rattle.damon_control.specs.declared.script.Command.TheVariants.{Touch, Step, Show}
 use Rattle.script_run.specs.Unfold.{events_of, played, events_from}
-use Rattle.script_run.specs.Played.{StandsAt, MakesSteps}
+use Rattle.script_run.specs.Played.{MakesSteps}
 
 pub run-append : (s : State) (es fs : List Event) → run s (es ++ fs) ≡ run (run s es) fs
 run-append s [] fs = refl

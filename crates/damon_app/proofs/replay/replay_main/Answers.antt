@@ -1,4 +1,3 @@
-use Rattle.std.proofs.Common.{[], refl}
 use Rattle.damon_app.proofs.Known.{GaveUpTo-none, GaveUpTo-not_over}
 use Rattle.damon_app.proofs.replay.replay_main.Goals as goal
 

@@ -1,4 +1,4 @@
-use Rattle.std.proofs.Common.{refl, subst, ◌++◌, List}
+use Rattle.std.proofs.Common.{refl, subst, List}
 use Rattle.damon_core.specs.State.{opening}
 use Rattle.damon_core.specs.Event.{Event}
 use Rattle.damon_core.specs.Reached.{AllFit, AllByHit, run}

@@ -1,4 +1,4 @@
-use Rattle.std.proofs.Common.{[], refl, ap, sym, ◌∙◌, length, arith}
+use Rattle.std.proofs.Common.{[], refl, ap, ◌∙◌, length, arith}
 use Rattle.region_list.specs.Regions.{RegionList}
 use Rattle.rand_core.specs.Steps.{stream_of, steps_u32}
 use Rattle.rand_pcg.specs.Pcg.{pcg32}
