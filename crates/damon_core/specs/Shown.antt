@@ -42,5 +42,6 @@ abbrev pub ended : Phase → MonitorView → MonitorView
 ended Void m = record m { core = passed_core m.core }
 ended phase m = let counted = with_counts m in record counted { core = passed_core counted.core }
 
+-- the pass under way has ended
 abbrev pub after_observe : MonitorView → MonitorView
 after_observe m = ended m.core.phase m
