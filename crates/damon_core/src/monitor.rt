@@ -58,8 +58,8 @@ impl Model for Monitor {
 }
 
 impl Monitor {
-    /// A monitor before its first pass, with the division of the setup's one range as its rows. Takes
-    /// memory; no other call does.
+    /// A monitor before its first pass, with the division of the setup's one range as its rows: a setup
+    /// of more ranges is not taken yet. Takes memory; no other call does.
     pub fn new(alloc: Global, setup: &Setup) -> Result<Monitor, AllocError>
         requires { length setup.now.ranges.list ≡ 1 }
         ensures core { IfOk result (λ m. m.core ≡ opening_core (value_of setup.now)) }
@@ -142,7 +142,8 @@ impl Monitor {
         &self.picks
     }
 
-    /// Prepares a pass: picks a page of each row, that of row i by word i.
+    /// Prepares a pass: picks a page of each row, that of row i by word i. No pass is under way and no
+    /// aggregation is due, and there are as many words as rows.
     pub fn prepare(&mut self, words: &[u32])
         requires idle { self.old.core.phase ≡ Phase.Idle }
         requires words { length words.now ≡ row_count self.old.core }
@@ -158,7 +159,7 @@ impl Monitor {
         self.phase = Phase::Clearing { next: 0 };
     }
 
-    /// The page of pick `k` of the pass under way.
+    /// The page of pick `k`, one for each row, of the pass under way.
     pub fn pick(&self, k: u32) -> u32
         requires pass { IsInPass self.now.core.phase }
         requires within { k < row_count self.now.core }
@@ -169,7 +170,7 @@ impl Monitor {
         self.picks.page(k)
     }
 
-    /// Takes note that the page of the next pick was cleared.
+    /// Takes note that the page of the next pick was cleared. The phase is Clearing.
     pub fn cleared(&mut self)
         requires { IsClearing self.old.core.phase }
         ensures shown { self.new ≡ after_clear self.old }
@@ -180,7 +181,8 @@ impl Monitor {
         }
     }
 
-    /// Takes note that the page of the next pick was loaded, with this result.
+    /// Takes note that the page of the next pick was loaded, with this result. Each pick is cleared,
+    /// and not each is loaded.
     pub fn loaded(&mut self, hit: bool)
         requires { IsLoading self.old.core.phase (row_count self.old.core) }
         ensures shown { self.new ≡ after_load hit self.old }
@@ -194,7 +196,8 @@ impl Monitor {
         self.phase = Phase::Checking { next: index + 1 };
     }
 
-    /// Ends the pass. One that is not void raises the count of each row whose load was a hit.
+    /// Ends the pass, of which each pick is loaded, or which is void. One that is not void raises the
+    /// count of each row whose load was a hit. The passes in all are below 2^40.
     pub fn observe(&mut self)
         requires phase { IsObserving self.old.core.phase (row_count self.old.core) }
         requires ticks { self.old.core.ticks < 2 ^ 40 }

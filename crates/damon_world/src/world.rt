@@ -55,7 +55,8 @@ impl<R: Rng> Model for World<R> {
 }
 
 impl<R: Rng + Drop> World<R> {
-    /// A world before its first event: no page was touched. Takes memory; no other call does.
+    /// A world before its first event: no page was touched. The setup has one range. Takes memory; no
+    /// other call does.
     pub fn new(alloc: Global, setup: &Setup, source: R) -> Result<World<R>, AllocError>
         requires { length setup.now.ranges.list ≡ 1 }
         ensures core { IfOk result (λ w. w.monitor.core ≡ opening_core (value_of setup.now)) }
@@ -80,7 +81,8 @@ impl<R: Rng + Drop> World<R> {
         &self.monitor
     }
 
-    /// Touches a page, and gives the tag: the pass that cleared the page last, 0 where none did.
+    /// Touches a page of the space, and gives the tag: the pass that cleared the page last, 0 where
+    /// none did.
     pub fn touch(&mut self, page: u32) -> u64
         requires { page < pages_of self.old.monitor.core.space }
         ensures tag { result ≡ slice_index self.old.words page / 2 }
@@ -93,8 +95,8 @@ impl<R: Rng + Drop> World<R> {
         word / 2
     }
 
-    /// Carries out the monitor's next step. An aggregation is not carried out yet. The passes in all
-    /// are below 2^40.
+    /// Carries out the monitor's next step. No aggregation is due, as none is carried out yet. The
+    /// passes in all are below 2^40.
     pub fn step(&mut self) -> Stepped
         requires not_due { self.old.monitor.core.phase ≢ Phase.Due }
         requires ticks { self.old.monitor.core.ticks < 2 ^ 40 }

@@ -26,7 +26,8 @@ pub fn steps_of(command: Command) -> u32
 }
 
 /// Carries out a command, and appends the text that it causes. Where memory runs out, nothing is
-/// appended and the world stays as it was.
+/// appended and the world stays as it was. The space is the world's; a page that is touched is one of
+/// its pages; and the steps come to no aggregation.
 pub fn run_command<R: Rng + Drop>(
     alloc: Global,
     world: &mut World<R>,

@@ -24,8 +24,8 @@ use std::alloc::{AllocError, Global};
 // The stream of the generator whose words a script's steps draw.
 const STREAM: u64 = 54;
 
-/// A world before the first command of a script, whose random words are those of the script's seed.
-/// Takes memory.
+/// A world before the first command of a script of one range, whose random words are those of the
+/// script's seed. Takes memory.
 pub fn open_world(alloc: Global, script: &Script) -> Result<World<Lcg64Xsh32>, AllocError>
     requires { length script.now.setup.ranges.list ≡ 1 }
 
@@ -57,7 +57,7 @@ pub fn steps_within(commands: &[Command], most: u64) -> bool
     true
 }
 
-/// How many steps a world can make before an aggregation is due.
+/// How many steps a world can make before an aggregation is due, from where the script starts.
 pub fn steps_before_due<R: Rng + Drop>(world: &World<R>, script: &Script) -> u64
     requires { world.now.monitor.core ≡ opening_core (value_of script.now.setup) }
     ensures steps { result ≡ steps_to_due (opening_core (value_of script.now.setup)) }
@@ -68,7 +68,8 @@ pub fn steps_before_due<R: Rng + Drop>(world: &World<R>, script: &Script) -> u64
     u64::from(attrs.aggr) * (2 * u64::from(rows) + 2)
 }
 
-/// Appends the last line of the report. Where memory runs out, nothing is appended.
+/// Appends the last line of the report. The space is the world's. Where memory runs out, nothing is
+/// appended.
 pub fn finish<R: Rng + Drop>(
     alloc: Global,
     world: &World<R>,
