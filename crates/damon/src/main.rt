@@ -57,3 +57,6 @@ fn number_of(status: Status) -> u8 {
         Status::NotYet => 11,
     }
 }
+
+#[cfg(test)]
+mod tests;
