@@ -7,3 +7,6 @@ pub mod Span
 pub mod Space
 pub mod Layout
 pub mod Within
+pub mod Filters
+pub mod Scheme
+pub mod Listed

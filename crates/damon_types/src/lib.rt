@@ -3,8 +3,12 @@
 
 /// The attributes of a monitor, and their limits.
 mod attrs;
+/// Filters of pages, and lists of them.
+mod filter;
 /// That the pages of a space are numbered without gaps.
 mod laws;
+/// Lists that grow.
+mod list;
 /// Streams over memory.
 mod memory;
 /// Ranges as they are asked for and as they are watched.
@@ -13,11 +17,15 @@ mod range;
 mod reserved;
 /// The region as a monitor keeps it.
 mod row;
+/// Schemes, and their limits.
+mod scheme;
 /// Targets, their pages and addresses.
 mod space;
 /// Streams over the reader and the writer of std.
 mod standard;
 /// Where bytes come from and go to.
+#[cfg(test)]
+mod scheme_tests;
 mod stream;
 #[cfg(test)]
 mod stream_tests;
@@ -25,11 +33,16 @@ mod stream_tests;
 mod value_tests;
 
 pub use attrs::{Attrs, AttrsFault};
+pub use filter::{Filter, FilterKind, Filters, Full, MAX_FILTERS};
 pub use laws::pages_are_numbered;
+pub use list::{PlainList, RangeSpecs, SlotChanges};
 pub use memory::{MemSink, MemSource};
 pub use range::{Range, RangeSpec, Ranges};
 pub use reserved::append_reserved;
 pub use row::Row;
+pub use scheme::{
+    Action, Marks, Pattern, Prefer, Quota, Scheme, SchemeFault, SlotChange, Span, Weights,
+};
 pub use space::{PAGE_SIZE, Place, Space, SpaceFault, Target};
 pub use standard::{StdSink, StdSource};
 pub use stream::{Failed, Sink, Source};

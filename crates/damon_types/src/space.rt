@@ -1,5 +1,5 @@
 ghost use Rattle.std.specs.Prelude.{◌≡◌, ℕ, ◌+◌, ◌^◌, ◌≤◌, ◌<◌, length, slice_get, slice_index, IfOk};
-ghost use Rattle.damon_types.specs.Space.{pages_of, offset, page_of, place_of, IsSpace, ChecksTo, MadeOf};
+ghost use Rattle.damon_types.specs.Space.{checked, pages_of, offset, page_of, place_of, IsSpace, ChecksTo, MadeOf};
 
 use std::alloc::{AllocError, Global};
 use std::marker::Model;
@@ -78,7 +78,8 @@ impl Model for Space {
 
 impl Space {
     /// A space of these targets, or the first limit that they break: of the list, then of a
-    /// target by its index, its pages before its base, then of all pages. Takes memory.
+    /// target by its index, its pages before its base, then of all pages. The list has fewer than
+    /// 2^32 targets. Takes memory.
     pub fn new(alloc: Global, targets: &[Target]) -> Result<Space, SpaceFault>
         requires { length targets.now < 2 ^ 32 }
         ensures exact { MadeOf targets.now result }
@@ -97,6 +98,16 @@ impl Space {
             }),
             Err(_) => Err(SpaceFault::Memory),
         }
+    }
+
+    /// Whether these targets make a space, or else the first limit that they break, as [`Space::new`]
+    /// answers it. The list has fewer than 2^32 targets. Takes no memory.
+    pub fn check(targets: &[Target]) -> Result<(), SpaceFault>
+        requires { length targets.now < 2 ^ 32 }
+        ensures { result ≡ checked targets.now }
+    {
+        check_targets(targets)?;
+        Ok(())
     }
 
     /// The number of targets.
