@@ -3,9 +3,9 @@ use Rattle.std.proofs.Common.{◌≡◌, ◌⊎◌, inl, inr, ℕ, ◌≤◌, Li
 use Rattle.std.specs.Prelude.{◌↔◌, IsSome, IfSome}
 use Rattle.std.specs.Io.KnownBytes.{Consumes, IsAtEnd}
 use Rattle.damon_types.specs.Causes.{Rose}
-use Rattle.damon_control.specs.Script.{ScriptValue, script_of}
-use Rattle.damon_control.specs.declared.reader.ReadFail.{ReadFail}
-use Rattle.damon_control.specs.declared.reader.ReadFail.TheVariants as reads
+use Rattle.plain_script.specs.Script.{ScriptValue, script_of}
+use Rattle.plain_script.specs.declared.reader.ReadFail.{ReadFail}
+use Rattle.plain_script.specs.declared.reader.ReadFail.TheVariants as reads
 use Rattle.script_run.specs.Unfold.{ComesToNone}
 use Rattle.damon_app.specs.declared.input.InputFault.{InputFault}
 use Rattle.damon_app.specs.declared.input.InputFault.TheVariants as inputs

@@ -1,8 +1,8 @@
 -- A report that is handed over piece by piece.
 use Rattle.std.proofs.Common.{ℕ, List, Option, subst}
 use Rattle.rand_core.specs.Stream.{Stream}
-use Rattle.damon_control.specs.declared.script.Command.{Command}
-use Rattle.damon_control.specs.Script.{ScriptValue}
+use Rattle.plain_script.specs.declared.script.Command.{Command}
+use Rattle.plain_script.specs.Script.{ScriptValue}
 use Rattle.damon_world.specs.Stands.{WorldView}
 use Rattle.snapshot_print.specs.declared.form.Form.TheVariants.{Text}
 use Rattle.script_run.specs.Report.{text_from}

@@ -3,8 +3,8 @@ use Rattle.damon_app.specs.declared.input.InputFault.{InputFault}
 use Rattle.damon_app.specs.declared.input.InputFault.TheVariants as inputs
 use Rattle.damon_app.specs.declared.status.Status.{Status}
 use Rattle.damon_app.specs.declared.status.Status.TheVariants as statuses
-use Rattle.damon_control.specs.declared.reader.ReadFail.{ReadFail}
-use Rattle.damon_control.specs.declared.reader.ReadFail.TheVariants as reads
+use Rattle.plain_script.specs.declared.reader.ReadFail.{ReadFail}
+use Rattle.plain_script.specs.declared.reader.ReadFail.TheVariants as reads
 
 -- the answer where an input was not read to its end
 abbrev pub input_status : InputFault → Status

@@ -6,7 +6,7 @@ use Rattle.damon_core.specs.State.{opening}
 use Rattle.damon_core.specs.Event.{Event}
 use Rattle.damon_core.specs.Reached.{AllFit, run}
 use Rattle.damon_core.specs.Bound.{Bound}
-use Rattle.damon_control.specs.Script.{ScriptValue, script_of}
+use Rattle.plain_script.specs.Script.{ScriptValue, script_of}
 use Rattle.snapshot_print.specs.declared.form.Form.TheVariants.{Text}
 use Rattle.script_run.specs.Unfold.{unfold_script, ComesToNone}
 use Rattle.script_run.specs.Report.{report}

@@ -2,8 +2,8 @@ ghost use Rattle.std.specs.Prelude.{◌≡◌, ◌≢◌, ◌+◌, ◌^◌, ◌<
 ghost use Rattle.std.specs.Io.KnownBytes.{Appends, IsAtEnd};
 ghost use Rattle.damon_types.specs.Causes.{Rose};
 ghost use Rattle.damon_types.specs.Space.{pages_of};
-ghost use Rattle.damon_control.specs.Limits.{TouchesWithin};
-ghost use Rattle.damon_control.specs.ScriptView.{said_by};
+ghost use Rattle.plain_script.specs.Limits.{TouchesWithin};
+ghost use Rattle.plain_script.specs.ScriptView.{said_by};
 ghost use Rattle.damon_core.specs.State.{opening, opening_core};
 ghost use Rattle.damon_core.specs.Reached.{AllFit, CanOpen};
 ghost use Rattle.live_commit.specs.SetupView.{value_of};
@@ -15,7 +15,7 @@ ghost use Rattle.damon_app.specs.Answers.{IsAnswer, status_of};
 ghost use Rattle.damon_app.specs.Replay.{AsksReplay, EndsRun, IsRead, IsUnwritten, NoScript, Replays, WritesFront, report_of};
 
 use crate::{INPUT_LIMIT, Status, flush_if_full, read_all, write_all};
-use damon_control::{Script, read_script};
+use plain_script::{Script, read_script};
 use damon_types::{Sink, Source};
 use damon_world::World;
 use rand_core::Rng;

@@ -1,5 +1,5 @@
 use crate::InputFault;
-use damon_control::ReadFail;
+use plain_script::ReadFail;
 use damon_types::Failed;
 use std::alloc::AllocError;
 

@@ -10,9 +10,9 @@ use Rattle.damon_core.specs.After.{after}
 use Rattle.damon_core.specs.Reached.{AllFit, Reached}
 use Rattle.damon_world.specs.Stands.{WorldView, IsEvent}
 use Rattle.damon_world.specs.Moment.{Moment, event_in, next_event, stepped_times, events_of_steps}
-use Rattle.damon_control.specs.declared.script.Command.{Command}
-use Rattle.damon_control.specs.declared.script.Command.TheVariants.{Touch, Step, Show}
-use Rattle.damon_control.specs.Script.{ScriptValue}
+use Rattle.plain_script.specs.declared.script.Command.{Command}
+use Rattle.plain_script.specs.declared.script.Command.TheVariants.{Touch, Step, Show}
+use Rattle.plain_script.specs.Script.{ScriptValue}
 use Rattle.snapshot_print.specs.declared.form.Form.{Form}
 use Rattle.script_run.specs.Unfold.{events_of, played, events_from}
 use Rattle.script_run.specs.Report.{event_text, text_from, command_text}

@@ -11,8 +11,8 @@ use Rattle.damon_core.specs.Reached.{run, AllFit, AllByHit, Reached}
 use Rattle.damon_world.specs.Draws.{drawn_rest}
 use Rattle.damon_world.specs.Stands.{WorldView, StandsFor}
 use Rattle.damon_world.specs.Moment.{Moment, draws, event_in, next_event, stepped_times, events_of_steps}
-use Rattle.damon_control.specs.declared.script.Command.{Command}
-use Rattle.damon_control.specs.declared.script.Command.TheVariants.{Touch, Step, Show}
+use Rattle.plain_script.specs.declared.script.Command.{Command}
+use Rattle.plain_script.specs.declared.script.Command.TheVariants.{Touch, Step, Show}
 use Rattle.script_run.specs.Unfold.{events_of, played, events_from}
 use Rattle.script_run.specs.Played.{MakesSteps}
 

@@ -6,8 +6,8 @@ use Rattle.damon_core.specs.Reached.{AllFit, Reached}
 use Rattle.damon_world.specs.Stands.{WorldView, StandsFor}
 use Rattle.damon_world.specs.Moment.{Moment, stepped_times, events_of_steps}
 use Rattle.damon_world.specs.Left.{steps_to_due}
-use Rattle.damon_control.specs.declared.script.Command.{Command}
-use Rattle.damon_control.specs.Script.{ScriptValue}
+use Rattle.plain_script.specs.declared.script.Command.{Command}
+use Rattle.plain_script.specs.Script.{ScriptValue}
 use Rattle.snapshot_print.specs.declared.form.Form.{Form}
 use Rattle.script_run.specs.Unfold.{events_of, played, events_from, unfold_script}
 use Rattle.script_run.specs.Report.{text_from, report}

@@ -8,8 +8,8 @@ use Rattle.damon_core.specs.After.{after}
 use Rattle.snapshot_print.specs.declared.form.Form.{Form}
 use Rattle.snapshot_print.specs.Lines.{show_text, end_text}
 use Rattle.live_commit.specs.Setup.{SetupValue}
-use Rattle.damon_control.specs.declared.script.Command.{Command}
-use Rattle.damon_control.specs.declared.script.Command.TheVariants.{Touch, Step, Show}
+use Rattle.plain_script.specs.declared.script.Command.{Command}
+use Rattle.plain_script.specs.declared.script.Command.TheVariants.{Touch, Step, Show}
 
 -- what an event writes; the others write nothing
 abbrev pub event_text : Form → State → Event → List ℕ

@@ -9,9 +9,9 @@ use Rattle.damon_core.specs.Event.{Event, touch, show}
 use Rattle.damon_core.specs.After.{after}
 use Rattle.damon_world.specs.Moment.{Moment, stepped_times, events_of_steps}
 use Rattle.damon_world.specs.Left.{steps_to_due}
-use Rattle.damon_control.specs.declared.script.Command.{Command}
-use Rattle.damon_control.specs.declared.script.Command.TheVariants.{Touch, Step, Show}
-use Rattle.damon_control.specs.Script.{ScriptValue}
+use Rattle.plain_script.specs.declared.script.Command.{Command}
+use Rattle.plain_script.specs.declared.script.Command.TheVariants.{Touch, Step, Show}
+use Rattle.plain_script.specs.Script.{ScriptValue}
 
 -- the events of a command from a moment on, each step with the next random words
 abbrev pub events_of : Moment → Command → List Event

@@ -1,14 +1,14 @@
 ghost use Rattle.std.specs.Prelude.{◌≡◌, ◌+◌, ◌≤◌, ◌<◌, ◌∷◌, ◌++◌, ◌^◌, ℕ, List, OnErr, OnOk};
 ghost use Rattle.damon_types.specs.Space.{pages_of};
-ghost use Rattle.damon_control.specs.declared.script.Command.{Command as command_type};
-ghost use Rattle.damon_control.specs.Script.{ScriptValue};
-ghost use Rattle.damon_control.specs.Limits.{TouchesWithin};
+ghost use Rattle.plain_script.specs.declared.script.Command.{Command as command_type};
+ghost use Rattle.plain_script.specs.Script.{ScriptValue};
+ghost use Rattle.plain_script.specs.Limits.{TouchesWithin};
 ghost use Rattle.damon_world.specs.Left.{steps_to_due};
 ghost use Rattle.script_run.specs.Unfold.{steps_of as steps_in};
 ghost use Rattle.script_run.specs.Report.{command_text};
 ghost use Rattle.script_run.specs.Played.{CanStep, MakesSteps, Plays, Progress};
 
-use damon_control::Command;
+use plain_script::Command;
 use damon_types::Space;
 use damon_world::World;
 use rand_core::Rng;

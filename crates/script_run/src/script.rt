@@ -5,15 +5,15 @@ ghost use Rattle.damon_core.specs.Reached.{AllFit, CanOpen};
 ghost use Rattle.damon_core.specs.State.{opening, opening_core};
 ghost use Rattle.damon_world.specs.Left.{steps_to_due};
 ghost use Rattle.live_commit.specs.SetupView.{value_of};
-ghost use Rattle.damon_control.specs.Script.{ScriptValue};
-ghost use Rattle.damon_control.specs.ScriptView.{said_by};
+ghost use Rattle.plain_script.specs.Script.{ScriptValue};
+ghost use Rattle.plain_script.specs.ScriptView.{said_by};
 ghost use Rattle.snapshot_print.specs.declared.form.Form.{Form as form_type};
 ghost use Rattle.script_run.specs.Unfold.{steps_of as steps_in, unfold_script};
 ghost use Rattle.script_run.specs.Report.{report, shown_last};
 ghost use Rattle.script_run.specs.Played.{Progress};
 
 use crate::steps_of;
-use damon_control::{Command, Script};
+use plain_script::{Command, Script};
 use damon_types::Space;
 use damon_world::World;
 use rand_core::Rng;

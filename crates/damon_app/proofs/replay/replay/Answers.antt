@@ -1,7 +1,7 @@
 use Rattle.std.proofs.Common.{◌≡◌, inr, None, Err, ap, sym, ◌∙◌, subst, refl}
 use Rattle.std.proofs.lemmas.Result.{err_from_is_err_and}
-use Rattle.damon_control.specs.Script.{script_of}
-use Rattle.damon_control.specs.ScriptView.{said_by}
+use Rattle.plain_script.specs.Script.{script_of}
+use Rattle.plain_script.specs.ScriptView.{said_by}
 use Rattle.damon_app.specs.declared.input.TheConstants.{INPUT_LIMIT}
 use Rattle.damon_app.specs.Replay.{IsScript, report_of}
 use Rattle.damon_app.proofs.Known.{WritesPart-whole}

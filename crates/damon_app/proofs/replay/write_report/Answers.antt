@@ -6,9 +6,9 @@ use Rattle.std.specs.Prelude.{sum_by}
 use Rattle.std.specs.Io.KnownBytes.{Appends}
 use Rattle.rand_core.specs.Steps.{stream_of, steps_u32}
 use Rattle.rand_pcg.specs.Pcg.{pcg32}
-use Rattle.damon_control.specs.declared.script.Command.{Command}
-use Rattle.damon_control.specs.declared.script.Command.TheVariants.{Touch}
-use Rattle.damon_control.specs.ScriptView.{said_by}
+use Rattle.plain_script.specs.declared.script.Command.{Command}
+use Rattle.plain_script.specs.declared.script.Command.TheVariants.{Touch}
+use Rattle.plain_script.specs.ScriptView.{said_by}
 use Rattle.snapshot_print.specs.declared.form.Form.TheVariants.{Text}
 use Rattle.script_run.specs.Unfold.{steps_of}
 use Rattle.script_run.specs.Report.{command_text, shown_last}

@@ -1,5 +1,5 @@
 use Rattle.std.proofs.Common.{sym, subst}
-use Rattle.damon_control.specs.declared.script.Command.{Command}
+use Rattle.plain_script.specs.declared.script.Command.{Command}
 use Rattle.script_run.specs.Played.{Plays}
 use Rattle.script_run.proofs.Reporting.{progress_then, touch_plays}
 use Rattle.script_run.proofs.command.run_command.Goals as goal

@@ -4,7 +4,7 @@ use Rattle.rand_core.specs.Steps.{stream_of, steps_u32}
 use Rattle.rand_pcg.specs.Pcg.{pcg32}
 use Rattle.damon_core.specs.State.{Core}
 use Rattle.damon_core.specs.Stands.{MonitorView}
-use Rattle.damon_control.specs.ScriptView.{said_by}
+use Rattle.plain_script.specs.ScriptView.{said_by}
 use Rattle.script_run.specs.Unfold.{start}
 use Rattle.script_run.proofs.script.open_world.Goals as goal
 

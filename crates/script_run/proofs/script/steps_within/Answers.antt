@@ -1,6 +1,6 @@
 use Rattle.std.proofs.Common.{arith}
 use Rattle.std.proofs.lemmas.List.Sums.{sum_by_more_le}
-use Rattle.damon_control.specs.declared.script.Command.TheVariants.{Touch}
+use Rattle.plain_script.specs.declared.script.Command.TheVariants.{Touch}
 use Rattle.script_run.specs.Unfold.{steps_of}
 use Rattle.script_run.proofs.script.steps_within.Goals as goal
 

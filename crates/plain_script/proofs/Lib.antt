@@ -1,0 +1,5 @@
+mod Options
+mod LineLemmas
+mod BodyLemmas
+mod ScriptLemmas
+mod PageLemmas
