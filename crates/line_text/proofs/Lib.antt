@@ -2,6 +2,9 @@ pub mod Hex
 pub mod HexPairs
 pub mod Values
 pub mod Pieces
+pub mod Separators
+pub mod FewParts
+pub mod Plain
 pub mod Numbers
 pub mod Addresses
 mod Examples

@@ -5,6 +5,7 @@ use Rattle.std.specs.Fmt.{decimal, digits}
 use Rattle.line_text.specs.Address.{address, hex_digit, spelled_address}
 use Rattle.line_text.specs.Line.{after_prefix}
 use Rattle.line_text.specs.Number.{number}
+use Rattle.line_text.specs.Parts.{IsPiece, joined, parts}
 
 -- the decimal spelling of each number up to a limit is read as that number
 abbrev pub ReadsDecimal : Type 0
@@ -50,3 +51,16 @@ SpellsDigits = (n : ℕ) → n < 2 ^ 64 → All (λ c. IsTrue (is_ascii_digit c)
 -- the spelling of an address is `0x` and hexadecimal digits alone
 abbrev pub SpellsHexDigits : Type 0
 SpellsHexDigits = (n : ℕ) → n < 2 ^ 64 → All (λ c. IsSome (hex_digit c)) (digits 16 false n)
+
+-- pieces with none of the separator, put together, are taken apart again
+abbrev pub TakesApartPieces : Type 0
+TakesApartPieces = (separator : ℕ) (first : List ℕ) (others : List (List ℕ)) → All (IsPiece separator) (first ∷ others)
+    → parts separator (joined separator (first ∷ others)) ≡ first ∷ others
+
+-- the parts of bytes have none of the separator, and put together they are these bytes
+abbrev pub PutsPartsTogether : Type 0
+PutsPartsTogether = (separator : ℕ) (bytes : List ℕ) → (joined separator (parts separator bytes) ≡ bytes) × All (IsPiece separator) (parts separator bytes)
+
+-- bytes with the same parts are the same
+abbrev pub HasPartsAlone : Type 0
+HasPartsAlone = (separator : ℕ) (a b : List ℕ) → parts separator a ≡ parts separator b → a ≡ b

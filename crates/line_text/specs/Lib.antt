@@ -1,4 +1,5 @@
 pub mod Line
+pub mod Parts
 pub mod Number
 pub mod Address
 pub mod Laws

@@ -1,4 +1,4 @@
-ghost use Rattle.line_text.specs.Laws.{ReadsDecimal, ReadsOnlyDecimal, ReadsOnlySpelledAddress, ReadsSpelledAddress, SpellsDigits, SpellsHexDigits, StripsFront, StripsOnlyFront, TakesNoPiece, TakesOnlyPiece, TakesPiece};
+ghost use Rattle.line_text.specs.Laws.{HasPartsAlone, PutsPartsTogether, ReadsDecimal, ReadsOnlyDecimal, ReadsOnlySpelledAddress, ReadsSpelledAddress, SpellsDigits, SpellsHexDigits, StripsFront, StripsOnlyFront, TakesApartPieces, TakesNoPiece, TakesOnlyPiece, TakesPiece};
 ghost use Rattle.line_text.specs.Line.{first_line, first_word};
 
 /// The decimal spelling of a number of at most 64 bits is read as that number, under any limit
@@ -70,4 +70,19 @@ pub fn front_is_stripped()
 /// Where a front is taken off, the bytes were the front and what is left.
 pub fn stripped_front_was_first()
     ensures only { StripsOnlyFront }
+{}
+
+/// Pieces without the separator, at least one, are taken apart as they were put together.
+pub fn pieces_are_parts()
+    ensures read_back { TakesApartPieces }
+{}
+
+/// The parts of some bytes have no separator, and put together they are these bytes.
+pub fn parts_are_pieces()
+    ensures only { PutsPartsTogether }
+{}
+
+/// Bytes with the same parts are the same.
+pub fn bytes_have_their_parts()
+    ensures only { HasPartsAlone }
 {}

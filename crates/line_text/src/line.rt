@@ -1,13 +1,15 @@
-ghost use Rattle.std.specs.Prelude.{◌≡◌, ◌==◌, ◌<◌, ◌↔◌, IsTrue, IfSome, length, position};
+ghost use Rattle.std.specs.Prelude.{◌≡◌, ◌<◌, ◌↔◌, IsTrue, IfSome, length};
 ghost use Rattle.std.specs.Option.{option_copied};
-ghost use Rattle.line_text.specs.Line.{after_prefix, first_line, first_word, split_at_byte, view_pair};
+ghost use Rattle.line_text.specs.Line.{after_prefix, first_line, first_word, view_pair};
+
+use crate::parts::next_part;
 
 /// The first line of a text without its LF, and what follows the LF. `None` where there is no LF.
 pub fn next_line(text: &[u8]) -> Option<(&[u8], &[u8])>
     ensures exact { view_pair result ≡ first_line text.now }
     ensures shorter { IfSome result (λ x. length x.1.now < length text.now) }
 {
-    split_first(text, b'\n')
+    next_part(text, b'\n')
 }
 
 /// The first word of a line that has another word behind it, and what follows the one space
@@ -16,24 +18,7 @@ pub fn next_word(line: &[u8]) -> Option<(&[u8], &[u8])>
     ensures exact { view_pair result ≡ first_word line.now }
     ensures shorter { IfSome result (λ x. length x.1.now < length line.now) }
 {
-    split_first(line, b' ')
-}
-
-// What stands before the first of this byte, and what follows that byte.
-fn split_first(bytes: &[u8], byte: u8) -> Option<(&[u8], &[u8])>
-    ensures exact { view_pair result ≡ split_at_byte byte bytes.now }
-    ensures shorter { IfSome result (λ x. length x.1.now < length bytes.now) }
-{
-    let at = place_of(bytes, byte)?;
-    Some((&bytes[..at], &bytes[at + 1..]))
-}
-
-// Where the first of this byte stands.
-fn place_of(bytes: &[u8], byte: u8) -> Option<usize>
-    ensures exact { result ≡ position (λ c. c == byte) bytes.now }
-    ensures within { IfSome result (λ n. n < length bytes.now) }
-{
-    bytes.iter().position(|c| *c == byte)
+    next_part(line, b' ')
 }
 
 /// What follows `front` in the line, where the line begins with it.

@@ -72,6 +72,74 @@ fn takes_lines_and_words(rt: HostRuntime) -> Result<(), Fail> {
 }
 
 #[test]
+fn splits_at_the_first_separator(rt: HostRuntime) -> Result<(), Fail> {
+    let (key, value) = next_part(b"key=a=b", b'=').ok_or("no separator")?;
+    assert!(rt; same_text(key, b"key"));
+    assert!(rt; same_text(value, b"a=b"));
+    assert!(rt; next_part(b"key", b'=').is_none());
+    let (front, rest) = split_front(b"1,,2", b',');
+    assert!(rt; same_text(front, b"1"));
+    assert!(rt; same_text(rest.ok_or("no rest")?, b",2"));
+    let (front, rest) = split_front(b"", b',');
+    assert!(rt; front.is_empty());
+    assert!(rt; rest.is_none());
+    Ok(())
+}
+
+#[test]
+fn splits_into_so_many_parts(rt: HostRuntime) -> Result<(), Fail> {
+    let (a, b) = two_parts(b"4,", b',').ok_or("not two")?;
+    assert!(rt; same_text(a, b"4"));
+    assert!(rt; b.is_empty());
+    let (a, b, c) = three_parts(b"map  7", b' ').ok_or("not three")?;
+    assert!(rt; same_text(a, b"map"));
+    assert!(rt; b.is_empty());
+    assert!(rt; same_text(c, b"7"));
+    let (a, b, c, d) = four_parts(b"map 7 0x0 256", b' ').ok_or("not four")?;
+    assert!(rt; same_text(a, b"map"));
+    assert!(rt; same_text(b, b"7"));
+    assert!(rt; same_text(c, b"0x0"));
+    assert!(rt; same_text(d, b"256"));
+    Ok(())
+}
+
+#[test]
+fn refuses_other_counts_of_parts(rt: HostRuntime) {
+    for (text, parts) in [
+        (&b""[..], 1),
+        (b"a", 1),
+        (b"a,b", 2),
+        (b",,", 3),
+        (b"a,b,c,", 4),
+        (b"a,b,c,d,e", 5),
+    ] {
+        assert_eq!(rt; two_parts(text, b',').is_some(), parts == 2);
+        assert_eq!(rt; three_parts(text, b',').is_some(), parts == 3);
+        assert_eq!(rt; four_parts(text, b',').is_some(), parts == 4);
+    }
+}
+
+#[test]
+fn knows_plain_lines(rt: HostRuntime) {
+    for line in [&b"a"[..], b"touch 0 0x1000", b"!", b"~ ~"] {
+        assert!(rt; is_plain(line));
+    }
+    for line in [
+        &b""[..],
+        b" ",
+        b" a",
+        b"a ",
+        b"a  b",
+        b"a\tb",
+        b"a\x1f",
+        b"\x7f",
+        b"a\xffb",
+    ] {
+        assert!(rt; !is_plain(line));
+    }
+}
+
+#[test]
 fn writes_numbers_and_addresses(rt: HostRuntime) -> Result<(), Fail> {
     let mut out = Vec::new(rt.alloc());
     write_number(&mut out, 0)?;
@@ -116,4 +184,7 @@ fn laws_are_called() {
     no_word_is_taken();
     front_is_stripped();
     stripped_front_was_first();
+    pieces_are_parts();
+    parts_are_pieces();
+    bytes_have_their_parts();
 }
