@@ -1,9 +1,10 @@
--- Words that are read and refused, lines that are taken apart, and spellings.
-use Rattle.std.proofs.Common.{◌≡◌, ◌-◌, ◌^◌, [], codes, Some, None, decimal, refl}
+-- Words that are read and refused, lines that are taken apart, plain lines, and spellings.
+use Rattle.std.proofs.Common.{◌≡◌, ◌-◌, ◌^◌, true, false, [], ◌∷◌, codes, Some, None, decimal, refl}
 use Rattle.std.specs.Fmt.{digits}
 use Rattle.line_text.specs.Line.{first_line, first_word, after_prefix}
 use Rattle.line_text.specs.Number.{number}
 use Rattle.line_text.specs.Address.{address, spelled_address}
+use Rattle.line_text.specs.Parts.{four_of, is_plain, joined, parts, three_of, two_of}
 
 zero_is_read : number 0 (codes "0") ≡ Some 0
 zero_is_read = refl
@@ -92,3 +93,45 @@ address_is_spelled = refl
 zero_address_is_spelled : spelled_address 0 ≡ codes "0x0"
 unfolding digits
 zero_address_is_spelled = refl
+
+nothing_is_one_part : parts 32 [] ≡ [] ∷ []
+nothing_is_one_part = refl
+
+middle_part_is_empty : parts 32 (codes "a  b") ≡ codes "a" ∷ [] ∷ codes "b" ∷ []
+middle_part_is_empty = refl
+
+last_part_is_empty : parts 44 (codes "1,2,") ≡ codes "1" ∷ codes "2" ∷ [] ∷ []
+last_part_is_empty = refl
+
+parts_are_joined : joined 44 (codes "1" ∷ [] ∷ codes "2" ∷ []) ≡ codes "1,,2"
+parts_are_joined = refl
+
+two_parts_are_found : two_of (parts 61 (codes "size=4")) ≡ Some (codes "size", codes "4")
+two_parts_are_found = refl
+
+one_part_is_not_two : two_of (parts 61 (codes "size")) ≡ None
+one_part_is_not_two = refl
+
+three_parts_are_found : three_of (parts 44 (codes "1,,2")) ≡ Some (codes "1", [], codes "2")
+three_parts_are_found = refl
+
+three_parts_are_not_four : four_of (parts 44 (codes "1,,2")) ≡ None
+three_parts_are_not_four = refl
+
+words_are_plain : is_plain (codes "touch 0 ~") ≡ true
+words_are_plain = refl
+
+nothing_is_not_plain : is_plain (codes "") ≡ false
+nothing_is_not_plain = refl
+
+two_spaces_are_not_plain : is_plain (codes "a  b") ≡ false
+two_spaces_are_not_plain = refl
+
+last_space_is_not_plain : is_plain (codes "a ") ≡ false
+last_space_is_not_plain = refl
+
+delete_is_not_plain : is_plain (0x7f ∷ []) ≡ false
+delete_is_not_plain = refl
+
+unit_separator_is_not_plain : is_plain (0x1f ∷ []) ≡ false
+unit_separator_is_not_plain = refl

@@ -1,4 +1,4 @@
--- The parts of bytes between separators.
+-- The parts of bytes between separators, and plain lines.
 use Rattle.std.specs.Prelude.{◌≢◌, ℕ, ◌==◌, Bool, true, false, ◌&&◌, nat_le, List, [], ◌∷◌, All, Option, Some, None}
 use Rattle.std.specs.Option.{option_map}
 use Rattle.std.specs.List.{slice_split, join_with_byte, list_all}

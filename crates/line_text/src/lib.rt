@@ -1,4 +1,5 @@
-//! Lines of a text, words of a line, and decimal and hexadecimal numbers with one spelling each.
+//! Lines of a text, words of a line, parts between separators, and decimal and hexadecimal numbers
+//! with one spelling each.
 #![tactic(auto)]
 
 /// Hexadecimal addresses: reading and writing.
@@ -11,7 +12,7 @@ mod laws;
 mod line;
 /// Decimal numbers: reading and writing.
 mod number;
-/// The parts of bytes between separators.
+/// The parts of bytes between separators, and plain lines.
 mod parts;
 #[cfg(test)]
 mod tests;
