@@ -23,7 +23,8 @@ pub fn fill_ranges(
     ensures wide { OnOk result (All (λ g. unit ≤ g.pages) ranges.new.list) }
     ensures classes { OnOk result (All (λ g. g.class ≤ 15) ranges.new.list) }
 {
-    check_ranges(space, unit, ranges.cap(), specs)?;
+    let cap = ranges.cap();
+    check_ranges(space, unit, cap, specs)?;
     ranges.clear();
     for spec in specs {
         ranges.push(range_of(space, spec));
