@@ -1,0 +1,11 @@
+use Rattle.std.proofs.Common.{arith}
+use Rattle.std.proofs.lemmas.List.{length-map}
+use Rattle.target_ranges.specs.Made.{range_of}
+use Rattle.target_ranges.proofs.Made.{ranges_of-InOrder}
+use Rattle.target_ranges.proofs.laws.made_in_order.Goals as goal
+
+pub returns : goal.returns
+returns c = record {
+  order = λ ts unit room specs sound ok. ranges_of-InOrder ts unit room specs (omega (arith, sound.total)) ok;
+  count = λ ts specs. length-map specs (range_of ts);
+}

@@ -1,0 +1,98 @@
+ghost use Rattle.std.specs.Prelude.{◌≡◌, Some};
+ghost use Rattle.target_ranges.specs.Checked.{checked_in, checked_next, checked_ranges, overlaps as are_overlapping};
+
+use crate::{RangeFault, RangeWhy};
+use damon_types::{PAGE_SIZE, RangeSpec, Space, Target};
+
+const MOST_CLASS: u8 = 15;
+
+/// The first fault of a list of ranges in the space: they lie in targets by target, then address,
+/// without overlap, each from the first byte of a page to the last byte of one, with at least
+/// `unit` pages and a class of at most 15, and there are at most `cap` of them.
+pub fn check_ranges(
+    space: &Space,
+    unit: u32,
+    cap: u32,
+    specs: &[RangeSpec],
+) -> Result<(), RangeFault>
+    ensures exact { result ≡ checked_ranges space.now unit cap specs.now }
+{
+    for (index, spec) in specs.iter().enumerate() {
+        if let Err(why) = check_next(space, unit, cap, &specs[..index], spec) {
+            return Err(RangeFault {
+                index: index as u32,
+                why,
+            });
+        }
+    }
+    Ok(())
+}
+
+/// The first reason against one range more behind a list that has no fault. Looks at the length
+/// of the list and its last range alone.
+#[tactic(auto, using(crate::proofs::Last::last_by_index))]
+pub fn check_next(
+    space: &Space,
+    unit: u32,
+    cap: u32,
+    before: &[RangeSpec],
+    spec: &RangeSpec,
+) -> Result<(), RangeWhy>
+    ensures exact { result ≡ checked_next space.now unit cap before.now spec.now }
+{
+    if before.len() >= cap as usize {
+        return Err(RangeWhy::TooMany);
+    }
+    if spec.target >= space.targets() {
+        return Err(RangeWhy::NoSuchTarget);
+    }
+    check_in(
+        space.target(spec.target),
+        unit,
+        before.last().copied(),
+        spec,
+    )
+}
+
+// The first reason against a range in its target, behind the range before it.
+fn check_in(
+    target: Target,
+    unit: u32,
+    before: Option<RangeSpec>,
+    spec: &RangeSpec,
+) -> Result<(), RangeWhy>
+    ensures exact { result ≡ checked_in unit before spec.now (Some target) }
+{
+    if spec.from % PAGE_SIZE != 0 || spec.to % PAGE_SIZE != 0 {
+        return Err(RangeWhy::Unaligned);
+    }
+    if spec.from >= spec.to {
+        return Err(RangeWhy::Reversed);
+    }
+    let size = PAGE_SIZE * u64::from(target.pages);
+    if spec.from < target.base || spec.to - target.base > size {
+        return Err(RangeWhy::OutsideSpan);
+    }
+    if (spec.to - spec.from) / PAGE_SIZE < u64::from(unit) {
+        return Err(RangeWhy::TooSmall);
+    }
+    if spec.class > MOST_CLASS {
+        return Err(RangeWhy::BadClass);
+    }
+    if overlaps(before, spec) {
+        return Err(RangeWhy::Overlap);
+    }
+    Ok(())
+}
+
+// Whether a range does not come after the one before it, if there is one.
+fn overlaps(before: Option<RangeSpec>, spec: &RangeSpec) -> bool
+    ensures exact { result ≡ are_overlapping before spec.now }
+{
+    match before {
+        Some(last) => {
+            spec.target < last.target || spec.target == last.target && spec.from < last.to
+        }
+        None => false,
+    }
+}

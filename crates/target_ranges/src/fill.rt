@@ -1,0 +1,47 @@
+ghost use Rattle.std.specs.Prelude.{◌≡◌, ◌≤◌, ◌<◌, All, OnOk, OnErr, Ok};
+ghost use Rattle.damon_types.specs.Space.{IsSpace};
+ghost use Rattle.damon_types.specs.Within.{AreWithin};
+ghost use Rattle.target_ranges.specs.Checked.{checked_ranges};
+ghost use Rattle.target_ranges.specs.Made.{IsPlaced, range_of, ranges_of};
+
+use crate::{RangeFault, check_ranges};
+use damon_types::{PAGE_SIZE, Range, RangeSpec, Ranges, Space};
+
+/// Makes the list the ranges that the addresses stand for, if they have no fault at the list's
+/// capacity. Else the list stays as it was. Takes no memory.
+pub fn fill_ranges(
+    ranges: &mut Ranges,
+    space: &Space,
+    unit: u32,
+    specs: &[RangeSpec],
+) -> Result<(), RangeFault>
+    ensures exact { result ≡ checked_ranges space.now unit ranges.old.cap specs.now }
+    ensures made { OnOk result (ranges.new ≡ record ranges.old { list = ranges_of space.now specs.now }) }
+    ensures kept { OnErr result (ranges.new ≡ ranges.old) }
+    ensures within { OnOk result (AreWithin space.now ranges.new.list) }
+    ensures wide { OnOk result (All (λ g. unit ≤ g.pages) ranges.new.list) }
+    ensures classes { OnOk result (All (λ g. g.class ≤ 15) ranges.new.list) }
+{
+    check_ranges(space, unit, ranges.cap(), specs)?;
+    ranges.clear();
+    for spec in specs {
+        ranges.push(range_at(space, spec));
+    }
+    Ok(())
+}
+
+// The pages that a range stands for.
+fn range_at(space: &Space, spec: &RangeSpec) -> Range
+    requires { IsPlaced space.now spec.now }
+    ensures exact { result ≡ range_of space.now spec.now }
+    ensures sound { IsSpace space.now }
+{
+    prove!(spec.target < space.targets());
+    let first = space.page_of(spec.target, spec.from).unwrap();
+    Range {
+        target: spec.target,
+        first,
+        pages: ((spec.to - spec.from) / PAGE_SIZE) as u32,
+        class: spec.class,
+    }
+}
