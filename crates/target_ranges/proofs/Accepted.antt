@@ -5,7 +5,7 @@ use Rattle.std.specs.Prelude.{Bool, Option, Result, slice_get, nat_le, nat_lt}
 use Rattle.damon_types.specs.declared.space.Target.{Target}
 use Rattle.damon_types.specs.declared.range.RangeSpec.{RangeSpec}
 use Rattle.target_ranges.specs.declared.fault.RangeWhy.TheVariants.{TooMany, Unaligned, Reversed, OutsideSpan, TooSmall, BadClass, Overlap}
-use Rattle.target_ranges.specs.Checked.{checked_in, checked_range, is_aligned, lies_in, overlaps}
+use Rattle.target_ranges.specs.Checked.{checked_within, checked_range, is_aligned, lies_in, overlaps}
 use Rattle.target_ranges.specs.Made.{IsPlaced, page_count}
 
 -- a spec within its limits, behind the one before it
@@ -20,7 +20,7 @@ passed : {E : Type 0} (test : Bool) (e : E) (rest : Result (Unit {0}) E) → (if
 passed true e rest ok = absurd (cc)
 passed false e rest ok = (refl, ok)
 
-accepted_in : (ts : List Target) (unit : ℕ) (before : Option RangeSpec) (s : RangeSpec) (found : Option Target) → slice_get ts s.target ≡ found → checked_in unit before s found ≡ Ok tt → IsAccepted ts unit before s
+accepted_in : (ts : List Target) (unit : ℕ) (before : Option RangeSpec) (s : RangeSpec) (found : Option Target) → slice_get ts s.target ≡ found → checked_within unit before s found ≡ Ok tt → IsAccepted ts unit before s
 accepted_in ts unit before s None is ok = absurd (cc)
 accepted_in ts unit before s (Some t) is ok =
     let aligned = passed (not (is_aligned s)) Unaligned _ ok in

@@ -43,7 +43,7 @@ checked_from-push ts unit room index at before (r ∷ rest) s is ok =
 pub checked_ranges-push : (ts : List Target) (unit room : ℕ) (before : List RangeSpec) (s : RangeSpec) → checked_ranges ts unit room before ≡ Ok tt → checked_ranges ts unit room (before ++ s ∷ []) ≡ fault_at (length before) (checked_next ts unit room before s)
 checked_ranges-push ts unit room before s ok = checked_from-push ts unit room 0 (length before) None before s (omega arith) ok
 
--- a check that fails behind another one also fails in the place of one that it follows from
+-- two checks fail alike with a longer second one that fails alike
 and_fails : {E : Type 0} (r s longer : Result (Unit {0}) E) (e : E) → result_and r s ≡ Err e → (s ≡ Err e → longer ≡ Err e) → result_and r longer ≡ Err e
 and_fails (Ok tt) s longer e fails stays = stays fails
 and_fails (Err d) s longer e fails stays = fails

@@ -23,9 +23,9 @@ overlaps None s = false
 overlaps (Some p) s = nat_lt s.target p.target || ((s.target == p.target) && nat_lt s.from p.to)
 
 -- the first reason against a spec behind the one before it, in the target if that is there
-abbrev pub checked_in : ℕ → Option RangeSpec → RangeSpec → Option Target → Result (Unit {0}) RangeWhy
-checked_in unit before s None = Err NoSuchTarget
-checked_in unit before s (Some t) =
+abbrev pub checked_within : ℕ → Option RangeSpec → RangeSpec → Option Target → Result (Unit {0}) RangeWhy
+checked_within unit before s None = Err NoSuchTarget
+checked_within unit before s (Some t) =
     if not (is_aligned s) then Err Unaligned
     else if nat_le s.to s.from then Err Reversed
     else if not (lies_in t s) then Err OutsideSpan
@@ -36,7 +36,7 @@ checked_in unit before s (Some t) =
 
 -- the first reason against a spec with this index, behind the one before it
 abbrev pub checked_range : List Target → ℕ → ℕ → ℕ → Option RangeSpec → RangeSpec → Result (Unit {0}) RangeWhy
-checked_range ts unit cap index before s = if nat_le cap index then Err TooMany else checked_in unit before s (slice_get ts s.target)
+checked_range ts unit cap index before s = if nat_le cap index then Err TooMany else checked_within unit before s (slice_get ts s.target)
 
 -- the first reason against one spec more behind these
 abbrev pub checked_next : List Target → ℕ → ℕ → List RangeSpec → RangeSpec → Result (Unit {0}) RangeWhy

@@ -8,12 +8,12 @@ use Rattle.target_ranges.specs.declared.fault.RangeFault.{RangeFault}
 use Rattle.target_ranges.specs.Checked.{checked_next, checked_ranges, fault_at}
 use Rattle.target_ranges.specs.Made.{ranges_of}
 
--- behind specs without a fault, the fault of one more is the fault of all
+-- behind specs without a fault, one more decides: its first reason, at its index, is the fault of the longer list
 abbrev pub ChecksOneMore : Type 0
 ChecksOneMore =
     (ts : List Target) (unit cap : ℕ) (before : List RangeSpec) (s : RangeSpec) → checked_ranges ts unit cap before ≡ Ok tt → checked_ranges ts unit cap (before ++ s ∷ []) ≡ fault_at (length before) (checked_next ts unit cap before s)
 
--- the fault of some specs is the fault with more of them behind
+-- a fault stays the same with more specs behind
 abbrev pub KeepsFault : Type 0
 KeepsFault =
     (ts : List Target) (unit cap : ℕ) (specs more : List RangeSpec) (fault : RangeFault) → checked_ranges ts unit cap specs ≡ Err fault → checked_ranges ts unit cap (specs ++ more) ≡ Err fault

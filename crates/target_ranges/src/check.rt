@@ -1,14 +1,15 @@
 ghost use Rattle.std.specs.Prelude.{◌≡◌, Some};
-ghost use Rattle.target_ranges.specs.Checked.{checked_in, checked_next, checked_ranges, overlaps as are_overlapping};
+ghost use Rattle.target_ranges.specs.Checked.{checked_within, checked_next, checked_ranges, overlaps};
 
 use crate::{RangeFault, RangeWhy};
 use damon_types::{PAGE_SIZE, RangeSpec, Space, Target};
 
 const MOST_CLASS: u8 = 15;
 
-/// The first fault of a list of ranges in the space: they lie in targets by target, then address,
-/// without overlap, each from the first byte of a page to the last byte of one, with at least
-/// `unit` pages and a class of at most 15, and there are at most `cap` of them.
+/// Whether these ranges of addresses can be watched in the space: at most `cap` of them, by target,
+/// then address, without overlap, each of whole pages of its target, at least one of them and at
+/// least `unit`, and with a class of at most 15. The fault is that of the first range against which
+/// there is a reason, with the first such reason in the order of [`RangeWhy`].
 pub fn check_ranges(
     space: &Space,
     unit: u32,
@@ -28,8 +29,9 @@ pub fn check_ranges(
     Ok(())
 }
 
-/// The first reason against one range more behind a list that has no fault. Looks at the length
-/// of the list and its last range alone.
+/// Whether one range more can stand behind ranges that have no fault, or else the first reason
+/// against it. Looks at the number of these ranges and at the last of them alone, so it takes the
+/// same time behind any number of them.
 #[tactic(auto, using(crate::proofs::Last::last_by_index))]
 pub fn check_next(
     space: &Space,
@@ -46,7 +48,7 @@ pub fn check_next(
     if spec.target >= space.targets() {
         return Err(RangeWhy::NoSuchTarget);
     }
-    check_in(
+    check_within(
         space.target(spec.target),
         unit,
         before.last().copied(),
@@ -55,13 +57,13 @@ pub fn check_next(
 }
 
 // The first reason against a range in its target, behind the range before it.
-fn check_in(
+fn check_within(
     target: Target,
     unit: u32,
     before: Option<RangeSpec>,
     spec: &RangeSpec,
 ) -> Result<(), RangeWhy>
-    ensures exact { result ≡ checked_in unit before spec.now (Some target) }
+    ensures exact { result ≡ checked_within unit before spec.now (Some target) }
 {
     if spec.from % PAGE_SIZE != 0 || spec.to % PAGE_SIZE != 0 {
         return Err(RangeWhy::Unaligned);
@@ -87,7 +89,7 @@ fn check_in(
 
 // Whether a range does not come after the one before it, if there is one.
 fn overlaps(before: Option<RangeSpec>, spec: &RangeSpec) -> bool
-    ensures exact { result ≡ are_overlapping before spec.now }
+    ensures exact { result ≡ overlaps before spec.now }
 {
     match before {
         Some(last) => {

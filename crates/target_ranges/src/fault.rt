@@ -1,4 +1,5 @@
-/// Why a range is refused. Of several reasons the first in the order of the variants counts.
+/// A reason against a range of addresses. Of several reasons the first in the order of the variants
+/// counts.
 #[derive(Clone, Copy, Debug, PartialEq, Eq)]
 pub enum RangeWhy {
     /// As many ranges as there is room for come before it.
@@ -11,7 +12,7 @@ pub enum RangeWhy {
     Reversed,
     /// It begins below its target, or ends above it.
     OutsideSpan,
-    /// It has fewer pages than a region must have.
+    /// It has fewer than `unit` pages.
     TooSmall,
     /// Its class is above 15.
     BadClass,
@@ -20,7 +21,7 @@ pub enum RangeWhy {
     Overlap,
 }
 
-/// The first range of a list that is refused.
+/// The fault of a list of ranges: the first range that cannot stand there.
 #[derive(Clone, Copy, Debug, PartialEq, Eq)]
 pub struct RangeFault {
     /// The index of the range in the list.

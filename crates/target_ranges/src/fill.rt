@@ -7,8 +7,9 @@ ghost use Rattle.target_ranges.specs.Made.{IsPlaced, range_of, ranges_of};
 use crate::{RangeFault, check_ranges};
 use damon_types::{PAGE_SIZE, Range, RangeSpec, Ranges, Space};
 
-/// Makes the list the ranges that the addresses stand for, if they have no fault at the list's
-/// capacity. Else the list stays as it was. Takes no memory.
+/// Checks ranges of addresses as [`check_ranges`] does, with the capacity of `ranges` as `cap`, and
+/// makes `ranges` the pages that they stand for. Where they have a fault, `ranges` stays as it was.
+/// Takes no memory.
 pub fn fill_ranges(
     ranges: &mut Ranges,
     space: &Space,
@@ -22,16 +23,17 @@ pub fn fill_ranges(
     ensures wide { OnOk result (All (λ g. unit ≤ g.pages) ranges.new.list) }
     ensures classes { OnOk result (All (λ g. g.class ≤ 15) ranges.new.list) }
 {
-    check_ranges(space, unit, ranges.cap(), specs)?;
+    let cap = ranges.cap();
+    check_ranges(space, unit, cap, specs)?;
     ranges.clear();
     for spec in specs {
-        ranges.push(range_at(space, spec));
+        ranges.push(range_of(space, spec));
     }
     Ok(())
 }
 
-// The pages that a range stands for.
-fn range_at(space: &Space, spec: &RangeSpec) -> Range
+// The pages of a range of addresses, whole ones of its target.
+fn range_of(space: &Space, spec: &RangeSpec) -> Range
     requires { IsPlaced space.now spec.now }
     ensures exact { result ≡ range_of space.now spec.now }
     ensures sound { IsSpace space.now }

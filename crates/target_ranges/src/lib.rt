@@ -1,14 +1,14 @@
-//! Ranges that a user writes by addresses: their first fault, and the ranges of pages that they
-//! stand for.
+//! Ranges that a user writes by addresses: the first fault of a list, and the pages that a list
+//! without one stands for.
 #![tactic(auto)]
 
-/// The first fault of a list of ranges.
+/// The first fault of a list.
 mod check;
-/// Why a range is refused.
+/// Faults of ranges.
 mod fault;
-/// The ranges of pages that addresses stand for.
+/// The pages that addresses stand for.
 mod fill;
-/// What the faults of lists have to do with each other.
+/// What a fault has to do with longer lists, and with the pages.
 mod laws;
 #[cfg(test)]
 mod tests;

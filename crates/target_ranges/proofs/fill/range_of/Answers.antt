@@ -3,7 +3,7 @@ use Rattle.damon_types.specs.Space.{offset}
 use Rattle.target_ranges.specs.Made.{base_of}
 use Rattle.target_ranges.proofs.Made.{few_pages}
 use Rattle.target_ranges.proofs.Offsets.{base_of_there, page_of_there}
-use Rattle.target_ranges.proofs.fill.range_at.Goals as goal
+use Rattle.target_ranges.proofs.fill.range_of.Goals as goal
 
 pub returns-clause-exact : goal.returns-clause-exact
 returns-clause-exact c =
