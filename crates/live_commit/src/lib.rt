@@ -15,6 +15,8 @@ mod phase;
 mod setup;
 /// The slots of a setup.
 mod slots;
+#[cfg(test)]
+mod tests;
 
 pub use commit::Commit;
 pub use fault::SetupFault;
