@@ -1,2 +1,6 @@
+pub mod Slots
 pub mod Setup
+pub mod Checked
 pub mod SetupView
+pub mod Commit
+pub mod Laws

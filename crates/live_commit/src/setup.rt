@@ -1,6 +1,6 @@
 ghost use Rattle.live_commit.specs.Setup.{IsSetup};
 
-use damon_types::{Attrs, Ranges, Space};
+use damon_types::{Attrs, Ranges, SlotChanges, Space};
 
 /// What a monitor is started with. Its type keeps the limits of its parts.
 #[derive(Drop)]
@@ -16,5 +16,7 @@ pub struct Setup {
     /// The ranges that are watched, from 1 to `attrs.max`, each in its target and with at least
     /// `unit` pages.
     pub ranges: Ranges,
-    pub ghost sound: { IsSetup (record { space = space; unit = unit; cap = cap; attrs = attrs; ranges = ranges.list }) },
+    /// The slots that hold a scheme, each with one within its limits, and each at most once.
+    pub slots: SlotChanges,
+    pub ghost sound: { IsSetup (record { space = space; unit = unit; cap = cap; attrs = attrs; ranges = ranges.list; slots = slots.list }) },
 }

@@ -1,0 +1,53 @@
+-- What parts keep that have no fault.
+use Rattle.std.proofs.Common.{◌≡◌, ℕ, ◌≤◌, List, length, Ok, arith}
+use Rattle.std.proofs.lemmas.Bool.Decides.{nat_tests}
+use Rattle.std.specs.Result.{result_and}
+use Rattle.damon_types.specs.declared.attrs.Attrs.{Attrs}
+use Rattle.damon_types.specs.declared.range.RangeSpec.{RangeSpec}
+use Rattle.damon_types.specs.declared.space.Target.{Target}
+use Rattle.damon_types.specs.Attrs.{checked_attrs}
+use Rattle.target_ranges.specs.Checked.{checked_ranges}
+use Rattle.live_commit.specs.Checked.{attrs_fault, checked_cap, checked_count, checked_limits, checked_max, checked_unit, checked_watched, range_fault}
+use Rattle.live_commit.proofs.Changes.{both_ok}
+
+unit_kept : (unit : ℕ) → checked_unit unit ≡ Ok tt → (1 ≤ unit) × (unit ≤ 1048576)
+unit_kept unit ok = (grind (arith, nat_tests), grind (arith, nat_tests))
+
+cap_kept : (cap : ℕ) → checked_cap cap ≡ Ok tt → (3 ≤ cap) × (cap ≤ 4096)
+cap_kept cap ok = (grind (arith, nat_tests), grind (arith, nat_tests))
+
+max_kept : (max cap : ℕ) → checked_max max cap ≡ Ok tt → max ≤ cap
+max_kept max cap ok = grind (arith, nat_tests)
+
+count_kept : (ranges max : ℕ) → checked_count ranges max ≡ Ok tt → ranges ≤ max
+count_kept ranges max ok = grind (arith, nat_tests)
+
+-- the limits of the numbers
+pub record AreLimits (unit cap max : ℕ) : Type 0 where
+  pub unit_some : 1 ≤ unit
+  pub unit_most : unit ≤ 1048576
+  pub cap_some : 3 ≤ cap
+  pub cap_most : cap ≤ 4096
+  pub max_cap : max ≤ cap
+
+pub limits_kept : (unit cap : ℕ) (a : Attrs) → checked_limits unit cap a ≡ Ok tt → AreLimits unit cap a.max
+limits_kept unit cap a ok =
+    let first = both_ok (checked_unit unit) _ ok in
+    let second = both_ok (checked_cap cap) _ first.1 in
+    let third = both_ok (attrs_fault (checked_attrs a)) (checked_max a.max cap) second.1 in
+    let units = unit_kept unit first.0 in
+    let caps = cap_kept cap second.0 in
+    record {
+      unit_some = units.0;
+      unit_most = units.1;
+      cap_some = caps.0;
+      cap_most = caps.1;
+      max_cap = max_kept a.max cap third.1;
+    }
+
+-- the number of ranges
+pub watched_kept : (space : List Target) (unit cap max : ℕ) (specs : List RangeSpec) → checked_watched space unit cap max specs ≡ Ok tt → (1 ≤ length specs) × (length specs ≤ max)
+watched_kept space unit cap max specs ok =
+    let some : 1 ≤ length specs = grind (arith, nat_tests) in
+    let rest : result_and (range_fault (checked_ranges space unit cap specs)) (checked_count (length specs) max) ≡ Ok tt = grind (arith, nat_tests) in
+    (some, count_kept (length specs) max (both_ok (range_fault (checked_ranges space unit cap specs)) (checked_count (length specs) max) rest).1)

@@ -1,0 +1,69 @@
+// The changes of slots that a setup begins with.
+ghost use Rattle.std.specs.Prelude.{◌≡◌, ◌<◌, ◌^◌, ◌-◌, [], ◌∷◌, ◌++◌, length, IfOk, OnOk};
+ghost use Rattle.std.specs.List.{list_any};
+ghost use Rattle.live_commit.specs.Slots.{checked_slot, checked_slots, kept_slots, sets};
+
+use crate::SetupFault;
+use damon_types::{SlotChange, SlotChanges};
+use std::alloc::{AllocError, Global};
+
+// The first fault of changes.
+pub fn check_slots(changes: &[SlotChange]) -> Result<(), SetupFault>
+    requires { length changes.now < 2 ^ 32 }
+    ensures exact { result ≡ checked_slots changes.now }
+{
+    for (index, change) in changes.iter().enumerate() {
+        check_slot(&changes[..index], change)?;
+    }
+    Ok(())
+}
+
+// The fault of one change behind others.
+fn check_slot(before: &[SlotChange], change: &SlotChange) -> Result<(), SetupFault>
+    requires { length before.now < 2 ^ 32 }
+    ensures exact { result ≡ checked_slot (length before.now) before.now change.now }
+{
+    let Some(scheme) = &change.scheme else {
+        return Ok(());
+    };
+    let index = before.len() as u32;
+    if let Err(why) = scheme.check(change.slot) {
+        return Err(SetupFault::BadScheme { index, why });
+    }
+    if is_set(before, change.slot) {
+        return Err(SetupFault::RepeatedSlot { index });
+    }
+    Ok(())
+}
+
+// Whether one of the changes sets the slot.
+fn is_set(changes: &[SlotChange], slot: u8) -> bool
+    ensures exact { result ≡ list_any (sets slot) changes.now }
+{
+    changes
+        .iter()
+        .any(|change| change.scheme.is_some() && change.slot == slot)
+}
+
+// The changes that have a scheme.
+pub fn keep_slots(alloc: Global, changes: &[SlotChange]) -> Result<SlotChanges, AllocError>
+    requires { length changes.now < 2 ^ 32 }
+    ensures exact { IfOk result (λ l. l.list ≡ kept_slots changes.now) }
+{
+    let mut kept = SlotChanges::new(alloc);
+    for change in changes {
+        keep_slot(&mut kept, change)?;
+    }
+    Ok(kept)
+}
+
+// Appends a change that has a scheme.
+fn keep_slot(kept: &mut SlotChanges, change: &SlotChange) -> Result<(), AllocError>
+    requires { length kept.old.list < 2 ^ 32 - 1 }
+    ensures exact { OnOk result (kept.new.list ≡ kept.old.list ++ kept_slots (change.now ∷ [])) }
+{
+    if change.scheme.is_some() {
+        kept.push(*change)?;
+    }
+    Ok(())
+}
