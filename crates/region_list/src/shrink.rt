@@ -89,3 +89,6 @@ fn closer(first: Option<Pair>, next: Pair) -> Pair
         _ => next,
     }
 }
+
+#[cfg(test)]
+mod tests;
