@@ -39,7 +39,7 @@ fn closest(rows: &[Row], ranges: &Ranges) -> usize
     ensures first { result ≡ closest_of ranges.now.list rows.now }
     ensures order { InOrder ranges.now.list }
 {
-    // The call tells that the ranges are in order.
+    // This call tells that the ranges are in order, and that their number fits.
     let _count = ranges.len();
     let mut range = 0;
     let mut end = end_at(ranges, range);
@@ -54,13 +54,11 @@ fn closest(rows: &[Row], ranges: &Ranges) -> usize
             if difference == 0 {
                 return index;
             }
-            best = Some(closer(
-                best,
-                Pair {
-                    first: index,
-                    difference,
-                },
-            ));
+            let next = Pair {
+                first: index,
+                difference,
+            };
+            best = Some(closer(best, next));
         }
     }
     match best {
