@@ -1,19 +1,10 @@
 -- Joins of rows.
-use Rattle.std.proofs.Common.{◌≡◌, ℕ, zero, suc, ◌+◌, ◌*◌, ◌^◌, ◌-◌, ◌≤◌, ◌<◌, List, [], ◌∷◌, length, get_or, set, refl, ap, ◌∙◌, add-one, arith}
-use Rattle.std.specs.List.{remove}
-use Rattle.std.specs.List.{AllByRecursion}
-use Rattle.std.proofs.Math.Nat.{div-le_of_le-mul, mul-le-mul_right}
+use Rattle.std.proofs.Common.{◌≡◌, ℕ, zero, suc, ◌+◌, ◌≤◌, ◌<◌, List, [], ◌∷◌, length, get_or, set, refl, ap, ◌∙◌, add-one, arith}
+use Rattle.std.specs.List.{remove, AllByRecursion}
 use Rattle.damon_types.specs.declared.row.Row.{Row}
 use Rattle.damon_types.specs.Span.{spans}
-use Rattle.region_list.specs.Join.{average, join}
+use Rattle.region_list.specs.Join.{join}
 use Rattle.region_list.specs.Shrink.{joined_at}
-
--- the average of two small numbers is small
-pub average-lt : (x p y q : ℕ) → x < 2 ^ 32 → y < 2 ^ 32 → average x p y q < 2 ^ 32
-average-lt x p y q x_small y_small =
-    let most : ℕ = 2 ^ 32 - 1 in
-    let sum : x * p + y * q ≤ (p + q) * most = omega (arith, mul-le-mul_right p (let h : x ≤ most = omega arith in h), mul-le-mul_right q (let h : y ≤ most = omega arith in h)) in
-    omega (arith, div-le_of_le-mul (p + q) sum)
 
 joined_in_place : (i : ℕ) (rows : List Row) (d e : Row) → suc i < length rows → remove (set rows i (join (get_or rows i d) (get_or rows (suc i) e))) (suc i) ≡ joined_at i rows
 joined_in_place i [] d e within = absurd (omega arith)
