@@ -100,7 +100,8 @@ tiling_rise unit t from (g ∷ gs) ss some ordered tiling =
     subst (λ us. RiseFrom from us) (sym tiling.2)
     (chain_rise unit g.target g.first (end_of g) tiling.0 tiling.1 some tiling.3 (tiling_rise unit g.target (end_of g) gs tiling.1 some ordered.3 tiling.4) from ordered.1)
 
-tiling_size : (unit : ℕ) (gs : List Range) (ss : List Span) → Tiling unit gs ss → AllByRecursion (λ s. unit ≤ s.pages) ss
+-- each row has at least so many pages
+pub tiling_size : (unit : ℕ) (gs : List Range) (ss : List Span) → Tiling unit gs ss → AllByRecursion (λ s. unit ≤ s.pages) ss
 tiling_size unit [] ss tiling = subst (λ us. AllByRecursion (λ (s : Span). unit ≤ s.pages) us) (sym tiling) tt
 tiling_size unit (g ∷ gs) ss tiling =
     subst (λ us. AllByRecursion (λ (s : Span). unit ≤ s.pages) us) (sym tiling.2)

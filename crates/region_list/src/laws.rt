@@ -2,11 +2,13 @@
 ghost use Rattle.std.specs.Prelude.{ℕ, ◌≤◌, List, [], ◌∷◌, length};
 ghost use Rattle.std.specs.List.{AllByRecursion};
 ghost use Rattle.damon_types.specs.declared.range.Range.{Range as range};
+ghost use Rattle.damon_types.specs.declared.row.Row.{Row as row};
 ghost use Rattle.damon_types.specs.Ranges.{InOrder};
 ghost use Rattle.damon_types.specs.Span.{Span, spans};
 ghost use Rattle.region_list.specs.Tiles.{Tiles};
 ghost use Rattle.region_list.specs.Tiling.{Tiling};
 ghost use Rattle.region_list.specs.Division.{divided};
+ghost use Rattle.region_list.specs.Shrink.{shrunk};
 
 /// Rows that tile ranges range by range tile them page by page, where a row has at least one page and
 /// the ranges are in order.
@@ -22,4 +24,11 @@ pub fn division_tiles()
 /// One range is divided into at most `min` rows, where `min` is not 0.
 pub fn one_range_is_divided_within()
     ensures { (unit min : ℕ) (g : range) → 1 ≤ g.pages → 1 ≤ min → length (divided unit min (g ∷ [])) ≤ min }
+{}
+
+/// Rows that tile their ranges, each with at least one page, are at most `to` when they are shrunk to
+/// that, where there are at most `to` ranges; and they tile with any least size with which they did.
+pub fn shrunk_rows_tile()
+    ensures few { (to : ℕ) (gs : List range) (rows : List row) → InOrder gs → Tiling 1 gs (spans rows) → length gs ≤ to → length (shrunk gs to rows) ≤ to }
+    ensures tiling { (unit to : ℕ) (gs : List range) (rows : List row) → InOrder gs → Tiling 1 gs (spans rows) → length gs ≤ to → Tiling unit gs (spans rows) → Tiling unit gs (spans (shrunk gs to rows)) }
 {}

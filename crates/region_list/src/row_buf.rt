@@ -1,5 +1,8 @@
-ghost use Rattle.std.specs.Prelude.{◌≡◌, ◌<◌, [], ◌∷◌, ◌++◌, length, slice_get, IfOk};
+ghost use Rattle.std.specs.Prelude.{◌≡◌, ◌+◌, ◌^◌, ◌≤◌, ◌<◌, [], ◌∷◌, ◌++◌, length, slice_get, IfOk};
+ghost use Rattle.region_list.specs.Rows.{row_at};
+ghost use Rattle.region_list.specs.Shrink.{joined_at};
 
+use crate::join_rows;
 use damon_types::Row;
 use std::alloc::{AllocError, Global};
 use std::marker::Model;
@@ -67,6 +70,18 @@ impl RowBuf {
         ensures { self.new ≡ record self.old { rows = self.old.rows ++ row ∷ [] } }
     {
         self.rows.push_reserved(row);
+    }
+
+    // Puts the join of the row with this index and the next one in their place.
+    pub(crate) fn join_at(&mut self, index: usize)
+        requires next { index + 1 < length self.old.rows }
+        requires some { 1 ≤ (row_at self.old.rows index).pages }
+        requires few { (row_at self.old.rows index).pages + (row_at self.old.rows (index + 1)).pages < 2 ^ 32 }
+        ensures { self.new ≡ record self.old { rows = joined_at index self.old.rows } }
+    {
+        let joined = join_rows(&self.rows[index], &self.rows[index + 1]);
+        self.rows[index] = joined;
+        self.rows.remove(index + 1);
     }
 
     /// Empties the list. The room stays.

@@ -1,0 +1,92 @@
+ghost use Rattle.std.specs.Prelude.{◌≡◌, ℕ, ◌+◌, ◌^◌, ◌≤◌, ◌<◌, length, slice_get, nat_le, IfNone, IfSome, if◌then◌else◌};
+ghost use Rattle.std.specs.Option.{option_map};
+ghost use Rattle.damon_types.specs.Ranges.{InOrder, end_of};
+ghost use Rattle.damon_types.specs.Span.{spans};
+ghost use Rattle.region_list.specs.Tiling.{Tiling};
+ghost use Rattle.region_list.specs.Shrink.{closest as closest_of, shrunk};
+
+use crate::RowBuf;
+use damon_types::{Ranges, Row};
+
+/// Joins adjacent rows of one range until there are at most `to` rows: each time the two whose counts
+/// differ least, and of several such the first. The rows tile the ranges, each with at least one
+/// page, and there are at most `to` ranges. Rows that tile the ranges with at least some number of
+/// pages each still do so afterwards.
+pub fn shrink_rows(rows: &mut RowBuf, ranges: &Ranges, to: u32)
+    requires tiling { Tiling 1 ranges.now.list (spans rows.old.rows) }
+    requires enough { length ranges.now.list ≤ to }
+    ensures rows { rows.new ≡ record rows.old { rows = shrunk ranges.now.list to rows.old.rows } }
+    ensures few { length rows.new.rows ≤ to }
+    ensures tiling { (unit : ℕ) → Tiling unit ranges.now.list (spans rows.old.rows) → Tiling unit ranges.now.list (spans rows.new.rows) }
+{
+    'joins: while rows.len() > to {
+        let first = closest(rows.as_slice(), ranges);
+        rows.join_at(first);
+    }
+}
+
+// Two rows one behind the other, the first by its index, and by how much their counts differ.
+#[derive(Clone, Copy)]
+struct Pair {
+    first: usize,
+    difference: u32,
+}
+
+// The index of the first of the adjacent rows of one range whose counts differ least.
+fn closest(rows: &[Row], ranges: &Ranges) -> usize
+    requires tiling { Tiling 1 ranges.now.list (spans rows.now) }
+    requires more { length ranges.now.list < length rows.now }
+    ensures first { result ≡ closest_of ranges.now.list rows.now }
+    ensures order { InOrder ranges.now.list }
+{
+    // This call tells that the ranges are in order, and that their number fits.
+    let _count = ranges.len();
+    let mut range = 0;
+    let mut end = end_at(ranges, range);
+    let mut best: Option<Pair> = None;
+    'rows: for index in 0..rows.len() - 1 {
+        let row = rows[index];
+        if row.start + row.pages == end {
+            range += 1;
+            end = end_at(ranges, range);
+        } else {
+            let difference = row.count.abs_diff(rows[index + 1].count);
+            if difference == 0 {
+                return index;
+            }
+            let next = Pair {
+                first: index,
+                difference,
+            };
+            best = Some(closer(best, next));
+        }
+    }
+    match best {
+        Some(pair) => pair.first,
+        None => unreachable!(),
+    }
+}
+
+// The page after the last one of a range.
+fn end_at(ranges: &Ranges, index: u32) -> u32
+    requires here { index < length ranges.now.list }
+    requires order { InOrder ranges.now.list }
+    ensures { option_map end_of (slice_get ranges.now.list index) ≡ Some result }
+{
+    let range = ranges.get(index);
+    range.first + range.pages
+}
+
+// Of two pairs the one that differs less, and the first where both differ as much.
+fn closer(first: Option<Pair>, next: Pair) -> Pair
+    ensures none { IfNone first (result ≡ next) }
+    ensures some { IfSome first (λ p. result ≡ (if nat_le p.difference next.difference then p else next)) }
+{
+    match first {
+        Some(pair) if pair.difference <= next.difference => pair,
+        _ => next,
+    }
+}
+
+#[cfg(test)]
+mod tests;
