@@ -5,7 +5,7 @@
 mod attrs;
 /// Filters of pages, and lists of them.
 mod filter;
-/// That the pages of a space are numbered without gaps.
+/// How the pages of a space are numbered.
 mod laws;
 /// Lists that grow.
 mod list;
@@ -34,7 +34,7 @@ mod value_tests;
 
 pub use attrs::{Attrs, AttrsFault};
 pub use filter::{Filter, FilterKind, Filters, Full, MAX_FILTERS};
-pub use laws::pages_are_numbered;
+pub use laws::{pages_are_numbered, pages_rise};
 pub use list::{PlainList, RangeSpecs, SlotChanges};
 pub use memory::{MemSink, MemSource};
 pub use range::{Range, RangeSpec, Ranges};
