@@ -1,0 +1,4 @@
+pub mod PartLemmas
+pub mod WordLemmas
+pub mod PlaceLemmas
+pub mod SlotLemmas

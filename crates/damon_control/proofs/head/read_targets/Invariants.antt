@@ -1,0 +1,17 @@
+use Rattle.std.proofs.Common.{◌≡◌, ◌≤◌, ◌+◌, Ok, [], length}
+use Rattle.damon_types.specs.Space.{checked}
+use Rattle.damon_control.specs.Left.{reads_left}
+use Rattle.damon_control.specs.Script.{AtTargets}
+use Rattle.damon_control.proofs.head.read_targets.Given as goal
+
+abbrev pub invariant-targets : goal.invariant-targets
+invariant-targets l = record {
+  said : reads_left (AtTargets l.frame []) l.fn.lines ≡ reads_left (AtTargets l.frame l.targets.items) l.lines;
+  sound : checked l.targets.items ≡ Ok tt;
+  some : 1 ≤ length l.targets.items;
+  few : length l.targets.items ≤ 64;
+  small : l.lines.taken + length l.lines.rest.now ≤ 16777216;
+}
+
+abbrev pub decreases-targets : goal.decreases-targets
+decreases-targets l = length l.lines.rest.now

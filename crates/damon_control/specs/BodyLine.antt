@@ -1,0 +1,29 @@
+-- What the lines of a body say to the program.
+use Rattle.std.specs.Prelude.{ℕ, List, codes, Result, Ok, Err, if◌then◌else◌}
+use Rattle.damon_types.specs.declared.space.Target.{Target}
+use Rattle.damon_control.specs.declared.body.BodyLine.{BodyLine}
+use Rattle.damon_control.specs.declared.body.BodyLine.TheVariants.{End, Commit, Say}
+use Rattle.damon_control.specs.declared.fault.ScriptKind.{ScriptKind}
+use Rattle.damon_control.specs.declared.script.Command.{Command}
+use Rattle.damon_control.specs.Command.{CommandValue, command_value}
+use Rattle.damon_control.specs.Body.{no_commit}
+use Rattle.damon_control.specs.Limits.{IsWithin}
+use Rattle.damon_control.specs.Script.{AtEnd, Body, InCommit, Place, with_command}
+
+-- what a command that was read says, or why it was not
+abbrev pub command_said : Result Command ScriptKind → Result CommandValue ScriptKind
+command_said (Ok command) = Ok (command_value command)
+command_said (Err kind) = Err kind
+
+-- the place behind a line of a body that was read, or why it was not
+abbrev pub body_said : Body → Result BodyLine ScriptKind → Result Place ScriptKind
+body_said b (Ok End) = Ok (AtEnd b.said)
+body_said b (Ok Commit) = Ok (InCommit b no_commit)
+body_said b (Ok (Say command)) = with_command b (command_value command)
+body_said b (Err kind) = Err kind
+
+-- the command of a line, if it says one, has its pages among so many
+abbrev pub LineIsWithin : ℕ → BodyLine → Type 0
+LineIsWithin pages End = Unit {0}
+LineIsWithin pages Commit = Unit {0}
+LineIsWithin pages (Say command) = IsWithin pages command

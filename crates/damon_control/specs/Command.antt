@@ -1,0 +1,35 @@
+-- The commands of a script, and their work.
+use Rattle.std.specs.Prelude.{ℕ, ◌+◌, ◌-◌, ◌*◌, List, Option}
+use Rattle.live_commit.specs.Commit.{CommitValue, commit_value}
+use Rattle.damon_control.specs.declared.script.Command.{Command}
+use Rattle.damon_control.specs.declared.script.Command.TheVariants.{Touch as TouchCommand, Sweep as SweepCommand, Step as StepCommand, Arm as ArmCommand, Finish as FinishCommand, Show as ShowCommand, Commit as CommitCommand}
+
+-- what a command says
+pub data CommandValue : Type 0 where
+  Touch : ℕ → CommandValue
+  Sweep : ℕ → ℕ → CommandValue
+  Step : ℕ → CommandValue
+  Arm : CommandValue
+  Finish : CommandValue
+  Show : CommandValue
+  Commit : CommitValue → CommandValue
+
+-- what a command of the program says
+abbrev pub command_value : Command → CommandValue
+command_value (TouchCommand page) = Touch page
+command_value (SweepCommand from to) = Sweep from to
+command_value (StepCommand times) = Step times
+command_value ArmCommand = Arm
+command_value FinishCommand = Finish
+command_value ShowCommand = Show
+command_value (CommitCommand commit) = Commit (commit_value commit.value)
+
+-- the work of a command under a cap: its touches, or the steps that it may need, or one show or commit
+abbrev pub weight : ℕ → CommandValue → ℕ
+weight cap (Touch page) = 1
+weight cap (Sweep from to) = to - from
+weight cap (Step times) = times
+weight cap Arm = 2 * cap + 3
+weight cap Finish = 2 * cap + 3
+weight cap Show = 1
+weight cap (Commit commit) = 1

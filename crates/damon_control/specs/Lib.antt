@@ -1,0 +1,14 @@
+pub mod Refusal
+pub mod Words
+pub mod Fields
+pub mod Keys
+pub mod Head
+pub mod Command
+pub mod Body
+pub mod Script
+pub mod ScriptView
+pub mod Limits
+pub mod BodyLine
+pub mod Left
+pub mod Views
+pub mod KeyViews

@@ -1,0 +1,122 @@
+-- What a text spells as a script, line by line, or its first line that is refused.
+use Rattle.std.specs.Prelude.{ℕ, ◌+◌, Bool, ◌||◌, ◌==◌, nat_le, List, [], ◌∷◌, ◌++◌, length, codes, Result, Ok, Err, if◌then◌else◌}
+use Rattle.damon_types.specs.declared.range.RangeSpec.{RangeSpec}
+use Rattle.damon_types.specs.declared.scheme.SlotChange.{SlotChange}
+use Rattle.damon_types.specs.declared.space.Target.{Target}
+use Rattle.live_commit.specs.Commit.{CommitValue}
+use Rattle.live_commit.specs.Setup.{SetupValue}
+use Rattle.line_text.specs.Parts.{parts}
+use Rattle.damon_control.specs.declared.fault.ScriptFault.{ScriptFault}
+use Rattle.damon_control.specs.declared.fault.ScriptKind.{ScriptKind}
+use Rattle.damon_control.specs.declared.fault.ScriptKind.TheVariants.{After, Cut, Header, TooMuch}
+use Rattle.damon_control.specs.declared.head.Frame.{Frame}
+use Rattle.damon_control.specs.Body.{command_line, no_commit, part_line, with_part}
+use Rattle.damon_control.specs.Command.{CommandValue, Commit, weight}
+use Rattle.damon_control.specs.Head.{attrs_line, cap_line, range_line, scheme_line, seed_line, setup_said, target_line, unit_line}
+use Rattle.damon_control.specs.Refusal.{◌>>=◌, only_if}
+use Rattle.damon_control.specs.Words.{alone, begins_with, same_word}
+
+-- what a script says
+pub record ScriptValue : Type 0 where
+  pub seed : ℕ
+  pub setup : SetupValue
+  pub commands : List CommandValue
+
+-- what a script says up to a line of its body, and the work of its commands
+pub record Body : Type 0 where
+  pub said : ScriptValue
+  pub work : ℕ
+
+-- what lines have said, and so what the next may say
+pub data Place : Type 0 where
+  AtHeader : Place
+  AtSeed : Place
+  AtUnit : ℕ → Place
+  AtCap : ℕ → ℕ → Place
+  AtAttrs : ℕ → ℕ → ℕ → Place
+  AtTargets : Frame → List Target → Place
+  AtRanges : Frame → List Target → List RangeSpec → Place
+  AtSchemes : Frame → List Target → List RangeSpec → List SlotChange → Place
+  InBody : Body → Place
+  InCommit : Body → CommitValue → Place
+  AtEnd : ScriptValue → Place
+
+-- a body with one more command, where its work stays within the limit
+abbrev pub with_command : Body → CommandValue → Result Place ScriptKind
+with_command b command =
+    let work = b.work + weight b.said.setup.cap command in
+    only_if (nat_le work 16777216) TooMuch (InBody (record { said = record b.said { commands = b.said.commands ++ command ∷ [] }; work = work }))
+
+-- a body that begins: of its commands nothing is said yet
+abbrev pub begun : ℕ → SetupValue → Body
+begun seed setup = record { said = record { seed = seed; setup = setup; commands = [] }; work = 0 }
+
+-- the body behind the lines of a setup
+abbrev pub opened : Frame → List Target → List RangeSpec → List SlotChange → Body
+opened f targets ranges slots = begun f.seed (setup_said f targets ranges slots)
+
+-- the place behind a line of schemes, or behind `begin`
+abbrev pub after_schemes : Frame → List Target → List RangeSpec → List SlotChange → List ℕ → Result Place ScriptKind
+after_schemes f targets ranges slots line =
+    if begins_with (codes "scheme") line then (scheme_line slots line >>= λ change. Ok (AtSchemes f targets ranges (slots ++ change ∷ [])))
+    else (alone (codes "begin") line >>= λ _. Ok (InBody (opened f targets ranges slots)))
+
+-- the place behind a line of ranges, of which there is one at least, or behind the first line that follows them
+abbrev pub after_ranges : Frame → List Target → List RangeSpec → List ℕ → Result Place ScriptKind
+after_ranges f targets ranges line =
+    if begins_with (codes "range") line || (length ranges == 0) then (range_line f targets ranges line >>= λ range. Ok (AtRanges f targets (ranges ++ range ∷ [])))
+    else after_schemes f targets ranges [] line
+
+-- the place behind a line of targets, of which there is one at least, or behind the first line that follows them
+abbrev pub after_targets : Frame → List Target → List ℕ → Result Place ScriptKind
+after_targets f targets line =
+    if begins_with (codes "target") line || (length targets == 0) then (target_line targets line >>= λ target. Ok (AtTargets f (targets ++ target ∷ [])))
+    else after_ranges f targets [] line
+
+-- the place behind a line of a body
+abbrev pub after_body : Body → List ℕ → Result Place ScriptKind
+after_body b line =
+    if begins_with (codes "end") line then (alone (codes "end") line >>= λ _. Ok (AtEnd b.said))
+    else if begins_with (codes "commit") line then (alone (codes "commit") line >>= λ _. Ok (InCommit b no_commit))
+    else (command_line b.said.setup.space line >>= with_command b)
+
+-- the place behind a line of a commit
+abbrev pub after_commit : Body → CommitValue → List ℕ → Result Place ScriptKind
+after_commit b commit line =
+    if begins_with (codes "apply") line then (alone (codes "apply") line >>= λ _. with_command b (Commit commit))
+    else (part_line commit line >>= λ part. Ok (InCommit b (with_part commit part)))
+
+-- the place behind a line, or the kind of its fault
+abbrev pub after : Place → List ℕ → Result Place ScriptKind
+after AtHeader line = only_if (same_word line (codes "damon script 1")) Header AtSeed
+after AtSeed line = seed_line line >>= λ seed. Ok (AtUnit seed)
+after (AtUnit seed) line = unit_line line >>= λ unit. Ok (AtCap seed unit)
+after (AtCap seed unit) line = cap_line line >>= λ cap. Ok (AtAttrs seed unit cap)
+after (AtAttrs seed unit cap) line = attrs_line cap line >>= λ attrs. Ok (AtTargets (record { seed = seed; unit = unit; cap = cap; attrs = attrs }) [])
+after (AtTargets f targets) line = after_targets f targets line
+after (AtRanges f targets ranges) line = after_ranges f targets ranges line
+after (AtSchemes f targets ranges slots) line = after_schemes f targets ranges slots line
+after (InBody b) line = after_body b line
+after (InCommit b commit) line = after_commit b commit line
+after (AtEnd s) line = Err After
+
+-- a refusal becomes a fault of the line with this number
+abbrev pub at : {A : Type 0} → ℕ → Result A ScriptKind → Result A ScriptFault
+at n (Err kind) = Err (record { line = n; kind = kind })
+at n (Ok value) = Ok value
+
+-- what is said where the text has no line more: these bytes, which no LF ends, in place of line n
+abbrev pub ended : ℕ → Place → List ℕ → Result ScriptValue ScriptFault
+ended n (AtEnd s) [] = Ok s
+ended n (AtEnd s) (b ∷ bs) = at n (Err After)
+ended n place bytes = at n (Err Cut)
+
+-- what is said from a place on, by lines of which the first is line n, and the bytes behind the last LF
+abbrev pub reads : ℕ → Place → List (List ℕ) → Result ScriptValue ScriptFault
+reads n place [] = ended n place []
+reads n place (bytes ∷ []) = ended n place bytes
+reads n place (line ∷ next ∷ more) = at n (after place line) >>= λ behind. reads (n + 1) behind (next ∷ more)
+
+-- the script that a text spells, or its first line that is refused and the kind of its fault
+abbrev pub script_of : List ℕ → Result ScriptValue ScriptFault
+script_of text = reads 1 AtHeader (parts 10 text)

@@ -1,0 +1,181 @@
+ghost use Rattle.std.specs.Prelude.{◌≡◌, ℕ, All, ◌≤◌, ◌<◌, ◌+◌, ◌-◌, ◌^◌, IfOk, OnOk, Ok, Err, Some, None, [], length, map, nat_le};
+ghost use Rattle.std.specs.Option.{ok_or};
+ghost use Rattle.damon_types.specs.Space.{page_of, pages_of};
+ghost use Rattle.live_commit.specs.SetupView.{value_of};
+ghost use Rattle.damon_control.specs.Body.{are_swept, command_line, step_line, sweep_line, touch_line, word_line};
+ghost use Rattle.damon_control.specs.BodyLine.{LineIsWithin, body_said, command_said};
+ghost use Rattle.damon_control.specs.Command.{command_value, weight};
+ghost use Rattle.damon_control.specs.Left.{FaultOf, reads_left};
+ghost use Rattle.damon_control.specs.Limits.{IsWithin};
+ghost use Rattle.damon_control.specs.Refusal.{only_if};
+ghost use Rattle.damon_control.specs.Script.{AtEnd, Body, InBody, after_body, begun};
+ghost use Rattle.damon_control.specs.Words.{begins_with};
+ghost use Rattle.damon_control.specs.declared.fault.ScriptKind.TheVariants.{Outside, TooMuch};
+
+use crate::commit::read_commit;
+use crate::head::limited;
+use crate::lines::Lines;
+use crate::words::{
+    alone, arguments, begins_with, one_word, read_32, read_byte_address, three_words, two_words,
+};
+use crate::{Command, Commands, ReadFail, ScriptKind};
+use damon_types::{PAGE_SIZE, Space, pages_rise};
+use live_commit::Setup;
+use std::alloc::Global;
+
+// The most work that the commands of a script may be in all.
+const MOST_WORK: u64 = 16_777_216;
+
+// The most steps of one command.
+const MOST_STEPS: u32 = 1_000_000;
+
+// What a line of a body says.
+pub enum BodyLine {
+    // The script ends.
+    End,
+    // A commit begins.
+    Commit,
+    // A command of one line.
+    Say(Command),
+}
+
+// Reads the commands of a script, up to its last line.
+pub fn read_body(alloc: Global, lines: &mut Lines, setup: &Setup) -> Result<Commands, ReadFail>
+    requires { lines.old.taken + length lines.old.rest.now ≤ 16777216 }
+    ensures ok { IfOk result (λ commands. (seed : ℕ) → reads_left (InBody (begun seed (value_of setup.now))) lines.old ≡ reads_left (AtEnd (record { seed = seed; setup = value_of setup.now; commands = map command_value commands.list })) lines.new) }
+    ensures fault { (seed : ℕ) → FaultOf result (reads_left (InBody (begun seed (value_of setup.now))) lines.old) }
+    ensures within { IfOk result (λ commands. All (IsWithin (pages_of setup.now.space)) commands.list) }
+    ensures small { lines.new.taken + length lines.new.rest.now ≤ 16777216 }
+{
+    let mut commands = Commands::new(alloc);
+    let mut work = 0;
+    'lines: loop {
+        let line = lines.take_line()?;
+        let command = match lines.refuse(read_body_line(&setup.space, line))? {
+            BodyLine::End => return Ok(commands),
+            BodyLine::Commit => Command::Commit {
+                commit: Box::new(alloc, read_commit(alloc, lines)?)?,
+            },
+            BodyLine::Say(command) => command,
+        };
+        work = lines.refuse(added_work(work, setup.cap, &command))?;
+        commands.push(command)?;
+    }
+}
+
+// Reads a line of a body.
+fn read_body_line(space: &Space, line: &[u8]) -> Result<BodyLine, ScriptKind>
+    ensures exact { (b : Body) → b.said.setup.space ≡ space.now → body_said b result ≡ after_body b line.now }
+    ensures within { IfOk result (λ line. LineIsWithin (pages_of space.now) line) }
+{
+    if begins_with(b"end", line) {
+        alone(b"end", line)?;
+        Ok(BodyLine::End)
+    } else if begins_with(b"commit", line) {
+        alone(b"commit", line)?;
+        Ok(BodyLine::Commit)
+    } else {
+        Ok(BodyLine::Say(read_command(space, line)?))
+    }
+}
+
+// Reads a command of one line.
+fn read_command(space: &Space, line: &[u8]) -> Result<Command, ScriptKind>
+    ensures exact { command_said result ≡ command_line space.now line.now }
+    ensures within { IfOk result (λ c. IsWithin (pages_of space.now) c) }
+{
+    if begins_with(b"touch", line) {
+        read_touch(space, line)
+    } else if begins_with(b"sweep", line) {
+        read_sweep(space, line)
+    } else if begins_with(b"step", line) {
+        read_step(line)
+    } else if begins_with(b"arm", line) {
+        alone(b"arm", line)?;
+        Ok(Command::Arm)
+    } else if begins_with(b"finish", line) {
+        alone(b"finish", line)?;
+        Ok(Command::Finish)
+    } else {
+        alone(b"show", line)?;
+        Ok(Command::Show)
+    }
+}
+
+// Reads `touch TARGET ADDRESS`.
+fn read_touch(space: &Space, line: &[u8]) -> Result<Command, ScriptKind>
+    ensures exact { command_said result ≡ touch_line space.now line.now }
+    ensures within { IfOk result (λ c. IsWithin (pages_of space.now) c) }
+{
+    let (target, addr) = two_words(arguments(b"touch", line)?)?;
+    let target = read_32(target)?;
+    let addr = read_byte_address(addr)?;
+    let page = read_page(space, target, addr)?;
+    Ok(Command::Touch { page })
+}
+
+// The page that holds a byte.
+fn read_page(space: &Space, target: u32, addr: u64) -> Result<u32, ScriptKind>
+    ensures exact { result ≡ ok_or (page_of space.now target addr) Outside }
+    ensures below { IfOk result (λ page. page < pages_of space.now) }
+{
+    pages_rise();
+    match space.page_of(target, addr) {
+        Some(page) => Ok(page),
+        None => Err(ScriptKind::Outside),
+    }
+}
+
+// Reads `sweep TARGET FROM TO`.
+fn read_sweep(space: &Space, line: &[u8]) -> Result<Command, ScriptKind>
+    ensures exact { command_said result ≡ sweep_line space.now line.now }
+    ensures within { IfOk result (λ c. IsWithin (pages_of space.now) c) }
+{
+    pages_rise();
+    // There are at most 1,048,576 pages.
+    let _targets = space.targets();
+    let (target, from, to) = three_words(arguments(b"sweep", line)?)?;
+    let target = read_32(target)?;
+    let from = read_byte_address(from)?;
+    let to = read_byte_address(to)?;
+    if from % PAGE_SIZE != 0 || to % PAGE_SIZE != 0 || from >= to {
+        return Err(ScriptKind::Limit);
+    }
+    let first = read_page(space, target, from)?;
+    let last = read_page(space, target, to - PAGE_SIZE)?;
+    Ok(Command::Sweep {
+        from: first,
+        to: last + 1,
+    })
+}
+
+// Reads `step TIMES`.
+fn read_step(line: &[u8]) -> Result<Command, ScriptKind>
+    ensures exact { command_said result ≡ step_line line.now }
+    ensures within { (pages : ℕ) → IfOk result (λ c. IsWithin pages c) }
+{
+    let times = read_32(one_word(arguments(b"step", line)?)?)?;
+    let times = limited(1, MOST_STEPS, times)?;
+    Ok(Command::Step { times })
+}
+
+// The work so far with that of one more command, where it is within the limit.
+fn added_work(work: u64, cap: u32, command: &Command) -> Result<u64, ScriptKind>
+    requires { work ≤ 16777216 }
+    ensures exact { result ≡ only_if (nat_le (work + weight cap (command_value command.now)) 16777216) TooMuch (work + weight cap (command_value command.now)) }
+    ensures most { IfOk result (λ sum. sum ≤ 16777216) }
+{
+    let pass = 2 * u64::from(cap) + 3;
+    let more = match command {
+        Command::Touch { .. } | Command::Show | Command::Commit { .. } => 1,
+        Command::Sweep { from, to } => u64::from(to.saturating_sub(*from)),
+        Command::Step { times } => u64::from(*times),
+        Command::Arm | Command::Finish => pass,
+    };
+    let sum = work + more;
+    if sum <= MOST_WORK {
+        Ok(sum)
+    } else {
+        Err(ScriptKind::TooMuch)
+    }
+}

@@ -1,0 +1,129 @@
+ghost use Rattle.std.specs.Prelude.{◌≡◌, ◌≤◌, ◌<◌, ◌+◌, ◌-◌, ◌^◌, IfOk, IfSome, OnOk, Ok, Err, Some, None, option_map, length, Result};
+ghost use Rattle.live_commit.specs.Commit.{commit_value, CommitValue};
+ghost use Rattle.damon_control.specs.Body.{change_line, drop_line, no_commit, part_line, wants_attrs, wants_slot, with_range};
+ghost use Rattle.damon_control.specs.Command.{Commit as CommitCommand};
+ghost use Rattle.damon_control.specs.Left.{FaultOf, reads_command, reads_left};
+ghost use Rattle.damon_control.specs.Script.{Body, InCommit};
+ghost use Rattle.damon_control.specs.Words.{begins_with};
+
+use crate::fields::{read_attrs, read_range};
+use crate::keys::read_scheme;
+use crate::lines::Lines;
+use crate::words::{alone, arguments, begins_with, one_word, read_8, read_32};
+use crate::{ReadFail, ScriptKind};
+use damon_types::{Attrs, RangeSpec, RangeSpecs, SlotChange};
+use live_commit::Commit;
+use std::alloc::{AllocError, Global};
+
+// Reads the lines of a commit behind its first, up to the line `apply`.
+pub fn read_commit(alloc: Global, lines: &mut Lines) -> Result<Commit, ReadFail>
+    requires { lines.old.taken + length lines.old.rest.now ≤ 16777216 }
+    ensures ok { IfOk result (λ c. (b : Body) → reads_left (InCommit b no_commit) lines.old ≡ reads_command b (CommitCommand (commit_value c)) lines.new) }
+    ensures fault { (b : Body) → FaultOf result (reads_left (InCommit b no_commit) lines.old) }
+    ensures later { OnOk result (lines.old.taken ≤ lines.new.taken) }
+    ensures shorter { OnOk result (length lines.new.rest.now < length lines.old.rest.now) }
+    ensures small { lines.new.taken + length lines.new.rest.now ≤ 16777216 }
+{
+    let mut commit = Commit {
+        attrs: None,
+        ranges: None,
+        slot: None,
+        metric: None,
+    };
+    'lines: loop {
+        let line = lines.take_line()?;
+        if begins_with(b"apply", line) {
+            lines.refuse(alone(b"apply", line))?;
+            return Ok(commit);
+        }
+        match lines.refuse(read_part(&commit, line))? {
+            Part::Attrs(attrs) => commit.attrs = Some(attrs),
+            Part::Range(range) => add_range(alloc, &mut commit.ranges, range)?,
+            Part::Slot(change) => commit.slot = Some(change),
+            Part::Metric(value) => commit.metric = Some(value),
+        }
+    }
+}
+
+// What one line of a commit says.
+pub enum Part {
+    Attrs(Attrs),
+    Range(RangeSpec),
+    Slot(SlotChange),
+    Metric(u32),
+}
+
+// Reads a line of a commit, behind the parts that are there already.
+fn read_part(commit: &Commit, line: &[u8]) -> Result<Part, ScriptKind>
+    ensures { result ≡ part_line (commit_value commit.now) line.now }
+{
+    if begins_with(b"attrs", line) && wants_attrs(commit) {
+        let attrs = read_attrs(arguments(b"attrs", line)?)?;
+        Ok(Part::Attrs(attrs))
+    } else if begins_with(b"range", line) && wants_slot(commit) {
+        let range = read_range(arguments(b"range", line)?)?;
+        Ok(Part::Range(range))
+    } else if begins_with(b"scheme", line) && wants_slot(commit) {
+        Ok(Part::Slot(read_change(line)?))
+    } else if begins_with(b"drop", line) && wants_slot(commit) {
+        Ok(Part::Slot(read_drop(line)?))
+    } else if begins_with(b"metric", line) && commit.metric.is_none() {
+        let value = read_32(one_word(arguments(b"metric", line)?)?)?;
+        Ok(Part::Metric(value))
+    } else {
+        Err(ScriptKind::Word)
+    }
+}
+
+// Whether a slot change may still come: before a slot change and a metric.
+fn wants_slot(commit: &Commit) -> bool
+    ensures { result ≡ wants_slot (commit_value commit.now) }
+{
+    commit.slot.is_none() && commit.metric.is_none()
+}
+
+// Whether attributes may still come: before all else.
+fn wants_attrs(commit: &Commit) -> bool
+    ensures { result ≡ wants_attrs (commit_value commit.now) }
+{
+    commit.attrs.is_none() && commit.ranges.is_none() && wants_slot(commit)
+}
+
+// Reads `scheme SLOT ACTION KEYS`, of which the form alone is looked at.
+fn read_change(line: &[u8]) -> Result<SlotChange, ScriptKind>
+    ensures { result ≡ change_line line.now }
+{
+    let (slot, scheme) = read_scheme(arguments(b"scheme", line)?)?;
+    Ok(SlotChange {
+        slot,
+        scheme: Some(scheme),
+    })
+}
+
+// Reads `drop SLOT`.
+fn read_drop(line: &[u8]) -> Result<SlotChange, ScriptKind>
+    ensures { result ≡ drop_line line.now }
+{
+    let slot = read_8(one_word(arguments(b"drop", line)?)?)?;
+    Ok(SlotChange { slot, scheme: None })
+}
+
+// Adds a range to those of a commit.
+fn add_range(
+    alloc: Global,
+    ranges: &mut Option<RangeSpecs>,
+    range: RangeSpec,
+) -> Result<(), AllocError>
+    requires { IfSome ranges.old (λ l. length l.list < 2 ^ 32 - 1) }
+    ensures { OnOk result (option_map (λ l. l.list) ranges.new ≡ with_range (option_map (λ l. l.list) ranges.old) range) }
+{
+    match ranges {
+        Some(list) => list.push(range),
+        None => {
+            let mut list = RangeSpecs::new(alloc);
+            list.push(range)?;
+            *ranges = Some(list);
+            Ok(())
+        }
+    }
+}

@@ -1,0 +1,112 @@
+ghost use Rattle.std.specs.Prelude.{◌≡◌};
+
+use damon_types::{AttrsFault, SchemeFault};
+use std::alloc::{AllocError, AllocFailed};
+use std::fmt;
+use target_ranges::RangeWhy;
+
+/// Why a line is refused. Of the kinds that apply to a line the first one is given. The kinds and
+/// their order are this project's own.
+#[derive(Clone, Copy, Debug, PartialEq, Eq)]
+pub enum ScriptKind {
+    /// Bytes follow the line `end`.
+    After,
+    /// The text ends before the LF of this line.
+    Cut,
+    /// The first line is not `damon script 1`.
+    Header,
+    /// The first word, up to a space or the line's end, is not allowed at this place.
+    Word,
+    /// A byte that does not print, a space too many or too few, a word too many or too few, an action
+    /// or a key that there is not, keys out of order, or a value with the wrong parts or words.
+    Form,
+    /// A number or an address is misspelt or above the greatest value of its field.
+    Number,
+    /// A number is within its field, and outside its limits.
+    Limit,
+    /// The attributes break a limit.
+    Attrs { why: AttrsFault },
+    /// The most regions are above the most that are ever allowed.
+    OverCap,
+    /// The range is refused behind those before it.
+    Range { why: RangeWhy },
+    /// This range is one more than the most regions.
+    RangesOverMax,
+    /// The scheme or its slot breaks a limit.
+    Scheme { why: SchemeFault },
+    /// The slot was set by an earlier line.
+    Repeated,
+    /// The target is none, or the page outside of it.
+    Outside,
+    /// With this line the script is more work than is allowed.
+    TooMuch,
+}
+
+/// The first line of a text that is refused.
+#[derive(Clone, Copy, Debug, PartialEq, Eq)]
+pub struct ScriptFault {
+    /// The number of the line, from 1 on. A line that is missing counts.
+    pub line: u64,
+    pub kind: ScriptKind,
+}
+
+/// Why a text was not read.
+#[derive(Clone, Copy, Debug, PartialEq, Eq)]
+pub enum ReadFail {
+    /// It is no script.
+    Script { fault: ScriptFault },
+    /// Memory ran out.
+    Memory,
+}
+
+impl fmt::Display for ScriptKind {
+    fn fmt<W: fmt::Write>(&self, f: &mut fmt::Formatter<W>) -> fmt::Result {
+        f.write_str(match self {
+            ScriptKind::After => "text after end",
+            ScriptKind::Cut => "input ends early",
+            ScriptKind::Header => "no header",
+            ScriptKind::Word => "unexpected word",
+            ScriptKind::Form => "bad form",
+            ScriptKind::Number => "bad number",
+            ScriptKind::Limit => "out of limit",
+            ScriptKind::Attrs { .. } => "bad attrs",
+            ScriptKind::OverCap => "max over cap",
+            ScriptKind::Range { .. } => "bad range",
+            ScriptKind::RangesOverMax => "ranges over max",
+            ScriptKind::Scheme { .. } => "bad scheme",
+            ScriptKind::Repeated => "slot set twice",
+            ScriptKind::Outside => "outside span",
+            ScriptKind::TooMuch => "too much work",
+        })
+    }
+}
+
+impl From<ScriptFault> for ReadFail {
+    ghost use Rattle.damon_control.specs.declared.fault.ReadFail.TheVariants.{Script};
+
+    ghost from_gives = { λ fault e. e ≡ Script fault };
+
+    fn from(fault: ScriptFault) -> ReadFail {
+        ReadFail::Script { fault }
+    }
+}
+
+impl From<AllocError> for ReadFail {
+    ghost use Rattle.damon_control.specs.declared.fault.ReadFail.TheVariants.{Memory};
+
+    ghost from_gives = { λ _ e. e ≡ Memory };
+
+    fn from(_error: AllocError) -> ReadFail {
+        ReadFail::Memory
+    }
+}
+
+impl<T: Drop> From<AllocFailed<T>> for ReadFail {
+    ghost use Rattle.damon_control.specs.declared.fault.ReadFail.TheVariants.{Memory};
+
+    ghost from_gives = { λ _ e. e ≡ Memory };
+
+    fn from(_error: AllocFailed<T>) -> ReadFail {
+        ReadFail::Memory
+    }
+}

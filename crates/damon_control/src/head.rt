@@ -1,0 +1,335 @@
+ghost use Rattle.std.specs.Prelude.{◌≡◌, ◌≤◌, ◌<◌, ◌^◌, Ok, Err, Some, true, IfOk, IfErr, OnOk, is_ok, [], ◌∷◌, ◌++◌, ◌+◌, ◌-◌, codes, length};
+ghost use Rattle.damon_types.specs.declared.space.Target.{Target as target_row};
+ghost use Rattle.damon_types.specs.Space.{IsSpace, checked};
+ghost use Rattle.target_ranges.specs.Checked.{checked_next, checked_ranges};
+ghost use Rattle.damon_control.specs.Head.{attrs_line, cap_line, is_changed, limited, range_line, one_target, scheme_line, seed_line, target_in, target_line, unit_line};
+ghost use Rattle.damon_control.specs.declared.head.Frame.{Frame as frame};
+ghost use Rattle.live_commit.specs.Checked.{checked_cap, checked_unit};
+ghost use Rattle.live_commit.specs.Slots.{checked_slot, checked_slots, has_scheme, kept_slots};
+ghost use Rattle.damon_control.specs.Limits.{AreLimits};
+ghost use Rattle.damon_control.specs.Left.{FaultOf, IsWanted, reads_left};
+ghost use Rattle.damon_control.specs.Script.{AtAttrs, AtHeader, AtRanges, AtSchemes, AtTargets, InBody, opened};
+ghost use Rattle.damon_control.specs.Refusal.{only_if};
+ghost use Rattle.damon_control.specs.Words.{same_word, words_in};
+ghost use Rattle.damon_control.specs.declared.fault.ScriptKind.TheVariants.{Header, Limit};
+
+use crate::fields::{read_attrs, read_range};
+use crate::keys::read_scheme;
+use crate::lines::Lines;
+use crate::words::{
+    Words, alone, arguments, one_word, read_32, read_64, read_byte_address, same_word, two_words,
+};
+use crate::{ReadFail, ScriptFault, ScriptKind};
+use damon_types::{Attrs, RangeSpec, RangeSpecs, SlotChange, SlotChanges, Space, Target};
+use live_commit::slots_are_checked_in_turn;
+use std::alloc::Global;
+use target_ranges::{accepted_has_room, check_next, next_decides};
+
+const MOST_UNIT: u32 = 1_048_576;
+
+const LEAST_CAP: u32 = 3;
+
+const MOST_CAP: u32 = 4_096;
+
+// What the lines of a setup say before its targets.
+#[derive(Clone, Copy)]
+pub struct Frame {
+    pub seed: u64,
+    pub unit: u32,
+    pub cap: u32,
+    pub attrs: Attrs,
+}
+
+// Reads `seed N`.
+fn read_seed(line: &[u8]) -> Result<u64, ScriptKind>
+    ensures { result ≡ seed_line line.now }
+{
+    read_64(one_word(arguments(b"seed", line)?)?)
+}
+
+// Reads `unit PAGES`.
+fn read_unit(line: &[u8]) -> Result<u32, ScriptKind>
+    ensures { result ≡ unit_line line.now }
+{
+    let unit = read_32(one_word(arguments(b"unit", line)?)?)?;
+    limited(1, MOST_UNIT, unit)
+}
+
+// Reads `cap REGIONS`.
+fn read_cap(line: &[u8]) -> Result<u32, ScriptKind>
+    ensures { result ≡ cap_line line.now }
+{
+    let cap = read_32(one_word(arguments(b"cap", line)?)?)?;
+    limited(LEAST_CAP, MOST_CAP, cap)
+}
+
+// The number, where it is within these limits.
+pub fn limited(least: u32, most: u32, number: u32) -> Result<u32, ScriptKind>
+    ensures { result ≡ limited least most number }
+{
+    if least <= number && number <= most {
+        Ok(number)
+    } else {
+        Err(ScriptKind::Limit)
+    }
+}
+
+// Reads `attrs MIN MAX AGGR`, where max is at most cap.
+fn read_attrs_line(cap: u32, line: &[u8]) -> Result<Attrs, ScriptKind>
+    ensures { result ≡ attrs_line cap line.now }
+{
+    let attrs = read_attrs(arguments(b"attrs", line)?)?;
+    if let Err(why) = attrs.check() {
+        return Err(ScriptKind::Attrs { why });
+    }
+    if attrs.max > cap {
+        return Err(ScriptKind::OverCap);
+    }
+    Ok(attrs)
+}
+
+// Reads `target BASE PAGES`.
+fn read_target_line(line: &[u8]) -> Result<Target, ScriptKind>
+    ensures { result ≡ one_target line.now }
+{
+    read_target(arguments(b"target", line)?)
+}
+
+// Reads `BASE PAGES`.
+fn read_target(words: Words) -> Result<Target, ScriptKind>
+    ensures { result ≡ target_in (words_in words.entry) }
+{
+    let (base, pages) = two_words(words)?;
+    Ok(Target {
+        base: read_byte_address(base)?,
+        pages: read_32(pages)?,
+    })
+}
+
+// Reads `range TARGET FROM TO CLASS` behind other ranges.
+fn read_range_line(
+    frame: &Frame,
+    space: &Space,
+    before: &[RangeSpec],
+    line: &[u8],
+) -> Result<RangeSpec, ScriptKind>
+    ensures exact { result ≡ range_line frame.now space.now before.now line.now }
+    ensures accepted { IfOk result (λ s. checked_next space.now frame.now.unit frame.now.cap before.now s ≡ Ok tt) }
+    ensures room { OnOk result (length before.now < frame.now.attrs.max) }
+{
+    let range = read_range(arguments(b"range", line)?)?;
+    if let Err(why) = check_next(space, frame.unit, frame.cap, before, &range) {
+        return Err(ScriptKind::Range { why });
+    }
+    if before.len() >= frame.attrs.max as usize {
+        return Err(ScriptKind::RangesOverMax);
+    }
+    Ok(range)
+}
+
+// Reads `scheme SLOT ACTION KEYS` behind other schemes.
+#[tactic(auto, using(crate::proofs::SlotLemmas::checked_slot_accepted))]
+fn read_scheme_line(before: &[SlotChange], line: &[u8]) -> Result<SlotChange, ScriptKind>
+    ensures exact { result ≡ scheme_line before.now line.now }
+    ensures accepted { IfOk result (λ c. checked_slot (length before.now) before.now c ≡ Ok tt) }
+    ensures set { IfOk result (λ c. has_scheme c ≡ true) }
+{
+    let (slot, scheme) = read_scheme(arguments(b"scheme", line)?)?;
+    if let Err(why) = scheme.check(slot) {
+        return Err(ScriptKind::Scheme { why });
+    }
+    if is_changed(slot, before) {
+        return Err(ScriptKind::Repeated);
+    }
+    Ok(SlotChange {
+        slot,
+        scheme: Some(scheme),
+    })
+}
+
+// Whether one of these changes is of this slot.
+fn is_changed(slot: u8, changes: &[SlotChange]) -> bool
+    ensures { result ≡ is_changed slot changes.now }
+{
+    changes.iter().any(|change| change.slot == slot)
+}
+
+// Reads the lines before the targets.
+pub fn read_frame(lines: &mut Lines) -> Result<Frame, ScriptFault>
+    requires { lines.old.taken + length lines.old.rest.now ≤ 16777216 }
+    ensures ok { IfOk result (λ f. reads_left AtHeader lines.old ≡ reads_left (AtTargets f []) lines.new) }
+    ensures fault { IfErr result (λ fault. reads_left AtHeader lines.old ≡ Err fault) }
+    ensures limits { IfOk result (λ f. AreLimits f) }
+    ensures small { lines.new.taken + length lines.new.rest.now ≤ 16777216 }
+{
+    let (seed, unit, cap) = read_numbers(lines)?;
+    let line = lines.take_line()?;
+    let attrs = lines.refuse(read_attrs_line(cap, line))?;
+    Ok(Frame {
+        seed,
+        unit,
+        cap,
+        attrs,
+    })
+}
+
+// Reads the lines before the attributes: the seed, the unit and the cap.
+fn read_numbers(lines: &mut Lines) -> Result<(u64, u32, u32), ScriptFault>
+    requires { lines.old.taken + length lines.old.rest.now ≤ 16777216 }
+    ensures ok { IfOk result (λ n. reads_left AtHeader lines.old ≡ reads_left (AtAttrs n.0 n.1 n.2) lines.new) }
+    ensures fault { IfErr result (λ fault. reads_left AtHeader lines.old ≡ Err fault) }
+    ensures unit { IfOk result (λ n. checked_unit n.1 ≡ Ok tt) }
+    ensures cap { IfOk result (λ n. checked_cap n.2 ≡ Ok tt) }
+    ensures small { lines.new.taken + length lines.new.rest.now ≤ 16777216 }
+{
+    let line = lines.take_line()?;
+    lines.refuse(read_header(line))?;
+    let line = lines.take_line()?;
+    let seed = lines.refuse(read_seed(line))?;
+    let line = lines.take_line()?;
+    let unit = lines.refuse(read_unit(line))?;
+    let line = lines.take_line()?;
+    let cap = lines.refuse(read_cap(line))?;
+    Ok((seed, unit, cap))
+}
+
+// Reads the lines of the targets, of which there is one at least.
+pub fn read_targets(
+    alloc: Global,
+    lines: &mut Lines,
+    frame: &Frame,
+) -> Result<Vec<Target>, ReadFail>
+    requires { lines.old.taken + length lines.old.rest.now ≤ 16777216 }
+    ensures ok { IfOk result (λ v. reads_left (AtTargets frame.now []) lines.old ≡ reads_left (AtRanges frame.now v.items []) lines.new) }
+    ensures fault { FaultOf result (reads_left (AtTargets frame.now []) lines.old) }
+    ensures sound { IfOk result (λ v. checked v.items ≡ Ok tt) }
+    ensures small { lines.new.taken + length lines.new.rest.now ≤ 16777216 }
+{
+    let mut targets = Vec::new(alloc);
+    take_target(lines, &mut targets)?;
+    'targets: while lines.next_is(b"target") {
+        take_target(lines, &mut targets)?;
+    }
+    Ok(targets)
+}
+
+// Reads one more `target BASE PAGES`.
+fn take_target(lines: &mut Lines, targets: &mut Vec<Target>) -> Result<(), ReadFail>
+    requires wanted { IsWanted (codes "target") (length targets.old.items) lines.old }
+    requires small { lines.old.taken + length lines.old.rest.now ≤ 16777216 }
+    requires few { length targets.old.items < 2 ^ 32 - 1 }
+    ensures ok { OnOk result ((f : frame) → reads_left (AtTargets f targets.old.items) lines.old ≡ reads_left (AtTargets f targets.new.items) lines.new) }
+    ensures fault { (f : frame) → FaultOf result (reads_left (AtTargets f targets.old.items) lines.old) }
+    ensures sound { OnOk result (checked targets.new.items ≡ Ok tt) }
+    ensures some { OnOk result (1 ≤ length targets.new.items) }
+    ensures few { OnOk result (length targets.new.items ≤ 64) }
+    ensures small { lines.new.taken + length lines.new.rest.now ≤ 16777216 }
+    ensures shorter { OnOk result (length lines.new.rest.now < length lines.old.rest.now) }
+{
+    let line = lines.take_line()?;
+    let target = lines.refuse(read_target_line(line))?;
+    targets.push(target)?;
+    lines.refuse(check_targets(targets))?;
+    Ok(())
+}
+
+// Whether targets make a space.
+fn check_targets(targets: &[Target]) -> Result<(), ScriptKind>
+    requires { length targets.now < 2 ^ 32 }
+    ensures { result ≡ only_if (is_ok (checked targets.now)) Limit (tt {0}) }
+{
+    match Space::check(targets) {
+        Ok(()) => Ok(()),
+        Err(_) => Err(ScriptKind::Limit),
+    }
+}
+
+// Reads the lines of the ranges, of which there is one at least.
+pub fn read_ranges(
+    alloc: Global,
+    lines: &mut Lines,
+    frame: &Frame,
+    space: &Space,
+) -> Result<RangeSpecs, ReadFail>
+    requires small { lines.old.taken + length lines.old.rest.now ≤ 16777216 }
+    requires cap { frame.now.cap ≤ 4096 }
+    ensures ok { IfOk result (λ specs. reads_left (AtRanges frame.now space.now []) lines.old ≡ reads_left (AtSchemes frame.now space.now specs.list []) lines.new) }
+    ensures fault { FaultOf result (reads_left (AtRanges frame.now space.now []) lines.old) }
+    ensures sound { IfOk result (λ specs. checked_ranges space.now frame.now.unit frame.now.cap specs.list ≡ Ok tt) }
+    ensures some { IfOk result (λ specs. 1 ≤ length specs.list) }
+    ensures most { IfOk result (λ specs. length specs.list ≤ frame.now.attrs.max) }
+    ensures small { lines.new.taken + length lines.new.rest.now ≤ 16777216 }
+{
+    let mut specs = RangeSpecs::new(alloc);
+    take_range(lines, frame, space, &mut specs)?;
+    'more: while lines.next_is(b"range") {
+        take_range(lines, frame, space, &mut specs)?;
+    }
+    Ok(specs)
+}
+
+// Reads one more `range TARGET FROM TO CLASS`.
+fn take_range(
+    lines: &mut Lines,
+    frame: &Frame,
+    space: &Space,
+    specs: &mut RangeSpecs,
+) -> Result<(), ReadFail>
+    requires wanted { IsWanted (codes "range") (length specs.old.list) lines.old }
+    requires small { lines.old.taken + length lines.old.rest.now ≤ 16777216 }
+    requires cap { frame.now.cap ≤ 4096 }
+    requires sound { checked_ranges space.now frame.now.unit frame.now.cap specs.old.list ≡ Ok tt }
+    ensures ok { OnOk result (reads_left (AtRanges frame.now space.now specs.old.list) lines.old ≡ reads_left (AtRanges frame.now space.now specs.new.list) lines.new) }
+    ensures fault { FaultOf result (reads_left (AtRanges frame.now space.now specs.old.list) lines.old) }
+    ensures sound { OnOk result (checked_ranges space.now frame.now.unit frame.now.cap specs.new.list ≡ Ok tt) }
+    ensures some { OnOk result (1 ≤ length specs.new.list) }
+    ensures most { OnOk result (length specs.new.list ≤ frame.now.attrs.max) }
+    ensures small { lines.new.taken + length lines.new.rest.now ≤ 16777216 }
+    ensures shorter { OnOk result (length lines.new.rest.now < length lines.old.rest.now) }
+{
+    next_decides();
+    accepted_has_room();
+    let line = lines.take_line()?;
+    let spec = lines.refuse(read_range_line(frame, space, specs.as_slice(), line))?;
+    specs.push(spec)?;
+    Ok(())
+}
+
+// Reads the lines of the schemes, and the line `begin` behind them.
+pub fn read_slots(
+    alloc: Global,
+    lines: &mut Lines,
+    frame: &Frame,
+    space: &Space,
+    specs: &RangeSpecs,
+) -> Result<SlotChanges, ReadFail>
+    requires small { lines.old.taken + length lines.old.rest.now ≤ 16777216 }
+    ensures ok { IfOk result (λ slots. reads_left (AtSchemes frame.now space.now specs.now.list []) lines.old ≡ reads_left (InBody (opened frame.now space.now specs.now.list slots.list)) lines.new) }
+    ensures fault { FaultOf result (reads_left (AtSchemes frame.now space.now specs.now.list []) lines.old) }
+    ensures sound { IfOk result (λ slots. checked_slots slots.list ≡ Ok tt) }
+    ensures set { IfOk result (λ slots. kept_slots slots.list ≡ slots.list) }
+    ensures few { IfOk result (λ slots. length slots.list ≤ 16777216) }
+    ensures small { lines.new.taken + length lines.new.rest.now ≤ 16777216 }
+{
+    slots_are_checked_in_turn();
+    let mut slots = SlotChanges::new(alloc);
+    'schemes: while lines.next_is(b"scheme") {
+        let line = lines.take_line()?;
+        let change = lines.refuse(read_scheme_line(slots.as_slice(), line))?;
+        slots.push(change)?;
+    }
+    let line = lines.take_line()?;
+    lines.refuse(alone(b"begin", line))?;
+    Ok(slots)
+}
+
+// Reads the first line.
+fn read_header(line: &[u8]) -> Result<(), ScriptKind>
+    ensures { result ≡ only_if (same_word line.now (codes "damon script 1")) Header (tt {0}) }
+{
+    if same_word(line, b"damon script 1") {
+        Ok(())
+    } else {
+        Err(ScriptKind::Header)
+    }
+}

@@ -1,0 +1,28 @@
+//! Scripts: what a text spells, and the reader of such texts, which finds the first fault of any
+//! other text.
+#![tactic(auto)]
+
+/// The lines of a body: its commands.
+mod body;
+/// The lines of a commit.
+mod commit;
+/// What is wrong with a text.
+mod fault;
+/// Fields that stand in a setup and in a commit alike.
+mod fields;
+/// The lines of a setup.
+mod head;
+/// The words of a scheme.
+mod keys;
+/// A text, line by line.
+mod lines;
+/// The reader of a whole text.
+mod reader;
+/// What a script is.
+mod script;
+/// The words of a line.
+mod words;
+
+pub use fault::{ReadFail, ScriptFault, ScriptKind};
+pub use reader::read_script;
+pub use script::{Command, Commands, Script};

@@ -1,0 +1,95 @@
+ghost use Rattle.std.specs.Prelude.{ℕ, List, ◌≡◌, ◌+◌, ◌<◌, ◌≤◌, length, IfOk, IfErr, OnOk, Ok, Err};
+ghost use Rattle.damon_control.specs.Left.{IsOpen, first_begins, reads_behind, reads_left};
+ghost use Rattle.damon_control.specs.Script.{AtEnd, Place, ScriptValue, at};
+ghost use Rattle.damon_control.specs.Words.{begins_with};
+
+use crate::words::begins_with;
+use crate::{ScriptFault, ScriptKind};
+use line_text::split_front;
+
+// A text that is read line by line.
+#[derive(Drop)]
+pub struct Lines<'a> {
+    // What is left of it.
+    pub rest: &'a [u8],
+    // How many lines were taken.
+    pub taken: u64,
+}
+
+impl<'a> Lines<'a> {
+    // The whole of a text.
+    pub fn new(text: &'a [u8]) -> Lines<'a>
+        ensures rest { result.rest.now ≡ text.now }
+        ensures taken { result.taken ≡ 0 }
+    {
+        Lines {
+            rest: text,
+            taken: 0,
+        }
+    }
+
+    // Takes the next line, without its LF.
+    #[tactic(auto, using(crate::proofs::PartLemmas::reads_line, crate::proofs::PartLemmas::begins_lines_parts))]
+    pub fn take_line(&mut self) -> Result<&'a [u8], ScriptFault>
+        requires { self.old.taken + length self.old.rest.now ≤ 16777216 }
+        ensures line { IfOk result (λ line. (place : Place) → reads_left place self.old ≡ reads_behind place line.now self.new) }
+        ensures cut { IfErr result (λ fault. (place : Place) → IsOpen place → reads_left place self.old ≡ Err fault) }
+        ensures first { IfOk result (λ line. (word : List ℕ) → first_begins word self.old.rest.now ≡ begins_with word line.now) }
+        ensures taken { IfOk result (λ _. self.new.taken ≡ self.old.taken + 1) }
+        ensures shorter { IfOk result (λ _. length self.new.rest.now < length self.old.rest.now) }
+        ensures small { self.new.taken + length self.new.rest.now ≤ 16777216 }
+    {
+        match split_front(self.rest, b'\n') {
+            (line, Some(rest)) => {
+                self.rest = rest;
+                self.taken += 1;
+                Ok(line)
+            }
+            (_, None) => Err(ScriptFault {
+                line: self.taken + 1,
+                kind: ScriptKind::Cut,
+            }),
+        }
+    }
+
+    // The refusal of the line that was taken last, as the fault of the text.
+    pub fn refuse<T>(&self, said: Result<T, ScriptKind>) -> Result<T, ScriptFault>
+        ensures { result ≡ at self.now.taken said }
+    {
+        match said {
+            Ok(value) => Ok(value),
+            Err(kind) => Err(ScriptFault {
+                line: self.taken,
+                kind,
+            }),
+        }
+    }
+
+    // Whether there is a next line, and this is its first word.
+    #[tactic(auto, using(crate::proofs::PartLemmas::begins_lines_parts))]
+    pub fn next_is(&self, word: &[u8]) -> bool
+        ensures { result ≡ first_begins word.now self.now.rest.now }
+    {
+        match split_front(self.rest, b'\n') {
+            (line, Some(_)) => begins_with(word, line),
+            (_, None) => false,
+        }
+    }
+
+    // Sees that nothing is left.
+    #[tactic(auto, using(crate::proofs::PartLemmas::reads_after))]
+    pub fn end(&self) -> Result<(), ScriptFault>
+        requires { self.now.taken + length self.now.rest.now ≤ 16777216 }
+        ensures ok { OnOk result ((s : ScriptValue) → reads_left (AtEnd s) self.now ≡ Ok s) }
+        ensures fault { IfErr result (λ fault. (s : ScriptValue) → reads_left (AtEnd s) self.now ≡ Err fault) }
+    {
+        if self.rest.is_empty() {
+            Ok(())
+        } else {
+            Err(ScriptFault {
+                line: self.taken + 1,
+                kind: ScriptKind::After,
+            })
+        }
+    }
+}
