@@ -1,9 +1,9 @@
 -- Changes of slots that are checked and kept one behind the other.
-use Rattle.std.proofs.Common.{◌≡◌, ℕ, ◌+◌, ◌≤◌, ◌<◌, ◌||◌, true, false, List, [], ◌∷◌, ◌++◌, length, take, drop, get_or, Ok, Err, Some, None, refl, ap, subst, ◌∙◌, arith, add-one, drop-cons, if◌then◌else◌}
+use Rattle.std.proofs.Common.{◌≡◌, ℕ, ◌||◌, true, false, List, [], ◌∷◌, ◌++◌, length, Ok, Err, Some, None, refl, ap, subst, ◌∙◌}
 use Rattle.std.specs.Prelude.{Bool, Option, Result}
 use Rattle.std.specs.List.{list_any}
 use Rattle.std.specs.Result.{result_and}
-use Rattle.std.proofs.lemmas.List.{append_assoc, append-nil, take_more}
+use Rattle.std.proofs.lemmas.List.{append_assoc, append-nil}
 use Rattle.std.proofs.lemmas.List.Elements.{filter-append}
 use Rattle.damon_types.specs.declared.scheme.Scheme.{Scheme}
 use Rattle.damon_types.specs.declared.scheme.SchemeFault.{SchemeFault}
@@ -19,22 +19,6 @@ both_ok (Err e) s ok = absurd (cc)
 and_ok : {E : Type 0} (r : Result (Unit {0}) E) → result_and r (Ok tt) ≡ r
 and_ok (Ok t) = refl
 and_ok (Err e) = refl
-
--- one change is kept as itself or not at all
-few_kept : (c : SlotChange) → length (kept_slots (c ∷ [])) ≤ 1
-few_kept c = of_test (has_scheme c) refl
-  where
-    of_test : (b : Bool) → has_scheme c ≡ b → length (if b then c ∷ [] else []) ≤ 1
-    of_test true is = omega arith
-    of_test false is = omega arith
-
--- one change more is kept
-pub kept_more : (changes : List SlotChange) (i : ℕ) (c : SlotChange) → i < length changes → kept_slots (take (i + 1) changes) ≡ kept_slots (take i changes) ++ kept_slots (get_or changes i c ∷ [])
-kept_more changes i c within = ap kept_slots (take_more changes i c within) ∙ filter-append has_scheme (take i changes) (get_or changes i c ∷ [])
-
--- where the next change has no fault, the later ones decide
-pub next_accepted : (changes : List SlotChange) (i : ℕ) (c : SlotChange) → i < length changes → checked_slot (length (take i changes)) (take i changes) (get_or changes i c) ≡ Ok tt → checked_behind (take i changes) (drop i changes) ≡ checked_behind (take (i + 1) changes) (drop (i + 1) changes)
-next_accepted changes i c within ok = rw (drop-cons changes i c, ok, take_more changes i c within, add-one) refl
 
 -- a change without a fault has none at another index
 free_at : (i j : ℕ) (set : Bool) (checked : Result (Unit {0}) SchemeFault) → result_and (scheme_fault i checked) (checked_free i set) ≡ Ok tt → result_and (scheme_fault j checked) (checked_free j set) ≡ Ok tt

@@ -1,12 +1,12 @@
 -- What a monitor is started with, and its limits.
-use Rattle.std.specs.Prelude.{◌≡◌, ℕ, ◌≤◌, true, List, length, All, Ok}
+use Rattle.std.specs.Prelude.{◌≡◌, ℕ, ◌≤◌, List, length, All, IsSome, Ok}
 use Rattle.damon_types.specs.declared.space.Target.{Target}
 use Rattle.damon_types.specs.declared.range.Range.{Range}
 use Rattle.damon_types.specs.declared.scheme.SlotChange.{SlotChange}
 use Rattle.damon_types.specs.declared.attrs.Attrs.{Attrs}
 use Rattle.damon_types.specs.Attrs.{IsAttrs}
 use Rattle.damon_types.specs.Within.{AreWithin}
-use Rattle.live_commit.specs.Slots.{has_scheme, checked_slots}
+use Rattle.live_commit.specs.Slots.{checked_slots}
 
 -- the parts of a setup
 pub record SetupValue : Type 0 where
@@ -30,5 +30,5 @@ pub record IsSetup (v : SetupValue) : Type 0 where
   pub wide : All (λ g. v.unit ≤ g.pages) v.ranges
   pub classes : All (λ g. g.class ≤ 15) v.ranges
   pub within : AreWithin v.space v.ranges
-  pub set : All (λ c. has_scheme c ≡ true) v.slots
+  pub set : All (λ c. IsSome c.scheme) v.slots
   pub slots : checked_slots v.slots ≡ Ok tt
