@@ -21,6 +21,8 @@ mod reader;
 /// What a script is.
 mod script;
 /// The words of a line.
+#[cfg(test)]
+mod tests;
 mod words;
 
 pub use fault::{ReadFail, ScriptFault, ScriptKind};
