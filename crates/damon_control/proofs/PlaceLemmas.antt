@@ -1,14 +1,12 @@
 -- From one kind of lines of a setup to the next.
-use Rattle.std.proofs.Common.{◌≡◌, ℕ, ◌+◌, ◌≤◌, ◌==◌, Bool, false, ◌||◌, List, [], ◌∷◌, length, codes, Result, refl, ap, arith}
+use Rattle.std.proofs.Common.{◌≡◌, ℕ, ◌+◌, ◌≤◌, ◌==◌, false, List, [], ◌∷◌, length, codes, refl, ap, arith}
 use Rattle.std.proofs.lemmas.Bool.Decides.{nat_tests}
 use Rattle.damon_types.specs.declared.range.RangeSpec.{RangeSpec}
 use Rattle.damon_types.specs.declared.space.Target.{Target}
-use Rattle.damon_control.specs.declared.fault.ScriptKind.{ScriptKind}
 use Rattle.damon_control.specs.declared.head.Frame.{Frame}
 use Rattle.damon_control.specs.Left.{begins_lines}
 use Rattle.damon_control.specs.Refusal.{◌>>=◌}
-use Rattle.damon_control.specs.Script.{Place, AtRanges, AtSchemes, AtTargets, after, at, reads}
-use Rattle.damon_control.specs.Words.{begins_with}
+use Rattle.damon_control.specs.Script.{AtRanges, AtSchemes, AtTargets, after, at, reads}
 
 some_is_not_none : (n : ℕ) → 1 ≤ n → (n == 0) ≡ false
 some_is_not_none n some = grind (arith, nat_tests)

@@ -1,6 +1,5 @@
 -- What the lines of a body say to the program.
-use Rattle.std.specs.Prelude.{ℕ, List, codes, Result, Ok, Err, if◌then◌else◌}
-use Rattle.damon_types.specs.declared.space.Target.{Target}
+use Rattle.std.specs.Prelude.{ℕ, Result, Ok, Err}
 use Rattle.damon_control.specs.declared.body.BodyLine.{BodyLine}
 use Rattle.damon_control.specs.declared.body.BodyLine.TheVariants.{End, Commit, Say}
 use Rattle.damon_control.specs.declared.fault.ScriptKind.{ScriptKind}

@@ -1,5 +1,5 @@
 -- The commands of a script, and their work.
-use Rattle.std.specs.Prelude.{ℕ, ◌+◌, ◌-◌, ◌*◌, List, Option}
+use Rattle.std.specs.Prelude.{ℕ, ◌+◌, ◌-◌, ◌*◌}
 use Rattle.live_commit.specs.Commit.{CommitValue, commit_value}
 use Rattle.damon_control.specs.declared.script.Command.{Command}
 use Rattle.damon_control.specs.declared.script.Command.TheVariants.{Touch as TouchCommand, Sweep as SweepCommand, Step as StepCommand, Arm as ArmCommand, Finish as FinishCommand, Show as ShowCommand, Commit as CommitCommand}

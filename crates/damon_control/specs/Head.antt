@@ -1,5 +1,5 @@
 -- The lines of a setup.
-use Rattle.std.specs.Prelude.{ℕ, ◌-◌, ◌^◌, Bool, not, ◌&&◌, ◌==◌, nat_le, nat_lt, List, [], ◌∷◌, ◌++◌, length, codes, Some, Result, Ok, is_ok}
+use Rattle.std.specs.Prelude.{ℕ, Bool, not, ◌&&◌, ◌==◌, nat_le, nat_lt, List, [], ◌∷◌, ◌++◌, length, codes, Some, Result, Ok, is_ok}
 use Rattle.std.specs.List.{list_any}
 use Rattle.std.specs.Option.{ok_or}
 use Rattle.damon_types.specs.declared.attrs.Attrs.{Attrs}
@@ -19,7 +19,7 @@ use Rattle.damon_control.specs.declared.head.Frame.{Frame}
 use Rattle.damon_control.specs.Fields.{attrs_in, range_in}
 use Rattle.damon_control.specs.Keys.{scheme_in}
 use Rattle.damon_control.specs.Refusal.{◌>>=◌, only_if, refused_as}
-use Rattle.damon_control.specs.Words.{alone, arguments, byte_address, number_32, number_64, one_word}
+use Rattle.damon_control.specs.Words.{arguments, byte_address, number_32, number_64, one_word}
 
 -- a number within its limits
 abbrev pub limited : ℕ → ℕ → ℕ → Result ℕ ScriptKind
