@@ -1,8 +1,8 @@
 // One pass over three pages; the expected values were reckoned by hand.
-ghost use Rattle.std.specs.Prelude.{◌≡◌, ◌≤◌, length, IfOk};
+ghost use Rattle.std.specs.Prelude.{◌≡◌, length, IfOk};
 
 use crate::Monitor;
-use damon_types::{Attrs, Range, Ranges, Space, Target};
+use damon_types::{Attrs, RangeSpec, Space, Target};
 use live_commit::{Phase, Setup};
 use std::alloc::Global;
 use std::process::Abort;
@@ -10,8 +10,6 @@ use std::test::Fail;
 
 // The setup of one target of three pages that is watched whole.
 fn three_pages(alloc: Global, aggr: u32) -> Result<Setup, Fail>
-    requires some { 1 ≤ aggr }
-    requires most { aggr ≤ 1000 }
     ensures { IfOk result (λ s. length s.ranges.list ≡ 1) }
 {
     let space = Space::new(
@@ -21,25 +19,18 @@ fn three_pages(alloc: Global, aggr: u32) -> Result<Setup, Fail>
             pages: 3,
         }],
     )?;
-    let mut ranges = Ranges::new(alloc, 8)?;
-    ranges.push(Range {
-        target: 0,
-        first: 0,
-        pages: 3,
-        class: 0,
-    });
     let attrs = Attrs {
         min: 3,
         max: 8,
         aggr,
     };
-    Ok(Setup {
-        space,
-        unit: 1,
-        cap: 8,
-        attrs,
-        ranges,
-    })
+    let range = RangeSpec {
+        target: 0,
+        from: 0x1_0000,
+        to: 0x1_3000,
+        class: 0,
+    };
+    Ok(Setup::new(alloc, space, 1, 8, attrs, &[range], &[])?)
 }
 
 // Clears the next pick, whose page is this one.

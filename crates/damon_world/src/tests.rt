@@ -1,8 +1,8 @@
 // One pass over three pages with touches in it; the expected values were reckoned by hand.
-ghost use Rattle.std.specs.Prelude.{◌≡◌, ◌≤◌, length, IfOk};
+ghost use Rattle.std.specs.Prelude.{◌≡◌, length, IfOk};
 
 use crate::{Stepped, World};
-use damon_types::{Attrs, Range, Ranges, Space, Target};
+use damon_types::{Attrs, RangeSpec, Space, Target};
 use live_commit::{Phase, Setup};
 use rand_pcg::Lcg64Xsh32;
 use std::alloc::Global;
@@ -20,25 +20,18 @@ fn three_pages(alloc: Global) -> Result<Setup, Fail>
             pages: 3,
         }],
     )?;
-    let mut ranges = Ranges::new(alloc, 8)?;
-    ranges.push(Range {
-        target: 0,
-        first: 0,
-        pages: 3,
-        class: 0,
-    });
     let attrs = Attrs {
         min: 3,
         max: 8,
         aggr: 5,
     };
-    Ok(Setup {
-        space,
-        unit: 1,
-        cap: 8,
-        attrs,
-        ranges,
-    })
+    let range = RangeSpec {
+        target: 0,
+        from: 0x1_0000,
+        to: 0x1_3000,
+        class: 0,
+    };
+    Ok(Setup::new(alloc, space, 1, 8, attrs, &[range], &[])?)
 }
 
 // A world of three pages.

@@ -9,7 +9,7 @@ use Rattle.damon_types.specs.declared.attrs.Attrs.{Attrs}
 use Rattle.live_commit.specs.Setup.{SetupValue}
 use Rattle.plain_script.specs.declared.script.Command.{Command}
 use Rattle.plain_script.specs.declared.setup.Head.{Head}
-use Rattle.plain_script.specs.Script.{◌>>=◌, only_if, lines_of, keyword, seed_of, unit_of, cap_of, attrs_of, target_of, range_of, setup_of, commands_of, weight, script_of, script_of_lines, ScriptValue}
+use Rattle.plain_script.specs.Script.{◌>>=◌, only_if, lines_of, keyword, seed_of, unit_of, cap_of, attrs_of, target_of, range_of, plain_setup, commands_of, weight, script_of, script_of_lines, ScriptValue}
 use Rattle.plain_script.specs.Lines.{BeginWithFirst, HasLines}
 use Rattle.plain_script.specs.Body.{body_of, commands_in, within_work}
 use Rattle.plain_script.specs.Head.{at_line, behind_begin, setup_made}
@@ -84,7 +84,7 @@ staged-script_of_lines (header ∷ s ∷ u ∷ []) = bind_to_none (keyword (code
 staged-script_of_lines (header ∷ s ∷ u ∷ c ∷ []) = bind_to_none (keyword (codes "damon script 1") header) _ (λ _. bind_to_none (seed_of s) _ (λ _. bind_to_none (unit_of u) _ (λ _. bind_to_none (cap_of c) _ (λ _. refl))))
 staged-script_of_lines (header ∷ s ∷ u ∷ c ∷ a ∷ []) = bind_to_none (keyword (codes "damon script 1") header) _ (λ _. bind_to_none (seed_of s) _ (λ _. bind_to_none (unit_of u) _ (λ _. bind_to_none (cap_of c) _ (λ _. bind_to_none (attrs_of a) _ (λ _. refl)))))
 staged-script_of_lines (header ∷ s ∷ u ∷ c ∷ a ∷ t ∷ []) = bind_to_none (keyword (codes "damon script 1") header) _ (λ _. bind_to_none (seed_of s) _ (λ _. bind_to_none (unit_of u) _ (λ _. bind_to_none (cap_of c) _ (λ _. bind_to_none (attrs_of a) _ (λ _. bind_to_none (target_of t) _ (λ _. refl))))))
-staged-script_of_lines (header ∷ s ∷ u ∷ c ∷ a ∷ t ∷ r ∷ []) = bind_to_none (keyword (codes "damon script 1") header) _ (λ _. bind_to_none (seed_of s) _ (λ _. bind_to_none (unit_of u) _ (λ unit. bind_to_none (cap_of c) _ (λ cap. bind_to_none (attrs_of a) _ (λ attrs. bind_to_none (target_of t) _ (λ target. bind_to_none (range_of r) _ (λ range. bind_to_none (setup_of unit cap attrs target range) _ (λ _. refl))))))))
+staged-script_of_lines (header ∷ s ∷ u ∷ c ∷ a ∷ t ∷ r ∷ []) = bind_to_none (keyword (codes "damon script 1") header) _ (λ _. bind_to_none (seed_of s) _ (λ _. bind_to_none (unit_of u) _ (λ unit. bind_to_none (cap_of c) _ (λ cap. bind_to_none (attrs_of a) _ (λ attrs. bind_to_none (target_of t) _ (λ target. bind_to_none (range_of r) _ (λ range. bind_to_none (plain_setup unit cap attrs target range) _ (λ _. refl))))))))
 
 -- a first line is read, and then the rest of a head
 lines_of-stage : {A B C : Type 0} → BeginWithFirst → (read : List ℕ → Option A) (next : A → List (List ℕ) → Option B) (text : List ℕ)

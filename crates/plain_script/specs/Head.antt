@@ -1,16 +1,10 @@
 -- The head of a script, as a text.
-use Rattle.std.specs.Prelude.{ℕ, ◌≤◌, List, [], ◌∷◌, codes, Option, Some}
+use Rattle.std.specs.Prelude.{ℕ, List, codes, Option, Some}
 use Rattle.std.specs.Option.{option_map}
-use Rattle.damon_types.specs.declared.space.Target.{Target}
-use Rattle.damon_types.specs.declared.range.Range.{Range}
-use Rattle.damon_types.specs.declared.attrs.Attrs.{Attrs}
-use Rattle.damon_types.specs.Attrs.{IsAttrs}
-use Rattle.damon_types.specs.Ranges.{IsRange}
-use Rattle.damon_types.specs.Within.{LiesInTarget}
 use Rattle.live_commit.specs.Setup.{SetupValue}
 use Rattle.line_text.specs.Line.{first_line}
 use Rattle.plain_script.specs.declared.setup.Head.{Head}
-use Rattle.plain_script.specs.Script.{◌>>=◌, keyword, seed_of, unit_of, cap_of, attrs_of, target_of, range_of, setup_of}
+use Rattle.plain_script.specs.Script.{◌>>=◌, keyword, seed_of, unit_of, cap_of, attrs_of, target_of, range_of, plain_setup}
 
 -- the value that the first line of a text spells, and the text behind it
 abbrev pub at_line : {A : Type 0} → (List ℕ → Option A) → List ℕ → Option (A × List ℕ)
@@ -33,23 +27,7 @@ head_of text = do
 
 -- the setup that a head says
 abbrev pub setup_made : Head → Option SetupValue
-setup_made h = setup_of h.unit h.cap h.attrs h.target h.range
-
--- limits of a setup that do not speak of its target
-pub record AreLimits (unit cap : ℕ) (a : Attrs) : Type 0 where
-  pub unit_some : 1 ≤ unit
-  pub unit_most : unit ≤ 1048576
-  pub cap_some : 3 ≤ cap
-  pub cap_most : cap ≤ 4096
-  pub attrs : IsAttrs a
-  pub max_cap : a.max ≤ cap
-
--- a range of the one target, with enough pages
-pub record FitsTarget (t : Target) (unit : ℕ) (g : Range) : Type 0 where
-  pub range : IsRange g
-  pub wide : unit ≤ g.pages
-  pub class : g.class ≤ 15
-  pub within : LiesInTarget (t ∷ []) g
+setup_made h = plain_setup h.unit h.cap h.attrs h.target h.range
 
 -- the text behind a first line `begin`
 abbrev pub behind_begin : List ℕ → Option (List ℕ)

@@ -1,13 +1,13 @@
 -- What a text spells as a script, by cases on its lines.
-use Rattle.std.specs.Prelude.{ℕ, ◌+◌, ◌-◌, ◌*◌, ◌/◌, ◌%◌, ◌^◌, Bool, ◌&&◌, ◌==◌, nat_lt, nat_le, List, [], ◌∷◌, sum_by, codes, Option, Some, None, is_ok, if◌then◌else◌}
+use Rattle.std.specs.Prelude.{ℕ, ◌-◌, ◌^◌, Bool, ◌&&◌, ◌==◌, nat_le, List, [], ◌∷◌, sum_by, codes, Option, Some, None, is_ok, if◌then◌else◌}
 use Rattle.std.specs.Option.{option_map}
 use Rattle.damon_types.specs.declared.space.Target.{Target}
-use Rattle.damon_types.specs.declared.range.Range.{Range}
 use Rattle.damon_types.specs.declared.range.RangeSpec.{RangeSpec}
 use Rattle.damon_types.specs.declared.attrs.Attrs.{Attrs}
-use Rattle.damon_types.specs.Attrs.{checked_attrs}
 use Rattle.damon_types.specs.Space.{checked, page_of}
+use Rattle.live_commit.specs.Checked.{checked_setup}
 use Rattle.live_commit.specs.Setup.{SetupValue}
+use Rattle.live_commit.specs.SetupView.{setup_of}
 use Rattle.line_text.specs.Line.{first_word, after_prefix}
 use Rattle.line_text.specs.Number.{number}
 use Rattle.line_text.specs.Address.{address}
@@ -113,27 +113,11 @@ range_of line = do
   class ← number_8 to.1
   Some (record { target = target.0; from = from.0; to = to.0; class = class })
 
--- whether the one target there is holds the range, in whole pages and enough of them
-abbrev pub is_held : Target → ℕ → RangeSpec → Bool
-is_held t unit g =
-    (g.target == 0) && ((g.from % 4096 == 0) && ((g.to % 4096 == 0) && (nat_lt g.from g.to && (nat_le t.base g.from
-    && (nat_le g.to (t.base + 4096 * t.pages) && (nat_le unit ((g.to - g.from) / 4096) && nat_le g.class 15))))))
-
--- the pages of a range that the one target holds
-abbrev pub pages_in : Target → RangeSpec → Range
-pages_in t g = record { target = 0; first = (g.from - t.base) / 4096; pages = (g.to - g.from) / 4096; class = g.class }
-
--- whether the limits of a setup of one target are kept
-abbrev pub is_within : ℕ → ℕ → Attrs → Target → Bool
-is_within unit cap attrs t =
-    nat_le 1 unit && (nat_le unit 1048576 && (nat_le 3 cap && (nat_le cap 4096 && (is_ok (checked_attrs attrs)
-    && (nat_le attrs.max cap && is_ok (checked (t ∷ [])))))))
-
--- the setup of one target and one range
-abbrev pub setup_of : ℕ → ℕ → Attrs → Target → RangeSpec → Option SetupValue
-setup_of unit cap attrs t g =
-    only_if (is_within unit cap attrs t && is_held t unit g)
-    (record { space = t ∷ []; unit = unit; cap = cap; attrs = attrs; ranges = pages_in t g ∷ [] })
+-- the setup of one target and one range, where these have no fault
+abbrev pub plain_setup : ℕ → ℕ → Attrs → Target → RangeSpec → Option SetupValue
+plain_setup unit cap attrs t g =
+    only_if (is_ok (checked (t ∷ [])) && is_ok (checked_setup (t ∷ []) unit cap attrs (g ∷ []) []))
+    (setup_of (t ∷ []) unit cap attrs (g ∷ []) [])
 
 -- `touch TARGET ADDRESS`: a touch of the page that holds the byte
 abbrev pub touch_of : List Target → List ℕ → Option Command
@@ -184,7 +168,7 @@ script_of_lines (header ∷ seed_line ∷ unit_line ∷ cap_line ∷ attrs_line 
   attrs ← attrs_of attrs_line
   target ← target_of target_line
   range ← range_of range_line
-  setup ← setup_of unit cap attrs target range
+  setup ← plain_setup unit cap attrs target range
   begun ← keyword (codes "begin") begin
   commands ← commands_of setup.space body
   only_if (nat_le (sum_by weight commands) 16777216) (record { seed = seed; setup = setup; commands = commands })

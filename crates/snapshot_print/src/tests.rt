@@ -2,7 +2,7 @@ ghost use Rattle.std.specs.Prelude.{◌≡◌, length, IfOk};
 
 use super::*;
 use damon_core::Monitor;
-use damon_types::{Attrs, Range, Ranges, Space, Target};
+use damon_types::{Attrs, RangeSpec, Space, Target};
 use line_text::{same_text, strip};
 use live_commit::{Phase, Setup};
 use std::alloc::{AllocError, Global};
@@ -31,25 +31,18 @@ fn three_pages(alloc: Global) -> Result<Setup, Fail>
             pages: 3,
         }],
     )?;
-    let mut ranges = Ranges::new(alloc, 8)?;
-    ranges.push(Range {
-        target: 0,
-        first: 0,
-        pages: 3,
-        class: 0,
-    });
     let attrs = Attrs {
         min: 3,
         max: 8,
         aggr: 5,
     };
-    Ok(Setup {
-        space,
-        unit: 1,
-        cap: 8,
-        attrs,
-        ranges,
-    })
+    let range = RangeSpec {
+        target: 0,
+        from: 0x10000,
+        to: 0x13000,
+        class: 0,
+    };
+    Ok(Setup::new(alloc, space, 1, 8, attrs, &[range], &[])?)
 }
 
 // Begins a pass.
