@@ -49,7 +49,10 @@ fn say<R: AllocGlobal + Print>(rt: &R, name: &[u8], text: &[u8]) -> io::Result<(
     let name = str::from_utf8(name).unwrap_or("?");
     match read_script(rt.alloc(), text) {
         Ok(_) => println!(rt; "{name} is a script"),
-        Err(ReadFail::Script { fault }) => println!(rt; "{name} line {}: {}", fault.line, fault.kind),
+        Err(ReadFail::Script { fault }) => println!(rt;
+            "{name} line {}: {}",
+            fault.line, fault.kind
+        ),
         Err(ReadFail::Memory) => println!(rt; "{name} needs memory"),
     }
 }
