@@ -15,9 +15,9 @@ ghost use Rattle.damon_app.specs.Answers.{IsAnswer, status_of};
 ghost use Rattle.damon_app.specs.Replay.{AsksReplay, EndsRun, IsRead, IsUnwritten, NoScript, Replays, WritesFront, report_of};
 
 use crate::{INPUT_LIMIT, Status, flush_if_full, read_all, write_all};
-use plain_script::{Script, read_script};
 use damon_types::{Sink, Source};
 use damon_world::World;
+use plain_script::{Script, read_script};
 use rand_core::Rng;
 use script_run::{
     finish, open_world, run_command, script_states_are_bound, steps_before_due, steps_within,

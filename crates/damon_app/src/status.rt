@@ -1,6 +1,6 @@
 use crate::InputFault;
-use plain_script::ReadFail;
 use damon_types::Failed;
+use plain_script::ReadFail;
 use std::alloc::AllocError;
 
 /// How a run of the program ended.

@@ -8,9 +8,9 @@ ghost use Rattle.script_run.specs.Unfold.{steps_of as steps_in};
 ghost use Rattle.script_run.specs.Report.{command_text};
 ghost use Rattle.script_run.specs.Played.{CanStep, MakesSteps, Plays, Progress};
 
-use plain_script::Command;
 use damon_types::Space;
 use damon_world::World;
+use plain_script::Command;
 use rand_core::Rng;
 use snapshot_print::{Form, print_show};
 use std::alloc::{AllocError, Global};

@@ -13,9 +13,9 @@ ghost use Rattle.script_run.specs.Report.{report, shown_last};
 ghost use Rattle.script_run.specs.Played.{Progress};
 
 use crate::steps_of;
-use plain_script::{Command, Script};
 use damon_types::Space;
 use damon_world::World;
+use plain_script::{Command, Script};
 use rand_core::Rng;
 use rand_pcg::Lcg64Xsh32;
 use snapshot_print::{Form, print_end};
