@@ -4,7 +4,7 @@ ghost use Rattle.damon_types.specs.Space.{page_of, pages_of};
 ghost use Rattle.live_commit.specs.SetupView.{value_of};
 ghost use Rattle.damon_control.specs.Body.{are_swept, command_line, step_line, sweep_line, touch_line, word_line};
 ghost use Rattle.damon_control.specs.BodyLine.{LineIsWithin, body_said, command_said};
-ghost use Rattle.damon_control.specs.Command.{command_value, weight};
+ghost use Rattle.damon_control.specs.Command.{command_value, weight, work_of};
 ghost use Rattle.damon_control.specs.Left.{FaultOf, reads_left};
 ghost use Rattle.damon_control.specs.Limits.{IsWithin};
 ghost use Rattle.damon_control.specs.Refusal.{only_if};
@@ -40,11 +40,13 @@ pub enum BodyLine {
 }
 
 // Reads the commands of a script, up to its last line.
+#[tactic(auto, using(crate::proofs::WorkLemmas::work_of_more))]
 pub fn read_body(alloc: Global, lines: &mut Lines, setup: &Setup) -> Result<Commands, ReadFail>
     requires { lines.old.taken + length lines.old.rest.now ≤ 16777216 }
     ensures ok { IfOk result (λ commands. (seed : ℕ) → reads_left (InBody (begun seed (value_of setup.now))) lines.old ≡ reads_left (AtEnd (record { seed = seed; setup = value_of setup.now; commands = map command_value commands.list })) lines.new) }
     ensures fault { (seed : ℕ) → FaultOf result (reads_left (InBody (begun seed (value_of setup.now))) lines.old) }
     ensures within { IfOk result (λ commands. All (IsWithin (pages_of setup.now.space)) commands.list) }
+    ensures work { IfOk result (λ commands. work_of setup.now.cap (map command_value commands.list) ≤ 16777216) }
     ensures small { lines.new.taken + length lines.new.rest.now ≤ 16777216 }
 {
     let mut commands = Commands::new(alloc);
@@ -163,6 +165,7 @@ fn read_step(line: &[u8]) -> Result<Command, ScriptKind>
 fn added_work(work: u64, cap: u32, command: &Command) -> Result<u64, ScriptKind>
     requires { work ≤ 16777216 }
     ensures exact { result ≡ only_if (nat_le (work + weight cap (command_value command.now)) 16777216) TooMuch (work + weight cap (command_value command.now)) }
+    ensures sum { IfOk result (λ sum. sum ≡ work + weight cap (command_value command.now)) }
     ensures most { IfOk result (λ sum. sum ≤ 16777216) }
 {
     let pass = 2 * u64::from(cap) + 3;
