@@ -2,20 +2,23 @@
 """Makes the input of the program `grammar_cases`, and the answers that are wanted of it, from
 `tests/cases/bad-script.jsonl`. Run it at the top of the checkout after the cases have changed."""
 import json
+import string
 from pathlib import Path
+from urllib.parse import quote
 
 CASES = Path("tests/cases/bad-script.jsonl")
 CRATE = Path("crates/grammar_cases")
+KEPT = (string.ascii_letters + string.digits + string.punctuation + " ").replace("%", "")
 
 
 def main():
-    texts, answers = bytearray(), []
+    texts, answers = [], []
     for line in CASES.read_text().splitlines():
         case = json.loads(line)
-        text = case["input"].encode("latin-1")
-        texts += f"{case['name']} {len(text)}\n".encode() + text + b"\n"
+        text = quote(case["input"].encode("latin-1"), safe=KEPT)
+        texts.append(f"{case['name']} {text}\n")
         answers.append(f"{case['name']} {case['answer']}\n")
-    (CRATE / "stdin").write_bytes(texts)
+    (CRATE / "stdin").write_text("".join(texts))
     (CRATE / "stdout").write_text("".join(answers))
 
 
