@@ -1,19 +1,23 @@
 -- Events one after another.
-use Rattle.std.proofs.Common.{◌≡◌, ℕ, zero, suc, List, [], ◌∷◌, ◌++◌, refl, sym, ap, ◌∙◌, subst}
+use Rattle.std.proofs.Common.{◌≡◌, ℕ, zero, suc, ◌+◌, ◌-◌, ◌≤◌, Bool, true, false, if◌then◌else◌, List, [], ◌∷◌, ◌++◌, length, refl, sym, ap, ◌∙◌, subst, cond, append_assoc, arith}
+use Rattle.std.specs.Prelude.{◌==◌}
+use Rattle.std.proofs.lemmas.List.{length-append, append-nil}
 use Rattle.rand_core.specs.Stream.{Stream}
 use Rattle.live_commit.specs.declared.phase.Phase.{Phase}
 use Rattle.live_commit.specs.declared.phase.Phase.TheVariants.{Idle, Clearing, Armed, Checking, Void, Due}
-use Rattle.std.specs.Prelude.{Bool, true, false, cond, ◌==◌}
+use Rattle.damon_types.specs.Space.{pages_of}
 use Rattle.damon_core.specs.State.{State, Core, opening, row_count}
-use Rattle.damon_core.specs.Event.{Event, Fits, ByHit, observe, load, next_hit}
-use Rattle.damon_core.specs.After.{after}
+use Rattle.damon_core.specs.Event.{Event, Fits, ByHit, touch, prepare, clear, load, observe, aggregate, show, next_hit}
+use Rattle.damon_core.specs.After.{after, by_clear, by_load, by_observe}
 use Rattle.damon_core.specs.Reached.{run, AllFit, AllByHit, Reached}
 use Rattle.damon_world.specs.Draws.{drawn_rest}
 use Rattle.damon_world.specs.Stands.{WorldView, StandsFor}
-use Rattle.damon_world.specs.Moment.{Moment, draws, event_in, next_event, stepped_times, events_of_steps}
-use Rattle.plain_script.specs.declared.script.Command.{Command}
-use Rattle.plain_script.specs.declared.script.Command.TheVariants.{Touch, Step, Show}
-use Rattle.script_run.specs.Unfold.{events_of, played, events_from}
+use Rattle.damon_world.specs.Moment.{Moment, draws, event_in, next_event, stepped}
+use Rattle.damon_control.specs.Command.{CommandValue, Touch, Sweep, Step, Arm, Finish, Show, Commit}
+use Rattle.script_run.specs.declared.steps.Stop.{Stop}
+use Rattle.script_run.specs.declared.steps.Stop.TheVariants as stop
+use Rattle.script_run.specs.Steps.{after_steps, next_events, next_moment, step_events, stops}
+use Rattle.script_run.specs.Unfold.{events_from, events_of, pass_limit, played, touches, wants_aggregation}
 use Rattle.script_run.specs.Played.{MakesSteps}
 
 pub run-append : (s : State) (es fs : List Event) → run s (es ++ fs) ≡ run (run s es) fs
@@ -47,26 +51,30 @@ Reached-run s es reached fit = record {
   is = run-append (opening reached.setup) reached.events es ∙ ap (λ t. run t es) reached.is;
 }
 
-pub run-events_of_steps : (n : ℕ) (m : Moment) → run m.state (events_of_steps n m) ≡ (stepped_times n m).state
-run-events_of_steps zero m = refl
-run-events_of_steps (suc n) m =
-    run-append m.state (events_of_steps n m) (next_event (stepped_times n m).state (stepped_times n m).stream ∷ [])
-    ∙ ap (λ s. after s (next_event (stepped_times n m).state (stepped_times n m).stream)) (run-events_of_steps n m)
+-- one step, or none where steps stop
+run-if : (b : Bool) (m : Moment) → run m.state (if b then [] else next_event m.state m.stream ∷ []) ≡ (if b then m else stepped m).state
+run-if true m = refl
+run-if false m = refl
 
-pub no_steps : {R : Type 0} (stream : R → Stream) (a : WorldView R) → MakesSteps stream a a 0
-no_steps stream a m reached stands = (tt, stands)
+pub run-step_events : (s : Stop) (n : ℕ) (m : Moment) → run m.state (step_events s n m) ≡ (after_steps s n m).state
+run-step_events s zero m = refl
+run-step_events s (suc n) m =
+    let now = after_steps s n m in
+    run-append m.state (step_events s n m) (next_events s now)
+    ∙ ap (λ t. run t (next_events s now)) (run-step_events s n m)
+    ∙ run-if (stops s now.state.core.phase) now
 
--- one step more
-pub steps_then : {R : Type 0} (stream : R → Stream) (a b c : WorldView R) (n : ℕ) → MakesSteps stream a b n → ((s : State) → Reached s → StandsFor b s → Fits s (next_event s (stream b.source)) × StandsFor c (after s (next_event s (stream b.source)))) → stream c.source ≡ drawn_rest (draws b.monitor.core) (stream b.source) → MakesSteps stream a c (suc n)
-steps_then stream a b c n first next words m reached stands =
-    let before = first m reached stands in
-    let now = stepped_times n m in
-    let reached_now = subst Reached (run-events_of_steps n m) (Reached-run m.state (events_of_steps n m) reached before.0) in
-    let moved = subst (λ t. Fits now.state (next_event now.state t) × StandsFor c (after now.state (next_event now.state t))) before.1.words (next now.state reached_now before.1.state) in (
-      AllFit-append m.state (events_of_steps n m) (next_event now.state now.stream ∷ []) before.0 (subst (λ s. Fits s (next_event now.state now.stream)) (sym (run-events_of_steps n m)) moved.0, tt),
-      record { state = moved.1; words = words ∙ ap (λ (x : Core). drawn_rest (draws x) (stream b.source)) before.1.state.monitor.same ∙ ap (λ t. drawn_rest (draws now.state.core) t) before.1.words },
-    )
+-- the state after the events of a command
+pub run-events_of : (m : Moment) (c : CommandValue) → run m.state (events_of m c) ≡ (played m c).state
+run-events_of m (Touch page) = refl
+run-events_of m (Sweep from to) = refl
+run-events_of m (Step times) = run-step_events stop.Due times m
+run-events_of m Arm = run-step_events stop.Armed (pass_limit m.state.core) m
+run-events_of m Finish = run-step_events stop.Idle (pass_limit m.state.core) m
+run-events_of m Show = refl
+run-events_of m (Commit commit) = refl
 
+-- the results of loads in steps are those of their pages
 choose_by_hit : (b : Bool) (s : State) → ByHit s (cond b observe (load (next_hit s)))
 choose_by_hit true s = tt
 choose_by_hit false s = refl
@@ -79,27 +87,87 @@ by_hit_in (Checking k) s t = choose_by_hit (k == row_count s.core) s
 by_hit_in Void s t = tt
 by_hit_in Due s t = tt
 
--- the results of loads in steps are those of their pages
-pub by_hit-events_of_steps : (n : ℕ) (m : Moment) → AllByHit m.state (events_of_steps n m)
-by_hit-events_of_steps zero m = tt
-by_hit-events_of_steps (suc n) m =
-    let now = stepped_times n m in
-    AllByHit-append m.state (events_of_steps n m) (next_event now.state now.stream ∷ []) (by_hit-events_of_steps n m)
-    (subst (λ s. ByHit s (next_event now.state now.stream)) (sym (run-events_of_steps n m)) (by_hit_in now.state.core.phase now.state now.stream), tt)
+by_hit_if : (b : Bool) (m : Moment) → AllByHit m.state (if b then [] else next_event m.state m.stream ∷ [])
+by_hit_if true m = tt
+by_hit_if false m = (by_hit_in m.state.core.phase m.state m.stream, tt)
 
--- the state after the events of a command
-pub run-events_of : (m : Moment) (c : Command) → run m.state (events_of m c) ≡ (played m c).state
-run-events_of m (Touch page) = refl
-run-events_of m (Step times) = run-events_of_steps times m
-run-events_of m Show = refl
+by_hit-step_events : (s : Stop) (n : ℕ) (m : Moment) → AllByHit m.state (step_events s n m)
+by_hit-step_events s zero m = tt
+by_hit-step_events s (suc n) m =
+    let now = after_steps s n m in
+    AllByHit-append m.state (step_events s n m) (next_events s now) (by_hit-step_events s n m)
+    (subst (λ t. AllByHit t (next_events s now)) (sym (run-step_events s n m)) (by_hit_if (stops s now.state.core.phase) now))
 
-by_hit-events_of : (m : Moment) (c : Command) → AllByHit m.state (events_of m c)
+by_hit-touches : (s : State) (page n : ℕ) → AllByHit s (touches page n)
+by_hit-touches s page zero = tt
+by_hit-touches s page (suc n) = (tt, by_hit-touches (after s (touch page)) (page + 1) n)
+
+by_hit-events_of : (m : Moment) (c : CommandValue) → AllByHit m.state (events_of m c)
 by_hit-events_of m (Touch page) = (tt, tt)
-by_hit-events_of m (Step times) = by_hit-events_of_steps times m
+by_hit-events_of m (Sweep from to) = by_hit-touches m.state from (to - from)
+by_hit-events_of m (Step times) = by_hit-step_events stop.Due times m
+by_hit-events_of m Arm = by_hit-step_events stop.Armed (pass_limit m.state.core) m
+by_hit-events_of m Finish = by_hit-step_events stop.Idle (pass_limit m.state.core) m
 by_hit-events_of m Show = (tt, tt)
+by_hit-events_of m (Commit commit) = tt
 
-pub by_hit-events_from : (m : Moment) (cs : List Command) → AllByHit m.state (events_from m cs)
+pub by_hit-events_from : (m : Moment) (cs : List CommandValue) → AllByHit m.state (events_from m cs)
 by_hit-events_from m [] = tt
 by_hit-events_from m (c ∷ cs) =
-    AllByHit-append m.state (events_of m c) (events_from (played m c) cs) (by_hit-events_of m c)
-    (subst (λ s. AllByHit s (events_from (played m c) cs)) (sym (run-events_of m c)) (by_hit-events_from (played m c) cs))
+    AllByHit-append m.state (events_of m c) (if wants_aggregation m c then [] else events_from (played m c) cs) (by_hit-events_of m c)
+    (subst (λ s. AllByHit s (if wants_aggregation m c then [] else events_from (played m c) cs)) (sym (run-events_of m c)) (rest (wants_aggregation m c) (by_hit-events_from (played m c) cs)))
+  where
+    rest : (b : Bool) → AllByHit (played m c).state (events_from (played m c) cs) → AllByHit (played m c).state (if b then [] else events_from (played m c) cs)
+    rest true more = tt
+    rest false more = more
+
+-- events change no cap
+by_clear-cap : (ph : Phase) (s : State) → (by_clear ph s).core.regions.cap ≡ s.core.regions.cap
+by_clear-cap Idle s = refl
+by_clear-cap (Clearing k) s = refl
+by_clear-cap Armed s = refl
+by_clear-cap (Checking k) s = refl
+by_clear-cap Void s = refl
+by_clear-cap Due s = refl
+
+by_load-cap : (ph : Phase) (h : Bool) (s : State) → (by_load ph h s).core.regions.cap ≡ s.core.regions.cap
+by_load-cap Idle h s = refl
+by_load-cap (Clearing k) h s = refl
+by_load-cap Armed h s = refl
+by_load-cap (Checking k) h s = refl
+by_load-cap Void h s = refl
+by_load-cap Due h s = refl
+
+by_observe-cap : (ph : Phase) (s : State) → (by_observe ph s).core.regions.cap ≡ s.core.regions.cap
+by_observe-cap Idle s = refl
+by_observe-cap (Clearing k) s = refl
+by_observe-cap Armed s = refl
+by_observe-cap (Checking k) s = refl
+by_observe-cap Void s = refl
+by_observe-cap Due s = refl
+
+after-cap : (s : State) (e : Event) → (after s e).core.regions.cap ≡ s.core.regions.cap
+after-cap s (touch page) = refl
+after-cap s (prepare words) = refl
+after-cap s clear = by_clear-cap s.core.phase s
+after-cap s (load h) = by_load-cap s.core.phase h s
+after-cap s observe = by_observe-cap s.core.phase s
+after-cap s (aggregate words) = refl
+after-cap s show = refl
+
+pub run-cap : (s : State) (es : List Event) → (run s es).core.regions.cap ≡ s.core.regions.cap
+run-cap s [] = refl
+run-cap s (e ∷ es) = run-cap (after s e) es ∙ after-cap s e
+
+-- touches of pages of the space fit
+pub AllFit-touches : (s : State) (page n : ℕ) → page + n ≤ pages_of s.core.space → AllFit s (touches page n)
+AllFit-touches s page zero within = tt
+AllFit-touches s page (suc n) within = (omega arith, AllFit-touches (after s (touch page)) (page + 1) n (omega arith))
+
+-- touches of so many pages, and of one more
+pub touches-more : (page n : ℕ) → touches page (suc n) ≡ touches page n ++ touch (page + n) ∷ []
+touches-more page zero = ap (λ p. touch p ∷ []) (omega arith)
+touches-more page (suc n) = ap (λ es. touch page ∷ es) (touches-more (page + 1) n ∙ ap (λ p. touches (page + 1) n ++ touch p ∷ []) same)
+  where
+    same : page + 1 + n ≡ page + suc n
+    same = omega arith

@@ -1,3 +1,4 @@
+pub mod Steps
 pub mod Unfold
 pub mod Report
 pub mod Played

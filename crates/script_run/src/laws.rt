@@ -4,7 +4,7 @@ ghost use Rattle.damon_core.specs.State.{opening};
 ghost use Rattle.damon_core.specs.Event.{Event};
 ghost use Rattle.damon_core.specs.Reached.{AllFit, CanOpen, run};
 ghost use Rattle.damon_core.specs.Bound.{Bound};
-ghost use Rattle.plain_script.specs.Script.{ScriptValue};
+ghost use Rattle.damon_control.specs.Script.{ScriptValue};
 ghost use Rattle.script_run.specs.Unfold.{unfold_script};
 
 /// Each state that a front of a script's events leads to is bound, where the events fit.

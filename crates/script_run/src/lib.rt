@@ -7,7 +7,9 @@ mod command;
 mod laws;
 /// A script from its opening to its end.
 mod script;
+/// Steps that stop at a phase.
+mod steps;
 
-pub use command::{run_command, steps_of};
+pub use command::{Ran, run_command};
 pub use laws::script_states_are_bound;
-pub use script::{finish, open_world, steps_before_due, steps_within};
+pub use script::{finish, has_later_parts, open_world};

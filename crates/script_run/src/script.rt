@@ -1,21 +1,21 @@
-ghost use Rattle.std.specs.Prelude.{◌≡◌, ◌+◌, ◌*◌, ◌≤◌, ◌<◌, ◌++◌, ◌^◌, ◌↔◌, [], ℕ, List, IsTrue, IfOk, OnErr, OnOk, length, sum_by};
+ghost use Rattle.std.specs.Prelude.{◌≡◌, ◌++◌, [], false, ℕ, List, IfOk, OnErr, OnOk, map};
+ghost use Rattle.std.specs.List.{list_any};
 ghost use Rattle.rand_core.specs.Steps.{stream_of, steps_u32};
 ghost use Rattle.rand_pcg.specs.Pcg.{pcg32};
 ghost use Rattle.damon_core.specs.Reached.{AllFit, CanOpen};
 ghost use Rattle.damon_core.specs.State.{opening, opening_core};
-ghost use Rattle.damon_world.specs.Left.{steps_to_due};
 ghost use Rattle.live_commit.specs.SetupView.{value_of};
-ghost use Rattle.plain_script.specs.Script.{ScriptValue};
-ghost use Rattle.plain_script.specs.ScriptView.{said_by};
+ghost use Rattle.damon_control.specs.Command.{command_value};
+ghost use Rattle.damon_control.specs.Script.{ScriptValue};
+ghost use Rattle.damon_control.specs.ScriptView.{said_by};
 ghost use Rattle.snapshot_print.specs.declared.form.Form.{Form as form_type};
-ghost use Rattle.script_run.specs.Unfold.{steps_of as steps_in, unfold_script};
+ghost use Rattle.script_run.specs.Unfold.{comes_to_aggregation, has_later_parts, is_commit, unfold_script};
 ghost use Rattle.script_run.specs.Report.{report, shown_last};
 ghost use Rattle.script_run.specs.Played.{Progress};
 
-use crate::steps_of;
+use damon_control::{Command, Script};
 use damon_types::Space;
 use damon_world::World;
-use plain_script::{Command, Script};
 use rand_core::Rng;
 use rand_pcg::Lcg64Xsh32;
 use snapshot_print::{Form, print_end};
@@ -24,13 +24,11 @@ use std::alloc::{AllocError, Global};
 // The stream of the generator whose words a script's steps draw.
 const STREAM: u64 = 54;
 
-/// A world before the first command of a script of one range, whose random words are those of the
-/// script's seed. Takes memory.
+/// A world before the first command of a script, whose random words are those of the script's seed.
+/// Takes memory.
 pub fn open_world(alloc: Global, script: &Script) -> Result<World<Lcg64Xsh32>, AllocError>
-    requires { length script.now.setup.ranges.list ≡ 1 }
-
     // The world stands at the start of the script.
-    ensures start { IfOk result (λ w. (form : form_type) → Progress (stream_of (steps_u32 pcg32)) form (said_by script.now) w script.now.commands.items []) }
+    ensures start { IfOk result (λ w. (form : form_type) → Progress (stream_of (steps_u32 pcg32)) form (said_by script.now) w (map command_value script.now.commands.list) []) }
     ensures core { IfOk result (λ w. w.monitor.core ≡ opening_core (value_of script.now.setup)) }
     ensures can_open { OnOk result (CanOpen (value_of script.now.setup)) }
 {
@@ -42,30 +40,20 @@ pub fn open_world(alloc: Global, script: &Script) -> Result<World<Lcg64Xsh32>, A
     Ok(world)
 }
 
-/// Whether the commands make at most so many steps in all.
-pub fn steps_within(commands: &[Command], most: u64) -> bool
-    ensures { IsTrue result ↔ (sum_by steps_in commands.now ≤ most) }
+/// Whether a script has a scheme or a commit, which are not built yet.
+pub fn has_later_parts(script: &Script) -> bool
+    ensures { result ≡ has_later_parts (said_by script.now) }
 {
-    let mut left = most;
-    for command in commands {
-        let steps = u64::from(steps_of(*command));
-        if steps > left {
-            return false;
-        }
-        left -= steps;
-    }
-    true
+    !script.setup.slots.is_empty() || has_commit(script.commands.as_slice())
 }
 
-/// How many steps a world can make before an aggregation is due, from where the script starts.
-pub fn steps_before_due<R: Rng + Drop>(world: &World<R>, script: &Script) -> u64
-    requires { world.now.monitor.core ≡ opening_core (value_of script.now.setup) }
-    ensures steps { result ≡ steps_to_due (opening_core (value_of script.now.setup)) }
-    ensures small { result < 2 ^ 40 }
+// Whether one of the commands is a commit.
+fn has_commit(commands: &[Command]) -> bool
+    ensures { result ≡ list_any is_commit (map command_value commands.now) }
 {
-    let rows = world.monitor().rows().len();
-    let attrs = world.monitor().attrs();
-    u64::from(attrs.aggr) * (2 * u64::from(rows) + 2)
+    commands
+        .iter()
+        .any(|command| matches!(command, Command::Commit { .. }))
 }
 
 /// Appends the last line of the report. The space is the world's. Where memory runs out, nothing is
@@ -82,7 +70,7 @@ pub fn finish<R: Rng + Drop>(
     ensures err { OnErr result (out.new.items ≡ out.old.items) }
 
     // With it the text of a script that is carried out is its report.
-    ensures report { (s : ScriptValue) (text : List ℕ) → Progress R.stream form s world.now [] text → (text ++ shown_last form world.now.monitor ≡ report form s.setup (unfold_script s)) × AllFit (opening s.setup) (unfold_script s) }
+    ensures report { (s : ScriptValue) (text : List ℕ) → Progress R.stream form s world.now [] text → (text ++ shown_last form world.now.monitor ≡ report form s.setup (unfold_script s)) × AllFit (opening s.setup) (unfold_script s) × (comes_to_aggregation s ≡ false) }
 {
     print_end(alloc, out, form, world.monitor(), space)
 }

@@ -1,5 +1,0 @@
-mod Options
-mod LineLemmas
-mod BodyLemmas
-mod ScriptLemmas
-mod PageLemmas
