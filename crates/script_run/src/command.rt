@@ -95,6 +95,7 @@ fn run_times<R: Rng + Drop>(world: &mut World<R>, times: u32) -> Ran
     ensures ticks { world.new.monitor.core.ticks ≤ world.old.monitor.core.ticks + times }
     ensures space { world.new.monitor.core.space ≡ world.old.monitor.core.space }
 {
+    let times = u64::from(times);
     if run_steps(world, times, Stop::Due) < times {
         Ran::Stopped
     } else {
@@ -129,10 +130,10 @@ fn run_finish<R: Rng + Drop>(world: &mut World<R>) -> Ran
 }
 
 // The most steps that the arming or the finishing of a pass takes.
-fn pass_limit<R: Rng + Drop>(world: &World<R>) -> u32
+fn pass_limit<R: Rng + Drop>(world: &World<R>) -> u64
     ensures { result ≡ pass_limit world.now.monitor.core }
 {
-    2 * world.monitor().rows().cap() + 3
+    2 * u64::from(world.monitor().rows().cap()) + 3
 }
 
 // How far steps came that ended in this phase.

@@ -35,8 +35,6 @@ pub fn open_world(alloc: Global, script: &Script) -> Result<World<Lcg64Xsh32>, A
     // For its clauses alone: the ranges are in order.
     let _ranges = script.setup.ranges.len();
     let world = World::new(alloc, &script.setup, Lcg64Xsh32::new(script.seed, STREAM))?;
-    // For its clauses alone: the rows tile their ranges.
-    let _rows = world.monitor().rows().len();
     Ok(world)
 }
 
@@ -48,12 +46,18 @@ pub fn has_later_parts(script: &Script) -> bool
 }
 
 // Whether one of the commands is a commit.
+#[tactic(auto, using(crate::proofs::Laters::any_commit))]
 fn has_commit(commands: &[Command]) -> bool
     ensures { result ≡ list_any is_commit (map command_value commands.now) }
 {
-    commands
-        .iter()
-        .any(|command| matches!(command, Command::Commit { .. }))
+    commands.iter().any(is_commit)
+}
+
+// Whether a command is a commit.
+fn is_commit(command: &Command) -> bool
+    ensures { result ≡ is_commit (command_value command.now) }
+{
+    matches!(command, Command::Commit { .. })
 }
 
 /// Appends the last line of the report. The space is the world's. Where memory runs out, nothing is

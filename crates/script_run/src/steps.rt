@@ -18,14 +18,14 @@ pub enum Stop {
 }
 
 // Makes at most so many steps, and says how many were made.
-pub fn run_steps<R: Rng + Drop>(world: &mut World<R>, most: u32, stop: Stop) -> u32
+pub fn run_steps<R: Rng + Drop>(world: &mut World<R>, most: u64, stop: Stop) -> u64
     requires { world.old.monitor.core.ticks + most ≤ 2 ^ 40 }
     ensures steps { MakesSteps R.stream world.old world.new stop most result }
     ensures most { result ≤ most }
     ensures ticks { world.new.monitor.core.ticks ≤ world.old.monitor.core.ticks + most }
     ensures space { world.new.monitor.core.space ≡ world.old.monitor.core.space }
 {
-    let mut made = 0;
+    let mut made = 0u64;
     for _ in 0..most {
         if !stops(stop, world.monitor().phase()) {
             let _stepped = world.step();
