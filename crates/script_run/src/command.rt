@@ -43,7 +43,8 @@ pub fn run_command<R: Rng + Drop>(
     requires built { is_commit (command_value command.now) ≡ false }
     requires ticks { world.old.monitor.core.ticks + weight world.old.monitor.core.regions.cap (command_value command.now) ≤ 2 ^ 40 }
 
-    // The world has made the command's events, and the text is theirs.
+    // The world has made the command's events and goes on, or an aggregation stopped it; and the text
+    // is theirs.
     ensures plays { OnOk result (Plays R.stream world.old world.new (command_value command.now)) }
     ensures stop { IfOk result (λ ran. TellsStop R.stream world.old (command_value command.now) ran) }
     ensures progress { result ≡ Ok Whole → (s : ScriptValue) (rest : List CommandValue) (text : List ℕ) → Progress R.stream form s world.old (command_value command.now ∷ rest) text → Progress R.stream form s world.new rest (text ++ command_text form world.old.monitor.core (command_value command.now)) }
@@ -53,6 +54,30 @@ pub fn run_command<R: Rng + Drop>(
     ensures unmoved { OnErr result (world.new ≡ world.old) }
 
     // What a caller needs for the next command.
+    ensures space_stays { world.new.monitor.core.space ≡ world.old.monitor.core.space }
+    ensures ticks { OnOk result (world.new.monitor.core.ticks ≤ world.old.monitor.core.ticks + weight world.old.monitor.core.regions.cap (command_value command.now)) }
+{
+    carry_out(alloc, world, space, form, command, out)
+}
+
+// Makes the events of a command, and appends their text.
+fn carry_out<R: Rng + Drop>(
+    alloc: Global,
+    world: &mut World<R>,
+    space: &Space,
+    form: Form,
+    command: &Command,
+    out: &mut Vec<u8>,
+) -> Result<Ran, AllocError>
+    requires space { space.now ≡ world.old.monitor.core.space }
+    requires within { IsWithin (pages_of world.old.monitor.core.space) command.now }
+    requires built { is_commit (command_value command.now) ≡ false }
+    requires ticks { world.old.monitor.core.ticks + weight world.old.monitor.core.regions.cap (command_value command.now) ≤ 2 ^ 40 }
+    ensures plays { OnOk result (Plays R.stream world.old world.new (command_value command.now)) }
+    ensures stop { IfOk result (λ ran. TellsStop R.stream world.old (command_value command.now) ran) }
+    ensures text { OnOk result (out.new.items ≡ out.old.items ++ command_text form world.old.monitor.core (command_value command.now)) }
+    ensures err { OnErr result (out.new.items ≡ out.old.items) }
+    ensures unmoved { OnErr result (world.new ≡ world.old) }
     ensures space_stays { world.new.monitor.core.space ≡ world.old.monitor.core.space }
     ensures ticks { OnOk result (world.new.monitor.core.ticks ≤ world.old.monitor.core.ticks + weight world.old.monitor.core.regions.cap (command_value command.now)) }
 {
@@ -78,7 +103,8 @@ pub fn run_command<R: Rng + Drop>(
 
 // Touches the pages from one to before another.
 fn sweep<R: Rng + Drop>(world: &mut World<R>, from: u32, to: u32)
-    requires { to ≤ pages_of world.old.monitor.core.space }
+    requires order { from ≤ to }
+    requires within { to ≤ pages_of world.old.monitor.core.space }
     ensures plays { Plays R.stream world.old world.new (Sweep from to) }
     ensures monitor { world.new.monitor ≡ world.old.monitor }
 {

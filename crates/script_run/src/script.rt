@@ -46,11 +46,15 @@ pub fn has_later_parts(script: &Script) -> bool
 }
 
 // Whether one of the commands is a commit.
-#[tactic(auto, using(crate::proofs::Laters::any_commit))]
 fn has_commit(commands: &[Command]) -> bool
     ensures { result ≡ list_any is_commit (map command_value commands.now) }
 {
-    commands.iter().any(is_commit)
+    for command in commands {
+        if is_commit(command) {
+            return true;
+        }
+    }
+    false
 }
 
 // Whether a command is a commit.

@@ -1,7 +1,7 @@
 use Rattle.std.proofs.Common.{[], refl, ap, ◌∙◌}
 use Rattle.rand_core.specs.Steps.{stream_of, steps_u32}
 use Rattle.rand_pcg.specs.Pcg.{pcg32}
-use Rattle.plain_script.specs.ScriptView.{said_by}
+use Rattle.damon_control.specs.ScriptView.{said_by}
 use Rattle.script_run.specs.Unfold.{start}
 use Rattle.script_run.proofs.script.open_world.Goals as goal
 
@@ -15,4 +15,7 @@ returns-clause-start c form = record {
   stands = record { state = c.in_ok-world.ensures.opening; words = ap (stream_of (steps_u32 pcg32)) (c.in_ok-world.ensures.source ∙ c.new.ensures) };
   fit = λ fits. fits;
   so_far = refl;
+  end = refl;
+  cap = refl;
+  due = refl;
 }

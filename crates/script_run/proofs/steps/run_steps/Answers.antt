@@ -1,7 +1,14 @@
-use Rattle.std.proofs.Common.{ℕ, add-one, sym, subst, ◌∙◌, arith}
-use Rattle.script_run.specs.Played.{MakesSteps}
-use Rattle.script_run.proofs.Moving.{no_steps, step_made, step_skipped}
+use Rattle.std.proofs.Common.{◌∙◌, arith}
+use Rattle.script_run.proofs.Moving.{no_steps}
 use Rattle.script_run.proofs.steps.run_steps.Goals as goal
 
 pub loop-preserved : goal.loop-preserved
-loop-preserved g c = ?
+loop-preserved g c =
+    let kept = c.loop.invariant in
+    let step = c.step_unless-made.ensures in
+    record {
+      steps = step.steps c.args.world.now c.loop.counter c.loop.made kept.steps;
+      most = omega (arith, step.most, kept.most);
+      ticks = omega (arith, step.ticks, kept.ticks);
+      space = step.space ∙ kept.space;
+    }
