@@ -3,8 +3,8 @@ use Rattle.damon_app.specs.declared.input.InputFault.{InputFault}
 use Rattle.damon_app.specs.declared.input.InputFault.TheVariants as inputs
 use Rattle.damon_app.specs.declared.status.Status.{Status}
 use Rattle.damon_app.specs.declared.status.Status.TheVariants as statuses
-use Rattle.plain_script.specs.declared.reader.ReadFail.{ReadFail}
-use Rattle.plain_script.specs.declared.reader.ReadFail.TheVariants as reads
+use Rattle.damon_control.specs.declared.fault.ReadFail.{ReadFail}
+use Rattle.damon_control.specs.declared.fault.ReadFail.TheVariants as reads
 
 -- the answer where an input was not read to its end
 abbrev pub input_status : InputFault → Status
@@ -14,5 +14,5 @@ input_status inputs.TooLong = statuses.TooLong
 
 -- the answer where a text was not read as a script
 abbrev pub read_status : ReadFail → Status
-read_status reads.NotYet = statuses.NotYet
+read_status (reads.Script fault) = statuses.Script fault.line fault.kind
 read_status reads.Memory = statuses.Memory

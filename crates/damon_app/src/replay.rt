@@ -1,26 +1,24 @@
-ghost use Rattle.std.specs.Prelude.{◌≡◌, ◌≢◌, ◌+◌, ◌^◌, ◌<◌, ◌⊎◌, ◌↔◌, ℕ, IfSome, IfOk, IfErr, IsTrue, IsSome, IsErrOf, OnOk, OnErr, Some, All, length};
+ghost use Rattle.std.specs.Prelude.{◌≡◌, ◌≢◌, ◌+◌, ◌^◌, ◌≤◌, ◌⊎◌, ◌↔◌, ℕ, false, IfSome, IfOk, IfErr, IsTrue, IsSome, IsErrOf, OnOk, All, length, map};
 ghost use Rattle.std.specs.Io.KnownBytes.{Appends, IsAtEnd};
 ghost use Rattle.damon_types.specs.Causes.{Rose};
 ghost use Rattle.damon_types.specs.Space.{pages_of};
-ghost use Rattle.plain_script.specs.Limits.{TouchesWithin};
-ghost use Rattle.plain_script.specs.ScriptView.{said_by};
-ghost use Rattle.damon_core.specs.State.{opening, opening_core};
+ghost use Rattle.damon_control.specs.Command.{command_value, work_of};
+ghost use Rattle.damon_control.specs.Limits.{IsWithin};
+ghost use Rattle.damon_control.specs.ScriptView.{said_by};
+ghost use Rattle.damon_core.specs.State.{opening};
 ghost use Rattle.damon_core.specs.Reached.{AllFit, CanOpen};
 ghost use Rattle.live_commit.specs.SetupView.{value_of};
-ghost use Rattle.script_run.specs.Unfold.{unfold_script, ComesToNone};
-ghost use Rattle.damon_world.specs.Left.{steps_to_due};
+ghost use Rattle.script_run.specs.Unfold.{comes_to_aggregation, is_commit, unfold_script};
 ghost use Rattle.damon_app.specs.Given.{GaveOver};
 ghost use Rattle.damon_app.specs.Taken.{WritesPart};
-ghost use Rattle.damon_app.specs.Answers.{IsAnswer, status_of};
-ghost use Rattle.damon_app.specs.Replay.{AsksReplay, EndsRun, IsRead, IsUnwritten, NoScript, Replays, WritesFront, report_of};
+ghost use Rattle.damon_app.specs.Answers.{IsAnswer, TellsFault, TellsLater, status_of};
+ghost use Rattle.damon_app.specs.Replay.{AsksReplay, EndsRun, IsBoundAlong, IsRead, IsUnwritten, Replays, SpellsLater, StopsBefore, WritesFront, report_of};
 
 use crate::{INPUT_LIMIT, Status, flush_if_full, read_all, write_all};
+use damon_control::{Script, read_script};
 use damon_types::{Sink, Source};
-use damon_world::World;
-use plain_script::{Script, read_script};
-use rand_core::Rng;
 use script_run::{
-    finish, open_world, run_command, script_states_are_bound, steps_before_due, steps_within,
+    Ran, finish, has_later_parts, open_world, run_command, script_states_are_bound,
 };
 use snapshot_print::Form;
 use std::alloc::Global;
@@ -40,7 +38,9 @@ pub fn replay_main<S: Source, K: Sink>(
     // When each other answer comes; want of memory may come at any time.
     ensures usage { (result ≡ Status.Usage) ↔ (AsksReplay words.now → ⊥) }
     ensures too_long { result ≢ Status.Memory → IsSome (S.left source.old) → (result ≡ Status.TooLong) ↔ GaveOver INPUT_LIMIT (S.left source.old) (S.left source.new) }
-    ensures not_yet { IsRead result → IfSome (S.left source.old) (λ bytes. (result ≡ Status.NotYet) ↔ NoScript bytes) }
+    ensures script { IsRead result → IfSome (S.left source.old) (TellsFault result) }
+    ensures not_yet { result ≡ Status.NotYet → IfSome (S.left source.old) (λ bytes. SpellsLater bytes (sink.new ≡ sink.old) (K.taken sink.old) (K.taken sink.new)) }
+    ensures later { IsRead result → IfSome (S.left source.old) (TellsLater result) }
     ensures read { result ≡ Status.ReadFault → Rose (S.faults source.old) (S.faults source.new) }
     ensures write { result ≡ Status.WriteFault → Rose (K.faults sink.old) (K.faults sink.new) }
 
@@ -74,52 +74,43 @@ fn replay<S: Source, K: Sink>(alloc: Global, source: &mut S, sink: &mut K) -> Re
 {
     let bytes = read_all(alloc, source)?;
     let script = read_script(alloc, &bytes)?;
-    write_report(alloc, &script, sink)?;
-    script_states_are_bound();
-    Ok(())
+    if has_later_parts(&script) {
+        return Err(Status::NotYet);
+    }
+    write_report(alloc, &script, sink)
 }
 
 // Runs a script and writes its report as the run goes on.
 fn write_report<K: Sink>(alloc: Global, script: &Script, sink: &mut K) -> Result<(), Status>
-    requires one_range { length script.now.setup.ranges.list ≡ 1 }
-    requires touches { All (TouchesWithin (pages_of script.now.setup.space)) script.now.commands.items }
+    requires within { All (IsWithin (pages_of script.now.setup.space)) script.now.commands.list }
+    requires built { All (λ c. is_commit (command_value c) ≡ false) script.now.commands.list }
+    requires work { work_of script.now.setup.cap (map command_value script.now.commands.list) ≤ 16777216 }
 
-    // The events of the script fit from its opening, and the sink gained their report.
-    ensures fit { OnOk result (AllFit (opening (value_of script.now.setup)) (unfold_script (said_by script.now))) }
+    // The run of the script is bound, and the sink gained its report.
+    ensures along { OnOk result (IsBoundAlong (said_by script.now)) }
     ensures all { OnOk result (Appends (K.taken sink.old) (K.taken sink.new) (report_of (said_by script.now))) }
-    ensures can_open { OnOk result (CanOpen (value_of script.now.setup)) }
-
-    // A script whose steps come to an aggregation is not run.
-    ensures none_ok { OnOk result (ComesToNone (said_by script.now)) }
-    ensures none_written { IsErrOf result Status.WriteFault → ComesToNone (said_by script.now) }
-    ensures not_yet { IsErrOf result Status.NotYet → ComesToNone (said_by script.now) → ⊥ }
-    ensures unwritten { IsErrOf result Status.NotYet → sink.new ≡ sink.old }
+    ensures whole { OnOk result (comes_to_aggregation (said_by script.now) ≡ false) }
 
     // Each failure.
+    ensures stopped { IsErrOf result Status.NotYet → StopsBefore (said_by script.now) (K.taken sink.old) (K.taken sink.new) }
     ensures answers { IfErr result EndsRun }
     ensures cause { IsErrOf result Status.WriteFault → Rose (K.faults sink.old) (K.faults sink.new) }
-    ensures part { (sink.new ≡ sink.old) ⊎ (ComesToNone (said_by script.now) × WritesPart (K.taken sink.old) (K.taken sink.new) (report_of (said_by script.now))) }
+    ensures part { (sink.new ≡ sink.old) ⊎ WritesPart (K.taken sink.old) (K.taken sink.new) (report_of (said_by script.now)) }
 {
+    script_states_are_bound();
     let mut world = open_world(alloc, script)?;
-    if !comes_to_none(&world, script) {
-        return Err(Status::NotYet);
-    }
     let space = &script.setup.space;
     let mut text = Vec::new(alloc);
-    for command in &script.commands {
-        run_command(alloc, &mut world, space, Form::Text, *command, &mut text)?;
-        flush_if_full(sink, &mut text)?;
+    for command in script.commands.as_slice() {
+        match run_command(alloc, &mut world, space, Form::Text, command, &mut text)? {
+            Ran::Whole => flush_if_full(sink, &mut text)?,
+            Ran::Stopped => {
+                write_all(sink, &text)?;
+                return Err(Status::NotYet);
+            }
+        }
     }
     finish(alloc, &world, space, Form::Text, &mut text)?;
     write_all(sink, &text)?;
     Ok(())
-}
-
-// Whether the steps of the script come to no aggregation.
-fn comes_to_none<R: Rng + Drop>(world: &World<R>, script: &Script) -> bool
-    requires { world.now.monitor.core ≡ opening_core (value_of script.now.setup) }
-    ensures exact { IsTrue result ↔ ComesToNone (said_by script.now) }
-    ensures small { world.now.monitor.core.ticks + steps_to_due world.now.monitor.core < 2 ^ 40 }
-{
-    steps_within(&script.commands, steps_before_due(world, script))
 }

@@ -1,6 +1,6 @@
 use crate::InputFault;
 use damon_types::Failed;
-use plain_script::ReadFail;
+use damon_control::{ReadFail, ScriptKind};
 use std::alloc::AllocError;
 
 /// How a run of the program ended.
@@ -10,6 +10,8 @@ pub enum Status {
     Ok,
     /// The words are none that the program knows.
     Usage,
+    /// The input is no script: its first line that is refused, and why.
+    Script { line: u64, kind: ScriptKind },
     /// The input has more than 16,777,216 bytes.
     TooLong,
     /// A read failed.
@@ -18,7 +20,8 @@ pub enum Status {
     WriteFault,
     /// There was no memory.
     Memory,
-    /// The input is no script that can be replayed yet.
+    /// The script has a scheme or a commit, or its run comes to an aggregation: these are not built
+    /// yet.
     NotYet,
 }
 
@@ -45,7 +48,10 @@ impl From<ReadFail> for Status {
 
     fn from(fail: ReadFail) -> Status {
         match fail {
-            ReadFail::NotYet => Status::NotYet,
+            ReadFail::Script { fault } => Status::Script {
+                line: fault.line,
+                kind: fault.kind,
+            },
             ReadFail::Memory => Status::Memory,
         }
     }

@@ -1,4 +1,4 @@
-ghost use Rattle.std.specs.Prelude.{◌≡◌, ◌++◌, [], false, ℕ, List, IfOk, OnErr, OnOk, map};
+ghost use Rattle.std.specs.Prelude.{◌≡◌, All, ◌++◌, [], false, ℕ, List, IfOk, OnErr, OnOk, map};
 ghost use Rattle.std.specs.List.{list_any};
 ghost use Rattle.rand_core.specs.Steps.{stream_of, steps_u32};
 ghost use Rattle.rand_pcg.specs.Pcg.{pcg32};
@@ -40,14 +40,16 @@ pub fn open_world(alloc: Global, script: &Script) -> Result<World<Lcg64Xsh32>, A
 
 /// Whether a script has a scheme or a commit, which are not built yet.
 pub fn has_later_parts(script: &Script) -> bool
-    ensures { result ≡ has_later_parts (said_by script.now) }
+    ensures exact { result ≡ has_later_parts (said_by script.now) }
+    ensures none { result ≡ false → All (λ c. is_commit (command_value c) ≡ false) script.now.commands.list }
 {
     !script.setup.slots.is_empty() || has_commit(script.commands.as_slice())
 }
 
 // Whether one of the commands is a commit.
 fn has_commit(commands: &[Command]) -> bool
-    ensures { result ≡ list_any is_commit (map command_value commands.now) }
+    ensures exact { result ≡ list_any is_commit (map command_value commands.now) }
+    ensures none { result ≡ false → All (λ c. is_commit (command_value c) ≡ false) commands.now }
 {
     for command in commands {
         if is_commit(command) {
