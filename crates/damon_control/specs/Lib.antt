@@ -12,3 +12,5 @@ pub mod BodyLine
 pub mod Left
 pub mod Views
 pub mod KeyViews
+pub mod Spelling
+pub mod Laws
