@@ -8,3 +8,6 @@ pub mod SpellLines
 pub mod SpellKeys
 pub mod SpellSchemes
 pub mod SpellCommands
+pub mod SpellPlaces
+pub mod SpellTexts
+mod SpellExamples

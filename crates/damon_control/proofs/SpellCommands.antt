@@ -1,5 +1,5 @@
 -- The lines of a body are spelled so.
-use Rattle.std.proofs.Common.{◌≡◌, inl, inr, ◌∷◌, [], ℕ, ◌+◌, ◌-◌, ◌&&◌, List, codes, None, Ok, refl, ap, subst, ◌∙◌, decimal}
+use Rattle.std.proofs.Common.{◌≡◌, inl, inr, ◌∷◌, [], ℕ, ◌+◌, ◌-◌, ◌&&◌, List, codes, Some, None, Ok, refl, ap, subst, ◌∙◌, decimal}
 use Rattle.std.specs.Prelude.{is_none, option_map}
 use Rattle.std.specs.Option.{ok_or}
 use Rattle.damon_types.specs.declared.scheme.SlotChange.{SlotChange}
@@ -30,18 +30,22 @@ touch_page space line command target addr spelled e =
     let is : Touch page.0 ≡ command = cc in
     subst (IsCommand space line) is (record { target = target; addr = addr; spelled = spelled; holds = ok_or-Ok (page_of space target addr) Outside page.0 page.1 })
 
+-- the words of a touch
+touch_words : (laws : WordLaws) (line : List ℕ) (words : List (List ℕ)) (fields : List ℕ × List ℕ) (target addr : ℕ) → arguments (codes "touch") line ≡ Ok words
+    → two_of words ≡ Some fields → number_32 fields.0 ≡ Ok target → byte_address fields.1 ≡ Ok addr → line ≡ spelled_touch target addr
+touch_words laws line words fields target addr said two is_target is_addr =
+    arguments-Ok laws (codes "touch") line words said
+    ∙ ap (λ ws. joined 32 (codes "touch" ∷ ws)) (two_of-Some words fields two)
+    ∙ (λ i. joined 32 (codes "touch" ∷ number_32-Ok laws fields.0 target is_target i ∷ byte_address-Ok laws fields.1 addr is_addr i ∷ []))
+
 touch_line-Ok : (laws : WordLaws) (space : List Target) (line : List ℕ) (command : CommandValue) → touch_line space line ≡ Ok command → IsCommand space line command
 touch_line-Ok laws space line command e =
     let words = bind-Ok (arguments (codes "touch") line) _ command e in
     let fields = bind-Ok (ok_or (two_of words.0) Form) _ command words.2 in
     let target = bind-Ok (number_32 fields.0.0) _ command fields.2 in
     let addr = bind-Ok (byte_address fields.0.1) _ command target.2 in
-    let words_are = two_of-Some words.0 fields.0 (ok_or-Ok (two_of words.0) Form fields.0 fields.1) in
-    let spelled : line ≡ spelled_touch target.0 addr.0 =
-    arguments-Ok laws (codes "touch") line words.0 words.1
-    ∙ ap (λ ws. joined 32 (codes "touch" ∷ ws)) words_are
-    ∙ (λ i. joined 32 (codes "touch" ∷ number_32-Ok laws fields.0.0 target.0 target.1 i ∷ byte_address-Ok laws fields.0.1 addr.0 addr.1 i ∷ []))
-    in
+    let two = ok_or-Ok (two_of words.0) Form fields.0 fields.1 in
+    let spelled = touch_words laws line words.0 fields.0 target.0 addr.0 words.1 two target.1 addr.1 in
     touch_page space line command target.0 addr.0 spelled addr.2
 
 -- the pages between two addresses of a target
@@ -67,6 +71,14 @@ sweep_pages space line command target from to spelled e =
       ends = ap (option_map (λ page. page + 1)) (ok_or-Ok (page_of space target (to - 4096)) Outside last.0 last.1);
     })
 
+-- the words of a sweep
+sweep_words : (laws : WordLaws) (line : List ℕ) (words : List (List ℕ)) (fields : List ℕ × List ℕ × List ℕ) (target from to : ℕ) → arguments (codes "sweep") line ≡ Ok words
+    → three_of words ≡ Some fields → number_32 fields.0 ≡ Ok target → byte_address fields.1 ≡ Ok from → byte_address fields.2 ≡ Ok to → line ≡ spelled_sweep target from to
+sweep_words laws line words fields target from to said three is_target is_from is_to =
+    arguments-Ok laws (codes "sweep") line words said
+    ∙ ap (λ ws. joined 32 (codes "sweep" ∷ ws)) (three_of-Some words fields three)
+    ∙ (λ i. joined 32 (codes "sweep" ∷ number_32-Ok laws fields.0 target is_target i ∷ byte_address-Ok laws fields.1 from is_from i ∷ byte_address-Ok laws fields.2 to is_to i ∷ []))
+
 sweep_line-Ok : (laws : WordLaws) (space : List Target) (line : List ℕ) (command : CommandValue) → sweep_line space line ≡ Ok command → IsCommand space line command
 sweep_line-Ok laws space line command e =
     let words = bind-Ok (arguments (codes "sweep") line) _ command e in
@@ -74,12 +86,8 @@ sweep_line-Ok laws space line command e =
     let target = bind-Ok (number_32 fields.0.0) _ command fields.2 in
     let from = bind-Ok (byte_address fields.0.1) _ command target.2 in
     let to = bind-Ok (byte_address fields.0.2) _ command from.2 in
-    let words_are = three_of-Some words.0 fields.0 (ok_or-Ok (three_of words.0) Form fields.0 fields.1) in
-    let spelled : line ≡ spelled_sweep target.0 from.0 to.0 =
-    arguments-Ok laws (codes "sweep") line words.0 words.1
-    ∙ ap (λ ws. joined 32 (codes "sweep" ∷ ws)) words_are
-    ∙ (λ i. joined 32 (codes "sweep" ∷ number_32-Ok laws fields.0.0 target.0 target.1 i ∷ byte_address-Ok laws fields.0.1 from.0 from.1 i ∷ byte_address-Ok laws fields.0.2 to.0 to.1 i ∷ []))
-    in
+    let three = ok_or-Ok (three_of words.0) Form fields.0 fields.1 in
+    let spelled = sweep_words laws line words.0 fields.0 target.0 from.0 to.0 words.1 three target.1 from.1 to.1 in
     sweep_pages space line command target.0 from.0 to.0 spelled to.2
 
 step_line-Ok : (laws : WordLaws) (space : List Target) (line : List ℕ) (command : CommandValue) → step_line line ≡ Ok command → IsCommand space line command

@@ -14,3 +14,4 @@ pub mod Views
 pub mod KeyViews
 pub mod Spelling
 pub mod Laws
+pub mod Text

@@ -8,6 +8,7 @@ ghost use Rattle.damon_control.specs.Fields.{attrs_in, range_in};
 ghost use Rattle.damon_control.specs.Head.{attrs_line, cap_line, one_target, range_line, seed_line, unit_line};
 ghost use Rattle.damon_control.specs.Keys.{setting_of};
 ghost use Rattle.damon_control.specs.Laws.{NamesActions, ReadsOnly, ReadsOnlyCommands, ReadsOnlyParts, ReadsOnlySchemes, WordLaws};
+ghost use Rattle.damon_control.specs.Text.{ReadsOnlyTexts};
 ghost use Rattle.damon_control.specs.Spelling.{attrs_words, range_words, spelled_attrs, spelled_cap, spelled_range, spelled_seed, spelled_setting, spelled_target, spelled_unit};
 
 use line_text::{
@@ -61,6 +62,15 @@ pub fn schemes_are_spelled()
 pub fn body_lines_are_spelled()
     ensures commands { ReadsOnlyCommands }
     ensures parts { ReadsOnlyParts }
+{
+    words_have_laws();
+}
+
+/// A text that is accepted as a script is the lines of this script, each with its LF and nothing
+/// behind the last: the header, the lines of the setup, one for each scheme, `begin`, those of each
+/// command in order, and `end`.
+pub fn texts_are_spelled()
+    ensures texts { ReadsOnlyTexts }
 {
     words_have_laws();
 }

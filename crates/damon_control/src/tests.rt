@@ -331,4 +331,5 @@ fn laws_are_called() {
     setup_lines_are_spelled();
     schemes_are_spelled();
     body_lines_are_spelled();
+    texts_are_spelled();
 }
