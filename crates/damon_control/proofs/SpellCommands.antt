@@ -1,11 +1,12 @@
 -- The lines of a body are spelled so.
-use Rattle.std.proofs.Common.{◌≡◌, inl, inr, ◌∷◌, [], ℕ, ◌+◌, ◌-◌, ◌&&◌, List, codes, Some, None, Ok, refl, ap, subst, ◌∙◌, decimal}
+use Rattle.std.proofs.Common.{◌≡◌, inl, inr, ◌∷◌, [], ℕ, ◌+◌, ◌-◌, true, ◌&&◌, List, codes, Some, None, Ok, refl, ap, subst, ◌∙◌, decimal}
 use Rattle.std.specs.Prelude.{is_none, option_map}
 use Rattle.std.specs.Option.{ok_or}
 use Rattle.damon_types.specs.declared.scheme.SlotChange.{SlotChange}
 use Rattle.damon_types.specs.declared.space.Target.{Target}
 use Rattle.damon_types.specs.Space.{page_of}
 use Rattle.line_text.specs.Parts.{joined, two_of, three_of}
+use Rattle.live_commit.specs.Commit.{CommitValue}
 use Rattle.damon_control.specs.declared.commit.Part.{Part}
 use Rattle.damon_control.specs.declared.commit.Part.TheVariants.{Attrs, Range, Slot, Metric}
 use Rattle.damon_control.specs.declared.fault.ScriptKind.TheVariants.{Form, Limit, Outside}
@@ -13,13 +14,13 @@ use Rattle.damon_control.specs.Body.{are_swept, change_line, drop_line, step_lin
 use Rattle.damon_control.specs.Command.{CommandValue, Touch, Sweep, Step, Arm, Finish, Show}
 use Rattle.damon_control.specs.Fields.{attrs_in, range_in}
 use Rattle.damon_control.specs.Head.{limited}
-use Rattle.damon_control.specs.Laws.{EmptiesSlot, IsCommand, IsPart, ReadsOnlyCommands, ReadsOnlyParts, WordLaws}
+use Rattle.damon_control.specs.Laws.{EmptiesSlot, IsCommand, IsPart, ReadsOnlyCommands, ReadsOnlyParts, WordLaws, may_come}
 use Rattle.damon_control.specs.Refusal.{◌>>=◌, only_if}
 use Rattle.damon_control.specs.Spelling.{attrs_words, range_words, spelled_sweep, spelled_touch}
 use Rattle.damon_control.specs.Words.{alone, arguments, begins_with, byte_address, number_8, number_32, one_word}
 use Rattle.damon_control.proofs.SpellLines.{attrs_in-Ok, limited-Ok, range_in-Ok, words-Ok}
 use Rattle.damon_control.proofs.SpellSchemes.{change_line-Ok}
-use Rattle.damon_control.proofs.SpellSteps.{bind-Ok, either_way, ok_or-Ok, only_if-Ok, two_of-Some, three_of-Some}
+use Rattle.damon_control.proofs.SpellSteps.{bind-Ok, either_way, second_true, tested_way, ok_or-Ok, only_if-Ok, two_of-Some, three_of-Some}
 use Rattle.damon_control.proofs.SpellWords.{alone-Ok, arguments-Ok, byte_address-Ok, number_8-Ok, number_32-Ok, one_word-Ok}
 
 -- the page of a byte
@@ -120,43 +121,49 @@ drop_line-Ok laws line change e =
     let is : record { slot = slot.0; scheme = None } ≡ change = cc in
     subst (EmptiesSlot line) is (refl, one_word-Ok laws (codes "drop") number_8 decimal (number_8-Ok laws) line slot.0 slot.1)
 
-attrs_part : (laws : WordLaws) (line : List ℕ) (part : Part) → (arguments (codes "attrs") line >>= attrs_in >>= λ attrs. Ok (Attrs attrs)) ≡ Ok part → IsPart line part
-attrs_part laws line part e =
+-- a line says a part that may come behind those of a commit
+abbrev SaysPart : CommitValue → List ℕ → Part → Type 0
+SaysPart before line part = (may_come before part ≡ true) × IsPart line part
+
+attrs_part : (laws : WordLaws) (before : CommitValue) (line : List ℕ) (part : Part) → wants_attrs before ≡ true → (arguments (codes "attrs") line >>= attrs_in >>= λ attrs. Ok (Attrs attrs)) ≡ Ok part
+    → SaysPart before line part
+attrs_part laws before line part wanted e =
     let attrs = bind-Ok (arguments (codes "attrs") line >>= attrs_in) _ part e in
     let is : Attrs attrs.0 ≡ part = cc in
-    subst (IsPart line) is (words-Ok laws (codes "attrs") attrs_in attrs_words (attrs_in-Ok laws) line attrs.0 attrs.1)
+    subst (SaysPart before line) is (wanted, words-Ok laws (codes "attrs") attrs_in attrs_words (attrs_in-Ok laws) line attrs.0 attrs.1)
 
-range_part : (laws : WordLaws) (line : List ℕ) (part : Part) → (arguments (codes "range") line >>= range_in >>= λ range. Ok (Range range)) ≡ Ok part → IsPart line part
-range_part laws line part e =
+range_part : (laws : WordLaws) (before : CommitValue) (line : List ℕ) (part : Part) → wants_slot before ≡ true → (arguments (codes "range") line >>= range_in >>= λ range. Ok (Range range)) ≡ Ok part
+    → SaysPart before line part
+range_part laws before line part wanted e =
     let range = bind-Ok (arguments (codes "range") line >>= range_in) _ part e in
     let is : Range range.0 ≡ part = cc in
-    subst (IsPart line) is (words-Ok laws (codes "range") range_in range_words (range_in-Ok laws) line range.0 range.1)
+    subst (SaysPart before line) is (wanted, words-Ok laws (codes "range") range_in range_words (range_in-Ok laws) line range.0 range.1)
 
-scheme_part : (laws : WordLaws) (line : List ℕ) (part : Part) → (change_line line >>= λ change. Ok (Slot change)) ≡ Ok part → IsPart line part
-scheme_part laws line part e =
+scheme_part : (laws : WordLaws) (before : CommitValue) (line : List ℕ) (part : Part) → wants_slot before ≡ true → (change_line line >>= λ change. Ok (Slot change)) ≡ Ok part → SaysPart before line part
+scheme_part laws before line part wanted e =
     let change = bind-Ok (change_line line) _ part e in
     let is : Slot change.0 ≡ part = cc in
-    subst (IsPart line) is (inl (change_line-Ok laws line change.0 change.1))
+    subst (SaysPart before line) is (wanted, inl (change_line-Ok laws line change.0 change.1))
 
-drop_part : (laws : WordLaws) (line : List ℕ) (part : Part) → (drop_line line >>= λ change. Ok (Slot change)) ≡ Ok part → IsPart line part
-drop_part laws line part e =
+drop_part : (laws : WordLaws) (before : CommitValue) (line : List ℕ) (part : Part) → wants_slot before ≡ true → (drop_line line >>= λ change. Ok (Slot change)) ≡ Ok part → SaysPart before line part
+drop_part laws before line part wanted e =
     let change = bind-Ok (drop_line line) _ part e in
     let is : Slot change.0 ≡ part = cc in
-    subst (IsPart line) is (inr (drop_line-Ok laws line change.0 change.1))
+    subst (SaysPart before line) is (wanted, inr (drop_line-Ok laws line change.0 change.1))
 
-metric_part : (laws : WordLaws) (line : List ℕ) (part : Part) → (arguments (codes "metric") line >>= one_word >>= number_32 >>= λ value. Ok (Metric value)) ≡ Ok part
-    → IsPart line part
-metric_part laws line part e =
+metric_part : (laws : WordLaws) (before : CommitValue) (line : List ℕ) (part : Part) → is_none before.metric ≡ true
+    → (arguments (codes "metric") line >>= one_word >>= number_32 >>= λ value. Ok (Metric value)) ≡ Ok part → SaysPart before line part
+metric_part laws before line part wanted e =
     let value = bind-Ok (arguments (codes "metric") line >>= one_word >>= number_32) _ part e in
     let is : Metric value.0 ≡ part = cc in
-    subst (IsPart line) is (one_word-Ok laws (codes "metric") number_32 decimal (number_32-Ok laws) line value.0 value.1)
+    subst (SaysPart before line) is (wanted, one_word-Ok laws (codes "metric") number_32 decimal (number_32-Ok laws) line value.0 value.1)
 
--- a line that a part of a commit is read from says it
+-- a line that a part of a commit is read from says it, where it may come
 pub part_line-Ok : WordLaws → ReadsOnlyParts
 part_line-Ok laws before line part e =
-    either_way (begins_with (codes "attrs") line && wants_attrs before) _ _ _ (attrs_part laws line part)
-    (either_way (begins_with (codes "range") line && wants_slot before) _ _ _ (range_part laws line part)
-    (either_way (begins_with (codes "scheme") line && wants_slot before) _ _ _ (scheme_part laws line part)
-    (either_way (begins_with (codes "drop") line && wants_slot before) _ _ _ (drop_part laws line part)
-    (either_way (begins_with (codes "metric") line && is_none before.metric) _ _ _ (metric_part laws line part)
+    tested_way (begins_with (codes "attrs") line && wants_attrs before) _ _ _ (λ both. attrs_part laws before line part (second_true (begins_with (codes "attrs") line) _ both))
+    (tested_way (begins_with (codes "range") line && wants_slot before) _ _ _ (λ both. range_part laws before line part (second_true (begins_with (codes "range") line) _ both))
+    (tested_way (begins_with (codes "scheme") line && wants_slot before) _ _ _ (λ both. scheme_part laws before line part (second_true (begins_with (codes "scheme") line) _ both))
+    (tested_way (begins_with (codes "drop") line && wants_slot before) _ _ _ (λ both. drop_part laws before line part (second_true (begins_with (codes "drop") line) _ both))
+    (tested_way (begins_with (codes "metric") line && is_none before.metric) _ _ _ (λ both. metric_part laws before line part (second_true (begins_with (codes "metric") line) _ both))
     (λ no. absurd cc))))) e

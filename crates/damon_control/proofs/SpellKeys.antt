@@ -66,19 +66,19 @@ marks_of-Ok laws value marks e =
     ∙ (λ i. joined 44 (number_32-Ok laws fields.0.0 high.0 high.1 i ∷ number_32-Ok laws fields.0.1 mid.0 mid.1 i ∷ number_32-Ok laws fields.0.2 low.0 low.1 i ∷ []))
     ∙ ap spelled_marks is
 
--- a word that is a name, of what is read by it
-found : {A : Type 0} (spelled : A → List ℕ) (name : List ℕ) (here x : A) → name ≡ spelled here → ◌≡◌ {A = Result A ScriptKind} (Ok here) (Ok x) → name ≡ spelled x
-found spelled name here x is e = let same : here ≡ x = cc in is ∙ ap spelled same
+-- a word that is the name of what it stands for
+named : {A : Type 0} (spelled : A → List ℕ) (name : List ℕ) (here x : A) → name ≡ spelled here → ◌≡◌ {A = Result A ScriptKind} (Ok here) (Ok x) → name ≡ spelled x
+named spelled name here x is e = let same : here ≡ x = cc in is ∙ ap spelled same
 
 prefer_of-Ok : ReadsOnly prefer_of spelled_prefer
 prefer_of-Ok value prefer e =
-    same_or_other value (codes "hot") _ _ _ (found spelled_prefer value Hot prefer)
-    (same_or_other value (codes "cold") _ _ _ (found spelled_prefer value Cold prefer) (λ no. absurd cc)) e
+    same_or_other value (codes "hot") _ _ _ (named spelled_prefer value Hot prefer)
+    (same_or_other value (codes "cold") _ _ _ (named spelled_prefer value Cold prefer) (λ no. absurd cc)) e
 
 answer_of-Ok : ReadsOnly answer_of spelled_answer
 answer_of-Ok value answer e =
-    same_or_other value (codes "allow") _ _ _ (found spelled_answer value true answer)
-    (same_or_other value (codes "reject") _ _ _ (found spelled_answer value false answer) (λ no. absurd cc)) e
+    same_or_other value (codes "allow") _ _ _ (named spelled_answer value true answer)
+    (same_or_other value (codes "reject") _ _ _ (named spelled_answer value false answer) (λ no. absurd cc)) e
 
 addr_of-Ok : (laws : WordLaws) (value : List ℕ) (kind : FilterKind) → addr_of value ≡ Ok kind → (codes "addr" ≡ kind_name kind) × (value ≡ kind_value kind)
 addr_of-Ok laws value kind e =

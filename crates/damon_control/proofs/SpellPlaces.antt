@@ -1,5 +1,5 @@
 -- The lines from a place on say the rest of a script, from the end of the grammar to its front.
-use Rattle.std.proofs.Common.{◌≡◌, inl, inr, ◌∷◌, [], ◌==◌, ◌||◌, ◌+◌, ℕ, nat_le, List, ◌++◌, length, map, codes, Ok, refl, sym, ap, subst, ◌∙◌, append_assoc}
+use Rattle.std.proofs.Common.{◌≡◌, inl, inr, ◌∷◌, [], ◌==◌, ◌||◌, ◌+◌, ℕ, true, nat_le, List, ◌++◌, length, map, codes, Ok, refl, sym, ap, subst, ◌∙◌, append_assoc}
 use Rattle.std.proofs.lemmas.List.{append-nil}
 use Rattle.std.specs.Prelude.{Result}
 use Rattle.std.specs.Cmp.Lexicographic.{same_text}
@@ -19,7 +19,7 @@ use Rattle.damon_control.specs.Laws.{GivesScheme, IsPart, WordLaws}
 use Rattle.damon_control.specs.Refusal.{◌>>=◌}
 use Rattle.damon_control.specs.Script.{AtAttrs, AtCap, AtEnd, AtHeader, AtRanges, AtSchemes, AtSeed, AtTargets, AtUnit, Body, InBody, InCommit, Place, ScriptValue, after, after_body, after_commit, after_ranges, after_schemes, after_targets, with_command}
 use Rattle.damon_control.specs.Spelling.{spelled_attrs, spelled_cap, spelled_range, spelled_seed, spelled_target, spelled_unit}
-use Rattle.damon_control.specs.Text.{EachSays, SayCommand, all_lines, with_parts}
+use Rattle.damon_control.specs.Text.{EachSays, SayCommand, all_lines, come_in_order, with_parts}
 use Rattle.damon_control.specs.Words.{alone, begins_with, same_word}
 use Rattle.damon_control.proofs.SpellCommands.{command_line-Ok, part_line-Ok}
 use Rattle.damon_control.proofs.SpellLines.{attrs_line-Ok, cap_line-Ok, range_line-Ok, seed_line-Ok, target_line-Ok, unit_line-Ok}
@@ -64,7 +64,14 @@ pub record FromCommit (b : Body) (commit : CommitValue) (lines : List (List ℕ)
   said : with_commands b.said (Commit (with_parts commit parts) ∷ commands) ≡ s
   spelled : lines ≡ between ++ codes "apply" ∷ back
   each : EachSays IsPart between parts
+  in_order : come_in_order commit parts ≡ true
   body : BodyLines b.said.setup.space back commands
+
+-- lines from behind a command on
+record FromCommand (b : Body) (command : CommandValue) (lines : List (List ℕ)) (s : ScriptValue) : Type 0 where
+  commands : List CommandValue
+  said : with_commands b.said (command ∷ commands) ≡ s
+  body : BodyLines b.said.setup.space lines commands
 
 -- lines from schemes on
 pub record FromSchemes (f : Frame) (targets : List Target) (ranges : List RangeSpec) (slots : List SlotChange) (lines : List (List ℕ)) (s : ScriptValue) : Type 0 where
@@ -94,16 +101,20 @@ pub record FromTargets (f : Frame) (targets : List Target) (lines : List (List �
   pub spelled : lines ≡ map spelled_target more ++ (map spelled_range ranges ++ back)
   pub schemes : SchemeLines (targets ++ more) back slots commands
 
+-- lines from attributes on
 abbrev pub FromAttrs : ℕ → ℕ → ℕ → List (List ℕ) → ScriptValue → Type 0
 FromAttrs seed unit cap lines s =
     (attrs : Attrs) × (back : List (List ℕ)) × (lines ≡ spelled_attrs attrs ∷ back) × FromTargets (record { seed = seed; unit = unit; cap = cap; attrs = attrs }) [] back s
 
+-- lines from a cap on
 abbrev pub FromCap : ℕ → ℕ → List (List ℕ) → ScriptValue → Type 0
 FromCap seed unit lines s = (cap : ℕ) × (back : List (List ℕ)) × (lines ≡ spelled_cap cap ∷ back) × FromAttrs seed unit cap back s
 
+-- lines from a unit on
 abbrev pub FromUnit : ℕ → List (List ℕ) → ScriptValue → Type 0
 FromUnit seed lines s = (unit : ℕ) × (back : List (List ℕ)) × (lines ≡ spelled_unit unit ∷ back) × FromCap seed unit back s
 
+-- lines from a seed on
 abbrev pub FromSeed : List (List ℕ) → ScriptValue → Type 0
 FromSeed lines s = (seed : ℕ) × (back : List (List ℕ)) × (lines ≡ spelled_seed seed ∷ back) × FromUnit seed back s
 
@@ -125,22 +136,18 @@ From (AtEnd said) lines s = (lines ≡ []) × (said ≡ s)
 from_place : (place behind : Place) (lines : List (List ℕ)) (s : ScriptValue) → ◌≡◌ {A = Result Place ScriptKind} (Ok place) (Ok behind) → From behind lines s → From place lines s
 from_place place behind lines s e rest = let is : place ≡ behind = cc in subst (λ p. From p lines s) (sym is) rest
 
--- a command more
-from_command : (b : Body) (command : CommandValue) (group : List (List ℕ)) (behind : Place) (lines : List (List ℕ)) (s : ScriptValue)
-    → with_command b command ≡ Ok behind → SayCommand b.said.setup.space group command → From behind lines s → FromBody b (group ++ lines) s
-from_command b command group behind lines s e says rest =
+-- one more command, and the lines from it on
+with_command-From : (b : Body) (command : CommandValue) (behind : Place) (lines : List (List ℕ)) (s : ScriptValue)
+    → with_command b command ≡ Ok behind → From behind lines s → FromCommand b command lines s
+with_command-From b command behind lines s e rest =
     let work = b.work + weight b.said.setup.cap command in
-    let now : Body = record { said = record b.said { commands = b.said.commands ++ command ∷ [] }; work = work } in
+    let now : Body = record { said = with_commands b.said (command ∷ []); work = work } in
     let is = (only_if-Ok (nat_le work 16777216) TooMuch (InBody now) behind e).1 in
     let next : FromBody now lines s = subst (λ p. From p lines s) (sym is) rest in
     record {
-      commands = command ∷ next.commands;
+      commands = next.commands;
       said = ap (λ cs. record b.said { commands = cs }) (sym (append_assoc b.said.commands (command ∷ []) next.commands)) ∙ next.said;
-      body = record {
-        groups = group ∷ next.body.groups;
-        spelled = ap (λ ls. group ++ ls) next.body.spelled ∙ sym (append_assoc group (all_lines next.body.groups) (codes "end" ∷ []));
-        each = (says, next.body.each);
-      };
+      body = next.body;
     }
 
 after_body-From : (laws : WordLaws) (b : Body) (line : List ℕ) (behind : Place) (lines : List (List ℕ)) (s : ScriptValue)
@@ -176,7 +183,7 @@ after_body-From laws b line behind lines s e rest =
                 ∙ ap (λ ls. codes "commit" ∷ ls) (sym (append_assoc next.between (codes "apply" ∷ []) (all_lines next.body.groups ++ codes "end" ∷ [])))
                 ∙ sym (append_assoc group (all_lines next.body.groups) (codes "end" ∷ []));
             each = (
-              inr (with_parts no_commit next.parts, refl, record { between = next.between; parts = next.parts; spelled = refl; each = next.each; made = refl }),
+              inr (with_parts no_commit next.parts, refl, record { between = next.between; parts = next.parts; spelled = refl; each = next.each; in_order = next.in_order; made = refl }),
               next.body.each,
             );
           };
@@ -186,7 +193,16 @@ after_body-From laws b line behind lines s e rest =
     at_command read =
         let command = bind-Ok (command_line b.said.setup.space line) (with_command b) behind read in
         let says = command_line-Ok laws b.said.setup.space line command.0 command.1 in
-        from_command b command.0 (line ∷ []) behind lines s command.2 (inl (line, refl, says)) rest
+        let next = with_command-From b command.0 behind lines s command.2 rest in
+        record {
+          commands = command.0 ∷ next.commands;
+          said = next.said;
+          body = record {
+            groups = (line ∷ []) ∷ next.body.groups;
+            spelled = ap (λ ls. line ∷ ls) next.body.spelled;
+            each = (inl (line, refl, says), next.body.each);
+          };
+        }
 
 after_commit-From : (laws : WordLaws) (b : Body) (commit : CommitValue) (line : List ℕ) (behind : Place) (lines : List (List ℕ)) (s : ScriptValue)
     → after_commit b commit line ≡ Ok behind → From behind lines s → FromCommit b commit (line ∷ lines) s
@@ -195,24 +211,23 @@ after_commit-From laws b commit line behind lines s e rest = either_way (begins_
     at_apply : (alone (codes "apply") line >>= λ _. with_command b (Commit commit)) ≡ Ok behind → FromCommit b commit (line ∷ lines) s
     at_apply read =
         let word = bind-Ok (alone (codes "apply") line) _ behind read in
-        let is = alone-Ok laws (codes "apply") line word.1 in
-        let now : Body = record { said = record b.said { commands = b.said.commands ++ Commit commit ∷ [] }; work = b.work + weight b.said.setup.cap (Commit commit) } in
-        let place = (only_if-Ok (nat_le now.work 16777216) TooMuch (InBody now) behind word.2).1 in
-        let next : FromBody now lines s = subst (λ p. From p lines s) (sym place) rest in
+        let next = with_command-From b (Commit commit) behind lines s word.2 rest in
         record {
           between = [];
           parts = [];
           back = lines;
           commands = next.commands;
-          said = ap (λ cs. record b.said { commands = cs }) (sym (append_assoc b.said.commands (Commit commit ∷ []) next.commands)) ∙ next.said;
-          spelled = ap (λ l. l ∷ lines) is;
+          said = next.said;
+          spelled = ap (λ l. l ∷ lines) (alone-Ok laws (codes "apply") line word.1);
           each = tt;
+          in_order = refl;
           body = next.body;
         }
 
     at_part : (part_line commit line >>= λ part. Ok (InCommit b (with_part commit part))) ≡ Ok behind → FromCommit b commit (line ∷ lines) s
     at_part read =
         let part = bind-Ok (part_line commit line) _ behind read in
+        let says = part_line-Ok laws commit line part.0 part.1 in
         let next : FromCommit b (with_part commit part.0) lines s = from_place (InCommit b (with_part commit part.0)) behind lines s part.2 rest in
         record {
           between = line ∷ next.between;
@@ -221,7 +236,8 @@ after_commit-From laws b commit line behind lines s e rest = either_way (begins_
           commands = next.commands;
           said = next.said;
           spelled = ap (λ ls. line ∷ ls) next.spelled;
-          each = (part_line-Ok laws commit line part.0 part.1, next.each);
+          each = (says.1, next.each);
+          in_order = rw says.0 next.in_order;
           body = next.body;
         }
 

@@ -1,5 +1,5 @@
 -- What was accepted step by step, each step accepted.
-use Rattle.std.proofs.Common.{◌≡◌, ◌∷◌, [], ℕ, Bool, true, false, List, Some, None, Ok, Err, refl}
+use Rattle.std.proofs.Common.{◌≡◌, ◌∷◌, [], ℕ, Bool, true, false, List, Some, None, Ok, Err, refl, ◌&&◌}
 use Rattle.std.specs.Prelude.{Option, Result, if◌then◌else◌}
 use Rattle.std.specs.Option.{ok_or}
 use Rattle.line_text.specs.Parts.{one_of, two_of, three_of, four_of}
@@ -21,10 +21,19 @@ pub only_if-Ok : {A : Type 0} (test : Bool) (kind : ScriptKind) (value x : A) �
 only_if-Ok true kind value x e = (refl, cc)
 only_if-Ok false kind value x e = absurd cc
 
+-- one of two ways was gone, the first after its test
+pub tested_way : {R G : Type 0} (test : Bool) (here others x : R) → (test ≡ true → here ≡ x → G) → (others ≡ x → G) → (if test then here else others) ≡ x → G
+tested_way true here others x found next e = found refl e
+tested_way false here others x found next e = next e
+
 -- one of two ways was gone
 pub either_way : {R G : Type 0} (test : Bool) (here others x : R) → (here ≡ x → G) → (others ≡ x → G) → (if test then here else others) ≡ x → G
-either_way true here others x found next e = found e
-either_way false here others x found next e = next e
+either_way test here others x found next = tested_way test here others x (λ _. found) next
+
+-- the second of two tests that pass
+pub second_true : (first second : Bool) → (first && second) ≡ true → second ≡ true
+second_true true second both = both
+second_true false second both = absurd cc
 
 pub one_of-Some : (words : List (List ℕ)) (a : List ℕ) → one_of words ≡ Some a → words ≡ a ∷ []
 one_of-Some [] a e = absurd cc

@@ -1,5 +1,5 @@
 -- What is accepted is spelled so.
-use Rattle.std.specs.Prelude.{◌≡◌, ◌⊎◌, ℕ, ◌+◌, ◌-◌, true, List, [], ◌∷◌, map, codes, Some, None, option_map, Result, Ok}
+use Rattle.std.specs.Prelude.{◌≡◌, ◌⊎◌, ℕ, ◌+◌, ◌-◌, Bool, true, List, [], ◌∷◌, map, codes, Some, None, option_map, Result, Ok, is_none}
 use Rattle.damon_types.specs.declared.scheme.Action.{Action}
 use Rattle.damon_types.specs.declared.scheme.Scheme.{Scheme}
 use Rattle.damon_types.specs.declared.scheme.SlotChange.{SlotChange}
@@ -11,7 +11,7 @@ use Rattle.damon_control.specs.declared.commit.Part.{Part}
 use Rattle.damon_control.specs.declared.commit.Part.TheVariants.{Attrs, Range, Slot, Metric}
 use Rattle.damon_control.specs.declared.fault.ScriptKind.{ScriptKind}
 use Rattle.damon_control.specs.declared.keys.Setting.{Setting}
-use Rattle.damon_control.specs.Body.{are_swept, command_line, part_line}
+use Rattle.damon_control.specs.Body.{are_swept, command_line, part_line, wants_attrs, wants_slot}
 use Rattle.damon_control.specs.Command.{CommandValue, Touch, Sweep, Step, Arm, Finish, Show, Commit}
 use Rattle.damon_control.specs.Head.{scheme_line}
 use Rattle.damon_control.specs.Keys.{action_of, are_formed, default_scheme, with_setting}
@@ -61,6 +61,13 @@ IsPart line (Range range) = line ≡ spelled_range range
 IsPart line (Slot change) = GivesScheme line change ⊎ EmptiesSlot line change
 IsPart line (Metric value) = line ≡ spelled_metric value
 
+-- whether a part may come in a commit: attributes before all else, ranges before a slot change and a metric, and each of these once
+abbrev pub may_come : CommitValue → Part → Bool
+may_come before (Attrs attrs) = wants_attrs before
+may_come before (Range range) = wants_slot before
+may_come before (Slot change) = wants_slot before
+may_come before (Metric value) = is_none before.metric
+
 -- a line touches the page that holds this byte of a target
 pub record IsTouch (space : List Target) (line : List ℕ) (page : ℕ) : Type 0 where
   pub target : ℕ
@@ -92,9 +99,9 @@ IsCommand space line (Commit commit) = ⊥
 abbrev pub ReadsOnlyCommands : Type 0
 ReadsOnlyCommands = (space : List Target) (line : List ℕ) (command : CommandValue) → command_line space line ≡ Ok command → IsCommand space line command
 
--- a line that a part of a commit is read from says it
+-- a line that a part of a commit is read from says it, where it may come
 abbrev pub ReadsOnlyParts : Type 0
-ReadsOnlyParts = (before : CommitValue) (line : List ℕ) (part : Part) → part_line before line ≡ Ok part → IsPart line part
+ReadsOnlyParts = (before : CommitValue) (line : List ℕ) (part : Part) → part_line before line ≡ Ok part → (may_come before part ≡ true) × IsPart line part
 
 -- a line of a setup that a change of a slot is read from gives the slot its scheme
 abbrev pub ReadsOnlySchemes : Type 0

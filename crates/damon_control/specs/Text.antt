@@ -1,5 +1,5 @@
 -- A text that is accepted, line for line.
-use Rattle.std.specs.Prelude.{◌≡◌, ◌⊎◌, ℕ, List, [], ◌∷◌, ◌++◌, map, codes, Ok}
+use Rattle.std.specs.Prelude.{◌≡◌, ◌⊎◌, ℕ, Bool, true, ◌&&◌, List, [], ◌∷◌, ◌++◌, map, codes, Ok}
 use Rattle.damon_types.specs.declared.range.RangeSpec.{RangeSpec}
 use Rattle.damon_types.specs.declared.space.Target.{Target}
 use Rattle.live_commit.specs.Commit.{CommitValue}
@@ -7,7 +7,7 @@ use Rattle.target_ranges.specs.Made.{ranges_of}
 use Rattle.damon_control.specs.declared.commit.Part.{Part}
 use Rattle.damon_control.specs.Body.{no_commit, with_part}
 use Rattle.damon_control.specs.Command.{CommandValue, Commit}
-use Rattle.damon_control.specs.Laws.{GivesScheme, IsCommand, IsPart}
+use Rattle.damon_control.specs.Laws.{GivesScheme, IsCommand, IsPart, may_come}
 use Rattle.damon_control.specs.Script.{ScriptValue, script_of}
 use Rattle.damon_control.specs.Spelling.{spelled_attrs, spelled_cap, spelled_range, spelled_seed, spelled_target, spelled_unit}
 
@@ -32,12 +32,18 @@ abbrev pub with_parts : CommitValue → List Part → CommitValue
 with_parts commit [] = commit
 with_parts commit (part ∷ parts) = with_parts (with_part commit part) parts
 
--- lines say a commit: its parts stand between `commit` and `apply`, a line each
+-- whether parts may come behind those of a commit, one after another
+abbrev pub come_in_order : CommitValue → List Part → Bool
+come_in_order commit [] = true
+come_in_order commit (part ∷ parts) = may_come commit part && come_in_order (with_part commit part) parts
+
+-- lines say a commit: its parts stand in order between `commit` and `apply`, a line each
 pub record AreCommit (lines : List (List ℕ)) (commit : CommitValue) : Type 0 where
   pub between : List (List ℕ)
   pub parts : List Part
   pub spelled : lines ≡ codes "commit" ∷ (between ++ codes "apply" ∷ [])
   pub each : EachSays IsPart between parts
+  pub in_order : come_in_order no_commit parts ≡ true
   pub made : with_parts no_commit parts ≡ commit
 
 -- lines say a command: one line, or those of a commit

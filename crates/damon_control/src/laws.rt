@@ -8,8 +8,8 @@ ghost use Rattle.damon_control.specs.Fields.{attrs_in, range_in};
 ghost use Rattle.damon_control.specs.Head.{attrs_line, cap_line, one_target, range_line, seed_line, unit_line};
 ghost use Rattle.damon_control.specs.Keys.{setting_of};
 ghost use Rattle.damon_control.specs.Laws.{NamesActions, ReadsOnly, ReadsOnlyCommands, ReadsOnlyParts, ReadsOnlySchemes, WordLaws};
-ghost use Rattle.damon_control.specs.Text.{ReadsOnlyTexts};
 ghost use Rattle.damon_control.specs.Spelling.{attrs_words, range_words, spelled_attrs, spelled_cap, spelled_range, spelled_seed, spelled_setting, spelled_target, spelled_unit};
+ghost use Rattle.damon_control.specs.Text.{ReadsOnlyTexts};
 
 use line_text::{
     address_is_spelled, number_is_decimal, parts_are_pieces, stripped_front_was_first,
@@ -58,7 +58,7 @@ pub fn schemes_are_spelled()
 }
 
 /// A line of a body or of a commit that is accepted is the spelling of what it says: a command of
-/// one line, or a part of a commit.
+/// one line, or a part of a commit, where it may come.
 pub fn body_lines_are_spelled()
     ensures commands { ReadsOnlyCommands }
     ensures parts { ReadsOnlyParts }
