@@ -11,3 +11,4 @@ pub mod SpellCommands
 pub mod SpellPlaces
 pub mod SpellTexts
 mod SpellExamples
+pub mod WorkLemmas

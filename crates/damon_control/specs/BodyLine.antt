@@ -1,10 +1,11 @@
 -- What the lines of a body say to the program.
-use Rattle.std.specs.Prelude.{ℕ, Result, Ok, Err}
+use Rattle.std.specs.Prelude.{ℕ, List, map, Result, Ok, Err}
 use Rattle.damon_control.specs.declared.body.BodyLine.{BodyLine}
 use Rattle.damon_control.specs.declared.body.BodyLine.TheVariants.{End, Commit, Say}
 use Rattle.damon_control.specs.declared.fault.ScriptKind.{ScriptKind}
 use Rattle.damon_control.specs.declared.script.Command.{Command}
 use Rattle.damon_control.specs.Command.{CommandValue, command_value}
+use Rattle.live_commit.specs.Setup.{SetupValue}
 use Rattle.damon_control.specs.Body.{no_commit}
 use Rattle.damon_control.specs.Limits.{IsWithin}
 use Rattle.damon_control.specs.Script.{AtEnd, Body, InCommit, Place, with_command}
@@ -26,3 +27,7 @@ abbrev pub LineIsWithin : ℕ → BodyLine → Type 0
 LineIsWithin pages End = Unit {0}
 LineIsWithin pages Commit = Unit {0}
 LineIsWithin pages (Say command) = IsWithin pages command
+
+-- a body with these commands, and this work of theirs
+abbrev pub body_at : ℕ → SetupValue → List Command → ℕ → Body
+body_at seed setup commands work = record { said = record { seed = seed; setup = setup; commands = map command_value commands }; work = work }

@@ -1,5 +1,5 @@
 -- The commands of a script, and their work.
-use Rattle.std.specs.Prelude.{ℕ, ◌+◌, ◌-◌, ◌*◌}
+use Rattle.std.specs.Prelude.{ℕ, ◌+◌, ◌-◌, ◌*◌, List, sum_by}
 use Rattle.live_commit.specs.Commit.{CommitValue, commit_value}
 use Rattle.damon_control.specs.declared.script.Command.{Command}
 use Rattle.damon_control.specs.declared.script.Command.TheVariants.{Touch as TouchCommand, Sweep as SweepCommand, Step as StepCommand, Arm as ArmCommand, Finish as FinishCommand, Show as ShowCommand, Commit as CommitCommand}
@@ -33,3 +33,7 @@ weight cap Arm = 2 * cap + 3
 weight cap Finish = 2 * cap + 3
 weight cap Show = 1
 weight cap (Commit commit) = 1
+
+-- the work of commands in all
+abbrev pub work_of : ℕ → List CommandValue → ℕ
+work_of cap commands = sum_by (weight cap) commands

@@ -1,10 +1,10 @@
-ghost use Rattle.std.specs.Prelude.{◌≡◌, ℕ, All, ◌≤◌, ◌<◌, ◌+◌, ◌-◌, ◌^◌, IfOk, OnOk, Ok, Err, Some, None, [], length, map, nat_le};
+ghost use Rattle.std.specs.Prelude.{◌≡◌, ℕ, All, IfSome, ◌≤◌, ◌<◌, ◌+◌, ◌-◌, ◌^◌, IfOk, OnOk, Ok, Err, Some, None, [], length, map, nat_le};
 ghost use Rattle.std.specs.Option.{ok_or};
 ghost use Rattle.damon_types.specs.Space.{page_of, pages_of};
 ghost use Rattle.live_commit.specs.SetupView.{value_of};
 ghost use Rattle.damon_control.specs.Body.{are_swept, command_line, step_line, sweep_line, touch_line, word_line};
-ghost use Rattle.damon_control.specs.BodyLine.{LineIsWithin, body_said, command_said};
-ghost use Rattle.damon_control.specs.Command.{command_value, weight};
+ghost use Rattle.damon_control.specs.BodyLine.{LineIsWithin, body_at, body_said, command_said};
+ghost use Rattle.damon_control.specs.Command.{command_value, weight, work_of};
 ghost use Rattle.damon_control.specs.Left.{FaultOf, reads_left};
 ghost use Rattle.damon_control.specs.Limits.{IsWithin};
 ghost use Rattle.damon_control.specs.Refusal.{only_if};
@@ -45,22 +45,51 @@ pub fn read_body(alloc: Global, lines: &mut Lines, setup: &Setup) -> Result<Comm
     ensures ok { IfOk result (λ commands. (seed : ℕ) → reads_left (InBody (begun seed (value_of setup.now))) lines.old ≡ reads_left (AtEnd (record { seed = seed; setup = value_of setup.now; commands = map command_value commands.list })) lines.new) }
     ensures fault { (seed : ℕ) → FaultOf result (reads_left (InBody (begun seed (value_of setup.now))) lines.old) }
     ensures within { IfOk result (λ commands. All (IsWithin (pages_of setup.now.space)) commands.list) }
+    ensures work { IfOk result (λ commands. work_of setup.now.cap (map command_value commands.list) ≤ 16777216) }
     ensures small { lines.new.taken + length lines.new.rest.now ≤ 16777216 }
 {
     let mut commands = Commands::new(alloc);
     let mut work = 0;
-    'lines: loop {
-        let line = lines.take_line()?;
-        let command = match lines.refuse(read_body_line(&setup.space, line))? {
-            BodyLine::End => return Ok(commands),
-            BodyLine::Commit => Command::Commit {
-                commit: Box::new(alloc, read_commit(alloc, lines)?)?,
-            },
-            BodyLine::Say(command) => command,
-        };
-        work = lines.refuse(added_work(work, setup.cap, &command))?;
-        commands.push(command)?;
+    'lines: while let Some(sum) = take_command(alloc, lines, setup, &mut commands, work)? {
+        work = sum;
     }
+    Ok(commands)
+}
+
+// Reads one more command, and gives the work of all so far; or None where the script ends.
+#[tactic(auto, using(crate::proofs::WorkLemmas::work_of_more))]
+fn take_command(
+    alloc: Global,
+    lines: &mut Lines,
+    setup: &Setup,
+    commands: &mut Commands,
+    work: u64,
+) -> Result<Option<u64>, ReadFail>
+    requires small { lines.old.taken + length lines.old.rest.now ≤ 16777216 }
+    requires few { length commands.old.list ≤ lines.old.taken }
+    requires most { work ≤ 16777216 }
+    ensures more { IfOk result (λ answer. IfSome answer (λ sum. (seed : ℕ) → reads_left (InBody (body_at seed (value_of setup.now) commands.old.list work)) lines.old ≡ reads_left (InBody (body_at seed (value_of setup.now) commands.new.list sum)) lines.new)) }
+    ensures end { IfOk result (λ answer. answer ≡ None → (seed : ℕ) → reads_left (InBody (body_at seed (value_of setup.now) commands.old.list work)) lines.old ≡ reads_left (AtEnd (body_at seed (value_of setup.now) commands.new.list work).said) lines.new) }
+    ensures fault { (seed : ℕ) → FaultOf result (reads_left (InBody (body_at seed (value_of setup.now) commands.old.list work)) lines.old) }
+    ensures sum { IfOk result (λ answer. IfSome answer (λ sum. sum + work_of setup.now.cap (map command_value commands.old.list) ≡ work + work_of setup.now.cap (map command_value commands.new.list))) }
+    ensures same { IfOk result (λ answer. answer ≡ None → commands.new.list ≡ commands.old.list) }
+    ensures within { OnOk result (All (IsWithin (pages_of setup.now.space)) commands.old.list → All (IsWithin (pages_of setup.now.space)) commands.new.list) }
+    ensures few { OnOk result (length commands.new.list ≤ lines.new.taken) }
+    ensures most { IfOk result (λ answer. IfSome answer (λ sum. sum ≤ 16777216)) }
+    ensures small { lines.new.taken + length lines.new.rest.now ≤ 16777216 }
+    ensures shorter { OnOk result (length lines.new.rest.now < length lines.old.rest.now) }
+{
+    let line = lines.take_line()?;
+    let command = match lines.refuse(read_body_line(&setup.space, line))? {
+        BodyLine::End => return Ok(None),
+        BodyLine::Commit => Command::Commit {
+            commit: Box::new(alloc, read_commit(alloc, lines)?)?,
+        },
+        BodyLine::Say(command) => command,
+    };
+    let sum = lines.refuse(added_work(work, setup.cap, &command))?;
+    commands.push(command)?;
+    Ok(Some(sum))
 }
 
 // Reads a line of a body.
@@ -163,6 +192,7 @@ fn read_step(line: &[u8]) -> Result<Command, ScriptKind>
 fn added_work(work: u64, cap: u32, command: &Command) -> Result<u64, ScriptKind>
     requires { work ≤ 16777216 }
     ensures exact { result ≡ only_if (nat_le (work + weight cap (command_value command.now)) 16777216) TooMuch (work + weight cap (command_value command.now)) }
+    ensures sum { IfOk result (λ sum. sum ≡ work + weight cap (command_value command.now)) }
     ensures most { IfOk result (λ sum. sum ≤ 16777216) }
 {
     let pass = 2 * u64::from(cap) + 3;

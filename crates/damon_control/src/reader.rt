@@ -1,9 +1,10 @@
-ghost use Rattle.std.specs.Prelude.{◌≡◌, All, ◌≤◌, ◌<◌, ◌+◌, ◌^◌, Ok, IfOk, IfErr, length};
+ghost use Rattle.std.specs.Prelude.{◌≡◌, All, ◌≤◌, ◌<◌, ◌+◌, ◌^◌, Ok, IfOk, IfErr, length, map};
 ghost use Rattle.damon_types.specs.Space.{checked, pages_of};
 ghost use Rattle.target_ranges.specs.Checked.{checked_ranges};
 ghost use Rattle.live_commit.specs.SetupView.{value_of};
 ghost use Rattle.live_commit.specs.Slots.{checked_slots, kept_slots};
 ghost use Rattle.damon_control.specs.declared.fault.ReadFail.TheVariants.{Memory};
+ghost use Rattle.damon_control.specs.Command.{command_value, work_of};
 ghost use Rattle.damon_control.specs.Head.{setup_said};
 ghost use Rattle.damon_control.specs.Left.{FaultOf, reads_left};
 ghost use Rattle.damon_control.specs.Limits.{AreLimits, IsWithin};
@@ -26,6 +27,7 @@ pub fn read_script(alloc: Global, text: &[u8]) -> Result<Script, ReadFail>
     ensures script { IfOk result (λ s. script_of text.now ≡ Ok (said_by s)) }
     ensures fault { FaultOf result (script_of text.now) }
     ensures within { IfOk result (λ s. All (IsWithin (pages_of s.setup.space)) s.commands.list) }
+    ensures work { IfOk result (λ s. work_of s.setup.cap (map command_value s.commands.list) ≤ 16777216) }
 {
     let mut lines = Lines::new(text);
     let Opening { seed, setup } = read_opening(alloc, &mut lines)?;

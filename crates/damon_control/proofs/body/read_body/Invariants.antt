@@ -1,7 +1,7 @@
 use Rattle.std.proofs.Common.{◌≡◌, ℕ, ◌≤◌, ◌+◌, All, length, map}
 use Rattle.damon_types.specs.Space.{pages_of}
 use Rattle.live_commit.specs.SetupView.{value_of}
-use Rattle.damon_control.specs.Command.{command_value}
+use Rattle.damon_control.specs.Command.{command_value, work_of}
 use Rattle.damon_control.specs.Limits.{IsWithin}
 use Rattle.damon_control.specs.Left.{reads_left}
 use Rattle.damon_control.specs.Script.{InBody, begun}
@@ -13,6 +13,7 @@ invariant-lines l = record {
       ≡ reads_left (InBody (record { said = record { seed = seed; setup = value_of l.setup; commands = map command_value l.commands.list }; work = l.work })) l.lines;
   within : All (IsWithin (pages_of l.setup.space)) l.commands.list;
   few : length l.commands.list ≤ l.lines.taken;
+  sum : l.work ≡ work_of l.setup.cap (map command_value l.commands.list);
   most : l.work ≤ 16777216;
   small : l.lines.taken + length l.lines.rest.now ≤ 16777216;
 }
