@@ -1,4 +1,4 @@
-ghost use Rattle.std.specs.Prelude.{◌≡◌, ◌≢◌, ◌+◌, ◌^◌, ◌<◌, ◌⊎◌, ◌↔◌, ℕ, IfSome, IfOk, IfErr, IsTrue, IsSome, IsErrOf, OnOk, OnErr, Some, All, length};
+ghost use Rattle.std.specs.Prelude.{◌≡◌, ◌≢◌, ◌+◌, ◌^◌, ◌<◌, ◌⊎◌, ◌↔◌, ℕ, IfSome, IfOk, IfErr, IsTrue, IsSome, IsErrOf, OnOk, OnErr, Some, All};
 ghost use Rattle.std.specs.Io.KnownBytes.{Appends, IsAtEnd};
 ghost use Rattle.damon_types.specs.Causes.{Rose};
 ghost use Rattle.damon_types.specs.Space.{pages_of};
@@ -81,7 +81,6 @@ fn replay<S: Source, K: Sink>(alloc: Global, source: &mut S, sink: &mut K) -> Re
 
 // Runs a script and writes its report as the run goes on.
 fn write_report<K: Sink>(alloc: Global, script: &Script, sink: &mut K) -> Result<(), Status>
-    requires one_range { length script.now.setup.ranges.list ≡ 1 }
     requires touches { All (TouchesWithin (pages_of script.now.setup.space)) script.now.commands.items }
 
     // The events of the script fit from its opening, and the sink gained their report.

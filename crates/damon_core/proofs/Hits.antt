@@ -13,7 +13,7 @@ use Rattle.damon_core.specs.Reached.{Reached}
 use Rattle.damon_core.specs.Kept.{cleared_so_far}
 use Rattle.damon_core.specs.Bound.{EachHitRests}
 use Rattle.damon_core.proofs.Keeping.{Keeps, any_result, true_result, reached_keeps}
-use Rattle.damon_core.proofs.Rows.{TilesEachPage, DivisionTiles, HasRows, rows_kept}
+use Rattle.damon_core.proofs.Rows.{RowLaws, HasRows, rows_kept}
 
 -- the pass has cleared each pick before the one that comes next
 pub record HasClears (s : State) : Type 0 where
@@ -142,8 +142,8 @@ load_rests s k hit fits is known h = EachHitRests-after_check s.notes (s.core.ti
         touched_after_clear-from_is_touched s.notes (s.core.ticks + 1) k page touch (h.clears.each k below)
 
 -- each step keeps the hits, where the results of loads are those of their pages
-pub hits_kept : TilesEachPage → DivisionTiles → Keeps true_result HasHits
-hits_kept per_page division = let rows = rows_kept true_result per_page division in let clears = clears_kept true_result in record {
+pub hits_kept : RowLaws → Keeps true_result HasHits
+hits_kept laws = let rows = rows_kept true_result laws in let clears = clears_kept true_result in record {
   opens = λ v can. record { rows = rows.opens v can; clears = clears.opens v can; rests = tt };
   touching = λ s p h. record { rows = rows.touching s p h.rows; clears = clears.touching s p h.clears; rests = h.rests };
   preparing = λ s ws idle count h. record { rows = rows.preparing s ws idle count h.rows; clears = clears.preparing s ws idle count h.clears; rests = h.rests };

@@ -17,7 +17,7 @@ use Rattle.damon_core.specs.After.{phase_after_clear, phase_after_pass, prepared
 use Rattle.damon_core.specs.Kept.{IsWithin, loaded_so_far}
 use Rattle.damon_core.specs.Bound.{OneInEach, EachPassChecks}
 use Rattle.damon_core.proofs.Keeping.{Keeps}
-use Rattle.damon_core.proofs.Rows.{TilesEachPage, DivisionTiles, HasRows, rows_kept}
+use Rattle.damon_core.proofs.Rows.{RowLaws, HasRows, rows_kept}
 
 enumerate_from-take-suc : (n k j : ℕ) (ps : List ℕ) → k < length ps → n + k ≡ j → enumerate_from n (take (suc k) ps) ≡ enumerate_from n (take k ps) ++ (j, slice_index ps k) ∷ []
 enumerate_from-take-suc n k j [] here is = absurd (omega arith)
@@ -285,8 +285,8 @@ passes_void s is rows h =
     }
 
 -- each step keeps the passes
-pub passes_kept : (Q : State → Bool → Type 0) → TilesEachPage → DivisionTiles → Keeps Q HasPasses
-passes_kept Q per_page division = let rows = rows_kept Q per_page division in record {
+pub passes_kept : (Q : State → Bool → Type 0) → RowLaws → Keeps Q HasPasses
+passes_kept Q laws = let rows = rows_kept Q laws in record {
   opens = λ v can. passes_open v (rows.opens v can);
   touching = λ s p h. passes_touch s p (rows.touching s p h.rows) h;
   preparing = λ s ws idle count h. passes_prepare s ws idle count (rows.preparing s ws idle count h.rows) h;

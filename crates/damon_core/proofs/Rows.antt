@@ -12,24 +12,25 @@ use Rattle.damon_types.specs.Span.{Span, span_of, spans}
 use Rattle.region_list.specs.Tiles.{Tiles}
 use Rattle.region_list.specs.Tiling.{Chain, Tiling}
 use Rattle.region_list.specs.Division.{divided}
+use Rattle.region_list.specs.Shrink.{shrunk}
 use Rattle.live_commit.specs.declared.phase.Phase.{Phase}
 use Rattle.live_commit.specs.declared.phase.Phase.TheVariants.{Idle, Clearing, Armed, Checking, Void, Due}
 use Rattle.live_commit.specs.Setup.{SetupValue}
 use Rattle.damon_core.specs.Note.{Note}
-use Rattle.damon_core.specs.State.{State, row_count, opening}
+use Rattle.damon_core.specs.State.{State, row_count, opening, opening_rows}
 use Rattle.damon_core.specs.Event.{IsLoading, load_index}
 use Rattle.damon_core.specs.After.{counted_from, phase_after_clear, phase_after_pass}
 use Rattle.damon_core.specs.Reached.{CanOpen}
 use Rattle.damon_core.specs.Kept.{IsWithin}
 use Rattle.damon_core.proofs.Keeping.{Keeps}
+use Rattle.damon_core.proofs.RowFacts.{tiling_of_pages}
 
--- what the law of region_list says of a tiling
-abbrev pub TilesEachPage : Type 0
-TilesEachPage = (unit : ℕ) (gs : List Range) (rows : List Span) → 1 ≤ unit → InOrder gs → Tiling unit gs rows → Tiles gs rows unit
-
--- what the law of region_list says of the division
-abbrev pub DivisionTiles : Type 0
-DivisionTiles = (unit min : ℕ) (gs : List Range) → 1 ≤ unit → AllByRecursion (λ g. unit ≤ g.pages) gs → Tiling unit gs (spans (divided unit min gs))
+-- what the laws of region_list say of a tiling, of the division, and of rows that are shrunk
+pub record RowLaws : Type 0 where
+  pub per_page : (unit : ℕ) (gs : List Range) (rows : List Span) → 1 ≤ unit → InOrder gs → Tiling unit gs rows → Tiles gs rows unit
+  pub division : (unit min : ℕ) (gs : List Range) → 1 ≤ unit → AllByRecursion (λ g. unit ≤ g.pages) gs → Tiling unit gs (spans (divided unit min gs))
+  pub shrunk_few : (to : ℕ) (gs : List Range) (rows : List Row) → InOrder gs → Tiling 1 gs (spans rows) → length gs ≤ to → length (shrunk gs to rows) ≤ to
+  pub shrunk_tiling : (unit to : ℕ) (gs : List Range) (rows : List Row) → InOrder gs → Tiling 1 gs (spans rows) → length gs ≤ to → Tiling unit gs (spans rows) → Tiling unit gs (spans (shrunk gs to rows))
 
 -- what is kept of the rows
 pub record HasRows (s : State) : Type 0 where
@@ -75,25 +76,28 @@ within_after_load (Clearing i) k rows some fits is = absurd fits
 within_after_load Void k rows some fits is = absurd fits
 within_after_load Due k rows some fits is = absurd fits
 
-rows_open : TilesEachPage → DivisionTiles → (v : SetupValue) → CanOpen v → HasRows (opening v)
-rows_open per_page division v can =
+rows_open : RowLaws → (v : SetupValue) → CanOpen v → HasRows (opening v)
+rows_open laws v can =
     let wide = recursion_from_All (λ (g : Range). v.unit ≤ g.pages) v.ranges can.sound.wide in
-    let rows = divided v.unit v.attrs.min v.ranges in
-    let tiling : Tiling v.unit v.ranges (spans rows) = division v.unit v.attrs.min v.ranges can.sound.unit_some wide in
+    let parts = divided v.unit v.attrs.min v.ranges in
+    let divides : Tiling v.unit v.ranges (spans parts) = laws.division v.unit v.attrs.min v.ranges can.sound.unit_some wide in
+    let pages : Tiling 1 v.ranges (spans parts) = tiling_of_pages v.unit v.ranges (spans parts) can.sound.unit_some divides in
+    let rows = opening_rows v in
+    let tiling : Tiling v.unit v.ranges (spans rows) = laws.shrunk_tiling v.unit v.attrs.max v.ranges parts can.order pages can.sound.ranges_most divides in
     let some : 0 < length (spans rows) = tiling_some v.unit v.ranges (spans rows) can.sound.unit_some can.sound.ranges_some wide tiling in
     record {
-      tiles = per_page v.unit v.ranges (spans rows) can.sound.unit_some can.order tiling;
+      tiles = laws.per_page v.unit v.ranges (spans rows) can.sound.unit_some can.order tiling;
       wide = can.sound.unit_some;
       some = omega (arith, some, length-map rows span_of);
-      few = can.few;
+      few = laws.shrunk_few v.attrs.max v.ranges parts can.order pages can.sound.ranges_most;
       most = can.sound.max_cap;
       within = tt;
     }
 
 -- each step keeps the rows
-pub rows_kept : (Q : State → Bool → Type 0) → TilesEachPage → DivisionTiles → Keeps Q HasRows
-rows_kept Q per_page division = record {
-  opens = rows_open per_page division;
+pub rows_kept : (Q : State → Bool → Type 0) → RowLaws → Keeps Q HasRows
+rows_kept Q laws = record {
+  opens = rows_open laws;
   touching = λ s p h. record { tiles = h.tiles; wide = h.wide; some = h.some; few = h.few; most = h.most; within = h.within };
   preparing = λ s ws idle count h. record { tiles = h.tiles; wide = h.wide; some = h.some; few = h.few; most = h.most; within = h.some };
   clearing = λ s k is h. record { tiles = h.tiles; wide = h.wide; some = h.some; few = h.few; most = h.most; within = within_after_clear k (row_count s.core) (subst (λ (ph : Phase). IsWithin ph (row_count s.core)) is h.within) };

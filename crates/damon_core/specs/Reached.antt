@@ -1,8 +1,8 @@
 -- The states to which events lead.
-use Rattle.std.specs.Prelude.{◌≡◌, ◌≤◌, List, [], ◌∷◌}
+use Rattle.std.specs.Prelude.{◌≡◌, List, [], ◌∷◌}
 use Rattle.damon_types.specs.Ranges.{InOrder}
 use Rattle.live_commit.specs.Setup.{SetupValue, IsSetup}
-use Rattle.damon_core.specs.State.{State, opening, opening_core, row_count}
+use Rattle.damon_core.specs.State.{State, opening}
 use Rattle.damon_core.specs.Event.{Event, Fits, ByHit}
 use Rattle.damon_core.specs.After.{after}
 
@@ -21,11 +21,10 @@ abbrev pub AllByHit : State → List Event → Type 0
 AllByHit s [] = Unit {0}
 AllByHit s (e ∷ es) = ByHit s e × AllByHit (after s e) es
 
--- a setup within its limits whose division has no more rows than are allowed
+-- a setup within its limits, its ranges in order
 pub record CanOpen (v : SetupValue) : Type 0 where
   pub sound : IsSetup v
   pub order : InOrder v.ranges
-  pub few : row_count (opening_core v) ≤ v.attrs.max
 
 -- events that fit lead to the state, whatever the results of the loads
 pub record Reached (s : State) : Type 0 where

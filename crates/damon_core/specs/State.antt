@@ -2,8 +2,10 @@
 use Rattle.std.specs.Prelude.{ℕ, List, [], length}
 use Rattle.damon_types.specs.declared.space.Target.{Target}
 use Rattle.damon_types.specs.declared.attrs.Attrs.{Attrs}
+use Rattle.damon_types.specs.declared.row.Row.{Row}
 use Rattle.region_list.specs.Regions.{RegionList}
 use Rattle.region_list.specs.Division.{divided}
+use Rattle.region_list.specs.Shrink.{shrunk}
 use Rattle.live_commit.specs.declared.phase.Phase.{Phase}
 use Rattle.live_commit.specs.declared.phase.Phase.TheVariants.{Idle}
 use Rattle.live_commit.specs.Setup.{SetupValue}
@@ -29,12 +31,16 @@ pub record State : Type 0 where
 abbrev pub row_count : Core → ℕ
 row_count c = length c.regions.rows
 
--- what a monitor shows before the first event: the division of the ranges
+-- the rows before the first event: the division of the ranges, adjacent rows joined until there are at most `max`
+abbrev pub opening_rows : SetupValue → List Row
+opening_rows v = shrunk v.ranges v.attrs.max (divided v.unit v.attrs.min v.ranges)
+
+-- what a monitor shows before the first event
 abbrev pub opening_core : SetupValue → Core
 opening_core v = record {
   space = v.space;
   attrs = v.attrs;
-  regions = record { ranges = v.ranges; rows = divided v.unit v.attrs.min v.ranges; unit = v.unit; cap = v.cap; max = v.attrs.max };
+  regions = record { ranges = v.ranges; rows = opening_rows v; unit = v.unit; cap = v.cap; max = v.attrs.max };
   phase = Idle;
   picks = [];
   ticks = 0;

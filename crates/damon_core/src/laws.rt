@@ -11,4 +11,5 @@ pub fn reached_states_are_bound()
 {
     region_list::tiling_is_per_page();
     region_list::division_tiles();
+    region_list::shrunk_rows_tile();
 }

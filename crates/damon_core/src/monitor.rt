@@ -2,11 +2,10 @@ ghost use Rattle.std.specs.List.{AllByRecursion};
 ghost use Rattle.std.specs.Prelude.{◌≡◌, ◌+◌, ◌^◌, ◌≤◌, ◌<◌, true, length, slice_get, IfOk};
 ghost use Rattle.damon_types.specs.Space.{pages_of};
 ghost use Rattle.damon_types.specs.Span.{spans};
-ghost use Rattle.region_list.specs.Division.{divided};
 ghost use Rattle.region_list.specs.Tiling.{Tiling};
 ghost use Rattle.live_commit.specs.SetupView.{value_of};
 ghost use Rattle.damon_core.specs.Note.{is_cleared};
-ghost use Rattle.damon_core.specs.State.{State, opening, opening_core, row_count};
+ghost use Rattle.damon_core.specs.State.{State, opening, opening_core, opening_rows, row_count};
 ghost use Rattle.damon_core.specs.Event.{IsClearing, IsLoading, IsObserving, load_index, prepare as prepare_event, clear as clear_event, load as load_event, observe as observe_event};
 ghost use Rattle.damon_core.specs.After.{phase_after_clear, phase_after_pass};
 ghost use Rattle.damon_core.specs.Reached.{Reached};
@@ -16,7 +15,7 @@ ghost use Rattle.damon_core.specs.Kept.{IsInPass, IsWithin, SinceWithin, cleared
 
 use damon_types::{Attrs, Space};
 use live_commit::{Phase, Setup};
-use region_list::{Regions, RowBuf, divide, one_range_is_divided_within};
+use region_list::{Regions, RowBuf, divide, shrink_rows};
 use sampler::{Picks, set_picks};
 use std::alloc::{AllocError, Global};
 use std::marker::Model;
@@ -58,10 +57,9 @@ impl Model for Monitor {
 }
 
 impl Monitor {
-    /// A monitor before its first pass, with the division of the setup's one range as its rows: a setup
-    /// of more ranges is not taken yet. Takes memory; no other call does.
+    /// A monitor before its first pass. Its rows are the division of the setup's ranges, of which
+    /// adjacent ones are joined until there are at most `max`. Takes memory; no other call does.
     pub fn new(alloc: Global, setup: &Setup) -> Result<Monitor, AllocError>
-        requires { length setup.now.ranges.list ≡ 1 }
         ensures core { IfOk result (λ m. m.core ≡ opening_core (value_of setup.now)) }
         ensures opening { IfOk result (λ m. Stands m (opening (value_of setup.now))) }
     {
@@ -241,7 +239,6 @@ impl Monitor {
 
 // The regions of a monitor before its first pass.
 fn first_regions(alloc: Global, setup: &Setup) -> Result<Regions, AllocError>
-    requires { length setup.now.ranges.list ≡ 1 }
     ensures { IfOk result (λ r. r ≡ (opening_core (value_of setup.now)).regions) }
 {
     let rows = first_rows(alloc, setup)?;
@@ -251,15 +248,15 @@ fn first_regions(alloc: Global, setup: &Setup) -> Result<Regions, AllocError>
 }
 
 // The rows of a monitor before its first pass.
+#[tactic(auto, using(crate::proofs::RowFacts::tiling_of_pages))]
 fn first_rows(alloc: Global, setup: &Setup) -> Result<RowBuf, AllocError>
-    requires { length setup.now.ranges.list ≡ 1 }
-    ensures rows { IfOk result (λ b. b.rows ≡ divided setup.now.unit setup.now.attrs.min setup.now.ranges.list) }
+    ensures rows { IfOk result (λ b. b.rows ≡ opening_rows (value_of setup.now)) }
     ensures tiling { IfOk result (λ b. Tiling setup.now.unit setup.now.ranges.list (spans b.rows)) }
     ensures few { IfOk result (λ b. length b.rows ≤ setup.now.attrs.max) }
 {
     let mut rows = RowBuf::new(alloc, setup.ranges.len() + setup.attrs.min)?;
     divide(&setup.ranges, setup.unit, setup.attrs.min, &mut rows);
-    one_range_is_divided_within();
+    shrink_rows(&mut rows, &setup.ranges, setup.attrs.max);
     Ok(rows)
 }
 

@@ -1,6 +1,4 @@
-// One pass over three pages; the expected values were reckoned by hand.
-ghost use Rattle.std.specs.Prelude.{◌≡◌, length, IfOk};
-
+// The opening, and passes over three pages; the expected values were reckoned by hand.
 use crate::Monitor;
 use damon_types::{Attrs, RangeSpec, Space, Target};
 use live_commit::{Phase, Setup};
@@ -8,29 +6,53 @@ use std::alloc::Global;
 use std::process::Abort;
 use std::test::Fail;
 
-// The setup of one target of three pages that is watched whole.
-fn three_pages(alloc: Global, aggr: u32) -> Result<Setup, Fail>
-    ensures { IfOk result (λ s. length s.ranges.list ≡ 1) }
-{
-    let space = Space::new(
+// A range of the first target.
+fn range(from: u64, to: u64) -> RangeSpec {
+    RangeSpec {
+        target: 0,
+        from,
+        to,
+        class: 0,
+    }
+}
+
+// A space of one target of so many pages.
+fn one_target(alloc: Global, pages: u32) -> Result<Space, Fail> {
+    Ok(Space::new(
         alloc,
         &[Target {
             base: 0x1_0000,
-            pages: 3,
+            pages,
         }],
-    )?;
+    )?)
+}
+
+// The setup of three pages that are watched whole.
+fn three_pages(alloc: Global, aggr: u32) -> Result<Setup, Fail> {
     let attrs = Attrs {
         min: 3,
         max: 8,
         aggr,
     };
-    let range = RangeSpec {
-        target: 0,
-        from: 0x1_0000,
-        to: 0x1_3000,
-        class: 0,
+    let space = one_target(alloc, 3)?;
+    let ranges = [range(0x1_0000, 0x1_3000)];
+    Ok(Setup::new(alloc, space, 1, 8, attrs, &ranges, &[])?)
+}
+
+// The setup of ranges of 1, 1 and 98 pages, whose division has four rows, one more than are allowed.
+fn three_ranges(alloc: Global) -> Result<Setup, Fail> {
+    let attrs = Attrs {
+        min: 3,
+        max: 3,
+        aggr: 5,
     };
-    Ok(Setup::new(alloc, space, 1, 8, attrs, &[range], &[])?)
+    let ranges = [
+        range(0x1_0000, 0x1_1000),
+        range(0x1_2000, 0x1_3000),
+        range(0x1_4000, 0x7_6000),
+    ];
+    let space = one_target(alloc, 102)?;
+    Ok(Setup::new(alloc, space, 1, 8, attrs, &ranges, &[])?)
 }
 
 // Clears the next pick, whose page is this one.
@@ -81,6 +103,26 @@ fn counts(rt: &impl Abort, monitor: &Monitor) -> [u32; 3] {
     let rows = monitor.rows();
     assert_eq!(rt; rows.len(), 3);
     [rows.row(0).count, rows.row(1).count, rows.row(2).count]
+}
+
+// The first page of each of three rows, and their pages.
+fn places(rt: &impl Abort, monitor: &Monitor) -> [(u32, u32); 3] {
+    let rows = monitor.rows();
+    assert_eq!(rt; rows.len(), 3);
+    let (first, second, third) = (rows.row(0), rows.row(1), rows.row(2));
+    [
+        (first.start, first.pages),
+        (second.start, second.pages),
+        (third.start, third.pages),
+    ]
+}
+
+#[test]
+fn an_opening_has_at_most_max_rows(rt: HostRuntime) -> Result<(), Fail> {
+    let setup = three_ranges(rt.alloc())?;
+    let monitor = Monitor::new(rt.alloc(), &setup)?;
+    assert_eq!(rt; places(&rt, &monitor), [(0, 1), (2, 1), (4, 98)]);
+    Ok(())
 }
 
 #[test]

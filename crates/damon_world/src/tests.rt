@@ -1,6 +1,4 @@
 // One pass over three pages with touches in it; the expected values were reckoned by hand.
-ghost use Rattle.std.specs.Prelude.{◌≡◌, length, IfOk};
-
 use crate::{Stepped, World};
 use damon_types::{Attrs, RangeSpec, Space, Target};
 use live_commit::{Phase, Setup};
@@ -10,9 +8,7 @@ use std::process::Abort;
 use std::test::Fail;
 
 // The setup of one target of three pages that is watched whole.
-fn three_pages(alloc: Global) -> Result<Setup, Fail>
-    ensures { IfOk result (λ s. length s.ranges.list ≡ 1) }
-{
+fn three_pages(alloc: Global) -> Result<Setup, Fail> {
     let space = Space::new(
         alloc,
         &[Target {

@@ -1,4 +1,4 @@
-ghost use Rattle.std.specs.Prelude.{◌≡◌, ◌≢◌, ◌+◌, ◌/◌, ◌^◌, ◌≤◌, ◌<◌, ℕ, ◌↔◌, IsTrue, IfOk, length, slice_index, vec_capacity};
+ghost use Rattle.std.specs.Prelude.{◌≡◌, ◌≢◌, ◌+◌, ◌/◌, ◌^◌, ◌≤◌, ◌<◌, ℕ, ◌↔◌, IsTrue, IfOk, slice_index, vec_capacity};
 ghost use Rattle.damon_types.specs.Space.{pages_of};
 ghost use Rattle.live_commit.specs.SetupView.{value_of};
 ghost use Rattle.damon_core.specs.State.{State, opening, opening_core, row_count};
@@ -55,10 +55,8 @@ impl<R: Rng> Model for World<R> {
 }
 
 impl<R: Rng + Drop> World<R> {
-    /// A world before its first event: no page was touched. The setup has one range. Takes memory; no
-    /// other call does.
+    /// A world before its first event: no page was touched. Takes memory; no other call does.
     pub fn new(alloc: Global, setup: &Setup, source: R) -> Result<World<R>, AllocError>
-        requires { length setup.now.ranges.list ≡ 1 }
         ensures core { IfOk result (λ w. w.monitor.core ≡ opening_core (value_of setup.now)) }
         ensures source { IfOk result (λ w. w.source ≡ source) }
         ensures opening { IfOk result (λ w. StandsFor w (opening (value_of setup.now))) }

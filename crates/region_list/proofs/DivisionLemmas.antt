@@ -4,7 +4,7 @@ use Rattle.std.specs.Prelude.{slice_get, sum_by}
 use Rattle.std.specs.List.{flat_map, AllByRecursion}
 use Rattle.std.proofs.Math.Nat.{div-mul-le_self, mul-div-le, le_of_mul-le-mul_left, le-div_iff_mul-le}
 use Rattle.std.proofs.Math.Seq.{drop-cons}
-use Rattle.std.proofs.lemmas.List.{map-append, append-nil}
+use Rattle.std.proofs.lemmas.List.{map-append}
 use Rattle.std.proofs.lemmas.List.Sums.{sum_by-cons, get_or-le-sum_by}
 use Rattle.std.proofs.lemmas.Option.{get_or_from_slice_get, slice_get_within}
 use Rattle.damon_types.specs.declared.range.Range.{Range}
@@ -95,13 +95,3 @@ drop_next gs i g here is = drop-cons gs i g here ∙ ap (λ x. x ∷ drop (suc i
 pub pages_within : (gs : List Range) (i : ℕ) (g : Range) → slice_get gs i ≡ Some g → g.pages ≤ page_total gs
 pages_within gs i g is =
     omega (arith, get_or-le-sum_by (λ (h : Range). h.pages) gs i g (slice_get_within gs i g is), ap (λ (h : Range). h.pages) (get_or_from_slice_get gs i g g is))
-
--- one range has all the pages, so its share is what is aimed at
-pub length-divided_one : (unit least : ℕ) (g : Range) → 1 ≤ g.pages → 1 ≤ least → length (divided unit least (g ∷ [])) ≤ least
-length-divided_one unit least g pages some =
-    let total = page_total (g ∷ []) in
-    let k = parts unit least total g in
-    let sum : total ≡ g.pages + 0 = sum_by-cons (λ (h : Range). h.pages) g [] in
-    let count : length (divided unit least (g ∷ [])) ≡ k = ap length (append-nil (range_rows unit least total g)) ∙ length-rows_from g.target (g.pages / k) (end_of g) k g.first in
-    let share : g.pages * least / total ≤ least = le_of_mul-le-mul_left {k = total} (omega (arith, mul-div-le (g.pages * least) total, ap (λ n. n * least) sum)) (omega (arith, sum)) in
-    omega (arith, count, share)

@@ -1,5 +1,5 @@
 // What holds of the definitions, for the crates above.
-ghost use Rattle.std.specs.Prelude.{ℕ, ◌≤◌, List, [], ◌∷◌, length};
+ghost use Rattle.std.specs.Prelude.{ℕ, ◌≤◌, List, length};
 ghost use Rattle.std.specs.List.{AllByRecursion};
 ghost use Rattle.damon_types.specs.declared.range.Range.{Range as range};
 ghost use Rattle.damon_types.specs.declared.row.Row.{Row as row};
@@ -19,11 +19,6 @@ pub fn tiling_is_per_page()
 /// The initial division tiles its ranges, where each has at least `unit` pages.
 pub fn division_tiles()
     ensures { (unit min : ℕ) (gs : List range) → 1 ≤ unit → AllByRecursion (λ g. unit ≤ g.pages) gs → Tiling unit gs (spans (divided unit min gs)) }
-{}
-
-/// One range is divided into at most `min` rows, where `min` is not 0.
-pub fn one_range_is_divided_within()
-    ensures { (unit min : ℕ) (g : range) → 1 ≤ g.pages → 1 ≤ min → length (divided unit min (g ∷ [])) ≤ min }
 {}
 
 /// Rows that tile their ranges, each with at least one page, are at most `to` when they are shrunk to

@@ -17,7 +17,7 @@ mod shrink;
 
 pub use division::divide;
 pub use join::join_rows;
-pub use laws::{division_tiles, one_range_is_divided_within, shrunk_rows_tile, tiling_is_per_page};
+pub use laws::{division_tiles, shrunk_rows_tile, tiling_is_per_page};
 pub use regions::Regions;
 pub use row_buf::RowBuf;
 pub use shrink::shrink_rows;

@@ -1,4 +1,4 @@
-ghost use Rattle.std.specs.Prelude.{◌≡◌, ◌+◌, ◌*◌, ◌≤◌, ◌<◌, ◌++◌, ◌^◌, ◌↔◌, [], ℕ, List, IsTrue, IfOk, OnErr, OnOk, length, sum_by};
+ghost use Rattle.std.specs.Prelude.{◌≡◌, ◌+◌, ◌*◌, ◌≤◌, ◌<◌, ◌++◌, ◌^◌, ◌↔◌, [], ℕ, List, IsTrue, IfOk, OnErr, OnOk, sum_by};
 ghost use Rattle.rand_core.specs.Steps.{stream_of, steps_u32};
 ghost use Rattle.rand_pcg.specs.Pcg.{pcg32};
 ghost use Rattle.damon_core.specs.Reached.{AllFit, CanOpen};
@@ -24,11 +24,9 @@ use std::alloc::{AllocError, Global};
 // The stream of the generator whose words a script's steps draw.
 const STREAM: u64 = 54;
 
-/// A world before the first command of a script of one range, whose random words are those of the
-/// script's seed. Takes memory.
+/// A world before the first command of a script, whose random words are those of the script's seed.
+/// Takes memory.
 pub fn open_world(alloc: Global, script: &Script) -> Result<World<Lcg64Xsh32>, AllocError>
-    requires { length script.now.setup.ranges.list ≡ 1 }
-
     // The world stands at the start of the script.
     ensures start { IfOk result (λ w. (form : form_type) → Progress (stream_of (steps_u32 pcg32)) form (said_by script.now) w script.now.commands.items []) }
     ensures core { IfOk result (λ w. w.monitor.core ≡ opening_core (value_of script.now.setup)) }
@@ -37,8 +35,6 @@ pub fn open_world(alloc: Global, script: &Script) -> Result<World<Lcg64Xsh32>, A
     // For its clauses alone: the ranges are in order.
     let _ranges = script.setup.ranges.len();
     let world = World::new(alloc, &script.setup, Lcg64Xsh32::new(script.seed, STREAM))?;
-    // For its clauses alone: the rows tile their ranges.
-    let _rows = world.monitor().rows().len();
     Ok(world)
 }
 

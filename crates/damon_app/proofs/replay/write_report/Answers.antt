@@ -2,12 +2,15 @@ use Rattle.std.proofs.Common.{◌≡◌, inr, ◌+◌, ◌≤◌, ◌<◌, suc, 
 use Rattle.std.proofs.Math.Seq.{drop-cons}
 use Rattle.std.proofs.lemmas.List.{drop_all}
 use Rattle.std.proofs.lemmas.List.Sums.{sum_by-cons}
-use Rattle.std.specs.Prelude.{sum_by}
+use Rattle.std.proofs.lemmas.List.Elements.{All-get_or}
+use Rattle.std.specs.Prelude.{All, sum_by}
 use Rattle.std.specs.Io.KnownBytes.{Appends}
 use Rattle.rand_core.specs.Steps.{stream_of, steps_u32}
 use Rattle.rand_pcg.specs.Pcg.{pcg32}
 use Rattle.plain_script.specs.declared.script.Command.{Command}
 use Rattle.plain_script.specs.declared.script.Command.TheVariants.{Touch}
+use Rattle.damon_types.specs.Space.{pages_of}
+use Rattle.plain_script.specs.Limits.{TouchesWithin}
 use Rattle.plain_script.specs.ScriptView.{said_by}
 use Rattle.snapshot_print.specs.declared.form.Form.TheVariants.{Text}
 use Rattle.script_run.specs.Unfold.{steps_of}
@@ -33,6 +36,14 @@ returns-in_err-run_command-clause-part g c =
     let b = g.K.Sink.taken c.loop-command.sink in
     let part = Written-so_far a b said.0 c.loop-command.text.items said.2 in
     inr (c.if-not-comes_to_none.ensures.exact.0 refl, part_of_report (stream_of (steps_u32 pcg32)) (said_by c.args.script.now) c.loop-command.world _ said.0 a b said.1 part)
+
+pub run_command-requires-clause-touch : goal.run_command-requires-clause-touch
+run_command-requires-clause-touch g c =
+    let ds = c.deref-command-items.result.now in
+    let i = c.loop-command.command-index in
+    let each = subst (λ ks. All (TouchesWithin (pages_of c.args.script.now.setup.space)) ks) (sym c.deref-command-items.ensures.value) c.requires.touches in
+    let here = All-get_or (TouchesWithin (pages_of c.args.script.now.setup.space)) ds i (Touch 0) c.loop-command-test.true each in
+    subst (λ ts. TouchesWithin (pages_of ts) (get_or ds i (Touch 0))) (sym c.loop-command.invariant.space) here
 
 pub run_command-requires-clause-steps : goal.run_command-requires-clause-steps
 run_command-requires-clause-steps g c =
