@@ -2,4 +2,13 @@ pub mod PartLemmas
 pub mod WordLemmas
 pub mod PlaceLemmas
 pub mod SlotLemmas
+pub mod SpellSteps
+pub mod SpellWords
+pub mod SpellLines
+pub mod SpellKeys
+pub mod SpellSchemes
+pub mod SpellCommands
+pub mod SpellPlaces
+pub mod SpellTexts
+mod SpellExamples
 pub mod WorkLemmas

@@ -12,3 +12,6 @@ pub mod BodyLine
 pub mod Left
 pub mod Views
 pub mod KeyViews
+pub mod Spelling
+pub mod Laws
+pub mod Text

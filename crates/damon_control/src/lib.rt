@@ -14,6 +14,8 @@ mod fields;
 mod head;
 /// The words of a scheme.
 mod keys;
+/// Texts that are accepted are spelled so.
+mod laws;
 /// A text, line by line.
 mod lines;
 /// The reader of a whole text.
@@ -26,5 +28,9 @@ mod tests;
 mod words;
 
 pub use fault::{ReadFail, ScriptFault, ScriptKind};
+pub use laws::{
+    body_lines_are_spelled, fields_are_spelled, schemes_are_spelled, setup_lines_are_spelled,
+    texts_are_spelled,
+};
 pub use reader::read_script;
 pub use script::{Command, Commands, Script};

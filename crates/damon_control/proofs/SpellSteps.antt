@@ -1,0 +1,62 @@
+-- What was accepted step by step, each step accepted.
+use Rattle.std.proofs.Common.{◌≡◌, ◌∷◌, [], ℕ, Bool, true, false, List, Some, None, Ok, Err, refl, ◌&&◌}
+use Rattle.std.specs.Prelude.{Option, Result, if◌then◌else◌}
+use Rattle.std.specs.Option.{ok_or}
+use Rattle.line_text.specs.Parts.{one_of, two_of, three_of, four_of}
+use Rattle.damon_control.specs.declared.fault.ScriptKind.{ScriptKind}
+use Rattle.damon_control.specs.Refusal.{◌>>=◌, only_if}
+
+-- a value, and then what is made of it
+pub bind-Ok : {A B E : Type 0} (r : Result A E) (f : A → Result B E) (y : B) → (r >>= f) ≡ Ok y → (x : A) × (r ≡ Ok x) × (f x ≡ Ok y)
+bind-Ok (Ok x) f y e = (x, refl, e)
+bind-Ok (Err k) f y e = absurd cc
+
+-- a value that is there
+pub ok_or-Ok : {A : Type 0} (o : Option A) (kind : ScriptKind) (x : A) → ok_or o kind ≡ Ok x → o ≡ Some x
+ok_or-Ok (Some y) kind x e = cc
+ok_or-Ok None kind x e = absurd cc
+
+-- a value that passes a test
+pub only_if-Ok : {A : Type 0} (test : Bool) (kind : ScriptKind) (value x : A) → only_if test kind value ≡ Ok x → (test ≡ true) × (value ≡ x)
+only_if-Ok true kind value x e = (refl, cc)
+only_if-Ok false kind value x e = absurd cc
+
+-- one of two ways was gone, the first after its test
+pub tested_way : {R G : Type 0} (test : Bool) (here others x : R) → (test ≡ true → here ≡ x → G) → (others ≡ x → G) → (if test then here else others) ≡ x → G
+tested_way true here others x found next e = found refl e
+tested_way false here others x found next e = next e
+
+-- one of two ways was gone
+pub either_way : {R G : Type 0} (test : Bool) (here others x : R) → (here ≡ x → G) → (others ≡ x → G) → (if test then here else others) ≡ x → G
+either_way test here others x found next = tested_way test here others x (λ _. found) next
+
+-- the second of two tests that pass
+pub second_true : (first second : Bool) → (first && second) ≡ true → second ≡ true
+second_true true second both = both
+second_true false second both = absurd cc
+
+pub one_of-Some : (words : List (List ℕ)) (a : List ℕ) → one_of words ≡ Some a → words ≡ a ∷ []
+one_of-Some [] a e = absurd cc
+one_of-Some (b ∷ []) a e = cc
+one_of-Some (b ∷ c ∷ more) a e = absurd cc
+
+pub two_of-Some : (words : List (List ℕ)) (x : List ℕ × List ℕ) → two_of words ≡ Some x → words ≡ x.0 ∷ x.1 ∷ []
+two_of-Some [] x e = absurd cc
+two_of-Some (a ∷ []) x e = absurd cc
+two_of-Some (a ∷ b ∷ []) x e = cc
+two_of-Some (a ∷ b ∷ c ∷ more) x e = absurd cc
+
+pub three_of-Some : (words : List (List ℕ)) (x : List ℕ × List ℕ × List ℕ) → three_of words ≡ Some x → words ≡ x.0 ∷ x.1 ∷ x.2 ∷ []
+three_of-Some [] x e = absurd cc
+three_of-Some (a ∷ []) x e = absurd cc
+three_of-Some (a ∷ b ∷ []) x e = absurd cc
+three_of-Some (a ∷ b ∷ c ∷ []) x e = cc
+three_of-Some (a ∷ b ∷ c ∷ d ∷ more) x e = absurd cc
+
+pub four_of-Some : (words : List (List ℕ)) (x : List ℕ × List ℕ × List ℕ × List ℕ) → four_of words ≡ Some x → words ≡ x.0 ∷ x.1 ∷ x.2 ∷ x.3 ∷ []
+four_of-Some [] x e = absurd cc
+four_of-Some (a ∷ []) x e = absurd cc
+four_of-Some (a ∷ b ∷ []) x e = absurd cc
+four_of-Some (a ∷ b ∷ c ∷ []) x e = absurd cc
+four_of-Some (a ∷ b ∷ c ∷ d ∷ []) x e = cc
+four_of-Some (a ∷ b ∷ c ∷ d ∷ f ∷ more) x e = absurd cc

@@ -1,0 +1,14 @@
+use Rattle.damon_control.proofs.SpellLines.{attrs_line-Ok, cap_line-Ok, one_target-Ok, range_line-Ok, seed_line-Ok, unit_line-Ok}
+use Rattle.damon_control.proofs.laws.setup_lines_are_spelled.Goals as goal
+
+pub returns : goal.returns
+returns c =
+    let laws = c.words_have_laws.ensures.laws in
+    record {
+      seed = seed_line-Ok laws;
+      unit = unit_line-Ok laws;
+      cap = cap_line-Ok laws;
+      attrs = attrs_line-Ok laws;
+      target = one_target-Ok laws;
+      range = range_line-Ok laws;
+    }
