@@ -7,6 +7,7 @@ use Rattle.damon_control.specs.Script.{ScriptValue, script_of}
 use Rattle.damon_control.specs.declared.fault.ReadFail.{ReadFail}
 use Rattle.damon_control.specs.declared.fault.ReadFail.TheVariants as reads
 use Rattle.damon_control.specs.declared.fault.ScriptFault.{ScriptFault}
+use Rattle.damon_control.specs.declared.fault.ScriptKind.{ScriptKind}
 use Rattle.damon_control.specs.Left.{FaultOf}
 use Rattle.script_run.specs.Unfold.{has_later_parts}
 use Rattle.damon_app.specs.declared.input.InputFault.{InputFault}
@@ -30,6 +31,10 @@ read_whole : (P : List ℕ → Type 0) (a b : Option (List ℕ)) (bytes : List �
 read_whole P None b bytes all end holds = tt
 read_whole P (Some us) None bytes all end holds = absurd all
 read_whole P (Some us) (Some vs) bytes all end holds = subst P (sym (all ∙ ap (λ zs. bytes ++ zs) end ∙ append-nil bytes)) holds
+
+-- a fault is its line and its kind
+same_fault : (f g : ScriptFault) → f.line ≡ g.line → f.kind ≡ g.kind → f ≡ g
+same_fault f g line kind = ap (λ (n : ℕ). record f { line = n }) line ∙ ap (λ (k : ScriptKind). record g { kind = k }) kind
 
 -- the sink was left alone
 alone : (a : Option (List ℕ)) (old new : Option (List ℕ)) (same : Type 0) → same → IfSome a (λ bytes. same ⊎ WritesFront bytes old new)
@@ -101,7 +106,7 @@ module _ (limit : ℕ) (source source' sink sink' : Ends) (same : Type 0) where
       end = λ yes. end;
       too_long = λ not known. ((λ e. absurd (cc e)), (λ gave. absurd (not_over known gave)));
       script = λ yes. of_bytes (TellsFault (statuses.Script fault.line fault.kind)) (λ other. (
-          (λ e. spells ∙ ap (λ f. Err f) (let line : fault.line ≡ other.line = cc e in let kind : fault.kind ≡ other.kind = cc e in cc (line, kind))),
+          (λ e. spells ∙ ap (λ f. Err f) (same_fault fault other (cc e) (cc e))),
           (λ e. let one : Err fault ≡ Err other = sym spells ∙ e in let equal : fault ≡ other = cc one in rw equal refl),
         ));
       not_yet = λ e. absurd (cc e);

@@ -77,7 +77,8 @@ fn replay<S: Source, K: Sink>(alloc: Global, source: &mut S, sink: &mut K) -> Re
     if has_later_parts(&script) {
         return Err(Status::NotYet);
     }
-    write_report(alloc, &script, sink)
+    write_report(alloc, &script, sink)?;
+    Ok(())
 }
 
 // Runs a script and writes its report as the run goes on.
