@@ -1,22 +1,39 @@
 // Whole runs of the program, on scripts whose reports were worked out by hand.
 use crate::fakes::{KeptSink, MadeSource, PieceSource};
 use crate::{Status, replay_main};
+use damon_control::ScriptKind;
 use damon_types::{MemSink, MemSource};
 use std::alloc::{AllocError, Global};
 use std::process::Abort;
 use std::test::Fail;
 
-// A target of three pages, each of which is watched.
-const HEAD: &str = "\
+// The first lines of a setup.
+const FRONT: &str = "\
 damon script 1
 seed 42
 unit 1
 cap 8
-attrs 3 8 5
+";
+
+// A target of three pages, each of which is watched.
+const THREE_PAGES: &str = "\
 target 0x10000 3
 range 0 0x10000 0x13000 0
-begin
 ";
+
+// A target of two pages and one of one page, with each page watched.
+const TWO_TARGETS: &str = "\
+target 0x10000 2
+target 0x1000 1
+range 0 0x10000 0x12000 0
+range 1 0x1000 0x2000 1
+";
+
+// An aggregation after five passes.
+const FIVE: &str = "attrs 3 8 5\n";
+
+// An aggregation after each pass.
+const ONE: &str = "attrs 3 8 1\n";
 
 // A pass of eight steps, with a touch after the pages were cleared and before they are checked.
 const TOUCHED: &str = "step 4\ntouch 0 0x11000\nstep 4\nshow\n";
@@ -28,6 +45,32 @@ row 0 0x10000-0x11000 count=0 last=0 age=0
 row 0 0x11000-0x12000 count=1 last=0 age=0
 row 0 0x12000-0x13000 count=0 last=0 age=0
 end ticks=1 rows=3 checks=3 hits=1
+";
+
+// What is written where each page is touched.
+const THREE_HITS: &str = "\
+show tick=1 phase=idle rows=3
+row 0 0x10000-0x11000 count=1 last=0 age=0
+row 0 0x11000-0x12000 count=1 last=0 age=0
+row 0 0x12000-0x13000 count=1 last=0 age=0
+end ticks=1 rows=3 checks=3 hits=3
+";
+
+// What is written where the page of the second target is touched.
+const OTHER_HIT: &str = "\
+show tick=1 phase=idle rows=3
+row 0 0x10000-0x11000 count=0 last=0 age=0
+row 0 0x11000-0x12000 count=0 last=0 age=0
+row 1 0x1000-0x2000 count=1 last=0 age=0
+end ticks=1 rows=3 checks=3 hits=1
+";
+
+// What is written by a show after two passes and a half.
+const HALFWAY: &str = "\
+show tick=2 phase=armed rows=3
+row 0 0x10000-0x11000 count=0 last=0 age=0
+row 0 0x11000-0x12000 count=0 last=0 age=0
+row 0 0x12000-0x13000 count=0 last=0 age=0
 ";
 
 // What is written where no touch is counted.
@@ -48,13 +91,21 @@ fn words_of(alloc: Global, words: &[&str]) -> Result<Vec<String>, AllocError> {
     Ok(list)
 }
 
-// The script with these commands, and this at its end.
-fn script_of(alloc: Global, commands: &str, last: &str) -> Result<Vec<u8>, AllocError> {
+// The script that these parts spell.
+fn script_of(alloc: Global, parts: &[&str]) -> Result<Vec<u8>, AllocError> {
     let mut script = Vec::new(alloc);
-    script.extend_from_slice(HEAD.as_bytes())?;
-    script.extend_from_slice(commands.as_bytes())?;
-    script.extend_from_slice(last.as_bytes())?;
+    for part in parts {
+        script.extend_from_slice(part.as_bytes())?;
+    }
     Ok(script)
+}
+
+// The script of three pages with these commands, and this at its end.
+fn three_pages(alloc: Global, commands: &str, last: &str) -> Result<Vec<u8>, AllocError> {
+    script_of(
+        alloc,
+        &[FRONT, FIVE, THREE_PAGES, "begin\n", commands, last],
+    )
 }
 
 // Replays a script with ample room, and sees that this is answered and written.
@@ -75,7 +126,7 @@ fn expect_replay(
 // Sees that these words are refused, and that nothing is read or written then.
 fn expect_usage(rt: &(impl Abort + AllocGlobal), words: &[&str]) -> Result<(), AllocError> {
     let words = words_of(rt.alloc(), words)?;
-    let mut source = PieceSource::new(HEAD.as_bytes(), 100, 0);
+    let mut source = PieceSource::new(FRONT.as_bytes(), 100, 0);
     let mut sink = KeptSink::new(rt.alloc(), 100, 0);
     let answer = replay_main(rt.alloc(), &words, &mut source, &mut sink);
     assert_eq!(rt; answer, Status::Usage);
@@ -109,31 +160,100 @@ fn a_touch_counts_between_clear_and_check(rt: HostRuntime) -> Result<(), Fail> {
             ONE_HIT,
         ),
     ] {
-        let script = script_of(rt.alloc(), commands, "end\n")?;
+        let script = three_pages(rt.alloc(), commands, "end\n")?;
         expect_replay(&rt, &script, Status::Ok, report)?;
     }
+    Ok(())
+}
+
+// Where the pages are cleared, or the pass is over, there is nothing left to do.
+#[test]
+fn a_pass_is_armed_and_finished(rt: HostRuntime) -> Result<(), Fail> {
+    for (commands, report) in [
+        ("arm\ntouch 0 0x11000\nfinish\nshow\n", ONE_HIT),
+        (
+            "step 4\narm\ntouch 0 0x11000\nfinish\nfinish\nshow\n",
+            ONE_HIT,
+        ),
+        ("arm\nsweep 0 0x11000 0x12000\nfinish\nshow\n", ONE_HIT),
+        ("arm\nsweep 0 0x10000 0x13000\nfinish\nshow\n", THREE_HITS),
+    ] {
+        let script = three_pages(rt.alloc(), commands, "end\n")?;
+        expect_replay(&rt, &script, Status::Ok, report)?;
+    }
+    Ok(())
+}
+
+#[test]
+fn a_touch_counts_in_its_target(rt: HostRuntime) -> Result<(), Fail> {
+    let body = "begin\narm\ntouch 1 0x1000\nfinish\nshow\nend\n";
+    let script = script_of(rt.alloc(), &[FRONT, FIVE, TWO_TARGETS, body])?;
+    expect_replay(&rt, &script, Status::Ok, OTHER_HIT)?;
+    Ok(())
+}
+
+#[test]
+fn the_first_fault_is_told(rt: HostRuntime) -> Result<(), Fail> {
+    for (commands, last, line, kind) in [
+        (TOUCHED, "end", 13, ScriptKind::Cut),
+        (TOUCHED, "end\nx", 14, ScriptKind::After),
+        ("step 01\n", "end\n", 9, ScriptKind::Number),
+        (
+            "step 4\ntouch 0 0x13000\n",
+            "end\n",
+            10,
+            ScriptKind::Outside,
+        ),
+    ] {
+        let script = three_pages(rt.alloc(), commands, last)?;
+        expect_replay(&rt, &script, Status::Script { line, kind }, "")?;
+    }
+    let cut = Status::Script {
+        line: 1,
+        kind: ScriptKind::Cut,
+    };
+    expect_replay(&rt, b"", cut, "")?;
     Ok(())
 }
 
 // Five passes of eight steps come to where an aggregation is due.
 #[test]
 fn a_script_runs_up_to_an_aggregation(rt: HostRuntime) -> Result<(), Fail> {
-    for (commands, last, status, report) in [
+    for (commands, status, report) in [
         (
             "step 40\n",
-            "end\n",
             Status::Ok,
             "end ticks=5 rows=3 checks=15 hits=0\n",
         ),
-        ("step 41\n", "end\n", Status::NotYet, ""),
-        ("step 20\nshow\nstep 21\n", "end\n", Status::NotYet, ""),
-        (TOUCHED, "end", Status::NotYet, ""),
-        (TOUCHED, "end\nx", Status::NotYet, ""),
+        ("step 41\n", Status::NotYet, ""),
+        ("step 20\nshow\nstep 21\nshow\n", Status::NotYet, HALFWAY),
     ] {
-        let script = script_of(rt.alloc(), commands, last)?;
+        let script = three_pages(rt.alloc(), commands, "end\n")?;
         expect_replay(&rt, &script, status, report)?;
     }
-    expect_replay(&rt, b"", Status::NotYet, "")?;
+    Ok(())
+}
+
+#[test]
+fn what_is_not_built_writes_nothing(rt: HostRuntime) -> Result<(), Fail> {
+    for (attrs, scheme, commands) in [
+        (FIVE, "scheme 0 stat\n", TOUCHED),
+        (FIVE, "", "show\ncommit\napply\n"),
+        (ONE, "", "step 4\ntouch 0 0x11000\nstep 5\nshow\n"),
+        (ONE, "", "step 8\narm\nshow\n"),
+    ] {
+        let parts = [
+            FRONT,
+            attrs,
+            THREE_PAGES,
+            scheme,
+            "begin\n",
+            commands,
+            "end\n",
+        ];
+        let script = script_of(rt.alloc(), &parts)?;
+        expect_replay(&rt, &script, Status::NotYet, "")?;
+    }
     Ok(())
 }
 
@@ -148,7 +268,11 @@ fn other_words_are_refused(rt: HostRuntime) -> Result<(), Fail> {
 
 #[test]
 fn an_input_is_within_its_limit(rt: HostRuntime) -> Result<(), Fail> {
-    expect_of_length(&rt, 16_777_216, Status::NotYet)?;
+    let no_header = Status::Script {
+        line: 1,
+        kind: ScriptKind::Header,
+    };
+    expect_of_length(&rt, 16_777_216, no_header)?;
     expect_of_length(&rt, 16_777_217, Status::TooLong)?;
     Ok(())
 }
@@ -156,7 +280,7 @@ fn an_input_is_within_its_limit(rt: HostRuntime) -> Result<(), Fail> {
 #[test]
 fn a_read_of_the_script_fails(rt: HostRuntime) -> Result<(), Fail> {
     let words = words_of(rt.alloc(), &["replay"])?;
-    let script = script_of(rt.alloc(), TOUCHED, "end\n")?;
+    let script = three_pages(rt.alloc(), TOUCHED, "end\n")?;
     let mut source = PieceSource::new(&script, 100, 2);
     let mut sink = KeptSink::new(rt.alloc(), 100, 0);
     let answer = replay_main(rt.alloc(), &words, &mut source, &mut sink);
@@ -168,7 +292,7 @@ fn a_read_of_the_script_fails(rt: HostRuntime) -> Result<(), Fail> {
 #[test]
 fn a_write_of_the_report_fails(rt: HostRuntime) -> Result<(), Fail> {
     let words = words_of(rt.alloc(), &["replay"])?;
-    let script = script_of(rt.alloc(), TOUCHED, "end\n")?;
+    let script = three_pages(rt.alloc(), TOUCHED, "end\n")?;
     let mut sink = KeptSink::new(rt.alloc(), 10, 3);
     let answer = replay_main(rt.alloc(), &words, &mut MemSource::new(&script), &mut sink);
     assert_eq!(rt; answer, Status::WriteFault);
@@ -179,7 +303,7 @@ fn a_write_of_the_report_fails(rt: HostRuntime) -> Result<(), Fail> {
 #[test]
 fn a_sink_is_too_small(rt: HostRuntime) -> Result<(), Fail> {
     let words = words_of(rt.alloc(), &["replay"])?;
-    let script = script_of(rt.alloc(), TOUCHED, "end\n")?;
+    let script = three_pages(rt.alloc(), TOUCHED, "end\n")?;
     let mut sink = MemSink::new(rt.alloc(), 30)?;
     let answer = replay_main(rt.alloc(), &words, &mut MemSource::new(&script), &mut sink);
     assert_eq!(rt; answer, Status::WriteFault);
