@@ -106,9 +106,9 @@ module _ (limit : ℕ) (source source' sink sink' : Ends) (same : Type 0) where
       end = λ yes. end;
       too_long = λ not known. ((λ e. absurd (cc e)), (λ gave. absurd (not_over known gave)));
       script = λ yes. of_bytes (TellsFault (statuses.Script fault.line fault.kind)) (λ other. (
-          (λ e. spells ∙ ap (λ f. Err f) (same_fault fault other (cc e) (cc e))),
-          (λ e. let one : Err fault ≡ Err other = sym spells ∙ e in let equal : fault ≡ other = cc one in rw equal refl),
-        ));
+        (λ e. spells ∙ ap (λ f. Err f) (same_fault fault other (cc e) (cc e))),
+        (λ e. let one : Err fault ≡ Err other = sym spells ∙ e in let equal : fault ≡ other = cc one in rw equal refl),
+      ));
       not_yet = λ e. absurd (cc e);
       later = λ yes. of_bytes (TellsLater (statuses.Script fault.line fault.kind)) (λ s spelt has. absurd (let two : Err fault ≡ Ok s = sym spells ∙ spelt in cc two));
       read = λ e. absurd (cc e);

@@ -17,9 +17,7 @@ ghost use Rattle.damon_app.specs.Replay.{AsksReplay, EndsRun, IsBoundAlong, IsRe
 use crate::{INPUT_LIMIT, Status, flush_if_full, read_all, write_all};
 use damon_control::{Script, read_script};
 use damon_types::{Sink, Source};
-use script_run::{
-    Ran, finish, has_later_parts, open_world, run_command, script_states_are_bound,
-};
+use script_run::{Ran, finish, has_later_parts, open_world, run_command, script_states_are_bound};
 use snapshot_print::Form;
 use std::alloc::Global;
 

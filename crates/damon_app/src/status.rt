@@ -1,6 +1,6 @@
 use crate::InputFault;
-use damon_types::Failed;
 use damon_control::{ReadFail, ScriptKind};
+use damon_types::Failed;
 use std::alloc::AllocError;
 
 /// How a run of the program ended.

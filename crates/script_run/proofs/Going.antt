@@ -5,7 +5,7 @@ use Rattle.std.proofs.lemmas.List.{append-nil}
 use Rattle.rand_core.specs.Stream.{Stream}
 use Rattle.live_commit.specs.declared.phase.Phase.{Phase}
 use Rattle.live_commit.specs.declared.phase.Phase.TheVariants.{Idle, Clearing, Armed, Checking, Void, Due}
-use Rattle.damon_core.specs.State.{State, Core, opening, row_count}
+use Rattle.damon_core.specs.State.{State, Core, row_count}
 use Rattle.damon_core.specs.Event.{Event, touch, observe, load, next_hit}
 use Rattle.damon_core.specs.After.{after}
 use Rattle.damon_core.specs.Reached.{AllFit, Reached, run}
@@ -17,9 +17,9 @@ use Rattle.snapshot_print.specs.declared.form.Form.{Form}
 use Rattle.script_run.specs.declared.command.Ran.TheVariants.{Stopped, Whole}
 use Rattle.script_run.specs.declared.steps.Stop.{Stop}
 use Rattle.script_run.specs.declared.steps.Stop.TheVariants as stop
-use Rattle.script_run.specs.Steps.{after_steps, next_events, next_moment, step_events, stops}
-use Rattle.script_run.specs.Unfold.{come_to_one, comes_to_aggregation, events_from, events_of, pass_limit, played, touches, unfold_script, wants_aggregation}
-use Rattle.script_run.specs.Report.{command_text, event_text, last_text, report, text_from, text_of}
+use Rattle.script_run.specs.Steps.{after_steps, next_events, step_events, stops}
+use Rattle.script_run.specs.Unfold.{come_to_one, events_from, events_of, pass_limit, played, touches, wants_aggregation}
+use Rattle.script_run.specs.Report.{command_text, event_text, text_from}
 use Rattle.script_run.specs.Played.{Plays, Progress, StopsThere, TellsStop}
 use Rattle.script_run.proofs.Runs.{AllFit-append, Reached-run, run-append, run-cap, run-events_of}
 

@@ -1,16 +1,15 @@
 -- A world that makes steps and touches.
-use Rattle.std.proofs.Common.{◌≡◌, ℕ, zero, suc, ◌+◌, ◌-◌, ◌≤◌, ◌<◌, Bool, true, false, if◌then◌else◌, List, [], ◌∷◌, ◌++◌, length, refl, sym, ap, ◌∙◌, subst, arith}
+use Rattle.std.proofs.Common.{◌≡◌, ℕ, suc, ◌+◌, ◌-◌, ◌≤◌, true, false, List, [], ◌∷◌, ◌++◌, length, refl, sym, ap, ◌∙◌, subst, arith}
 use Rattle.std.proofs.lemmas.List.{length-append}
 use Rattle.rand_core.specs.Stream.{Stream}
-use Rattle.damon_types.specs.Space.{pages_of}
 use Rattle.damon_core.specs.State.{State, Core}
 use Rattle.damon_core.specs.Event.{Event, Fits, touch}
 use Rattle.damon_core.specs.After.{after}
 use Rattle.damon_core.specs.Reached.{run, AllFit, Reached}
 use Rattle.damon_world.specs.Draws.{drawn_rest}
 use Rattle.damon_world.specs.Stands.{WorldView, StandsFor, IsEvent}
-use Rattle.damon_world.specs.Moment.{Moment, draws, next_event, stepped}
-use Rattle.damon_control.specs.Command.{CommandValue, Sweep, Touch}
+use Rattle.damon_world.specs.Moment.{draws, next_event, stepped}
+use Rattle.damon_control.specs.Command.{Sweep, Touch}
 use Rattle.script_run.specs.declared.steps.Stop.{Stop}
 use Rattle.script_run.specs.Steps.{after_steps, next_events, next_moment, step_events, stops}
 use Rattle.script_run.specs.Unfold.{touches}

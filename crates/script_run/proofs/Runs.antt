@@ -1,24 +1,20 @@
 -- Events one after another.
-use Rattle.std.proofs.Common.{◌≡◌, ℕ, zero, suc, ◌+◌, ◌-◌, ◌≤◌, Bool, true, false, if◌then◌else◌, List, [], ◌∷◌, ◌++◌, length, refl, sym, ap, ◌∙◌, subst, cond, append_assoc, arith}
+use Rattle.std.proofs.Common.{◌≡◌, ℕ, zero, suc, ◌+◌, ◌-◌, ◌≤◌, Bool, true, false, if◌then◌else◌, List, [], ◌∷◌, ◌++◌, refl, sym, ap, ◌∙◌, subst, cond, arith}
 use Rattle.std.specs.Prelude.{◌==◌}
-use Rattle.std.proofs.lemmas.List.{length-append, append-nil}
 use Rattle.rand_core.specs.Stream.{Stream}
 use Rattle.live_commit.specs.declared.phase.Phase.{Phase}
 use Rattle.live_commit.specs.declared.phase.Phase.TheVariants.{Idle, Clearing, Armed, Checking, Void, Due}
 use Rattle.damon_types.specs.Space.{pages_of}
-use Rattle.damon_core.specs.State.{State, Core, opening, row_count}
-use Rattle.damon_core.specs.Event.{Event, Fits, ByHit, touch, prepare, clear, load, observe, aggregate, show, next_hit}
+use Rattle.damon_core.specs.State.{State, opening, row_count}
+use Rattle.damon_core.specs.Event.{Event, ByHit, touch, prepare, clear, load, observe, aggregate, show, next_hit}
 use Rattle.damon_core.specs.After.{after, by_clear, by_load, by_observe}
 use Rattle.damon_core.specs.Reached.{run, AllFit, AllByHit, Reached}
-use Rattle.damon_world.specs.Draws.{drawn_rest}
-use Rattle.damon_world.specs.Stands.{WorldView, StandsFor}
-use Rattle.damon_world.specs.Moment.{Moment, draws, event_in, next_event, stepped}
+use Rattle.damon_world.specs.Moment.{Moment, event_in, next_event, stepped}
 use Rattle.damon_control.specs.Command.{CommandValue, Touch, Sweep, Step, Arm, Finish, Show, Commit}
 use Rattle.script_run.specs.declared.steps.Stop.{Stop}
 use Rattle.script_run.specs.declared.steps.Stop.TheVariants as stop
-use Rattle.script_run.specs.Steps.{after_steps, next_events, next_moment, step_events, stops}
+use Rattle.script_run.specs.Steps.{after_steps, next_events, step_events, stops}
 use Rattle.script_run.specs.Unfold.{events_from, events_of, pass_limit, played, touches, wants_aggregation}
-use Rattle.script_run.specs.Played.{MakesSteps}
 
 pub run-append : (s : State) (es fs : List Event) → run s (es ++ fs) ≡ run (run s es) fs
 run-append s [] fs = refl

@@ -1,5 +1,4 @@
 use Rattle.std.proofs.Common.{◌∙◌, arith}
-use Rattle.script_run.proofs.Moving.{no_steps}
 use Rattle.script_run.proofs.steps.run_steps.Goals as goal
 
 pub loop-preserved : goal.loop-preserved

@@ -1,4 +1,4 @@
-use Rattle.std.proofs.Common.{◌≡◌, ℕ, suc, ◌+◌, true, false, sym, subst, ◌∙◌, ap, arith}
+use Rattle.std.proofs.Common.{◌≡◌, suc, ◌+◌, true, false, subst, arith}
 use Rattle.script_run.specs.Played.{MakesSteps}
 use Rattle.script_run.specs.Steps.{stops}
 use Rattle.script_run.proofs.Moving.{step_made, step_skipped}
