@@ -1,0 +1,7 @@
+mod Lists
+mod Passes
+mod Agreeing
+mod Views
+mod Stepping
+mod Seating
+mod AtSeats

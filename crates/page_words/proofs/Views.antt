@@ -1,0 +1,71 @@
+-- Lists of views of which one has changed.
+use Rattle.std.proofs.Common.{◌≡◌, ◌≢◌, ◌⊎◌, ℕ, zero, suc, ◌+◌, ◌<◌, cond, List, [], ◌∷◌, length, set, sym, ap, ◌∙◌, subst, inl, inr, ⊎_elim, arith}
+use Rattle.std.specs.List.{sum_by, count_by}
+use Rattle.std.proofs.lemmas.List.Sums.{sum_by-cons}
+use mathlib.Core.Logic.{dite}
+use mathlib.Core.Option.{some, some-injective, some-ne-none}
+use native.Mathlib.Decide.{ℕ_discrete}
+use lib.ListN.{get_elem?}
+use Rattle.atomic_table.specs.Table.{State}
+use Rattle.atomic_table.proofs.Lists.{at_set, set_here, set_else}
+use Rattle.page_words.specs.declared.view.Entry.{Entry}
+use Rattle.page_words.specs.declared.view.View.{View}
+use Rattle.page_words.specs.declared.view.View.TheVariants.{Monitor, Spent}
+use Rattle.page_words.specs.Views.{Holds, IsKnown, TagsRiseIn, is_monitor}
+use Rattle.page_words.specs.Clauses.{HasOneMonitor, TagsNeverFall}
+use Rattle.page_words.specs.Rule.{Agree, WordRule}
+
+pub at_inside : {A : Type 0} (l : List A) (i : ℕ) (a : A) → get_elem? l i ≡ some a → i < length l
+at_inside [] i a e = absurd (some-ne-none a (sym e))
+at_inside (x ∷ xs) zero a e = omega arith
+at_inside (x ∷ xs) (suc i) a e = let h = at_inside xs i a e in omega arith
+
+-- the view w stands where v stood
+pub changed_here : (views : List View) (id : ℕ) (v w : View) → get_elem? views id ≡ some v → get_elem? (set views id w) id ≡ some w
+changed_here views id v w at = set_here views id w (at_inside views id v at)
+
+-- what some view holds now, the new view holds, or some view held it before
+pub known_after : (views : List View) (id : ℕ) (w : View) (p c : ℕ) → IsKnown (set views id w) p c → Holds w p c ⊎ IsKnown views p c
+known_after views id w p c (v, place, h) = ⊎_elim
+    (λ (t : (place.0 ≡ id) × (w ≡ v)). inl (subst (λ x. Holds x p c) (sym t.1) h))
+    (λ (t : (place.0 ≢ id) × (get_elem? views place.0 ≡ some v)). inr (v, (place.0, t.1), h))
+    (at_set views id place.0 w v place.1)
+
+pub known_before : (views : List View) (id : ℕ) (v w : View) → get_elem? views id ≡ some v → (p c : ℕ) → (Holds v p c → Holds w p c) → IsKnown views p c → IsKnown (set views id w) p c
+known_before views id v w at p c more (u, place, h) = dite (ℕ_discrete place.0 id)
+    (λ (same : place.0 ≡ id). let is : u ≡ v = some-injective u v (sym place.1 ∙ ap (get_elem? views) same ∙ at) in
+    (w, (id, changed_here views id v w at), more (subst (λ x. Holds x p c) is h)))
+    (λ (ne : place.0 ≢ id). (u, (place.0, set_else views id place.0 w ne ∙ place.1), h))
+
+-- tags rise in the new view and in those that stood before
+pub tags_after : (views : List View) (id : ℕ) (w : View) → TagsRiseIn w → TagsNeverFall views → TagsNeverFall (set views id w)
+tags_after views id w new old v place = ⊎_elim
+    (λ (t : (place.0 ≡ id) × (w ≡ v)). subst TagsRiseIn t.1 new)
+    (λ (t : (place.0 ≢ id) × (get_elem? views place.0 ≡ some v)). old v (place.0, t.1))
+    (at_set views id place.0 w v place.1)
+
+-- a sum after one of the views has changed
+pub sum_by-changed : (f : View → ℕ) (views : List View) (id : ℕ) (v w : View) → get_elem? views id ≡ some v → sum_by f (set views id w) + f v ≡ sum_by f views + f w
+sum_by-changed f [] id v w e = absurd (some-ne-none v (sym e))
+sum_by-changed f (x ∷ xs) zero v w e = let is : x ≡ v = some-injective x v e in let fx : f x ≡ f v = ap f is in omega (arith, sum_by-cons f w xs, sum_by-cons f x xs, fx)
+sum_by-changed f (x ∷ xs) (suc id) v w e = let h = sum_by-changed f xs id v w e in omega (arith, sum_by-cons f x (set xs id w), sum_by-cons f x xs, h)
+
+-- two views of the monitor stand at one place
+only_one : (views : List View) (j k : ℕ) (es fs : List Entry) (n m : ℕ) → count_by is_monitor views ≡ 1 → get_elem? views j ≡ some (Monitor es n) → get_elem? views k ≡ some (Monitor fs m) → j ≡ k
+only_one views j k es fs n m one at there = dite (ℕ_discrete j k) (λ same. same)
+    (λ (ne : j ≢ k).
+    let f : View → ℕ = λ v. cond (is_monitor v) 1 0 in
+    let a = sum_by-changed f views j (Monitor es n) Spent at in
+    let b = sum_by-changed f (set views j Spent) k (Monitor fs m) Spent (set_else views j k Spent (λ x. ne (sym x)) ∙ there) in
+    absurd (omega (arith, a, b, one)))
+
+-- the monitor's view is the one that the rule speaks of
+pub same_monitor : (views : List View) (entries : List Entry) (out : ℕ) → HasOneMonitor views entries out → (id : ℕ) (es : List Entry) (n : ℕ) → get_elem? views id ≡ some (Monitor es n) → (entries ≡ es) × (out ≡ n)
+same_monitor views entries out monitor id es n at =
+    let place = only_one views monitor.view.0 id entries es out n monitor.one monitor.view.1 at in
+    let both : Monitor entries out ≡ Monitor es n = some-injective (Monitor entries out) (Monitor es n) (sym monitor.view.1 ∙ ap (get_elem? views) place ∙ at) in
+    (cc (both), cc (both))
+
+-- the rule at a seat that has the monitor's view
+pub agree_here : {S : Type 0} (pages : ℕ) (s : State S View) → (rule : WordRule pages s) → (id : ℕ) (es : List Entry) (n : ℕ) → get_elem? s.views id ≡ some (Monitor es n) → Agree s.words es (IsKnown s.views)
+agree_here pages s rule id es n at = subst (λ l. Agree s.words l (IsKnown s.views)) (same_monitor s.views rule.entries rule.out rule.monitor id es n at).0 rule.agree

@@ -1,0 +1,33 @@
+//! The words of pages, which threads touch and one monitor clears and loads, each by one atomic step.
+//!
+//! A page's word is `2 × c + t`: `c` is the pass that last cleared the page, 0 before the first clear,
+//! and `t` is 1 where the page was touched since. A touch sets the lowest bit and learns `c`, its tag.
+//!
+//! Between any two steps the words, and what all seats have done, obey `WordRule` (`specs/Rule.antt`),
+//! for any number of touch seats and the one seat of the monitor. A touch, a clear and a load are one
+//! atomic step each, a split and a gathering one load of word 0. No call waits, and none takes memory
+//! but `PageWords::new`.
+//!
+//! Nothing is claimed of progress, of fairness, or of the order of two threads' steps: a seat knows its
+//! own steps in order, and the rule says what its words can tell of others' steps.
+#![tactic(auto)]
+
+/// What the atomic steps owe and tell.
+mod rule;
+/// The seats that threads step with.
+mod seats;
+/// The words when no thread shares them any more.
+mod settled;
+/// The atomic steps.
+mod steps;
+#[cfg(test)]
+mod tests;
+/// What a seat knows.
+mod view;
+/// The words, and the calls on them.
+mod words;
+
+pub use seats::{MonitorSeat, TouchSeat};
+pub use settled::Settled;
+pub use view::{Entry, Touch, View};
+pub use words::{PageWords, WordsAndSeat};
