@@ -5,3 +5,4 @@ mod Views
 mod Stepping
 mod Seating
 mod AtSeats
+mod Examples

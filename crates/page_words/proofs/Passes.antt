@@ -31,6 +31,12 @@ clears_of-quiet p es e quiet = flat_map-append (clear_of p) es (e ∷ []) ∙ ap
 pub last_clear-here : (p c : ℕ) (es : List Entry) → last_clear p (es ++ Clear p c ∷ []) ≡ c
 last_clear-here p c es = ap last_of (clears_of-here p c es) ∙ last_of-push (clears_of p es) c
 
+-- a clear is the last one of its page where none stands behind it
+pub last_clear-behind : (p c : ℕ) (before after : List Entry) → clears_of p after ≡ [] → last_clear p (before ++ Clear p c ∷ after) ≡ c
+last_clear-behind p c before after none =
+    ap last_of (flat_map-append (clear_of p) before (Clear p c ∷ after) ∙ ap (λ (b : Bool). clears_of p before ++ (cond b (c ∷ []) [] ++ clears_of p after)) (eq-eqb p p refl) ∙ ap (λ l. clears_of p before ++ c ∷ l) none)
+    ∙ last_of-push (clears_of p before) c
+
 pub last_pass-push : (p c : ℕ) (es : List Entry) → last_pass (es ++ Clear p c ∷ []) ≡ c
 last_pass-push p c es = ap last_of (clears-push p c es) ∙ last_of-push (clears es) c
 

@@ -12,6 +12,8 @@
 //! own steps in order, and the rule says what its words can tell of others' steps.
 #![tactic(auto)]
 
+/// What the contracts' words have to do with each other.
+mod laws;
 /// What the atomic steps owe and tell.
 mod rule;
 /// The seats that threads step with.
@@ -22,11 +24,14 @@ mod settled;
 mod steps;
 #[cfg(test)]
 mod tests;
+#[cfg(test)]
+mod thread_tests;
 /// What a seat knows.
 mod view;
 /// The words, and the calls on them.
 mod words;
 
+pub use laws::clear_is_last;
 pub use seats::{MonitorSeat, TouchSeat};
 pub use settled::Settled;
 pub use view::{Entry, Touch, View};
