@@ -1,8 +1,10 @@
 -- Lists: their last number, elements in order, and places.
-use Rattle.std.proofs.Common.{◌≡◌, ◌⊎◌, ℕ, zero, suc, ◌≤◌, eqb, cond, List, [], ◌∷◌, ◌++◌, length, get_or, refl, ap, subst, inl, inr, ⊎_elim, arith, eq-eqb, length-append}
+use Rattle.std.proofs.Common.{◌≡◌, ◌⊎◌, ℕ, zero, suc, ◌≤◌, eqb, cond, List, [], ◌∷◌, ◌++◌, length, get_or, refl, sym, ap, subst, inl, inr, ⊎_elim, arith, eq-eqb, length-append}
 use Rattle.std.specs.List.{Contains, AllPairs, count_by}
 use Rattle.std.proofs.lemmas.List.Elements.{Contains-append_right, Contains-get_or}
 use Rattle.std.proofs.lemmas.List.Sums.{sum_by-cons}
+use mathlib.Core.Option.{some, some-injective, some-ne-none}
+use lib.ListN.{get_elem?}
 use Rattle.page_words.specs.Clears.{last_of}
 
 -- where a list with y at its end is cut at z, y is z, or the cut is in the list
@@ -69,6 +71,12 @@ below_last (m ∷ k ∷ ns) n rise h = ⊎_elim
     (λ (e : m ≡ n). let l = pairs_head (λ a b. a ≤ b) m (k ∷ ns) (last_of (k ∷ ns)) rise (last_of-contained k ns) in omega arith)
     (λ (t : Contains (k ∷ ns) n). below_last (k ∷ ns) n (pairs_tail (λ a b. a ≤ b) m (k ∷ ns) rise) t)
     (contains_cases m (k ∷ ns) n h)
+
+-- a number that stands at a place is the one that is read there
+pub index_of_found : (ns : List ℕ) (i n : ℕ) → get_elem? ns i ≡ some n → n ≡ get_or ns i 0
+index_of_found [] i n e = absurd (some-ne-none n (sym e))
+index_of_found (m ∷ ns) zero n e = sym (some-injective m n e)
+index_of_found (m ∷ ns) (suc i) n e = index_of_found ns i n e
 
 -- what is in a list is counted
 pub count-contained : (n : ℕ) (ns : List ℕ) → Contains ns n → 1 ≤ count_by (λ m. eqb m n) ns

@@ -1,5 +1,4 @@
--- The clauses of the rule of the page words, each under a name.
--- `Known page tag` stands for: some view holds the touch of this page with this tag.
+-- The clauses of the rule of the page words, each under a name. `Known page tag` says that some view holds the touch of this page with this tag.
 use Rattle.std.specs.Prelude.{◌≡◌, ℕ, ◌≤◌, ◌⊎◌, List, ◌∷◌, ◌++◌, slice_index}
 use Rattle.std.specs.List.{All, AllPairs, Contains, count_by}
 use Rattle.page_words.specs.declared.view.Entry.{Entry}
@@ -26,28 +25,28 @@ WordsNameClears words entries =
 abbrev pub TagsNameClears : List Entry → (ℕ → ℕ → Type 0) → Type 0
 TagsNameClears entries Known = (page tag : ℕ) → Known page tag → (tag ≡ 0) ⊎ Contains (clears_of page entries) tag
 
--- where a word is odd, its page has a touch with the pass that the word names
+-- where a word is odd, some view holds a touch of its page whose tag is the pass that the word names
 abbrev pub OddWordsHaveTouches : List ℕ → (ℕ → ℕ → Type 0) → Type 0
 OddWordsHaveTouches words Known =
     (page : ℕ) → IsOdd (slice_index words page) → Known page (pass_of (slice_index words page))
 
--- where a page has such a touch and that clear is single, its word is odd
+-- where some view holds such a touch and that clear is single, the word is odd
 abbrev pub TouchesMakeOdd : List ℕ → List Entry → (ℕ → ℕ → Type 0) → Type 0
 TouchesMakeOdd words entries Known =
     (page : ℕ) → Known page (pass_of (slice_index words page)) → IsSingle page (pass_of (slice_index words page)) entries
     → IsOdd (slice_index words page)
 
--- the entry stands directly behind these others
+-- these entries stand before this one
 abbrev pub Follows : List Entry → List Entry → Entry → Type 0
 Follows entries before entry = (after : List Entry) × (entries ≡ before ++ entry ∷ after)
 
--- each load found a word that names the last clear of its page before it, and where that word is odd, the page has a touch with that pass
+-- the word of each load names the last clear of its page before the load, and where it is odd, some view holds such a touch
 abbrev pub LoadsFindClears : List Entry → (ℕ → ℕ → Type 0) → Type 0
 LoadsFindClears entries Known =
     (before : List Entry) (page word : ℕ) → Follows entries before (Load page word)
     → (pass_of word ≡ last_clear page before) × (IsOdd word → Known page (pass_of word))
 
--- where a list with such a touch was gathered before the load, and that clear is single, the load found an odd word
+-- where a list with such a touch was gathered before the load and that clear is single, the word of the load is odd
 abbrev pub LoadsFindToldTouches : List Entry → Type 0
 LoadsFindToldTouches entries =
     (before : List Entry) (page word : ℕ) → Follows entries before (Load page word)

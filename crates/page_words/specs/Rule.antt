@@ -15,7 +15,7 @@ pub record Agree (words : List ℕ) (entries : List Entry) (Known : ℕ → ℕ 
   pub loads : LoadsFindClears entries Known
   pub told : LoadsFindToldTouches entries
 
--- what holds of so many words and of all views between any two atomic steps
+-- the rule: what holds of the words of so many pages and of all views between any two atomic steps
 pub record WordRule {S : Type 0} (pages : ℕ) (state : State S View) : Type 0 where
   pub count : length state.words ≡ pages
   pub entries : List Entry

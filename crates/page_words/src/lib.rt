@@ -3,13 +3,13 @@
 //! A page's word is `2 × c + t`: `c` is the pass that last cleared the page, 0 before the first clear,
 //! and `t` is 1 where the page was touched since. A touch sets the lowest bit and learns `c`, its tag.
 //!
-//! Between any two steps the words, and what all seats have done, obey `WordRule` (`specs/Rule.antt`),
-//! for any number of touch seats and the one seat of the monitor. A touch, a clear and a load are one
-//! atomic step each, a split and a gathering one load of word 0. No call waits, and none takes memory
-//! but `PageWords::new`.
+//! Between any two steps the words, and what all seats did, obey one rule, for any number of touch seats
+//! and the one seat of the monitor: `WordRule` in `specs/Rule.antt`, of the clauses in
+//! `specs/Clauses.antt`. A touch, a clear and a load are one atomic step each, a split and a gathering
+//! one load of word 0. No call waits, and none takes memory but `PageWords::new`.
 //!
-//! Nothing is claimed of progress, of fairness, or of the order of two threads' steps: a seat knows its
-//! own steps in order, and the rule says what its words can tell of others' steps.
+//! Nothing is claimed of progress, of fairness, or of the order of two threads' steps. A seat knows its
+//! own steps in order, and of others' steps what the rule says of the words that it finds.
 #![tactic(auto)]
 
 /// What the contracts' words have to do with each other.
@@ -34,5 +34,5 @@ mod words;
 pub use laws::clear_is_last;
 pub use seats::{MonitorSeat, TouchSeat};
 pub use settled::Settled;
-pub use view::{Entry, Touch, View};
+pub use view::{Entry, Touch};
 pub use words::{PageWords, WordsAndSeat};

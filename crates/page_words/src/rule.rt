@@ -45,6 +45,7 @@ pub(crate) trait Numbered {
     ghost number: { ℕ };
 }
 
+// A call names `Brand`, and its proof picks the number.
 impl Numbered for Brand {
     ghost number = { 0 };
 }

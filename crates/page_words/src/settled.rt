@@ -23,6 +23,7 @@ impl Settled {
     ghost use Rattle.std.specs.Prelude.{◌≡◌, ◌<◌, length, slice_index};
 
     /// The word of a page, which is one of the table's.
+    #[tactic(auto, using(crate::proofs::Lists::index_of_found))]
     pub fn word(&self, page: u32) -> u64
         requires { page < length self.now }
         ensures { result ≡ slice_index self.now page }
