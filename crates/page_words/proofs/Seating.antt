@@ -1,8 +1,7 @@
 -- A split and a gathering keep the rule, and what is known when no seat is out.
-use Rattle.std.proofs.Common.{◌≡◌, ◌≢◌, ℕ, ◌+◌, ◌-◌, cond, List, [], ◌∷◌, ◌++◌, set, sym, ap, ◌∙◌, subst, ⊎_elim, arith}
-use Rattle.std.specs.List.{Contains, count_by}
+use Rattle.std.proofs.Common.{◌≡◌, ◌≢◌, ℕ, ◌+◌, ◌-◌, List, [], ◌∷◌, ◌++◌, set, sym, ap, ◌∙◌, subst, ⊎_elim, arith}
+use Rattle.std.specs.List.{Contains}
 use Rattle.std.proofs.lemmas.List.Elements.{Contains-push, Contains-push_cases}
-use Rattle.std.proofs.lemmas.List.Sums.{sum_by-append}
 use mathlib.Core.Logic.{dite}
 use mathlib.Core.Option.{some, some-injective}
 use native.Mathlib.Decide.{ℕ_discrete}
@@ -14,11 +13,11 @@ use Rattle.page_words.specs.declared.view.Entry.{Entry}
 use Rattle.page_words.specs.declared.view.Entry.TheVariants.{Gathered}
 use Rattle.page_words.specs.declared.view.View.{View}
 use Rattle.page_words.specs.declared.view.View.TheVariants.{Toucher, Monitor, Spent}
-use Rattle.page_words.specs.Views.{touch, Told, TagsRise, Holds, IsAmong, IsKnown, GatheredTagsRise, TagsRiseIn, is_monitor, is_toucher}
+use Rattle.page_words.specs.Views.{touch, Told, TagsRise, Holds, IsAmong, IsKnown, GatheredTagsRise, TagsRiseIn}
 use Rattle.page_words.specs.Rule.{Agree, WordRule}
 use Rattle.page_words.proofs.Lists.{contains_none}
 use Rattle.page_words.proofs.Agreeing.{agree_same, agree_gather}
-use Rattle.page_words.proofs.Views.{changed_here, known_after, known_before, tags_after, sum_by-changed, same_monitor, agree_here}
+use Rattle.page_words.proofs.Views.{changed_here, known_after, known_before, tags_after, same_monitor, monitor-split, monitor-gather, none_out, agree_here}
 use Rattle.page_words.proofs.Stepping.{told_more}
 
 pub splits : {S : Type 0} (n id k out : ℕ) (es : List Entry) → Splits {S = S} (WordRule n) id (Monitor es out) (Monitor es (out + 1)) (Toucher k [])
@@ -26,34 +25,18 @@ splits {S} n id k out es s rule at =
     let v : View = Monitor es out in
     let left : View = Monitor es (out + 1) in
     let right : View = Toucher k [] in
-    let vs : List View = set s.views id left in
-    let same = same_monitor s.views rule.entries rule.out rule.monitor id es out at in record {
+    let vs : List View = set s.views id left in record {
       count = rule.count;
       entries = es;
       out = out + 1;
-      monitor = record {
-        one =
-            let f : View → ℕ = λ x. cond (is_monitor x) 1 0 in
-            let a = sum_by-changed f s.views id v left at in
-            let b = sum_by-append f vs (right ∷ []) in
-            let c = rule.monitor.one in
-            omega (arith, a, b, c);
-        view = (id, at_longer vs (right ∷ []) id left (changed_here s.views id v left at));
-        touchers =
-            let f : View → ℕ = λ x. cond (is_toucher x) 1 0 in
-            let a = sum_by-changed f s.views id v left at in
-            let b = sum_by-append f vs (right ∷ []) in
-            let c = rule.monitor.touchers in
-            let o = same.1 in
-            omega (arith, a, b, c, o);
-      };
+      monitor = monitor-split s.views rule.entries rule.out rule.monitor id es out at k;
       agree = agree_same s.words es (IsKnown s.views) (IsKnown (vs ++ right ∷ []))
           (λ q d h. let t = known_before s.views id v left at q d (λ x. x) h in (t.0, (t.1.0, at_longer vs (right ∷ []) t.1.0 t.0 t.1.1), t.2))
           (λ q d h. ⊎_elim
           (λ (t : get_elem? vs h.1.0 ≡ some h.0). ⊎_elim (λ (u : Told es q d). (v, (id, at), u)) (λ (u : IsKnown s.views q d). u) (known_after s.views id left q d (h.0, (h.1.0, t), h.2)))
           (λ (t : right ≡ h.0). absurd (contains_none (touch q d) (subst (λ x. Holds x q d) (sym t) h.2)))
           (at_snoc vs right h.0 h.1.0 h.1.1))
-          (agree_here n s rule id es out at);
+          (agree_here s.views rule.entries rule.out rule.monitor id es out at s.words rule.agree);
       tags = λ w place. ⊎_elim
           (λ (t : get_elem? vs place.0 ≡ some w). tags_after s.views id left (rule.tags v (id, at)) rule.tags w (place.0, t))
           (λ (t : right ≡ w). subst TagsRiseIn t (λ i j d l m. absurd (omega arith)))
@@ -69,27 +52,11 @@ gathers {S} n id out other k es ts s rule at apart there =
     let vs : List View = set s.views id both in
     let us : List View = set vs other Spent in
     let was : get_elem? s.views other ≡ some (Toucher k ts) = sym (set_else s.views id other both apart) ∙ there in
-    let still : get_elem? us id ≡ some both = set_else vs other id Spent (λ x. apart (sym x)) ∙ changed_here s.views id v both at in
-    let same = same_monitor s.views rule.entries rule.out rule.monitor id es out at in record {
+    let still : get_elem? us id ≡ some both = set_else vs other id Spent (λ x. apart (sym x)) ∙ changed_here s.views id v both at in record {
       count = rule.count;
       entries = more;
       out = out - 1;
-      monitor = record {
-        one =
-            let f : View → ℕ = λ x. cond (is_monitor x) 1 0 in
-            let a = sum_by-changed f s.views id v both at in
-            let b = sum_by-changed f vs other (Toucher k ts) Spent there in
-            let c = rule.monitor.one in
-            omega (arith, a, b, c);
-        view = (id, still);
-        touchers =
-            let f : View → ℕ = λ x. cond (is_toucher x) 1 0 in
-            let a = sum_by-changed f s.views id v both at in
-            let b = sum_by-changed f vs other (Toucher k ts) Spent there in
-            let c = rule.monitor.touchers in
-            let o = same.1 in
-            omega (arith, a, b, c, o);
-      };
+      monitor = monitor-gather s.views rule.entries rule.out rule.monitor id es out at more other k ts apart there;
       agree = agree_same s.words more (IsKnown s.views) (IsKnown us)
           (λ q d h.
           let t = known_before s.views id v both at q d (told_more es e q d) h in
@@ -107,7 +74,7 @@ gathers {S} n id out other k es ts s rule at apart there =
           (λ (u : IsKnown s.views q d). u)
           (known_after s.views id both q d t))
           (known_after vs other Spent q d h))
-          (agree_gather s.words es (IsKnown s.views) k ts (agree_here n s rule id es out at));
+          (agree_gather s.words es (IsKnown s.views) k ts (agree_here s.views rule.entries rule.out rule.monitor id es out at s.words rule.agree));
       tags = tags_after vs other Spent tt (tags_after s.views id both
           (λ k' ts' h. ⊎_elim
           (λ (y : Contains es (Gathered k' ts')). rule.tags v (id, at) k' ts' y)
@@ -119,16 +86,14 @@ gathers {S} n id out other k es ts s rule at apart there =
 -- no touch seat is out: each touch was told
 pub settles : {S : Type 0} (n id : ℕ) (es : List Entry) (s : State S View) → WordRule n s → get_elem? s.views id ≡ some (Monitor es 0) → Agree s.words es (Told es) × GatheredTagsRise es
 settles n id es s rule at = (
-  agree_same s.words es (IsKnown s.views) (Told es) (λ p c h. held p c h.0 h.1 h.2) (λ p c t. (Monitor es 0, (id, at), t)) (agree_here n s rule id es 0 at),
+  agree_same s.words es (IsKnown s.views) (Told es) (λ p c h. held p c h.0 h.1 h.2) (λ p c t. (Monitor es 0, (id, at), t)) (agree_here s.views rule.entries rule.out rule.monitor id es 0 at s.words rule.agree),
   rule.tags (Monitor es 0) (id, at),
 )
   where
     held : (p c : ℕ) (v : View) → IsAmong s.views v → Holds v p c → Told es p c
     held p c (Toucher k ts) place h =
         let o = (same_monitor s.views rule.entries rule.out rule.monitor id es 0 at).1 in
-        let none : count_by is_toucher s.views ≡ 0 = rule.monitor.touchers ∙ o in
-        let a = sum_by-changed (λ v. cond (is_toucher v) 1 0) s.views place.0 (Toucher k ts) Spent place.1 in
-        absurd (omega (arith, a, none))
+        absurd (none_out s.views place.0 k ts (rule.monitor.touchers ∙ o) place.1)
     held p c (Monitor fs m) place h =
         let mine = (same_monitor s.views rule.entries rule.out rule.monitor id es 0 at).0 in
         let theirs = (same_monitor s.views rule.entries rule.out rule.monitor place.0 fs m place.1).0 in

@@ -1,5 +1,5 @@
 -- A touch, a clear and a load keep the rule.
-use Rattle.std.proofs.Common.{◌≡◌, ◌≢◌, ◌⊎◌, ℕ, zero, suc, ◌*◌, ◌/◌, ◌%◌, ◌<◌, ◌≤◌, cond, List, [], ◌∷◌, ◌++◌, length, get_or, set, replicate, max, refl, sym, ap, ◌∙◌, subst, inl, inr, ⊎_elim, arith, length-set, length-append}
+use Rattle.std.proofs.Common.{◌≡◌, ◌≢◌, ◌⊎◌, ℕ, zero, suc, ◌*◌, ◌/◌, ◌%◌, ◌<◌, ◌≤◌, List, [], ◌∷◌, ◌++◌, length, get_or, set, replicate, max, refl, sym, ap, ◌∙◌, subst, inl, inr, ⊎_elim, arith, length-set, length-append}
 use Rattle.std.specs.Prelude.{bit_or}
 use Rattle.std.specs.List.{Contains}
 use Rattle.std.specs.Int.{bit_at}
@@ -13,20 +13,19 @@ use mathlib.Core.Option.{some, some-injective, some-ne-none}
 use native.Mathlib.Decide.{dec_lt}
 use lib.ListN.{get_elem?}
 use Rattle.atomic_table.specs.Table.{State, keeps, Allows, opening}
-use Rattle.atomic_table.proofs.Lists.{set_else}
 use Rattle.page_words.specs.declared.view.Touch.{Touch}
 use Rattle.page_words.specs.declared.view.Entry.{Entry}
 use Rattle.page_words.specs.declared.view.Entry.TheVariants.{Clear, Load, Gathered}
 use Rattle.page_words.specs.declared.view.View.{View}
 use Rattle.page_words.specs.declared.view.View.TheVariants.{Toucher, Monitor}
 use Rattle.page_words.specs.Clears.{last_pass}
-use Rattle.page_words.specs.Views.{touch, Told, Holds, IsAmong, IsKnown, TagsRiseIn, is_monitor, is_toucher}
+use Rattle.page_words.specs.Views.{touch, Told, Holds, IsAmong, IsKnown, TagsRiseIn}
 use Rattle.page_words.specs.Clauses.{Follows}
 use Rattle.page_words.specs.Rule.{Agree, WordRule}
 use Rattle.page_words.specs.Steps.{Finds}
 use Rattle.page_words.proofs.Lists.{contains_none}
 use Rattle.page_words.proofs.Agreeing.{agree_same, agree_touch, agree_clear, agree_load, tag_below}
-use Rattle.page_words.proofs.Views.{changed_here, known_after, known_before, tags_after, sum_by-changed, same_monitor, agree_here}
+use Rattle.page_words.proofs.Views.{changed_here, known_after, known_before, tags_after, monitor-touch, monitor-entries, agree_here}
 
 -- the lowest bit is set, and no other changes
 or_one : (n : ℕ) → (bit_or n 1 / 2 ≡ n / 2) × (bit_or n 1 % 2 ≡ 1)
@@ -49,8 +48,7 @@ touches n slots id k p ts c inside s rule _ at _ =
     let new : ℕ = bit_or (get_or s.words p 0) 1 in
     let v : View = Toucher k ts in
     let w : View = Toucher k (ts ++ touch p tag ∷ []) in
-    let within : p < length s.words = let e = rule.count in omega arith in
-    let far : rule.monitor.view.0 ≢ id = λ e. cc (sym rule.monitor.view.1 ∙ ap (get_elem? s.views) e ∙ at) in (
+    let within : p < length s.words = let e = rule.count in omega arith in (
       w,
       keeps,
       tt,
@@ -58,11 +56,7 @@ touches n slots id k p ts c inside s rule _ at _ =
         count = length-set s.words p new ∙ rule.count;
         entries = rule.entries;
         out = rule.out;
-        monitor = record {
-          one = let h = sum_by-changed (λ x. cond (is_monitor x) 1 0) s.views id v w at in let e = rule.monitor.one in omega (arith, h, e);
-          view = (rule.monitor.view.0, set_else s.views id rule.monitor.view.0 w far ∙ rule.monitor.view.1);
-          touchers = let h = sum_by-changed (λ x. cond (is_toucher x) 1 0) s.views id v w at in let e = rule.monitor.touchers in omega (arith, h, e);
-        };
+        monitor = monitor-touch s.views rule.entries rule.out rule.monitor id k ts (ts ++ touch p tag ∷ []) at;
         agree = agree_same (set s.words p new) rule.entries (λ q d. IsKnown s.views q d ⊎ ((q ≡ p) × (d ≡ tag))) (IsKnown (set s.views id w))
             (λ q d. ⊎_elim
             (λ (t : IsKnown s.views q d). known_before s.views id v w at q d (Contains-append_left ts (touch p tag ∷ []) (touch q d)) t)
@@ -95,11 +89,7 @@ monitor_steps n s rule id es more out at words count to lists agree =
       count = count;
       entries = more;
       out = out;
-      monitor = record {
-        one = let h = sum_by-changed (λ x. cond (is_monitor x) 1 0) s.views id v w at in let e = rule.monitor.one in omega (arith, h, e);
-        view = (id, changed_here s.views id v w at);
-        touchers = let h = sum_by-changed (λ x. cond (is_toucher x) 1 0) s.views id v w at in let e = rule.monitor.touchers in let o = (same_monitor s.views rule.entries rule.out rule.monitor id es out at).1 in omega (arith, h, e, o);
-      };
+      monitor = monitor-entries s.views rule.entries rule.out rule.monitor id es out at more;
       agree = agree_same words more (IsKnown s.views) (IsKnown (set s.views id w))
           (λ q d. known_before s.views id v w at q d (to q d))
           (λ q d h. ⊎_elim (λ (t : Told more q d). (v, (id, at), (t.0, t.1, lists t.0 t.1 t.2, t.3))) (λ (t : IsKnown s.views q d). t) (known_after s.views id w q d h))
@@ -121,7 +111,7 @@ pub clears : {S : Type 0} (n slots id p pass out : ℕ) (es : List Entry) (c : L
 clears n slots id p pass out es c inside some_pass later s rule _ at _ =
     let within : p < length s.words = let e = rule.count in omega arith in
     let e : Entry = Clear p pass in
-    let agree = agree_here n s rule id es out at in (
+    let agree = agree_here s.views rule.entries rule.out rule.monitor id es out at s.words rule.agree in (
       Monitor (es ++ e ∷ []) out,
       keeps,
       tt,
@@ -137,7 +127,7 @@ loads n slots id p out es c s rule _ at _ =
     let found : ℕ = get_or s.words p 0 in
     let e : Entry = Load p found in
     let told : (q d : ℕ) → Told es q d → IsKnown s.views q d = λ q d t. (Monitor es out, (id, at), t) in
-    let agree = agree_here n s rule id es out at in (
+    let agree = agree_here s.views rule.entries rule.out rule.monitor id es out at s.words rule.agree in (
       Monitor (es ++ e ∷ []) out,
       keeps,
       tt,

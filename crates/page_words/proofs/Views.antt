@@ -1,19 +1,19 @@
 -- Lists of views of which one has changed.
-use Rattle.std.proofs.Common.{◌≡◌, ◌≢◌, ◌⊎◌, ℕ, zero, suc, ◌+◌, ◌<◌, cond, List, [], ◌∷◌, length, set, sym, ap, ◌∙◌, subst, inl, inr, ⊎_elim, arith}
+use Rattle.std.proofs.Common.{◌≡◌, ◌≢◌, ◌⊎◌, ℕ, zero, suc, ◌+◌, ◌-◌, ◌<◌, cond, List, [], ◌∷◌, ◌++◌, length, set, sym, ap, ◌∙◌, subst, inl, inr, ⊎_elim, arith}
 use Rattle.std.specs.List.{sum_by, count_by}
-use Rattle.std.proofs.lemmas.List.Sums.{sum_by-cons}
+use Rattle.std.proofs.lemmas.List.Sums.{sum_by-append, sum_by-cons}
 use mathlib.Core.Logic.{dite}
 use mathlib.Core.Option.{some, some-injective, some-ne-none}
 use native.Mathlib.Decide.{ℕ_discrete}
 use lib.ListN.{get_elem?}
-use Rattle.atomic_table.specs.Table.{State}
-use Rattle.atomic_table.proofs.Lists.{at_set, set_here, set_else}
+use Rattle.atomic_table.proofs.Lists.{at_set, set_here, set_else, at_longer}
+use Rattle.page_words.specs.declared.view.Touch.{Touch}
 use Rattle.page_words.specs.declared.view.Entry.{Entry}
 use Rattle.page_words.specs.declared.view.View.{View}
-use Rattle.page_words.specs.declared.view.View.TheVariants.{Monitor, Spent}
-use Rattle.page_words.specs.Views.{Holds, IsKnown, TagsRiseIn, is_monitor}
+use Rattle.page_words.specs.declared.view.View.TheVariants.{Toucher, Monitor, Spent}
+use Rattle.page_words.specs.Views.{Holds, IsKnown, TagsRiseIn, is_monitor, is_toucher}
 use Rattle.page_words.specs.Clauses.{HasOneMonitor, TagsNeverFall}
-use Rattle.page_words.specs.Rule.{Agree, WordRule}
+use Rattle.page_words.specs.Rule.{Agree}
 
 pub at_inside : {A : Type 0} (l : List A) (i : ℕ) (a : A) → get_elem? l i ≡ some a → i < length l
 at_inside [] i a e = absurd (some-ne-none a (sym e))
@@ -50,22 +50,87 @@ sum_by-changed f [] id v w e = absurd (some-ne-none v (sym e))
 sum_by-changed f (x ∷ xs) zero v w e = let is : x ≡ v = some-injective x v e in let fx : f x ≡ f v = ap f is in omega (arith, sum_by-cons f w xs, sum_by-cons f x xs, fx)
 sum_by-changed f (x ∷ xs) (suc id) v w e = let h = sum_by-changed f xs id v w e in omega (arith, sum_by-cons f x (set xs id w), sum_by-cons f x xs, h)
 
+-- how many views are the monitor's, and how many are touch views, after one has changed
+monitors_after : (views : List View) (id : ℕ) (v w : View) → get_elem? views id ≡ some v → count_by is_monitor (set views id w) + cond (is_monitor v) 1 0 ≡ count_by is_monitor views + cond (is_monitor w) 1 0
+monitors_after views id v w at = sum_by-changed (λ x. cond (is_monitor x) 1 0) views id v w at
+
+touchers_after : (views : List View) (id : ℕ) (v w : View) → get_elem? views id ≡ some v → count_by is_toucher (set views id w) + cond (is_toucher v) 1 0 ≡ count_by is_toucher views + cond (is_toucher w) 1 0
+touchers_after views id v w at = sum_by-changed (λ x. cond (is_toucher x) 1 0) views id v w at
+
 -- two views of the monitor stand at one place
 only_one : (views : List View) (j k : ℕ) (es fs : List Entry) (n m : ℕ) → count_by is_monitor views ≡ 1 → get_elem? views j ≡ some (Monitor es n) → get_elem? views k ≡ some (Monitor fs m) → j ≡ k
 only_one views j k es fs n m one at there = dite (ℕ_discrete j k) (λ same. same)
     (λ (ne : j ≢ k).
-    let f : View → ℕ = λ v. cond (is_monitor v) 1 0 in
-    let a = sum_by-changed f views j (Monitor es n) Spent at in
-    let b = sum_by-changed f (set views j Spent) k (Monitor fs m) Spent (set_else views j k Spent (λ x. ne (sym x)) ∙ there) in
+    let a = monitors_after views j (Monitor es n) Spent at in
+    let b = monitors_after (set views j Spent) k (Monitor fs m) Spent (set_else views j k Spent (λ x. ne (sym x)) ∙ there) in
     absurd (omega (arith, a, b, one)))
 
--- the monitor's view is the one that the rule speaks of
-pub same_monitor : (views : List View) (entries : List Entry) (out : ℕ) → HasOneMonitor views entries out → (id : ℕ) (es : List Entry) (n : ℕ) → get_elem? views id ≡ some (Monitor es n) → (entries ≡ es) × (out ≡ n)
-same_monitor views entries out monitor id es n at =
-    let place = only_one views monitor.view.0 id entries es out n monitor.one monitor.view.1 at in
-    let both : Monitor entries out ≡ Monitor es n = some-injective (Monitor entries out) (Monitor es n) (sym monitor.view.1 ∙ ap (get_elem? views) place ∙ at) in
-    (cc (both), cc (both))
+module _ (views : List View) (entries : List Entry) (out : ℕ) (monitor : HasOneMonitor views entries out) (id : ℕ) where
+  -- the monitor's view is the one that the rule speaks of
+  pub same_monitor : (es : List Entry) (n : ℕ) → get_elem? views id ≡ some (Monitor es n) → (entries ≡ es) × (out ≡ n)
+  same_monitor es n at =
+      let place = only_one views monitor.view.0 id entries es out n monitor.one monitor.view.1 at in
+      let both : Monitor entries out ≡ Monitor es n = some-injective (Monitor entries out) (Monitor es n) (sym monitor.view.1 ∙ ap (get_elem? views) place ∙ at) in
+      (cc (both), cc (both))
 
--- the rule at a seat that has the monitor's view
-pub agree_here : {S : Type 0} (pages : ℕ) (s : State S View) → (rule : WordRule pages s) → (id : ℕ) (es : List Entry) (n : ℕ) → get_elem? s.views id ≡ some (Monitor es n) → Agree s.words es (IsKnown s.views)
-agree_here pages s rule id es n at = subst (λ l. Agree s.words l (IsKnown s.views)) (same_monitor s.views rule.entries rule.out rule.monitor id es n at).0 rule.agree
+  -- a touch view has changed
+  pub monitor-touch : (k : ℕ) (ts us : List Touch) → get_elem? views id ≡ some (Toucher k ts) → HasOneMonitor (set views id (Toucher k us)) entries out
+  monitor-touch k ts us at =
+      let far : monitor.view.0 ≢ id = λ e. cc (sym monitor.view.1 ∙ ap (get_elem? views) e ∙ at) in record {
+        one = let a = monitors_after views id (Toucher k ts) (Toucher k us) at in let b = monitor.one in omega (arith, a, b);
+        view = (monitor.view.0, set_else views id monitor.view.0 (Toucher k us) far ∙ monitor.view.1);
+        touchers = let a = touchers_after views id (Toucher k ts) (Toucher k us) at in let b = monitor.touchers in omega (arith, a, b);
+      }
+
+  module _ (es : List Entry) (n : ℕ) (at : get_elem? views id ≡ some (Monitor es n)) where
+    -- the monitor's view has other entries
+    pub monitor-entries : (more : List Entry) → HasOneMonitor (set views id (Monitor more n)) more n
+    monitor-entries more = record {
+      one = let a = monitors_after views id (Monitor es n) (Monitor more n) at in let b = monitor.one in omega (arith, a, b);
+      view = (id, changed_here views id (Monitor es n) (Monitor more n) at);
+      touchers = let a = touchers_after views id (Monitor es n) (Monitor more n) at in let b = monitor.touchers in let c = (same_monitor es n at).1 in omega (arith, a, b, c);
+    }
+
+    -- a touch view has come
+    pub monitor-split : (k : ℕ) → HasOneMonitor (set views id (Monitor es (n + 1)) ++ Toucher k [] ∷ []) es (n + 1)
+    monitor-split k =
+        let vs : List View = set views id (Monitor es (n + 1)) in record {
+          one =
+              let a = monitors_after views id (Monitor es n) (Monitor es (n + 1)) at in
+              let b = sum_by-append (λ v. cond (is_monitor v) 1 0) vs (Toucher k [] ∷ []) in
+              let c = monitor.one in
+              omega (arith, a, b, c);
+          view = (id, at_longer vs (Toucher k [] ∷ []) id (Monitor es (n + 1)) (changed_here views id (Monitor es n) (Monitor es (n + 1)) at));
+          touchers =
+              let a = touchers_after views id (Monitor es n) (Monitor es (n + 1)) at in
+              let b = sum_by-append (λ v. cond (is_toucher v) 1 0) vs (Toucher k [] ∷ []) in
+              let c = monitor.touchers in
+              let d = (same_monitor es n at).1 in
+              omega (arith, a, b, c, d);
+        }
+
+    -- a touch view is spent
+    pub monitor-gather : (more : List Entry) (other k : ℕ) (ts : List Touch) → other ≢ id → get_elem? (set views id (Monitor more (n - 1))) other ≡ some (Toucher k ts) → HasOneMonitor (set (set views id (Monitor more (n - 1))) other Spent) more (n - 1)
+    monitor-gather more other k ts apart there =
+        let vs : List View = set views id (Monitor more (n - 1)) in record {
+          one =
+              let a = monitors_after views id (Monitor es n) (Monitor more (n - 1)) at in
+              let b = monitors_after vs other (Toucher k ts) Spent there in
+              let c = monitor.one in
+              omega (arith, a, b, c);
+          view = (id, set_else vs other id Spent (λ x. apart (sym x)) ∙ changed_here views id (Monitor es n) (Monitor more (n - 1)) at);
+          touchers =
+              let a = touchers_after views id (Monitor es n) (Monitor more (n - 1)) at in
+              let b = touchers_after vs other (Toucher k ts) Spent there in
+              let c = monitor.touchers in
+              let d = (same_monitor es n at).1 in
+              omega (arith, a, b, c, d);
+        }
+
+    -- what the rule says of the entries, it says of those of this view
+    pub agree_here : (words : List ℕ) → Agree words entries (IsKnown views) → Agree words es (IsKnown views)
+    agree_here words agree = subst (λ l. Agree words l (IsKnown views)) (same_monitor es n at).0 agree
+
+-- no touch view is there
+pub none_out : (views : List View) (id k : ℕ) (ts : List Touch) → count_by is_toucher views ≡ 0 → get_elem? views id ≡ some (Toucher k ts) → ⊥
+none_out views id k ts none at = let a = touchers_after views id (Toucher k ts) Spent at in omega (arith, a, none)

@@ -1,4 +1,4 @@
-// The seats. A touch seat is its worker's, and the monitor's seat is the only one of its kind.
+// The seats.
 use crate::view::View;
 use atomic_table::Seat;
 use std::marker::Model;
@@ -6,7 +6,7 @@ use std::marker::Model;
 /// A seat with which a thread touches pages. Contracts see its table, its worker's number and its
 /// touches in order.
 ///
-/// A touch seat that is dropped stays out for ever: `PageWords::settle` can then not be called.
+/// A touch seat that is dropped stays out for ever, so that `PageWords::settle` can not be called.
 #[derive(Drop)]
 pub struct TouchSeat {
     pub(crate) seat: Seat<u8, View>,
@@ -22,8 +22,10 @@ impl Model for TouchSeat {
     ghost invariant = { λ s. IsToucher s.seat.me };
 }
 
-/// The seat with which the monitor clears and loads, splits touch seats off and gathers them.
+/// The seat with which the monitor clears and loads pages, splits touch seats off and gathers them.
 /// Contracts see its table, what it did in order, and how many touch seats are out.
+///
+/// It is the only one of its table: where it is dropped, `PageWords::settle` can not be called.
 #[derive(Drop)]
 pub struct MonitorSeat {
     pub(crate) seat: Seat<u8, View>,

@@ -1,4 +1,4 @@
-// What a seat knows. Contracts speak of these values; no program makes a `View` or an `Entry`.
+// What seats know. Contracts speak of it; when the program runs, no `View` and no `Entry` is there.
 use std::collections::LinkedList;
 
 /// A touch of a page. The tag is the pass that had last cleared the page, 0 before the first clear.

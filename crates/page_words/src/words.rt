@@ -17,7 +17,7 @@ use std::alloc::{AllocError, Global};
 use std::marker::{Brand, Model};
 
 /// The words of the pages, which threads share. Contracts see which table it is; its `words` is the
-/// number of pages.
+/// number of pages. Each call takes a seat of this table, and a page below that number.
 #[derive(Drop)]
 pub struct PageWords {
     table: Words,
@@ -44,8 +44,8 @@ pub struct WordsAndSeat {
 }
 
 impl PageWords {
-    /// As many words as there are pages, at least one, all 0, and a seat that has done nothing. Takes
-    /// memory for the words; the error is that there is none.
+    /// A word for each of the pages, of which there is at least one, all 0, and the seat of a monitor
+    /// that has done nothing. Takes memory for the words; the error is that there is none.
     pub fn new(alloc: Global, pages: u32) -> Result<WordsAndSeat, AllocError>
         requires { 1 ≤ pages }
         ensures pages { IfOk result (λ r. r.words.words ≡ pages) }
@@ -63,8 +63,8 @@ impl PageWords {
         })
     }
 
-    /// A touch seat of the worker with this number, which has touched nothing. Fewer than
-    /// 4,294,967,295 touch seats are out.
+    /// Splits a touch seat off, of the worker with this number, which has touched nothing. Fewer than
+    /// 4,294,967,295 touch seats are out before.
     pub fn split(&self, seat: &mut MonitorSeat, worker: u32) -> TouchSeat
         requires table { seat.old.table ≡ self.now }
         requires room { seat.old.out < 2 ^ 32 - 1 }
@@ -88,7 +88,8 @@ impl PageWords {
         steps::split::<Brand>(&self.table, seat, worker)
     }
 
-    /// Touches a page, and gives the tag: the pass that had last cleared the page.
+    /// Touches a page, and gives the tag of the touch: the pass that had last cleared the page, 0 where
+    /// none had.
     pub fn touch(&self, seat: &mut TouchSeat, page: u32) -> u64
         requires table { seat.old.table ≡ self.now }
         requires page { page < self.now.words }
@@ -97,8 +98,8 @@ impl PageWords {
         steps::touch(&self.table, &mut seat.seat, page)
     }
 
-    /// Clears a page in a pass, and gives the word that the page had. The pass is from 1 to 2^62, and
-    /// not below that of an earlier clear.
+    /// Clears a page in a pass, and gives the word that the page had, of which the same is known as of a
+    /// word that `load` gives. The pass is from 1 to 2^62, and not below that of an earlier clear.
     pub fn clear(&self, seat: &mut MonitorSeat, page: u32, pass: u64) -> u64
         requires table { seat.old.table ≡ self.now }
         requires page { page < self.now.words }
@@ -115,8 +116,8 @@ impl PageWords {
         found
     }
 
-    /// The word of a page. It is odd where a touch of the page with the word's pass was gathered before
-    /// and the page was cleared once in that pass.
+    /// Loads the word of a page. It names the pass that last cleared the page, and it is odd where a
+    /// touch of the page in that pass was gathered before and the page was cleared in it only once.
     pub fn load(&self, seat: &mut MonitorSeat, page: u32) -> u64
         requires table { seat.old.table ≡ self.now }
         requires page { page < self.now.words }
@@ -128,7 +129,7 @@ impl PageWords {
         steps::load(&self.table, &mut seat.seat, page)
     }
 
-    /// Takes in a touch seat with its touches.
+    /// Gathers a touch seat with all its touches, which the monitor's seat knows from then on.
     pub fn gather(&self, seat: &mut MonitorSeat, touch: TouchSeat)
         requires table { seat.old.table ≡ self.now }
         requires touch { touch.table ≡ self.now }
@@ -137,11 +138,12 @@ impl PageWords {
     {
         let TouchSeat { seat: other } = touch;
         steps::gather(&self.table, &mut seat.seat, other);
+        // At least this seat was out, but the rule that says so is seen only inside a step.
         seat.out = seat.out.saturating_sub(1);
     }
 
-    /// The words at the end, when no touch seat is out. Each touch was gathered then, and the words, the
-    /// entries and the gathered touches agree.
+    /// Ends the sharing and gives the words. No touch seat is out, so each touch was gathered, and the
+    /// words, what the monitor did and the gathered touches agree.
     pub fn settle(self, seat: MonitorSeat) -> Settled
         requires table { seat.table ≡ self }
         requires out { seat.out ≡ 0 }
