@@ -8,7 +8,7 @@ use Rattle.page_words.specs.declared.view.Entry.TheVariants.{Clear, Load, Gather
 abbrev pub pass_of : ℕ → ℕ
 pass_of word = word / 2
 
--- the word says that its page was touched in that pass
+-- the word says that its page was touched since
 abbrev pub IsOdd : ℕ → Type 0
 IsOdd word = word % 2 ≡ 1
 

@@ -1,4 +1,5 @@
--- What each atomic step owes: whatever the words and the other views are when it comes, it keeps the rule and tells its seat what is said here.
+-- What each atomic step owes: whatever the words and the other views are when it comes, it keeps the rule and tells its seat what stands here.
+-- The table has so many words and slots; `id` is the number of the seat, and `me` its view with the slots that it has. No seat has any.
 use Rattle.std.specs.Prelude.{◌≡◌, ℕ, ◌*◌, [], bit_or}
 use Rattle.atomic_table.specs.Table.{Me, Allows, Splits, Joins}
 use Rattle.page_words.specs.declared.view.Entry.TheVariants.{Clear, Load}

@@ -50,6 +50,7 @@ impl Numbered for Brand {
     ghost number = { 0 };
 }
 
+// The monitor's view counts one touch seat more, and the new seat has touched nothing.
 pub(crate) struct Splits<W: Numbered> {
     of: PhantomData<W>,
 }
@@ -60,6 +61,7 @@ impl<W: Numbered> Split<View> for Splits<W> {
     ghost right = { λ _. Toucher W.number [] };
 }
 
+// The monitor's view takes in the touches, and the other seat knows nothing any more.
 pub(crate) struct Gathers;
 
 impl Join<View> for Gathers {
