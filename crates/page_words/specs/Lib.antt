@@ -1,0 +1,7 @@
+pub mod Clears
+pub mod Views
+pub mod Clauses
+pub mod Rule
+pub mod Steps
+pub mod Seats
+pub mod Keeping
