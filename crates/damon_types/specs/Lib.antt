@@ -1,5 +1,6 @@
 pub mod Causes
 pub mod Memory
+pub mod Faulty
 pub mod Standard
 pub mod Attrs
 pub mod Ranges

@@ -3,6 +3,8 @@
 
 /// The attributes of a monitor, and their limits.
 mod attrs;
+/// Streams over memory that fail at stated calls.
+mod faulty;
 /// Filters of pages, and lists of them.
 mod filter;
 /// How the pages of a space are numbered.
@@ -22,10 +24,10 @@ mod scheme;
 /// Targets, their pages and addresses.
 mod space;
 /// Streams over the reader and the writer of std.
-mod standard;
-/// Where bytes come from and go to.
 #[cfg(test)]
 mod scheme_tests;
+mod standard;
+/// Where bytes come from and go to.
 mod stream;
 #[cfg(test)]
 mod stream_tests;
@@ -33,6 +35,7 @@ mod stream_tests;
 mod value_tests;
 
 pub use attrs::{Attrs, AttrsFault};
+pub use faulty::{FaultSink, FaultSource};
 pub use filter::{Filter, FilterKind, Filters, Full, MAX_FILTERS};
 pub use laws::{pages_are_numbered, pages_rise};
 pub use list::{PlainList, RangeSpecs, SlotChanges};

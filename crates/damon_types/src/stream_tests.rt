@@ -1,8 +1,21 @@
 // Streams over memory, and over readers and writers of std.
-use crate::{Failed, MemSink, MemSource, Sink, Source, StdSink, StdSource};
+use crate::{Failed, FaultSink, FaultSource, MemSink, MemSource, Sink, Source, StdSink, StdSource};
 use std::io::Cursor;
 use std::process::Abort;
 use std::test::Fail;
+
+// Reads four bytes at a time, and sees that each read is answered so.
+fn expect_reads(rt: &impl Abort, source: &mut impl Source, answers: &[Result<&[u8], Failed>]) {
+    for answer in answers {
+        let mut buf = [0; 4];
+        let read = source.read(&mut buf);
+        assert_eq!(rt; read, answer.map(|piece| piece.len()));
+        if let Ok(piece) = answer {
+            assert!(rt; piece.len() <= 4);
+            assert_eq!(rt; &buf[..piece.len()], *piece);
+        }
+    }
+}
 
 // Reads two bytes at a time, and sees that these pieces come.
 fn expect_pieces(rt: &impl Abort, source: &mut impl Source, pieces: &[&[u8]]) {
@@ -66,4 +79,35 @@ fn a_writer_of_std_that_takes_nothing_has_failed(rt: HostRuntime) {
     ];
     expect_answers(&rt, &mut sink, &answers);
     assert_eq!(rt; bytes, *b"abc");
+}
+
+#[test]
+fn a_source_fails_at_its_calls(rt: HostRuntime) {
+    let mut source = FaultSource::new(b"abcdefg", 3, &[2, 3]);
+    let answers: [Result<&[u8], Failed>; 6] = [
+        Ok(b"abc"),
+        Err(Failed),
+        Err(Failed),
+        Ok(b"def"),
+        Ok(b"g"),
+        Ok(b""),
+    ];
+    expect_reads(&rt, &mut source, &answers);
+    assert_eq!(rt; source.calls(), 6);
+}
+
+#[test]
+fn a_sink_fails_at_its_calls(rt: HostRuntime) -> Result<(), Fail> {
+    let mut sink = FaultSink::new(rt.alloc(), 5, 3, &[2])?;
+    let answers: [(&[u8], Result<usize, Failed>); 5] = [
+        (b"abcd", Ok(3)),
+        (b"d", Err(Failed)),
+        (b"defg", Ok(2)),
+        (b"f", Err(Failed)),
+        (b"", Ok(0)),
+    ];
+    expect_answers(&rt, &mut sink, &answers);
+    assert_eq!(rt; sink.bytes(), b"abcde".as_slice());
+    assert_eq!(rt; sink.calls(), 5);
+    Ok(())
 }
