@@ -1,6 +1,7 @@
 pub mod Keeping
 pub mod Tallying
 pub mod Standing
+pub mod Running
 pub mod RowFacts
 pub mod Between
 pub mod Rows

@@ -34,6 +34,11 @@ IsObserving (Checking k) rows = k ≡ rows
 IsObserving Void rows = Unit {0}
 IsObserving _ rows = ⊥
 
+-- the pick that is cleared next
+abbrev pub clear_index : Phase → ℕ
+clear_index (Clearing k) = k
+clear_index _ = 0
+
 -- the pick that is loaded next
 abbrev pub load_index : Phase → ℕ
 load_index (Checking k) = k

@@ -2,6 +2,7 @@ pub mod Note
 pub mod Totals
 pub mod State
 pub mod Event
+pub mod Several
 pub mod After
 pub mod Reached
 pub mod Stands

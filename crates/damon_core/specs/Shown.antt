@@ -1,10 +1,11 @@
 -- What a monitor shows after each call that changes it.
-use Rattle.std.specs.Prelude.{ℕ, ◌+◌, Bool, false, List, replicate, slice_set, cond}
+use Rattle.std.specs.Prelude.{ℕ, zero, suc, ◌+◌, Bool, false, ◌==◌, List, replicate, slice_set, if◌then◌else◌, cond}
 use Rattle.live_commit.specs.declared.phase.Phase.{Phase}
-use Rattle.live_commit.specs.declared.phase.Phase.TheVariants.{Clearing, Checking, Void}
+use Rattle.live_commit.specs.declared.phase.Phase.TheVariants.{Clearing, Armed, Checking, Void}
 use Rattle.sampler.specs.Counted.{raised}
 use Rattle.damon_core.specs.State.{row_count}
 use Rattle.damon_core.specs.Event.{load_index}
+use Rattle.damon_core.specs.Several.{mark_at}
 use Rattle.damon_core.specs.After.{prepared_core, passed_core, phase_after_clear}
 use Rattle.damon_core.specs.Stands.{MonitorView}
 
@@ -21,6 +22,15 @@ phase_by_clear phase rows = phase
 abbrev pub after_clear : MonitorView → MonitorView
 after_clear m = record m { core = record m.core { phase = phase_by_clear m.core.phase (row_count m.core) } }
 
+-- the phase after so many clears
+abbrev pub phase_by_clears : ℕ → Phase → ℕ → Phase
+phase_by_clears n (Clearing k) rows = if k + n == rows then Armed else Clearing (k + n)
+phase_by_clears n phase rows = phase
+
+-- so many picks more are cleared
+abbrev pub after_clears : ℕ → MonitorView → MonitorView
+after_clears n m = record m { core = record m.core { phase = phase_by_clears n m.core.phase (row_count m.core) } }
+
 -- one pick more is loaded, with this result
 abbrev pub after_load : Bool → MonitorView → MonitorView
 after_load hit m = record m {
@@ -28,6 +38,11 @@ after_load hit m = record m {
   bits = slice_set m.bits (load_index m.core.phase) hit;
   found = m.found + cond hit 1 0;
 }
+
+-- so many picks more are loaded, from one on, each with the mark of its page as its result
+abbrev pub after_loads : List Bool → ℕ → ℕ → MonitorView → MonitorView
+after_loads marks from zero m = m
+after_loads marks from (suc n) m = after_load (mark_at marks m.core.picks (from + n)) (after_loads marks from n m)
 
 -- the pass is counted
 abbrev pub with_counts : MonitorView → MonitorView

@@ -7,7 +7,7 @@ use Rattle.damon_core.specs.Totals.{pass_hits, checks_made, hits_made}
 use Rattle.damon_core.specs.State.{Core, State}
 use Rattle.damon_core.specs.Event.{Event, Fits}
 use Rattle.damon_core.specs.After.{after}
-use Rattle.damon_core.specs.Reached.{Reached}
+use Rattle.damon_core.specs.Reached.{AllFit, Reached, run}
 
 -- A monitor: what it shows of its state, the results of the checks of the pass that was prepared last and how
 -- many of them are hits so far, and the checks and hits of all finished passes.
@@ -39,3 +39,7 @@ pub record Stands (m : MonitorView) (s : State) : Type 0 where
 -- In each state for which the monitor stands the event fits, and afterwards it stands for the state after it.
 abbrev pub IsEvent : MonitorView → MonitorView → Event → Type 0
 IsEvent old new e = (s : State) → Reached s → Stands old s → Fits s e × Stands new (after s e)
+
+-- the same of events one after another
+abbrev pub AreEvents : MonitorView → MonitorView → List Event → Type 0
+AreEvents old new es = (s : State) → Reached s → Stands old s → AllFit s es × Stands new (run s es)

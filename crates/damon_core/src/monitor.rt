@@ -1,16 +1,17 @@
 ghost use Rattle.std.specs.List.{AllByRecursion};
-ghost use Rattle.std.specs.Prelude.{◌≡◌, ◌+◌, ◌^◌, ◌≤◌, ◌<◌, true, length, slice_get, IfOk};
+ghost use Rattle.std.specs.Prelude.{◌≡◌, ◌+◌, ◌^◌, ◌≤◌, ◌<◌, ℕ, true, length, slice_get, slice_index, IfOk};
 ghost use Rattle.damon_types.specs.Space.{pages_of};
 ghost use Rattle.damon_types.specs.Span.{spans};
 ghost use Rattle.region_list.specs.Tiling.{Tiling};
 ghost use Rattle.live_commit.specs.SetupView.{value_of};
 ghost use Rattle.damon_core.specs.Note.{is_cleared};
 ghost use Rattle.damon_core.specs.State.{State, opening, opening_core, opening_rows, row_count};
-ghost use Rattle.damon_core.specs.Event.{IsClearing, IsLoading, IsObserving, load_index, prepare as prepare_event, clear as clear_event, load as load_event, observe as observe_event};
+ghost use Rattle.damon_core.specs.Event.{IsClearing, IsLoading, IsObserving, clear_index, load_index, prepare as prepare_event, clear as clear_event, load as load_event, observe as observe_event};
+ghost use Rattle.damon_core.specs.Several.{clears, loads};
 ghost use Rattle.damon_core.specs.After.{phase_after_clear, phase_after_pass};
 ghost use Rattle.damon_core.specs.Reached.{Reached};
-ghost use Rattle.damon_core.specs.Stands.{Stands, IsEvent};
-ghost use Rattle.damon_core.specs.Shown.{after_prepare, after_clear, after_load, after_observe, ended};
+ghost use Rattle.damon_core.specs.Stands.{Stands, AreEvents, IsEvent};
+ghost use Rattle.damon_core.specs.Shown.{after_prepare, after_clear, after_clears, after_load, after_loads, after_observe, ended};
 ghost use Rattle.damon_core.specs.Kept.{IsInPass, IsWithin, SinceWithin, cleared_so_far};
 
 use damon_types::{Attrs, Space};
@@ -136,6 +137,10 @@ impl Monitor {
     pub fn picks(&self) -> &Picks
         ensures pages { result.now.pages ≡ self.now.core.picks }
         ensures bits { result.now.bits ≡ self.now.bits }
+
+        // A pass under way has a pick for each row.
+        ensures inside { IsInPass self.now.core.phase → (k : ℕ) → k < row_count self.now.core → slice_index self.now.core.picks k < pages_of self.now.core.space }
+        ensures cleared { (s : State) → Reached s → Stands self.now s → (k : ℕ) → k < cleared_so_far self.now.core.phase (row_count self.now.core) → is_cleared s.notes (slice_index self.now.core.picks k) ≡ true }
     {
         &self.picks
     }
@@ -179,6 +184,21 @@ impl Monitor {
         }
     }
 
+    /// Takes note that the pages of the next `count` picks were cleared. The phase is Clearing, and so
+    /// many picks are not cleared.
+    pub fn cleared_next(&mut self, count: u32)
+        requires phase { IsClearing self.old.core.phase }
+        requires within { clear_index self.old.core.phase + count ≤ row_count self.old.core }
+        ensures shown { self.new ≡ after_clears count self.old }
+        ensures events { AreEvents self.old self.new (clears count) }
+    {
+        // For its clauses alone: the next pick is one of the rows.
+        let _phase = self.phase();
+        for _ in 0..count {
+            self.cleared();
+        }
+    }
+
     /// Takes note that the page of the next pick was loaded, with this result. Each pick is cleared,
     /// and not each is loaded.
     pub fn loaded(&mut self, hit: bool)
@@ -192,6 +212,22 @@ impl Monitor {
         self.picks.set(index, hit);
         self.found += u32::from(hit);
         self.phase = Phase::Checking { next: index + 1 };
+    }
+
+    /// Takes note that the next `count` picks were loaded, each with the mark of its page as its
+    /// result. Each pick is cleared, and so many are not loaded; each page of the space has a mark.
+    pub fn loaded_next(&mut self, count: u32, marks: &[bool])
+        requires phase { IsLoading self.old.core.phase (row_count self.old.core) }
+        requires within { load_index self.old.core.phase + count ≤ row_count self.old.core }
+        requires marks { length marks.now ≡ pages_of self.old.core.space }
+        ensures shown { self.new ≡ after_loads marks.now (load_index self.old.core.phase) count self.old }
+        ensures events { AreEvents self.old self.new (loads marks.now self.old.core.picks (load_index self.old.core.phase) count) }
+    {
+        let from = next_load(self.phase);
+        for next in from..from + count {
+            let page = self.pick(next);
+            self.loaded(marks[page as usize]);
+        }
     }
 
     /// Ends the pass, of which each pick is loaded, or which is void. One that is not void raises the

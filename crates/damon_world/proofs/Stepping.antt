@@ -92,7 +92,7 @@ pub is_last : (k rows : ℕ) → k ≡ rows → (k == rows) ≡ true
 is_last k rows same = grind (arith, nat_tests)
 
 -- a load is the next event
-event_in-load : (ph : Phase) (s : State) (stream : Stream) → IsLoading ph (row_count s.core) → event_in ph s stream ≡ load (next_hit s)
+pub event_in-load : (ph : Phase) (s : State) (stream : Stream) → IsLoading ph (row_count s.core) → event_in ph s stream ≡ load (next_hit s)
 event_in-load Armed s stream fits = refl
 event_in-load (Checking k) s stream fits = ap (λ b. cond b observe (load (next_hit s))) (not_last k (row_count s.core) fits)
 event_in-load (Clearing k) s stream fits = absurd fits
@@ -118,7 +118,7 @@ load_ready Void c fits some = absurd fits
 load_ready Due c fits some = absurd fits
 
 -- a load or the end of a pass leaves the words of the pages
-word_of-by_load : (ph : Phase) (s : State) (h : Bool) (p : ℕ) → word_of (by_load ph h s).notes p ≡ word_of s.notes p
+pub word_of-by_load : (ph : Phase) (s : State) (h : Bool) (p : ℕ) → word_of (by_load ph h s).notes p ≡ word_of s.notes p
 word_of-by_load Armed s h p = refl
 word_of-by_load (Checking k) s h p = refl
 word_of-by_load (Clearing k) s h p = refl

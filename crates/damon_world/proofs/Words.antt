@@ -1,34 +1,21 @@
 -- The words of pages, and what the notes make of them.
 use Rattle.std.proofs.Common.{◌≡◌, ◌≢◌, inl, inr, ℕ, zero, suc, ◌+◌, ◌*◌, ◌%◌, ◌^◌, ◌<◌, Bool, true, false, cond, List, ◌∷◌, length, set, get_or-set_same, get_or-set_other, refl, sym, ap, ◌∙◌, subst, arith}
-use Rattle.std.specs.Prelude.{◌==◌, slice_index, bit_or}
+use Rattle.std.specs.Prelude.{◌==◌, slice_index}
 use Rattle.std.proofs.lemmas.Bool.{cases_eq}
 use Rattle.std.proofs.lemmas.Bool.Decides.{nat_tests}
-use Rattle.std.specs.Int.Bits.{or_block, or_comm}
+use Rattle.damon_world.specs.Words.{touched_word}
 use Rattle.damon_core.specs.Note.{Note, touched, cleared, word_of, last_clear, is_touched, is_cleared, hit}
 
-bit_or-zero : (n : ℕ) → bit_or n 0 ≡ n
-bit_or-zero n = or_comm n 0
-
-bit_or-one : (t : ℕ) → t < 2 → bit_or t 1 ≡ 1
-bit_or-one zero small = refl
-bit_or-one (suc zero) small = refl
-bit_or-one (suc (suc t)) small = absurd (omega arith)
-
--- to set the lowest bit
-set_lowest : (n t : ℕ) → t < 2 → bit_or (2 * n + t) 1 ≡ 2 * n + 1
-set_lowest n t small =
-    let parts : 2 * n + t ≡ n * 2 ^ 1 + t = omega arith in
-    ap (λ x. bit_or x 1) parts ∙ or_block 1 n 0 t 1 small (omega arith) ∙ ap (λ x. x * 2 ^ 1 + bit_or t 1) (bit_or-zero n) ∙ ap (λ x. n * 2 ^ 1 + x) (bit_or-one t small) ∙ omega arith
-
-flag_small : (b : Bool) → cond b 1 0 < 2
-flag_small true = omega arith
-flag_small false = omega arith
+-- a page is touched
+touched_twice : (n : ℕ) (t : Bool) → touched_word (2 * n + cond t 1 0) ≡ 2 * n + 1
+touched_twice n true = omega arith
+touched_twice n false = omega arith
 
 -- the word of a page after a touch of it
-pub word_of-touched_same : (notes : List Note) (page w : ℕ) → w ≡ word_of notes page → bit_or w 1 ≡ word_of (touched page ∷ notes) page
+pub word_of-touched_same : (notes : List Note) (page w : ℕ) → w ≡ word_of notes page → touched_word w ≡ word_of (touched page ∷ notes) page
 word_of-touched_same notes page w is =
     let same : (page == page) ≡ true = grind (arith, nat_tests) in
-    ap (λ x. bit_or x 1) is ∙ set_lowest (last_clear notes page) (cond (is_touched notes page) 1 0) (flag_small (is_touched notes page)) ∙ sym (rw same refl)
+    ap touched_word is ∙ touched_twice (last_clear notes page) (is_touched notes page) ∙ sym (rw same refl)
 
 pub word_of-touched_other : (notes : List Note) (page p : ℕ) → p ≢ page → word_of (touched page ∷ notes) p ≡ word_of notes p
 word_of-touched_other notes page p other =

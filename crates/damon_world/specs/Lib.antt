@@ -1,6 +1,9 @@
 pub mod Draws
-pub mod Stands
+pub mod Words
 pub mod Moment
+pub mod Stands
+pub mod Touches
+pub mod Advance
 pub mod Left
 pub mod Kept
 pub mod Step

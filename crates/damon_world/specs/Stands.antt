@@ -1,12 +1,14 @@
 -- What a world shows, and for which states it stands.
 use Rattle.std.specs.Prelude.{◌≡◌, ℕ, ◌<◌, List, slice_index}
+use Rattle.rand_core.specs.Stream.{Stream}
 use Rattle.damon_types.specs.Space.{pages_of}
 use Rattle.damon_core.specs.Note.{word_of}
 use Rattle.damon_core.specs.State.{State}
 use Rattle.damon_core.specs.Event.{Event, Fits}
 use Rattle.damon_core.specs.After.{after}
-use Rattle.damon_core.specs.Reached.{Reached}
+use Rattle.damon_core.specs.Reached.{AllFit, Reached, run}
 use Rattle.damon_core.specs.Stands.{MonitorView, Stands}
+use Rattle.damon_world.specs.Moment.{Moment}
 
 -- a world: its monitor, the words of its pages, and its source of random words
 pub record WorldView (R : Type 0) : Type 0 where
@@ -22,3 +24,12 @@ pub record StandsFor {R : Type 0} (w : WorldView R) (s : State) : Type 0 where
 -- In each state for which the world stands the event fits, and afterwards it stands for the state after it.
 abbrev pub IsEvent : {R : Type 0} → WorldView R → WorldView R → Event → Type 0
 IsEvent old new e = (s : State) → Reached s → StandsFor old s → Fits s e × StandsFor new (after s e)
+
+-- the same of events one after another
+abbrev pub AreEvents : {R : Type 0} → WorldView R → WorldView R → List Event → Type 0
+AreEvents old new es = (s : State) → Reached s → StandsFor old s → AllFit s es × StandsFor new (run s es)
+
+-- the world stands for the state, and these are the random words that its source still gives
+pub record StandsAt {R : Type 0} (stream : R → Stream) (w : WorldView R) (m : Moment) : Type 0 where
+  pub state : StandsFor w m.state
+  pub words : stream w.source ≡ m.stream

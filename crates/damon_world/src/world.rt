@@ -1,16 +1,21 @@
-ghost use Rattle.std.specs.Prelude.{◌≡◌, ◌≢◌, ◌+◌, ◌/◌, ◌^◌, ◌≤◌, ◌<◌, ℕ, ◌↔◌, IsTrue, IfOk, slice_index, vec_capacity};
+ghost use Rattle.std.specs.Prelude.{◌≡◌, ◌≢◌, ◌+◌, ◌-◌, ◌*◌, ◌/◌, ◌^◌, ◌≤◌, ◌<◌, ℕ, ◌↔◌, min, length, IsTrue, IfOk, slice_index, vec_capacity};
 ghost use Rattle.damon_types.specs.Space.{pages_of};
 ghost use Rattle.live_commit.specs.SetupView.{value_of};
 ghost use Rattle.damon_core.specs.State.{State, opening, opening_core, row_count};
 ghost use Rattle.damon_core.specs.Event.{Fits, IsLoading, IsObserving, load_index, touch as touch_event};
 ghost use Rattle.damon_core.specs.After.{after};
 ghost use Rattle.damon_core.specs.Reached.{Reached};
+ghost use Rattle.damon_core.specs.Kept.{IsInPass};
 ghost use Rattle.damon_world.specs.Draws.{drawn, drawn_rest};
-ghost use Rattle.damon_world.specs.Stands.{StandsFor, IsEvent};
+ghost use Rattle.damon_world.specs.Stands.{StandsFor, AreEvents, IsEvent};
+ghost use Rattle.damon_world.specs.Words.{cleared_words};
+ghost use Rattle.damon_world.specs.Touches.{touches};
+ghost use Rattle.damon_world.specs.Advance.{Advances, IsAdvance};
 ghost use Rattle.damon_world.specs.Moment.{draws, next_event, Tells};
 ghost use Rattle.damon_world.specs.Left.{steps_to_due};
 ghost use Rattle.damon_world.specs.Step.{IsStep};
 
+use crate::PlainWords;
 use damon_core::Monitor;
 use live_commit::{Phase, Setup};
 use rand_core::Rng;
@@ -30,12 +35,11 @@ pub enum Stepped {
     Observed { void: bool },
 }
 
-/// A monitor with the pages of one thread. A page's word is `2 × c + t`, where c is the pass that
-/// cleared it last, 0 if none did, and t is 1 where it was touched since, or ever where none did.
+/// A monitor with the words of the pages of one thread.
 #[derive(Drop)]
 pub struct World<R: Rng> {
     monitor: Monitor,
-    words: Vec<u64>,
+    words: PlainWords,
     // The random words of a step, in room that is taken once.
     drawn: Vec<u32>,
     source: R,
@@ -49,9 +53,9 @@ impl<R: Rng> Model for World<R> {
     ghost use Rattle.std.specs.Prelude.{vec_capacity};
     ghost use Rattle.damon_world.specs.Kept.{IsWorld};
 
-    ghost view = { λ w. record { monitor = w.monitor; words = w.words.items; source = w.source } };
+    ghost view = { λ w. record { monitor = w.monitor; words = w.words; source = w.source } };
 
-    ghost invariant = { λ w. IsWorld w.monitor w.words.items (vec_capacity w.drawn) };
+    ghost invariant = { λ w. IsWorld w.monitor w.words (vec_capacity w.drawn) };
 }
 
 impl<R: Rng + Drop> World<R> {
@@ -62,7 +66,7 @@ impl<R: Rng + Drop> World<R> {
         ensures opening { IfOk result (λ w. StandsFor w (opening (value_of setup.now))) }
     {
         let monitor = Monitor::new(alloc, setup)?;
-        let words = vec![in alloc; 0; setup.space.pages() as usize]?;
+        let words = PlainWords::new(alloc, setup.space.pages())?;
         let drawn = Vec::with_capacity(alloc, setup.cap as usize)?;
         Ok(World {
             monitor,
@@ -88,9 +92,18 @@ impl<R: Rng + Drop> World<R> {
         ensures source { self.new.source ≡ self.old.source }
         ensures event { IsEvent self.old self.new (touch_event page) }
     {
-        let word = self.words[page as usize];
-        self.words[page as usize] = word | 1;
-        word / 2
+        self.words.touch(page)
+    }
+
+    /// Touches the pages of the space from one to before another, in ascending order.
+    pub fn sweep(&mut self, from: u32, to: u32)
+        requires order { from ≤ to }
+        requires within { to ≤ pages_of self.old.monitor.core.space }
+        ensures monitor { self.new.monitor ≡ self.old.monitor }
+        ensures source { self.new.source ≡ self.old.source }
+        ensures events { AreEvents self.old self.new (touches from (to - from)) }
+    {
+        self.words.sweep(from, to);
     }
 
     /// Carries out the monitor's next step. No aggregation is due, as none is carried out yet. The
@@ -121,6 +134,69 @@ impl<R: Rng + Drop> World<R> {
         }
     }
 
+    /// Carries out the monitor's next steps as long as they are of one kind, at least one and at most
+    /// `most` of them, and says how many. No aggregation is due, as none is carried out yet. The passes
+    /// in all are below 2^40.
+    pub fn advance(&mut self, most: u64) -> u64
+        requires some { 1 ≤ most }
+        requires not_due { self.old.monitor.core.phase ≢ Phase.Due }
+        requires ticks { self.old.monitor.core.ticks < 2 ^ 40 }
+        ensures some { 1 ≤ result }
+        ensures most { result ≤ most }
+        ensures steps { Advances R.stream self.old self.new result }
+        ensures passes { self.new.monitor.core.ticks ≤ self.old.monitor.core.ticks + 1 }
+        ensures space { self.new.monitor.core.space ≡ self.old.monitor.core.space }
+    {
+        match self.monitor.phase() {
+            Phase::Clearing { next } => self.clear_run(next, most),
+            Phase::Armed => self.load_run(0, most),
+            Phase::Checking { next } if next < self.monitor.rows().len() => self.load_run(
+                next, most,
+            ),
+            _ => self.one_step(),
+        }
+    }
+
+    // Carries out the next step.
+    fn one_step(&mut self) -> u64
+        requires not_due { self.old.monitor.core.phase ≢ Phase.Due }
+        requires ticks { self.old.monitor.core.ticks < 2 ^ 40 }
+        ensures { IsAdvance R.stream self.old self.new 1 result }
+    {
+        let _stepped = self.step();
+        1
+    }
+
+    // Clears the pages of picks from `next` on, at most so many.
+    fn clear_run(&mut self, next: u32, most: u64) -> u64
+        requires some { 1 ≤ most }
+        requires phase { self.old.monitor.core.phase ≡ Phase.Clearing next }
+        requires within { next < row_count self.old.monitor.core }
+        requires ticks { self.old.monitor.core.ticks < 2 ^ 40 }
+        ensures { IsAdvance R.stream self.old self.new most result }
+    {
+        // For its clauses alone: each pick is a page of the space.
+        let _picks = self.monitor.picks();
+        let count = at_most(self.monitor.rows().len() - next, most);
+        clear_words(&self.monitor, next, count, &mut self.words);
+        self.monitor.cleared_next(count);
+        u64::from(count)
+    }
+
+    // Loads the pages of picks from `next` on, at most so many.
+    fn load_run(&mut self, next: u32, most: u64) -> u64
+        requires some { 1 ≤ most }
+        requires phase { IsLoading self.old.monitor.core.phase (row_count self.old.monitor.core) }
+        requires index { next ≡ load_index self.old.monitor.core.phase }
+        ensures { IsAdvance R.stream self.old self.new most result }
+    {
+        // For its clauses alone: each pick is a page of the space, and those to be loaded are cleared.
+        let _picks = self.monitor.picks();
+        let count = at_most(self.monitor.rows().len() - next, most);
+        self.monitor.loaded_next(count, self.words.marks());
+        u64::from(count)
+    }
+
     // Prepares a pass by the next random words.
     fn prepare(&mut self) -> Stepped
         requires { self.old.monitor.core.phase ≡ Phase.Idle }
@@ -140,7 +216,7 @@ impl<R: Rng + Drop> World<R> {
         ensures { IsStep R.stream self.old self.new result }
     {
         let page = self.monitor.pick(next);
-        self.words[page as usize] = 2 * (self.monitor.ticks() + 1);
+        self.words.clear(page, self.monitor.ticks() + 1);
         self.monitor.cleared();
         Stepped::Cleared { page }
     }
@@ -168,7 +244,7 @@ impl<R: Rng + Drop> World<R> {
         // For its clauses alone: there is a row, so there is a pick.
         let _rows = self.monitor.rows();
         let page = self.monitor.pick(next);
-        let hit = self.words[page as usize] % 2 == 1;
+        let hit = self.words.marks()[page as usize];
         self.monitor.loaded(hit);
         Stepped::Loaded { page, hit }
     }
@@ -182,6 +258,29 @@ impl<R: Rng + Drop> World<R> {
     {
         self.monitor.observe();
         Stepped::Observed { void }
+    }
+}
+
+// So many, but no more than that.
+fn at_most(count: u32, most: u64) -> u32
+    ensures { result ≡ min count most }
+{
+    u64::from(count).min(most) as u32
+}
+
+// Clears the words of so many picks of the pass under way, from one on.
+fn clear_words(monitor: &Monitor, from: u32, count: u32, words: &mut PlainWords)
+    requires pass { IsInPass monitor.now.core.phase }
+    requires within { from + count ≤ row_count monitor.now.core }
+    requires each { length words.old ≡ pages_of monitor.now.core.space }
+    requires ticks { monitor.now.core.ticks < 2 ^ 40 }
+    ensures { words.new ≡ cleared_words monitor.now.core.picks from count (2 * (monitor.now.core.ticks + 1)) words.old }
+{
+    // For its clauses alone: the number of rows is a u32.
+    let _rows = monitor.rows().len();
+    let pass = monitor.ticks() + 1;
+    for next in from..from + count {
+        words.clear(monitor.pick(next), pass);
     }
 }
 

@@ -18,7 +18,8 @@ use Rattle.script_run.specs.declared.command.Ran.TheVariants.{Stopped, Whole}
 use Rattle.script_run.specs.declared.steps.Stop.{Stop}
 use Rattle.script_run.specs.declared.steps.Stop.TheVariants as stop
 use Rattle.script_run.specs.Steps.{after_steps, next_events, step_events, stops}
-use Rattle.script_run.specs.Unfold.{come_to_one, events_from, events_of, pass_limit, played, touches, wants_aggregation}
+use Rattle.script_run.specs.Unfold.{come_to_one, events_from, events_of, pass_limit, played, wants_aggregation}
+use Rattle.damon_world.specs.Touches.{touches}
 use Rattle.script_run.specs.Report.{command_text, event_text, text_from}
 use Rattle.script_run.specs.Played.{Plays, Progress, StopsThere, TellsStop}
 use Rattle.script_run.proofs.Runs.{AllFit-append, Reached-run, run-append, run-cap, run-events_of}

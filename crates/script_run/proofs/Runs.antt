@@ -14,7 +14,8 @@ use Rattle.damon_control.specs.Command.{CommandValue, Touch, Sweep, Step, Arm, F
 use Rattle.script_run.specs.declared.steps.Stop.{Stop}
 use Rattle.script_run.specs.declared.steps.Stop.TheVariants as stop
 use Rattle.script_run.specs.Steps.{after_steps, next_events, step_events, stops}
-use Rattle.script_run.specs.Unfold.{events_from, events_of, pass_limit, played, touches, wants_aggregation}
+use Rattle.script_run.specs.Unfold.{events_from, events_of, pass_limit, played, wants_aggregation}
+use Rattle.damon_world.specs.Touches.{touches}
 
 pub run-append : (s : State) (es fs : List Event) → run s (es ++ fs) ≡ run (run s es) fs
 run-append s [] fs = refl
@@ -154,16 +155,3 @@ after-cap s show = refl
 pub run-cap : (s : State) (es : List Event) → (run s es).core.regions.cap ≡ s.core.regions.cap
 run-cap s [] = refl
 run-cap s (e ∷ es) = run-cap (after s e) es ∙ after-cap s e
-
--- touches of pages of the space fit
-pub AllFit-touches : (s : State) (page n : ℕ) → page + n ≤ pages_of s.core.space → AllFit s (touches page n)
-AllFit-touches s page zero within = tt
-AllFit-touches s page (suc n) within = (omega arith, AllFit-touches (after s (touch page)) (page + 1) n (omega arith))
-
--- touches of so many pages, and of one more
-pub touches-more : (page n : ℕ) → touches page (suc n) ≡ touches page n ++ touch (page + n) ∷ []
-touches-more page zero = ap (λ p. touch p ∷ []) (omega arith)
-touches-more page (suc n) = ap (λ es. touch page ∷ es) (touches-more (page + 1) n ∙ ap (λ p. touches (page + 1) n ++ touch p ∷ []) same)
-  where
-    same : page + 1 + n ≡ page + suc n
-    same = omega arith

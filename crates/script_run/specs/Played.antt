@@ -3,7 +3,7 @@ use Rattle.std.specs.Prelude.{◌≡◌, ℕ, List, ◌++◌, Bool, true, false,
 use Rattle.rand_core.specs.Stream.{Stream}
 use Rattle.damon_core.specs.State.{opening}
 use Rattle.damon_core.specs.Reached.{AllFit, Reached, run}
-use Rattle.damon_world.specs.Stands.{WorldView, StandsFor}
+use Rattle.damon_world.specs.Stands.{WorldView, StandsAt}
 use Rattle.damon_world.specs.Moment.{Moment}
 use Rattle.damon_control.specs.Command.{CommandValue}
 use Rattle.damon_control.specs.Script.{ScriptValue}
@@ -14,11 +14,6 @@ use Rattle.script_run.specs.declared.steps.Stop.{Stop}
 use Rattle.script_run.specs.Steps.{after_steps, step_events}
 use Rattle.script_run.specs.Unfold.{come_to_one, comes_to_aggregation, events_from, events_of, played, unfold_script, wants_aggregation}
 use Rattle.script_run.specs.Report.{text_from, text_of}
-
--- the world stands for the state, and these are the random words that its source still gives
-pub record StandsAt {R : Type 0} (stream : R → Stream) (w : WorldView R) (m : Moment) : Type 0 where
-  pub state : StandsFor w m.state
-  pub words : stream w.source ≡ m.stream
 
 -- From each moment at which the world stands the command's events fit, and afterwards it stands at the moment
 -- after the command.

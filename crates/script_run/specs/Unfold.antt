@@ -9,15 +9,11 @@ use Rattle.damon_core.specs.State.{Core, opening}
 use Rattle.damon_core.specs.Event.{Event, touch, show}
 use Rattle.damon_core.specs.Reached.{run}
 use Rattle.damon_world.specs.Moment.{Moment}
+use Rattle.damon_world.specs.Touches.{touches}
 use Rattle.damon_control.specs.Command.{CommandValue, Touch, Sweep, Step, Arm, Finish, Show, Commit}
 use Rattle.damon_control.specs.Script.{ScriptValue}
 use Rattle.script_run.specs.declared.steps.Stop.TheVariants as stop
 use Rattle.script_run.specs.Steps.{after_steps, is_due, step_events}
-
--- touches of so many pages from one on, ascending
-abbrev pub touches : ℕ → ℕ → List Event
-touches page zero = []
-touches page (suc n) = touch page ∷ touches (page + 1) n
 
 -- the most steps that the arming or the finishing of a pass takes
 abbrev pub pass_limit : Core → ℕ

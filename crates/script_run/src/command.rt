@@ -87,7 +87,7 @@ fn carry_out<R: Rng + Drop>(
             Ok(Ran::Whole)
         }
         Command::Sweep { from, to } => {
-            sweep(world, *from, *to);
+            world.sweep(*from, *to);
             Ok(Ran::Whole)
         }
         Command::Step { times } => Ok(run_times(world, *times)),
@@ -98,18 +98,6 @@ fn carry_out<R: Rng + Drop>(
             Ok(Ran::Whole)
         }
         Command::Commit { .. } => unreachable!(),
-    }
-}
-
-// Touches the pages from one to before another.
-fn sweep<R: Rng + Drop>(world: &mut World<R>, from: u32, to: u32)
-    requires order { from ≤ to }
-    requires within { to ≤ pages_of world.old.monitor.core.space }
-    ensures plays { Plays R.stream world.old world.new (Sweep from to) }
-    ensures monitor { world.new.monitor ≡ world.old.monitor }
-{
-    for page in from..to {
-        let _tag = world.touch(page);
     }
 }
 

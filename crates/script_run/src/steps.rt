@@ -1,5 +1,4 @@
-ghost use Rattle.std.specs.Prelude.{◌≡◌, ℕ, ◌+◌, ◌≤◌, ◌<◌, ◌^◌};
-ghost use Rattle.damon_world.specs.Stands.{WorldView};
+ghost use Rattle.std.specs.Prelude.{◌≡◌, ◌+◌, ◌≤◌, ◌^◌};
 ghost use Rattle.script_run.specs.Played.{MakesSteps};
 ghost use Rattle.script_run.specs.Steps.{stops};
 
@@ -27,25 +26,10 @@ pub fn run_steps<R: Rng + Drop>(world: &mut World<R>, most: u64, stop: Stop) -> 
     ensures space { world.new.monitor.core.space ≡ world.old.monitor.core.space }
 {
     let mut made = 0u64;
-    for _ in 0..most {
-        made += step_unless(world, stop);
+    while made < most && !stops(stop, world.monitor().phase()) {
+        made += world.advance(most - made);
     }
     made
-}
-
-// Makes a step, unless steps stop here, and says how many were made: one or none.
-fn step_unless<R: Rng + Drop>(world: &mut World<R>, stop: Stop) -> u64
-    requires { world.old.monitor.core.ticks < 2 ^ 40 }
-    ensures steps { (from : WorldView R) (n made : ℕ) → MakesSteps R.stream from world.old stop n made → MakesSteps R.stream from world.new stop (n + 1) (made + result) }
-    ensures most { result ≤ 1 }
-    ensures ticks { world.new.monitor.core.ticks ≤ world.old.monitor.core.ticks + 1 }
-    ensures space { world.new.monitor.core.space ≡ world.old.monitor.core.space }
-{
-    if stops(stop, world.monitor().phase()) {
-        return 0;
-    }
-    let _stepped = world.step();
-    1
 }
 
 // Whether steps stop at a phase.

@@ -1,4 +1,4 @@
-use Rattle.std.proofs.Common.{◌≡◌, ◌+◌, ◌*◌, ◌<◌, set, ap, sym, subst, ◌∙◌}
+use Rattle.std.proofs.Common.{◌≡◌, ℕ, List, ◌+◌, ◌*◌, ◌<◌, set, ap, sym, subst, ◌∙◌}
 use Rattle.live_commit.specs.declared.phase.Phase.TheVariants.{Clearing}
 use Rattle.damon_core.specs.State.{row_count}
 use Rattle.damon_world.specs.Stands.{WorldView}
@@ -14,6 +14,8 @@ returns g c =
     let page = c.pick-page.result in
     let clearing : inside.monitor.core.phase ≡ Clearing c.args.next = ap (λ w. w.monitor.core.phase) c.self.view_is ∙ c.requires.phase in
     let below = subst (λ w. c.args.next < row_count w.monitor.core) (sym c.self.view_is) c.requires.within in
-    let new : WorldView g.row.R.Denot = record { monitor = c.cleared.new.self; words = set inside.words.items page (2 * (c.ticks.result + 1)); source = inside.source } in
-    subst (λ w. IsStep stream w new (Cleared page)) c.self.view_is
-    (clear_step stream inside.monitor c.cleared.new.self inside.words.items inside.source c.args.next page (2 * (c.ticks.result + 1)) clearing below c.pick-page.ensures.page c.pick-page.ensures.inside c.self.invariant.each (ap (λ n. 2 * (n + 1)) c.ticks.ensures) c.cleared.ensures.shown c.cleared.ensures.event)
+    let w = 2 * (c.ticks.result + 1) in
+    let new : List ℕ → WorldView g.row.R.Denot = λ ws. record { monitor = c.cleared.new.self; words = ws; source = inside.source } in
+    subst (λ ws. IsStep stream c.args.self.now (new ws) (Cleared page)) (sym c.clear.ensures)
+    (subst (λ x. IsStep stream x (new (set inside.words page w)) (Cleared page)) c.self.view_is
+    (clear_step stream inside.monitor c.cleared.new.self inside.words inside.source c.args.next page w clearing below c.pick-page.ensures.page c.pick-page.ensures.inside c.self.invariant.each (ap (λ n. 2 * (n + 1)) c.ticks.ensures) c.cleared.ensures.shown c.cleared.ensures.event))

@@ -15,6 +15,6 @@ returns g c =
     let stream = g.R.Rng.stream in
     let fits = subst (λ w. IsObserving w.monitor.core.phase (row_count w.monitor.core)) (sym c.self.view_is) c.requires.phase in
     let void = subst (λ w. IsTrue c.args.void ↔ (w.monitor.core.phase ≡ Void)) (sym c.self.view_is) c.requires.void in
-    let new : WorldView g.row.R.Denot = record { monitor = c.observe.new.self; words = inside.words.items; source = inside.source } in
+    let new : WorldView g.row.R.Denot = record { monitor = c.observe.new.self; words = inside.words; source = inside.source } in
     subst (λ w. IsStep stream w new (Observed c.args.void)) c.self.view_is
-    (observe_step stream inside.monitor c.observe.new.self inside.words.items inside.source c.args.void fits void c.observe.ensures.shown c.observe.ensures.event)
+    (observe_step stream inside.monitor c.observe.new.self inside.words inside.source c.args.void fits void c.observe.ensures.shown c.observe.ensures.event)

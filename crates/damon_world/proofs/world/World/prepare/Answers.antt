@@ -23,6 +23,6 @@ returns g c =
     let idle : inside.monitor.core.phase ≡ Idle = ap (λ w. w.monitor.core.phase) c.self.view_is ∙ c.requires in
     let drew : c.deref.result.now ≡ drawn (row_count inside.monitor.core) (stream inside.source) = c.deref.ensures.value ∙ c.draw.ensures.words ∙ ap (λ n. drawn n (stream inside.source)) count in
     let rest = c.draw.ensures.rest ∙ ap (λ n. drawn_rest n (stream inside.source)) count in
-    let new : WorldView g.row.R.Denot = record { monitor = c.prepare.new.self; words = inside.words.items; source = c.draw.new.source } in
+    let new : WorldView g.row.R.Denot = record { monitor = c.prepare.new.self; words = inside.words; source = c.draw.new.source } in
     subst (λ w. IsStep stream w new Prepared) c.self.view_is
-    (prepare_step stream inside.monitor c.prepare.new.self inside.words.items inside.source c.draw.new.source c.deref.result.now idle drew rest c.prepare.ensures.shown c.prepare.ensures.event)
+    (prepare_step stream inside.monitor c.prepare.new.self inside.words inside.source c.draw.new.source c.deref.result.now idle drew rest c.prepare.ensures.shown c.prepare.ensures.event)

@@ -1,0 +1,46 @@
+use Rattle.std.proofs.Common.{◌≡◌, ◌+◌, ◌*◌, ◌≤◌, ◌<◌, ℕ, List, length, refl, ap, sym, subst, ◌∙◌, arith}
+use Rattle.region_list.specs.Regions.{RegionList}
+use Rattle.damon_types.specs.Space.{pages_of}
+use Rattle.live_commit.specs.declared.phase.Phase.TheVariants.{Clearing}
+use Rattle.damon_core.specs.Kept.{IsInPass}
+use Rattle.damon_core.specs.State.{row_count}
+use Rattle.damon_core.specs.Stands.{MonitorView}
+use Rattle.damon_world.specs.Words.{cleared_words}
+use Rattle.damon_world.specs.Stands.{WorldView}
+use Rattle.damon_world.specs.Advance.{Advances, IsAdvance}
+use Rattle.damon_world.proofs.Advancing.{clears_advance, length-cleared_words}
+use Rattle.damon_world.proofs.world.World.clear_run.Goals as goal
+
+pub invariant_of-self : goal.invariant_of-self
+invariant_of-self g c =
+    let m = c.self.inside.monitor in
+    let shown = c.cleared_next.ensures.shown in
+    record {
+      each = ap length c.clear_words.ensures ∙ length-cleared_words m.core.picks c.args.next c.at_most-count.result (2 * (m.core.ticks + 1)) c.self.inside.words ∙ c.self.invariant.each ∙ ap (λ (x : MonitorView). pages_of x.core.space) (sym shown);
+      room = omega (arith, c.self.invariant.room, ap (λ (x : MonitorView). x.core.regions.cap) shown);
+    }
+
+pub returns : goal.returns
+returns g c =
+    let inside = c.self.inside in
+    let m = inside.monitor in
+    let stream = g.R.Rng.stream in
+    let k = c.args.next in
+    let n = c.at_most-count.result in
+    let shown = c.cleared_next.ensures.shown in
+    let rows : c.len.result ≡ row_count m.core = c.len.ensures.len ∙ ap (λ (r : RegionList). length r.rows) c.rows.ensures.rows in
+    let clearing : m.core.phase ≡ Clearing k = ap (λ w. w.monitor.core.phase) c.self.view_is ∙ c.requires.phase in
+    let below : k < row_count m.core = subst (λ w. k < row_count w.monitor.core) (sym c.self.view_is) c.requires.within in
+    let within : k + n ≤ row_count m.core = omega (arith, c.at_most-count.ensures, rows, below) in
+    let inside_space = c.picks-picks.ensures.inside (subst IsInPass (sym clearing) tt) in
+    let made = clears_advance stream m c.cleared_next.new.self inside.words inside.source k n clearing below within shown c.cleared_next.ensures.events c.self.invariant.each inside_space in
+    let new : List ℕ → WorldView g.row.R.Denot = λ ws. record { monitor = c.cleared_next.new.self; words = ws; source = inside.source } in
+    let count : c.from.result ≡ n = c.from.ensures in
+    subst (λ x. IsAdvance stream x (new c.clear_words.new.words) c.args.most c.from.result) c.self.view_is
+    (record {
+      some = omega (arith, count, c.at_most-count.ensures, c.requires.some, rows, below);
+      most = omega (arith, count, c.at_most-count.ensures);
+      steps = subst (λ j. Advances stream (record { monitor = m; words = inside.words; source = inside.source }) (new c.clear_words.new.words) j) (sym count) (subst (λ ws. Advances stream (record { monitor = m; words = inside.words; source = inside.source }) (new ws) n) (sym c.clear_words.ensures) made);
+      passes = omega (arith, ap (λ (x : MonitorView). x.core.ticks) shown);
+      space = ap (λ (x : MonitorView). x.core.space) shown;
+    })
