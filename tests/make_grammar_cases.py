@@ -17,9 +17,14 @@ def main():
         case = json.loads(line)
         text = quote(case["input"].encode("latin-1"), safe=KEPT)
         texts.append(f"{case['name']} {text}\n")
-        answers.append(f"{case['name']} {case['answer']}\n")
+        answers.append(f"{case['name']} {answer_of(case)}\n")
     (CRATE / "stdin").write_text("".join(texts))
     (CRATE / "stdout").write_text("".join(answers))
+
+
+def answer_of(case):
+    """Says what a text is: where it is a script, the finished program writes no line on standard error."""
+    return case["stderr"].rstrip("\n") or "is a script"
 
 
 if __name__ == "__main__":

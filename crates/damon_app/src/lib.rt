@@ -8,15 +8,16 @@ mod output;
 /// The top call.
 mod replay;
 /// How a run ends.
-#[cfg(test)]
-mod fakes;
-#[cfg(test)]
-mod replay_tests;
 mod status;
-#[cfg(test)]
-mod tests;
 
 pub use input::{INPUT_LIMIT, InputFault, read_all};
 pub use output::{PIECE, flush_if_full, write_all};
 pub use replay::replay_main;
 pub use status::Status;
+
+#[cfg(test)]
+mod fakes;
+#[cfg(test)]
+mod replay_tests;
+#[cfg(test)]
+mod tests;

@@ -1,8 +1,7 @@
 // Whole runs of the program, on scripts whose reports were worked out by hand.
-use crate::fakes::{KeptSink, MadeSource, PieceSource};
 use crate::{Status, replay_main};
 use damon_control::ScriptKind;
-use damon_types::{MemSink, MemSource};
+use damon_types::{FaultSink, FaultSource, MemSink, MemSource};
 use std::alloc::{AllocError, Global};
 use std::process::Abort;
 use std::test::Fail;
@@ -126,26 +125,27 @@ fn expect_replay(
 // Sees that these words are refused, and that nothing is read or written then.
 fn expect_usage(rt: &(impl Abort + AllocGlobal), words: &[&str]) -> Result<(), AllocError> {
     let words = words_of(rt.alloc(), words)?;
-    let mut source = PieceSource::new(FRONT.as_bytes(), 100, 0);
-    let mut sink = KeptSink::new(rt.alloc(), 100, 0);
+    let mut source = FaultSource::new(FRONT.as_bytes(), 100, &[]);
+    let mut sink = FaultSink::new(rt.alloc(), 100, 100, &[])?;
     let answer = replay_main(rt.alloc(), &words, &mut source, &mut sink);
     assert_eq!(rt; answer, Status::Usage);
-    assert_eq!(rt; (source.calls, sink.calls), (0, 0));
+    assert_eq!(rt; (source.calls(), sink.calls()), (0, 0));
     Ok(())
 }
 
-// Replays an input of so many bytes, and sees that this is answered, with nothing written.
+// Replays so many bytes `x`, and sees that this is answered, with nothing written.
 fn expect_of_length(
     rt: &(impl Abort + AllocGlobal),
     total: usize,
     status: Status,
 ) -> Result<(), AllocError> {
     let words = words_of(rt.alloc(), &["replay"])?;
-    let mut source = MadeSource::new(total, 1_000_000, 0);
-    let mut sink = KeptSink::new(rt.alloc(), 100, 0);
+    let input = vec![in rt.alloc(); b'x'; total]?;
+    let mut source = FaultSource::new(&input, 1_000_000, &[]);
+    let mut sink = FaultSink::new(rt.alloc(), 100, 100, &[])?;
     let answer = replay_main(rt.alloc(), &words, &mut source, &mut sink);
     assert_eq!(rt; answer, status);
-    assert_eq!(rt; sink.calls, 0);
+    assert_eq!(rt; sink.calls(), 0);
     Ok(())
 }
 
@@ -198,6 +198,7 @@ fn the_first_fault_is_told(rt: HostRuntime) -> Result<(), Fail> {
         (TOUCHED, "end", 13, ScriptKind::Cut),
         (TOUCHED, "end\nx", 14, ScriptKind::After),
         ("step 01\n", "end\n", 9, ScriptKind::Number),
+        ("step 0\n", "end\n", 9, ScriptKind::Limit),
         (
             "step 4\ntouch 0 0x13000\n",
             "end\n",
@@ -268,11 +269,11 @@ fn other_words_are_refused(rt: HostRuntime) -> Result<(), Fail> {
 
 #[test]
 fn an_input_is_within_its_limit(rt: HostRuntime) -> Result<(), Fail> {
-    let no_header = Status::Script {
+    let cut = Status::Script {
         line: 1,
-        kind: ScriptKind::Header,
+        kind: ScriptKind::Cut,
     };
-    expect_of_length(&rt, 16_777_216, no_header)?;
+    expect_of_length(&rt, 16_777_216, cut)?;
     expect_of_length(&rt, 16_777_217, Status::TooLong)?;
     Ok(())
 }
@@ -281,11 +282,11 @@ fn an_input_is_within_its_limit(rt: HostRuntime) -> Result<(), Fail> {
 fn a_read_of_the_script_fails(rt: HostRuntime) -> Result<(), Fail> {
     let words = words_of(rt.alloc(), &["replay"])?;
     let script = three_pages(rt.alloc(), TOUCHED, "end\n")?;
-    let mut source = PieceSource::new(&script, 100, 2);
-    let mut sink = KeptSink::new(rt.alloc(), 100, 0);
+    let mut source = FaultSource::new(&script, 100, &[2]);
+    let mut sink = FaultSink::new(rt.alloc(), 1000, 100, &[])?;
     let answer = replay_main(rt.alloc(), &words, &mut source, &mut sink);
     assert_eq!(rt; answer, Status::ReadFault);
-    assert_eq!(rt; (source.calls, sink.calls), (2, 0));
+    assert_eq!(rt; (source.calls(), sink.calls()), (2, 0));
     Ok(())
 }
 
@@ -293,10 +294,10 @@ fn a_read_of_the_script_fails(rt: HostRuntime) -> Result<(), Fail> {
 fn a_write_of_the_report_fails(rt: HostRuntime) -> Result<(), Fail> {
     let words = words_of(rt.alloc(), &["replay"])?;
     let script = three_pages(rt.alloc(), TOUCHED, "end\n")?;
-    let mut sink = KeptSink::new(rt.alloc(), 10, 3);
+    let mut sink = FaultSink::new(rt.alloc(), 1000, 10, &[3])?;
     let answer = replay_main(rt.alloc(), &words, &mut MemSource::new(&script), &mut sink);
     assert_eq!(rt; answer, Status::WriteFault);
-    assert_eq!(rt; sink.taken.as_slice(), b"show tick=1 phase=id".as_slice());
+    assert_eq!(rt; sink.bytes(), b"show tick=1 phase=id".as_slice());
     Ok(())
 }
 

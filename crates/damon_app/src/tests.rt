@@ -1,21 +1,52 @@
 // Reading and writing in pieces.
-use crate::fakes::{KeptSink, MadeSource, made_byte};
-use crate::{INPUT_LIMIT, InputFault, PIECE, flush_if_full, read_all, write_all};
-use damon_types::Failed;
+ghost use Rattle.std.specs.Prelude.{◌≤◌};
+
+use crate::fakes::KeptSink;
+use crate::{INPUT_LIMIT, InputFault, flush_if_full, read_all, write_all};
+use damon_types::{Failed, FaultSink, FaultSource};
 use std::alloc::{AllocError, Global};
 use std::process::Abort;
 use std::test::Fail;
 
-// Reads all of a source, and sees that each byte is in its place.
-fn read_made(
-    rt: &(impl Abort + AllocGlobal),
-    source: &mut MadeSource,
-) -> Result<usize, InputFault> {
-    let bytes = read_all(rt.alloc(), source)?;
-    for (place, byte) in bytes.iter().enumerate() {
-        assert_eq!(rt; *byte, made_byte(place));
+// So many bytes, where each one tells its place.
+fn placed_bytes(alloc: Global, count: u32) -> Result<Vec<u8>, AllocError> {
+    let mut bytes = Vec::new(alloc);
+    for place in 0..count {
+        bytes.push((place % 251) as u8)?;
     }
+    Ok(bytes)
+}
+
+// Reads all of a source, and tells how many bytes there were.
+fn count_read(alloc: Global, source: &mut FaultSource) -> Result<usize, InputFault> {
+    let bytes = read_all(alloc, source)?;
     Ok(bytes.len())
+}
+
+// Sees that these bytes are read whole where they come in such pieces.
+fn expect_read(rt: &(impl Abort + AllocGlobal), bytes: &[u8], piece: u32)
+    requires { 1 ≤ piece }
+{
+    match read_all(rt.alloc(), &mut FaultSource::new(bytes, piece, &[])) {
+        Ok(read) => assert_eq!(rt; read.as_slice(), bytes),
+        Err(fault) => panic!(rt; "{fault:?}"),
+    }
+}
+
+// Sees that so many bytes are too many, and that so many of them are not read.
+fn expect_too_long(
+    rt: &(impl Abort + AllocGlobal),
+    total: usize,
+    left: usize,
+) -> Result<(), AllocError> {
+    let input = vec![in rt.alloc(); b'x'; total]?;
+    let mut source = FaultSource::new(&input, 1_000_000, &[]);
+    assert_eq!(rt;
+        count_read(rt.alloc(), &mut source),
+        Err(InputFault::TooLong)
+    );
+    assert_eq!(rt; count_read(rt.alloc(), &mut source), Ok(left));
+    Ok(())
 }
 
 // Lines of 100 bytes.
@@ -29,48 +60,52 @@ fn lines(alloc: Global, count: u32) -> Result<Vec<u8>, AllocError> {
 }
 
 #[test]
-fn an_input_comes_in_pieces(rt: HostRuntime) {
-    for piece in [1, 100, 1_000_000] {
-        let mut source = MadeSource::new(150_001, piece, 0);
-        assert_eq!(rt; read_made(&rt, &mut source), Ok(150_001));
-    }
-    let mut nothing = MadeSource::new(0, 1, 0);
-    assert_eq!(rt; read_made(&rt, &mut nothing), Ok(0));
-    assert_eq!(rt; nothing.calls, 1);
+fn an_input_comes_in_pieces(rt: HostRuntime) -> Result<(), Fail> {
+    let input = placed_bytes(rt.alloc(), 150_001)?;
+    expect_read(&rt, &input, 1);
+    expect_read(&rt, &input, 100);
+    expect_read(&rt, &input, 1_000_000);
+
+    let mut nothing = FaultSource::new(b"", 1, &[]);
+    assert_eq!(rt; count_read(rt.alloc(), &mut nothing), Ok(0));
+    assert_eq!(rt; nothing.calls(), 1);
+    Ok(())
 }
 
 #[test]
-fn a_read_fails(rt: HostRuntime) {
-    let mut source = MadeSource::new(300, 100, 2);
-    assert_eq!(rt; read_made(&rt, &mut source), Err(InputFault::Fault));
-    assert_eq!(rt; source.calls, 2);
+fn a_read_fails(rt: HostRuntime) -> Result<(), Fail> {
+    let input = placed_bytes(rt.alloc(), 300)?;
+    let mut source = FaultSource::new(&input, 100, &[2]);
+    assert_eq!(rt; count_read(rt.alloc(), &mut source), Err(InputFault::Fault));
+    assert_eq!(rt; source.calls(), 2);
+    Ok(())
 }
 
 #[test]
-fn an_input_is_too_long_by_a_byte(rt: HostRuntime) {
-    let mut longest = MadeSource::new(16_777_216, 1_000_000, 0);
-    assert_eq!(rt; read_made(&rt, &mut longest), Ok(INPUT_LIMIT));
-    for total in [16_777_217, 20_000_000] {
-        let mut source = MadeSource::new(total, 1_000_000, 0);
-        assert_eq!(rt; read_made(&rt, &mut source), Err(InputFault::TooLong));
-        assert_eq!(rt; source.given, 16_777_217);
-    }
+fn an_input_is_too_long_by_a_byte(rt: HostRuntime) -> Result<(), Fail> {
+    let input = vec![in rt.alloc(); b'x'; INPUT_LIMIT]?;
+    let mut longest = FaultSource::new(&input, 1_000_000, &[]);
+    assert_eq!(rt; count_read(rt.alloc(), &mut longest), Ok(16_777_216));
+
+    expect_too_long(&rt, 16_777_217, 0)?;
+    expect_too_long(&rt, 20_000_000, 3_222_783)?;
+    Ok(())
 }
 
 #[test]
 fn a_write_fails(rt: HostRuntime) -> Result<(), Fail> {
     let text = b"0123456789abcdefghijABCDEFGHIJ";
-    let mut sink = KeptSink::new(rt.alloc(), 10, 3);
+    let mut sink = FaultSink::new(rt.alloc(), 100, 10, &[3])?;
     assert_eq!(rt; write_all(&mut sink, text), Err(Failed));
-    assert_eq!(rt; sink.taken.as_slice(), b"0123456789abcdefghij".as_slice());
-    assert_eq!(rt; sink.calls, 3);
+    assert_eq!(rt; sink.bytes(), b"0123456789abcdefghij".as_slice());
+    assert_eq!(rt; sink.calls(), 3);
     Ok(())
 }
 
 #[test]
 fn pieces_end_at_line_ends(rt: HostRuntime) -> Result<(), Fail> {
     let text = lines(rt.alloc(), 2000)?;
-    let mut whole = KeptSink::new(rt.alloc(), 1_000_000, 0);
+    let mut whole = KeptSink::new(rt.alloc(), 1_000_000);
     assert_eq!(rt; write_all(&mut whole, &text), Ok(()));
     assert_eq!(rt; whole.taken.as_slice(), text.as_slice());
     assert_eq!(rt;
@@ -78,7 +113,7 @@ fn pieces_end_at_line_ends(rt: HostRuntime) -> Result<(), Fail> {
         [65_500, 65_500, 65_500, 3_500].as_slice()
     );
 
-    let mut short = KeptSink::new(rt.alloc(), 60_000, 0);
+    let mut short = KeptSink::new(rt.alloc(), 60_000);
     assert_eq!(rt; write_all(&mut short, &text), Ok(()));
     assert_eq!(rt; short.taken.as_slice(), text.as_slice());
     let handed = [65_500, 5_500, 65_500, 5_500, 65_500, 5_500, 3_500];
@@ -89,12 +124,12 @@ fn pieces_end_at_line_ends(rt: HostRuntime) -> Result<(), Fail> {
 #[test]
 fn a_text_waits_until_it_is_full(rt: HostRuntime) -> Result<(), Fail> {
     let mut text = lines(rt.alloc(), 655)?;
-    let mut sink = KeptSink::new(rt.alloc(), PIECE, 0);
+    let mut sink = FaultSink::new(rt.alloc(), 100_000, 65_536, &[])?;
     assert_eq!(rt; flush_if_full(&mut sink, &mut text), Ok(()));
-    assert_eq!(rt; (text.len(), sink.calls), (65_500, 0));
+    assert_eq!(rt; (text.len(), sink.calls()), (65_500, 0));
 
     text.extend_from_slice(&[b'b'; 36])?;
     assert_eq!(rt; flush_if_full(&mut sink, &mut text), Ok(()));
-    assert_eq!(rt; (text.len(), sink.taken.len()), (0, 65_536));
+    assert_eq!(rt; (text.len(), sink.bytes().len()), (0, 65_536));
     Ok(())
 }
