@@ -1,6 +1,6 @@
 -- What the answer of a replay says, failure by failure.
-use Rattle.std.proofs.Common.{◌≡◌, ◌⊎◌, inl, inr, ℕ, ◌≤◌, true, false, List, ◌++◌, length, Option, Some, None, Ok, Err, refl, sym, ap, ◌∙◌, subst, append-nil}
-use Rattle.std.specs.Prelude.{◌↔◌, IsSome, IfSome}
+use Rattle.std.proofs.Common.{◌≡◌, ◌⊎◌, inl, inr, ℕ, ◌≤◌, true, false, List, ◌++◌, length, Option, Some, None, Result, Ok, Err, refl, sym, ap, ◌∙◌, subst, append-nil}
+use Rattle.std.specs.Prelude.{IsSome, IfSome}
 use Rattle.std.specs.Io.KnownBytes.{Consumes, IsAtEnd}
 use Rattle.damon_types.specs.Causes.{Rose}
 use Rattle.damon_control.specs.Script.{ScriptValue, script_of}
@@ -8,7 +8,6 @@ use Rattle.damon_control.specs.declared.fault.ReadFail.{ReadFail}
 use Rattle.damon_control.specs.declared.fault.ReadFail.TheVariants as reads
 use Rattle.damon_control.specs.declared.fault.ScriptFault.{ScriptFault}
 use Rattle.damon_control.specs.declared.fault.ScriptKind.{ScriptKind}
-use Rattle.damon_control.specs.Left.{FaultOf}
 use Rattle.script_run.specs.Unfold.{has_later_parts}
 use Rattle.damon_app.specs.declared.input.InputFault.{InputFault}
 use Rattle.damon_app.specs.declared.input.InputFault.TheVariants as inputs
@@ -18,8 +17,10 @@ use Rattle.damon_app.specs.Given.{GaveOver, GaveUpTo}
 use Rattle.damon_app.specs.Taken.{WritesPart}
 use Rattle.damon_app.specs.Causes.{input_status, read_status}
 use Rattle.damon_app.specs.Replay.{EndsRun, Replays, SpellsLater, StopsBefore, WritesFront, report_of}
+use Rattle.damon_app.specs.Deserved.{IsFailure, answer_to, answer_to_spelled}
 use Rattle.damon_app.specs.Answers.{Ends, IsAnswer, TellsFault, TellsLater}
 use Rattle.damon_app.proofs.Known.{GaveUpTo-not_over}
+use Rattle.damon_app.proofs.Deserving.{answer_to-long, answer_to-short, answer_to_script-built, answer_to_script-not_built, had_over}
 
 -- what holds of no bytes in particular
 untold : (P : List ℕ → Type 0) (told : Option (List ℕ)) → ((bytes : List ℕ) → P bytes) → IfSome told P
@@ -41,11 +42,20 @@ alone : (a : Option (List ℕ)) (old new : Option (List ℕ)) (same : Type 0) �
 alone a old new same is = untold (λ bytes. same ⊎ WritesFront bytes old new) a (λ bytes. inl is)
 
 module _ (limit : ℕ) (source source' sink sink' : Ends) (same : Type 0) where
+  -- the answer is the one that the bytes deserve, or a failure
+  abbrev Deserves : Status → List ℕ → Type 0
+  Deserves answer bytes = (answer ≡ answer_to limit bytes) ⊎ IsFailure answer (Rose source.faults source'.faults) (Rose sink.faults sink'.faults)
+
+  -- a failure is an answer to any bytes
+  failed : (answer : Status) → IsFailure answer (Rose source.faults source'.faults) (Rose sink.faults sink'.faults) → IfSome source.bytes (Deserves answer)
+  failed answer is = untold (Deserves answer) source.bytes (λ bytes. inr is)
+
   -- there was no memory, and what the sink took is this
   no_memory : IfSome source.bytes (λ bytes. same ⊎ WritesFront bytes sink.bytes sink'.bytes) → IsAnswer limit source source' sink sink' same statuses.Memory
   no_memory part = record {
     ok = λ e. absurd (cc e);
     end = λ no. absurd no;
+    complete = failed statuses.Memory tt;
     too_long = λ not known. absurd (not refl);
     script = λ no. absurd no;
     not_yet = λ e. absurd (cc e);
@@ -67,6 +77,7 @@ module _ (limit : ℕ) (source source' sink sink' : Ends) (same : Type 0) where
   not_read inputs.Fault is over within cause = record {
     ok = λ e. absurd (cc e);
     end = λ no. absurd no;
+    complete = failed statuses.ReadFault (cause refl);
     too_long = λ not known. ((λ e. absurd (cc e)), (λ gave. absurd (GaveUpTo-not_over limit source.bytes source'.bytes known (within refl) gave)));
     script = λ no. absurd no;
     not_yet = λ e. absurd (cc e);
@@ -80,6 +91,7 @@ module _ (limit : ℕ) (source source' sink sink' : Ends) (same : Type 0) where
   not_read inputs.TooLong is over within cause = record {
     ok = λ e. absurd (cc e);
     end = λ no. absurd no;
+    complete = had_over limit source.bytes source'.bytes (Deserves statuses.TooLong) (over refl) (λ bytes long. inl (sym (answer_to-long limit bytes long)));
     too_long = λ not known. ((λ e. over refl), (λ gave. refl));
     script = λ no. absurd no;
     not_yet = λ e. absurd (cc e);
@@ -99,11 +111,16 @@ module _ (limit : ℕ) (source source' sink sink' : Ends) (same : Type 0) where
     of_bytes : (P : List ℕ → Type 0) → P bytes → IfSome source.bytes P
     of_bytes P holds = read_whole P source.bytes source'.bytes bytes all end holds
 
+    -- the answer is that to what the text spells
+    deserved : (spelled : Result ScriptValue ScriptFault) (answer : Status) → script_of bytes ≡ spelled → answer_to_spelled spelled ≡ answer → IfSome source.bytes (Deserves answer)
+    deserved spelled answer spells is = of_bytes (Deserves answer) (inl (sym (answer_to-short limit bytes spelled few spells ∙ is)))
+
     -- the text has this fault
     faulty : (fault : ScriptFault) → same → script_of bytes ≡ Err fault → IsAnswer limit source source' sink sink' same (statuses.Script fault.line fault.kind)
     faulty fault is spells = record {
       ok = λ e. absurd (cc e);
       end = λ yes. end;
+      complete = deserved (Err fault) (statuses.Script fault.line fault.kind) spells refl;
       too_long = λ not known. ((λ e. absurd (cc e)), (λ gave. absurd (not_over known gave)));
       script = λ yes. of_bytes (TellsFault (statuses.Script fault.line fault.kind)) (λ other. (
         (λ e. spells ∙ ap (λ f. Err f) (same_fault fault other (cc e) (cc e))),
@@ -138,6 +155,7 @@ module _ (limit : ℕ) (source source' sink sink' : Ends) (same : Type 0) where
       not_built is has = record {
         ok = λ e. absurd (cc e);
         end = λ yes. end;
+        complete = deserved (Ok s) statuses.NotYet spells (answer_to_script-not_built s same sink.bytes sink'.bytes (inl (has, is)));
         too_long = λ not known. ((λ e. absurd (cc e)), (λ gave. absurd (not_over known gave)));
         script = λ yes. of_bytes (TellsFault statuses.NotYet) (no_fault statuses.NotYet (λ fault e. cc e));
         not_yet = λ e. of_bytes (λ bs. SpellsLater bs same sink.bytes sink'.bytes) (s, spells, inl (has, is));
@@ -162,6 +180,7 @@ module _ (limit : ℕ) (source source' sink sink' : Ends) (same : Type 0) where
       not_run statuses.NotYet built ends stops cause part = record {
         ok = λ e. absurd (cc e);
         end = λ yes. end;
+        complete = deserved (Ok s) statuses.NotYet spells (answer_to_script-not_built s same sink.bytes sink'.bytes (inr (stops refl)));
         too_long = λ not known. ((λ e. absurd (cc e)), (λ gave. absurd (not_over known gave)));
         script = λ yes. of_bytes (TellsFault statuses.NotYet) (no_fault statuses.NotYet (λ fault e. cc e));
         not_yet = λ e. of_bytes (λ bs. SpellsLater bs same sink.bytes sink'.bytes) (s, spells, inr (stops refl));
@@ -175,6 +194,7 @@ module _ (limit : ℕ) (source source' sink sink' : Ends) (same : Type 0) where
       not_run statuses.WriteFault built ends stops cause part = record {
         ok = λ e. absurd (cc e);
         end = λ yes. end;
+        complete = failed statuses.WriteFault (cause refl);
         too_long = λ not known. ((λ e. absurd (cc e)), (λ gave. absurd (not_over known gave)));
         script = λ yes. of_bytes (TellsFault statuses.WriteFault) (no_fault statuses.WriteFault (λ fault e. cc e));
         not_yet = λ e. absurd (cc e);
@@ -197,6 +217,7 @@ module _ (limit : ℕ) (source source' sink sink' : Ends) (same : Type 0) where
       replayed built replays part = record {
         ok = λ e. of_bytes (λ bs. Replays bs sink.bytes sink'.bytes) replays;
         end = λ yes. end;
+        complete = deserved (Ok replays.script) statuses.Ok replays.spells (answer_to_script-built replays.script replays.built replays.whole);
         too_long = λ not known. ((λ e. absurd (cc e)), (λ gave. absurd (not_over known gave)));
         script = λ yes. of_bytes (TellsFault statuses.Ok) (no_fault statuses.Ok (λ fault e. cc e));
         not_yet = λ e. absurd (cc e);

@@ -1,5 +1,5 @@
 -- A report that is handed over piece by piece.
-use Rattle.std.proofs.Common.{ℕ, List, ◌++◌, Option, subst}
+use Rattle.std.proofs.Common.{ℕ, List, Option, subst}
 use Rattle.rand_core.specs.Stream.{Stream}
 use Rattle.damon_core.specs.State.{opening}
 use Rattle.damon_core.specs.Reached.{run}

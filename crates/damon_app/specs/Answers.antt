@@ -8,6 +8,7 @@ use Rattle.script_run.specs.Unfold.{has_later_parts}
 use Rattle.damon_app.specs.declared.status.Status.{Status}
 use Rattle.damon_app.specs.declared.status.Status.TheVariants as statuses
 use Rattle.damon_app.specs.Given.{GaveOver}
+use Rattle.damon_app.specs.Deserved.{IsFailure, answer_to}
 use Rattle.damon_app.specs.Replay.{IsRead, IsUnwritten, Replays, SpellsLater, WritesFront}
 
 -- the answer that a result becomes
@@ -32,6 +33,7 @@ pub record Ends : Type 0 where
 pub record IsAnswer (limit : ℕ) (source source' sink sink' : Ends) (same : Type 0) (answer : Status) : Type 0 where
   pub ok : answer ≡ statuses.Ok → IfSome source.bytes (λ bytes. Replays bytes sink.bytes sink'.bytes)
   pub end : IsRead answer → IsAtEnd source'.bytes
+  pub complete : IfSome source.bytes (λ bytes. (answer ≡ answer_to limit bytes) ⊎ IsFailure answer (Rose source.faults source'.faults) (Rose sink.faults sink'.faults))
   pub too_long : answer ≢ statuses.Memory → IsSome source.bytes → (answer ≡ statuses.TooLong) ↔ GaveOver limit source.bytes source'.bytes
   pub script : IsRead answer → IfSome source.bytes (TellsFault answer)
   pub not_yet : answer ≡ statuses.NotYet → IfSome source.bytes (λ bytes. SpellsLater bytes same sink.bytes sink'.bytes)

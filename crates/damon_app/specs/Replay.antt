@@ -1,10 +1,10 @@
 -- What the program makes of its input.
-use Rattle.std.specs.Prelude.{◌≡◌, ◌⊎◌, ℕ, true, false, List, [], ◌∷◌, ◌++◌, Option, Ok, Err, map, codes, string_bytes, String}
+use Rattle.std.specs.Prelude.{◌≡◌, ◌⊎◌, ℕ, true, false, List, [], ◌∷◌, ◌++◌, Option, Ok, map, codes, string_bytes, String}
 use Rattle.std.specs.declared.alloc.Global.{Global}
 use Rattle.std.specs.Io.KnownBytes.{Appends}
 use Rattle.damon_core.specs.State.{opening}
 use Rattle.damon_core.specs.Event.{Event}
-use Rattle.damon_core.specs.Reached.{AllFit, CanOpen, run}
+use Rattle.damon_core.specs.Reached.{AllFit, run}
 use Rattle.damon_core.specs.Bound.{Bound}
 use Rattle.damon_control.specs.Script.{ScriptValue, script_of}
 use Rattle.snapshot_print.specs.declared.form.Form.TheVariants.{Text}

@@ -11,6 +11,7 @@ ghost use Rattle.live_commit.specs.SetupView.{value_of};
 ghost use Rattle.script_run.specs.Unfold.{comes_to_aggregation, is_commit, unfold_script};
 ghost use Rattle.damon_app.specs.Given.{GaveOver};
 ghost use Rattle.damon_app.specs.Taken.{WritesPart};
+ghost use Rattle.damon_app.specs.Deserved.{IsFailure, answer_to};
 ghost use Rattle.damon_app.specs.Answers.{IsAnswer, TellsFault, TellsLater, status_of};
 ghost use Rattle.damon_app.specs.Replay.{AsksReplay, EndsRun, IsBoundAlong, IsRead, IsUnwritten, Replays, SpellsLater, StopsBefore, WritesFront, report_of};
 
@@ -32,6 +33,10 @@ pub fn replay_main<S: Source, K: Sink>(
     // What was read is a script, each state of its run is bound, and what was written is its report.
     ensures ok { result ≡ Status.Ok → IfSome (S.left source.old) (λ bytes. Replays bytes (K.taken sink.old) (K.taken sink.new)) }
     ensures end { IsRead result → IsAtEnd (S.left source.new) }
+
+    // The answer is the one that the bytes deserve, or a failure.
+    ensures complete { AsksReplay words.now → IfSome (S.left source.old) (λ bytes. (result ≡ answer_to INPUT_LIMIT bytes)
+        ⊎ IsFailure result (Rose (S.faults source.old) (S.faults source.new)) (Rose (K.faults sink.old) (K.faults sink.new))) }
 
     // When each other answer comes; want of memory may come at any time.
     ensures usage { (result ≡ Status.Usage) ↔ (AsksReplay words.now → ⊥) }
