@@ -5,12 +5,14 @@ use Rattle.std.proofs.lemmas.Bool.Decides.{nat_tests}
 use Rattle.live_commit.specs.declared.phase.Phase.{Phase}
 use Rattle.live_commit.specs.declared.phase.Phase.TheVariants.{Idle, Clearing, Armed, Checking, Void, Due}
 use Rattle.damon_core.specs.State.{State, Core, opening, row_count}
-use Rattle.damon_core.specs.Event.{Event, IsClearing, IsLoading, clear_index, load_index}
+use Rattle.damon_core.specs.Event.{Event, IsClearing, IsLoading, clear, clear_index, load_index}
+use Rattle.damon_core.specs.Several.{clears}
 use Rattle.damon_core.specs.After.{after}
 use Rattle.damon_core.specs.Reached.{run, AllFit, Reached}
 use Rattle.damon_core.specs.Stands.{MonitorView, Stands, AreEvents, IsEvent}
 use Rattle.damon_core.specs.Shown.{phase_by_clear, phase_by_clears, after_clear, after_clears, after_loads}
-use Rattle.damon_core.specs.Kept.{IsInPass}
+use Rattle.damon_core.specs.Kept.{IsInPass, IsWithin}
+use Rattle.damon_core.proofs.Standing.{clear_stands}
 
 run-append : (s : State) (es fs : List Event) → run s (es ++ fs) ≡ run (run s es) fs
 run-append s [] fs = refl
@@ -109,3 +111,22 @@ loading_in_pass (Clearing k) rows loading = absurd loading
 loading_in_pass Idle rows loading = absurd loading
 loading_in_pass Void rows loading = absurd loading
 loading_in_pass Due rows loading = absurd loading
+
+-- so many clears
+pub clears_are_events : (m : MonitorView) (n : ℕ) → IsClearing m.core.phase → clear_index m.core.phase < row_count m.core → clear_index m.core.phase + n ≤ row_count m.core → AreEvents m (after_clears n m) (clears n)
+clears_are_events m zero clearing some within = subst (λ x. AreEvents m x []) (sym (no_clear m clearing some)) (no_events m)
+clears_are_events m (suc n) clearing some within =
+    let now = after_clears n m in
+    let next : n + 1 ≡ suc n = omega arith in
+    let still : IsClearing now.core.phase = still_clearing m n clearing (omega arith) in
+    let one : IsEvent now (after_clear now) clear = λ s reached stands. (subst (λ (c : Core). IsClearing c.phase) stands.same still, clear_stands now s stands still) in
+    more_events m now (after_clears (suc n) m) (clears n) clear (clears_are_events m n clearing some (omega arith)) (subst (λ x. IsEvent now x clear) (one_clear_more m n clearing (omega arith) ∙ ap (λ k. after_clears k m) next) one)
+
+-- the next pick is one of the rows
+pub next_below : (ph : Phase) (rows : ℕ) → IsClearing ph → IsWithin ph rows → clear_index ph < rows
+next_below (Clearing k) rows clearing within = within
+next_below Idle rows clearing within = absurd clearing
+next_below Armed rows clearing within = absurd clearing
+next_below (Checking k) rows clearing within = absurd clearing
+next_below Void rows clearing within = absurd clearing
+next_below Due rows clearing within = absurd clearing

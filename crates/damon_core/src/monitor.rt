@@ -1,5 +1,5 @@
 ghost use Rattle.std.specs.List.{AllByRecursion};
-ghost use Rattle.std.specs.Prelude.{◌≡◌, ◌+◌, ◌^◌, ◌≤◌, ◌<◌, ℕ, true, length, slice_get, slice_index, IfOk};
+ghost use Rattle.std.specs.Prelude.{◌≡◌, ◌+◌, ◌^◌, ◌≤◌, ◌<◌, ◌==◌, if◌then◌else◌, ℕ, true, length, slice_get, slice_index, IfOk};
 ghost use Rattle.damon_types.specs.Space.{pages_of};
 ghost use Rattle.damon_types.specs.Span.{spans};
 ghost use Rattle.region_list.specs.Tiling.{Tiling};
@@ -8,7 +8,7 @@ ghost use Rattle.damon_core.specs.Note.{is_cleared};
 ghost use Rattle.damon_core.specs.State.{State, opening, opening_core, opening_rows, row_count};
 ghost use Rattle.damon_core.specs.Event.{IsClearing, IsLoading, IsObserving, clear_index, load_index, prepare as prepare_event, clear as clear_event, load as load_event, observe as observe_event};
 ghost use Rattle.damon_core.specs.Several.{clears, loads};
-ghost use Rattle.damon_core.specs.After.{phase_after_clear, phase_after_pass};
+ghost use Rattle.damon_core.specs.After.{phase_after_pass};
 ghost use Rattle.damon_core.specs.Reached.{Reached};
 ghost use Rattle.damon_core.specs.Stands.{Stands, AreEvents, IsEvent};
 ghost use Rattle.damon_core.specs.Shown.{after_prepare, after_clear, after_clears, after_load, after_loads, after_observe, ended};
@@ -180,7 +180,7 @@ impl Monitor {
         ensures event { IsEvent self.old self.new clear_event }
     {
         if let Phase::Clearing { next } = self.phase {
-            self.phase = phase_after(next, self.regions.len());
+            self.phase = phase_after(next + 1, self.regions.len());
         }
     }
 
@@ -192,10 +192,8 @@ impl Monitor {
         ensures shown { self.new ≡ after_clears count self.old }
         ensures events { AreEvents self.old self.new (clears count) }
     {
-        // For its clauses alone: the next pick is one of the rows.
-        let _phase = self.phase();
-        for _ in 0..count {
-            self.cleared();
+        if let Phase::Clearing { next } = self.phase {
+            self.phase = phase_after(next + count, self.regions.len());
         }
     }
 
@@ -296,15 +294,14 @@ fn first_rows(alloc: Global, setup: &Setup) -> Result<RowBuf, AllocError>
     Ok(rows)
 }
 
-// The phase after a clear.
-fn phase_after(next: u32, rows: u32) -> Phase
-    requires { next < rows }
-    ensures { result ≡ phase_after_clear next rows }
+// The phase where so many picks are cleared.
+fn phase_after(cleared: u32, rows: u32) -> Phase
+    ensures { result ≡ (if cleared == rows then Phase.Armed else Phase.Clearing cleared) }
 {
-    if next + 1 == rows {
+    if cleared == rows {
         Phase::Armed
     } else {
-        Phase::Clearing { next: next + 1 }
+        Phase::Clearing { next: cleared }
     }
 }
 

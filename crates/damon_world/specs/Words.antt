@@ -1,22 +1,24 @@
 -- The words of pages.
-use Rattle.std.specs.Prelude.{◌≡◌, ℕ, zero, suc, ◌+◌, ◌*◌, ◌/◌, ◌%◌, ◌^◌, ◌≤◌, Bool, ◌==◌, List, [], ◌∷◌, length, slice_index, slice_set, cond}
+use Rattle.std.specs.Prelude.{◌≡◌, ℕ, zero, suc, ◌+◌, ◌*◌, ◌/◌, ◌%◌, ◌^◌, ◌≤◌, Bool, ◌==◌, List, [], ◌∷◌, drop, slice_index, slice_set, if◌then◌else◌, cond}
 
 -- the word of a page: twice the pass that cleared it last, given by its lowest 16 bits and those above, and
 -- whether the page was touched since
 abbrev pub word : ℕ → ℕ → Bool → ℕ
 word low high touched = 2 * (2 ^ 16 * high + low) + cond touched 1 0
 
--- the words of pages by their parts; where there are no higher bits they are 0
+-- the words of pages by their marks and the parts of their passes; parts that are not there are 0
 abbrev pub words_of : List ℕ → List ℕ → List Bool → List ℕ
-words_of [] highs touched = []
-words_of (l ∷ lows) highs [] = []
-words_of (l ∷ lows) [] (t ∷ touched) = word l 0 t ∷ words_of lows [] touched
-words_of (l ∷ lows) (h ∷ highs) (t ∷ touched) = word l h t ∷ words_of lows highs touched
+words_of lows highs [] = []
+words_of lows highs (t ∷ touched) = word (slice_index lows 0) (slice_index highs 0) t ∷ words_of (drop 1 lows) (drop 1 highs) touched
 
--- each page has its lowest bits and its mark, and there is room for higher bits
-pub record IsPlainWords (lows : List ℕ) (touched : List Bool) (room : ℕ) : Type 0 where
-  pub same : length touched ≡ length lows
-  pub reserved : length lows ≤ room
+-- there is room for the parts of each page's pass
+pub record IsPlainWords (pages low_room high_room : ℕ) : Type 0 where
+  pub lows : pages ≤ low_room
+  pub highs : pages ≤ high_room
+
+-- a list with another number at one place, 0 standing where there is none
+abbrev pub Puts : List ℕ → List ℕ → ℕ → ℕ → Type 0
+Puts old new place number = (q : ℕ) → slice_index new q ≡ (if q == place then number else slice_index old q)
 
 -- the word after a touch
 abbrev pub touched_word : ℕ → ℕ

@@ -1,5 +1,5 @@
-ghost use Rattle.std.specs.Prelude.{◌≡◌, ◌+◌, ◌-◌, ◌*◌, ◌/◌, ◌^◌, ◌≤◌, ◌<◌, ◌++◌, ◌&&◌, ◌||◌, ℕ, Bool, List, false, nat_le, nat_lt, length, map, replicate, slice_index, slice_index_or, slice_set, if◌then◌else◌, IfOk, vec_capacity};
-ghost use Rattle.damon_world.specs.Words.{is_touched_word, touched_word, word, words_of};
+ghost use Rattle.std.specs.Prelude.{◌≡◌, ◌+◌, ◌-◌, ◌*◌, ◌/◌, ◌^◌, ◌≤◌, ◌<◌, ◌++◌, ◌&&◌, ◌||◌, ℕ, false, nat_le, nat_lt, length, map, replicate, slice_index, slice_index_or, slice_set, if◌then◌else◌, IfOk, vec_capacity};
+ghost use Rattle.damon_world.specs.Words.{Puts, is_touched_word, touched_word};
 
 use std::alloc::{AllocError, Global};
 use std::marker::Model;
@@ -10,27 +10,27 @@ const LOWS: u64 = 0x1_0000;
 /// The words of the pages of one thread. A page's word is `2 × c + t`, where c is the pass that
 /// cleared it last, 0 if none did, and t is 1 where it was touched since, or ever where none did.
 ///
-/// A million words of 64 bits are more than the processor's tables of pages reach, and each clear
-/// would wait for memory. So the parts of a word are kept apart, the higher bits of c only from the
-/// first pass on that has any.
+/// A million words of 64 bits are more than the processor's translation buffers reach, and each clear
+/// would wait for memory. So the parts of a word are kept apart, and those of c only from the first
+/// pass on that has any.
 #[derive(Drop)]
 pub struct PlainWords {
-    // The lowest 16 bits of each c.
+    // The lowest 16 bits of each c, in room that is taken once; none as long as no page was cleared.
     lows: Vec<u16>,
-    // The bits above them, in room that is taken once; none as long as all are 0.
+    // The bits above them, in the same way; none as long as all are 0.
     highs: Vec<u32>,
     touched: Vec<bool>,
 }
 
 impl Model for PlainWords {
-    ghost use Rattle.std.specs.Prelude.{ℕ, List, vec_capacity};
+    ghost use Rattle.std.specs.Prelude.{ℕ, List, length, vec_capacity};
     ghost use Rattle.damon_world.specs.Words.{IsPlainWords, words_of};
 
     ghost Value = { List ℕ };
 
     ghost view = { λ w. words_of w.lows.items w.highs.items w.touched.items };
 
-    ghost invariant = { λ w. IsPlainWords w.lows.items w.touched.items (vec_capacity w.highs) };
+    ghost invariant = { λ w. IsPlainWords (length w.touched.items) (vec_capacity w.lows) (vec_capacity w.highs) };
 }
 
 impl PlainWords {
@@ -40,7 +40,7 @@ impl PlainWords {
     pub fn new(alloc: Global, pages: u32) -> Result<PlainWords, AllocError>
         ensures { IfOk result (λ w. w ≡ replicate pages 0) }
     {
-        let lows = vec![in alloc; 0; pages as usize]?;
+        let lows = Vec::with_capacity(alloc, pages as usize)?;
         let highs = Vec::with_capacity(alloc, pages as usize)?;
         let touched = vec![in alloc; false; pages as usize]?;
         Ok(PlainWords {
@@ -57,7 +57,7 @@ impl PlainWords {
         ensures word { self.new ≡ slice_set self.old page (touched_word (slice_index self.old page)) }
     {
         self.touched[page as usize] = true;
-        LOWS * u64::from(number_at(&self.highs, page)) + u64::from(self.lows[page as usize])
+        LOWS * u64::from(high_at(&self.highs, page)) + u64::from(low_at(&self.lows, page))
     }
 
     /// Touches the pages from one to before another.
@@ -76,11 +76,10 @@ impl PlainWords {
         requires pass { pass < 2 ^ 48 }
         ensures { self.new ≡ slice_set self.old page (2 * pass) }
     {
-        let high = (pass / LOWS) as u32;
-        let pages = self.lows.len();
-        set_high(&mut self.highs, pages, page, high);
-        self.lows[page as usize] = (pass % LOWS) as u16;
-        self.touched[page as usize] = false;
+        let pages = self.touched.len();
+        put_low(&mut self.lows, pages, page, (pass % LOWS) as u16);
+        put_high(&mut self.highs, pages, page, (pass / LOWS) as u32);
+        unmark(&mut self.touched, page);
     }
 
     /// Whether each page was touched since it was cleared last, or ever where it was not.
@@ -103,38 +102,67 @@ fn mark(touched: &mut [bool], from: u32, to: u32)
     }
 }
 
-// The number at a place, 0 where there is none.
-fn number_at(numbers: &[u32], place: u32) -> u32
-    ensures { result ≡ slice_index numbers.now place }
+// Takes a page's mark away. Most pages have none, and to look is faster than to write.
+fn unmark(touched: &mut Vec<bool>, page: u32)
+    requires { page < length touched.old.items }
+    ensures { touched.new.items ≡ slice_set touched.old.items page false }
 {
-    match numbers.get(place as usize) {
-        Some(number) => *number,
+    if touched[page as usize] {
+        touched[page as usize] = false;
+    }
+}
+
+// The lowest bits of a page's pass, 0 where there are none.
+fn low_at(lows: &[u16], page: u32) -> u16
+    ensures { result ≡ slice_index lows.now page }
+{
+    match lows.get(page as usize) {
+        Some(low) => *low,
         None => 0,
     }
 }
 
-// Puts the number at a place. Where there is no place, the number is 0 or zeros are appended first.
-fn set_high(highs: &mut Vec<u32>, pages: usize, page: u32, high: u32)
+// The bits above them.
+fn high_at(highs: &[u32], page: u32) -> u32
+    ensures { result ≡ slice_index highs.now page }
+{
+    match highs.get(page as usize) {
+        Some(high) => *high,
+        None => 0,
+    }
+}
+
+// Puts the lowest bits of a page's pass, with zeros for pages that have none.
+fn put_low(lows: &mut Vec<u16>, pages: usize, page: u32, low: u16)
+    requires page { page < pages }
+    requires room { pages ≤ vec_capacity lows.old }
+    ensures puts { Puts lows.old.items lows.new.items page low }
+    ensures capacity { vec_capacity lows.new ≡ vec_capacity lows.old }
+{
+    fill_up(lows, pages, 0);
+    lows[page as usize] = low;
+}
+
+// Puts the bits above them, unless there are none and these are 0.
+fn put_high(highs: &mut Vec<u32>, pages: usize, page: u32, high: u32)
     requires page { page < pages }
     requires room { pages ≤ vec_capacity highs.old }
-    ensures word { (lows : List ℕ) (touched : List Bool) (low : ℕ) (t : Bool) → words_of (slice_set lows page low) highs.new.items (slice_set touched page t) ≡ slice_set (words_of lows highs.old.items touched) page (word low high t) }
+    ensures puts { Puts highs.old.items highs.new.items page high }
     ensures capacity { vec_capacity highs.new ≡ vec_capacity highs.old }
 {
-    if high > 0 {
-        fill_up(highs, pages);
-    }
-    if (page as usize) < highs.len() {
+    if high > 0 || !highs.is_empty() {
+        fill_up(highs, pages, 0);
         highs[page as usize] = high;
     }
 }
 
-// Appends zeros until there are at least so many numbers.
-fn fill_up(numbers: &mut Vec<u32>, count: usize)
-    requires { count ≤ vec_capacity numbers.old }
-    ensures items { numbers.new.items ≡ numbers.old.items ++ replicate (count - length numbers.old.items) 0 }
-    ensures capacity { vec_capacity numbers.new ≡ vec_capacity numbers.old }
+// Appends copies of an item until there are at least so many.
+fn fill_up<T: Copy + Drop>(items: &mut Vec<T>, count: usize, item: T)
+    requires { count ≤ vec_capacity items.old }
+    ensures items { items.new.items ≡ items.old.items ++ replicate (count - length items.old.items) item }
+    ensures capacity { vec_capacity items.new ≡ vec_capacity items.old }
 {
-    for _ in numbers.len()..count {
-        numbers.push_reserved(0);
+    for _ in items.len()..count {
+        items.push_reserved(item);
     }
 }

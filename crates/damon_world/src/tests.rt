@@ -45,6 +45,16 @@ fn step(rt: &impl Abort, world: &mut World<Lcg64Xsh32>) -> Stepped {
     }
 }
 
+// Makes the next steps of one kind, at most so many.
+fn advance(rt: &impl Abort, world: &mut World<Lcg64Xsh32>, most: u64) -> u64 {
+    assert_eq!(rt; world.monitor().ticks(), 0);
+    assert!(rt; most > 0);
+    match world.monitor().phase() {
+        Phase::Due => panic!(rt; "an aggregation is due"),
+        _ => world.advance(most),
+    }
+}
+
 // Touches a page of the three.
 fn touch(rt: &impl Abort, world: &mut World<Lcg64Xsh32>, page: u32) -> u64 {
     let rows = world.monitor().rows();
@@ -53,6 +63,15 @@ fn touch(rt: &impl Abort, world: &mut World<Lcg64Xsh32>, page: u32) -> u64 {
     assert_eq!(rt; row.start + row.pages, 3);
     assert!(rt; page < 3);
     world.touch(page)
+}
+
+// Touches the last two pages of the three.
+fn sweep(rt: &impl Abort, world: &mut World<Lcg64Xsh32>) {
+    let rows = world.monitor().rows();
+    assert_eq!(rt; rows.len(), 3);
+    let row = rows.row(2);
+    assert_eq!(rt; row.start + row.pages, 3);
+    world.sweep(1, 3);
 }
 
 // Clears each page.
@@ -101,5 +120,21 @@ fn a_touch_before_the_clear_is_no_hit(rt: HostRuntime) -> Result<(), Fail> {
     clear(&rt, &mut world);
     check(&rt, &mut world, [false, false, false]);
     assert_eq!(rt; counts(&rt, &world), [0, 0, 0]);
+    Ok(())
+}
+
+#[test]
+fn steps_of_one_kind_are_made_at_once(rt: HostRuntime) -> Result<(), Fail> {
+    let mut world = new_world(rt.alloc())?;
+    for (most, made) in [(9, 1), (2, 2), (9, 1)] {
+        assert_eq!(rt; advance(&rt, &mut world, most), made);
+    }
+    assert!(rt; world.monitor().phase() == Phase::Armed);
+    sweep(&rt, &mut world);
+    for (most, made) in [(2, 2), (9, 1), (9, 1)] {
+        assert_eq!(rt; advance(&rt, &mut world, most), made);
+    }
+    assert_eq!(rt; counts(&rt, &world), [0, 1, 1]);
+    assert_eq!(rt; (world.monitor().ticks(), world.monitor().hits()), (1, 2));
     Ok(())
 }

@@ -108,8 +108,10 @@ fn clear_bits(bits: &mut Vec<bool>, count: u32)
     ensures bits { bits.new.items ≡ replicate count false }
     ensures capacity { vec_capacity bits.new ≡ vec_capacity bits.old }
 {
-    bits.clear();
-    for _ in 0..count {
+    // Mostly there are as many bits already, and to fill them is fastest.
+    bits.truncate(count as usize);
+    bits.fill(false);
+    for _ in bits.len()..count as usize {
         bits.push_reserved(false);
     }
 }

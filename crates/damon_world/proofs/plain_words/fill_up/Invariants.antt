@@ -3,8 +3,8 @@ use Rattle.std.specs.Prelude.{replicate}
 use Rattle.damon_world.proofs.plain_words.fill_up.Given as goal
 
 abbrev pub invariant-loop : goal.invariant-loop
-invariant-loop l = record {
-  items : l.numbers.items ++ replicate (l.count - l.counter) 0 ≡ l.fn.numbers.items ++ replicate (l.count - length l.fn.numbers.items) 0;
-  capacity : vec_capacity l.numbers ≡ vec_capacity l.fn.numbers;
-  len : length l.numbers.items ≡ l.counter;
+invariant-loop g l = record {
+  items : l.items.items ++ replicate (l.count - l.counter) l.item ≡ l.fn.items.items ++ replicate (l.count - length l.fn.items.items) l.item;
+  capacity : vec_capacity l.items ≡ vec_capacity l.fn.items;
+  len : length l.items.items ≡ l.counter;
 }

@@ -1,43 +1,36 @@
-use Rattle.std.proofs.Common.{◌≡◌, ℕ, suc, ◌+◌, ◌<◌, ◌++◌, ◌∷◌, [], refl, sym, ap, ◌∙◌, subst, arith}
+use Rattle.std.proofs.Common.{◌≡◌, ◌+◌, length, refl, sym, ap, ◌∙◌, subst}
+use Rattle.std.specs.Prelude.{◌==◌, if◌then◌else◌}
 use Rattle.live_commit.specs.declared.phase.Phase.{Phase}
-use Rattle.live_commit.specs.declared.phase.Phase.TheVariants.{Idle, Clearing, Armed, Checking, Void, Due}
-use Rattle.damon_core.specs.Event.{IsClearing, clear_index, clear}
-use Rattle.damon_core.specs.Kept.{IsWithin}
+use Rattle.live_commit.specs.declared.phase.Phase.TheVariants.{Clearing, Armed}
+use Rattle.damon_core.specs.State.{row_count}
 use Rattle.damon_core.specs.Several.{clears}
-use Rattle.damon_core.specs.Shown.{after_clear}
-use Rattle.damon_core.specs.Stands.{AreEvents, IsEvent, MonitorView}
-use Rattle.damon_core.proofs.Running.{more_events, no_clear, no_events, one_clear_more, still_clearing}
+use Rattle.damon_core.specs.Kept.{IsWithin}
+use Rattle.damon_core.specs.Shown.{after_clears, phase_by_clears}
+use Rattle.damon_core.specs.Stands.{AreEvents, MonitorView}
+use Rattle.damon_core.proofs.Running.{clears_are_events, next_below}
 use Rattle.damon_core.proofs.monitor.Monitor.cleared_next.Goals as goal
 
--- the next pick is one of the rows
-next_below : (ph : Phase) (rows : ℕ) → IsClearing ph → IsWithin ph rows → clear_index ph < rows
-next_below (Clearing k) rows clearing within = within
-next_below Idle rows clearing within = absurd clearing
-next_below Armed rows clearing within = absurd clearing
-next_below (Checking k) rows clearing within = absurd clearing
-next_below Void rows clearing within = absurd clearing
-next_below Due rows clearing within = absurd clearing
+pub returns-in-Clearing-clause-shown : goal.returns-in-Clearing-clause-shown
+returns-in-Clearing-clause-shown c =
+    let m = c.self.inside in
+    let n = c.args.count in
+    let with_phase : Phase → MonitorView = λ ph. record {
+      core = record { space = m.space; attrs = m.attrs; regions = m.regions; phase = ph; picks = m.picks.pages; ticks = m.ticks; since = m.since };
+      bits = m.picks.bits;
+      found = m.found;
+      checks = m.checks;
+      hits = m.hits;
+    } in
+    let rows = length m.regions.rows in
+    let phase : c.phase_after-self-inside.result ≡ phase_by_clears n m.phase rows =
+    c.phase_after-self-inside.ensures
+    ∙ ap (λ r. if c.in-Clearing.next + n == r then Armed else Clearing (c.in-Clearing.next + n)) c.len.ensures.len
+    ∙ ap (λ ph. phase_by_clears n ph rows) (sym c.in-Clearing.is) in
+    ap with_phase phase ∙ ap (after_clears n) c.self.view_is
 
-pub loop-init : goal.loop-init
-loop-init c =
+pub returns-in-Clearing-clause-events : goal.returns-in-Clearing-clause-events
+returns-in-Clearing-clause-events c =
     let m = c.args.self.now in
-    record {
-      shown = sym (no_clear m c.requires.phase (next_below m.core.phase _ c.requires.phase c.phase-phase.ensures.within));
-      events = no_events m;
-    }
-
-pub cleared-requires : goal.cleared-requires
-cleared-requires c =
-    let m = c.args.self.now in
-    subst (λ (x : MonitorView). IsClearing x.core.phase) (sym c.loop.invariant.shown) (still_clearing m c.loop.counter c.requires.phase (omega (arith, c.loop-test.true, c.requires.within)))
-
-pub loop-preserved : goal.loop-preserved
-loop-preserved c =
-    let m = c.args.self.now in
-    let n = c.loop.counter in
-    let kept = c.loop.invariant in
-    let next : suc n ≡ n + 1 = omega arith in
-    record {
-      shown = c.cleared.ensures.shown ∙ ap after_clear kept.shown ∙ one_clear_more m n c.requires.phase (omega (arith, c.loop-test.true, c.requires.within));
-      events = subst (λ k. AreEvents m c.cleared.new.self (clears k)) next (more_events m c.loop.self c.cleared.new.self (clears n) clear kept.events c.cleared.ensures.event);
-    }
+    let within = subst (λ (x : MonitorView). IsWithin x.core.phase (row_count x.core)) c.self.view_is c.self.invariant.within in
+    subst (λ x. AreEvents m x (clears c.args.count)) (sym (returns-in-Clearing-clause-shown c))
+    (clears_are_events m c.args.count c.requires.phase (next_below m.core.phase (row_count m.core) c.requires.phase within) c.requires.within)

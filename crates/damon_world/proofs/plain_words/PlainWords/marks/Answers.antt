@@ -6,4 +6,4 @@ use Rattle.damon_world.proofs.plain_words.PlainWords.marks.Goals as goal
 pub returns : goal.returns
 returns c =
     let w = c.self.inside in
-    c.deref.ensures.value ∙ sym (marks_of_words w.lows.items w.highs.items w.touched.items c.self.invariant.same) ∙ ap (map is_touched_word) c.self.view_is
+    c.deref.ensures.value ∙ sym (marks_of_words w.lows.items w.highs.items w.touched.items) ∙ ap (map is_touched_word) c.self.view_is
