@@ -1,0 +1,57 @@
+#!/usr/bin/env python3
+"""Measures programs that replay scripts, side by side.
+
+    tests/measure.py TURNS PROGRAM [PROGRAM ...]
+
+Each PROGRAM is run with the word `replay` on each workload, TURNS times, in turn with the others, and
+its best wall time in milliseconds is printed. The workloads keep the limits of a script; they are made
+here, and need no file.
+"""
+import subprocess
+import sys
+import tempfile
+import time
+
+PAGE = 4096
+MILLION = 1_048_576
+
+
+def script(cap, attrs, pages, commands):
+    """A script that watches all pages of one target."""
+    lines = ["damon script 1", "seed 1", "unit 1", f"cap {cap}", f"attrs {attrs}"]
+    lines += [f"target 0x0 {pages}", f"range 0 0x0 {pages * PAGE:#x} 0", "begin", *commands, "end", ""]
+    return "\n".join(lines).encode()
+
+
+def workloads():
+    # The weight of a script is at most 16,777,216: sixteen sweeps of a million pages.
+    yield "sweeps", script(100, "10 100 5", MILLION, [f"sweep 0 0x0 {MILLION * PAGE:#x}"] * 16)
+    # A pass over 4,000 rows takes 8,002 steps. An aggregation is due after the thousandth.
+    for name, pages in (("passes", MILLION), ("small passes", 4000)):
+        yield name, script(4000, "4000 4000 1000", pages, ["step 8002"] * 1000)
+    yield "reading", script(4, "3 4 10", MILLION, [f"touch 0 {page * PAGE:#x}" for page in range(800_000)])
+    yield "showing", script(4096, "4096 4096 10", MILLION, ["show"] * 1000)
+
+
+def seconds(program, text):
+    with tempfile.TemporaryFile() as source:
+        source.write(text)
+        source.seek(0)
+        start = time.perf_counter()
+        run = subprocess.run([program, "replay"], stdin=source, stdout=subprocess.DEVNULL)
+        end = time.perf_counter()
+    if run.returncode != 0:
+        sys.exit(f"{program} ended with status {run.returncode}")
+    return end - start
+
+
+def main(words):
+    if len(words) < 2 or not words[0].isdigit():
+        sys.exit(__doc__)
+    turns, programs = int(words[0]), words[1:]
+    for name, text in workloads():
+        best = [min(times) for times in zip(*([seconds(p, text) for p in programs] for _ in range(turns)))]
+        print(f"{name:14}", *(f"{1000 * it:9.2f}" for it in best))
+
+
+main(sys.argv[1:])
