@@ -1,5 +1,5 @@
 -- Steps of one kind.
-use Rattle.std.proofs.Common.{◌≡◌, inl, inr, ℕ, zero, suc, ◌+◌, ◌*◌, ◌≤◌, ◌<◌, Bool, true, false, cond, List, [], ◌∷◌, ◌++◌, length, set, refl, sym, ap, ◌∙◌, subst, arith}
+use Rattle.std.proofs.Common.{◌≡◌, ℕ, zero, suc, ◌+◌, ◌*◌, ◌≤◌, ◌<◌, Bool, false, List, [], ◌∷◌, ◌++◌, length, refl, sym, ap, ◌∙◌, subst, arith}
 use Rattle.std.specs.Prelude.{◌==◌, if◌then◌else◌, slice_index}
 use Rattle.std.proofs.lemmas.Bool.Decides.{nat_tests}
 use Rattle.std.proofs.lemmas.List.{length-set}
@@ -8,7 +8,7 @@ use Rattle.damon_types.specs.Space.{pages_of}
 use Rattle.live_commit.specs.declared.phase.Phase.{Phase}
 use Rattle.live_commit.specs.declared.phase.Phase.TheVariants.{Idle, Clearing, Armed, Checking, Void, Due}
 use Rattle.damon_core.specs.Note.{Note, cleared, hit, word_of}
-use Rattle.damon_core.specs.State.{Core, State, opening, row_count}
+use Rattle.damon_core.specs.State.{Core, State, row_count}
 use Rattle.damon_core.specs.Event.{Event, Fits, IsLoading, clear, load, load_index, load_page, next_hit}
 use Rattle.damon_core.specs.Several.{clears, loads, mark_at}
 use Rattle.damon_core.specs.After.{after, by_clear, by_load, phase_after_clear}

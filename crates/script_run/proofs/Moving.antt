@@ -2,14 +2,13 @@
 use Rattle.std.proofs.Common.{◌≡◌, ℕ, zero, suc, ◌+◌, ◌-◌, ◌≤◌, ◌<◌, true, false, append_assoc, List, [], ◌∷◌, ◌++◌, length, refl, sym, ap, ◌∙◌, subst, arith}
 use Rattle.std.proofs.lemmas.List.{append-nil, length-append}
 use Rattle.rand_core.specs.Stream.{Stream}
-use Rattle.damon_core.specs.State.{State, Core}
-use Rattle.damon_core.specs.Event.{Event, Fits, touch}
-use Rattle.damon_core.specs.After.{after}
-use Rattle.damon_core.specs.Reached.{run, AllFit, Reached}
+use Rattle.damon_core.specs.State.{Core}
+use Rattle.damon_core.specs.Event.{Event, touch}
+use Rattle.damon_core.specs.Reached.{AllFit, Reached}
 use Rattle.live_commit.specs.declared.phase.Phase.{Phase}
 use Rattle.live_commit.specs.declared.phase.Phase.TheVariants.{Idle, Clearing, Armed, Checking, Void, Due}
 use Rattle.script_run.specs.declared.steps.Stop.TheVariants as stop
-use Rattle.damon_world.specs.Stands.{WorldView, StandsAt, StandsFor, AreEvents, IsEvent}
+use Rattle.damon_world.specs.Stands.{WorldView, StandsAt, AreEvents, IsEvent}
 use Rattle.damon_world.specs.Moment.{Moment, events_of_steps, next_event, stepped, stepped_times}
 use Rattle.damon_world.specs.Advance.{Advances, IsAmid}
 use Rattle.damon_control.specs.Command.{Sweep, Touch}
@@ -17,7 +16,7 @@ use Rattle.script_run.specs.declared.steps.Stop.{Stop}
 use Rattle.script_run.specs.Steps.{after_steps, next_events, next_moment, step_events, stops}
 use Rattle.damon_world.specs.Touches.{touches}
 use Rattle.script_run.specs.Played.{MakesSteps, Plays}
-use Rattle.script_run.proofs.Runs.{AllFit-append, Reached-run, run-append, run-step_events}
+use Rattle.script_run.proofs.Runs.{AllFit-append, Reached-run, run-step_events}
 
 pub no_steps : {R : Type 0} (stream : R → Stream) (a : WorldView R) (s : Stop) → MakesSteps stream a a s 0 0
 no_steps stream a s m reached stands = (tt, stands, refl)

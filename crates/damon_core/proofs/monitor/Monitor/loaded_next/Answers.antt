@@ -1,7 +1,6 @@
-use Rattle.std.proofs.Common.{◌≡◌, ℕ, suc, ◌+◌, ◌-◌, ◌<◌, ◌≤◌, ◌++◌, ◌∷◌, [], List, length, refl, sym, ap, ◌∙◌, subst, arith}
+use Rattle.std.proofs.Common.{◌≡◌, ℕ, suc, ◌+◌, ◌-◌, List, sym, ap, ◌∙◌, subst, arith}
 use Rattle.std.specs.Prelude.{slice_index, slice_index_or}
-use Rattle.std.proofs.Common.{Bool, false}
-use Rattle.std.proofs.lemmas.List.{get_or_default}
+use Rattle.std.proofs.Common.{false}
 use Rattle.std.proofs.lemmas.Option.{get_or_from_slice_get}
 use Rattle.damon_types.specs.Space.{pages_of}
 use Rattle.damon_core.specs.State.{row_count}
@@ -9,7 +8,7 @@ use Rattle.damon_core.specs.Event.{IsLoading, load}
 use Rattle.damon_core.specs.Several.{loads, mark_at}
 use Rattle.damon_core.specs.Shown.{after_load, after_loads}
 use Rattle.damon_core.specs.Stands.{AreEvents, IsEvent, MonitorView}
-use Rattle.damon_core.proofs.Running.{after_loads_is, more_events, still_loading, loading_in_pass}
+use Rattle.damon_core.proofs.Running.{after_loads_is, more_events, still_loading}
 use Rattle.damon_core.proofs.monitor.Monitor.loaded_next.Goals as goal
 
 pub pick-page-requires-clause-within : goal.pick-page-requires-clause-within

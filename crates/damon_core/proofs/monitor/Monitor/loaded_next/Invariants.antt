@@ -1,4 +1,4 @@
-use Rattle.std.proofs.Common.{◌≡◌, ◌+◌, ◌-◌, ◌≤◌}
+use Rattle.std.proofs.Common.{◌≡◌, ◌-◌}
 use Rattle.damon_core.specs.Event.{load_index}
 use Rattle.damon_core.specs.Several.{loads}
 use Rattle.damon_core.specs.Shown.{after_loads}

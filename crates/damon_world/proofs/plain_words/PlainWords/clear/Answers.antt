@@ -1,4 +1,4 @@
-use Rattle.std.proofs.Common.{◌≡◌, ◌<◌, ◌*◌, ◌%◌, ◌/◌, false, length, set, sym, ap, ◌∙◌, arith}
+use Rattle.std.proofs.Common.{◌*◌, ◌%◌, ◌/◌, false, length, set, ap, ◌∙◌, arith}
 use Rattle.damon_world.specs.Words.{words_of}
 use Rattle.damon_world.proofs.Parts.{length-words_of, word_of_pass, words_of-put}
 use Rattle.damon_world.proofs.plain_words.PlainWords.clear.Goals as goal

@@ -1,4 +1,4 @@
-use Rattle.std.proofs.Common.{◌≡◌, ap, sym, ◌∙◌, map}
+use Rattle.std.proofs.Common.{ap, sym, ◌∙◌, map}
 use Rattle.damon_world.specs.Words.{is_touched_word}
 use Rattle.damon_world.proofs.Parts.{marks_of_words}
 use Rattle.damon_world.proofs.plain_words.PlainWords.marks.Goals as goal

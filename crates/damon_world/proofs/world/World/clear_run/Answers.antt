@@ -1,11 +1,10 @@
-use Rattle.std.proofs.Common.{◌≡◌, ◌+◌, ◌*◌, ◌≤◌, ◌<◌, ℕ, List, length, refl, ap, sym, subst, ◌∙◌, arith}
+use Rattle.std.proofs.Common.{◌≡◌, ◌+◌, ◌*◌, ◌≤◌, ◌<◌, ℕ, List, length, ap, sym, subst, ◌∙◌, arith}
 use Rattle.region_list.specs.Regions.{RegionList}
 use Rattle.damon_types.specs.Space.{pages_of}
 use Rattle.live_commit.specs.declared.phase.Phase.TheVariants.{Clearing}
 use Rattle.damon_core.specs.Kept.{IsInPass}
 use Rattle.damon_core.specs.State.{row_count}
 use Rattle.damon_core.specs.Stands.{MonitorView}
-use Rattle.damon_world.specs.Words.{cleared_words}
 use Rattle.damon_world.specs.Stands.{WorldView}
 use Rattle.damon_world.specs.Advance.{Advances, IsAdvance}
 use Rattle.damon_world.proofs.Advancing.{clears_advance, length-cleared_words}

@@ -1,14 +1,13 @@
-use Rattle.std.proofs.Common.{◌≡◌, ◌+◌, ◌*◌, ◌≤◌, ◌<◌, ℕ, Bool, true, List, length, map, refl, ap, sym, subst, ◌∙◌, arith}
+use Rattle.std.proofs.Common.{◌≡◌, ◌+◌, ◌≤◌, ◌<◌, ℕ, Bool, List, length, refl, ap, sym, subst, ◌∙◌, arith}
 use Rattle.std.specs.Prelude.{slice_index}
 use Rattle.region_list.specs.Regions.{RegionList}
 use Rattle.damon_types.specs.Space.{pages_of}
 use Rattle.damon_core.specs.Note.{hit}
 use Rattle.damon_core.specs.Event.{IsLoading, load_index}
-use Rattle.damon_core.specs.Several.{loads, mark_at}
+use Rattle.damon_core.specs.Several.{mark_at}
 use Rattle.damon_core.specs.State.{State, row_count}
 use Rattle.damon_core.specs.Reached.{Reached}
 use Rattle.damon_core.specs.Stands.{MonitorView, Stands}
-use Rattle.damon_world.specs.Words.{is_touched_word}
 use Rattle.damon_world.specs.Stands.{WorldView}
 use Rattle.damon_world.specs.Advance.{Advances, IsAdvance}
 use Rattle.damon_world.proofs.Words.{lowest_is_hit}

@@ -1,12 +1,9 @@
-use Rattle.std.proofs.Common.{◌≡◌, ◌+◌, ◌-◌, ◌≤◌, ◌<◌, ℕ, List, refl, sym, subst, ap, ◌∙◌, arith}
-use Rattle.std.specs.Prelude.{◌&&◌, nat_le, nat_lt, slice_index, if◌then◌else◌}
+use Rattle.std.proofs.Common.{◌≡◌, ◌+◌, ◌-◌, ◌≤◌, sym, subst, ap, ◌∙◌, arith}
+use Rattle.std.specs.Prelude.{◌&&◌, nat_le, nat_lt, if◌then◌else◌}
 use Rattle.damon_types.specs.Space.{pages_of}
 use Rattle.damon_core.specs.Note.{word_of}
-use Rattle.damon_core.specs.State.{Core, State}
-use Rattle.damon_core.specs.Reached.{run}
-use Rattle.damon_core.specs.Stands.{Stands}
+use Rattle.damon_core.specs.State.{Core}
 use Rattle.damon_world.specs.Stands.{StandsFor}
-use Rattle.damon_world.specs.Touches.{touches}
 use Rattle.damon_world.specs.Words.{touched_word}
 use Rattle.damon_world.proofs.Touching.{AllFit-touches, word_of-touches, stands-touches}
 use Rattle.damon_world.proofs.world.World.sweep.Goals as goal
