@@ -1,5 +1,5 @@
 -- Steps of one kind.
-use Rattle.std.proofs.Common.{◌≡◌, ℕ, zero, suc, ◌+◌, ◌*◌, ◌≤◌, ◌<◌, Bool, false, List, [], ◌∷◌, ◌++◌, length, refl, sym, ap, ◌∙◌, subst, arith}
+use Rattle.std.proofs.Common.{◌≡◌, ℕ, zero, suc, ◌+◌, ◌-◌, ◌*◌, ◌≤◌, ◌<◌, Bool, false, List, [], ◌∷◌, ◌++◌, length, refl, sym, ap, ◌∙◌, subst, arith}
 use Rattle.std.specs.Prelude.{◌==◌, if◌then◌else◌, slice_index}
 use Rattle.std.proofs.lemmas.Bool.Decides.{nat_tests}
 use Rattle.std.proofs.lemmas.List.{length-set}
@@ -20,7 +20,7 @@ use Rattle.damon_world.specs.Draws.{drawn_rest}
 use Rattle.damon_world.specs.Words.{cleared_words}
 use Rattle.damon_world.specs.Moment.{Moment, draws, draws_in, event_in, events_of_steps, next_event, stepped, stepped_times}
 use Rattle.damon_world.specs.Stands.{StandsAt, StandsFor, WorldView}
-use Rattle.damon_world.specs.Advance.{Advances, IsAmid}
+use Rattle.damon_world.specs.Advance.{Advances, IsAmid, steps_of_kind}
 use Rattle.damon_world.proofs.Words.{set_words, word_of-cleared_same, word_of-cleared_other}
 use Rattle.damon_world.proofs.Stepping.{event_in-load, word_of-by_load}
 
@@ -271,3 +271,12 @@ loading_kept (Clearing k) rows loading = absurd loading
 loading_kept Idle rows loading = absurd loading
 loading_kept Void rows loading = absurd loading
 loading_kept Due rows loading = absurd loading
+
+-- as many loads come next as rows are left
+pub loads_of_kind : (ph : Phase) (rows : ℕ) → IsLoading ph rows → steps_of_kind ph rows ≡ rows - load_index ph
+loads_of_kind Armed rows loading = omega arith
+loads_of_kind (Checking k) rows loading = omega (arith, loading)
+loads_of_kind (Clearing k) rows loading = absurd loading
+loads_of_kind Idle rows loading = absurd loading
+loads_of_kind Void rows loading = absurd loading
+loads_of_kind Due rows loading = absurd loading

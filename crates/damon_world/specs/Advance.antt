@@ -1,11 +1,19 @@
 -- Steps of one kind.
-use Rattle.std.specs.Prelude.{◌≡◌, ℕ, ◌+◌, ◌≤◌, ◌<◌}
+use Rattle.std.specs.Prelude.{◌≡◌, ℕ, ◌+◌, ◌-◌, ◌≤◌, ◌<◌, min, max}
 use Rattle.rand_core.specs.Stream.{Stream}
 use Rattle.live_commit.specs.declared.phase.Phase.{Phase}
-use Rattle.live_commit.specs.declared.phase.Phase.TheVariants.{Clearing, Checking}
+use Rattle.live_commit.specs.declared.phase.Phase.TheVariants.{Clearing, Armed, Checking}
+use Rattle.damon_core.specs.State.{row_count}
 use Rattle.damon_core.specs.Reached.{AllFit, Reached}
 use Rattle.damon_world.specs.Stands.{WorldView, StandsAt}
 use Rattle.damon_world.specs.Moment.{Moment, events_of_steps, stepped_times}
+
+-- how many steps of one kind come next: clears up to the last row, loads up to the last row, or one other step
+abbrev pub steps_of_kind : Phase → ℕ → ℕ
+steps_of_kind (Clearing k) rows = rows - k
+steps_of_kind Armed rows = rows
+steps_of_kind (Checking k) rows = max 1 (rows - k)
+steps_of_kind _ rows = 1
 
 -- a pass has begun to be cleared or checked: more steps of that kind may follow
 abbrev pub IsAmid : Phase → Type 0
@@ -24,10 +32,10 @@ pub record AdvancesFrom {R : Type 0} (stream : R → Stream) (new : WorldView R)
 abbrev pub Advances : {R : Type 0} → (R → Stream) → WorldView R → WorldView R → ℕ → Type 0
 Advances stream old new n = (m : Moment) → Reached m.state → StandsAt stream old m → AdvancesFrom stream new n m
 
--- The world made at least one step and at most so many, of one kind, and this is their number.
+-- The world made the next steps of one kind, at most so many, and this is their number.
 pub record IsAdvance {R : Type 0} (stream : R → Stream) (old new : WorldView R) (limit n : ℕ) : Type 0 where
   pub some : 1 ≤ n
-  pub most : n ≤ limit
+  pub count : n ≡ min limit (steps_of_kind old.monitor.core.phase (row_count old.monitor.core))
   pub steps : Advances stream old new n
   pub passes : new.monitor.core.ticks ≤ old.monitor.core.ticks + 1
   pub space : new.monitor.core.space ≡ old.monitor.core.space

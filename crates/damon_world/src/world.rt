@@ -10,7 +10,7 @@ ghost use Rattle.damon_world.specs.Draws.{drawn, drawn_rest};
 ghost use Rattle.damon_world.specs.Stands.{StandsFor, AreEvents, IsEvent};
 ghost use Rattle.damon_world.specs.Words.{cleared_words};
 ghost use Rattle.damon_world.specs.Touches.{touches};
-ghost use Rattle.damon_world.specs.Advance.{Advances, IsAdvance};
+ghost use Rattle.damon_world.specs.Advance.{Advances, IsAdvance, steps_of_kind};
 ghost use Rattle.damon_world.specs.Moment.{draws, next_event, Tells};
 ghost use Rattle.damon_world.specs.Left.{steps_to_due};
 ghost use Rattle.damon_world.specs.Step.{IsStep};
@@ -134,15 +134,15 @@ impl<R: Rng + Drop> World<R> {
         }
     }
 
-    /// Carries out the monitor's next steps as long as they are of one kind, at least one and at most
-    /// `most` of them, and says how many. No aggregation is due, as none is carried out yet. The passes
+    /// Carries out the monitor's next steps as long as they are of one kind, at most `most` of them,
+    /// which is not 0, and says how many. No aggregation is due, as none is carried out yet. The passes
     /// in all are below 2^40.
     pub fn advance(&mut self, most: u64) -> u64
         requires some { 1 ≤ most }
         requires not_due { self.old.monitor.core.phase ≢ Phase.Due }
         requires ticks { self.old.monitor.core.ticks < 2 ^ 40 }
+        ensures count { result ≡ min most (steps_of_kind self.old.monitor.core.phase (row_count self.old.monitor.core)) }
         ensures some { 1 ≤ result }
-        ensures most { result ≤ most }
         ensures steps { Advances R.stream self.old self.new result }
         ensures passes { self.new.monitor.core.ticks ≤ self.old.monitor.core.ticks + 1 }
         ensures space { self.new.monitor.core.space ≡ self.old.monitor.core.space }
@@ -157,10 +157,11 @@ impl<R: Rng + Drop> World<R> {
         }
     }
 
-    // Carries out the next step.
+    // Carries out the next step, which is the only one of its kind.
     fn one_step(&mut self) -> u64
         requires not_due { self.old.monitor.core.phase ≢ Phase.Due }
         requires ticks { self.old.monitor.core.ticks < 2 ^ 40 }
+        requires only { steps_of_kind self.old.monitor.core.phase (row_count self.old.monitor.core) ≡ 1 }
         ensures { IsAdvance R.stream self.old self.new 1 result }
     {
         let _stepped = self.step();

@@ -12,7 +12,7 @@ loop-made-preserved g c =
     let going : stops c.args.stop c.loop-made.world.monitor.core.phase ≡ false = cc (c.stops.ensures, c.if-not-stops.true, c.phase.ensures.phase, c.monitor.ensures) in
     record {
       steps = steps_made g.R.Rng.stream c.args.world.now c.loop-made.world more.new.self c.args.stop made made more.result kept.steps going more.ensures.steps;
-      most = omega (arith, more.ensures.most, c.loop-made-test.true);
+      most = omega (arith, more.ensures.count, c.loop-made-test.true);
       ticks = omega (arith, more.ensures.passes, more.ensures.some, kept.ticks);
       space = more.ensures.space ∙ kept.space;
     }

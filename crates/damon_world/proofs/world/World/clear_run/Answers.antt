@@ -6,7 +6,7 @@ use Rattle.damon_core.specs.Kept.{IsInPass}
 use Rattle.damon_core.specs.State.{row_count}
 use Rattle.damon_core.specs.Stands.{MonitorView}
 use Rattle.damon_world.specs.Stands.{WorldView}
-use Rattle.damon_world.specs.Advance.{Advances, IsAdvance}
+use Rattle.damon_world.specs.Advance.{Advances, IsAdvance, steps_of_kind}
 use Rattle.damon_world.proofs.Advancing.{clears_advance, length-cleared_words}
 use Rattle.damon_world.proofs.world.World.clear_run.Goals as goal
 
@@ -38,7 +38,7 @@ returns g c =
     subst (λ x. IsAdvance stream x (new c.clear_words.new.words) c.args.most c.from.result) c.self.view_is
     (record {
       some = omega (arith, count, c.at_most-count.ensures, c.requires.some, rows, below);
-      most = omega (arith, count, c.at_most-count.ensures);
+      count = omega (arith, count, c.at_most-count.ensures, rows, ap (λ ph. steps_of_kind ph (row_count m.core)) clearing);
       steps = subst (λ j. Advances stream (record { monitor = m; words = inside.words; source = inside.source }) (new c.clear_words.new.words) j) (sym count) (subst (λ ws. Advances stream (record { monitor = m; words = inside.words; source = inside.source }) (new ws) n) (sym c.clear_words.ensures) made);
       passes = omega (arith, ap (λ (x : MonitorView). x.core.ticks) shown);
       space = ap (λ (x : MonitorView). x.core.space) shown;

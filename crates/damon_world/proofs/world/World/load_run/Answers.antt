@@ -13,7 +13,7 @@ use Rattle.damon_world.specs.Advance.{Advances, IsAdvance}
 use Rattle.damon_world.proofs.Words.{lowest_is_hit}
 use Rattle.damon_world.proofs.Parts.{mark_of_page}
 use Rattle.damon_world.proofs.Stepping.{load_below}
-use Rattle.damon_world.proofs.Advancing.{WordsOf, after_loads_keep, loading_kept, loads_advance}
+use Rattle.damon_world.proofs.Advancing.{WordsOf, after_loads_keep, loading_kept, loads_advance, loads_of_kind}
 use Rattle.damon_world.proofs.world.World.load_run.Goals as goal
 
 pub invariant_of-self : goal.invariant_of-self
@@ -56,7 +56,7 @@ returns g c =
     subst (λ x. IsAdvance stream x new c.args.most c.from.result) c.self.view_is
     (record {
       some = omega (arith, count, c.at_most-count.ensures, c.requires.some, rows, below, index);
-      most = omega (arith, count, c.at_most-count.ensures);
+      count = omega (arith, count, c.at_most-count.ensures, rows, index, loads_of_kind m.core.phase (row_count m.core) loading);
       steps = subst (λ j. Advances stream (record { monitor = m; words = inside.words; source = inside.source }) new j) (sym count) made;
       passes = omega (arith, ap (λ (x : MonitorView). x.core.ticks) shown, kept.ticks);
       space = space;
