@@ -1,18 +1,20 @@
 -- Events one after another.
-use Rattle.std.proofs.Common.{◌≡◌, ℕ, zero, suc, ◌+◌, ◌<◌, ◌≤◌, Bool, false, List, [], ◌∷◌, ◌++◌, refl, sym, ap, ◌∙◌, subst, arith}
+use Rattle.std.proofs.Common.{◌≡◌, ℕ, zero, suc, ◌+◌, ◌<◌, ◌≤◌, Bool, false, List, [], ◌∷◌, ◌++◌, cond, length, set, refl, sym, ap, ◌∙◌, subst, arith}
 use Rattle.std.specs.Prelude.{◌==◌, if◌then◌else◌}
 use Rattle.std.proofs.lemmas.Bool.Decides.{nat_tests}
+use Rattle.std.proofs.lemmas.List.{length-set}
 use Rattle.live_commit.specs.declared.phase.Phase.{Phase}
 use Rattle.live_commit.specs.declared.phase.Phase.TheVariants.{Idle, Clearing, Armed, Checking, Void, Due}
 use Rattle.damon_core.specs.State.{State, Core, opening, row_count}
-use Rattle.damon_core.specs.Event.{Event, IsClearing, IsLoading, clear, clear_index, load_index}
-use Rattle.damon_core.specs.Several.{clears}
+use Rattle.damon_core.specs.Event.{Event, IsClearing, IsLoading, clear, clear_index, load, load_index}
+use Rattle.damon_core.specs.Several.{clears, loads}
+use Rattle.sampler.specs.Loaded.{loaded_bits, loaded_hits, mark_at}
 use Rattle.damon_core.specs.After.{after}
 use Rattle.damon_core.specs.Reached.{run, AllFit, Reached}
 use Rattle.damon_core.specs.Stands.{MonitorView, Stands, AreEvents, IsEvent}
-use Rattle.damon_core.specs.Shown.{phase_by_clear, phase_by_clears, after_clear, after_clears, after_loads}
-use Rattle.damon_core.specs.Kept.{IsInPass, IsWithin}
-use Rattle.damon_core.proofs.Standing.{clear_stands}
+use Rattle.damon_core.specs.Shown.{phase_by_clear, phase_by_clears, after_clear, after_clears, after_load, after_loads}
+use Rattle.damon_core.specs.Kept.{HasPicks, IsWithin}
+use Rattle.damon_core.proofs.Standing.{clear_stands, load_fits, load_stands}
 
 run-append : (s : State) (es fs : List Event) → run s (es ++ fs) ≡ run (run s es) fs
 run-append s [] fs = refl
@@ -86,32 +88,6 @@ none_at Due rows clearing below = absurd clearing
 pub no_clear : (m : MonitorView) → IsClearing m.core.phase → clear_index m.core.phase < row_count m.core → after_clears 0 m ≡ m
 no_clear m clearing below = ap (λ ph. record m { core = record m.core { phase = ph } }) (none_at m.core.phase (row_count m.core) clearing below)
 
--- what so many loads leave
-pub record AfterLoads (m new : MonitorView) (from n : ℕ) : Type 0 where
-  pub space : new.core.space ≡ m.core.space
-  pub picks : new.core.picks ≡ m.core.picks
-  pub rows : row_count new.core ≡ row_count m.core
-  pub index : load_index new.core.phase ≡ from + n
-
-pub after_loads_is : (marks : List Bool) (from n : ℕ) (m : MonitorView) → load_index m.core.phase ≡ from → AfterLoads m (after_loads marks from n m) from n
-after_loads_is marks from zero m is = record { space = refl; picks = refl; rows = refl; index = omega (arith, is) }
-after_loads_is marks from (suc n) m is =
-    let before = after_loads_is marks from n m is in
-    record { space = before.space; picks = before.picks; rows = before.rows; index = omega (arith, before.index) }
-
--- a further load may come
-pub still_loading : (marks : List Bool) (from n : ℕ) (m : MonitorView) → load_index m.core.phase ≡ from → IsLoading m.core.phase (row_count m.core) → from + n < row_count m.core → IsLoading (after_loads marks from n m).core.phase (row_count m.core)
-still_loading marks from zero m is loading below = loading
-still_loading marks from (suc n) m is loading below = omega (arith, (after_loads_is marks from n m is).index)
-
-pub loading_in_pass : (ph : Phase) (rows : ℕ) → IsLoading ph rows → IsInPass ph
-loading_in_pass Armed rows loading = tt
-loading_in_pass (Checking k) rows loading = tt
-loading_in_pass (Clearing k) rows loading = absurd loading
-loading_in_pass Idle rows loading = absurd loading
-loading_in_pass Void rows loading = absurd loading
-loading_in_pass Due rows loading = absurd loading
-
 -- so many clears
 pub clears_are_events : (m : MonitorView) (n : ℕ) → IsClearing m.core.phase → clear_index m.core.phase < row_count m.core → clear_index m.core.phase + n ≤ row_count m.core → AreEvents m (after_clears n m) (clears n)
 clears_are_events m zero clearing some within = subst (λ x. AreEvents m x []) (sym (no_clear m clearing some)) (no_events m)
@@ -130,3 +106,52 @@ next_below Armed rows clearing within = absurd clearing
 next_below (Checking k) rows clearing within = absurd clearing
 next_below Void rows clearing within = absurd clearing
 next_below Due rows clearing within = absurd clearing
+
+length-loaded_bits : (marks : List Bool) (picks : List ℕ) (from n : ℕ) (bits : List Bool) → length (loaded_bits marks picks from n bits) ≡ length bits
+length-loaded_bits marks picks from zero bits = refl
+length-loaded_bits marks picks from (suc n) bits = length-set (loaded_bits marks picks from n bits) (from + n) (mark_at marks picks (from + n)) ∙ length-loaded_bits marks picks from n bits
+
+-- no load, and one load more
+no_load : (m : MonitorView) (marks : List Bool) → after_load (mark_at marks m.core.picks (load_index m.core.phase + 0)) m ≡ after_loads marks 1 m
+no_load m marks =
+    let from = load_index m.core.phase in
+    let h = mark_at marks m.core.picks (from + 0) in
+    let same : from + 0 ≡ from = omega arith in
+    let one : m.found + cond h 1 0 ≡ m.found + (0 + cond h 1 0) = omega arith in
+    ap (λ i. record m { core = record m.core { phase = Checking (from + 1) }; bits = set m.bits i h; found = m.found + cond h 1 0 }) (sym same)
+    ∙ ap (λ k. record m { core = record m.core { phase = Checking (from + 1) }; bits = set m.bits (from + 0) h; found = k }) one
+
+one_load_more : (m : MonitorView) (marks : List Bool) (n : ℕ) → after_load (mark_at marks m.core.picks (load_index m.core.phase + n)) (after_loads marks n m) ≡ after_loads marks (suc n) m
+one_load_more m marks n =
+    let from = load_index m.core.phase in
+    let h = mark_at marks m.core.picks (from + n) in
+    let hits = loaded_hits marks m.core.picks from n in
+    let bits = set (loaded_bits marks m.core.picks from n m.bits) (from + n) h in
+    let next : from + n + 1 ≡ from + suc n = omega arith in
+    let more : m.found + hits + cond h 1 0 ≡ m.found + (hits + cond h 1 0) = omega arith in
+    ap (λ i. record m { core = record m.core { phase = Checking i }; bits = bits; found = m.found + hits + cond h 1 0 }) next
+    ∙ ap (λ k. record m { core = record m.core { phase = Checking (from + suc n) }; bits = bits; found = k }) more
+
+-- so many loads
+pub loads_are_events : (m : MonitorView) (marks : List Bool) (n : ℕ) → IsLoading m.core.phase (row_count m.core) → load_index m.core.phase + suc n ≤ row_count m.core → length m.bits ≡ row_count m.core → AreEvents m (after_loads marks (suc n) m) (loads marks m.core.picks (load_index m.core.phase) (suc n))
+loads_are_events m marks zero loading within each =
+    let h = mark_at marks m.core.picks (load_index m.core.phase + 0) in
+    let one : IsEvent m (after_load h m) (load h) = λ s reached stands. (load_fits m s h stands loading, load_stands m s h reached stands loading (omega arith)) in
+    more_events m m (after_loads marks 1 m) [] (load h) (no_events m) (subst (λ x. IsEvent m x (load h)) (no_load m marks) one)
+loads_are_events m marks (suc n) loading within each =
+    let from = load_index m.core.phase in
+    let now = after_loads marks (suc n) m in
+    let h = mark_at marks m.core.picks (from + suc n) in
+    let still : IsLoading now.core.phase (row_count now.core) = (omega arith) in
+    let here : load_index now.core.phase < length now.bits = omega (arith, within, each, length-loaded_bits marks m.core.picks from (suc n) m.bits) in
+    let one : IsEvent now (after_load h now) (load h) = λ s reached stands. (load_fits now s h stands still, load_stands now s h reached stands still here) in
+    more_events m now (after_loads marks (suc (suc n)) m) (loads marks m.core.picks from (suc n)) (load h) (loads_are_events m marks n loading (omega arith) each) (subst (λ x. IsEvent now x (load h)) (one_load_more m marks (suc n)) one)
+
+-- where a load comes next each row has a pick
+pub bits_of_rows : (ph : Phase) (rows n : ℕ) → HasPicks ph rows n → IsLoading ph rows → n ≡ rows
+bits_of_rows Armed rows n has loading = has
+bits_of_rows (Checking k) rows n has loading = has
+bits_of_rows (Clearing k) rows n has loading = absurd loading
+bits_of_rows Idle rows n has loading = absurd loading
+bits_of_rows Void rows n has loading = absurd loading
+bits_of_rows Due rows n has loading = absurd loading

@@ -1,15 +1,12 @@
 -- Several events of one kind.
-use Rattle.std.specs.Prelude.{ℕ, zero, suc, ◌+◌, Bool, false, List, [], ◌∷◌, ◌++◌, slice_index, slice_index_or}
+use Rattle.std.specs.Prelude.{ℕ, zero, suc, ◌+◌, Bool, List, [], ◌∷◌, ◌++◌}
+use Rattle.sampler.specs.Loaded.{mark_at}
 use Rattle.damon_core.specs.Event.{Event, clear, load}
 
 -- so many clears
 abbrev pub clears : ℕ → List Event
 clears zero = []
 clears (suc n) = clears n ++ clear ∷ []
-
--- the mark of the page of pick k
-abbrev pub mark_at : List Bool → List ℕ → ℕ → Bool
-mark_at marks picks k = slice_index_or marks (slice_index picks k) false
 
 -- loads of so many picks, from one on, each with the mark of its page as its result
 abbrev pub loads : List Bool → List ℕ → ℕ → ℕ → List Event

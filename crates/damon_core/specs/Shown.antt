@@ -1,11 +1,11 @@
 -- What a monitor shows after each call that changes it.
-use Rattle.std.specs.Prelude.{ℕ, zero, suc, ◌+◌, Bool, false, ◌==◌, List, replicate, slice_set, if◌then◌else◌, cond}
+use Rattle.std.specs.Prelude.{ℕ, ◌+◌, Bool, false, ◌==◌, List, replicate, slice_set, if◌then◌else◌, cond}
 use Rattle.live_commit.specs.declared.phase.Phase.{Phase}
 use Rattle.live_commit.specs.declared.phase.Phase.TheVariants.{Clearing, Armed, Checking, Void}
 use Rattle.sampler.specs.Counted.{raised}
 use Rattle.damon_core.specs.State.{row_count}
 use Rattle.damon_core.specs.Event.{load_index}
-use Rattle.damon_core.specs.Several.{mark_at}
+use Rattle.sampler.specs.Loaded.{loaded_bits, loaded_hits}
 use Rattle.damon_core.specs.After.{prepared_core, passed_core, phase_after_clear}
 use Rattle.damon_core.specs.Stands.{MonitorView}
 
@@ -39,10 +39,13 @@ after_load hit m = record m {
   found = m.found + cond hit 1 0;
 }
 
--- so many picks more are loaded, from one on, each with the mark of its page as its result
-abbrev pub after_loads : List Bool → ℕ → ℕ → MonitorView → MonitorView
-after_loads marks from zero m = m
-after_loads marks from (suc n) m = after_load (mark_at marks m.core.picks (from + n)) (after_loads marks from n m)
+-- so many picks more are loaded, at least one, each with the mark of its page as its result
+abbrev pub after_loads : List Bool → ℕ → MonitorView → MonitorView
+after_loads marks n m = let from = load_index m.core.phase in record m {
+  core = record m.core { phase = Checking (from + n) };
+  bits = loaded_bits marks m.core.picks from n m.bits;
+  found = m.found + loaded_hits marks m.core.picks from n;
+}
 
 -- the pass is counted
 abbrev pub with_counts : MonitorView → MonitorView

@@ -212,20 +212,22 @@ impl Monitor {
         self.phase = Phase::Checking { next: index + 1 };
     }
 
-    /// Takes note that the next `count` picks were loaded, each with the mark of its page as its
-    /// result. Each pick is cleared, and so many are not loaded; each page of the space has a mark.
+    /// Takes note that the next `count` picks were loaded, at least one, each with the mark of its page
+    /// as its result. Each pick is cleared, and so many are not loaded; each page of the space has a
+    /// mark.
     pub fn loaded_next(&mut self, count: u32, marks: &[bool])
         requires phase { IsLoading self.old.core.phase (row_count self.old.core) }
+        requires some { 1 ≤ count }
         requires within { load_index self.old.core.phase + count ≤ row_count self.old.core }
         requires marks { length marks.now ≡ pages_of self.old.core.space }
-        ensures shown { self.new ≡ after_loads marks.now (load_index self.old.core.phase) count self.old }
+        ensures shown { self.new ≡ after_loads marks.now count self.old }
         ensures events { AreEvents self.old self.new (loads marks.now self.old.core.picks (load_index self.old.core.phase) count) }
     {
         let from = next_load(self.phase);
-        for next in from..from + count {
-            let page = self.pick(next);
-            self.loaded(marks[page as usize]);
-        }
+        // For its clauses alone: there is a bit for each pick.
+        let _picks = self.picks.len();
+        self.found += self.picks.load(from, count, marks);
+        self.phase = Phase::Checking { next: from + count };
     }
 
     /// Ends the pass, of which each pick is loaded, or which is void. One that is not void raises the

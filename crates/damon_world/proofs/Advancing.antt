@@ -10,10 +10,11 @@ use Rattle.live_commit.specs.declared.phase.Phase.TheVariants.{Idle, Clearing, A
 use Rattle.damon_core.specs.Note.{Note, cleared, hit, word_of}
 use Rattle.damon_core.specs.State.{Core, State, row_count}
 use Rattle.damon_core.specs.Event.{Event, Fits, IsLoading, clear, load, load_index, load_page, next_hit}
-use Rattle.damon_core.specs.Several.{clears, loads, mark_at}
+use Rattle.damon_core.specs.Several.{clears, loads}
+use Rattle.sampler.specs.Loaded.{mark_at}
 use Rattle.damon_core.specs.After.{after, by_clear, by_load, phase_after_clear}
 use Rattle.damon_core.specs.Reached.{AllFit, Reached, run}
-use Rattle.damon_core.specs.Shown.{after_clears, after_loads, phase_by_clears}
+use Rattle.damon_core.specs.Shown.{after_clears, phase_by_clears}
 use Rattle.damon_core.specs.Kept.{IsInPass, cleared_so_far}
 use Rattle.damon_core.specs.Stands.{AreEvents, MonitorView, Stands}
 use Rattle.damon_world.specs.Draws.{drawn_rest}
@@ -250,18 +251,6 @@ step_advances stream a b event words x reached stands =
       stands = record { state = moved.1; words = words ∙ ap (λ (c : Core). drawn_rest (draws c) (stream a.source)) stands.state.monitor.same ∙ ap (drawn_rest (draws x.state.core)) stands.words };
       amid = λ j least below. absurd (omega arith);
     }
-
--- what loads keep of a monitor
-pub record LoadsKeep (m new : MonitorView) : Type 0 where
-  pub space : new.core.space ≡ m.core.space
-  pub cap : new.core.regions.cap ≡ m.core.regions.cap
-  pub ticks : new.core.ticks ≡ m.core.ticks
-
-pub after_loads_keep : (marks : List Bool) (from n : ℕ) (m : MonitorView) → LoadsKeep m (after_loads marks from n m)
-after_loads_keep marks from zero m = record { space = refl; cap = refl; ticks = refl }
-after_loads_keep marks from (suc n) m =
-    let before = after_loads_keep marks from n m in
-    record { space = before.space; cap = before.cap; ticks = before.ticks }
 
 -- where a load comes next each pick is cleared
 pub loading_kept : (ph : Phase) (rows : ℕ) → IsLoading ph rows → IsInPass ph × (cleared_so_far ph rows ≡ rows)

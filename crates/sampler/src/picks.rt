@@ -1,5 +1,7 @@
-ghost use Rattle.std.specs.Prelude.{◌≡◌, ◌≤◌, ◌<◌, [], false, length, slice_get, slice_set, replicate, IfOk, vec_len, vec_capacity};
+ghost use Rattle.std.specs.Prelude.{◌≡◌, ◌+◌, ◌^◌, ◌≤◌, ◌<◌, [], false, length, slice_get, slice_set, replicate, IfOk, vec_len, vec_capacity};
+ghost use Rattle.std.specs.List.{AllByRecursion};
 ghost use Rattle.sampler.specs.Pick.{PickList, picks_of};
+ghost use Rattle.sampler.specs.Loaded.{loaded_bits, loaded_hits};
 
 use region_list::Regions;
 use std::alloc::{AllocError, Global};
@@ -75,6 +77,38 @@ impl Picks {
     {
         self.bits[k as usize] = hit;
     }
+
+    /// Records the checks of `count` picks from pick `from` on, each with the mark of its page as its
+    /// result, and says how many are hits. There are so many picks, and each of their pages has a mark.
+    pub fn load(&mut self, from: u32, count: u32, marks: &[bool]) -> u32
+        requires within { from + count ≤ length self.old.pages }
+        requires marks { AllByRecursion (λ p. p < length marks.now) self.old.pages }
+        ensures bits { self.new ≡ record self.old { bits = loaded_bits marks.now self.old.pages from count self.old.bits } }
+        ensures hits { result ≡ loaded_hits marks.now self.old.pages from count }
+        ensures few { result ≤ count }
+    {
+        load_bits(&self.pages, &mut self.bits, from, count, marks)
+    }
+}
+
+// Sets the bits of so many picks, from one on, to the marks of their pages, and counts those set.
+fn load_bits(pages: &[u32], bits: &mut [bool], from: u32, count: u32, marks: &[bool]) -> u32
+    requires within { from + count ≤ length pages.now }
+    requires small { length pages.now < 2 ^ 32 }
+    requires each { length bits.old ≡ length pages.now }
+    requires marks { AllByRecursion (λ p. p < length marks.now) pages.now }
+    ensures len { length bits.new ≡ length bits.old }
+    ensures bits { bits.new ≡ loaded_bits marks.now pages.now from count bits.old }
+    ensures hits { result ≡ loaded_hits marks.now pages.now from count }
+    ensures few { result ≤ count }
+{
+    let mut hits = 0;
+    for index in from..from + count {
+        let hit = marks[pages[index as usize] as usize];
+        bits[index as usize] = hit;
+        hits += u32::from(hit);
+    }
+    hits
 }
 
 /// Picks a page of each row: of row `i` the page `start + word i mod pages`. No check is a hit so far.

@@ -4,7 +4,7 @@ use Rattle.region_list.specs.Regions.{RegionList}
 use Rattle.damon_types.specs.Space.{pages_of}
 use Rattle.damon_core.specs.Note.{hit}
 use Rattle.damon_core.specs.Event.{IsLoading, load_index}
-use Rattle.damon_core.specs.Several.{mark_at}
+use Rattle.sampler.specs.Loaded.{mark_at}
 use Rattle.damon_core.specs.State.{State, row_count}
 use Rattle.damon_core.specs.Reached.{Reached}
 use Rattle.damon_core.specs.Stands.{MonitorView, Stands}
@@ -13,18 +13,16 @@ use Rattle.damon_world.specs.Advance.{Advances, IsAdvance}
 use Rattle.damon_world.proofs.Words.{lowest_is_hit}
 use Rattle.damon_world.proofs.Parts.{mark_of_page}
 use Rattle.damon_world.proofs.Stepping.{load_below}
-use Rattle.damon_world.proofs.Advancing.{WordsOf, after_loads_keep, loading_kept, loads_advance, loads_of_kind}
+use Rattle.damon_world.proofs.Advancing.{WordsOf, loading_kept, loads_advance, loads_of_kind}
 use Rattle.damon_world.proofs.world.World.load_run.Goals as goal
 
-pub invariant_of-self : goal.invariant_of-self
-invariant_of-self g c =
+pub loaded_next-requires-clause-some : goal.loaded_next-requires-clause-some
+loaded_next-requires-clause-some g c =
     let m = c.self.inside.monitor in
-    let kept = after_loads_keep c.marks.result.now (load_index m.core.phase) c.at_most-count.result m in
-    let shown = c.loaded_next.ensures.shown in
-    record {
-      each = c.self.invariant.each ∙ ap pages_of (sym kept.space) ∙ ap (λ (x : MonitorView). pages_of x.core.space) (sym shown);
-      room = omega (arith, c.self.invariant.room, kept.cap, ap (λ (x : MonitorView). x.core.regions.cap) shown);
-    }
+    let rows : c.len.result ≡ row_count m.core = c.len.ensures.len ∙ ap (λ (r : RegionList). length r.rows) c.rows.ensures.rows in
+    let loading : IsLoading m.core.phase (row_count m.core) = subst (λ w. IsLoading w.monitor.core.phase (row_count w.monitor.core)) (sym c.self.view_is) c.requires.phase in
+    let index : c.args.next ≡ load_index m.core.phase = c.requires.index ∙ sym (ap (λ w. load_index w.monitor.core.phase) c.self.view_is) in
+    omega (arith, c.at_most-count.ensures, c.requires.some, rows, index, load_below m.core.phase (row_count m.core) loading c.rows.ensures.some)
 
 pub returns : goal.returns
 returns g c =
@@ -34,7 +32,6 @@ returns g c =
     let from = load_index m.core.phase in
     let n = c.at_most-count.result in
     let marks = c.marks.result.now in
-    let kept = after_loads_keep marks from n m in
     let shown = c.loaded_next.ensures.shown in
     let rows : c.len.result ≡ row_count m.core = c.len.ensures.len ∙ ap (λ (r : RegionList). length r.rows) c.rows.ensures.rows in
     let loading : IsLoading m.core.phase (row_count m.core) = subst (λ w. IsLoading w.monitor.core.phase (row_count w.monitor.core)) (sym c.self.view_is) c.requires.phase in
@@ -49,7 +46,7 @@ returns g c =
     ap (λ (bs : List Bool). mark_at bs m.core.picks j) c.marks.ensures
     ∙ mark_of_page inside.words page (omega (arith, in_space, c.self.invariant.each))
     ∙ lowest_is_hit s.notes page (slice_index inside.words page) (words page in_space) done) in
-    let space : c.loaded_next.new.self.core.space ≡ m.core.space = ap (λ (x : MonitorView). x.core.space) shown ∙ kept.space in
+    let space : c.loaded_next.new.self.core.space ≡ m.core.space = ap (λ (x : MonitorView). x.core.space) shown in
     let made = loads_advance stream m c.loaded_next.new.self inside.words inside.source marks from n loading refl within space c.loaded_next.ensures.events true_marks in
     let new : WorldView g.row.R.Denot = record { monitor = c.loaded_next.new.self; words = inside.words; source = inside.source } in
     let count : c.from.result ≡ n = c.from.ensures in
@@ -58,6 +55,6 @@ returns g c =
       some = omega (arith, count, c.at_most-count.ensures, c.requires.some, rows, below, index);
       count = omega (arith, count, c.at_most-count.ensures, rows, index, loads_of_kind m.core.phase (row_count m.core) loading);
       steps = subst (λ j. Advances stream (record { monitor = m; words = inside.words; source = inside.source }) new j) (sym count) made;
-      passes = omega (arith, ap (λ (x : MonitorView). x.core.ticks) shown, kept.ticks);
+      passes = omega (arith, ap (λ (x : MonitorView). x.core.ticks) shown);
       space = space;
     })
