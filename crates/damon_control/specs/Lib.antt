@@ -13,5 +13,7 @@ pub mod Left
 pub mod Views
 pub mod KeyViews
 pub mod Spelling
+pub mod Fits
 pub mod Laws
+pub mod ReadBack
 pub mod Text

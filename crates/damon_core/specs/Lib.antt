@@ -5,6 +5,7 @@ pub mod Event
 pub mod Several
 pub mod After
 pub mod Reached
+pub mod Makes
 pub mod Stands
 pub mod Shown
 pub mod Bound

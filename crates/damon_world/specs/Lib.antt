@@ -2,6 +2,7 @@ pub mod Draws
 pub mod Words
 pub mod Moment
 pub mod Stands
+pub mod Plays
 pub mod Touches
 pub mod Advance
 pub mod Left

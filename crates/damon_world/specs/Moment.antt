@@ -1,5 +1,5 @@
 -- A state with the random words that are still to come, and the next step from it.
-use Rattle.std.specs.Prelude.{◌≡◌, ℕ, true, false, zero, suc, ◌*◌, ◌==◌, List, [], ◌∷◌, ◌++◌, slice_index, if◌then◌else◌}
+use Rattle.std.specs.Prelude.{◌≡◌, ℕ, true, false, zero, suc, ◌*◌, ◌==◌, List, [], ◌∷◌, ◌++◌, length, slice_index, if◌then◌else◌}
 use Rattle.rand_core.specs.Stream.{Stream}
 use Rattle.live_commit.specs.declared.phase.Phase.{Phase}
 use Rattle.live_commit.specs.declared.phase.Phase.TheVariants.{Idle, Clearing, Armed, Checking, Void, Due}
@@ -60,3 +60,18 @@ stepped_times (suc n) m = stepped (stepped_times n m)
 abbrev pub events_of_steps : ℕ → Moment → List Event
 events_of_steps zero m = []
 events_of_steps (suc n) m = events_of_steps n m ++ next_event (stepped_times n m).state (stepped_times n m).stream ∷ []
+
+-- how many random words an event takes
+abbrev pub drawn_by : Event → ℕ
+drawn_by (prepare words) = length words
+drawn_by (aggregate words) = length words
+drawn_by _ = 0
+
+-- the moment after an event
+abbrev pub moved : Moment → Event → Moment
+moved m e = record { state = after m.state e; stream = drawn_rest (drawn_by e) m.stream }
+
+-- the moment after events
+abbrev pub along : Moment → List Event → Moment
+along m [] = m
+along m (e ∷ es) = along (moved m e) es
