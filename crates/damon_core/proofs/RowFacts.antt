@@ -15,7 +15,7 @@ use Rattle.damon_types.specs.Space.{pages_of}
 use Rattle.damon_types.specs.Within.{LiesInTarget, AreWithin}
 use Rattle.region_list.specs.Tiles.{Tiles, LiesIn, span_holds, range_holds}
 use Rattle.region_list.specs.Tiling.{Chain, Tiling}
-use Rattle.region_list.specs.Division.{divided, range_rows, rows_from, parts}
+use Rattle.region_list.specs.Division.{divided, range_rows, rows_from, range_row_count}
 use Rattle.region_list.specs.Join.{average}
 use Rattle.region_list.specs.Shrink.{closest, joined_at, joined_times, shrunk}
 use Rattle.sampler.specs.Counted.{raised}
@@ -79,7 +79,7 @@ counts-rows_from t size end (suc (suc n)) at = (omega arith, counts-rows_from t 
 counts-range_rows : (unit least total : ℕ) (gs : List Range) → AllByRecursion (λ r. r.count ≤ 0) (flat_map (range_rows unit least total) gs)
 counts-range_rows unit least total [] = tt
 counts-range_rows unit least total (g ∷ gs) =
-    let k = parts unit least total g in
+    let k = range_row_count unit least total g in
     all_append (λ r. r.count ≤ 0) (range_rows unit least total g) (flat_map (range_rows unit least total) gs) (counts-rows_from g.target (g.pages / k) (end_of g) k g.first) (counts-range_rows unit least total gs)
 
 -- a division counts nothing

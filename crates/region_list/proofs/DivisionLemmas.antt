@@ -11,7 +11,7 @@ use Rattle.damon_types.specs.declared.range.Range.{Range}
 use Rattle.damon_types.specs.Ranges.{end_of, page_total}
 use Rattle.damon_types.specs.Span.{spans, span_of}
 use Rattle.region_list.specs.Tiling.{Chain, Tiling}
-use Rattle.region_list.specs.Division.{fresh, rows_from, range_rows, divided, parts}
+use Rattle.region_list.specs.Division.{fresh, rows_from, range_rows, divided, range_row_count}
 
 -- one row of several, and the others
 pub rows_from_more : (t size end n start : ℕ) → 1 < n → rows_from t size end n start ≡ fresh t start size ∷ rows_from t size end (n - 1) (start + size)
@@ -43,7 +43,7 @@ length-rows_from t size end (suc (suc n)) start = omega (arith, length-rows_from
 length-divided_le : (unit least total : ℕ) (gs : List Range) → length (flat_map (range_rows unit least total) gs) ≤ length gs + sum_by (λ g. g.pages * least / total) gs
 length-divided_le unit least total [] = omega arith
 length-divided_le unit least total (g ∷ gs) =
-    let k = parts unit least total g in
+    let k = range_row_count unit least total g in
     omega (arith, length-divided_le unit least total gs, sum_by-cons (λ (h : Range). h.pages * least / total) g gs, length-append (range_rows unit least total g) (flat_map (range_rows unit least total) gs), length-rows_from g.target (g.pages / k) (end_of g) k g.first)
 
 -- the shares of the ranges are together at most what is aimed at
@@ -60,16 +60,16 @@ divided_fits unit least gs some =
     omega (arith, length-divided_le unit least total gs, shares)
 
 -- a range is divided into a row at least
-parts_some : (unit least total : ℕ) (g : Range) → 1 ≤ unit → unit ≤ g.pages → 1 ≤ parts unit least total g
-parts_some unit least total g some wide =
+range_row_count_some : (unit least total : ℕ) (g : Range) → 1 ≤ unit → unit ≤ g.pages → 1 ≤ range_row_count unit least total g
+range_row_count_some unit least total g some wide =
     let most : 1 ≤ g.pages / unit = (le-div_iff_mul-le some).1 (omega arith) in
     omega (arith, most)
 
 -- and into rows of at least the unit
-parts_wide : (unit least total : ℕ) (g : Range) → 1 ≤ unit → unit ≤ g.pages → unit ≤ g.pages / parts unit least total g
-parts_wide unit least total g some wide =
-    let k = parts unit least total g in
-    let k_some : 0 < k = parts_some unit least total g some wide in
+range_row_count_wide : (unit least total : ℕ) (g : Range) → 1 ≤ unit → unit ≤ g.pages → unit ≤ g.pages / range_row_count unit least total g
+range_row_count_wide unit least total g some wide =
+    let k = range_row_count unit least total g in
+    let k_some : 0 < k = range_row_count_some unit least total g some wide in
     let most : k ≤ g.pages / unit = omega arith in
     (le-div_iff_mul-le k_some).1 (omega (arith, (le-div_iff_mul-le some).0 most))
 
@@ -77,13 +77,13 @@ parts_wide unit least total g some wide =
 pub divided_tiling : (unit least total : ℕ) (gs : List Range) → 1 ≤ unit → AllByRecursion (λ g. unit ≤ g.pages) gs → Tiling unit gs (spans (flat_map (range_rows unit least total) gs))
 divided_tiling unit least total [] some wide = refl
 divided_tiling unit least total (g ∷ gs) some wide =
-    let k = parts unit least total g in
+    let k = range_row_count unit least total g in
     let rows = range_rows unit least total g in
     let fits : g.first + g.pages / k * k ≤ end_of g = omega (arith, div-mul-le_self g.pages k) in (
       spans rows,
       spans (flat_map (range_rows unit least total) gs),
       map-append span_of rows (flat_map (range_rows unit least total) gs),
-      chain_rows unit g.target (g.pages / k) (end_of g) k g.first (parts_wide unit least total g some wide.0) (parts_some unit least total g some wide.0) fits,
+      chain_rows unit g.target (g.pages / k) (end_of g) k g.first (range_row_count_wide unit least total g some wide.0) (range_row_count_some unit least total g some wide.0) fits,
       divided_tiling unit least total gs some wide.1,
     )
 

@@ -5,23 +5,23 @@ use Rattle.damon_types.specs.declared.range.Range.{Range}
 use Rattle.damon_types.specs.declared.row.Row.{Row}
 use Rattle.damon_types.specs.Ranges.{end_of, page_total}
 
--- into how many rows a range is divided
-abbrev pub parts : ℕ → ℕ → ℕ → Range → ℕ
-parts unit least total g = min (g.pages / unit) (max 1 (g.pages * least / total))
+-- the number of rows that a range is divided into
+abbrev pub range_row_count : ℕ → ℕ → ℕ → Range → ℕ
+range_row_count unit least total g = min (g.pages / unit) (max 1 (g.pages * least / total))
 
--- a row of a target with no accesses yet
+-- a row that has not been accessed
 abbrev pub fresh : ℕ → ℕ → ℕ → Row
 fresh t start pages = record { target = t; start = start; pages = pages; count = 0; last = 0; age = 0 }
 
--- so many rows of a size from a page on, the last with the rest up to the end
+-- n rows of this size that begin at page `at`; the last one ends at `end`
 abbrev pub rows_from : ℕ → ℕ → ℕ → ℕ → ℕ → List Row
 rows_from t size end zero at = []
 rows_from t size end (suc zero) at = fresh t at (end - at) ∷ []
 rows_from t size end (suc (suc n)) at = fresh t at size ∷ rows_from t size end (suc n) (at + size)
 
--- the rows of one range: equal ones, the last with the rest
+-- the rows of one range: all of one size but the last, which takes the rest
 abbrev pub range_rows : ℕ → ℕ → ℕ → Range → List Row
-range_rows unit least total g = let k = parts unit least total g in rows_from g.target (g.pages / k) (end_of g) k g.first
+range_rows unit least total g = let k = range_row_count unit least total g in rows_from g.target (g.pages / k) (end_of g) k g.first
 
 -- the rows of all ranges in order
 abbrev pub divided : ℕ → ℕ → List Range → List Row

@@ -2,11 +2,11 @@
 use Rattle.std.specs.Prelude.{ℕ, ◌+◌, ◌*◌, ◌/◌}
 use Rattle.damon_types.specs.declared.row.Row.{Row}
 
--- the average of a number of some pages and a number of others, rounded down
+-- the average of two numbers, weighted by pages and rounded down
 abbrev pub average : ℕ → ℕ → ℕ → ℕ → ℕ
 average x x_pages y y_pages = (x * x_pages + y * y_pages) / (x_pages + y_pages)
 
--- the row that a row and the one right behind it become
+-- a row joined with the next one: the pages of both, and averages weighted by pages
 abbrev pub join : Row → Row → Row
 join a b = record {
   target = a.target;

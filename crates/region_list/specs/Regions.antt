@@ -6,7 +6,7 @@ use Rattle.damon_types.specs.Ranges.{InOrder}
 use Rattle.damon_types.specs.Span.{spans}
 use Rattle.region_list.specs.Tiling.{Tiling}
 
--- the ranges and the rows of a monitor, its least size of a row, and how many rows there may be ever and now
+-- the ranges of a monitor, the rows that tile them, the least pages of a row, and the most rows ever (`cap`) and now (`max`)
 pub record RegionList : Type 0 where
   pub ranges : List Range
   pub rows : List Row
@@ -14,7 +14,7 @@ pub record RegionList : Type 0 where
   pub cap : ℕ
   pub max : ℕ
 
--- what a region list keeps
+-- the invariant of a region list
 pub record IsRegionList (r : RegionList) : Type 0 where
   pub order : InOrder r.ranges
   pub tiling : Tiling r.unit r.ranges (spans r.rows)

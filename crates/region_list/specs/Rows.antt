@@ -2,25 +2,25 @@
 use Rattle.std.specs.Prelude.{ℕ, ◌≤◌, ◌<◌, ◌^◌, List, length, slice_set, slice_index_or}
 use Rattle.damon_types.specs.declared.row.Row.{Row}
 
--- rows, and how many fit
+-- rows, and the number for which there is room
 pub record RowList : Type 0 where
   pub rows : List Row
   pub cap : ℕ
 
--- the rows fit, and so much is reserved for them
+-- the rows fit within the capacity, which is reserved
 pub record IsRoomFor (rows : List Row) (cap space : ℕ) : Type 0 where
   pub room : length rows ≤ cap
   pub small : cap < 2 ^ 32
   pub reserved : cap ≤ space
 
--- a row that stands nowhere
+-- the row that stands for an index past the end
 abbrev pub no_row : Row
 no_row = record { target = 0; start = 0; pages = 0; count = 0; last = 0; age = 0 }
 
--- the row at a place of the list
+-- the row with this index
 abbrev pub row_at : List Row → ℕ → Row
 row_at rows i = slice_index_or rows i no_row
 
--- the rows with other numbers at one place
+-- the rows with another count, last count and age at one index
 abbrev pub with_values : List Row → ℕ → ℕ → ℕ → ℕ → List Row
 with_values rows i count last age = slice_set rows i (record (row_at rows i) { count = count; last = last; age = age })

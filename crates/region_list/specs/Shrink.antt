@@ -1,4 +1,4 @@
--- Rows joined until there are few enough.
+-- Shrinking: the closest rows are joined until there are at most as many as allowed.
 use Rattle.std.specs.Prelude.{ℕ, zero, suc, ◌+◌, ◌-◌, Bool, ◌&&◌, ◌==◌, nat_le, min, List, [], ◌∷◌, length, if◌then◌else◌}
 use Rattle.std.specs.Int.{abs_diff}
 use Rattle.std.specs.List.{list_any}
@@ -15,11 +15,11 @@ holds_row g r = (r.target == g.target) && (nat_le g.first r.start && nat_le (r.s
 abbrev pub in_one_range : List Range → Row → Row → Bool
 in_one_range ranges a b = list_any (λ g. holds_row g a && holds_row g b) ranges
 
--- by how much the counts of two rows differ
+-- the difference of the counts of two rows
 abbrev pub difference : Row → Row → ℕ
 difference a b = abs_diff a.count b.count
 
--- the differences of the adjacent rows that lie in one range
+-- the differences of adjacent rows of one range, in order
 abbrev pub differences : List Range → List Row → List ℕ
 differences ranges [] = []
 differences ranges (a ∷ []) = []
@@ -31,28 +31,28 @@ least [] = 0
 least (d ∷ []) = d
 least (d ∷ e ∷ others) = min d (least (e ∷ others))
 
--- how many rows stand before the first adjacent ones of one range that differ by so much
+-- the index of the first row whose count differs from that of the next row of its range by d
 abbrev pub place : List Range → ℕ → List Row → ℕ
 place ranges d [] = 0
 place ranges d (a ∷ []) = 1
 place ranges d (a ∷ b ∷ rows) = if in_one_range ranges a b && (difference a b == d) then 0 else suc (place ranges d (b ∷ rows))
 
--- how many rows stand before the first of the adjacent ones of one range that differ least
+-- the index of the first row of the adjacent pair of one range whose counts differ least
 abbrev pub closest : List Range → List Row → ℕ
 closest ranges rows = place ranges (least (differences ranges rows)) rows
 
--- the rows with the one behind so many and the next one joined
+-- the rows with row i and the next one joined
 abbrev pub joined_at : ℕ → List Row → List Row
 joined_at i [] = []
 joined_at i (a ∷ []) = a ∷ []
 joined_at zero (a ∷ b ∷ rows) = join a b ∷ rows
 joined_at (suc i) (a ∷ b ∷ rows) = a ∷ joined_at i (b ∷ rows)
 
--- the rows after so many joins, each of the first of the closest rows
+-- the rows after n joins, each of the first closest pair
 abbrev pub joined_times : List Range → ℕ → List Row → List Row
 joined_times ranges zero rows = rows
 joined_times ranges (suc n) rows = joined_times ranges n (joined_at (closest ranges rows) rows)
 
--- the rows after as many joins as leave this many rows
+-- the rows shrunk to this number by joining closest pairs
 abbrev pub shrunk : List Range → ℕ → List Row → List Row
 shrunk ranges to rows = joined_times ranges (length rows - to) rows

@@ -3,15 +3,16 @@ ghost use Rattle.std.specs.List.{AllByRecursion};
 ghost use Rattle.damon_types.specs.Ranges.{end_of};
 ghost use Rattle.damon_types.specs.Span.{spans};
 ghost use Rattle.region_list.specs.Tiling.{Tiling};
-ghost use Rattle.region_list.specs.Division.{fresh, rows_from, divided, parts as parts_of};
+ghost use Rattle.region_list.specs.Division.{fresh, rows_from, divided, range_row_count};
 
 use crate::RowBuf;
 use damon_types::{Range, Ranges, Row};
 
-/// Makes the list the initial division of the ranges: each range of p pages is divided into
-/// `max(1, p × min div total)` rows, but at most `p div unit`, of equal size, the last with the rest.
-/// Counts and ages are 0. `unit` is not 0, each range has at least `unit` pages, and there is room for
-/// `min` rows more than there are ranges. This division is the project's own.
+/// Makes the list the initial division of the ranges. A range of p pages is divided into
+/// `max(1, p × min div total)` rows, but at most `p div unit`; they have one size, and the last takes
+/// the rest. Counts and ages are 0. `unit` (pages) is at least 1, each range has at least `unit`
+/// pages, and the capacity is at least the number of ranges plus `min`. This rule is the project's
+/// own.
 pub fn divide(ranges: &Ranges, unit: u32, min: u32, rows: &mut RowBuf)
     requires unit { 1 ≤ unit }
     requires wide { AllByRecursion (λ g. unit ≤ g.pages) ranges.now.list }
@@ -23,17 +24,17 @@ pub fn divide(ranges: &Ranges, unit: u32, min: u32, rows: &mut RowBuf)
     let total = ranges.total();
     for index in 0..ranges.len() {
         let range = ranges.get(index);
-        let count = parts(range, total, unit, min);
-        push_parts(range, range.pages / count, count, rows);
+        let count = row_count(range, total, unit, min);
+        push_rows(range, range.pages / count, count, rows);
     }
 }
 
-// Into how many rows the range is divided.
-fn parts(range: Range, total: u32, unit: u32, min: u32) -> u32
+// The number of rows that a range is divided into.
+fn row_count(range: Range, total: u32, unit: u32, min: u32) -> u32
     requires unit { 1 ≤ unit }
     requires total { range.pages ≤ total }
     requires wide { unit ≤ range.pages }
-    ensures exact { result ≡ parts_of unit min total range }
+    ensures exact { result ≡ range_row_count unit min total range }
     ensures some { 1 ≤ result }
     ensures fits { unit ≤ range.pages / result }
     ensures few { result ≤ min + 1 }
@@ -42,13 +43,15 @@ fn parts(range: Range, total: u32, unit: u32, min: u32) -> u32
     share.max(1).min(u64::from(range.pages / unit)) as u32
 }
 
-// Appends so many rows of a size, the last with the rest of the range.
-fn push_parts(range: Range, size: u32, count: u32, rows: &mut RowBuf)
+// Appends `count` rows of this size for a range; the last takes the rest.
+fn push_rows(range: Range, size: u32, count: u32, rows: &mut RowBuf)
     requires some { 1 ≤ count }
     requires fits { size * count ≤ range.pages }
     requires end { end_of range < 2 ^ 32 }
     requires room { length rows.old.rows + count ≤ rows.old.cap }
-    ensures { rows.new ≡ record rows.old { rows = rows.old.rows ++ rows_from range.target size (end_of range) count range.first } }
+    ensures { rows.new ≡ record rows.old {
+      rows = rows.old.rows ++ rows_from range.target size (end_of range) count range.first;
+    } }
 {
     let end = range.first + range.pages;
     let mut start = range.first;
@@ -61,7 +64,7 @@ fn push_parts(range: Range, size: u32, count: u32, rows: &mut RowBuf)
     rows.push(fresh_row(range.target, start, end - start));
 }
 
-// A row with no accesses yet.
+// A row that has not been accessed.
 fn fresh_row(target: u32, start: u32, pages: u32) -> Row
     ensures { result ≡ fresh target start pages }
 {

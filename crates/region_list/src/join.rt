@@ -3,9 +3,9 @@ ghost use Rattle.region_list.specs.Join.{average as average_of, join};
 
 use damon_types::Row;
 
-/// The row that a row and the one right behind it become: the pages of both, and for the count, the
-/// last count and the age the average over these pages, rounded down. There is a page, and there are
-/// fewer than 2^32.
+/// Joins a row with the next one. The result has the start of the first and the pages of both; its
+/// count, last count and age are averages weighted by pages and rounded down. The first row has a
+/// page, and both have fewer than 2^32. The averages are this project's own.
 pub fn join_rows(a: &Row, b: &Row) -> Row
     requires some { 1 ≤ a.now.pages }
     requires few { a.now.pages + b.now.pages < 2 ^ 32 }
@@ -21,7 +21,7 @@ pub fn join_rows(a: &Row, b: &Row) -> Row
     }
 }
 
-// The average of one number on so many pages and another on so many, rounded down.
+// The average of two numbers, weighted by pages and rounded down.
 fn average(x: u32, x_pages: u32, y: u32, y_pages: u32) -> u32
     requires some { 1 ≤ x_pages }
     requires few { x_pages + y_pages < 2 ^ 32 }

@@ -1,4 +1,4 @@
-// What holds of the definitions, for the crates above.
+// Laws of the definitions, for the crates above. No function here does anything.
 ghost use Rattle.std.specs.Prelude.{ℕ, ◌≤◌, List, length};
 ghost use Rattle.std.specs.List.{AllByRecursion};
 ghost use Rattle.damon_types.specs.declared.range.Range.{Range as range};
@@ -10,20 +10,27 @@ ghost use Rattle.region_list.specs.Tiling.{Tiling};
 ghost use Rattle.region_list.specs.Division.{divided};
 ghost use Rattle.region_list.specs.Shrink.{shrunk};
 
-/// Rows that tile ranges range by range tile them page by page, where a row has at least one page and
-/// the ranges are in order.
+/// Rows that tile ranges range by range (`Tiling`) tile them page by page (`Tiles`), where the minimum
+/// size is at least one page and the ranges are in order.
 pub fn tiling_is_per_page()
-    ensures { (unit : ℕ) (gs : List range) (rows : List Span) → 1 ≤ unit → InOrder gs → Tiling unit gs rows → Tiles gs rows unit }
+    ensures { (unit : ℕ) (gs : List range) (rows : List Span)
+        → 1 ≤ unit → InOrder gs → Tiling unit gs rows → Tiles gs rows unit }
 {}
 
-/// The initial division tiles its ranges, where each has at least `unit` pages.
+/// The initial division tiles its ranges, where each range has at least `unit` pages.
 pub fn division_tiles()
-    ensures { (unit min : ℕ) (gs : List range) → 1 ≤ unit → AllByRecursion (λ g. unit ≤ g.pages) gs → Tiling unit gs (spans (divided unit min gs)) }
+    ensures { (unit min : ℕ) (gs : List range)
+        → 1 ≤ unit → AllByRecursion (λ g. unit ≤ g.pages) gs
+        → Tiling unit gs (spans (divided unit min gs)) }
 {}
 
-/// Rows that tile their ranges, each with at least one page, are at most `to` when they are shrunk to
-/// that, where there are at most `to` ranges; and they tile with any least size with which they did.
+/// Rows that tile their ranges are at most `to` after they are shrunk to `to`, where there are at most
+/// `to` ranges; and they still tile with each minimum size with which they did before.
 pub fn shrunk_rows_tile()
-    ensures few { (to : ℕ) (gs : List range) (rows : List row) → InOrder gs → Tiling 1 gs (spans rows) → length gs ≤ to → length (shrunk gs to rows) ≤ to }
-    ensures tiling { (unit to : ℕ) (gs : List range) (rows : List row) → InOrder gs → Tiling 1 gs (spans rows) → length gs ≤ to → Tiling unit gs (spans rows) → Tiling unit gs (spans (shrunk gs to rows)) }
+    ensures few { (to : ℕ) (gs : List range) (rows : List row)
+        → InOrder gs → Tiling 1 gs (spans rows) → length gs ≤ to
+        → length (shrunk gs to rows) ≤ to }
+    ensures tiling { (unit to : ℕ) (gs : List range) (rows : List row)
+        → InOrder gs → Tiling 1 gs (spans rows) → length gs ≤ to
+        → Tiling unit gs (spans rows) → Tiling unit gs (spans (shrunk gs to rows)) }
 {}

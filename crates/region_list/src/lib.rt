@@ -1,18 +1,18 @@
-//! The rows of a monitor: lists of rows, the initial division of ranges, rows that tile their ranges,
-//! rows joined until there are few enough.
+//! The rows of a monitor (its regions): lists of rows, the initial division of ranges, rows that tile
+//! their ranges, and shrinking.
 #![tactic(auto)]
 
 /// The initial division of ranges.
 mod division;
-/// Two rows joined to one.
+/// Joining two rows.
 mod join;
-/// What tiling, division and shrinking mean.
+/// Laws of tiling, division and shrinking.
 mod laws;
 /// Rows that tile their ranges.
 mod regions;
-/// A list of rows with room for a bound.
+/// A list of rows with a fixed capacity.
 mod row_buf;
-/// Rows joined until there are few enough.
+/// Shrinking a list of rows.
 mod shrink;
 
 pub use division::divide;

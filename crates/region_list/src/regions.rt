@@ -30,18 +30,20 @@ impl Model for Regions {
 
     ghost view = { λ r. record { ranges = r.ranges.list; rows = r.rows.items; unit = r.unit; cap = r.cap; max = r.max } };
 
-    ghost invariant = { λ r. IsRegionList (record { ranges = r.ranges.list; rows = r.rows.items; unit = r.unit; cap = r.cap; max = r.max }) × (r.ranges.cap ≡ r.cap) × (r.cap ≤ vec_capacity r.rows) };
+    ghost invariant = { λ r. IsRegionList (record { ranges = r.ranges.list; rows = r.rows.items; unit = r.unit; cap = r.cap; max = r.max })
+        × (r.ranges.cap ≡ r.cap) × (r.cap ≤ vec_capacity r.rows) };
 }
 
 impl Regions {
-    /// No ranges and no rows, with room for `cap` of each; at most `max` rows are allowed, from 1 to
-    /// `cap`, each of at least `unit` pages, which is not 0. Takes memory for them, and no other call
-    /// does; the error is that there is none.
+    /// No ranges and no rows, with room for `cap` of each, or an error when out of memory. At most
+    /// `max` rows will be allowed (1 to `cap`), each of at least `unit` pages (at least 1). No other
+    /// call takes memory.
     pub fn new(alloc: Global, unit: u32, cap: u32, max: u32) -> Result<Regions, AllocError>
         requires unit { 1 ≤ unit }
         requires least { 1 ≤ max }
         requires most { max ≤ cap }
-        ensures { IfOk result (λ r. r ≡ record { ranges = []; rows = []; unit = unit; cap = cap; max = max }) }
+        ensures { IfOk result (λ r.
+            r ≡ record { ranges = []; rows = []; unit = unit; cap = cap; max = max }) }
     {
         let ranges = Ranges::new(alloc, cap)?;
         let rows = Vec::with_capacity(alloc, cap as usize)?;
@@ -54,16 +56,19 @@ impl Regions {
         })
     }
 
-    /// Puts these ranges, these rows and this `max` in place of what was there. The rows tile the
-    /// ranges by this list's unit and are at most `max`, which is from 1 to `cap`; there are at most
-    /// `cap` ranges.
+    /// Replaces the ranges, the rows and `max`. The rows tile the ranges with this list's `unit` and
+    /// are at most `max`, which is 1 to `cap`; there are at most `cap` ranges.
     pub fn replace(&mut self, ranges: &Ranges, rows: &RowBuf, max: u32)
         requires tiling { Tiling self.old.unit ranges.now.list (spans rows.now.rows) }
         requires few { length rows.now.rows ≤ max }
         requires least { 1 ≤ max }
         requires most { max ≤ self.old.cap }
         requires ranges { length ranges.now.list ≤ self.old.cap }
-        ensures { self.new ≡ record self.old { ranges = ranges.now.list; rows = rows.now.rows; max = max } }
+        ensures { self.new ≡ record self.old {
+          ranges = ranges.now.list;
+          rows = rows.now.rows;
+          max = max;
+        } }
     {
         self.ranges.copy_from(ranges);
         self.rows.clear();
@@ -71,7 +76,7 @@ impl Regions {
         self.max = max;
     }
 
-    /// The number of rows. What always holds of the rows comes with it.
+    /// The number of rows. Its clauses also say what holds of every region list.
     pub fn len(&self) -> u32
         ensures len { result ≡ length self.now.rows }
         ensures few { result ≤ self.now.max }
@@ -84,28 +89,28 @@ impl Regions {
         self.rows.len() as u32
     }
 
-    /// The most rows that are allowed now.
+    /// The most rows allowed now.
     pub fn max(&self) -> u32
         ensures { result ≡ self.now.max }
     {
         self.max
     }
 
-    /// The most rows that are ever allowed.
+    /// The most rows ever allowed.
     pub fn cap(&self) -> u32
         ensures { result ≡ self.now.cap }
     {
         self.cap
     }
 
-    /// The fewest pages that a row may have.
+    /// The minimum size of a row in pages.
     pub fn unit(&self) -> u32
         ensures { result ≡ self.now.unit }
     {
         self.unit
     }
 
-    /// How many rows more are allowed now.
+    /// How many more rows are allowed now.
     pub fn room(&self) -> u32
         ensures { result ≡ self.now.max - length self.now.rows }
     {
@@ -120,8 +125,15 @@ impl Regions {
         &self.ranges
     }
 
-    /// The row with this index, which is below the number of rows. What holds of each row comes with
-    /// it: it has at least `unit` pages, and ends below 2^32.
+    /// The rows in order of their pages.
+    pub fn rows(&self) -> &[Row]
+        ensures { result.now ≡ self.now.rows }
+    {
+        &self.rows
+    }
+
+    /// The row with this index, which is below the number of rows. It has at least `unit` pages and
+    /// ends below page 2^32.
     pub fn row(&self, index: u32) -> Row
         requires { index < length self.now.rows }
         ensures row { slice_get self.now.rows index ≡ Some result }
@@ -132,11 +144,13 @@ impl Regions {
         self.rows[index as usize]
     }
 
-    /// Gives the row with this index, which is below the number of rows, another count, last count and
-    /// age. Where it lies stays.
+    /// Sets the count, last count and age of the row with this index, which is below the number of
+    /// rows. The row's pages stay.
     pub fn set_values(&mut self, index: u32, count: u32, last: u32, age: u32)
         requires { index < length self.old.rows }
-        ensures { self.new ≡ record self.old { rows = with_values self.old.rows index count last age } }
+        ensures { self.new ≡ record self.old {
+          rows = with_values self.old.rows index count last age;
+        } }
     {
         let row = &mut self.rows[index as usize];
         row.count = count;

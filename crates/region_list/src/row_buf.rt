@@ -7,7 +7,7 @@ use damon_types::Row;
 use std::alloc::{AllocError, Global};
 use std::marker::Model;
 
-/// A list of rows with room for a fixed number of them. The rows need not tile anything.
+/// A list of rows with a fixed capacity. The rows need not tile anything.
 #[derive(Drop)]
 pub struct RowBuf {
     rows: Vec<Row>,
@@ -26,8 +26,8 @@ impl Model for RowBuf {
 }
 
 impl RowBuf {
-    /// The empty list, with room for `cap` rows. Takes memory for them, and no other call does; the
-    /// error is that there is none.
+    /// The empty list with room for `cap` rows, or an error when out of memory. No other call takes
+    /// memory.
     pub fn new(alloc: Global, cap: u32) -> Result<RowBuf, AllocError>
         ensures { IfOk result (λ b. b ≡ record { rows = []; cap = cap }) }
     {
@@ -35,7 +35,7 @@ impl RowBuf {
         Ok(RowBuf { rows, cap })
     }
 
-    /// For how many rows there is room.
+    /// The number of rows for which there is room.
     pub fn cap(&self) -> u32
         ensures { result ≡ self.now.cap }
     {
@@ -72,7 +72,7 @@ impl RowBuf {
         self.rows.push_reserved(row);
     }
 
-    // Puts the join of the row with this index and the next one in their place.
+    // Replaces the row with this index and the next one by their join.
     pub(crate) fn join_at(&mut self, index: usize)
         requires next { index + 1 < length self.old.rows }
         requires some { 1 ≤ (row_at self.old.rows index).pages }
@@ -84,7 +84,7 @@ impl RowBuf {
         self.rows.remove(index + 1);
     }
 
-    /// Empties the list. The room stays.
+    /// Empties the list. The capacity stays.
     pub fn clear(&mut self)
         ensures { self.new ≡ record self.old { rows = [] } }
     {

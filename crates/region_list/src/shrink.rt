@@ -8,10 +8,10 @@ ghost use Rattle.region_list.specs.Shrink.{closest as closest_of, shrunk};
 use crate::RowBuf;
 use damon_types::{Ranges, Row};
 
-/// Joins adjacent rows of one range until there are at most `to` rows: each time the two whose counts
-/// differ least, and of several such the first. The rows tile the ranges, each with at least one
-/// page, and there are at most `to` ranges. Rows that tile the ranges with at least some number of
-/// pages each still do so afterwards.
+/// Shrinks the list: while there are more than `to` rows, joins the adjacent pair of one range whose
+/// counts differ least, the first such pair where several differ equally. The rows tile the ranges,
+/// each with at least one page, and there are at most `to` ranges. Rows that tile the ranges with a
+/// minimum size still do so afterwards. This rule is the project's own.
 pub fn shrink_rows(rows: &mut RowBuf, ranges: &Ranges, to: u32)
     requires tiling { Tiling 1 ranges.now.list (spans rows.old.rows) }
     requires enough { length ranges.now.list ≤ to }
@@ -25,21 +25,21 @@ pub fn shrink_rows(rows: &mut RowBuf, ranges: &Ranges, to: u32)
     }
 }
 
-// Two rows one behind the other, the first by its index, and by how much their counts differ.
+// An adjacent pair: the index of its first row, and the difference of the counts.
 #[derive(Clone, Copy)]
 struct Pair {
     first: usize,
     difference: u32,
 }
 
-// The index of the first of the adjacent rows of one range whose counts differ least.
+// The index of the first row of the adjacent pair of one range whose counts differ least.
 fn closest(rows: &[Row], ranges: &Ranges) -> usize
     requires tiling { Tiling 1 ranges.now.list (spans rows.now) }
     requires more { length ranges.now.list < length rows.now }
     ensures first { result ≡ closest_of ranges.now.list rows.now }
     ensures order { InOrder ranges.now.list }
 {
-    // This call tells that the ranges are in order, and that their number fits.
+    // For its clauses alone: the ranges are in order, and their number is a u32.
     let _count = ranges.len();
     let mut range = 0;
     let mut end = end_at(ranges, range);
@@ -67,7 +67,7 @@ fn closest(rows: &[Row], ranges: &Ranges) -> usize
     }
 }
 
-// The page after the last one of a range.
+// The page after the last page of a range.
 fn end_at(ranges: &Ranges, index: u32) -> u32
     requires here { index < length ranges.now.list }
     requires order { InOrder ranges.now.list }
@@ -77,7 +77,7 @@ fn end_at(ranges: &Ranges, index: u32) -> u32
     range.first + range.pages
 }
 
-// Of two pairs the one that differs less, and the first where both differ as much.
+// The pair that differs less, or the first where both differ equally.
 fn closer(first: Option<Pair>, next: Pair) -> Pair
     ensures none { IfNone first (result ≡ next) }
     ensures some { IfSome first (λ p. result ≡ (if nat_le p.difference next.difference then p else next)) }

@@ -1,4 +1,4 @@
--- What an appending keeps.
+-- Internal to the proofs: what a failed append leaves.
 use Rattle.std.specs.Prelude.{◌≡◌, ℕ, List, length, take}
 
 -- the new text begins with the old one

@@ -1,4 +1,4 @@
--- The text of a state.
+-- The lines of a report.
 use Rattle.std.specs.Prelude.{ℕ, ◌+◌, ◌*◌, List, ◌++◌, codes}
 use Rattle.std.specs.List.{flat_map}
 use Rattle.std.specs.Fmt.{decimal}
@@ -30,15 +30,17 @@ phase_name Due = codes "due"
 abbrev pub page_address : List Target → ℕ → ℕ
 page_address space page = (place_of space page).addr
 
--- where a row lies: from the address of its first page to that after its last one
+-- the place of a row: its target, its first address, and the address after its last page
 abbrev pub place_part : List Target → Row → List ℕ
 place_part space r =
     codes "row " then decimal r.target then codes " " then spelled_address (page_address space r.start)
     then codes "-" then spelled_address (page_address space r.start + 4096 * r.pages)
 
--- what was counted of a row
+-- the counts and the age of a row
 abbrev pub count_part : Row → List ℕ
-count_part r = codes " count=" then decimal r.count then codes " last=" then decimal r.last then codes " age=" then decimal r.age then codes "\n"
+count_part r =
+    codes " count=" then decimal r.count then codes " last=" then decimal r.last
+    then codes " age=" then decimal r.age then codes "\n"
 
 -- the line of a row
 abbrev pub row_line : List Target → Row → List ℕ
@@ -50,17 +52,19 @@ row_lines space rows = flat_map (row_line space) rows
 
 -- the first line of a show
 abbrev pub show_line : Core → List ℕ
-show_line c = codes "show tick=" then decimal c.ticks then codes " phase=" then phase_name c.phase then codes " rows=" then decimal (row_count c) then codes "\n"
+show_line c =
+    codes "show tick=" then decimal c.ticks then codes " phase=" then phase_name c.phase
+    then codes " rows=" then decimal (row_count c) then codes "\n"
 
--- the text of a state: its first line and the lines of its rows
+-- the text of a show: its first line and the lines of the rows
 abbrev pub state_text : Core → List ℕ
 state_text c = show_line c ++ row_lines c.space c.regions.rows
 
--- what a show writes of a state
+-- what a show writes, in each form
 abbrev pub show_text : Form → Core → List ℕ
 show_text Text c = state_text c
 
--- what is written at the end, of the checks and hits of all finished passes
+-- the last line of a report, with the checks and hits of all finished passes
 abbrev pub end_text : Form → Core → ℕ → ℕ → List ℕ
 end_text Text c checks hits =
     codes "end ticks=" then decimal c.ticks then codes " rows=" then decimal (row_count c)

@@ -1,11 +1,11 @@
-//! The text of a monitor's state.
+//! Reports as text: what a show writes of a monitor, and the last line.
 #![tactic(auto)]
 
 /// The forms of a report.
 mod form;
-/// The line of a row, written from its end to its front.
+/// The line of a row.
 mod row_text;
-/// What is written of a state, and at the end.
+/// The text of a show, and the last line of a report.
 mod show;
 #[cfg(test)]
 mod tests;

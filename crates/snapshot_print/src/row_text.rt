@@ -7,8 +7,9 @@ ghost use Rattle.snapshot_print.specs.Lines.{count_part, place_part, row_line};
 use damon_types::{PAGE_SIZE, Row, Space};
 use line_text::{address_before, number_before};
 
-// Writes the line of a row so that it ends before `end`, and returns where it begins: at most 141
-// bytes earlier.
+// Writes the line of a row so that it ends right before index `end`, and returns the index where it
+// begins. The line has at most 141 bytes. The functions below do the same for a part of the line:
+// written from its end to its start, no length has to be known in advance.
 pub(crate) fn row_before(bytes: &mut [u8], end: usize, row: &Row, space: &Space) -> usize
     requires some { 1 ≤ row.now.pages }
     requires inside { row.now.start + row.now.pages ≤ pages_of space.now }
@@ -21,7 +22,7 @@ pub(crate) fn row_before(bytes: &mut [u8], end: usize, row: &Row, space: &Space)
     place_before(bytes, counts, row, space)
 }
 
-// The same for what was counted of a row: at most 79 bytes.
+// Writes ` count=.. last=.. age=..` and the line's end: at most 79 bytes.
 fn counts_before(bytes: &mut [u8], end: usize, row: &Row) -> usize
     requires room { 79 ≤ end }
     requires within { end ≤ length bytes.old }
@@ -35,7 +36,7 @@ fn counts_before(bytes: &mut [u8], end: usize, row: &Row) -> usize
     field_before(bytes, last, b" count=", u64::from(row.count))
 }
 
-// The same for where a row lies: at most 62 bytes.
+// Writes `row TARGET START-END`: at most 62 bytes.
 fn place_before(bytes: &mut [u8], end: usize, row: &Row, space: &Space) -> usize
     requires some { 1 ≤ row.now.pages }
     requires inside { row.now.start + row.now.pages ≤ pages_of space.now }
@@ -51,7 +52,7 @@ fn place_before(bytes: &mut [u8], end: usize, row: &Row, space: &Space) -> usize
     field_before(bytes, first, b"row ", u64::from(row.target))
 }
 
-// The same for a text and a number in decimal digits.
+// Writes a field's name and a number in decimal.
 #[inline(always)]
 fn field_before(bytes: &mut [u8], end: usize, name: &[u8], value: u64) -> usize
     requires room { length name.now + 20 ≤ end }
@@ -64,7 +65,7 @@ fn field_before(bytes: &mut [u8], end: usize, name: &[u8], value: u64) -> usize
     text_before(bytes, digits, name)
 }
 
-// The same for a text and an address.
+// Writes a separator and an address.
 #[inline(always)]
 fn span_before(bytes: &mut [u8], end: usize, name: &[u8], value: u64) -> usize
     requires room { length name.now + 18 ≤ end }
@@ -77,7 +78,7 @@ fn span_before(bytes: &mut [u8], end: usize, name: &[u8], value: u64) -> usize
     text_before(bytes, address, name)
 }
 
-// The same for a text.
+// Writes a text.
 #[inline(always)]
 fn text_before(bytes: &mut [u8], end: usize, text: &[u8]) -> usize
     requires room { length text.now ≤ end }

@@ -11,12 +11,14 @@ use damon_core::Monitor;
 use damon_types::{Row, Space};
 use line_text::write_number;
 use live_commit::Phase;
-use region_list::Regions;
 use std::alloc::{AllocError, Global};
 
-/// Appends what a show writes of the state: a line with the tick, the phase and the number of rows,
-/// then a line for each row in order, with addresses in bytes. The space is the monitor's. Where
-/// memory runs out, nothing is appended.
+// Bytes enough for the line of any row, which has at most 141.
+const ROW_ROOM: usize = 144;
+
+/// Appends the text of a show: a line with the tick, the phase and the number of rows, then a line for
+/// each row in order, with addresses in bytes. The space is the monitor's. When out of memory,
+/// nothing is appended.
 pub fn print_show(
     alloc: Global,
     out: &mut Vec<u8>,
@@ -36,7 +38,7 @@ pub fn print_show(
 }
 
 /// Appends the last line of a report: the ticks, the number of rows, and the checks and hits of all
-/// finished passes. The space is the monitor's. Where memory runs out, nothing is appended.
+/// finished passes. The space is the monitor's. When out of memory, nothing is appended.
 pub fn print_end(
     alloc: Global,
     out: &mut Vec<u8>,
@@ -45,7 +47,8 @@ pub fn print_end(
     space: &Space,
 ) -> Result<(), AllocError>
     requires { space.now ≡ monitor.now.core.space }
-    ensures ok { OnOk result (out.new.items ≡ out.old.items ++ end_text form monitor.now.core monitor.now.checks monitor.now.hits) }
+    ensures ok { OnOk result (out.new.items ≡ out.old.items
+        ++ end_text form monitor.now.core monitor.now.checks monitor.now.hits) }
     ensures err { OnErr result (out.new.items ≡ out.old.items) }
 {
     let before = out.len();
@@ -55,7 +58,7 @@ pub fn print_end(
     whole_or_nothing(out, before, printed)
 }
 
-// Takes the text from `before` on back where the rest of it could not be appended.
+// Removes what was appended after the first `before` bytes if printing failed.
 fn whole_or_nothing(
     out: &mut Vec<u8>,
     before: usize,
@@ -79,7 +82,7 @@ fn print_state(out: &mut Vec<u8>, monitor: &Monitor, space: &Space) -> Result<()
     ensures kept { KeepsFront out.old.items out.new.items }
 {
     print_first_line(out, monitor)?;
-    print_rows(out, monitor.rows(), space)
+    print_rows(out, monitor.rows().rows(), space)
 }
 
 // Appends the first line of a show.
@@ -98,7 +101,8 @@ fn print_first_line(out: &mut Vec<u8>, monitor: &Monitor) -> Result<(), AllocErr
 // Appends the last line of a report.
 #[tactic(auto, using(crate::proofs::Appending::keeping))]
 fn print_totals(out: &mut Vec<u8>, monitor: &Monitor) -> Result<(), AllocError>
-    ensures ok { OnOk result (out.new.items ≡ out.old.items ++ end_text Form.Text monitor.now.core monitor.now.checks monitor.now.hits) }
+    ensures ok { OnOk result (out.new.items ≡ out.old.items
+        ++ end_text Form.Text monitor.now.core monitor.now.checks monitor.now.hits) }
     ensures kept { KeepsFront out.old.items out.new.items }
 {
     print_field(out, b"end ticks=", monitor.ticks())?;
@@ -110,13 +114,13 @@ fn print_totals(out: &mut Vec<u8>, monitor: &Monitor) -> Result<(), AllocError>
 
 // Appends the lines of the rows.
 #[tactic(auto, using(crate::proofs::Appending::keeping, crate::proofs::Appending::keeps_before, crate::proofs::Rows::more_rows))]
-fn print_rows(out: &mut Vec<u8>, rows: &Regions, space: &Space) -> Result<(), AllocError>
-    requires { AllByRecursion (λ r. (1 ≤ r.pages) × (r.start + r.pages ≤ pages_of space.now)) rows.now.rows }
-    ensures ok { OnOk result (out.new.items ≡ out.old.items ++ row_lines space.now rows.now.rows) }
+fn print_rows(out: &mut Vec<u8>, rows: &[Row], space: &Space) -> Result<(), AllocError>
+    requires { AllByRecursion (λ r. (1 ≤ r.pages) × (r.start + r.pages ≤ pages_of space.now)) rows.now }
+    ensures ok { OnOk result (out.new.items ≡ out.old.items ++ row_lines space.now rows.now) }
     ensures kept { KeepsFront out.old.items out.new.items }
 {
-    for index in 0..rows.len() {
-        print_row(out, &rows.row(index), space)?;
+    for row in rows {
+        print_row(out, row, space)?;
     }
     Ok(())
 }
@@ -129,12 +133,12 @@ fn print_row(out: &mut Vec<u8>, row: &Row, space: &Space) -> Result<(), AllocErr
     ensures ok { OnOk result (out.new.items ≡ out.old.items ++ row_line space.now row.now) }
     ensures kept { KeepsFront out.old.items out.new.items }
 {
-    let mut line = [0; 144];
-    let start = row_before(&mut line, 144, row, space);
+    let mut line = [0; ROW_ROOM];
+    let start = row_before(&mut line, ROW_ROOM, row, space);
     out.extend_from_slice(&line[start..])
 }
 
-// Appends a text and a word.
+// Appends a field's name and a word.
 #[tactic(auto, using(crate::proofs::Appending::keeping))]
 fn print_word(out: &mut Vec<u8>, name: &[u8], word: &[u8]) -> Result<(), AllocError>
     ensures ok { OnOk result (out.new.items ≡ out.old.items ++ name.now ++ word.now) }
@@ -144,7 +148,7 @@ fn print_word(out: &mut Vec<u8>, name: &[u8], word: &[u8]) -> Result<(), AllocEr
     out.extend_from_slice(word)
 }
 
-// Appends a text and a number in decimal digits.
+// Appends a field's name and a number in decimal.
 #[tactic(auto, using(crate::proofs::Appending::keeping))]
 fn print_field(out: &mut Vec<u8>, name: &[u8], value: u64) -> Result<(), AllocError>
     ensures ok { OnOk result (out.new.items ≡ out.old.items ++ name.now ++ decimal value) }
