@@ -3,7 +3,7 @@ use Rattle.std.proofs.Common.{◌≡◌, List, [], ◌∷◌, refl, arith}
 use Rattle.page_words.specs.declared.view.Entry.{Entry}
 use Rattle.page_words.specs.declared.view.Entry.TheVariants.{Clear, Load, Gathered}
 use Rattle.page_words.specs.declared.view.View.TheVariants.{Toucher, Monitor}
-use Rattle.page_words.specs.Clears.{pass_of, IsOdd, clears, clears_of, last_clear, last_pass, IsSingle}
+use Rattle.page_words.specs.Clears.{pass_of, IsOdd, clear_passes, clear_passes_of, last_clear_of, last_clear_pass, IsSingle}
 use Rattle.page_words.specs.Views.{touch, Told}
 use Rattle.page_words.specs.Steps.{after_touch, after_gather}
 
@@ -14,10 +14,10 @@ word_of_pass_three = (refl, refl, refl)
 abbrev some_entries : List Entry
 some_entries = Clear 0 1 ∷ Load 0 3 ∷ Clear 5 2 ∷ Clear 0 3 ∷ Gathered 4 (touch 0 1 ∷ []) ∷ Load 5 4 ∷ []
 
-last_clears : (last_clear 0 some_entries ≡ 3) × (last_clear 5 some_entries ≡ 2) × (last_clear 1 some_entries ≡ 0) × (last_pass some_entries ≡ 3)
+last_clears : (last_clear_of 0 some_entries ≡ 3) × (last_clear_of 5 some_entries ≡ 2) × (last_clear_of 1 some_entries ≡ 0) × (last_clear_pass some_entries ≡ 3)
 last_clears = (refl, refl, refl, refl)
 
-all_clears : (clears some_entries ≡ 1 ∷ 2 ∷ 3 ∷ []) × (clears_of 0 some_entries ≡ 1 ∷ 3 ∷ [])
+all_clears : (clear_passes some_entries ≡ 1 ∷ 2 ∷ 3 ∷ []) × (clear_passes_of 0 some_entries ≡ 1 ∷ 3 ∷ [])
 all_clears = (refl, refl)
 
 single_and_twice : IsSingle 0 1 some_entries × ((IsSingle 0 1 (Clear 0 1 ∷ Clear 0 1 ∷ [])) → ⊥)

@@ -18,9 +18,9 @@ use Rattle.page_words.specs.declared.view.Entry.{Entry}
 use Rattle.page_words.specs.declared.view.Entry.TheVariants.{Clear, Load, Gathered}
 use Rattle.page_words.specs.declared.view.View.{View}
 use Rattle.page_words.specs.declared.view.View.TheVariants.{Toucher, Monitor}
-use Rattle.page_words.specs.Clears.{last_pass}
+use Rattle.page_words.specs.Clears.{last_clear_pass}
 use Rattle.page_words.specs.Views.{touch, Told, Holds, IsAmong, IsKnown, TagsRiseIn}
-use Rattle.page_words.specs.Clauses.{Follows}
+use Rattle.page_words.specs.Clauses.{AreBefore}
 use Rattle.page_words.specs.Rule.{Agree, WordRule}
 use Rattle.page_words.specs.Steps.{Finds}
 use Rattle.page_words.proofs.Lists.{contains_none}
@@ -41,14 +41,19 @@ or_one n = (
     low = let a = bit_at_lowest n in let b = bit_at_lowest 1 in let small : n % 2 < 2 = omega arith in omega arith
 
 pub touches : {S : Type 0} (n slots id k p : ℕ) (ts : List Touch) (c : List (ℕ × S)) → p < n
-    → Allows (WordRule n) slots id (Toucher k ts, c) p (λ m. bit_or m 1) (λ found after. after ≡ (Toucher k (ts ++ touch p (found / 2) ∷ []), c))
+    → Allows (WordRule n) slots id (Toucher k ts, c) p (λ m. bit_or m 1)
+    (λ found after. (after ≡ (Toucher k (ts ++ touch p (found / 2) ∷ []), c)) × TagsRiseIn after.0)
 touches n slots id k p ts c inside s rule _ at _ =
     let found : ℕ = get_or s.words p 0 in
     let tag : ℕ = get_or s.words p 0 / 2 in
     let new : ℕ = bit_or (get_or s.words p 0) 1 in
     let v : View = Toucher k ts in
     let w : View = Toucher k (ts ++ touch p tag ∷ []) in
-    let within : p < length s.words = let e = rule.count in omega arith in (
+    let within : p < length s.words = let e = rule.count in omega arith in
+    let rise : TagsRiseIn w = all_pairs_push (λ t u. t.page ≡ u.page → t.tag ≤ u.tag) ts (touch p tag) (rule.tags v (id, at))
+    (λ i d l same. let x : Touch = get_or ts i d in
+    let below = tag_below s.words rule.entries (IsKnown s.views) x.page x.tag rule.agree (v, (id, at), Contains-get_or ts i d l) in
+    subst (λ z. x.tag ≤ get_or s.words z 0 / 2) same below) in (
       w,
       keeps,
       tt,
@@ -69,14 +74,9 @@ touches n slots id k p ts c inside s rule _ at _ =
             inl
             (known_after s.views id w q d h))
             (agree_touch s.words rule.entries (IsKnown s.views) p new within (or_one found).0 (or_one found).1 rule.agree);
-        tags = tags_after s.views id w
-            (all_pairs_push (λ t u. t.page ≡ u.page → t.tag ≤ u.tag) ts (touch p tag) (rule.tags v (id, at))
-            (λ i d l same. let x : Touch = get_or ts i d in
-            let below = tag_below s.words rule.entries (IsKnown s.views) x.page x.tag rule.agree (v, (id, at), Contains-get_or ts i d l) in
-            subst (λ z. x.tag ≤ get_or s.words z 0 / 2) same below))
-            rule.tags;
+        tags = tags_after s.views id w rise rule.tags;
       },
-      refl,
+      (refl, rise),
     )
 
 -- the monitor's view has become one with these entries, and all else but the words is as it was
@@ -106,7 +106,7 @@ gathered_before es e other k ts h = ⊎_elim (λ (t : Contains es (Gathered k ts
 pub double_half : (c : ℕ) → ((2 * c) / 2 ≡ c) × ((2 * c) % 2 ≡ 0)
 double_half c = (omega arith, omega arith)
 
-pub clears : {S : Type 0} (n slots id p pass out : ℕ) (es : List Entry) (c : List (ℕ × S)) → p < n → 1 ≤ pass → last_pass es ≤ pass
+pub clears : {S : Type 0} (n slots id p pass out : ℕ) (es : List Entry) (c : List (ℕ × S)) → p < n → 1 ≤ pass → last_clear_pass es ≤ pass
     → Allows (WordRule n) slots id (Monitor es out, c) p (λ _. 2 * pass) (λ found after. (after ≡ (Monitor (es ++ Clear p pass ∷ []) out, c)) × Finds (Monitor es out) p found)
 clears n slots id p pass out es c inside some_pass later s rule _ at _ =
     let within : p < length s.words = let e = rule.count in omega arith in
@@ -169,5 +169,5 @@ opens {S} n = record {
     nobody p c (v, (zero, e), h) = let t : Holds (Monitor [] 0) p c = subst (λ x. Holds x p c) (sym (some-injective (Monitor [] 0) v e)) h in contains_none (Gathered t.0 t.1) t.2
     nobody p c (v, (suc j, e), h) = some-ne-none v (sym e)
 
-    nothing : (before : List Entry) (e : Entry) → Follows [] before e → ⊥
+    nothing : (before : List Entry) (e : Entry) → AreBefore [] before e → ⊥
     nothing before e f = let l = ap length f.1 in omega (arith, length-append before (e ∷ f.0))

@@ -6,7 +6,7 @@ use Rattle.page_words.specs.declared.view.View.{View}
 use Rattle.page_words.specs.Clauses.{HasOneMonitor, WordsNameClears, TagsNameClears, OddWordsHaveTouches, TouchesMakeOdd, LoadsFindClears, LoadsFindToldTouches, TagsNeverFall}
 use Rattle.page_words.specs.Views.{IsKnown}
 
--- what the words, the monitor's entries and the known touches say of each other
+-- the words, the monitor's entries and the known touches agree
 pub record Agree (words : List ℕ) (entries : List Entry) (Known : ℕ → ℕ → Type 0) : Type 0 where
   pub clears : WordsNameClears words entries
   pub tags : TagsNameClears entries Known
@@ -15,7 +15,7 @@ pub record Agree (words : List ℕ) (entries : List Entry) (Known : ℕ → ℕ 
   pub loads : LoadsFindClears entries Known
   pub told : LoadsFindToldTouches entries
 
--- the rule: what holds of the words of so many pages and of all views between any two atomic steps
+-- the rule: what holds of the words and of all views between any two atomic steps
 pub record WordRule {S : Type 0} (pages : ℕ) (state : State S View) : Type 0 where
   pub count : length state.words ≡ pages
   pub entries : List Entry

@@ -8,13 +8,13 @@ use Rattle.page_words.specs.declared.view.View.{View}
 use Rattle.page_words.specs.declared.view.View.TheVariants.{Toucher, Monitor, Spent}
 
 -- a touch seat: its table, its worker's number, and its touches in order
-pub record TouchView : Type 0 where
+pub record TouchSeatView : Type 0 where
   pub table : TableId
   pub worker : ℕ
   pub touches : List Touch
 
--- the monitor's seat: its table, what it did in order, and how many touch seats are out
-pub record MonitorView : Type 0 where
+-- the monitor's seat: its table, its entries in order, and the number of touch seats that are out
+pub record MonitorSeatView : Type 0 where
   pub table : TableId
   pub entries : List Entry
   pub out : ℕ
@@ -37,10 +37,10 @@ entries_of (Toucher worker touches) = []
 entries_of (Monitor entries out) = entries
 entries_of Spent = []
 
--- the seat has a touch view, and no slot
-abbrev pub IsToucher : {S : Type 0} → Me S View → Type 0
-IsToucher me = me ≡ (Toucher (worker_of me.0) (touches_of me.0), [])
+-- the seat has a touch view and no slot
+abbrev pub IsTouchSeat : {S : Type 0} → Me S View → Type 0
+IsTouchSeat me = me ≡ (Toucher (worker_of me.0) (touches_of me.0), [])
 
--- the seat has the monitor's view with so many seats out, and no slot
-abbrev pub IsMonitor : {S : Type 0} → Me S View → ℕ → Type 0
-IsMonitor me out = me ≡ (Monitor (entries_of me.0) out, [])
+-- the seat has the monitor's view, with `out` touch seats out, and no slot
+abbrev pub IsMonitorSeat : {S : Type 0} → Me S View → ℕ → Type 0
+IsMonitorSeat me out = me ≡ (Monitor (entries_of me.0) out, [])

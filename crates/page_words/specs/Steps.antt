@@ -1,10 +1,11 @@
--- What each atomic step makes of the view of its seat, and what it tells.
+-- What each atomic step makes of its seat's view, and what it tells. Public contracts cite `ShowsTold` alone; the rest is
+-- internal to the proofs.
 use Rattle.std.specs.Prelude.{◌≡◌, ℕ, ◌+◌, ◌-◌, List, [], ◌∷◌, ◌++◌}
 use Rattle.page_words.specs.declared.view.Entry.{Entry}
 use Rattle.page_words.specs.declared.view.Entry.TheVariants.{Gathered}
 use Rattle.page_words.specs.declared.view.View.{View}
 use Rattle.page_words.specs.declared.view.View.TheVariants.{Toucher, Monitor, Spent}
-use Rattle.page_words.specs.Clears.{pass_of, IsOdd, last_clear, IsSingle}
+use Rattle.page_words.specs.Clears.{pass_of, IsOdd, last_clear_of, IsSingle}
 use Rattle.page_words.specs.Views.{touch, Told}
 
 -- a touch view after a touch
@@ -33,12 +34,13 @@ after_gather (Monitor entries out) Spent = Monitor entries out
 after_gather (Toucher worker touches) gathered = Toucher worker touches
 after_gather Spent gathered = Spent
 
--- the word shows what was told: where a list with a touch of the page and of the word's pass was gathered, and that clear is single, the word is odd
+-- the word shows a touch that was gathered: where a gathered list holds a touch of the page with the word's pass as its
+-- tag, and the page was cleared in that pass only once, the word is odd
 abbrev pub ShowsTold : List Entry → ℕ → ℕ → Type 0
 ShowsTold entries page word = Told entries page (pass_of word) → IsSingle page (pass_of word) entries → IsOdd word
 
 -- what the monitor finds in the word of a page
 abbrev pub Finds : View → ℕ → ℕ → Type 0
 Finds (Toucher worker touches) page word = Unit {0}
-Finds (Monitor entries out) page word = (pass_of word ≡ last_clear page entries) × ShowsTold entries page word
+Finds (Monitor entries out) page word = (pass_of word ≡ last_clear_of page entries) × ShowsTold entries page word
 Finds Spent page word = Unit {0}

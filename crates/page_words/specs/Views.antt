@@ -1,4 +1,4 @@
--- What seats know of touches.
+-- The touches that views hold.
 use Rattle.std.specs.Prelude.{◌≡◌, ℕ, ◌≤◌, Bool, true, false, List}
 use Rattle.std.specs.List.{Contains, AllPairs}
 use mathlib.Core.Option.{some}
@@ -17,13 +17,13 @@ touch page tag = record { page = page; tag = tag }
 abbrev pub Told : List Entry → ℕ → ℕ → Type 0
 Told entries page tag = (worker : ℕ) × (touches : List Touch) × Contains entries (Gathered worker touches) × Contains touches (touch page tag)
 
--- the view holds the touch: a touch view in its list, the monitor's in a list that was gathered
+-- the view holds the touch: a touch view in its list, the monitor's view in a gathered list
 abbrev pub Holds : View → ℕ → ℕ → Type 0
 Holds (Toucher worker touches) page tag = Contains touches (touch page tag)
 Holds (Monitor entries out) page tag = Told entries page tag
 Holds Spent page tag = ⊥
 
--- the view is that of some seat
+-- the view is one of these
 abbrev pub IsAmong : List View → View → Type 0
 IsAmong views view = (seat : ℕ) × (get_elem? views seat ≡ some view)
 

@@ -1,11 +1,12 @@
-// A law of the definitions that the contracts cite, for proofs about callers. The function here does
-// nothing.
+// A law of the definitions that contracts cite. The function does nothing.
 ghost use Rattle.std.specs.Prelude.{◌≡◌, ℕ, List, [], ◌∷◌, ◌++◌};
 ghost use Rattle.page_words.specs.declared.view.Entry.{Entry as entry};
 ghost use Rattle.page_words.specs.declared.view.Entry.TheVariants.{Clear};
-ghost use Rattle.page_words.specs.Clears.{clears_of, last_clear};
+ghost use Rattle.page_words.specs.Clears.{clear_passes_of, last_clear_of};
 
-/// A clear is the last one of its page where no clear of the page stands behind it.
+/// A clear of a page is its last one where no later entry clears the page.
 pub fn clear_is_last()
-    ensures { (page pass : ℕ) (before after : List entry) → clears_of page after ≡ [] → last_clear page (before ++ Clear page pass ∷ after) ≡ pass }
+    ensures { (page pass : ℕ) (before after : List entry)
+        → clear_passes_of page after ≡ []
+        → last_clear_of page (before ++ Clear page pass ∷ after) ≡ pass }
 {}

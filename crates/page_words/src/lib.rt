@@ -1,24 +1,28 @@
-//! The words of pages, which threads touch and one monitor clears and loads, each by one atomic step.
+//! Atomic page words: worker threads touch pages while one monitor clears and loads them, each by one
+//! atomic step.
 //!
 //! A page's word is `2 × c + t`: `c` is the pass that last cleared the page, 0 before the first clear,
 //! and `t` is 1 where the page was touched since. A touch sets the lowest bit and learns `c`, its tag.
 //!
-//! Between any two steps the words, and what all seats did, obey one rule, for any number of touch seats
-//! and the one seat of the monitor: `WordRule` in `specs/Rule.antt`, of the clauses in
-//! `specs/Clauses.antt`. A touch, a clear and a load are one atomic step each, a split and a gathering
-//! one load of word 0. No call waits, and none takes memory but `PageWords::new`.
+//! Between any two steps the words and the views of all seats obey one rule, for any number of touch
+//! seats and the one seat of the monitor: `WordRule` in `specs/Rule.antt`, whose clauses stand in
+//! `specs/Clauses.antt`. The table's type keeps it. What callers learn of it is in the contracts of
+//! [`PageWords`]: `touch`, `clear` and `load` while threads run, and `settle` at the end.
 //!
-//! Nothing is claimed of progress, of fairness, or of the order of two threads' steps. A seat knows its
-//! own steps in order, and of others' steps what the rule says of the words that it finds.
+//! A touch, a clear and a load are one atomic step each; a split and a gather are one load of word 0
+//! each. No call waits, and none but `PageWords::new` takes memory.
+//!
+//! Nothing is claimed about progress, fairness, or the order of steps of different threads. A seat
+//! knows its own steps in order, and of other seats what the rule says of the words that it finds.
 #![tactic(auto)]
 
-/// What the contracts' words have to do with each other.
+/// A law of the definitions.
 mod laws;
-/// What the atomic steps owe and tell.
+/// The rule of the table, and what each atomic step tells.
 mod rule;
-/// The seats that threads step with.
+/// The seats of threads.
 mod seats;
-/// The words when no thread shares them any more.
+/// The words after the sharing has ended.
 mod settled;
 /// The atomic steps.
 mod steps;
@@ -26,9 +30,9 @@ mod steps;
 mod tests;
 #[cfg(test)]
 mod thread_tests;
-/// What a seat knows.
+/// The views of seats, which exist in contracts alone.
 mod view;
-/// The words, and the calls on them.
+/// The shared table of page words.
 mod words;
 
 pub use laws::clear_is_last;

@@ -1,31 +1,36 @@
-// The seats.
+// The seats through which threads step on the table.
 use crate::view::View;
 use atomic_table::Seat;
 use std::marker::Model;
 
-/// A seat with which a thread touches pages. Contracts see its table, its worker's number and its
-/// touches in order.
+/// A seat with which a thread touches pages. In contracts it is its table, its worker's number and
+/// its touches in order.
 ///
-/// A touch seat that is dropped stays out for ever, so that `PageWords::settle` can not be called.
+/// A touch seat that is dropped stays out forever, so `PageWords::settle` cannot be called.
 #[derive(Drop)]
 pub struct TouchSeat {
     pub(crate) seat: Seat<u8, View>,
 }
 
 impl Model for TouchSeat {
-    ghost use Rattle.page_words.specs.Seats.{TouchView, worker_of, touches_of, IsToucher};
+    ghost use Rattle.page_words.specs.Seats.{TouchSeatView, worker_of, touches_of, IsTouchSeat};
 
-    ghost Value = { TouchView };
+    ghost Value = { TouchSeatView };
 
-    ghost view = { λ s. record { table = s.seat.table_id; worker = worker_of s.seat.me.0; touches = touches_of s.seat.me.0 } };
+    ghost view = { λ s. record {
+      table = s.seat.table_id;
+      worker = worker_of s.seat.me.0;
+      touches = touches_of s.seat.me.0;
+    } };
 
-    ghost invariant = { λ s. IsToucher s.seat.me };
+    ghost invariant = { λ s. IsTouchSeat s.seat.me };
 }
 
-/// The seat with which the monitor clears and loads pages, splits touch seats off and gathers them.
-/// Contracts see its table, what it did in order, and how many touch seats are out.
+/// The seat with which the monitor clears and loads pages, and splits off and gathers touch seats. In
+/// contracts it is its table, its entries in order (clears, loads and gathered seats), and the number
+/// of touch seats that are out.
 ///
-/// It is the only one of its table: where it is dropped, `PageWords::settle` can not be called.
+/// A table has one such seat. If it is dropped, `PageWords::settle` cannot be called.
 #[derive(Drop)]
 pub struct MonitorSeat {
     pub(crate) seat: Seat<u8, View>,
@@ -35,30 +40,30 @@ pub struct MonitorSeat {
 
 impl Model for MonitorSeat {
     ghost use Rattle.std.specs.Prelude.{◌≡◌};
-    ghost use Rattle.page_words.specs.Clears.{last_pass};
-    ghost use Rattle.page_words.specs.Seats.{MonitorView, entries_of, IsMonitor};
+    ghost use Rattle.page_words.specs.Clears.{last_clear_pass};
+    ghost use Rattle.page_words.specs.Seats.{MonitorSeatView, entries_of, IsMonitorSeat};
 
-    ghost Value = { MonitorView };
+    ghost Value = { MonitorSeatView };
 
     ghost view = { λ s. record { table = s.seat.table_id; entries = entries_of s.seat.me.0; out = s.out } };
 
-    ghost invariant = { λ s. IsMonitor s.seat.me s.out × (s.last ≡ last_pass (entries_of s.seat.me.0)) };
+    ghost invariant = { λ s. IsMonitorSeat s.seat.me s.out × (s.last ≡ last_clear_pass (entries_of s.seat.me.0)) };
 }
 
 impl MonitorSeat {
     ghost use Rattle.std.specs.Prelude.{◌≡◌};
-    ghost use Rattle.page_words.specs.Clears.{last_pass};
+    ghost use Rattle.page_words.specs.Clears.{last_clear_pass};
 
-    /// How many touch seats were split off and not gathered.
+    /// The number of touch seats that were split off and not gathered.
     pub fn out(&self) -> u32
         ensures { result ≡ self.now.out }
     {
         self.out
     }
 
-    /// The pass of the last clear, 0 before the first.
+    /// The pass of the last clear, 0 before the first one.
     pub fn last(&self) -> u64
-        ensures { result ≡ last_pass self.now.entries }
+        ensures { result ≡ last_clear_pass self.now.entries }
     {
         self.last
     }

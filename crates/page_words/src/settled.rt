@@ -1,9 +1,9 @@
-// The words at the end.
+// The words after the sharing has ended.
 use atomic_table::Closed;
 use std::alloc::Global;
 use std::marker::Model;
 
-/// The words when no thread shares them any more. Contracts see them as a list, one word a page.
+/// The words after the sharing has ended. In contracts it is a list, one word a page.
 pub struct Settled {
     pub(crate) closed: Closed<u8, Global>,
 }
@@ -22,7 +22,7 @@ impl Model for Settled {
 impl Settled {
     ghost use Rattle.std.specs.Prelude.{◌≡◌, ◌<◌, length, slice_index};
 
-    /// The word of a page, which is one of the table's.
+    /// The word of a page of the table.
     #[tactic(auto, using(crate::proofs::Lists::index_of_found))]
     pub fn word(&self, page: u32) -> u64
         requires { page < length self.now }

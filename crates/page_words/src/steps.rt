@@ -5,6 +5,7 @@ ghost use Rattle.page_words.specs.declared.view.View.TheVariants.{Toucher};
 ghost use Rattle.page_words.specs.Clears.{pass_of};
 ghost use Rattle.page_words.specs.Keeping.{TouchKeeps, ClearKeeps, LoadKeeps, SplitKeeps, GatherKeeps};
 ghost use Rattle.page_words.specs.Steps.{after_touch, with_entry, after_split, after_gather, Finds};
+ghost use Rattle.page_words.specs.Views.{TagsRiseIn};
 
 use crate::rule::{Clears, Gathers, Loads, Numbered, PageWordRule, Splits, Touches};
 use crate::view::View;
@@ -16,18 +17,19 @@ pub(crate) type Words = Table<u8, View, u32, PageWordRule, Global>;
 
 pub(crate) type RawSeat = Seat<u8, View>;
 
-// Sets the lowest bit of a page's word, and gives the pass that the word named.
+// Sets the lowest bit of a page's word, and returns the pass that the word named.
 pub(crate) fn touch(table: &Words, seat: &mut RawSeat, page: u32) -> u64
     requires table { seat.old.table_id ≡ table.now.shared.table_id }
     requires page { page < table.now.shared.table_id.words }
     requires keeps { TouchKeeps table.now.shared.key table.now.shared.table_id.slots seat.old.id seat.old.me page }
     ensures table { seat.new.table_id ≡ seat.old.table_id }
     ensures me { seat.new.me ≡ (after_touch seat.old.me.0 page result, seat.old.me.1) }
+    ensures tags { TagsRiseIn seat.new.me.0 }
 {
     table.shared.fetch_or::<Touches>(seat, page as usize, 1) / 2
 }
 
-// Puts the word that names the pass in place of a page's word, which it gives.
+// Replaces a page's word by twice the pass, and returns the old word.
 pub(crate) fn clear(table: &Words, seat: &mut RawSeat, page: u32, pass: u64) -> u64
     requires table { seat.old.table_id ≡ table.now.shared.table_id }
     requires page { page < table.now.shared.table_id.words }
@@ -40,7 +42,7 @@ pub(crate) fn clear(table: &Words, seat: &mut RawSeat, page: u32, pass: u64) -> 
     table.shared.swap::<Clears>(seat, page as usize, 2 * pass)
 }
 
-// Gives a page's word.
+// Returns a page's word.
 pub(crate) fn load(table: &Words, seat: &mut RawSeat, page: u32) -> u64
     requires table { seat.old.table_id ≡ table.now.shared.table_id }
     requires page { page < table.now.shared.table_id.words }
@@ -52,7 +54,7 @@ pub(crate) fn load(table: &Words, seat: &mut RawSeat, page: u32) -> u64
     table.shared.load::<Loads>(seat, page as usize)
 }
 
-// Gives the seat of a worker, whose number W has too.
+// Splits off the seat of a worker. W carries the worker's number for the proof.
 pub(crate) fn split<W: Numbered>(table: &Words, seat: &mut RawSeat, worker: u32) -> RawSeat
     requires number { W.number ≡ worker }
     requires table { seat.old.table_id ≡ table.now.shared.table_id }
@@ -66,7 +68,7 @@ pub(crate) fn split<W: Numbered>(table: &Words, seat: &mut RawSeat, worker: u32)
     table.shared.split_seat::<Splits<W>>(seat)
 }
 
-// Takes in another seat.
+// Gathers another seat.
 pub(crate) fn gather(table: &Words, seat: &mut RawSeat, other: RawSeat)
     requires table { seat.old.table_id ≡ table.now.shared.table_id }
     requires other_table { other.table_id ≡ table.now.shared.table_id }

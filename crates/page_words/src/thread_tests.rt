@@ -1,6 +1,6 @@
 // Eight workers touch in threads of their own while the monitor clears and loads.
 ghost use Rattle.std.specs.Prelude.{◌≡◌, ◌+◌, ◌<◌, ◌≤◌, ◌^◌, [], IfOk, length};
-ghost use Rattle.page_words.specs.Clears.{last_pass};
+ghost use Rattle.page_words.specs.Clears.{last_clear_pass};
 
 use crate::{MonitorSeat, PageWords, Settled, Touch, TouchSeat, WordsAndSeat};
 use std::alloc::{AllocError, Global};
@@ -62,9 +62,9 @@ fn clear_pages(words: &PageWords, seat: &mut MonitorSeat, pass: u64)
     requires pages { words.now.words ≡ 4 }
     requires some { 1 ≤ pass }
     requires most { pass ≤ 2 ^ 62 }
-    requires later { last_pass seat.old.entries ≤ pass }
+    requires later { last_clear_pass seat.old.entries ≤ pass }
     ensures table { seat.new.table ≡ seat.old.table }
-    ensures last { last_pass seat.new.entries ≤ pass }
+    ensures last { last_clear_pass seat.new.entries ≤ pass }
 {
     'clearing: for page in 0..PAGES {
         words.clear(seat, page, pass);
@@ -81,7 +81,7 @@ fn load_pages(
     requires table { seat.old.table ≡ words.now }
     requires pages { words.now.words ≡ 4 }
     ensures table { seat.new.table ≡ seat.old.table }
-    ensures last { last_pass seat.new.entries ≡ last_pass seat.old.entries }
+    ensures last { last_clear_pass seat.new.entries ≡ last_clear_pass seat.old.entries }
 {
     'loading: for page in 0..PAGES {
         let word = words.load(seat, page);
@@ -94,7 +94,7 @@ fn load_pages(
 fn watch(words: &PageWords, mut seat: MonitorSeat, alloc: Global) -> Result<Run, AllocError>
     requires table { seat.table ≡ words.now }
     requires pages { words.now.words ≡ 4 }
-    requires none { last_pass seat.entries ≡ 0 }
+    requires none { last_clear_pass seat.entries ≡ 0 }
     ensures { IfOk result (λ r. r.seat.table ≡ words.now) }
 {
     let mut loads = Vec::new(alloc);
@@ -119,7 +119,7 @@ fn run_beside<R: Threads + Sync>(
 ) -> Result<Run, AllocError>
     requires table { seat.table ≡ words.now }
     requires pages { words.now.words ≡ 4 }
-    requires none { last_pass seat.entries ≡ 0 }
+    requires none { last_clear_pass seat.entries ≡ 0 }
     requires room { seat.out + workers < 2 ^ 32 }
     ensures { IfOk result (λ r. r.seat.table ≡ words.now) }
 {
@@ -132,7 +132,7 @@ fn run_beside<R: Threads + Sync>(
         rt,
         || touch_pages(words, touch, alloc),
         || -> Result<Run, AllocError>
-            requires { (seat.table ≡ words.now) × (words.now.words ≡ 4) × (last_pass seat.entries ≡ 0) × (seat.out + others < 2 ^ 32) }
+            requires { (seat.table ≡ words.now) × (words.now.words ≡ 4) × (last_clear_pass seat.entries ≡ 0) × (seat.out + others < 2 ^ 32) }
             ensures { IfOk result (λ r. r.seat.table ≡ words.entry.now) }
         { run_beside(rt, alloc, words, seat, others) },
     );

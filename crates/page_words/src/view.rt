@@ -1,7 +1,7 @@
-// What seats know. Contracts speak of it; when the program runs, no `View` and no `Entry` is there.
+// The views of seats. They exist in contracts alone: the running program has no `View` and no `Entry`.
 use std::collections::LinkedList;
 
-/// A touch of a page. The tag is the pass that had last cleared the page, 0 before the first clear.
+/// A touch of a page. The tag is the pass that last cleared the page, 0 before the first clear.
 #[derive(Clone, Copy)]
 pub struct Touch {
     pub page: u32,
@@ -27,18 +27,18 @@ pub enum Entry {
     },
 }
 
-/// What a seat knows.
+/// The view of a seat.
 pub enum View {
-    /// Of a touch seat: its worker's number, and its touches in order.
+    /// The view of a touch seat: its worker's number, and its touches in order.
     Toucher {
         worker: u32,
         touches: LinkedList<Touch>,
     },
-    /// Of the monitor's seat: what it did in order, and how many touch seats are out.
+    /// The view of the monitor's seat: its entries in order, and the number of touch seats out.
     Monitor {
         entries: LinkedList<Entry>,
         out: u32,
     },
-    /// Of a seat that was gathered.
+    /// The view of a seat that was gathered.
     Spent,
 }
