@@ -8,17 +8,18 @@
 A ROOT is one of these:
 
     NAME                     a definition, written `crate/File.NAME` where several have the name
-    crate::call              all clauses of an exported function, of a method as `crate::Type::call`
-    crate::call.clause       one clause of it
+    crate::function          all clauses of an exported function, or of a method: `crate::Type::method`
+    crate::function.clause   one clause of it
     all                      all clauses of all exported functions and methods
 
-A definition is an `abbrev`, a `record` or a `data` of some `crates/*/specs/*.antt`. Its words are the
-comment above it, and its lines are those without the comment. Needed are the definitions that its text
-names, and those that they need in turn. Types of Rust and definitions of the toolchain are not counted.
+A definition is an `abbrev`, a `record` or a `data` in `crates/*/specs/*.antt`. The comment above it is
+shown beside its name; its lines are counted without that comment. It needs the definitions that its
+text names, and those that they need in turn. Types of Rust and definitions of the toolchain are not
+counted.
 
-In the page, all between `<!-- NAME -->` and `<!-- end -->` is written by this script: the table `counts`
-and the lists of LISTS. A definition is listed once, in the first list whose roots need it. What is
-needed by no exported clause is counted under `internal`.
+In the page, everything between `<!-- NAME -->` and `<!-- end -->` is written by this script: the table
+`counts` of CLAIMS, and the lists of LISTS. A definition is listed once, in the first list whose roots
+need it. The list `internal` has the definitions that no exported clause needs.
 """
 import re
 import sys
@@ -28,13 +29,16 @@ from typing import NamedTuple
 TOP = Path(__file__).resolve().parent.parent
 PAGE = TOP / "docs/DEFINITIONS.md"
 MACHINE = ["Bound", "opening", "damon_core/After.after", "damon_core/Event.Fits"]
+OK = ["damon_app::replay_main.ok"]
+# A claim in words, its roots, and definitions that a law allows to be read in place of others.
 CLAIMS = [
-    ("the headline, for events: `Bound` of each state that they lead to", MACHINE),
-    ("the headline, for a script: `IsBoundAlong`", ["IsBoundAlong"]),
-    ("which texts are scripts: `IsText`", ["IsText"]),
-    ("clause `ok` of `replay_main`: what was read, and what was written", ["damon_app::replay_main.ok"]),
-    ("all clauses of `replay_main`", ["damon_app::replay_main"]),
-    ("every clause of every exported function", ["all"]),
+    ("the headline, for events: `Bound` of each state that they lead to", MACHINE, {}),
+    ("the headline, for a script: `IsBoundAlong`", ["IsBoundAlong"], {}),
+    ("which texts are scripts: `IsText`", ["IsText"], {}),
+    ("clause `ok` of `replay_main`: what was read, and what was written", OK, {}),
+    ("the same, with the grammar as `IsText` in place of `script_of`", OK, {"script_of": "IsText"}),
+    ("all clauses of `replay_main`", ["damon_app::replay_main"], {}),
+    ("every clause of every exported function", ["all"], {}),
 ]
 LISTS = {"headline": MACHINE, "program": ["damon_app::replay_main", "IsBoundAlong", "IsText"], "crates": ["all"]}
 
@@ -77,35 +81,38 @@ class Repository:
         for crate in crates:
             self.clauses.update(exported_clauses(crate, exports))
 
-    def roots(self, root):
+    def find(self, root):
+        """The definitions that a root names."""
         if root == "all":
-            return [it for needed in self.clauses.values() for it in needed]
+            return [it for named in self.clauses.values() for it in named]
         if "::" in root:
-            found = [needed for name, needed in self.clauses.items() if name == root or name.startswith(root + ".")]
+            found = [named for name, named in self.clauses.items() if name == root or name.startswith(root + ".")]
             if not found:
-                sys.exit(f"there is no exported call or clause {root}")
-            return [it for needed in found for it in needed]
+                sys.exit(f"there is no exported function or clause {root}")
+            return [it for named in found for it in named]
         found = [it for it in self.definitions if root in (it.name, it.path())]
         if len(found) != 1:
-            sys.exit(f"there {'is no definition' if not found else 'are several definitions'} {root}")
+            sys.exit(f"{root} is not one definition: " + (", ".join(it.path() for it in found) or "there is none"))
         return found
 
-    def needed(self, roots):
-        """The definitions that the roots need, in reading order."""
-        open_ones, done = [it for root in roots for it in self.roots(root)], set()
-        while open_ones:
-            it = open_ones.pop()
-            if it not in done:
-                done.add(it)
-                open_ones += names_in(it, self.scopes[it.crate, it.file])
-        return [it for it in self.definitions if it in done]
+    def needed(self, roots, **instead):
+        """The definitions that the roots need, in reading order, with some read instead of others."""
+        waiting, found = [it for root in roots for it in self.find(root)], set()
+        while waiting:
+            it = waiting.pop()
+            if it.name in instead:
+                waiting += self.find(instead[it.name])
+            elif it not in found:
+                found.add(it)
+                waiting += names_in(it, self.scopes[it.crate, it.file])
+        return [it for it in self.definitions if it in found]
 
 
 # Reading specs.
 
 
 def spec_files(crate):
-    """The names of a crate's files of definitions, in the order of its list of modules."""
+    """The names of a crate's files of definitions, in the order in which it lists them."""
     folder = TOP / "crates" / crate / "specs"
     if not (folder / "Lib.antt").exists():
         return []
@@ -129,15 +136,13 @@ def read_specs(crate, name):
             lines = []
         elif line.strip():
             lines.append(line)
-        if line.strip() and not line.startswith(("--", "infix")):
-            words = []
-        elif not line.strip() and not lines:
-            # The comment at the head of the file.
+        if not line.startswith(("--", "infix")):
             words = []
     return [Definition(crate, name, title, said, tuple(lines)) for title, said, lines in found], text
 
 
 def constructors(definition):
+    """The names of a `data`'s cases."""
     if " data " not in f" {definition.lines[0]}":
         return []
     return [line.split(" : ")[0].strip() for line in definition.lines[1:] if " : " in line]
@@ -169,7 +174,7 @@ def names_in(definition, scope):
 
 
 def names_in_group(group, scope):
-    """The same for a signature or one equation, in whose left side only constructors are no variables."""
+    """The same for a signature or one equation; names on an equation's left are variables or cases."""
     left, equals, right = group.partition(" = ")
     if not equals or left.startswith(("abbrev", "pub")):
         left, right = "", group
@@ -179,6 +184,7 @@ def names_in_group(group, scope):
 
 
 def names_in_text(text, scope, variables=frozenset()):
+    """The definitions that a text names by words that are no variables; `do` stands for `>>=`."""
     words = set(WORD.findall(re.sub(r'"[^"]*"|--.*', "", text)))
     words |= {".".join(word.split(".")[:n]) for word in words for n in (1, 2)}
     if "do" in words:
@@ -202,7 +208,7 @@ def exported_clauses(crate, exports):
         scope = scope_of(text, exports)
         for call, body in contracts(text, exported):
             for name, clause in clauses_of(body):
-                clauses[f"{crate}::{call}.{name}"] = list(names_in_text(clause, scope))
+                clauses.setdefault(f"{crate}::{call}.{name}", []).extend(names_in_text(clause, scope))
     return clauses
 
 
@@ -232,6 +238,7 @@ def is_whole(body):
 
 
 def clauses_of(body):
+    """Gives each clause with its name."""
     ends = [*(found.start() for found in CLAUSE.finditer(body)), len(body)]
     for start, end in zip(ends, ends[1:]):
         clause = body[start:end]
@@ -243,8 +250,8 @@ def clauses_of(body):
 
 def counts(repository):
     rows = ["| claim | definitions | lines |", "|---|---|---|"]
-    for words, roots in CLAIMS:
-        needed = repository.needed(roots)
+    for words, roots, instead in CLAIMS:
+        needed = repository.needed(roots, **instead)
         rows.append(f"| {words} | {len(needed)} | {line_count(needed)} |")
     return rows
 

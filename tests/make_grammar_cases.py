@@ -1,5 +1,5 @@
 #!/usr/bin/env python3
-"""Makes the input of the program `grammar_cases`, and the answers that are wanted of it, from
+"""Makes the input of the program `grammar_cases`, and the output that is wanted of it, from
 `tests/cases/bad-script.jsonl`. Run it at the top of the checkout after the cases have changed."""
 import json
 import string
@@ -23,7 +23,7 @@ def main():
 
 
 def answer_of(case):
-    """Says what a text is: where it is a script, the finished program writes no line on standard error."""
+    """Says what a text is: for a script the finished program writes nothing to standard error."""
     return case["stderr"].rstrip("\n") or "is a script"
 
 
