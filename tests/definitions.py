@@ -2,7 +2,7 @@
 """Finds the definitions that a claim stands on, and keeps the lists of docs/DEFINITIONS.md.
 
     tests/definitions.py ROOT ...    prints the definitions that these roots need, and counts them
-    tests/definitions.py --write     writes the lists of docs/DEFINITIONS.md anew
+    tests/definitions.py --write     writes the lists of docs/DEFINITIONS.md again
     tests/definitions.py --check     exits with 1 where --write would change that page
 
 A ROOT is one of these:
@@ -281,7 +281,7 @@ def internal(definitions):
 
 
 def written(page, repository):
-    """The page with its lists written anew."""
+    """The page with its lists written again."""
     blocks, listed = {"counts": counts(repository)}, set()
     for name, roots in LISTS.items():
         fresh = [it for it in repository.needed(roots) if it not in listed]
