@@ -232,9 +232,17 @@ def contracts(text, exported):
 
 def is_whole(body):
     """Whether these lines, from a function's name on, have all of its clauses."""
-    has_clauses = any(CLAUSE.match(line) for line in body)
     last = body[-1].strip()
-    return last.startswith("{") or last.endswith(";") or ("{" in last and not has_clauses)
+    if not any(CLAUSE.match(line) for line in body):
+        return "{" in last or last.endswith(";")
+    # A clause may have lines that look like these ends, but not outside of its braces.
+    before = is_closed(body[:-1])
+    return before and (last.startswith("{") or (last.endswith(";") and is_closed(body)))
+
+
+def is_closed(lines):
+    text = "".join(lines)
+    return text.count("{") == text.count("}")
 
 
 def clauses_of(body):
