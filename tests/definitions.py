@@ -43,7 +43,7 @@ CLAIMS = [
 LISTS = {"headline": MACHINE, "program": ["damon_app::replay_main", "IsBoundAlong", "IsText"], "crates": ["all"]}
 
 USE = re.compile(r"^\s*(?:ghost )?use Rattle\.(\w+)\.specs\.([\w.]+?)(?:\.\{([^}]*)\}| as (\w+))?;?$", re.M | re.S)
-DEFINITION = re.compile(r"^(abbrev pub|abbrev|pub record|record|pub data|data|pub) (?!mod\b)(\S+)")
+DEFINITION = re.compile(r"^(abbrev pub|abbrev|pub record|record|pub data|data) (\S+)")
 FUNCTION = re.compile(r"^(\s*)(pub )?fn (\w+)")
 OWNER = re.compile(r"(?:impl(?:<[^>]*>)?|pub trait) (?:.* for )?(\w+)")
 CLAUSE = re.compile(r"^\s*(?:requires|ensures)\b\s*(\w*)", re.M)
@@ -129,13 +129,12 @@ def read_specs(crate, name):
             words.append(line[2:].strip())
         elif head:
             lines = [line]
-            # What is `pub` alone is a law with its proof: it defines nothing.
-            if head[1] != "pub":
-                found.append((head[2], " ".join(words), lines))
-        elif line.startswith(("use ", "infix")):
-            lines = []
+            found.append((head[2], " ".join(words), lines))
         elif line.strip():
             lines.append(line)
+        else:
+            # After an empty line comes another definition, or a law with its proof, which is none.
+            lines = []
         if not line.startswith(("--", "infix")):
             words = []
     return [Definition(crate, name, title, said, tuple(lines)) for title, said, lines in found], text
