@@ -1,5 +1,5 @@
 #!/usr/bin/env python3
-"""Makes the input of the program `grammar_cases`, and the answers that are wanted of it, from
+"""Makes the input of the program `grammar_cases`, and the output that is wanted of it, from
 `tests/cases/bad-script.jsonl`. Run it at the top of the checkout after the cases have changed."""
 import json
 import string
@@ -12,18 +12,18 @@ KEPT = (string.ascii_letters + string.digits + string.punctuation + " ").replace
 
 
 def main():
-    texts, answers = [], []
+    texts, outputs = [], []
     for line in CASES.read_text().splitlines():
         case = json.loads(line)
         text = quote(case["input"].encode("latin-1"), safe=KEPT)
         texts.append(f"{case['name']} {text}\n")
-        answers.append(f"{case['name']} {answer_of(case)}\n")
+        outputs.append(f"{case['name']} {output_of(case)}\n")
     (CRATE / "stdin").write_text("".join(texts))
-    (CRATE / "stdout").write_text("".join(answers))
+    (CRATE / "stdout").write_text("".join(outputs))
 
 
-def answer_of(case):
-    """Says what a text is: where it is a script, the finished program writes no line on standard error."""
+def output_of(case):
+    """Says what a text is: for a script the finished program writes nothing to standard error."""
     return case["stderr"].rstrip("\n") or "is a script"
 
 

@@ -1,170 +1,274 @@
 #!/usr/bin/env python3
-"""Runs the built program on cases, and compares what it does with what is wanted, byte for byte.
+"""Runs the built program on cases and compares what it does with what is wanted, byte for byte.
 
     tests/run_cases.py [PROGRAM [CASES ...]]
 
-PROGRAM is the built program, `crates/damon/out/damon` of this checkout where it is not given: there
-`rt ci` and `./damon` leave it. Each of CASES is a file of cases, or a folder whose files `*.jsonl`
-are read; where none is given it is `tests/cases`.
+PROGRAM is the built program; the default is `crates/damon/out/damon` of this checkout, where `rt ci`
+and `./damon` leave it. Each of CASES is a file of cases, or a folder whose files `*.jsonl` are read;
+the default is `tests/cases`.
 
-A line of a file of cases is one JSON object with these fields:
+A line of a file of cases is one JSON object. Each character of a text stands for one byte.
 
-    name     the case's own name
-    words    the words after the program's name
-    input    what stands on standard input
-    stdout   what the program is to write to standard output
-    stderr   what it is to write to standard error
-    status   the number with which it is to end
-    not_yet  only where the program cannot do this yet: what is missing
+    name           the case's own name
+    words          the words after the program's name
+    status         the exit status that is wanted
+    stderr         what the program is to write to standard error
+    memory         optional: the most bytes of address space that the program may use
+    not_yet        optional, only where the program cannot do this yet: what is missing
 
-Each character of a word and of a text stands for one byte.
+Exactly one field says what stands on standard input:
 
-In a case with `not_yet` the other fields say what the finished program does. Today it is to end with
-status 11 and the line `not built yet` in place of that. What it is to write before is told by what
-is missing:
+    input          this text
+    input_parts    a list of [text, times]: each text that many times, one after another
+    stdin_from     the file or folder at this path; it starts at the top of the checkout
+
+Exactly one field says what is to become of standard output:
+
+    stdout         the program is to write this text
+    stdout_sha256  the program is to write bytes with this checksum; `stdout_bytes` is their number
+    stdout_to      standard output is the file at this path, and what is written there is not looked at
+
+In a case with `not_yet` the other fields say what the finished program does. Today the program is to
+end with status 11 and the line `not built yet` instead. What it is to write before depends on what is
+missing:
 
     aggregation       the text of the events before the first aggregation, which is `stdout` up to its
                       first line that begins with `aggregate `
     scheme, commit    nothing
 
-Whoever builds the missing part takes the field away: a case that has it fails from then on.
+Whoever builds the missing part removes the field: a case that has it fails from then on.
 
-Each failed case is told with what was wanted and what was given. The last line counts the cases that
-passed and failed, and the exit status is 1 where one failed or none was found.
+Each failed case is printed with what was wanted and what was given. The last line counts the cases
+that passed and failed, and the exit status is 1 where one failed or none was found.
 """
+import hashlib
 import json
+import os
 import re
+import resource
 import subprocess
 import sys
+from contextlib import ExitStack
 from pathlib import Path
+from typing import NamedTuple, Optional, Union
 
 TOP = Path(__file__).resolve().parent.parent
 PROGRAM = TOP / "crates/damon/out/damon"
 CASES = TOP / "tests/cases"
-STREAMS = ("stdout", "stderr")
-FIELDS = {"name": str, "words": list, "input": str, "stdout": str, "stderr": str, "status": int}
+ALWAYS = {"name": str, "words": list, "stderr": str, "status": int}
+OPTIONAL = {"memory": int, "not_yet": str, "stdout_bytes": int}
+INPUTS = {"input": str, "input_parts": list, "stdin_from": str}
+OUTPUTS = {"stdout": str, "stdout_sha256": str, "stdout_to": str}
+FIELDS = {**ALWAYS, **OPTIONAL, **INPUTS, **OUTPUTS}
 MISSING = ("aggregation", "scheme", "commit")
-NOT_YET = {"stderr": b"not built yet\n", "status": 11}
 SECONDS = 60
 # A line with its LF, which the last one may lack.
 LINE = re.compile(rb"[^\n]*\n|[^\n]+")
 
 
+class Digest(NamedTuple):
+    """Bytes that are too many to be stored."""
+
+    sha256: str
+    length: int
+
+
+class Ended(NamedTuple):
+    """What a run of the program comes to. An output of None is not looked at."""
+
+    stdout: Union[bytes, Digest, None]
+    stderr: bytes
+    status: int
+
+
+class Case(NamedTuple):
+    place: str
+    name: str
+    words: list
+    stdin: Union[bytes, Path]
+    stdout_to: Optional[str]
+    memory: Optional[int]
+    # What is wanted today, and what the finished program does: they differ only with `not_yet`.
+    wanted: Ended
+    finished: Ended
+
+
 def main(words):
     program = Path(words[0]).resolve() if words else PROGRAM
     places = [Path(word) for word in words[1:]] or [CASES]
-    lacking = [f"there is no {place}" for place in places if not place.exists()]
+    faults = [f"there is no {place}" for place in places if not place.exists()]
     if not program.is_file():
-        lacking.append(f"there is no program {program}: `rt ci` builds it, and so does ./damon")
-    if lacking:
-        return finish(0, lacking)
+        faults.append(f"there is no program {program}: `rt ci` builds it, and so does ./damon")
+    if faults:
+        return finish(0, faults)
     cases, faults = load(places)
     if not cases:
-        faults.append("there are no cases in " + ", ".join(str(place) for place in places))
-    failed = [said for case in cases for said in try_case(program, case)]
+        faults.append("there are no cases in " + ", ".join(map(str, places)))
+    failed = [report for case in cases for report in try_case(program, case)]
     return finish(len(cases) - len(failed), faults + failed)
 
 
 def finish(passed, faults):
-    """Tells all faults and the counts, and gives the exit status."""
+    """Prints all faults and the counts, and gives the exit status."""
     for fault in faults:
         print(fault)
     print(f"{passed} passed, {len(faults)} failed")
     return 1 if faults else 0
 
 
+# Reading cases.
+
+
 def load(places):
-    """Gives the cases in these places, and tells the lines that are none."""
+    """Gives the cases in these places, and a fault for each line that is not a case."""
     cases, faults, names = [], [], set()
     for place, line in lines_of(places):
         try:
-            cases.append({**case_of(line, names), "place": place})
+            case = case_of(place, json.loads(line))
+            if case.name in names:
+                raise ValueError(f"the name {case.name} is used twice")
+            names.add(case.name)
+            cases.append(case)
         except ValueError as error:
-            faults.append(f"{place}: no case: {error}")
+            faults.append(f"{place}: not a case: {error}")
     return cases, faults
 
 
 def lines_of(places):
-    """Gives each line of the files in these places, with where it stands."""
-    files = [file for place in places for file in files_of(place)]
-    read = [(file, enumerate(file.read_bytes().splitlines(), 1)) for file in files]
-    return [(f"{file}:{number}", line) for file, lines in read for number, line in lines]
+    """Gives each line of the files in these places, with its file and number."""
+    for place in places:
+        for file in sorted(place.glob("*.jsonl")) if place.is_dir() else [place]:
+            for number, line in enumerate(file.read_bytes().splitlines(), 1):
+                yield f"{file}:{number}", line
 
 
-def files_of(place):
-    return sorted(place.glob("*.jsonl")) if place.is_dir() else [place]
-
-
-def case_of(line, names):
-    """Reads a case, whose name is none of these, and puts bytes in the place of its texts."""
-    case = json.loads(line)
-    if not is_case(case):
-        raise ValueError(f"its fields are not {', '.join(FIELDS)} and maybe not_yet, each of its type")
-    if case["name"] in names:
-        raise ValueError(f"the name {case['name']} is used twice")
-    names.add(case["name"])
-    texts = {field: case[field].encode("latin-1") for field in ("input", *STREAMS)}
-    finished = {**case, **texts, "words": [word.encode("latin-1") for word in case["words"]]}
-    return {**finished, "wanted": wanted_of(finished)}
-
-
-def is_case(case):
-    return (
-        isinstance(case, dict)
-        and set(case) - {"not_yet"} == set(FIELDS)
-        and all(isinstance(case[field], kind) for field, kind in FIELDS.items())
-        and all(isinstance(word, str) for word in case["words"])
+def case_of(place, fields):
+    check_fields(fields)
+    finished = Ended(stdout_of(fields), to_bytes(fields["stderr"]), fields["status"])
+    missing = fields.get("not_yet")
+    return Case(
+        place,
+        fields["name"],
+        [to_bytes(word) for word in fields["words"]],
+        stdin_of(fields),
+        fields.get("stdout_to"),
+        fields.get("memory"),
+        Ended(written_before(missing, finished), b"not built yet\n", 11) if missing else finished,
+        finished,
     )
 
 
-def wanted_of(case):
-    """Gives what is wanted today."""
-    finished = {field: case[field] for field in (*STREAMS, "status")}
-    if "not_yet" not in case:
-        return finished
-    if case["not_yet"] not in MISSING:
-        raise ValueError(f"not_yet is none of {', '.join(MISSING)}")
-    return {"stdout": front_of(case) if case["not_yet"] == "aggregation" else b"", **NOT_YET}
+def check_fields(fields):
+    if not isinstance(fields, dict) or set(fields) - set(FIELDS):
+        raise ValueError("it is not an object of the known fields")
+    if lacking := set(ALWAYS) - set(fields):
+        raise ValueError(f"it lacks {', '.join(sorted(lacking))}")
+    for field, value in fields.items():
+        if not isinstance(value, FIELDS[field]):
+            raise ValueError(f"{field} has the wrong type")
+    for choice in (INPUTS, OUTPUTS):
+        if len(set(choice) & set(fields)) != 1:
+            raise ValueError(f"it needs exactly one of {', '.join(choice)}")
+    if ("stdout_sha256" in fields) != ("stdout_bytes" in fields):
+        raise ValueError("stdout_sha256 and stdout_bytes come together")
+    if fields.get("not_yet", MISSING[0]) not in MISSING:
+        raise ValueError(f"not_yet is not one of {', '.join(MISSING)}")
 
 
-def front_of(case):
-    """Gives the lines before the first aggregation."""
-    front, found, _ = (b"\n" + case["stdout"]).partition(b"\naggregate ")
+def to_bytes(text):
+    return text.encode("latin-1")
+
+
+def stdin_of(fields):
+    if "stdin_from" in fields:
+        return TOP / fields["stdin_from"]
+    if "input_parts" in fields:
+        return b"".join(to_bytes(text) * times for text, times in fields["input_parts"])
+    return to_bytes(fields["input"])
+
+
+def stdout_of(fields):
+    if "stdout_to" in fields:
+        return None
+    if "stdout_sha256" in fields:
+        return Digest(fields["stdout_sha256"], fields["stdout_bytes"])
+    return to_bytes(fields["stdout"])
+
+
+def written_before(missing, finished):
+    """Gives what is written before the program comes to the part that is missing."""
+    if missing != "aggregation":
+        return b""
+    if not isinstance(finished.stdout, bytes):
+        raise ValueError("not_yet is aggregation, and there is no text stdout")
+    before, found, _ = (b"\n" + finished.stdout).partition(b"\naggregate ")
     if not found:
         raise ValueError("not_yet is aggregation, and stdout has no line of one")
-    return (front + b"\n")[1:]
+    return (before + b"\n")[1:]
+
+
+# Trying cases.
 
 
 def try_case(program, case):
-    """Runs a case, and tells in one text what is wrong, if anything is."""
-    wrong = wrongs_of(program, case)
-    return ["\n    ".join([f"{case['place']}: {case['name']} failed", *wrong])] if wrong else []
-
-
-def wrongs_of(program, case):
-    how = {"input": case["input"], "capture_output": True, "timeout": SECONDS}
+    """Runs a case, and gives a report if it failed."""
     try:
-        ran = subprocess.run([program, *case["words"]], **how)
+        wrong = differences(case, run(program, case))
     except (OSError, ValueError, subprocess.SubprocessError) as error:
-        return [f"the program could not be run to its end: {error}"]
-    given = {"stdout": ran.stdout, "stderr": ran.stderr, "status": ran.returncode}
-    wrong = [line for field in given for line in unlike(field, case["wanted"][field], given[field])]
-    if wrong and all(given[field] == case[field] for field in given):
-        wrong.append("this is what the finished program is to do: take the field not_yet away")
-    return wrong
+        wrong = [f"the program could not be run to its end: {error}"]
+    return ["\n    ".join([f"{case.place}: {case.name} failed", *wrong])] if wrong else []
 
 
-def unlike(field, wanted, given):
-    """Says in lines how what was given differs from what was wanted."""
+def run(program, case):
+    with ExitStack() as files:
+        how = {"stdout": subprocess.PIPE, "stderr": subprocess.PIPE, "timeout": SECONDS}
+        if isinstance(case.stdin, Path):
+            # `open` would refuse a folder.
+            how["stdin"] = os.open(case.stdin, os.O_RDONLY)
+            files.callback(os.close, how["stdin"])
+        else:
+            how["input"] = case.stdin
+        if case.stdout_to:
+            how["stdout"] = files.enter_context(open(case.stdout_to, "wb"))
+        if case.memory:
+            how["preexec_fn"] = lambda: resource.setrlimit(resource.RLIMIT_AS, (case.memory, case.memory))
+        ran = subprocess.run([program, *case.words], **how)
+    return Ended(ran.stdout, ran.stderr, ran.returncode)
+
+
+def differences(case, given):
+    """Says in lines how what was given differs from what is wanted today."""
+    wanted = case.wanted
+    lines = [*unlike_stdout(wanted.stdout, given.stdout), *unlike_text("stderr", wanted.stderr, given.stderr)]
+    if wanted.status != given.status:
+        lines.append(f"status: wanted {wanted.status}, given {given.status}")
+    if lines and given == case.finished:
+        lines.append("this is what the finished program is to do: remove the field not_yet")
+    return lines
+
+
+def unlike_stdout(wanted, given):
+    if wanted is None:
+        return []
+    if isinstance(wanted, bytes):
+        return unlike_text("stdout", wanted, given)
+    digest = Digest(hashlib.sha256(given).hexdigest(), len(given))
+    return [] if digest == wanted else [f"stdout: wanted {described(wanted)}", f"stdout: given  {described(digest)}"]
+
+
+def described(digest):
+    return f"{digest.length} bytes with SHA-256 {digest.sha256}"
+
+
+def unlike_text(stream, wanted, given):
+    """Names the first line in which two texts differ."""
     if wanted == given:
         return []
-    if field not in STREAMS:
-        return [f"{field}: wanted {wanted}, given {given}"]
     wanted, given = LINE.findall(wanted), LINE.findall(given)
     same = 0
     while wanted[same : same + 1] == given[same : same + 1]:
         same += 1
-    where = f"{field}, line {same + 1}:"
+    where = f"{stream}, line {same + 1}:"
     return [f"{where} wanted {line_at(wanted, same)}", f"{where} given  {line_at(given, same)}"]
 
 

@@ -1,0 +1,68 @@
+#!/usr/bin/env python3
+"""Checks that docs/PROMISES.md names only contracts that the source has.
+
+    tests/promises.py
+
+The heads of that page's tables say what is in them:
+
+    | clause | ..        a clause of `damon_app::replay_main` in each line; the table has all of them
+    | law | ..           an exported function, with its crate
+    | .. | contract |    exported functions and methods of the crate that the section's title names, and
+                         in brackets the names of clauses that at least one of them has. A definition
+                         may be named in place of a function
+"""
+import re
+import sys
+
+from definitions import TOP, Repository
+
+PAGE = TOP / "docs/PROMISES.md"
+TOP_CALL = "damon_app::replay_main"
+NAME = re.compile(r"`([^`]*)`")
+# Functions, and the bracket with clauses that may follow them.
+GROUP = re.compile(r"((?:[^`(]*`[^`]*`)+)\s*(?:\(([^)]*)\))?")
+
+
+def main():
+    repository = Repository()
+    functions = {name.rpartition(".")[0] for name in repository.clauses}
+    known = {*functions, *repository.clauses, *(it.name for it in repository.definitions)}
+    named = list(names_in_page())
+    faults = [f"there is no {names[0]}" for names in named if not known & set(names)]
+    listed = {name for names in named for name in names}
+    there = {name for name in repository.clauses if name.startswith(TOP_CALL + ".")}
+    faults += [f"{name} is missing" for name in sorted(there - listed)]
+    for fault in faults:
+        print(f"{PAGE.relative_to(TOP)}: {fault}")
+    return 1 if faults else 0
+
+
+def names_in_page():
+    """Gives the names of each contract, of which at least one must be there."""
+    crate, head = None, None
+    for line in PAGE.read_text().splitlines():
+        cells = [cell.strip() for cell in line.strip("|").split("|")]
+        if line.startswith("#"):
+            crate = next(iter(NAME.findall(line)), None)
+        if not line.startswith("|"):
+            head = None
+        elif head is None:
+            head = "contract" if cells[-1] == "contract" else cells[0]
+        elif head == "clause":
+            yield from ([f"{TOP_CALL}.{name}"] for name in NAME.findall(cells[0]))
+        elif head == "law":
+            yield from ([name] for name in NAME.findall(cells[0]))
+        elif head == "contract":
+            yield from names_in_cell(crate, cells[-1])
+
+
+def names_in_cell(crate, cell):
+    for before, bracket in GROUP.findall(cell):
+        names = NAME.findall(before)
+        yield from ([f"{crate}::{name}", name] for name in names)
+        for clause in NAME.findall(bracket):
+            yield [f"{crate}::{name}.{clause}" for name in names]
+
+
+if __name__ == "__main__":
+    sys.exit(main())
