@@ -53,6 +53,8 @@ fn schemes_have_limits(rt: HostRuntime) {
     count.pattern.count = reversed;
     let mut age = scheme();
     age.pattern.age = reversed;
+    let mut size_and_reset = size;
+    size_and_reset.quota = Some(Quota { bytes: 1, reset: 0 });
     let mut reset = scheme();
     reset.quota = Some(Quota { bytes: 1, reset: 0 });
     let mut marks = scheme();
@@ -65,6 +67,11 @@ fn schemes_have_limits(rt: HostRuntime) {
         (15, &scheme(), Ok(())),
         (16, &size, Err(SchemeFault::SlotOutOfRange { slot: 16 })),
         (0, &size, Err(SchemeFault::PatternReversed { part: 0 })),
+        (
+            0,
+            &size_and_reset,
+            Err(SchemeFault::PatternReversed { part: 0 }),
+        ),
         (0, &count, Err(SchemeFault::PatternReversed { part: 1 })),
         (0, &age, Err(SchemeFault::PatternReversed { part: 2 })),
         (0, &reset, Err(SchemeFault::ZeroReset)),

@@ -1,10 +1,10 @@
 // Streams over memory, and over readers and writers of std.
 use crate::{Failed, FaultSink, FaultSource, MemSink, MemSource, Sink, Source, StdSink, StdSource};
-use std::io::Cursor;
+use std::io::{self, Cursor, ErrorKind, Read};
 use std::process::Abort;
 use std::test::Fail;
 
-// Reads four bytes at a time, and sees that each read is answered so.
+// Reads four bytes at a time, and checks the result of each read.
 fn expect_reads(rt: &impl Abort, source: &mut impl Source, answers: &[Result<&[u8], Failed>]) {
     for answer in answers {
         let mut buf = [0; 4];
@@ -17,7 +17,7 @@ fn expect_reads(rt: &impl Abort, source: &mut impl Source, answers: &[Result<&[u
     }
 }
 
-// Reads two bytes at a time, and sees that these pieces come.
+// Reads two bytes at a time, and checks that these pieces come.
 fn expect_pieces(rt: &impl Abort, source: &mut impl Source, pieces: &[&[u8]]) {
     for piece in pieces {
         let mut buf = [0; 2];
@@ -27,7 +27,7 @@ fn expect_pieces(rt: &impl Abort, source: &mut impl Source, pieces: &[&[u8]]) {
     }
 }
 
-// Writes each piece, and sees that it is answered so.
+// Writes each piece, and checks the result.
 fn expect_answers(
     rt: &impl Abort,
     sink: &mut impl Sink,
@@ -66,7 +66,34 @@ fn a_reader_of_std_gives_pieces(rt: HostRuntime) {
     expect_pieces(&rt, &mut StdSource::new(bytes), &pieces);
 }
 
-// The cursor answers Ok(0) when its three bytes are written.
+// A reader whose first read fails.
+#[derive(Drop)]
+struct FailsOnce<'a> {
+    bytes: &'a [u8],
+    failed: bool,
+}
+
+impl Read for FailsOnce<'_> {
+    fn read(&mut self, buf: &mut [u8]) -> io::Result<usize> {
+        if !self.failed {
+            self.failed = true;
+            return Err(io::Error::from(ErrorKind::Interrupted));
+        }
+        self.bytes.read(buf)
+    }
+}
+
+#[test]
+fn a_failed_read_is_not_repeated(rt: HostRuntime) {
+    let reader = FailsOnce {
+        bytes: b"abc",
+        failed: false,
+    };
+    let answers: [Result<&[u8], Failed>; 3] = [Err(Failed), Ok(b"abc"), Ok(b"")];
+    expect_reads(&rt, &mut StdSource::new(reader), &answers);
+}
+
+// The cursor returns Ok(0) when its three bytes are full.
 #[test]
 fn a_writer_of_std_that_takes_nothing_has_failed(rt: HostRuntime) {
     let mut bytes = [0; 3];
