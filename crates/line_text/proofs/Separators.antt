@@ -57,6 +57,3 @@ joined-parts separator bytes = join_with_byte-slice_split separator bytes
 pub joined-parts_pieces : (separator : ℕ) (bytes : List ℕ)
     → (joined separator (parts separator bytes) ≡ bytes) × All (IsPiece separator) (parts separator bytes)
 joined-parts_pieces separator bytes = (joined-parts separator bytes, parts_clean separator bytes)
-
-pub same_parts : (separator : ℕ) (a b : List ℕ) → parts separator a ≡ parts separator b → a ≡ b
-same_parts separator a b e = sym (joined-parts separator a) ∙ ap (joined separator) e ∙ joined-parts separator b

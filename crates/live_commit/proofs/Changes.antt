@@ -9,7 +9,7 @@ use Rattle.damon_types.specs.declared.scheme.Scheme.{Scheme}
 use Rattle.damon_types.specs.declared.scheme.SchemeFault.{SchemeFault}
 use Rattle.damon_types.specs.declared.scheme.SlotChange.{SlotChange}
 use Rattle.damon_types.specs.Scheme.{checked_scheme}
-use Rattle.live_commit.specs.Slots.{checked_behind, checked_free, checked_set, checked_slot, checked_slots, has_scheme, kept_slots, scheme_fault, sets}
+use Rattle.live_commit.specs.Slots.{checked_after, checked_free, checked_set, checked_slot, checked_slots, has_scheme, kept_slots, scheme_fault, sets}
 
 -- two checks that find nothing
 pub both_ok : {E : Type 0} (r s : Result (Unit {0}) E) → result_and r s ≡ Ok tt → (r ≡ Ok tt) × (s ≡ Ok tt)
@@ -51,28 +51,28 @@ slot_kept : (before : List SlotChange) (c : SlotChange) → checked_slot (length
 slot_kept before c ok = index_free (length before) (length (kept_slots before)) (list_any (sets c.slot) (kept_slots before)) c.slot c.scheme (rw (sets_kept c.slot before) ok)
 
 -- of changes without a fault those that are kept have none
-behind_kept_by : (before : List SlotChange) (c : SlotChange) (changes : List SlotChange) (b : Bool) → has_scheme c ≡ b → checked_slot (length before) before c ≡ Ok tt → checked_behind (kept_slots (before ++ c ∷ [])) (kept_slots changes) ≡ Ok tt → checked_behind (kept_slots before) (kept_slots (c ∷ changes)) ≡ Ok tt
+behind_kept_by : (before : List SlotChange) (c : SlotChange) (changes : List SlotChange) (b : Bool) → has_scheme c ≡ b → checked_slot (length before) before c ≡ Ok tt → checked_after (kept_slots (before ++ c ∷ [])) (kept_slots changes) ≡ Ok tt → checked_after (kept_slots before) (kept_slots (c ∷ changes)) ≡ Ok tt
 behind_kept_by before c changes true is here rest =
     let parts : kept_slots (before ++ c ∷ []) ≡ kept_slots before ++ c ∷ [] = filter-append has_scheme before (c ∷ []) ∙ ap (λ cs. kept_slots before ++ cs) (kept_first c [] is) in
-    rw (kept_first c changes is, slot_kept before c here) (subst (λ (cs : List SlotChange). checked_behind cs (kept_slots changes) ≡ Ok tt) parts rest)
+    rw (kept_first c changes is, slot_kept before c here) (subst (λ (cs : List SlotChange). checked_after cs (kept_slots changes) ≡ Ok tt) parts rest)
 behind_kept_by before c changes false is here rest =
     let parts : kept_slots (before ++ c ∷ []) ≡ kept_slots before = filter-append has_scheme before (c ∷ []) ∙ ap (λ cs. kept_slots before ++ cs) (dropped_first c [] is) ∙ append-nil (kept_slots before) in
-    rw (dropped_first c changes is) (subst (λ (cs : List SlotChange). checked_behind cs (kept_slots changes) ≡ Ok tt) parts rest)
+    rw (dropped_first c changes is) (subst (λ (cs : List SlotChange). checked_after cs (kept_slots changes) ≡ Ok tt) parts rest)
 
-behind_kept : (before changes : List SlotChange) → checked_behind before changes ≡ Ok tt → checked_behind (kept_slots before) (kept_slots changes) ≡ Ok tt
+behind_kept : (before changes : List SlotChange) → checked_after before changes ≡ Ok tt → checked_after (kept_slots before) (kept_slots changes) ≡ Ok tt
 behind_kept before [] ok = refl
 behind_kept before (c ∷ changes) ok =
-    let both = both_ok (checked_slot (length before) before c) (checked_behind (before ++ c ∷ []) changes) ok in
+    let both = both_ok (checked_slot (length before) before c) (checked_after (before ++ c ∷ []) changes) ok in
     behind_kept_by before c changes (has_scheme c) refl both.0 (behind_kept (before ++ c ∷ []) changes both.1)
 
 pub slots_kept : (changes : List SlotChange) → checked_slots changes ≡ Ok tt → checked_slots (kept_slots changes) ≡ Ok tt
 slots_kept changes ok = behind_kept [] changes ok
 
 -- with one change more behind changes without a fault, only that one can be at fault
-behind-push : (front before : List SlotChange) (c : SlotChange) → checked_behind front before ≡ Ok tt → checked_behind front (before ++ c ∷ []) ≡ checked_slot (length (front ++ before)) (front ++ before) c
+behind-push : (front before : List SlotChange) (c : SlotChange) → checked_after front before ≡ Ok tt → checked_after front (before ++ c ∷ []) ≡ checked_slot (length (front ++ before)) (front ++ before) c
 behind-push front [] c ok = rw (append-nil front) (and_ok (checked_slot (length front) front c))
 behind-push front (b ∷ before) c ok =
-    let both = both_ok (checked_slot (length front) front b) (checked_behind (front ++ b ∷ []) before) ok in
+    let both = both_ok (checked_slot (length front) front b) (checked_after (front ++ b ∷ []) before) ok in
     let same : (front ++ b ∷ []) ++ before ≡ front ++ b ∷ before = append_assoc front (b ∷ []) before in
     rw (both.0) (behind-push (front ++ b ∷ []) before c both.1 ∙ ap (λ cs. checked_slot (length cs) cs c) same)
 
