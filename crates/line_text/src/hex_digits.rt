@@ -70,10 +70,8 @@ fn write_first(value: u64, bytes: &mut [u8], end: usize) -> usize
 fn write_pair(pair: u64, bytes: &mut [u8], at: usize)
     requires small { pair < 256 }
     requires room { at + 2 ≤ length bytes.old }
-    ensures written {
-        drop at bytes.new
-            ≡ digit_glyph false (pair / 16) ∷ digit_glyph false (pair % 16) ∷ drop (at + 2) bytes.old
-    }
+    ensures written { drop at bytes.new
+        ≡ digit_glyph false (pair / 16) ∷ digit_glyph false (pair % 16) ∷ drop (at + 2) bytes.old }
     ensures before { take at bytes.new ≡ take at bytes.old }
 {
     let from = pair as usize * 2;

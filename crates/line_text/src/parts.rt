@@ -25,10 +25,8 @@ fn index_of(bytes: &[u8], byte: u8) -> Option<usize>
 /// The first part, up to the first separator or the end, and the bytes after that separator. `None`
 /// if there is no separator: the part is the last.
 pub fn split_front(bytes: &[u8], separator: u8) -> (&[u8], Option<&[u8]>)
-    ensures exact {
-        parts separator bytes.now
-            ≡ result.0.now ∷ parts_left separator (option_copied result.1)
-    }
+    ensures exact { parts separator bytes.now
+        ≡ result.0.now ∷ parts_left separator (option_copied result.1) }
     ensures shorter { IfSome result.1 (λ rest. length rest.now < length bytes.now) }
 {
     match next_part(bytes, separator) {
