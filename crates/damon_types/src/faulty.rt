@@ -39,8 +39,8 @@ impl<'a> Model for FaultSource<'a> {
 }
 
 impl<'a> FaultSource<'a> {
-    /// A source that gives these bytes, at most `piece` (at least 1) per call. `fails` are the numbers
-    /// of the calls that fail, counted from 1.
+    /// A source that gives these bytes, at most `piece` (at least 1) per call. `fails` are the
+    /// numbers of the calls that fail, counted from 1.
     pub fn new(bytes: &'a [u8], piece: u32, fails: &'a [u32]) -> FaultSource<'a>
         requires { 1 ≤ piece }
         ensures { result ≡ record {
@@ -73,17 +73,19 @@ impl Source for FaultSource<'_> {
 
     ghost faults = { λ s. s.faults };
 
-    /// Gives the bytes that are left, at most `piece` and as many as fit into the buffer, unless this
-    /// call is to fail.
+    /// Gives the bytes that are left, at most `piece` and as many as fit into the buffer, unless
+    /// this call is to fail.
     fn read(&mut self, buf: &mut [u8]) -> Result<usize, Failed>
         ensures bound { ReadsAtMost result buf.new }
         ensures bytes { ReadConsumes (Some self.old.bytes) (Some self.new.bytes) result buf.new }
         ensures cause { HasCause self.old.faults self.new.faults result }
 
         ensures fails { is_err result ≡ is_listed (next_count self.old.calls) self.old.fails }
-        ensures count { IfOk result (λ n. n ≡ min (min (length self.old.bytes) (length buf.old)) self.old.piece) }
+        ensures count { IfOk result (λ n.
+            n ≡ min (min (length self.old.bytes) (length buf.old)) self.old.piece) }
         ensures calls { self.new.calls ≡ next_count self.old.calls }
-        ensures faults { self.new.faults ≡ (if is_err result then next_count self.old.faults else self.old.faults) }
+        ensures faults { self.new.faults
+            ≡ (if is_err result then next_count self.old.faults else self.old.faults) }
         ensures piece { self.new.piece ≡ self.old.piece }
         ensures listed { self.new.fails ≡ self.old.fails }
     {
@@ -97,8 +99,8 @@ impl Source for FaultSource<'_> {
     }
 }
 
-/// A sink that keeps what is written, up to a fixed number of bytes, and takes at most `piece` bytes
-/// per call. It fails at stated calls, and when it is full and the piece is not empty.
+/// A sink that keeps what is written, up to a fixed number of bytes, and takes at most `piece`
+/// bytes per call. It fails at stated calls, and when it is full and the piece is not empty.
 #[derive(Debug, Drop)]
 pub struct FaultSink<'a> {
     bytes: MemSink,
@@ -127,9 +129,9 @@ impl<'a> Model for FaultSink<'a> {
 }
 
 impl<'a> FaultSink<'a> {
-    /// A sink with room for `room` bytes, which takes at most `piece` (at least 1) per call. `fails`
-    /// are the numbers of the calls that fail, counted from 1. Allocates the room; `write` does not
-    /// allocate.
+    /// A sink with room for `room` bytes, which takes at most `piece` (at least 1) per call.
+    /// `fails` are the numbers of the calls that fail, counted from 1. Allocates the room; `write`
+    /// does not allocate.
     pub fn new(
         alloc: Global,
         room: u32,
@@ -176,20 +178,22 @@ impl Sink for FaultSink<'_> {
 
     ghost faults = { λ s. s.faults };
 
-    /// Takes bytes from the front of the piece, at most `piece` and as many as fit, unless this call
-    /// is to fail.
+    /// Takes bytes from the front of the piece, at most `piece` and as many as fit, unless this
+    /// call is to fail.
     fn write(&mut self, piece: &[u8]) -> Result<usize, Failed>
         ensures bound { WritesAtMost result piece.now }
         ensures bytes { WriteAppends (Some self.old.bytes) (Some self.new.bytes) result piece.now }
         ensures some { 0 < length piece.now → IfOk result (λ n. 0 < n) }
         ensures cause { HasCause self.old.faults self.new.faults result }
 
-        ensures fails { IsErr result ↔ ((is_listed (next_count self.old.calls) self.old.fails ≡ true)
+        ensures fails { IsErr result
+            ↔ ((is_listed (next_count self.old.calls) self.old.fails ≡ true)
             ⊎ ((0 < length piece.now) × (self.old.room - length self.old.bytes ≡ 0))) }
         ensures count { IfOk result (λ n. n ≡ min (min (length piece.now) self.old.piece)
             (self.old.room - length self.old.bytes)) }
         ensures calls { self.new.calls ≡ next_count self.old.calls }
-        ensures faults { self.new.faults ≡ (if is_err result then next_count self.old.faults else self.old.faults) }
+        ensures faults { self.new.faults
+            ≡ (if is_err result then next_count self.old.faults else self.old.faults) }
         ensures room { self.new.room ≡ self.old.room }
         ensures piece { self.new.piece ≡ self.old.piece }
         ensures listed { self.new.fails ≡ self.old.fails }

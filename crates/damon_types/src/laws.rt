@@ -11,8 +11,8 @@ pub fn pages_are_numbered()
         → page_of ts (place_of ts page).target (place_of ts page).addr ≡ Some page }
 {}
 
-/// The page of a byte is one of the space's pages, and within a target a byte with a greater address
-/// lies in the same page or a later one.
+/// The page of a byte is one of the space's pages, and within a target a byte with a greater
+/// address lies in the same page or a later one.
 pub fn pages_rise()
     ensures below { (ts : List Target) (target addr page : ℕ) → page_of ts target addr ≡ Some page
         → page < pages_of ts }

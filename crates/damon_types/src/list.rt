@@ -23,7 +23,9 @@ impl<T> Model for PlainList<T> {
 
     ghost Value = { Listed T };
 
-    ghost view = { λ l. record { list = l.items.items; spare = spare_of (vec_capacity l.items) (vec_len l.items) } };
+    ghost view = { λ l. record {
+        list = l.items.items; spare = spare_of (vec_capacity l.items) (vec_len l.items)
+    } };
 
     ghost invariant = { λ l. vec_len l.items < 2 ^ 32 };
 }
@@ -102,7 +104,8 @@ impl<T: Drop> PlainList<T> {
     /// Appends an item. There must be room for it; does not allocate.
     pub fn put(&mut self, item: T)
         requires { 1 ≤ self.old.spare }
-        ensures { self.new ≡ record { list = self.old.list ++ item ∷ []; spare = self.old.spare - 1 } }
+        ensures { self.new
+            ≡ record { list = self.old.list ++ item ∷ []; spare = self.old.spare - 1 } }
     {
         self.items.push_reserved(item);
     }

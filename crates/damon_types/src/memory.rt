@@ -44,7 +44,8 @@ impl Source for MemSource<'_> {
         ensures bytes { ReadConsumes (Some self.old) (Some self.new) result buf.new }
         ensures cause { HasCause 0 0 result }
         ensures count { result ≡ Ok (min (length self.old) (length buf.old)) }
-        ensures rest { let n = min (length self.old) (length buf.old) in drop n buf.new ≡ drop n buf.old }
+        ensures rest { let n = min (length self.old) (length buf.old) in
+            drop n buf.new ≡ drop n buf.old }
     {
         let count = self.bytes.len().min(buf.len());
         let (front, rest) = self.bytes.split_at(count);
@@ -109,7 +110,8 @@ impl Sink for MemSink {
 
         ensures count { IfOk result (λ n. n ≡ min (length piece.now) (spare self.old)) }
         ensures full { IsErr result ↔ ((0 < length piece.now) × (spare self.old ≡ 0)) }
-        ensures faults { self.new.faults ≡ (if is_err result then next_count self.old.faults else self.old.faults) }
+        ensures faults { self.new.faults
+            ≡ (if is_err result then next_count self.old.faults else self.old.faults) }
         ensures room { self.new.room ≡ self.old.room }
     {
         let room = (self.room as usize).saturating_sub(self.bytes.len());

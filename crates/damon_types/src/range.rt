@@ -144,7 +144,8 @@ impl Ranges {
     // How many ranges begin at or before the page.
     fn begun_at(&self, page: u32) -> usize
         ensures within { result ≤ length self.now.list }
-        ensures parts { IsPartitionPoint (λ g. g.first ≤ page) (λ g. page < g.first) self.now.list result }
+        ensures parts { IsPartitionPoint
+            (λ g. g.first ≤ page) (λ g. page < g.first) self.now.list result }
         ensures order { InOrder self.now.list }
     {
         self.items.partition_point(|range| range.first <= page)

@@ -115,8 +115,8 @@ pub enum SchemeFault {
     ZeroReset,
     /// The watermarks are not in the order high ≥ mid ≥ low.
     MarksOutOfOrder,
-    /// The filter with this index is the first with an address that is no multiple of [`PAGE_SIZE`],
-    /// with `from` not below `to`, or with a class above [`MAX_CLASS`].
+    /// The filter with this index is the first with an address that is no multiple of
+    /// [`PAGE_SIZE`], with `from` not below `to`, or with a class above [`MAX_CLASS`].
     BadFilter { index: u32 },
 }
 

@@ -77,8 +77,8 @@ fn schemes_have_limits(rt: HostRuntime) {
         (0, &reset, Err(SchemeFault::ZeroReset)),
         (0, &marks, Err(SchemeFault::MarksOutOfOrder)),
     ];
-    for (slot, scheme, answer) in cases {
-        assert_eq!(rt; scheme.check(slot), answer);
+    for (slot, scheme, result) in cases {
+        assert_eq!(rt; scheme.check(slot), result);
     }
 }
 
@@ -102,12 +102,12 @@ fn filters_have_limits(rt: HostRuntime) {
     for (kind, good) in cases {
         let mut scheme = scheme();
         let _ = scheme.filters.push(filter(kind));
-        let answer = if good {
+        let result = if good {
             Ok(())
         } else {
             Err(SchemeFault::BadFilter { index: 1 })
         };
-        assert_eq!(rt; scheme.check(0), answer, "of {kind:?}");
+        assert_eq!(rt; scheme.check(0), result, "of {kind:?}");
     }
 }
 

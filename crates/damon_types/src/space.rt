@@ -94,9 +94,9 @@ impl Model for Space {
 }
 
 impl Space {
-    /// A space of these targets. An error is the first limit that they break: the number of targets,
-    /// then for each target its pages and its base, then the pages of all. The list must have fewer
-    /// than 2^32 targets. Allocates.
+    /// A space of these targets. An error is the first limit that they break: the number of
+    /// targets, then for each target its pages and its base, then the pages of all. The list must
+    /// have fewer than 2^32 targets. Allocates.
     pub fn new(alloc: Global, targets: &[Target]) -> Result<Space, SpaceFault>
         requires { length targets.now < 2 ^ 32 }
         ensures exact { MadeOf targets.now result }

@@ -43,9 +43,11 @@ impl<R: Read> Source for StdSource<R> {
     /// Makes one read of the reader, and no second one where that fails.
     fn read(&mut self, buf: &mut [u8]) -> Result<usize, Failed>
         ensures bound { ReadsAtMost result buf.new }
-        ensures bytes { ReadConsumes (R.remaining self.old.inner) (R.remaining self.new.inner) result buf.new }
+        ensures bytes { ReadConsumes
+            (R.remaining self.old.inner) (R.remaining self.new.inner) result buf.new }
         ensures cause { HasCause self.old.faults self.new.faults result }
-        ensures faults { self.new.faults ≡ (if is_err result then next_count self.old.faults else self.old.faults) }
+        ensures faults { self.new.faults
+            ≡ (if is_err result then next_count self.old.faults else self.old.faults) }
     {
         match self.inner.read(buf) {
             Ok(count) => Ok(count),
@@ -89,10 +91,12 @@ impl<W: Write> Sink for StdSink<W> {
     /// Makes one write of the writer, and no second one where that fails.
     fn write(&mut self, piece: &[u8]) -> Result<usize, Failed>
         ensures bound { WritesAtMost result piece.now }
-        ensures bytes { WriteAppends (W.contents self.old.inner) (W.contents self.new.inner) result piece.now }
+        ensures bytes { WriteAppends
+            (W.contents self.old.inner) (W.contents self.new.inner) result piece.now }
         ensures some { 0 < length piece.now → IfOk result (λ n. 0 < n) }
         ensures cause { HasCause self.old.faults self.new.faults result }
-        ensures faults { self.new.faults ≡ (if is_err result then next_count self.old.faults else self.old.faults) }
+        ensures faults { self.new.faults
+            ≡ (if is_err result then next_count self.old.faults else self.old.faults) }
     {
         match self.inner.write(piece) {
             Ok(0) if !piece.is_empty() => {

@@ -122,9 +122,9 @@ fn attributes_have_limits(rt: HostRuntime) {
         (3, 3, 0, Err(AttrsFault::AggrOutOfRange { aggr: 0 })),
         (3, 3, 1001, Err(AttrsFault::AggrOutOfRange { aggr: 1001 })),
     ];
-    for (min, max, aggr, answer) in cases {
+    for (min, max, aggr, result) in cases {
         let attrs = Attrs { min, max, aggr };
-        assert_eq!(rt; attrs.check(), answer, "at {attrs:?}");
+        assert_eq!(rt; attrs.check(), result, "at {attrs:?}");
     }
 }
 

@@ -49,8 +49,9 @@ fn hex_value(byte: u8) -> Option<u8>
     }
 }
 
-/// Writes the spelling of an address so that it ends before index `end`, and returns the index of its
-/// first byte, at least `end - 18`. The bytes before that index and from `end` on are unchanged.
+/// Writes the spelling of an address so that it ends before index `end`, and returns the index of
+/// its first byte, at least `end - 18`. The bytes before that index and from `end` on are
+/// unchanged.
 #[inline]
 #[tactic(auto, using(crate::proofs::Hex::length_hex_le))]
 pub fn address_before(bytes: &mut [u8], end: usize, value: u64) -> usize

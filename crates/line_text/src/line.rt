@@ -5,8 +5,8 @@ ghost use Rattle.line_text.specs.Line.{after_prefix, first_word, view_pair};
 use crate::SPACE;
 use crate::parts::next_part;
 
-/// The first word of a line, and the line after the space that follows it. `None` if the line has no
-/// space: then it is one word.
+/// The first word of a line, and the line after the space that follows it. `None` if the line has
+/// no space: then it is one word.
 pub fn next_word(line: &[u8]) -> Option<(&[u8], &[u8])>
     ensures exact { view_pair result ≡ first_word line.now }
     ensures shorter { IfSome result (λ x. length x.1.now < length line.now) }

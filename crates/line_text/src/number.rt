@@ -5,8 +5,8 @@ ghost use Rattle.line_text.specs.Number.{digits_up_to, number, with_digit_up_to}
 use itoa::write_digits;
 use std::alloc::AllocError;
 
-/// The number that a word spells, if it is at most `most`: `0`, or decimal digits the first of which
-/// is not 0. `None` for any other word.
+/// The number that a word spells, if it is at most `most`: `0`, or decimal digits the first of
+/// which is not 0. `None` for any other word.
 pub fn read_number(word: &[u8], most: u64) -> Option<u64>
     ensures exact { result ≡ number most word.now }
     ensures bound { IfSome result (λ n. n ≤ most) }
@@ -43,8 +43,9 @@ pub fn write_number(out: &mut Vec<u8>, value: u64) -> Result<(), AllocError>
     out.extend_from_slice(&digits[start..])
 }
 
-/// Writes the decimal spelling of a number so that it ends before index `end`, and returns the index
-/// of its first byte, at least `end - 20`. The bytes before that index and from `end` on are unchanged.
+/// Writes the decimal spelling of a number so that it ends before index `end`, and returns the
+/// index of its first byte, at least `end - 20`. The bytes before that index and from `end` on are
+/// unchanged.
 #[inline]
 pub fn number_before(bytes: &mut [u8], end: usize, value: u64) -> usize
     requires room { 20 ≤ end }

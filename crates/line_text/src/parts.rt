@@ -44,7 +44,8 @@ pub fn two_parts(bytes: &[u8], separator: u8) -> Option<(&[u8], &[u8])>
     Some((first, second))
 }
 
-/// The three parts between separators, or `None` if there are not exactly three. A part may be empty.
+/// The three parts between separators, or `None` if there are not exactly three. A part may be
+/// empty.
 pub fn three_parts(bytes: &[u8], separator: u8) -> Option<(&[u8], &[u8], &[u8])>
     ensures exact { view_three result ≡ three_of (parts separator bytes.now) }
 {
@@ -72,9 +73,9 @@ fn only_part(bytes: &[u8], separator: u8) -> Option<&[u8]>
     }
 }
 
-/// Whether a line is well-formed: each byte is printable (0x20 to 0x7e), and no word between spaces is
-/// empty. So the line is not empty, does not begin or end with a space, and has no two spaces in a
-/// row.
+/// Whether a line is well-formed: each byte is printable (0x20 to 0x7e), and no word between spaces
+/// is empty. So the line is not empty, does not begin or end with a space, and has no two spaces in
+/// a row.
 pub fn is_plain(line: &[u8]) -> bool
     ensures { result ≡ is_plain line.now }
 {

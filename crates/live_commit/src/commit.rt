@@ -1,6 +1,7 @@
 use damon_types::{Attrs, RangeSpecs, SlotChange};
 
-/// Changes of a running monitor. They take effect in the order of the fields; `None` changes nothing.
+/// Changes of a running monitor. They take effect in the order of the fields; `None` changes
+/// nothing.
 #[derive(Debug, Drop)]
 pub struct Commit {
     /// The new attributes.

@@ -11,7 +11,8 @@ use target_ranges::{check_ranges, fill_checked};
 impl Setup {
     /// A setup of these parts; an error is the first check that failed, in the order of
     /// [`SetupFault`]. `unit` is in pages, and `specs` are in bytes of their targets. A slot change
-    /// without a scheme is ignored. There must be fewer than 2^32 specs and slot changes. Allocates.
+    /// without a scheme is ignored. There must be fewer than 2^32 specs and slot changes.
+    /// Allocates.
     pub fn new(
         alloc: Global,
         space: Space,
@@ -24,7 +25,8 @@ impl Setup {
         requires ranges { length specs.now < 2 ^ 32 }
         requires slots { length slots.now < 2 ^ 32 }
         ensures exact { AnswersAs (checked_setup space unit cap attrs specs.now slots.now) result }
-        ensures made { IfOk result (λ s. value_of s ≡ setup_of space unit cap attrs specs.now slots.now) }
+        ensures made { IfOk result (λ s.
+            value_of s ≡ setup_of space unit cap attrs specs.now slots.now) }
         ensures room { IfOk result (λ s. s.ranges.cap ≡ cap) }
     {
         check_limits(unit, cap, &attrs)?;
@@ -34,8 +36,8 @@ impl Setup {
         Ok(setup)
     }
 
-    /// A setup of parts for which no check of [`Setup::new`] fails. There must be fewer than 2^32 slot
-    /// changes. Allocates; the only error is out of memory.
+    /// A setup of parts for which no check of [`Setup::new`] fails. There must be fewer than 2^32
+    /// slot changes. Allocates; the only error is out of memory.
     pub fn of_checked(
         alloc: Global,
         space: Space,
@@ -47,7 +49,8 @@ impl Setup {
     ) -> Result<Setup, AllocError>
         requires slots { length slots.now < 2 ^ 32 }
         requires checked { checked_setup space unit cap attrs specs.now slots.now ≡ Ok tt }
-        ensures made { IfOk result (λ s. value_of s ≡ setup_of space unit cap attrs specs.now slots.now) }
+        ensures made { IfOk result (λ s.
+            value_of s ≡ setup_of space unit cap attrs specs.now slots.now) }
         ensures room { IfOk result (λ s. s.ranges.cap ≡ cap) }
     {
         let mut ranges = Ranges::new(alloc, cap)?;

@@ -1,6 +1,6 @@
-/// The phase of a monitor. With r rows a sampling pass prepares r picks, clears their pages until the
-/// monitor is `Armed`, loads their pages, and observes; then the monitor is `Due` for an aggregation,
-/// or `Idle` again.
+/// The phase of a monitor. With r rows a sampling pass prepares r picks, clears their pages until
+/// the monitor is `Armed`, loads their pages, and observes; then the monitor is `Due` for an
+/// aggregation, or `Idle` again.
 #[derive(Clone, Copy, Debug, PartialEq, Eq)]
 pub enum Phase {
     /// No pass is running: the next step prepares one.

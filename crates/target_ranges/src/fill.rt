@@ -17,7 +17,8 @@ pub fn fill_ranges(
     specs: &[RangeSpec],
 ) -> Result<(), RangeFault>
     ensures exact { result ≡ checked_ranges space.now unit ranges.old.cap specs.now }
-    ensures made { OnOk result (ranges.new ≡ record ranges.old { list = ranges_of space.now specs.now }) }
+    ensures made { OnOk result
+        (ranges.new ≡ record ranges.old { list = ranges_of space.now specs.now }) }
     ensures kept { OnErr result (ranges.new ≡ ranges.old) }
     ensures within { OnOk result (AreWithin space.now ranges.new.list) }
     ensures wide { OnOk result (All (λ g. unit ≤ g.pages) ranges.new.list) }
@@ -28,8 +29,8 @@ pub fn fill_ranges(
     Ok(())
 }
 
-/// Replaces `ranges` by the pages of ranges that [`check_ranges`] accepts, for some unit and with the
-/// capacity of `ranges` as `cap`. Does not allocate.
+/// Replaces `ranges` by the pages of ranges that [`check_ranges`] accepts, for some unit and with
+/// the capacity of `ranges` as `cap`. Does not allocate.
 pub fn fill_checked(ranges: &mut Ranges, space: &Space, specs: &[RangeSpec])
     requires { (unit : ℕ) × (checked_ranges space.now unit ranges.old.cap specs.now ≡ Ok tt) }
     ensures made { ranges.new ≡ record ranges.old { list = ranges_of space.now specs.now } }

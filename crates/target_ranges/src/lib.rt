@@ -1,4 +1,5 @@
-//! Ranges that a user gives by addresses: which lists are accepted, and the pages that they stand for.
+//! Ranges that a user gives by addresses: which lists are accepted, and the pages that they stand
+//! for.
 #![tactic(auto)]
 
 /// Checking lists of ranges.

@@ -1,4 +1,5 @@
-// Lists of ranges, the first that is rejected, and the pages that they stand for, worked out by hand.
+// Lists of ranges, the first that is rejected, and the pages that they stand for, worked out by
+// hand.
 use crate::{RangeFault, RangeWhy, check_next, check_ranges, fill_checked, fill_ranges};
 use damon_types::{Range, RangeSpec, Ranges, Space, Target};
 use std::test::Fail;
