@@ -5,7 +5,7 @@ use Rattle.std.specs.List.Sorted.{IsPartitionPoint, IsNonDecreasingBy}
 use Rattle.damon_types.specs.declared.range.Range.{Range}
 use Rattle.damon_types.specs.Ranges.{OrderedFrom, InOrder, IsRange, end_of, holds_page, class_of}
 
--- ranges from a page on begin there or behind it
+-- ranges that are ordered from a page begin at or after it
 OrderedFrom-first : (t p : ℕ) (gs : List Range) (i : ℕ) (d : Range) → OrderedFrom t p gs → i < length gs → p ≤ (get_or gs i d).first
 OrderedFrom-first t p [] i d ordered within = absurd (omega arith)
 OrderedFrom-first t p (g ∷ gs) zero d ordered within = ordered.1
@@ -31,7 +31,7 @@ class_of_before t p (g ∷ gs) page d ordered before =
     let not_held : holds_page page g ≡ false = grind (arith, nat_tests) in
     rw not_held (class_of_before g.target (end_of g) gs page d ordered.3 (λ some. omega (arith, OrderedFrom-first g.target (end_of g) gs 0 d ordered.3 some)))
 
--- where the ranges up to this one begin at or before the page, and the others behind it, this one alone may hold it
+-- where this range is the last that begins at or before the page, only it can hold the page
 class_of_last : (t p : ℕ) (gs : List Range) (page i : ℕ) (d : Range) → OrderedFrom t p gs → i < length gs → (get_or gs i d).first ≤ page → (suc i < length gs → page < (get_or gs (suc i) d).first) → class_of gs page ≡ (if holds_page page (get_or gs i d) then Some (get_or gs i d).class else None)
 class_of_last t p [] page i d ordered within from behind = absurd (omega arith)
 class_of_last t p (g ∷ gs) page zero d ordered within from behind =

@@ -65,7 +65,7 @@ pub offsets_rise : (ts : List Target) (offsets : List ℕ) (pages : ℕ) → IsL
 offsets_rise ts offsets pages layout =
     λ i j d le within. omega (arith, offset_at ts offsets pages i d layout (omega arith), offset_at ts offsets pages j d layout within, offset-le ts i j le)
 
--- a search among the offsets stops behind the target that the page belongs to
+-- a search among the offsets stops after the target that the page belongs to
 pub target_found : (ts : List Target) (offsets : List ℕ) (pages page k : ℕ) → IsLayout ts offsets pages → page < pages_of ts → k ≤ length offsets → IsPartitionPoint (λ first. leb first page ≡ true) (λ first. leb first page ≡ false) offsets k → (1 ≤ k) × (offset ts (k - 1) ≤ page) × (page < offset ts k)
 target_found ts offsets pages page k layout below bound point =
     (some, omega (arith, some, leb-true _ _ (point.0 (k - 1) 0 (omega arith) (omega (arith, some))), at (k - 1) (omega (arith, some))), behind (cases_lt k (length offsets)))
@@ -86,7 +86,7 @@ target_found ts offsets pages page k layout below bound point =
     behind (inl within) = omega (arith, leb-false _ _ (point.1 k 0 (omega arith) within), at k within)
     behind (inr past) = omega (arith, ap pages_of (take_all k ts (omega (arith, layout.count))))
 
--- what the place of a page is, that its page is this one, and that it is no high address
+-- the place of a page, the page of that place, and that its address is below 2^63
 pub place_found : (ts : List Target) (offsets : List ℕ) (pages i page first : ℕ) (t : Target) → IsLayout ts offsets pages → i < length ts → offset ts i ≤ page → page < offset ts (i + 1) → t ≡ get_or ts i t → first ≡ get_or offsets i first → (place_of ts page ≡ record { target = i; addr = t.base + 4096 * (page - first) }) × (page_of ts i (t.base + 4096 * (page - first)) ≡ Some page) × (t.base + 4096 * (page - first) < 2 ^ 63)
 place_found ts offsets pages i page first t layout within from to is first_is =
     let held : slice_get ts i ≡ Some t = slice_get_read ts (length ts) i t refl within is in

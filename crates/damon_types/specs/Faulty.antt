@@ -1,9 +1,9 @@
--- What the streams over memory show that fail at stated calls.
+-- Streams over memory that fail at stated calls, as contracts see them.
 use Rattle.std.specs.Prelude.{ℕ, ◌==◌, Bool, List}
 use Rattle.std.specs.List.{list_any}
 
--- the bytes left, the most bytes of a call, the numbers of the calls that fail, and how many calls there were and
--- how many failed
+-- the bytes left, the most bytes per call, the numbers of the calls that fail, and how many calls were made and how
+-- many of them failed
 pub record FaultyGiven : Type 0 where
   pub bytes : List ℕ
   pub piece : ℕ
@@ -11,8 +11,8 @@ pub record FaultyGiven : Type 0 where
   pub calls : ℕ
   pub faults : ℕ
 
--- the bytes taken, for how many there is room in all, the most bytes of a call, the numbers of the calls that fail,
--- and how many calls there were and how many failed
+-- the bytes written, how many fit in all, the most bytes per call, the numbers of the calls that fail, and how many
+-- calls were made and how many of them failed
 pub record FaultyTaken : Type 0 where
   pub bytes : List ℕ
   pub room : ℕ
@@ -21,6 +21,6 @@ pub record FaultyTaken : Type 0 where
   pub calls : ℕ
   pub faults : ℕ
 
--- whether a call is one of those that fail
+-- whether the call with this number is to fail
 abbrev pub is_listed : ℕ → List ℕ → Bool
 is_listed call fails = list_any (λ n. n == call) fails

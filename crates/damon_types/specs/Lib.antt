@@ -1,5 +1,5 @@
-pub mod Causes
 pub mod Memory
+pub mod Causes
 pub mod Faulty
 pub mod Standard
 pub mod Attrs

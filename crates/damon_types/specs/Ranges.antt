@@ -2,7 +2,7 @@
 use Rattle.std.specs.Prelude.{ℕ, ◌+◌, ◌≤◌, ◌<◌, ◌^◌, Bool, ◌&&◌, nat_le, nat_lt, List, [], ◌∷◌, length, sum_by, Option, Some, None, if◌then◌else◌}
 use Rattle.damon_types.specs.declared.range.Range.{Range}
 
--- the ranges of a list, and how many fit
+-- the ranges of a list, and how many fit in all
 pub record RangeList : Type 0 where
   pub list : List Range
   pub cap : ℕ
@@ -11,17 +11,18 @@ pub record RangeList : Type 0 where
 abbrev pub end_of : Range → ℕ
 end_of g = g.first + g.pages
 
--- what a range keeps by itself
+-- a range that has a page and ends before page 2^32
 pub record IsRange (g : Range) : Type 0 where
   pub pages : 1 ≤ g.pages
   pub end : end_of g < 2 ^ 32
 
--- ranges that begin at or after this page, of this target or a later one, one after another
+-- ranges without overlap, by target and then by address, that begin at or after this page, in this target or a later one
 abbrev pub OrderedFrom : ℕ → ℕ → List Range → Type 0
 OrderedFrom target page [] = Unit {0}
-OrderedFrom target page (g ∷ gs) = (target ≤ g.target) × (page ≤ g.first) × IsRange g × OrderedFrom g.target (end_of g) gs
+OrderedFrom target page (g ∷ gs) =
+    (target ≤ g.target) × (page ≤ g.first) × IsRange g × OrderedFrom g.target (end_of g) gs
 
--- by target, then address, without overlap, each with a page
+-- ranges without overlap, by target and then by address
 abbrev pub InOrder : List Range → Type 0
 InOrder gs = OrderedFrom 0 0 gs
 
@@ -31,11 +32,11 @@ Follows [] g = Unit {0}
 Follows (h ∷ []) g = (h.target ≤ g.target) × (end_of h ≤ g.first)
 Follows (h ∷ i ∷ hs) g = Follows (i ∷ hs) g
 
--- the pages of all ranges
+-- the number of pages of all ranges
 abbrev pub page_total : List Range → ℕ
 page_total gs = sum_by (λ g. g.pages) gs
 
--- what a list of ranges keeps
+-- ranges in order, with room for `cap` of them in a vector of capacity `space`
 pub record IsRangeList (gs : List Range) (cap space : ℕ) : Type 0 where
   pub order : InOrder gs
   pub room : length gs ≤ cap

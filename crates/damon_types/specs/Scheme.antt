@@ -1,6 +1,9 @@
 -- The limits of schemes.
-use Rattle.std.specs.Prelude.{ℕ, ◌+◌, ◌%◌, Bool, ◌&&◌, ◌==◌, true, nat_lt, nat_le, List, [], ◌∷◌, Option, Some, None, Result, Ok, Err, if◌then◌else◌}
+use Rattle.std.specs.Prelude.{ℕ, ◌%◌, Bool, ◌&&◌, ◌==◌, true, not, nat_lt, nat_le, List, position, Option, Some, None, Result, Ok, Err, if◌then◌else◌}
 use Rattle.std.specs.Result.{result_and}
+use Rattle.damon_types.specs.declared.range.TheConstants.{MAX_CLASS}
+use Rattle.damon_types.specs.declared.scheme.TheConstants.{MAX_SLOT}
+use Rattle.damon_types.specs.declared.space.TheConstants.{PAGE_SIZE}
 use Rattle.damon_types.specs.declared.filter.Filter.{Filter}
 use Rattle.damon_types.specs.declared.filter.FilterKind.{FilterKind}
 use Rattle.damon_types.specs.declared.filter.FilterKind.TheVariants.{Addr, Target, Class}
@@ -11,7 +14,7 @@ use Rattle.damon_types.specs.declared.scheme.Scheme.{Scheme}
 use Rattle.damon_types.specs.declared.scheme.SchemeFault.{SchemeFault}
 use Rattle.damon_types.specs.declared.scheme.SchemeFault.TheVariants.{SlotOutOfRange, PatternReversed, ZeroReset, MarksOutOfOrder, BadFilter}
 
--- a pattern has no part with its ends reversed, or the first such part is refused
+-- the first part of a pattern whose ends are reversed
 abbrev pub checked_pattern : Pattern → Result (Unit {0}) SchemeFault
 checked_pattern p =
     if nat_lt p.size.high p.size.low then Err (PatternReversed 0)
@@ -29,19 +32,24 @@ abbrev pub checked_marks : Option Marks → Result (Unit {0}) SchemeFault
 checked_marks None = Ok tt
 checked_marks (Some m) = if nat_le m.mid m.high && nat_le m.low m.mid then Ok tt else Err MarksOutOfOrder
 
--- whether the pages of a kind are whole and some, or its class is one
+-- whether the addresses are multiples of the page size and in order, or the class is within its limit
 abbrev pub is_filter : FilterKind → Bool
-is_filter (Addr from to) = (from % 4096 == 0) && ((to % 4096 == 0) && nat_lt from to)
+is_filter (Addr from to) = (from % PAGE_SIZE == 0) && ((to % PAGE_SIZE == 0) && nat_lt from to)
 is_filter (Target target) = true
-is_filter (Class class) = nat_le class 15
+is_filter (Class class) = nat_le class MAX_CLASS
 
--- the first filter that is none, counting from i
-abbrev pub checked_filters : ℕ → List Filter → Result (Unit {0}) SchemeFault
-checked_filters i [] = Ok tt
-checked_filters i (f ∷ fs) = if is_filter f.kind then checked_filters (i + 1) fs else Err (BadFilter i)
+-- the index of the first filter that breaks a limit, if there is one
+abbrev pub bad_filter : List Filter → Option ℕ
+bad_filter filters = position (λ f. not (is_filter f.kind)) filters
 
--- the first limit that a scheme for a slot breaks
+-- the refusal of the filter with an index
+abbrev pub filter_fault : Option ℕ → Result (Unit {0}) SchemeFault
+filter_fault None = Ok tt
+filter_fault (Some index) = Err (BadFilter index)
+
+-- the first limit that a scheme for a slot breaks, in the order of SchemeFault
 abbrev pub checked_scheme : ℕ → Scheme → Result (Unit {0}) SchemeFault
 checked_scheme slot s =
-    if nat_lt 15 slot then Err (SlotOutOfRange slot)
-    else result_and (checked_pattern s.pattern) (result_and (checked_quota s.quota) (result_and (checked_marks s.marks) (checked_filters 0 s.filters)))
+    if nat_lt MAX_SLOT slot then Err (SlotOutOfRange slot)
+    else result_and (checked_pattern s.pattern)
+    (result_and (checked_quota s.quota) (result_and (checked_marks s.marks) (filter_fault (bad_filter s.filters))))

@@ -1,5 +1,7 @@
 -- A space as its list of targets.
 use Rattle.std.specs.Prelude.{◌≡◌, ◌⊎◌, ℕ, ◌+◌, ◌-◌, ◌*◌, ◌/◌, ◌%◌, ◌^◌, ◌<◌, ◌≤◌, Bool, ◌&&◌, All, ◌==◌, nat_lt, nat_le, List, [], ◌∷◌, length, take, sum_by, slice_get, Option, Some, None, Result, Ok, Err, if◌then◌else◌}
+use Rattle.std.specs.Result.{result_and}
+use Rattle.damon_types.specs.declared.space.TheConstants.{ADDRESS_END, MAX_PAGES, MAX_TARGETS, PAGE_SIZE}
 use Rattle.damon_types.specs.declared.space.Target.{Target}
 use Rattle.damon_types.specs.declared.space.SpaceFault.{SpaceFault}
 use Rattle.damon_types.specs.declared.space.SpaceFault.TheVariants.{NoTarget, TooManyTargets, BadPages, BadBase, TooManyPages, Memory}
@@ -13,69 +15,69 @@ pages_of ts = sum_by (λ t. t.pages) ts
 abbrev pub offset : List Target → ℕ → ℕ
 offset ts i = pages_of (take i ts)
 
--- the byte lies in the target
+-- whether the byte at an address lies in the target
 abbrev pub holds_byte : Target → ℕ → Bool
-holds_byte t addr = nat_le t.base addr && nat_lt addr (t.base + 4096 * t.pages)
+holds_byte t addr = nat_le t.base addr && nat_lt addr (t.base + PAGE_SIZE * t.pages)
 
--- the page of a byte of the target that is there, whose first page this is
+-- the page of the byte at an address, in the target if there is one, whose first page has this number
 abbrev pub page_in : ℕ → ℕ → Option Target → Option ℕ
 page_in first addr None = None
-page_in first addr (Some t) = if holds_byte t addr then Some (first + (addr - t.base) / 4096) else None
+page_in first addr (Some t) = if holds_byte t addr then Some (first + (addr - t.base) / PAGE_SIZE) else None
 
--- the page that holds the byte, where the target has one
+-- the page that holds the byte at an address of target i, if there is one
 abbrev pub page_of : List Target → ℕ → ℕ → Option ℕ
 page_of ts i addr = page_in (offset ts i) addr (slice_get ts i)
 
--- where the first byte of a page lies, counting targets from i and pages from the first of these targets
+-- the place of a page of these targets, the first of which has index i; pages are counted from its first
 abbrev pub place_from : ℕ → List Target → ℕ → Place
 place_from i [] page = record { target = i; addr = 0 }
-place_from i (t ∷ ts) page = if nat_lt page t.pages then record { target = i; addr = t.base + 4096 * page } else place_from (i + 1) ts (page - t.pages)
+place_from i (t ∷ ts) page =
+    if nat_lt page t.pages then record { target = i; addr = t.base + PAGE_SIZE * page }
+    else place_from (i + 1) ts (page - t.pages)
 
--- where the first byte of a page lies
+-- the place of a page
 abbrev pub place_of : List Target → ℕ → Place
 place_of ts page = place_from 0 ts page
 
 -- a target within its limits
 pub record IsTarget (t : Target) : Type 0 where
   pub some : 1 ≤ t.pages
-  pub few : t.pages ≤ 1048576
-  pub aligned : t.base % 4096 ≡ 0
-  pub end : t.base + 4096 * t.pages ≤ 2 ^ 63
+  pub few : t.pages ≤ MAX_PAGES
+  pub aligned : t.base % PAGE_SIZE ≡ 0
+  pub end : t.base + PAGE_SIZE * t.pages ≤ ADDRESS_END
 
 -- targets within their limits
 pub record IsSpace (ts : List Target) : Type 0 where
   pub some : 0 < length ts
-  pub few : length ts ≤ 64
+  pub few : length ts ≤ MAX_TARGETS
   pub each : All IsTarget ts
-  pub total : pages_of ts ≤ 1048576
+  pub total : pages_of ts ≤ MAX_PAGES
 
--- the limit that a target breaks
+-- the first limit that the target with index i breaks
 abbrev pub checked_target : ℕ → Target → Result (Unit {0}) SpaceFault
-checked_target i t = if nat_le 1 t.pages && nat_le t.pages 1048576 then (if (t.base % 4096 == 0) && nat_le (t.base + 4096 * t.pages) (2 ^ 63) then Ok tt else Err (BadBase i)) else Err (BadPages i)
+checked_target i t =
+    if nat_le 1 t.pages && nat_le t.pages MAX_PAGES then
+    (if (t.base % PAGE_SIZE == 0) && nat_le (t.base + PAGE_SIZE * t.pages) ADDRESS_END then Ok tt else Err (BadBase i))
+    else Err (BadPages i)
 
--- the first refusal of two checks
-abbrev pub and_next : Result (Unit {0}) SpaceFault → Result (Unit {0}) SpaceFault → Result (Unit {0}) SpaceFault
-and_next (Err e) next = Err e
-and_next (Ok t) next = next
+-- the first limit that a target of a list breaks, the first of which has index i
+abbrev pub checked_targets_from : ℕ → List Target → Result (Unit {0}) SpaceFault
+checked_targets_from i [] = Ok tt
+checked_targets_from i (t ∷ ts) = result_and (checked_target i t) (checked_targets_from (i + 1) ts)
 
--- the first limit that a list of targets breaks, counting from i
-abbrev pub checked_from : ℕ → List Target → Result (Unit {0}) SpaceFault
-checked_from i [] = Ok tt
-checked_from i (t ∷ ts) = and_next (checked_target i t) (checked_from (i + 1) ts)
-
--- the first refusal of a list of targets, in the order of the list
+-- the first limit that a list of targets breaks: their number, then each target in order, then their pages in all
 abbrev pub checked : List Target → Result (Unit {0}) SpaceFault
 checked ts =
     if length ts == 0 then Err NoTarget
-    else if nat_lt 64 (length ts) then Err (TooManyTargets (length ts))
-    else and_next (checked_from 0 ts) (if nat_le (pages_of ts) 1048576 then Ok tt else Err (TooManyPages (pages_of ts)))
+    else if nat_lt MAX_TARGETS (length ts) then Err (TooManyTargets (length ts))
+    else result_and (checked_targets_from 0 ts) (if nat_le (pages_of ts) MAX_PAGES then Ok tt else Err (TooManyPages (pages_of ts)))
 
--- the check answers the pages of the targets, or the first refusal
+-- the result is the number of pages of the targets, or the first limit that they break
 abbrev pub ChecksTo : List Target → Result ℕ SpaceFault → Type 0
 ChecksTo ts (Ok pages) = (checked ts ≡ Ok tt) × IsSpace ts × (pages ≡ pages_of ts)
 ChecksTo ts (Err e) = checked ts ≡ Err e
 
--- the space has these targets, or the error is the first refusal; want of memory comes last
+-- the result is these targets, or the first limit that they break; Memory comes only where they break none
 abbrev pub MadeOf : List Target → Result (List Target) SpaceFault → Type 0
 MadeOf ts (Ok made) = (made ≡ ts) × (checked ts ≡ Ok tt)
 MadeOf ts (Err e) = (checked ts ≡ Err e) ⊎ ((e ≡ Memory) × (checked ts ≡ Ok tt))

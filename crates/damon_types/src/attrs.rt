@@ -1,14 +1,20 @@
 ghost use Rattle.std.specs.Prelude.{◌≡◌, OnOk};
 ghost use Rattle.damon_types.specs.Attrs.{IsAttrs, checked_attrs};
 
+/// The least that [`Attrs::min`] may be, in regions.
+pub const MIN_REGIONS: u32 = 3;
+
+/// The most that [`Attrs::aggr`] may be, in passes.
+pub const MAX_AGGR: u32 = 1_000;
+
 /// The attributes of a monitor: how many regions it keeps, and how often it aggregates.
 #[derive(Clone, Copy, Debug, PartialEq, Eq)]
 pub struct Attrs {
-    /// The number of regions that the initial division aims at, at least 3.
+    /// The number of regions that the initial division aims at, at least [`MIN_REGIONS`].
     pub min: u32,
     /// The most regions, at least `min`.
     pub max: u32,
-    /// The passes from one aggregation to the next, from 1 to 1,000.
+    /// The sampling passes from one aggregation to the next, from 1 to [`MAX_AGGR`].
     pub aggr: u32,
 }
 
@@ -23,24 +29,20 @@ pub enum AttrsFault {
     AggrOutOfRange { aggr: u32 },
 }
 
-const LEAST_MIN: u32 = 3;
-
-const MOST_AGGR: u32 = 1_000;
-
 impl Attrs {
-    /// Whether the attributes are within their limits, or else the first that is not.
+    /// Checks the limits of the attributes, in the order of [`AttrsFault`].
     pub fn check(&self) -> Result<(), AttrsFault>
         ensures exact { result ≡ checked_attrs self.now }
         ensures within { OnOk result (IsAttrs self.now) }
     {
         let Attrs { min, max, aggr } = *self;
-        if min < LEAST_MIN {
+        if min < MIN_REGIONS {
             return Err(AttrsFault::MinTooSmall { min });
         }
         if min > max {
             return Err(AttrsFault::MinOverMax { min, max });
         }
-        if aggr < 1 || aggr > MOST_AGGR {
+        if aggr < 1 || aggr > MAX_AGGR {
             return Err(AttrsFault::AggrOutOfRange { aggr });
         }
         Ok(())

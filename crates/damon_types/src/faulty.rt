@@ -1,17 +1,18 @@
-// Streams over memory that deal in pieces and fail at stated calls.
+// Streams over memory that limit the bytes of a call, and fail at stated calls.
 ghost use Rattle.std.specs.Prelude.{◌≡◌, ◌⊎◌, ◌-◌, ◌≤◌, ◌<◌, ◌↔◌, [], length, min, Some, true, IfOk, IsErr, is_err, if◌then◌else◌};
 ghost use Rattle.std.specs.Io.{ReadsAtMost, WritesAtMost};
 ghost use Rattle.std.specs.Io.KnownBytes.{ReadConsumes, WriteAppends};
 ghost use Rattle.damon_types.specs.Causes.{HasCause};
-ghost use Rattle.damon_types.specs.Memory.{raised};
+ghost use Rattle.damon_types.specs.Memory.{next_count};
 ghost use Rattle.damon_types.specs.Faulty.{is_listed};
 
 use crate::{Failed, MemSink, MemSource, Sink, Source};
 use std::alloc::{AllocError, Global};
 use std::marker::Model;
 
-/// A source of bytes in memory that gives at most a piece a call, and fails at stated calls.
-#[derive(Drop)]
+/// A source of bytes in memory that gives at most a fixed number of bytes per call, and fails at
+/// stated calls.
+#[derive(Debug, Drop)]
 pub struct FaultSource<'a> {
     bytes: MemSource<'a>,
     piece: u32,
@@ -26,17 +27,29 @@ impl<'a> Model for FaultSource<'a> {
 
     ghost Value = { FaultyGiven };
 
-    ghost view = { λ s. record { bytes = s.bytes; piece = s.piece; fails = s.fails.now; calls = s.calls; faults = s.faults } };
+    ghost view = { λ s. record {
+      bytes = s.bytes;
+      piece = s.piece;
+      fails = s.fails.now;
+      calls = s.calls;
+      faults = s.faults;
+    } };
 
     ghost invariant = { λ s. 1 ≤ s.piece };
 }
 
 impl<'a> FaultSource<'a> {
-    /// A source with these bytes left, of which a call gives at most `piece`. `fails` are the numbers
-    /// of the calls that fail, counted from 1.
+    /// A source that gives these bytes, at most `piece` (at least 1) per call. `fails` are the
+    /// numbers of the calls that fail, counted from 1.
     pub fn new(bytes: &'a [u8], piece: u32, fails: &'a [u32]) -> FaultSource<'a>
         requires { 1 ≤ piece }
-        ensures { result ≡ record { bytes = bytes.now; piece = piece; fails = fails.now; calls = 0; faults = 0 } }
+        ensures { result ≡ record {
+          bytes = bytes.now;
+          piece = piece;
+          fails = fails.now;
+          calls = 0;
+          faults = 0;
+        } }
     {
         FaultSource {
             bytes: MemSource::new(bytes),
@@ -47,7 +60,7 @@ impl<'a> FaultSource<'a> {
         }
     }
 
-    /// How many calls there were. A count at the last value of 64 bits stays there.
+    /// The number of calls so far; at 2^64 - 1 it stays there.
     pub fn calls(&self) -> u64
         ensures { result ≡ self.now.calls }
     {
@@ -60,16 +73,19 @@ impl Source for FaultSource<'_> {
 
     ghost faults = { λ s. s.faults };
 
-    /// Gives as many bytes as are left, fit the buffer and are a piece, unless this call fails.
+    /// Gives the bytes that are left, at most `piece` and as many as fit into the buffer, unless
+    /// this call is to fail.
     fn read(&mut self, buf: &mut [u8]) -> Result<usize, Failed>
         ensures bound { ReadsAtMost result buf.new }
         ensures bytes { ReadConsumes (Some self.old.bytes) (Some self.new.bytes) result buf.new }
         ensures cause { HasCause self.old.faults self.new.faults result }
 
-        ensures fails { is_err result ≡ is_listed (raised self.old.calls) self.old.fails }
-        ensures count { IfOk result (λ n. n ≡ min (min (length self.old.bytes) (length buf.old)) self.old.piece) }
-        ensures calls { self.new.calls ≡ raised self.old.calls }
-        ensures faults { self.new.faults ≡ (if is_err result then raised self.old.faults else self.old.faults) }
+        ensures fails { is_err result ≡ is_listed (next_count self.old.calls) self.old.fails }
+        ensures count { IfOk result (λ n.
+            n ≡ min (min (length self.old.bytes) (length buf.old)) self.old.piece) }
+        ensures calls { self.new.calls ≡ next_count self.old.calls }
+        ensures faults { self.new.faults
+            ≡ (if is_err result then next_count self.old.faults else self.old.faults) }
         ensures piece { self.new.piece ≡ self.old.piece }
         ensures listed { self.new.fails ≡ self.old.fails }
     {
@@ -83,9 +99,9 @@ impl Source for FaultSource<'_> {
     }
 }
 
-/// A sink that keeps what it takes, as long as there is room, and takes at most a piece a call. It
-/// fails at stated calls, and where no room is left for a piece that is not empty.
-#[derive(Drop)]
+/// A sink that keeps what is written, up to a fixed number of bytes, and takes at most `piece`
+/// bytes per call. It fails at stated calls, and when it is full and the piece is not empty.
+#[derive(Debug, Drop)]
 pub struct FaultSink<'a> {
     bytes: MemSink,
     piece: u32,
@@ -100,14 +116,22 @@ impl<'a> Model for FaultSink<'a> {
 
     ghost Value = { FaultyTaken };
 
-    ghost view = { λ s. record { bytes = s.bytes.bytes; room = s.bytes.room; piece = s.piece; fails = s.fails.now; calls = s.calls; faults = s.faults } };
+    ghost view = { λ s. record {
+      bytes = s.bytes.bytes;
+      room = s.bytes.room;
+      piece = s.piece;
+      fails = s.fails.now;
+      calls = s.calls;
+      faults = s.faults;
+    } };
 
     ghost invariant = { λ s. 1 ≤ s.piece };
 }
 
 impl<'a> FaultSink<'a> {
-    /// A sink with room for so many bytes, of which a call takes at most `piece`. `fails` are the
-    /// numbers of the calls that fail, counted from 1. Takes memory for the bytes; `write` takes none.
+    /// A sink with room for `room` bytes, which takes at most `piece` (at least 1) per call.
+    /// `fails` are the numbers of the calls that fail, counted from 1. Allocates the room; `write`
+    /// does not allocate.
     pub fn new(
         alloc: Global,
         room: u32,
@@ -115,7 +139,14 @@ impl<'a> FaultSink<'a> {
         fails: &'a [u32],
     ) -> Result<FaultSink<'a>, AllocError>
         requires { 1 ≤ piece }
-        ensures { IfOk result (λ s. s ≡ record { bytes = []; room = room; piece = piece; fails = fails.now; calls = 0; faults = 0 }) }
+        ensures { IfOk result (λ s. s ≡ record {
+          bytes = [];
+          room = room;
+          piece = piece;
+          fails = fails.now;
+          calls = 0;
+          faults = 0;
+        }) }
     {
         let bytes = MemSink::new(alloc, room)?;
         Ok(FaultSink {
@@ -127,14 +158,14 @@ impl<'a> FaultSink<'a> {
         })
     }
 
-    /// What was taken.
+    /// The bytes that were written.
     pub fn bytes(&self) -> &[u8]
         ensures { result.now ≡ self.now.bytes }
     {
         self.bytes.bytes()
     }
 
-    /// How many calls there were. A count at the last value of 64 bits stays there.
+    /// The number of calls so far; at 2^64 - 1 it stays there.
     pub fn calls(&self) -> u64
         ensures { result ≡ self.now.calls }
     {
@@ -147,17 +178,22 @@ impl Sink for FaultSink<'_> {
 
     ghost faults = { λ s. s.faults };
 
-    /// Takes as much of the piece as there is room for and is a piece, unless this call fails.
+    /// Takes bytes from the front of the piece, at most `piece` and as many as fit, unless this
+    /// call is to fail.
     fn write(&mut self, piece: &[u8]) -> Result<usize, Failed>
         ensures bound { WritesAtMost result piece.now }
         ensures bytes { WriteAppends (Some self.old.bytes) (Some self.new.bytes) result piece.now }
         ensures some { 0 < length piece.now → IfOk result (λ n. 0 < n) }
         ensures cause { HasCause self.old.faults self.new.faults result }
 
-        ensures fails { IsErr result ↔ ((is_listed (raised self.old.calls) self.old.fails ≡ true) ⊎ ((0 < length piece.now) × (self.old.room - length self.old.bytes ≡ 0))) }
-        ensures count { IfOk result (λ n. n ≡ min (min (length piece.now) self.old.piece) (self.old.room - length self.old.bytes)) }
-        ensures calls { self.new.calls ≡ raised self.old.calls }
-        ensures faults { self.new.faults ≡ (if is_err result then raised self.old.faults else self.old.faults) }
+        ensures fails { IsErr result
+            ↔ ((is_listed (next_count self.old.calls) self.old.fails ≡ true)
+            ⊎ ((0 < length piece.now) × (self.old.room - length self.old.bytes ≡ 0))) }
+        ensures count { IfOk result (λ n. n ≡ min (min (length piece.now) self.old.piece)
+            (self.old.room - length self.old.bytes)) }
+        ensures calls { self.new.calls ≡ next_count self.old.calls }
+        ensures faults { self.new.faults
+            ≡ (if is_err result then next_count self.old.faults else self.old.faults) }
         ensures room { self.new.room ≡ self.old.room }
         ensures piece { self.new.piece ≡ self.old.piece }
         ensures listed { self.new.fails ≡ self.old.fails }
@@ -176,7 +212,7 @@ impl Sink for FaultSink<'_> {
     }
 }
 
-// Whether a call is one of those that fail.
+// Whether the call with this number is to fail.
 fn is_listed(call: u64, fails: &[u32]) -> bool
     ensures { result ≡ is_listed call fails.now }
 {

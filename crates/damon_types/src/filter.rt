@@ -1,40 +1,41 @@
 ghost use Rattle.std.specs.Prelude.{◌≡◌, ◌<◌, ◌≤◌, [], ◌∷◌, ◌++◌, length, slice_get, IsOk, OnOk, OnErr, ◌↔◌};
 
+use crate::{MAX_CLASS, PAGE_SIZE};
 use std::marker::Model;
 
 /// The most filters of a scheme.
 pub const MAX_FILTERS: usize = 8;
 
-/// A kind of pages.
+/// The pages that a filter is about.
 #[derive(Clone, Copy, Debug, PartialEq, Eq)]
 pub enum FilterKind {
-    /// Those whose address lies from `from` to before `to`, two multiples of the page size.
+    /// Those whose address is at least `from` and below `to`, two multiples of [`PAGE_SIZE`].
     Addr { from: u64, to: u64 },
     /// Those of one target.
     Target { target: u32 },
-    /// Those of ranges of one class, from 0 to 15.
+    /// Those of ranges of one class, at most [`MAX_CLASS`].
     Class { class: u8 },
 }
 
-/// A filter of pages. It applies to the pages of its kind where it is matching, and to all others
-/// where it is not; the first filter of a scheme that applies to a page decides.
+/// A filter of pages. If `matching`, it applies to the pages of its kind, else to all other pages.
+/// The first filter of a scheme that applies to a page decides whether the page passes.
 #[derive(Clone, Copy, Debug, PartialEq, Eq)]
 pub struct Filter {
     /// Whether the pages that it applies to pass.
     pub allow: bool,
-    /// Whether it applies to the pages of its kind, or to all others.
+    /// Whether it applies to the pages of its kind, rather than to all others.
     pub matching: bool,
     pub kind: FilterKind,
 }
 
-/// Eight filters are held already.
+/// A list of filters holds [`MAX_FILTERS`] already.
 #[derive(Clone, Copy, Debug, PartialEq, Eq)]
 pub struct Full;
 
-/// A list of at most eight filters, which takes no memory.
+/// A list of at most [`MAX_FILTERS`] filters, which does not allocate.
 #[derive(Clone, Copy, Debug, PartialEq, Eq)]
 pub struct Filters {
-    // Places behind the last filter hold UNUSED, so equal lists are equal in each byte.
+    // Places after the last filter hold UNUSED, so that the derived == compares the filters alone.
     places: [Filter; MAX_FILTERS],
     len: u32,
 }
@@ -73,12 +74,12 @@ impl Filters {
     /// The number of filters.
     pub fn len(&self) -> u32
         ensures len { result ≡ length self.now }
-        ensures most { result ≤ 8 }
+        ensures most { result ≤ MAX_FILTERS }
     {
         self.len
     }
 
-    /// The filter with this index, which is below `len()`.
+    /// The filter with this index, which must be below [`Filters::len`].
     pub fn get(&self, index: u32) -> Filter
         requires { index < length self.now }
         ensures { slice_get self.now index ≡ Some result }
@@ -89,14 +90,14 @@ impl Filters {
     /// The filters in order.
     pub fn as_slice(&self) -> &[Filter]
         ensures items { result.now ≡ self.now }
-        ensures most { length result.now ≤ 8 }
+        ensures most { length result.now ≤ MAX_FILTERS }
     {
         &self.places[..self.len as usize]
     }
 
-    /// Appends a filter. `Full` comes exactly where eight are held, and changes nothing.
+    /// Appends a filter. Fails exactly if the list holds [`MAX_FILTERS`]; it is then unchanged.
     pub fn push(&mut self, filter: Filter) -> Result<(), Full>
-        ensures room { IsOk result ↔ (length self.old < 8) }
+        ensures room { IsOk result ↔ (length self.old < MAX_FILTERS) }
         ensures ok { OnOk result (self.new ≡ self.old ++ filter ∷ []) }
         ensures full { OnErr result (self.new ≡ self.old) }
     {

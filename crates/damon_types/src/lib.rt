@@ -1,4 +1,4 @@
-//! The vocabulary of the monitor: spaces, ranges, rows, attributes, and the ends of byte streams.
+//! The types that all layers share: spaces, ranges, rows, attributes, schemes, and byte streams.
 #![tactic(auto)]
 
 /// The attributes of a monitor, and their limits.
@@ -13,39 +13,39 @@ mod laws;
 mod list;
 /// Streams over memory.
 mod memory;
-/// Ranges as they are asked for and as they are watched.
+/// Ranges as the user gives them, and as they are watched.
 mod range;
-/// Appending to a vector that has the room.
+/// Appending to a vector that has the capacity.
 mod reserved;
-/// The region as a monitor keeps it.
+/// Regions.
 mod row;
 /// Schemes, and their limits.
 mod scheme;
 /// Targets, their pages and addresses.
 mod space;
-/// Streams over the reader and the writer of std.
+/// Streams over readers and writers of std.
+mod standard;
+/// Inputs and outputs of bytes.
 #[cfg(test)]
 mod scheme_tests;
-mod standard;
-/// Where bytes come from and go to.
 mod stream;
 #[cfg(test)]
 mod stream_tests;
 #[cfg(test)]
 mod value_tests;
 
-pub use attrs::{Attrs, AttrsFault};
+pub use attrs::{Attrs, AttrsFault, MAX_AGGR, MIN_REGIONS};
 pub use faulty::{FaultSink, FaultSource};
 pub use filter::{Filter, FilterKind, Filters, Full, MAX_FILTERS};
 pub use laws::{pages_are_numbered, pages_rise};
 pub use list::{PlainList, RangeSpecs, SlotChanges};
 pub use memory::{MemSink, MemSource};
-pub use range::{Range, RangeSpec, Ranges};
+pub use range::{MAX_CLASS, Range, RangeSpec, Ranges};
 pub use reserved::append_reserved;
 pub use row::Row;
 pub use scheme::{
-    Action, Marks, Pattern, Prefer, Quota, Scheme, SchemeFault, SlotChange, Span, Weights,
+    Action, MAX_SLOT, Marks, Pattern, Prefer, Quota, Scheme, SchemeFault, SlotChange, Span, Weights,
 };
-pub use space::{PAGE_SIZE, Place, Space, SpaceFault, Target};
+pub use space::{ADDRESS_END, MAX_PAGES, MAX_TARGETS, PAGE_SIZE, Place, Space, SpaceFault, Target};
 pub use standard::{StdSink, StdSource};
 pub use stream::{Failed, Sink, Source};

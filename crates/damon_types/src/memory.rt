@@ -1,16 +1,16 @@
-// Streams over memory, which tell all their bytes.
-ghost use Rattle.std.specs.Prelude.{◌≡◌, ◌<◌, ◌↔◌, [], length, min, Some, Ok, IfOk, IsErr, is_err, if◌then◌else◌};
+// Streams over memory, whose contracts name all their bytes.
+ghost use Rattle.std.specs.Prelude.{◌≡◌, ◌<◌, ◌↔◌, [], drop, length, min, Some, Ok, IfOk, IsErr, is_err, if◌then◌else◌};
 ghost use Rattle.std.specs.Io.{ReadsAtMost, WritesAtMost};
 ghost use Rattle.std.specs.Io.KnownBytes.{ReadConsumes, WriteAppends};
 ghost use Rattle.damon_types.specs.Causes.{HasCause};
-ghost use Rattle.damon_types.specs.Memory.{spare, raised};
+ghost use Rattle.damon_types.specs.Memory.{next_count, spare};
 
 use crate::{Failed, Sink, Source, append_reserved};
 use std::alloc::{AllocError, Global};
 use std::marker::Model;
 
 /// A source of bytes in memory. It never fails.
-#[derive(Drop)]
+#[derive(Debug, Drop)]
 pub struct MemSource<'a> {
     bytes: &'a [u8],
 }
@@ -24,7 +24,7 @@ impl<'a> Model for MemSource<'a> {
 }
 
 impl<'a> MemSource<'a> {
-    /// A source with these bytes left.
+    /// A source that gives these bytes.
     pub fn new(bytes: &'a [u8]) -> MemSource<'a>
         ensures { result ≡ bytes.now }
     {
@@ -37,12 +37,15 @@ impl Source for MemSource<'_> {
 
     ghost faults = { λ _. 0 };
 
-    /// Gives as many bytes as are left and fit the buffer.
+    /// Gives all bytes that are left, or as many as fit into the buffer. The rest of the buffer is
+    /// unchanged.
     fn read(&mut self, buf: &mut [u8]) -> Result<usize, Failed>
         ensures bound { ReadsAtMost result buf.new }
         ensures bytes { ReadConsumes (Some self.old) (Some self.new) result buf.new }
         ensures cause { HasCause 0 0 result }
         ensures count { result ≡ Ok (min (length self.old) (length buf.old)) }
+        ensures rest { let n = min (length self.old) (length buf.old) in
+            drop n buf.new ≡ drop n buf.old }
     {
         let count = self.bytes.len().min(buf.len());
         let (front, rest) = self.bytes.split_at(count);
@@ -52,9 +55,9 @@ impl Source for MemSource<'_> {
     }
 }
 
-/// A sink that keeps what it takes, as long as there is room. A write of a piece that is not empty
-/// fails where no room is left.
-#[derive(Drop)]
+/// A sink that keeps what is written, up to a fixed number of bytes. When it is full, a write of a
+/// piece that is not empty fails.
+#[derive(Debug, Drop)]
 pub struct MemSink {
     bytes: Vec<u8>,
     room: u32,
@@ -73,7 +76,7 @@ impl Model for MemSink {
 }
 
 impl MemSink {
-    /// A sink with room for so many bytes. Takes memory for them; `write` takes none.
+    /// A sink with room for `room` bytes. Allocates them; `write` does not allocate.
     pub fn new(alloc: Global, room: u32) -> Result<MemSink, AllocError>
         ensures { IfOk result (λ s. s ≡ record { bytes = []; room = room; faults = 0 }) }
     {
@@ -85,7 +88,7 @@ impl MemSink {
         })
     }
 
-    /// What was taken.
+    /// The bytes that were written.
     pub fn bytes(&self) -> &[u8]
         ensures { result.now ≡ self.now.bytes }
     {
@@ -98,7 +101,7 @@ impl Sink for MemSink {
 
     ghost faults = { λ s. s.faults };
 
-    /// Takes as much of the piece as there is room for.
+    /// Takes the whole piece, or as much of it as fits.
     fn write(&mut self, piece: &[u8]) -> Result<usize, Failed>
         ensures bound { WritesAtMost result piece.now }
         ensures bytes { WriteAppends (Some self.old.bytes) (Some self.new.bytes) result piece.now }
@@ -107,7 +110,8 @@ impl Sink for MemSink {
 
         ensures count { IfOk result (λ n. n ≡ min (length piece.now) (spare self.old)) }
         ensures full { IsErr result ↔ ((0 < length piece.now) × (spare self.old ≡ 0)) }
-        ensures faults { self.new.faults ≡ (if is_err result then raised self.old.faults else self.old.faults) }
+        ensures faults { self.new.faults
+            ≡ (if is_err result then next_count self.old.faults else self.old.faults) }
         ensures room { self.new.room ≡ self.old.room }
     {
         let room = (self.room as usize).saturating_sub(self.bytes.len());

@@ -6,20 +6,23 @@ use crate::append_reserved;
 use std::alloc::{AllocError, Global};
 use std::marker::Model;
 
-/// A run of pages of one target that is watched.
+/// The greatest class of a range.
+pub const MAX_CLASS: u8 = 15;
+
+/// Consecutive pages of one target that are watched.
 #[derive(Clone, Copy, Debug, PartialEq, Eq)]
 pub struct Range {
     /// The target that the pages belong to.
     pub target: u32,
     /// The number of the first page.
     pub first: u32,
-    /// How many pages there are, at least 1.
+    /// The number of pages, at least 1.
     pub pages: u32,
     /// A label of the user's, by which filters choose.
     pub class: u8,
 }
 
-/// A range by addresses, as the user writes it.
+/// A range given by addresses, as the user writes it.
 #[derive(Clone, Copy, Debug, PartialEq, Eq)]
 pub struct RangeSpec {
     /// The target that the range lies in.
@@ -28,13 +31,13 @@ pub struct RangeSpec {
     pub from: u64,
     /// The address after the last byte, a multiple of the page size.
     pub to: u64,
-    /// A label of the user's, from 0 to 15.
+    /// A label of the user's, at most [`MAX_CLASS`].
     pub class: u8,
 }
 
 /// Ranges by target, then address, without overlap, with room for a fixed number of them. Two that
 /// are adjacent remain two.
-#[derive(Drop)]
+#[derive(Debug, Drop)]
 pub struct Ranges {
     items: Vec<Range>,
     cap: u32,
@@ -53,7 +56,7 @@ impl Model for Ranges {
 }
 
 impl Ranges {
-    /// The empty list, with room for so many ranges. Takes memory for them; no other call does.
+    /// The empty list, with room for `cap` ranges. Allocates them; no other call allocates.
     pub fn new(alloc: Global, cap: u32) -> Result<Ranges, AllocError>
         ensures { IfOk result (λ r. r ≡ record { list = []; cap = cap }) }
     {
@@ -61,7 +64,7 @@ impl Ranges {
         Ok(Ranges { items, cap })
     }
 
-    /// For how many ranges there is room.
+    /// How many ranges fit.
     pub fn cap(&self) -> u32
         ensures { result ≡ self.now.cap }
     {
@@ -77,7 +80,7 @@ impl Ranges {
         self.items.len() as u32
     }
 
-    /// The range with this index, which is below `len()`.
+    /// The range with this index, which must be below [`Ranges::len`].
     pub fn get(&self, index: u32) -> Range
         requires { index < length self.now.list }
         ensures { slice_get self.now.list index ≡ Some result }
@@ -92,8 +95,8 @@ impl Ranges {
         self.items.clear();
     }
 
-    /// Appends a range that has a page and comes after the last one: of its target, or of a later
-    /// one, and not before its end. There is room for it, and it ends before page 2^32.
+    /// Appends a range. It must have a page, end before page 2^32, and come after the last range of
+    /// the list: at or after its end, and of its target or a later one. There must be room for it.
     pub fn push(&mut self, range: Range)
         requires room { length self.old.list < self.old.cap }
         requires pages { 1 ≤ range.pages }
@@ -104,7 +107,7 @@ impl Ranges {
         self.items.push_reserved(range);
     }
 
-    /// Makes the list that of `other`, for which there is room.
+    /// Replaces the list by that of `other`, which must fit.
     pub fn copy_from(&mut self, other: &Ranges)
         requires { length other.now.list ≤ self.old.cap }
         ensures list { self.new ≡ record self.old { list = other.now.list } }
@@ -114,19 +117,15 @@ impl Ranges {
         append_reserved(&mut self.items, &other.items);
     }
 
-    /// The pages of all ranges.
+    /// The number of pages of all ranges.
     pub fn total(&self) -> u32
         ensures total { result ≡ page_total self.now.list }
         ensures order { InOrder self.now.list }
     {
-        let mut total = 0;
-        for range in &self.items {
-            total += range.pages;
-        }
-        total
+        self.items.iter().map(|range| range.pages).sum()
     }
 
-    /// The class of the range that holds the page: None exactly where no range does.
+    /// The class of the range that holds the page, or `None` if no range does.
     pub fn class_of(&self, page: u32) -> Option<u8>
         ensures { result ≡ class_of self.now.list page }
     {
@@ -145,7 +144,8 @@ impl Ranges {
     // How many ranges begin at or before the page.
     fn begun_at(&self, page: u32) -> usize
         ensures within { result ≤ length self.now.list }
-        ensures parts { IsPartitionPoint (λ g. g.first ≤ page) (λ g. page < g.first) self.now.list result }
+        ensures parts { IsPartitionPoint
+            (λ g. g.first ≤ page) (λ g. page < g.first) self.now.list result }
         ensures order { InOrder self.now.list }
     {
         self.items.partition_point(|range| range.first <= page)

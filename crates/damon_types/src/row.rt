@@ -1,17 +1,17 @@
-/// A region of the monitor, as a row of its list: a run of pages of one target that are taken to
-/// behave alike, with what was counted of it.
+/// A region: consecutive pages of one target that are taken to be accessed alike, with its access
+/// counts. A monitor keeps its regions as the rows of a list.
 #[derive(Clone, Copy, Debug, PartialEq, Eq)]
 pub struct Row {
     /// The target that the pages belong to.
     pub target: u32,
     /// The number of the first page.
     pub start: u32,
-    /// How many pages the region has.
+    /// The number of pages.
     pub pages: u32,
-    /// The passes since the last aggregation whose check in the region was a hit.
+    /// In how many passes since the last aggregation the page that was checked had been accessed.
     pub count: u32,
-    /// The count at the end of the aggregation before.
+    /// The count at the last aggregation.
     pub last: u32,
-    /// For how many aggregations the count has been about the same.
+    /// For how many aggregations the count has changed little.
     pub age: u32,
 }

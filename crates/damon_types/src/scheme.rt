@@ -1,38 +1,41 @@
-ghost use Rattle.std.specs.Prelude.{◌≡◌, Some, Option};
-ghost use Rattle.damon_types.specs.Scheme.{is_filter, checked_filters, checked_marks, checked_pattern, checked_quota, checked_scheme};
+ghost use Rattle.std.specs.Prelude.{◌≡◌, ◌<◌, IfSome, length};
+ghost use Rattle.damon_types.specs.Scheme.{is_filter, bad_filter, filter_fault, checked_marks, checked_pattern, checked_quota, checked_scheme};
 
-use crate::{FilterKind, Filters, PAGE_SIZE};
+use crate::{Filter, FilterKind, Filters, MAX_CLASS, PAGE_SIZE};
 
-/// What a scheme does to the pages that it is applied to. The names are the kernel's.
+/// The number of the last slot for a scheme.
+pub const MAX_SLOT: u8 = 15;
+
+/// What a scheme does to pages. The names are those of the kernel.
 #[derive(Clone, Copy, Debug, PartialEq, Eq)]
 pub enum Action {
-    /// Nothing: the pages are counted alone.
+    /// Nothing: the pages are only counted.
     Stat,
-    /// They will be needed soon.
+    /// The pages will be needed soon.
     Willneed,
-    /// They will not be needed soon.
+    /// The pages will not be needed soon.
     Cold,
-    /// They are paged out.
+    /// Page the pages out.
     Pageout,
-    /// They are backed by huge pages.
+    /// Back the pages by huge pages.
     Hugepage,
-    /// They are not backed by huge pages.
+    /// Do not back the pages by huge pages.
     Nohugepage,
-    /// They are moved to the front of the list of used pages.
+    /// Move the pages to the head of the LRU list.
     LruPrio,
-    /// They are moved to its back.
+    /// Move the pages to the tail of the LRU list.
     LruDeprio,
 }
 
-/// The numbers from `low` to `high`, ends included.
+/// The numbers from `low` to `high`, both included.
 #[derive(Clone, Copy, Debug, PartialEq, Eq)]
 pub struct Span {
     pub low: u32,
     pub high: u32,
 }
 
-/// The regions that a scheme is for: those whose size in pages, access count and age each lie in
-/// their span.
+/// The regions that a scheme is for: those whose size in pages, access count, and age in
+/// aggregations each lie in their span.
 #[derive(Clone, Copy, Debug, PartialEq, Eq)]
 pub struct Pattern {
     pub size: Span,
@@ -40,16 +43,16 @@ pub struct Pattern {
     pub age: Span,
 }
 
-/// How much a scheme is applied to: at most so many bytes in each reset interval.
+/// A limit on how much a scheme is applied to.
 #[derive(Clone, Copy, Debug, PartialEq, Eq)]
 pub struct Quota {
-    /// The bytes. What is left of a whole page counts as nothing.
+    /// The most bytes in each reset interval, rounded down to whole pages.
     pub bytes: u64,
     /// The reset interval in ticks, at least 1.
     pub reset: u32,
 }
 
-/// How much the size, the access count and the age of a region weigh in its priority.
+/// The weights of a region's size, access count and age in its priority.
 #[derive(Clone, Copy, Debug, PartialEq, Eq)]
 pub struct Weights {
     pub size: u16,
@@ -57,7 +60,7 @@ pub struct Weights {
     pub age: u16,
 }
 
-/// Which regions a scheme prefers.
+/// Which regions a scheme is applied to first.
 #[derive(Clone, Copy, Debug, PartialEq, Eq)]
 pub enum Prefer {
     /// Those with many accesses.
@@ -66,68 +69,64 @@ pub enum Prefer {
     Cold,
 }
 
-/// Watermarks: between which values of a metric a scheme is active.
+/// Watermarks: the values of a metric at which a scheme becomes active and inactive.
 #[derive(Clone, Copy, Debug, PartialEq, Eq)]
 pub struct Marks {
-    /// Above it the scheme becomes inactive.
+    /// Above this value the scheme becomes inactive.
     pub high: u32,
-    /// Below it, down to `low`, the scheme becomes active.
+    /// Below this value, down to `low`, the scheme becomes active.
     pub mid: u32,
-    /// Below it the scheme becomes inactive.
+    /// Below this value the scheme becomes inactive.
     pub low: u32,
 }
 
-/// An action that is applied to regions of a pattern, in the order of their priority, page by page
-/// through filters, within a quota.
+/// An action, and what it is applied to: the regions of a pattern, in the order of their priority,
+/// the pages that pass the filters, within a quota.
 #[derive(Clone, Copy, Debug, PartialEq, Eq)]
 pub struct Scheme {
     pub action: Action,
     pub pattern: Pattern,
-    /// None is no limit.
+    /// `None` for no limit.
     pub quota: Option<Quota>,
     pub weights: Weights,
     pub prefer: Prefer,
-    /// None is always active.
+    /// `None` for a scheme that is always active.
     pub marks: Option<Marks>,
     pub filters: Filters,
 }
 
-/// The change of one of the sixteen slots that hold schemes.
+/// The change of one of the slots that hold schemes.
 #[derive(Clone, Copy, Debug, PartialEq, Eq)]
 pub struct SlotChange {
-    /// The number of the slot, from 0 to 15.
+    /// The number of the slot, at most [`MAX_SLOT`].
     pub slot: u8,
-    /// The scheme that the slot gets; None empties it.
+    /// The new scheme of the slot; `None` empties it.
     pub scheme: Option<Scheme>,
 }
 
 /// The first limit that a scheme for a slot breaks, in the order of the variants.
 #[derive(Clone, Copy, Debug, PartialEq, Eq)]
 pub enum SchemeFault {
-    /// There is no such slot: the number is above 15.
+    /// The number of the slot is above [`MAX_SLOT`].
     SlotOutOfRange { slot: u8 },
     /// A span of the pattern has its ends reversed: the first of size (0), count (1) and age (2).
     PatternReversed { part: u8 },
     /// The quota's reset interval is 0.
     ZeroReset,
-    /// The watermarks do not fall from high over mid to low.
+    /// The watermarks are not in the order high ≥ mid ≥ low.
     MarksOutOfOrder,
-    /// The filter with this index is the first whose addresses are no multiples of the page size or
-    /// not in order, or whose class is above 15.
+    /// The filter with this index is the first with an address that is no multiple of
+    /// [`PAGE_SIZE`], with `from` not below `to`, or with a class above [`MAX_CLASS`].
     BadFilter { index: u32 },
 }
 
-const MOST_SLOT: u8 = 15;
-
-const MOST_CLASS: u8 = 15;
-
 impl Scheme {
-    /// Whether the scheme and the number of its slot are within their limits, or else the first that
-    /// is not. The order of the limits is this project's own.
+    /// Checks the limits of the scheme and of the number of its slot, in the order of
+    /// [`SchemeFault`], which is this project's own.
     pub fn check(&self, slot: u8) -> Result<(), SchemeFault>
         ensures exact { result ≡ checked_scheme slot self.now }
     {
-        if slot > MOST_SLOT {
+        if slot > MAX_SLOT {
             return Err(SchemeFault::SlotOutOfRange { slot });
         }
         self.pattern.check()?;
@@ -176,21 +175,27 @@ fn check_marks(marks: Option<Marks>) -> Result<(), SchemeFault>
     }
 }
 
-// The first filter that is none.
+// Fails at the first filter that breaks a limit.
 fn check_filters(filters: &Filters) -> Result<(), SchemeFault>
-    ensures { result ≡ checked_filters 0 filters.now }
+    ensures { result ≡ filter_fault (bad_filter filters.now) }
 {
-    for (index, filter) in filters.as_slice().iter().enumerate() {
-        if !is_sound(filter.kind) {
-            return Err(SchemeFault::BadFilter {
-                index: index as u32,
-            });
-        }
+    match bad_filter(filters.as_slice()) {
+        Some(index) => Err(SchemeFault::BadFilter {
+            index: index as u32,
+        }),
+        None => Ok(()),
     }
-    Ok(())
 }
 
-// Whether a kind of pages has whole pages in order, or a class that there is.
+// The index of the first filter that breaks a limit.
+fn bad_filter(filters: &[Filter]) -> Option<usize>
+    ensures exact { result ≡ bad_filter filters.now }
+    ensures within { IfSome result (λ i. i < length filters.now) }
+{
+    filters.iter().position(|filter| !is_sound(filter.kind))
+}
+
+// Whether the addresses are multiples of the page size and in order, or the class is in its limit.
 fn is_sound(kind: FilterKind) -> bool
     ensures { result ≡ is_filter kind }
 {
@@ -199,6 +204,6 @@ fn is_sound(kind: FilterKind) -> bool
             from % PAGE_SIZE == 0 && to % PAGE_SIZE == 0 && from < to
         }
         FilterKind::Target { .. } => true,
-        FilterKind::Class { class } => class <= MOST_CLASS,
+        FilterKind::Class { class } => class <= MAX_CLASS,
     }
 }

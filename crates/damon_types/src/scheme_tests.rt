@@ -53,6 +53,8 @@ fn schemes_have_limits(rt: HostRuntime) {
     count.pattern.count = reversed;
     let mut age = scheme();
     age.pattern.age = reversed;
+    let mut size_and_reset = size;
+    size_and_reset.quota = Some(Quota { bytes: 1, reset: 0 });
     let mut reset = scheme();
     reset.quota = Some(Quota { bytes: 1, reset: 0 });
     let mut marks = scheme();
@@ -65,13 +67,18 @@ fn schemes_have_limits(rt: HostRuntime) {
         (15, &scheme(), Ok(())),
         (16, &size, Err(SchemeFault::SlotOutOfRange { slot: 16 })),
         (0, &size, Err(SchemeFault::PatternReversed { part: 0 })),
+        (
+            0,
+            &size_and_reset,
+            Err(SchemeFault::PatternReversed { part: 0 }),
+        ),
         (0, &count, Err(SchemeFault::PatternReversed { part: 1 })),
         (0, &age, Err(SchemeFault::PatternReversed { part: 2 })),
         (0, &reset, Err(SchemeFault::ZeroReset)),
         (0, &marks, Err(SchemeFault::MarksOutOfOrder)),
     ];
-    for (slot, scheme, answer) in cases {
-        assert_eq!(rt; scheme.check(slot), answer);
+    for (slot, scheme, result) in cases {
+        assert_eq!(rt; scheme.check(slot), result);
     }
 }
 
@@ -95,12 +102,12 @@ fn filters_have_limits(rt: HostRuntime) {
     for (kind, good) in cases {
         let mut scheme = scheme();
         let _ = scheme.filters.push(filter(kind));
-        let answer = if good {
+        let result = if good {
             Ok(())
         } else {
             Err(SchemeFault::BadFilter { index: 1 })
         };
-        assert_eq!(rt; scheme.check(0), answer, "of {kind:?}");
+        assert_eq!(rt; scheme.check(0), result, "of {kind:?}");
     }
 }
 

@@ -5,24 +5,29 @@ use std::alloc::{AllocError, Global};
 use std::marker::Model;
 use thiserror::Error;
 
-/// The bytes of a page.
+/// The size of a page in bytes.
 pub const PAGE_SIZE: u64 = 4096;
 
-const MAX_TARGETS: usize = 64;
+/// The most targets of a space.
+pub const MAX_TARGETS: usize = 64;
 
-const MAX_PAGES: u32 = 1_048_576;
+/// The most pages of a space, and of each of its targets.
+pub const MAX_PAGES: u32 = 1_048_576;
 
-/// What is watched as one address space: whole pages from an address on.
+/// The end of the last page that a target may have, as an address in bytes.
+pub const ADDRESS_END: u64 = 1 << 63;
+
+/// One address range that can be watched: consecutive pages.
 #[derive(Clone, Copy, Debug, PartialEq, Eq)]
 pub struct Target {
-    /// The address of the first byte, a multiple of the page size. The last page ends at or below
-    /// 2^63.
+    /// The address of the first byte, a multiple of [`PAGE_SIZE`]. The last page ends at or below
+    /// [`ADDRESS_END`].
     pub base: u64,
-    /// How many pages there are, from 1 to 1,048,576.
+    /// The number of pages, from 1 to [`MAX_PAGES`].
     pub pages: u32,
 }
 
-/// Where a page lies: its target, and the address of its first byte.
+/// The place of a page: its target, and the address of its first byte.
 #[derive(Clone, Copy, Debug, PartialEq, Eq)]
 pub struct Place {
     /// The index of the target.
@@ -31,32 +36,44 @@ pub struct Place {
     pub addr: u64,
 }
 
-/// Why a list of targets makes no space.
+/// Why a list of targets is rejected.
 #[derive(Clone, Copy, Debug, PartialEq, Eq, Error)]
 pub enum SpaceFault {
     /// The list is empty.
     #[error("NoTarget")]
     NoTarget,
-    /// There are more than 64 targets.
+    /// There are more than [`MAX_TARGETS`] targets.
     #[error("TooManyTargets")]
     TooManyTargets { count: u32 },
-    /// The target with this index has no page, or more than 1,048,576.
+    /// The target with this index has no page, or more than [`MAX_PAGES`].
     #[error("BadPages")]
     BadPages { index: u32 },
-    /// The base of the target with this index is no multiple of 4096, or the target ends above 2^63.
+    /// The base of the target with this index is no multiple of [`PAGE_SIZE`], or the target ends
+    /// above [`ADDRESS_END`].
     #[error("BadBase")]
     BadBase { index: u32 },
-    /// The targets have more than 1,048,576 pages in all.
+    /// The targets have more than [`MAX_PAGES`] pages in all.
     #[error("TooManyPages")]
     TooManyPages { total: u64 },
-    /// No memory is left. The targets break no limit.
+    /// Out of memory. The targets break no limit.
     #[error("Memory")]
     Memory,
 }
 
-/// The targets of a monitor, from 1 to 64 with at most 1,048,576 pages in all. Their pages are
-/// numbered from 0: first those of target 0 by address, then those of target 1, and so on.
-#[derive(Drop)]
+impl From<AllocError> for SpaceFault {
+    ghost use Rattle.damon_types.specs.declared.space.SpaceFault.TheVariants.{Memory};
+
+    ghost from_gives = { λ _ fault. fault ≡ Memory };
+
+    fn from(_error: AllocError) -> SpaceFault {
+        SpaceFault::Memory
+    }
+}
+
+/// The targets of a monitor, from 1 to [`MAX_TARGETS`], with at most [`MAX_PAGES`] pages in all.
+/// Their pages are numbered from 0: first those of target 0 by address, then those of target 1, and
+/// so on.
+#[derive(Debug, Drop)]
 pub struct Space {
     targets: Vec<Target>,
     offsets: Vec<u32>,
@@ -77,31 +94,26 @@ impl Model for Space {
 }
 
 impl Space {
-    /// A space of these targets, or the first limit that they break: of the list, then of a
-    /// target by its index, its pages before its base, then of all pages. The list has fewer than
-    /// 2^32 targets. Takes memory.
+    /// A space of these targets. An error is the first limit that they break: the number of
+    /// targets, then for each target its pages and its base, then the pages of all. The list must
+    /// have fewer than 2^32 targets. Allocates.
     pub fn new(alloc: Global, targets: &[Target]) -> Result<Space, SpaceFault>
         requires { length targets.now < 2 ^ 32 }
         ensures exact { MadeOf targets.now result }
         ensures sound { IfOk result (λ s. IsSpace s) }
     {
         let pages = check_targets(targets)?;
-        let offsets = match offsets_of(alloc, targets) {
-            Ok(offsets) => offsets,
-            Err(_) => return Err(SpaceFault::Memory),
-        };
-        match targets.to_vec(alloc) {
-            Ok(targets) => Ok(Space {
-                targets,
-                offsets,
-                pages,
-            }),
-            Err(_) => Err(SpaceFault::Memory),
-        }
+        let offsets = offsets_of(alloc, targets)?;
+        let targets = targets.to_vec(alloc)?;
+        Ok(Space {
+            targets,
+            offsets,
+            pages,
+        })
     }
 
-    /// Whether these targets make a space, or else the first limit that they break, as [`Space::new`]
-    /// answers it. The list has fewer than 2^32 targets. Takes no memory.
+    /// Checks the limits of targets as [`Space::new`] does. The list must have fewer than 2^32
+    /// targets. Does not allocate.
     pub fn check(targets: &[Target]) -> Result<(), SpaceFault>
         requires { length targets.now < 2 ^ 32 }
         ensures { result ≡ checked targets.now }
@@ -125,7 +137,7 @@ impl Space {
         self.pages
     }
 
-    /// The target with this index, which is below `targets()`.
+    /// The target with this index, which must be below [`Space::targets`].
     pub fn target(&self, index: u32) -> Target
         requires { index < length self.now }
         ensures { slice_get self.now index ≡ Some result }
@@ -133,8 +145,8 @@ impl Space {
         self.targets[index as usize]
     }
 
-    /// The page that holds the byte at an address of a target: None exactly where there is no
-    /// such target or the byte is outside its pages.
+    /// The page that holds the byte at an address of a target, or `None` if there is no such target
+    /// or the byte is outside its pages.
     pub fn page_of(&self, target: u32, addr: u64) -> Option<u32>
         ensures { result ≡ page_of self.now target addr }
     {
@@ -151,7 +163,7 @@ impl Space {
         }
     }
 
-    /// Where the first byte of a page lies, whose number is below `pages()`.
+    /// The place of the page with this number, which must be below [`Space::pages`].
     pub fn addr_of(&self, page: u32) -> Place
         requires { page < pages_of self.now }
         ensures place { result ≡ place_of self.now page }
@@ -167,7 +179,7 @@ impl Space {
         }
     }
 
-    // The target that a page belongs to: the last one that begins at or before it.
+    // The index of the target that a page belongs to: the last one that begins at or before it.
     fn target_of(&self, page: u32) -> usize
         requires { page < pages_of self.now }
         ensures within { result < length self.now }
@@ -190,7 +202,7 @@ impl Clone for Space {
     }
 }
 
-// The pages of targets that break no limit.
+// The number of pages of targets that break no limit.
 fn check_targets(targets: &[Target]) -> Result<u32, SpaceFault>
     requires { length targets.now < 2 ^ 32 }
     ensures { ChecksTo targets.now result }
@@ -211,7 +223,7 @@ fn check_targets(targets: &[Target]) -> Result<u32, SpaceFault>
             });
         }
         let size = PAGE_SIZE * u64::from(target.pages);
-        if target.base % PAGE_SIZE != 0 || target.base > (1 << 63) - size {
+        if target.base % PAGE_SIZE != 0 || target.base > ADDRESS_END - size {
             return Err(SpaceFault::BadBase {
                 index: index as u32,
             });
@@ -230,7 +242,8 @@ fn check_targets(targets: &[Target]) -> Result<u32, SpaceFault>
 fn offsets_of(alloc: Global, targets: &[Target]) -> Result<Vec<u32>, AllocError>
     requires { pages_of targets.now < 2 ^ 32 }
     ensures count { IfOk result (λ v. length v.items ≡ length targets.now) }
-    ensures each { IfOk result (λ v. (i : ℕ) → i < length targets.now → slice_index v.items i ≡ offset targets.now i) }
+    ensures each { IfOk result (λ v. (i : ℕ) → i < length targets.now
+        → slice_index v.items i ≡ offset targets.now i) }
 {
     let mut offsets = Vec::new(alloc);
     let mut next = 0;

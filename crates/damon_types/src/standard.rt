@@ -1,14 +1,18 @@
 // Streams over readers and writers of std: the trusted edge to the system.
-ghost use Rattle.std.specs.Prelude.{◌≡◌};
+ghost use Rattle.std.specs.Prelude.{◌≡◌, ◌<◌, length, IfOk, is_err, if◌then◌else◌};
+ghost use Rattle.std.specs.Io.{ReadsAtMost, WritesAtMost};
+ghost use Rattle.std.specs.Io.KnownBytes.{ReadConsumes, WriteAppends};
+ghost use Rattle.damon_types.specs.Causes.{HasCause};
+ghost use Rattle.damon_types.specs.Memory.{next_count};
 ghost use Rattle.damon_types.specs.Standard.{Counted};
 
 use crate::{Failed, Sink, Source};
 use std::io::{Read, Write};
 use std::marker::Model;
 
-/// A source over a reader of std. It tells the bytes that its reader tells, which are none for
-/// standard input.
-#[derive(Drop)]
+/// A source over a reader of std. Its contracts name the bytes that the reader's contracts name:
+/// none for standard input.
+#[derive(Debug, Drop)]
 pub struct StdSource<R: Read> {
     inner: R,
     faults: u64,
@@ -36,7 +40,15 @@ impl<R: Read> Source for StdSource<R> {
 
     ghost faults = { λ s. s.faults };
 
-    fn read(&mut self, buf: &mut [u8]) -> Result<usize, Failed> {
+    /// Makes one read of the reader, and no second one where that fails.
+    fn read(&mut self, buf: &mut [u8]) -> Result<usize, Failed>
+        ensures bound { ReadsAtMost result buf.new }
+        ensures bytes { ReadConsumes
+            (R.remaining self.old.inner) (R.remaining self.new.inner) result buf.new }
+        ensures cause { HasCause self.old.faults self.new.faults result }
+        ensures faults { self.new.faults
+            ≡ (if is_err result then next_count self.old.faults else self.old.faults) }
+    {
         match self.inner.read(buf) {
             Ok(count) => Ok(count),
             Err(_) => {
@@ -47,8 +59,8 @@ impl<R: Read> Source for StdSource<R> {
     }
 }
 
-/// A sink over a writer of std. A writer that takes nothing of a piece that is not empty has failed.
-#[derive(Drop)]
+/// A sink over a writer of std. A write that takes 0 bytes of a piece that is not empty has failed.
+#[derive(Debug, Drop)]
 pub struct StdSink<W: Write> {
     inner: W,
     faults: u64,
@@ -76,7 +88,16 @@ impl<W: Write> Sink for StdSink<W> {
 
     ghost faults = { λ s. s.faults };
 
-    fn write(&mut self, piece: &[u8]) -> Result<usize, Failed> {
+    /// Makes one write of the writer, and no second one where that fails.
+    fn write(&mut self, piece: &[u8]) -> Result<usize, Failed>
+        ensures bound { WritesAtMost result piece.now }
+        ensures bytes { WriteAppends
+            (W.contents self.old.inner) (W.contents self.new.inner) result piece.now }
+        ensures some { 0 < length piece.now → IfOk result (λ n. 0 < n) }
+        ensures cause { HasCause self.old.faults self.new.faults result }
+        ensures faults { self.new.faults
+            ≡ (if is_err result then next_count self.old.faults else self.old.faults) }
+    {
         match self.inner.write(piece) {
             Ok(0) if !piece.is_empty() => {
                 self.faults = self.faults.saturating_add(1);

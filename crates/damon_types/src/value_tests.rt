@@ -92,6 +92,26 @@ fn targets_have_limits(rt: HostRuntime) {
 }
 
 #[test]
+fn messages_are_names(rt: HostRuntime) -> Result<(), Fail> {
+    let cases = [
+        (SpaceFault::NoTarget, "NoTarget"),
+        (SpaceFault::TooManyTargets { count: 65 }, "TooManyTargets"),
+        (SpaceFault::BadPages { index: 1 }, "BadPages"),
+        (SpaceFault::BadBase { index: 1 }, "BadBase"),
+        (
+            SpaceFault::TooManyPages { total: 1_048_577 },
+            "TooManyPages",
+        ),
+        (SpaceFault::Memory, "Memory"),
+    ];
+    for (fault, name) in cases {
+        let message = format!(in rt.alloc(); "{fault}")?;
+        assert_eq!(rt; message.as_str(), name);
+    }
+    Ok(())
+}
+
+#[test]
 fn attributes_have_limits(rt: HostRuntime) {
     let cases = [
         (3, 3, 1, Ok(())),
@@ -102,9 +122,9 @@ fn attributes_have_limits(rt: HostRuntime) {
         (3, 3, 0, Err(AttrsFault::AggrOutOfRange { aggr: 0 })),
         (3, 3, 1001, Err(AttrsFault::AggrOutOfRange { aggr: 1001 })),
     ];
-    for (min, max, aggr, answer) in cases {
+    for (min, max, aggr, result) in cases {
         let attrs = Attrs { min, max, aggr };
-        assert_eq!(rt; attrs.check(), answer, "at {attrs:?}");
+        assert_eq!(rt; attrs.check(), result, "at {attrs:?}");
     }
 }
 

@@ -38,7 +38,7 @@ hex_on-digits = hex_by_steps (λ m ds. hex_on 0 ds ≡ Some m)
     hex_on-append 0 ds (digit_glyph false (m % 16) ∷ []) ∙ ap (option_and_then (λ v. hex_on v (digit_glyph false (m % 16) ∷ []))) front
     ∙ hex_on_one (m / 16) (m % 16) (omega arith) ∙ ap (λ v. Some v) whole)
 
--- digits with no zero in front of others
+-- digits without a leading zero
 pub record IsCanonicalHex (word : List ℕ) : Type 0 where
   pub some : 0 < length word
   pub few : length word ≤ 16

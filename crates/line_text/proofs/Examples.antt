@@ -1,7 +1,8 @@
 -- Words that are read and refused, lines that are taken apart, plain lines, and spellings.
 use Rattle.std.proofs.Common.{◌≡◌, ◌-◌, ◌^◌, true, false, [], ◌∷◌, codes, Some, None, decimal, refl}
 use Rattle.std.specs.Fmt.{digits}
-use Rattle.line_text.specs.Line.{first_line, first_word, after_prefix}
+use Rattle.line_text.specs.Line.{first_word, after_prefix}
+use Rattle.line_text.specs.declared.bytes.TheConstants.{COMMA, EQUALS, SPACE}
 use Rattle.line_text.specs.Number.{number}
 use Rattle.line_text.specs.Address.{address, spelled_address}
 use Rattle.line_text.specs.Parts.{four_of, is_plain, joined, parts, three_of, two_of}
@@ -60,15 +61,6 @@ upper_mark_is_refused = refl
 upper_digit_is_refused : address (codes "0x1F") ≡ None
 upper_digit_is_refused = refl
 
-line_is_first : first_line (codes "ab\ncd\n") ≡ Some (codes "ab", codes "cd\n")
-line_is_first = refl
-
-empty_line_is_first : first_line (codes "\n") ≡ Some ([], [])
-empty_line_is_first = refl
-
-end_is_missing : first_line (codes "ab") ≡ None
-end_is_missing = refl
-
 word_is_first : first_word (codes "a  b") ≡ Some (codes "a", codes " b")
 word_is_first = refl
 
@@ -94,28 +86,28 @@ zero_address_is_spelled : spelled_address 0 ≡ codes "0x0"
 unfolding digits
 zero_address_is_spelled = refl
 
-nothing_is_one_part : parts 32 [] ≡ [] ∷ []
+nothing_is_one_part : parts SPACE [] ≡ [] ∷ []
 nothing_is_one_part = refl
 
-middle_part_is_empty : parts 32 (codes "a  b") ≡ codes "a" ∷ [] ∷ codes "b" ∷ []
+middle_part_is_empty : parts SPACE (codes "a  b") ≡ codes "a" ∷ [] ∷ codes "b" ∷ []
 middle_part_is_empty = refl
 
-last_part_is_empty : parts 44 (codes "1,2,") ≡ codes "1" ∷ codes "2" ∷ [] ∷ []
+last_part_is_empty : parts COMMA (codes "1,2,") ≡ codes "1" ∷ codes "2" ∷ [] ∷ []
 last_part_is_empty = refl
 
-parts_are_joined : joined 44 (codes "1" ∷ [] ∷ codes "2" ∷ []) ≡ codes "1,,2"
+parts_are_joined : joined COMMA (codes "1" ∷ [] ∷ codes "2" ∷ []) ≡ codes "1,,2"
 parts_are_joined = refl
 
-two_parts_are_found : two_of (parts 61 (codes "size=4")) ≡ Some (codes "size", codes "4")
+two_parts_are_found : two_of (parts EQUALS (codes "size=4")) ≡ Some (codes "size", codes "4")
 two_parts_are_found = refl
 
-one_part_is_not_two : two_of (parts 61 (codes "size")) ≡ None
+one_part_is_not_two : two_of (parts EQUALS (codes "size")) ≡ None
 one_part_is_not_two = refl
 
-three_parts_are_found : three_of (parts 44 (codes "1,,2")) ≡ Some (codes "1", [], codes "2")
+three_parts_are_found : three_of (parts COMMA (codes "1,,2")) ≡ Some (codes "1", [], codes "2")
 three_parts_are_found = refl
 
-three_parts_are_not_four : four_of (parts 44 (codes "1,,2")) ≡ None
+three_parts_are_not_four : four_of (parts COMMA (codes "1,,2")) ≡ None
 three_parts_are_not_four = refl
 
 words_are_plain : is_plain (codes "touch 0 ~") ≡ true

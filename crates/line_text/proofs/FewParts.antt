@@ -10,7 +10,7 @@ one_of-cons : (first : List ℕ) (others : List (List ℕ)) → 0 < length other
 one_of-cons first [] some = absurd (omega arith)
 one_of-cons first (a ∷ others) some = refl
 
--- behind a separator there is one more part
+-- after a separator there is one more part
 pub more_than_one : (separator : ℕ) (bytes first rest : List ℕ) → split_at_byte separator bytes ≡ Some (first, rest) → one_of (parts separator bytes) ≡ None
 more_than_one separator bytes first rest taken =
     ap one_of (parts-split_at_byte-Some separator bytes first rest taken)
@@ -37,7 +37,7 @@ four_of-cons first (a ∷ b ∷ []) = refl
 four_of-cons first (a ∷ b ∷ c ∷ []) = refl
 four_of-cons first (a ∷ b ∷ c ∷ d ∷ others) = refl
 
--- the parts behind the first, if the rest has exactly one, two or three
+-- the parts after the first, if the rest has exactly one, two or three
 pub two_from : (separator : ℕ) (bytes first rest : List ℕ) (last : Option (List ℕ)) → split_at_byte separator bytes ≡ Some (first, rest)
     → last ≡ one_of (parts separator rest) → option_map (λ second. (first, second)) last ≡ two_of (parts separator bytes)
 two_from separator bytes first rest last taken is =

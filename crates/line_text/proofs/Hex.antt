@@ -67,7 +67,7 @@ length_more m ds l h (suc (suc j)) a b = omega (arith, length-append ds (digit_g
 pub length_hex_le : (n : ℕ) → n < 2 ^ 64 → length (digits 16 false n) ≤ 16
 length_hex_le n small = hex_by_steps (λ m ds. (j : ℕ) → 0 < j → m < 16 ^ j → length ds ≤ j) (λ m l j a b. omega arith) length_more n small 16 (omega arith) (omega arith)
 
--- one more digit behind fewer than 16 fits 64 bits
+-- one more digit after fewer than 16 fits 64 bits
 pub hex_room : (i v : ℕ) → i < 16 → v < 16 ^ i → 16 * v + 15 < 2 ^ 64
 hex_room i v low small =
     let whole : 16 ^ suc i ≤ 16 ^ 16 = pow-le-pow_right {n = 16} (omega arith) {i = suc i} {j = 16} (omega arith) in

@@ -11,7 +11,7 @@ use Rattle.line_text.specs.Number.{value_on, number}
 own : IsNumeralModel (λ ds. all_ascii_digits ds ≡ true) (value_on 0)
 own = numerals_by_fold _ (search rules) value_on (search rules)
 
--- digits with no zero in front of others
+-- digits without a leading zero
 pub record IsCanonical (word : List ℕ) : Type 0 where
   pub digits : all_ascii_digits word ≡ true
   pub some : 0 < length word

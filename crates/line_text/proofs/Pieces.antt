@@ -12,7 +12,7 @@ use Rattle.std.proofs.lemmas.Slice.Eq.{starts_is}
 use Rattle.std.proofs.Math.Seq.{get_or-append_seam, take-append_seam, drop-append_seam}
 use Rattle.line_text.specs.Line.{split_at_byte, after_prefix}
 
--- what follows `front`, and the other way round
+-- a prefix is stripped, and the other way round
 pub after_prefix-append : (front rest : List ℕ) → after_prefix front (front ++ rest) ≡ Some rest
 after_prefix-append front rest =
     let begins : starts_with nat_eq (front ++ rest) front ≡ true = (starts_is Decides-eqb (front ++ rest) front (starts_with nat_eq (front ++ rest) front) refl).1 rest refl in
@@ -53,7 +53,7 @@ cut_there byte at bytes piece rest is within found =
     let whole : bytes ≡ take at bytes ++ get_or bytes at 0 ∷ drop (at + 1) bytes = rw is (split_at_first (λ c. c == byte) bytes 0 (rw is at within)) in
     (whole ∙ (λ i. front i ++ same i ∷ back i), subst (All (λ c. c ≢ byte)) front (none_before byte at bytes is within))
 
--- what stands before the first of a byte has none of them
+-- the bytes before the first such byte have none of it
 pub split_at_byte-Some : (byte : ℕ) (bytes piece rest : List ℕ) → split_at_byte byte bytes ≡ Some (piece, rest)
     → (bytes ≡ piece ++ byte ∷ rest) × All (λ c. c ≢ byte) piece
 split_at_byte-Some byte bytes piece rest e = by (nat_lt (position_or_len (λ c. c == byte) bytes) (length bytes)) refl e
@@ -74,7 +74,7 @@ place_behind byte piece rest none = position_or_len_is (λ c. c == byte) (piece 
     (λ k low. let other = none k 0 low in ne_eqb _ byte (rw (get_or-append piece (byte ∷ rest) 0 k low) other))
     (λ _. eq-eqb _ byte (get_or-append_seam piece byte rest 0))
 
--- a piece with none of the byte is taken off whole
+-- a piece without the byte, the byte and the rest are split at it
 pub split_at_byte-append : (byte : ℕ) (piece rest : List ℕ) → All (λ c. c ≢ byte) piece → split_at_byte byte (piece ++ byte ∷ rest) ≡ Some (piece, rest)
 split_at_byte-append byte piece rest none =
     let at = place_behind byte piece rest none in
@@ -86,7 +86,7 @@ nowhere : (byte : ℕ) (bytes : List ℕ) → All (λ c. c ≢ byte) bytes → p
 nowhere byte bytes all =
     position_or_len_is (λ c. c == byte) bytes (length bytes) 0 (omega arith) (λ k low. ne_eqb _ byte (all k 0 low)) (λ past. absurd (omega arith))
 
--- nothing is taken exactly where no byte is the one that is sought
+-- there is no split exactly where no byte is the one that is sought
 pub split_at_byte-None : (byte : ℕ) (bytes : List ℕ) → (split_at_byte byte bytes ≡ None) ↔ All (λ c. c ≢ byte) bytes
 split_at_byte-None byte bytes = (
   λ none. All-from_get_or (λ c. c ≢ byte) bytes 0 (λ k low same. by (nat_lt (position_or_len (λ c. c == byte) bytes) (length bytes)) refl none k low same),

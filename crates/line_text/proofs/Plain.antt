@@ -9,7 +9,7 @@ abbrev pub goes_on : Bool → List ℕ → Bool
 goes_on space [] = not space
 goes_on space (c ∷ cs) = is_printable c && not (space && c == 0x20) && goes_on (c == 0x20) cs
 
--- no word is empty, but for the first one where it goes on behind a byte that is no space
+-- no word is empty, except the first one where it continues after a byte that is not a space
 words_from : Bool → List (List ℕ) → Bool
 words_from space [] = true
 words_from space (first ∷ others) = (not space || is_word first) && list_all is_word others

@@ -12,11 +12,11 @@ use Rattle.line_text.proofs.Pieces.{split_at_byte-Some, split_at_byte-None}
 differs : (separator : ℕ) (piece : List ℕ) → IsPiece separator piece → All (λ c. (c == separator) ≡ false) piece
 differs separator piece none = All-weaker (λ c. c ≢ separator) (λ c. (c == separator) ≡ false) (λ c other. ne_eqb c separator other) piece none
 
--- bytes with no separator are the one part
+-- bytes without a separator are the one part
 pub parts_none : (separator : ℕ) (bytes : List ℕ) → IsPiece separator bytes → parts separator bytes ≡ bytes ∷ []
 parts_none separator bytes none = slice_split_none (λ c. c == separator) bytes (differs separator bytes none)
 
--- a piece with no separator in front of one is the first part
+-- a piece without a separator, followed by one, is the first part
 pub parts_first : (separator : ℕ) (piece rest : List ℕ) → IsPiece separator piece → parts separator (piece ++ separator ∷ rest) ≡ piece ∷ parts separator rest
 parts_first separator piece rest none = slice_split_at (λ c. c == separator) piece separator rest (differs separator piece none) (eq-eqb separator separator refl)
 
@@ -26,7 +26,7 @@ parts-split_at_byte-Some separator bytes piece rest e = let told = split_at_byte
 pub parts-split_at_byte-None : (separator : ℕ) (bytes : List ℕ) → split_at_byte separator bytes ≡ None → parts separator bytes ≡ bytes ∷ []
 parts-split_at_byte-None separator bytes e = parts_none separator bytes ((split_at_byte-None separator bytes).0 e)
 
--- pieces put together are taken apart again
+-- pieces that are joined are taken apart again
 pub parts-joined : (separator : ℕ) (first : List ℕ) (others : List (List ℕ)) → All (IsPiece separator) (first ∷ others)
     → parts separator (joined separator (first ∷ others)) ≡ first ∷ others
 parts-joined separator first [] none = parts_none separator first (All-head (IsPiece separator) first [] none)
@@ -57,6 +57,3 @@ joined-parts separator bytes = join_with_byte-slice_split separator bytes
 pub joined-parts_pieces : (separator : ℕ) (bytes : List ℕ)
     → (joined separator (parts separator bytes) ≡ bytes) × All (IsPiece separator) (parts separator bytes)
 joined-parts_pieces separator bytes = (joined-parts separator bytes, parts_clean separator bytes)
-
-pub same_parts : (separator : ℕ) (a b : List ℕ) → parts separator a ≡ parts separator b → a ≡ b
-same_parts separator a b e = sym (joined-parts separator a) ∙ ap (joined separator) e ∙ joined-parts separator b

@@ -3,12 +3,13 @@ use Rattle.std.specs.Prelude.{◌≢◌, ℕ, ◌==◌, Bool, true, false, ◌&&
 use Rattle.std.specs.Option.{option_map}
 use Rattle.std.specs.List.{slice_split, join_with_byte, list_all}
 use Rattle.std.specs.Borrow.{Bor}
+use Rattle.line_text.specs.declared.bytes.TheConstants.{SPACE}
 
--- the parts of some bytes between separators; with no separator the bytes are the one part
+-- the parts of some bytes between separators; without a separator the bytes are the one part
 abbrev pub parts : ℕ → List ℕ → List (List ℕ)
 parts separator bytes = slice_split (λ c. c == separator) bytes
 
--- pieces put together, with the separator between each two
+-- pieces joined, with the separator between each two
 abbrev pub joined : ℕ → List (List ℕ) → List ℕ
 joined separator pieces = join_with_byte separator pieces
 
@@ -16,7 +17,7 @@ joined separator pieces = join_with_byte separator pieces
 abbrev pub IsPiece : ℕ → List ℕ → Type 0
 IsPiece separator piece = All (λ c. c ≢ separator) piece
 
--- the parts of what is left, none where nothing is left
+-- the parts of the bytes that are left, if any
 abbrev pub parts_left : ℕ → Option (List ℕ) → List (List ℕ)
 parts_left separator None = []
 parts_left separator (Some bytes) = parts separator bytes
@@ -41,16 +42,17 @@ abbrev pub four_of : List (List ℕ) → Option (List ℕ × List ℕ × List �
 four_of (a ∷ b ∷ c ∷ d ∷ []) = Some (a, b, c, d)
 four_of _ = None
 
--- what three borrowed slices show
+-- three borrowed slices as lists
 abbrev pub view_three : Option (Bor (List ℕ) × Bor (List ℕ) × Bor (List ℕ)) → Option (List ℕ × List ℕ × List ℕ)
-view_three result = option_map (λ (x : Bor (List ℕ) × Bor (List ℕ) × Bor (List ℕ)). (x.0.now, x.1.now, x.2.now)) result
+view_three result =
+    option_map (λ (x : Bor (List ℕ) × Bor (List ℕ) × Bor (List ℕ)). (x.0.now, x.1.now, x.2.now)) result
 
--- what four show
+-- four borrowed slices as lists
 abbrev pub view_four : Option (Bor (List ℕ) × Bor (List ℕ) × Bor (List ℕ) × Bor (List ℕ)) → Option (List ℕ × List ℕ × List ℕ × List ℕ)
 view_four result =
     option_map (λ (x : Bor (List ℕ) × Bor (List ℕ) × Bor (List ℕ) × Bor (List ℕ)). (x.0.now, x.1.now, x.2.now, x.3.now)) result
 
--- a byte that prints, from the space to the tilde
+-- a printable byte, from the space to the tilde
 abbrev pub is_printable : ℕ → Bool
 is_printable c = nat_le 0x20 c && nat_le c 0x7e
 
@@ -59,6 +61,6 @@ abbrev pub is_word : List ℕ → Bool
 is_word [] = false
 is_word (c ∷ cs) = true
 
--- a well-formed line: each byte prints, and no word, which is a part between spaces, is empty
+-- a well-formed line: each byte is printable, and no word between spaces is empty
 abbrev pub is_plain : List ℕ → Bool
-is_plain line = list_all is_printable line && list_all is_word (parts 0x20 line)
+is_plain line = list_all is_printable line && list_all is_word (parts SPACE line)

@@ -1,11 +1,10 @@
-ghost use Rattle.std.specs.Prelude.{◌≡◌, ◌++◌, ◌+◌, ◌≤◌, ◌<◌, length, drop, IfSome, OnErr, OnOk};
+ghost use Rattle.std.specs.Prelude.{◌≡◌, ◌++◌, ◌+◌, ◌≤◌, ◌<◌, length, drop, take, IfSome};
 ghost use Rattle.line_text.specs.Address.{address, hex_digit, hex_number, hex_on, spelled_address};
 
 use crate::hex_digits::write_hex;
-use std::alloc::AllocError;
 
-/// The address that a word spells: `0x0`, or `0x` and at most 16 hexadecimal digits in lower case
-/// that do not begin with a zero.
+/// The address that a word spells: `0x0`, or `0x` and 1 to 16 hexadecimal digits in lower case, the
+/// first of which is not 0. `None` for any other word.
 pub fn read_address(word: &[u8]) -> Option<u64>
     ensures exact { result ≡ address word.now }
 {
@@ -50,18 +49,9 @@ fn hex_value(byte: u8) -> Option<u8>
     }
 }
 
-/// Appends the spelling of an address. Where memory runs out, nothing is appended.
-pub fn write_address(out: &mut Vec<u8>, value: u64) -> Result<(), AllocError>
-    ensures ok { OnOk result (out.new.items ≡ out.old.items ++ spelled_address value) }
-    ensures err { OnErr result (out.new.items ≡ out.old.items) }
-{
-    let mut spelled = [0; 18];
-    let start = address_before(&mut spelled, 18, value);
-    out.extend_from_slice(&spelled[start..])
-}
-
-/// Writes the spelling of an address so that it ends before `end`, and returns where it begins: at
-/// most 18 bytes earlier.
+/// Writes the spelling of an address so that it ends before index `end`, and returns the index of
+/// its first byte, at least `end - 18`. The bytes before that index and from `end` on are
+/// unchanged.
 #[inline]
 #[tactic(auto, using(crate::proofs::Hex::length_hex_le))]
 pub fn address_before(bytes: &mut [u8], end: usize, value: u64) -> usize
@@ -70,6 +60,7 @@ pub fn address_before(bytes: &mut [u8], end: usize, value: u64) -> usize
     ensures start { result ≤ end }
     ensures most { end ≤ result + 18 }
     ensures written { drop result bytes.new ≡ spelled_address value ++ drop end bytes.old }
+    ensures before { take result bytes.new ≡ take result bytes.old }
 {
     let start = write_hex(value, bytes, end);
     bytes[start - 1] = b'x';

@@ -4,11 +4,13 @@
 
 /// Hexadecimal addresses: reading and writing.
 mod address;
+/// The bytes between the parts of a text.
+mod bytes;
 /// Hexadecimal digits, written from the last to the first.
 mod hex_digits;
-/// What reading and spelling have to do with each other.
+/// How reading and spelling relate.
 mod laws;
-/// The lines of a text and the words of a line.
+/// Words, prefixes, and equal texts.
 mod line;
 /// Decimal numbers: reading and writing.
 mod number;
@@ -17,13 +19,13 @@ mod parts;
 #[cfg(test)]
 mod tests;
 
-pub use address::{address_before, read_address, write_address};
+pub use address::{address_before, read_address};
+pub use bytes::{COLON, COMMA, DASH, EQUALS, LF, SPACE};
 pub use laws::{
-    address_is_spelled, bytes_have_their_parts, decimal_has_digits, decimal_is_read,
-    front_is_stripped, line_is_taken, no_line_is_taken, no_word_is_taken, number_is_decimal,
-    parts_are_pieces, pieces_are_parts, spelled_address_has_digits, spelled_address_is_read,
-    stripped_front_was_first, taken_line_is_first, taken_word_is_first, word_is_taken,
+    address_is_spelled, decimal_has_digits, decimal_is_read, front_is_stripped, number_is_decimal,
+    parts_are_pieces, piece_is_taken, pieces_are_parts, spelled_address_has_digits,
+    spelled_address_is_read, stripped_front_was_first,
 };
-pub use line::{next_line, next_word, same_text, strip};
+pub use line::{next_word, same_text, strip};
 pub use number::{number_before, read_number, read_number_8, read_number_32, write_number};
 pub use parts::{four_parts, is_plain, next_part, split_front, three_parts, two_parts};

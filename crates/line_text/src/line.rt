@@ -1,27 +1,20 @@
 ghost use Rattle.std.specs.Prelude.{◌≡◌, ◌<◌, ◌↔◌, IsTrue, IfSome, length};
 ghost use Rattle.std.specs.Option.{option_copied};
-ghost use Rattle.line_text.specs.Line.{after_prefix, first_line, first_word, view_pair};
+ghost use Rattle.line_text.specs.Line.{after_prefix, first_word, view_pair};
 
+use crate::SPACE;
 use crate::parts::next_part;
 
-/// The first line of a text without its LF, and what follows the LF. `None` where there is no LF.
-pub fn next_line(text: &[u8]) -> Option<(&[u8], &[u8])>
-    ensures exact { view_pair result ≡ first_line text.now }
-    ensures shorter { IfSome result (λ x. length x.1.now < length text.now) }
-{
-    next_part(text, b'\n')
-}
-
-/// The first word of a line that has another word behind it, and what follows the one space
-/// between them. `None` where there is no space: the line is its last word.
+/// The first word of a line, and the line after the space that follows it. `None` if the line has
+/// no space: then it is one word.
 pub fn next_word(line: &[u8]) -> Option<(&[u8], &[u8])>
     ensures exact { view_pair result ≡ first_word line.now }
     ensures shorter { IfSome result (λ x. length x.1.now < length line.now) }
 {
-    next_part(line, b' ')
+    next_part(line, SPACE)
 }
 
-/// What follows `front` in the line, where the line begins with it.
+/// The line without the prefix `front`, or `None` if the line does not begin with it.
 pub fn strip<'a>(line: &'a [u8], front: &[u8]) -> Option<&'a [u8]>
     ensures exact { option_copied result ≡ after_prefix front.now line.now }
 {

@@ -1,12 +1,12 @@
-ghost use Rattle.std.specs.Prelude.{◌≡◌, ◌++◌, ◌+◌, ◌≤◌, ◌^◌, ◌-◌, length, drop, IfSome, OnErr, OnOk};
+ghost use Rattle.std.specs.Prelude.{◌≡◌, ◌++◌, ◌+◌, ◌≤◌, ◌^◌, ◌-◌, length, drop, take, IfSome, OnErr, OnOk};
 ghost use Rattle.std.specs.Fmt.{decimal};
 ghost use Rattle.line_text.specs.Number.{digits_up_to, number, with_digit_up_to};
 
 use itoa::write_digits;
 use std::alloc::AllocError;
 
-/// The number that a word spells in decimal digits, if it is at most `most`: `0`, or digits that
-/// do not begin with a zero, and nothing else.
+/// The number that a word spells, if it is at most `most`: `0`, or decimal digits the first of
+/// which is not 0. `None` for any other word.
 pub fn read_number(word: &[u8], most: u64) -> Option<u64>
     ensures exact { result ≡ number most word.now }
     ensures bound { IfSome result (λ n. n ≤ most) }
@@ -33,7 +33,7 @@ pub fn read_number_8(word: &[u8]) -> Option<u8>
     Some(number as u8)
 }
 
-/// Appends the decimal spelling of a number. Where memory runs out, nothing is appended.
+/// Appends the decimal spelling of a number. Allocates; on an error `out` is unchanged.
 pub fn write_number(out: &mut Vec<u8>, value: u64) -> Result<(), AllocError>
     ensures ok { OnOk result (out.new.items ≡ out.old.items ++ decimal value) }
     ensures err { OnErr result (out.new.items ≡ out.old.items) }
@@ -43,8 +43,9 @@ pub fn write_number(out: &mut Vec<u8>, value: u64) -> Result<(), AllocError>
     out.extend_from_slice(&digits[start..])
 }
 
-/// Writes the decimal spelling of a number so that it ends before `end`, and returns where it
-/// begins: at most 20 bytes earlier.
+/// Writes the decimal spelling of a number so that it ends before index `end`, and returns the
+/// index of its first byte, at least `end - 20`. The bytes before that index and from `end` on are
+/// unchanged.
 #[inline]
 pub fn number_before(bytes: &mut [u8], end: usize, value: u64) -> usize
     requires room { 20 ≤ end }
@@ -52,6 +53,7 @@ pub fn number_before(bytes: &mut [u8], end: usize, value: u64) -> usize
     ensures start { result ≤ end }
     ensures most { end ≤ result + 20 }
     ensures written { drop result bytes.new ≡ decimal value ++ drop end bytes.old }
+    ensures before { take result bytes.new ≡ take result bytes.old }
 {
     write_digits(value, bytes, end)
 }
@@ -68,7 +70,7 @@ fn read_digits(word: &[u8], most: u64) -> Option<u64>
     Some(value)
 }
 
-// The number with one more digit behind it, if the byte is a digit and the number at most `most`.
+// The number with one more digit, if the byte is a digit and the new number at most `most`.
 fn with_digit(value: u64, byte: u8, most: u64) -> Option<u64>
     ensures exact { result ≡ with_digit_up_to most value byte }
 {

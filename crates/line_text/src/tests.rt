@@ -56,16 +56,12 @@ fn refuses_other_spellings_of_addresses(rt: HostRuntime) {
 }
 
 #[test]
-fn takes_lines_and_words(rt: HostRuntime) -> Result<(), Fail> {
-    let (line, rest) = next_line(b"touch 0 0x1000\nend\n").ok_or("no line")?;
-    assert!(rt; same_text(line, b"touch 0 0x1000"));
-    assert!(rt; same_text(rest, b"end\n"));
-    let (word, rest) = next_word(line).ok_or("no word")?;
-    assert!(rt; same_text(word, b"touch"));
-    assert!(rt; same_text(rest, b"0 0x1000"));
+fn takes_words_and_prefixes(rt: HostRuntime) -> Result<(), Fail> {
+    let (word, rest) = next_word(b"touch 0 0x1000").ok_or("no word")?;
+    assert_eq!(rt; word, b"touch".as_slice());
+    assert_eq!(rt; rest, b"0 0x1000".as_slice());
     let value = strip(b"size=1,2", b"size=").ok_or("no front")?;
-    assert!(rt; same_text(value, b"1,2"));
-    assert!(rt; next_line(b"end").is_none());
+    assert_eq!(rt; value, b"1,2".as_slice());
     assert!(rt; next_word(b"end").is_none());
     assert!(rt; strip(b"size", b"size=").is_none());
     Ok(())
@@ -74,12 +70,12 @@ fn takes_lines_and_words(rt: HostRuntime) -> Result<(), Fail> {
 #[test]
 fn splits_at_the_first_separator(rt: HostRuntime) -> Result<(), Fail> {
     let (key, value) = next_part(b"key=a=b", b'=').ok_or("no separator")?;
-    assert!(rt; same_text(key, b"key"));
-    assert!(rt; same_text(value, b"a=b"));
+    assert_eq!(rt; key, b"key".as_slice());
+    assert_eq!(rt; value, b"a=b".as_slice());
     assert!(rt; next_part(b"key", b'=').is_none());
     let (front, rest) = split_front(b"1,,2", b',');
-    assert!(rt; same_text(front, b"1"));
-    assert!(rt; same_text(rest.ok_or("no rest")?, b",2"));
+    assert_eq!(rt; front, b"1".as_slice());
+    assert_eq!(rt; rest.ok_or("no rest")?, b",2".as_slice());
     let (front, rest) = split_front(b"", b',');
     assert!(rt; front.is_empty());
     assert!(rt; rest.is_none());
@@ -87,19 +83,19 @@ fn splits_at_the_first_separator(rt: HostRuntime) -> Result<(), Fail> {
 }
 
 #[test]
-fn splits_into_so_many_parts(rt: HostRuntime) -> Result<(), Fail> {
+fn splits_into_parts(rt: HostRuntime) -> Result<(), Fail> {
     let (a, b) = two_parts(b"4,", b',').ok_or("not two")?;
-    assert!(rt; same_text(a, b"4"));
+    assert_eq!(rt; a, b"4".as_slice());
     assert!(rt; b.is_empty());
     let (a, b, c) = three_parts(b"map  7", b' ').ok_or("not three")?;
-    assert!(rt; same_text(a, b"map"));
+    assert_eq!(rt; a, b"map".as_slice());
     assert!(rt; b.is_empty());
-    assert!(rt; same_text(c, b"7"));
+    assert_eq!(rt; c, b"7".as_slice());
     let (a, b, c, d) = four_parts(b"map 7 0x0 256", b' ').ok_or("not four")?;
-    assert!(rt; same_text(a, b"map"));
-    assert!(rt; same_text(b, b"7"));
-    assert!(rt; same_text(c, b"0x0"));
-    assert!(rt; same_text(d, b"256"));
+    assert_eq!(rt; a, b"map".as_slice());
+    assert_eq!(rt; b, b"7".as_slice());
+    assert_eq!(rt; c, b"0x0".as_slice());
+    assert_eq!(rt; d, b"256".as_slice());
     Ok(())
 }
 
@@ -140,51 +136,34 @@ fn knows_plain_lines(rt: HostRuntime) {
 }
 
 #[test]
-fn writes_numbers_and_addresses(rt: HostRuntime) -> Result<(), Fail> {
+fn appends_numbers(rt: HostRuntime) -> Result<(), Fail> {
     let mut out = Vec::new(rt.alloc());
     write_number(&mut out, 0)?;
-    out.push(b' ')?;
+    out.push(SPACE)?;
     write_number(&mut out, u64::MAX)?;
-    out.push(b' ')?;
-    write_address(&mut out, 0)?;
-    out.push(b' ')?;
-    write_address(&mut out, 4096)?;
-    out.push(b' ')?;
-    write_address(&mut out, u64::MAX)?;
-    assert!(rt;
-        same_text(
-            &out,
-            b"0 18446744073709551615 0x0 0x1000 0xffffffffffffffff"
-        )
-    );
+    assert_eq!(rt; out.as_slice(), b"0 18446744073709551615".as_slice());
     Ok(())
 }
 
 #[test]
-fn writes_before_what_stands_there(rt: HostRuntime) {
-    let mut bytes = [b'.'; 48];
-    let address = address_before(&mut bytes, 44, 0x7f00_0000_1000);
-    let number = number_before(&mut bytes, address, 65_536);
-    assert!(rt; same_text(&bytes[number..], b"655360x7f0000001000...."));
+fn writes_addresses(rt: HostRuntime) {
+    let cases: [(u64, &[u8]); 4] = [
+        (0, b"0x0"),
+        (4096, b"0x1000"),
+        (0xab_cdef, b"0xabcdef"),
+        (u64::MAX, b"0xffffffffffffffff"),
+    ];
+    for (value, text) in cases {
+        let mut bytes = [b'.'; 18];
+        let start = address_before(&mut bytes, 18, value);
+        assert_eq!(rt; &bytes[start..], text);
+    }
 }
 
 #[test]
-fn laws_are_called() {
-    decimal_is_read();
-    number_is_decimal();
-    spelled_address_is_read();
-    address_is_spelled();
-    decimal_has_digits();
-    spelled_address_has_digits();
-    line_is_taken();
-    taken_line_is_first();
-    no_line_is_taken();
-    word_is_taken();
-    taken_word_is_first();
-    no_word_is_taken();
-    front_is_stripped();
-    stripped_front_was_first();
-    pieces_are_parts();
-    parts_are_pieces();
-    bytes_have_their_parts();
+fn writes_before_an_index(rt: HostRuntime) {
+    let mut bytes = [b'.'; 48];
+    let address = address_before(&mut bytes, 44, 0x7f00_0000_1000);
+    let number = number_before(&mut bytes, address, 65_536);
+    assert_eq!(rt; &bytes[number..], b"655360x7f0000001000....".as_slice());
 }

@@ -1,4 +1,4 @@
--- Changes of slots that are checked and kept one behind the other.
+-- Slot changes that are checked and kept one after another.
 use Rattle.std.proofs.Common.{◌≡◌, ℕ, ◌||◌, true, false, List, [], ◌∷◌, ◌++◌, length, Ok, Err, Some, None, refl, ap, subst, ◌∙◌}
 use Rattle.std.specs.Prelude.{Bool, Option, Result}
 use Rattle.std.specs.List.{list_any}
@@ -9,9 +9,9 @@ use Rattle.damon_types.specs.declared.scheme.Scheme.{Scheme}
 use Rattle.damon_types.specs.declared.scheme.SchemeFault.{SchemeFault}
 use Rattle.damon_types.specs.declared.scheme.SlotChange.{SlotChange}
 use Rattle.damon_types.specs.Scheme.{checked_scheme}
-use Rattle.live_commit.specs.Slots.{checked_behind, checked_free, checked_set, checked_slot, checked_slots, has_scheme, kept_slots, scheme_fault, sets}
+use Rattle.live_commit.specs.Slots.{checked_after, checked_free, checked_set, checked_slot, checked_slots, has_scheme, kept_slots, scheme_fault, sets}
 
--- two checks that find nothing
+-- two checks that succeed
 pub both_ok : {E : Type 0} (r s : Result (Unit {0}) E) → result_and r s ≡ Ok tt → (r ≡ Ok tt) × (s ≡ Ok tt)
 both_ok (Ok t) s ok = (refl, ok)
 both_ok (Err e) s ok = absurd (cc)
@@ -20,7 +20,7 @@ and_ok : {E : Type 0} (r : Result (Unit {0}) E) → result_and r (Ok tt) ≡ r
 and_ok (Ok t) = refl
 and_ok (Err e) = refl
 
--- a change without a fault has none at another index
+-- a change that is accepted is accepted at any index
 free_at : (i j : ℕ) (set : Bool) (checked : Result (Unit {0}) SchemeFault) → result_and (scheme_fault i checked) (checked_free i set) ≡ Ok tt → result_and (scheme_fault j checked) (checked_free j set) ≡ Ok tt
 free_at i j false (Ok t) ok = refl
 free_at i j true (Ok t) ok = absurd (cc)
@@ -30,7 +30,7 @@ index_free : (i j : ℕ) (set : Bool) (slot : ℕ) (o : Option Scheme) → check
 index_free i j set slot None ok = refl
 index_free i j set slot (Some s) ok = free_at i j set (checked_scheme slot s) ok
 
--- one change in front is kept as itself or not at all
+-- the first change is kept or left out
 kept_first : (c : SlotChange) (changes : List SlotChange) → has_scheme c ≡ true → kept_slots (c ∷ changes) ≡ c ∷ kept_slots changes
 kept_first c changes is = rw is refl
 
@@ -46,33 +46,33 @@ sets_kept : (slot : ℕ) (changes : List SlotChange) → list_any (sets slot) (k
 sets_kept slot [] = refl
 sets_kept slot (c ∷ changes) = sets_kept_by slot c changes (has_scheme c) refl (sets_kept slot changes)
 
--- a change without a fault has none behind the changes that are kept
+-- a change that is accepted after some changes is accepted after those of them that are kept
 slot_kept : (before : List SlotChange) (c : SlotChange) → checked_slot (length before) before c ≡ Ok tt → checked_slot (length (kept_slots before)) (kept_slots before) c ≡ Ok tt
 slot_kept before c ok = index_free (length before) (length (kept_slots before)) (list_any (sets c.slot) (kept_slots before)) c.slot c.scheme (rw (sets_kept c.slot before) ok)
 
--- of changes without a fault those that are kept have none
-behind_kept_by : (before : List SlotChange) (c : SlotChange) (changes : List SlotChange) (b : Bool) → has_scheme c ≡ b → checked_slot (length before) before c ≡ Ok tt → checked_behind (kept_slots (before ++ c ∷ [])) (kept_slots changes) ≡ Ok tt → checked_behind (kept_slots before) (kept_slots (c ∷ changes)) ≡ Ok tt
+-- of changes that are accepted, those that are kept are accepted
+behind_kept_by : (before : List SlotChange) (c : SlotChange) (changes : List SlotChange) (b : Bool) → has_scheme c ≡ b → checked_slot (length before) before c ≡ Ok tt → checked_after (kept_slots (before ++ c ∷ [])) (kept_slots changes) ≡ Ok tt → checked_after (kept_slots before) (kept_slots (c ∷ changes)) ≡ Ok tt
 behind_kept_by before c changes true is here rest =
     let parts : kept_slots (before ++ c ∷ []) ≡ kept_slots before ++ c ∷ [] = filter-append has_scheme before (c ∷ []) ∙ ap (λ cs. kept_slots before ++ cs) (kept_first c [] is) in
-    rw (kept_first c changes is, slot_kept before c here) (subst (λ (cs : List SlotChange). checked_behind cs (kept_slots changes) ≡ Ok tt) parts rest)
+    rw (kept_first c changes is, slot_kept before c here) (subst (λ (cs : List SlotChange). checked_after cs (kept_slots changes) ≡ Ok tt) parts rest)
 behind_kept_by before c changes false is here rest =
     let parts : kept_slots (before ++ c ∷ []) ≡ kept_slots before = filter-append has_scheme before (c ∷ []) ∙ ap (λ cs. kept_slots before ++ cs) (dropped_first c [] is) ∙ append-nil (kept_slots before) in
-    rw (dropped_first c changes is) (subst (λ (cs : List SlotChange). checked_behind cs (kept_slots changes) ≡ Ok tt) parts rest)
+    rw (dropped_first c changes is) (subst (λ (cs : List SlotChange). checked_after cs (kept_slots changes) ≡ Ok tt) parts rest)
 
-behind_kept : (before changes : List SlotChange) → checked_behind before changes ≡ Ok tt → checked_behind (kept_slots before) (kept_slots changes) ≡ Ok tt
+behind_kept : (before changes : List SlotChange) → checked_after before changes ≡ Ok tt → checked_after (kept_slots before) (kept_slots changes) ≡ Ok tt
 behind_kept before [] ok = refl
 behind_kept before (c ∷ changes) ok =
-    let both = both_ok (checked_slot (length before) before c) (checked_behind (before ++ c ∷ []) changes) ok in
+    let both = both_ok (checked_slot (length before) before c) (checked_after (before ++ c ∷ []) changes) ok in
     behind_kept_by before c changes (has_scheme c) refl both.0 (behind_kept (before ++ c ∷ []) changes both.1)
 
 pub slots_kept : (changes : List SlotChange) → checked_slots changes ≡ Ok tt → checked_slots (kept_slots changes) ≡ Ok tt
 slots_kept changes ok = behind_kept [] changes ok
 
--- with one change more behind changes without a fault, only that one can be at fault
-behind-push : (front before : List SlotChange) (c : SlotChange) → checked_behind front before ≡ Ok tt → checked_behind front (before ++ c ∷ []) ≡ checked_slot (length (front ++ before)) (front ++ before) c
+-- with one change more after changes that are accepted, only that one can be rejected
+behind-push : (front before : List SlotChange) (c : SlotChange) → checked_after front before ≡ Ok tt → checked_after front (before ++ c ∷ []) ≡ checked_slot (length (front ++ before)) (front ++ before) c
 behind-push front [] c ok = rw (append-nil front) (and_ok (checked_slot (length front) front c))
 behind-push front (b ∷ before) c ok =
-    let both = both_ok (checked_slot (length front) front b) (checked_behind (front ++ b ∷ []) before) ok in
+    let both = both_ok (checked_slot (length front) front b) (checked_after (front ++ b ∷ []) before) ok in
     let same : (front ++ b ∷ []) ++ before ≡ front ++ b ∷ before = append_assoc front (b ∷ []) before in
     rw (both.0) (behind-push (front ++ b ∷ []) before c both.1 ∙ ap (λ cs. checked_slot (length cs) cs c) same)
 

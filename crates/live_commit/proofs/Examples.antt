@@ -25,7 +25,7 @@ attrs min max = record { min = min; max = max; aggr = 5 }
 abbrev two_pages : ℕ → RangeSpec
 two_pages from = record { target = 0; from = from; to = from + 8192; class = 7 }
 
--- a scheme for regions of up to so many pages, from two on
+-- a scheme for regions of two pages up to `size`
 abbrev up_to : ℕ → Scheme
 up_to size = record {
   action = Stat;

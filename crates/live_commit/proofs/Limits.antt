@@ -1,13 +1,18 @@
--- What parts keep that have no fault.
-use Rattle.std.proofs.Common.{◌≡◌, ℕ, ◌≤◌, List, length, Ok, arith}
+-- What the checks of a setup say of its parts.
+use Rattle.std.proofs.Common.{◌≡◌, ℕ, ◌≤◌, List, length, Ok, Err, refl, arith}
+use Rattle.std.specs.Prelude.{Result}
 use Rattle.std.proofs.lemmas.Bool.Decides.{nat_tests}
 use Rattle.std.specs.Result.{result_and}
 use Rattle.damon_types.specs.declared.attrs.Attrs.{Attrs}
 use Rattle.damon_types.specs.declared.range.RangeSpec.{RangeSpec}
 use Rattle.damon_types.specs.declared.space.Target.{Target}
-use Rattle.damon_types.specs.Attrs.{checked_attrs}
+use Rattle.damon_types.specs.declared.attrs.AttrsFault.{AttrsFault}
+use Rattle.damon_types.specs.declared.scheme.SlotChange.{SlotChange}
+use Rattle.damon_types.specs.Attrs.{IsAttrs, checked_attrs}
+use Rattle.target_ranges.specs.declared.fault.RangeFault.{RangeFault}
+use Rattle.live_commit.specs.Slots.{checked_slots}
 use Rattle.target_ranges.specs.Checked.{checked_ranges}
-use Rattle.live_commit.specs.Checked.{attrs_fault, checked_cap, checked_count, checked_limits, checked_max, checked_unit, checked_watched, range_fault}
+use Rattle.live_commit.specs.Checked.{attrs_fault, checked_cap, checked_count, checked_limits, checked_max, checked_setup, checked_unit, checked_watched, range_fault}
 use Rattle.live_commit.proofs.Changes.{both_ok}
 
 unit_kept : (unit : ℕ) → checked_unit unit ≡ Ok tt → (1 ≤ unit) × (unit ≤ 1048576)
@@ -22,15 +27,32 @@ max_kept max cap ok = grind (arith, nat_tests)
 count_kept : (ranges max : ℕ) → checked_count ranges max ≡ Ok tt → ranges ≤ max
 count_kept ranges max ok = grind (arith, nat_tests)
 
+attrs_checked : (r : Result (Unit {0}) AttrsFault) → attrs_fault r ≡ Ok tt → r ≡ Ok tt
+attrs_checked (Ok t) ok = refl
+attrs_checked (Err why) ok = absurd (cc)
+
+attrs_kept : (a : Attrs) → checked_attrs a ≡ Ok tt → IsAttrs a
+attrs_kept a ok = record {
+  min = grind (arith, nat_tests);
+  max = grind (arith, nat_tests);
+  aggr_some = grind (arith, nat_tests);
+  aggr_most = grind (arith, nat_tests);
+}
+
+ranges_checked : (r : Result (Unit {0}) RangeFault) → range_fault r ≡ Ok tt → r ≡ Ok tt
+ranges_checked (Ok t) ok = refl
+ranges_checked (Err fault) ok = absurd (cc)
+
 -- the limits of the numbers
-pub record AreLimits (unit cap max : ℕ) : Type 0 where
+pub record AreLimits (unit cap : ℕ) (a : Attrs) : Type 0 where
   pub unit_some : 1 ≤ unit
   pub unit_most : unit ≤ 1048576
   pub cap_some : 3 ≤ cap
   pub cap_most : cap ≤ 4096
-  pub max_cap : max ≤ cap
+  pub attrs : IsAttrs a
+  pub max_cap : a.max ≤ cap
 
-pub limits_kept : (unit cap : ℕ) (a : Attrs) → checked_limits unit cap a ≡ Ok tt → AreLimits unit cap a.max
+pub limits_kept : (unit cap : ℕ) (a : Attrs) → checked_limits unit cap a ≡ Ok tt → AreLimits unit cap a
 limits_kept unit cap a ok =
     let first = both_ok (checked_unit unit) _ ok in
     let second = both_ok (checked_cap cap) _ first.1 in
@@ -42,12 +64,26 @@ limits_kept unit cap a ok =
       unit_most = units.1;
       cap_some = caps.0;
       cap_most = caps.1;
+      attrs = attrs_kept a (attrs_checked (checked_attrs a) third.0);
       max_cap = max_kept a.max cap third.1;
     }
 
--- the number of ranges
-pub watched_kept : (space : List Target) (unit cap max : ℕ) (specs : List RangeSpec) → checked_watched space unit cap max specs ≡ Ok tt → (1 ≤ length specs) × (length specs ≤ max)
+-- the ranges, and their number
+pub watched_kept : (space : List Target) (unit cap max : ℕ) (specs : List RangeSpec) → checked_watched space unit cap max specs ≡ Ok tt → (1 ≤ length specs) × (length specs ≤ max) × (checked_ranges space unit cap specs ≡ Ok tt)
 watched_kept space unit cap max specs ok =
     let some : 1 ≤ length specs = grind (arith, nat_tests) in
     let rest : result_and (range_fault (checked_ranges space unit cap specs)) (checked_count (length specs) max) ≡ Ok tt = grind (arith, nat_tests) in
-    (some, count_kept (length specs) max (both_ok (range_fault (checked_ranges space unit cap specs)) (checked_count (length specs) max) rest).1)
+    let both = both_ok (range_fault (checked_ranges space unit cap specs)) (checked_count (length specs) max) rest in
+    (some, count_kept (length specs) max both.1, ranges_checked (checked_ranges space unit cap specs) both.0)
+
+-- the three checks of a setup
+pub record AreChecked (space : List Target) (unit cap : ℕ) (a : Attrs) (specs : List RangeSpec) (slots : List SlotChange) : Type 0 where
+  pub limits : checked_limits unit cap a ≡ Ok tt
+  pub watched : checked_watched space unit cap a.max specs ≡ Ok tt
+  pub slots_ok : checked_slots slots ≡ Ok tt
+
+pub setup_checked : (space : List Target) (unit cap : ℕ) (a : Attrs) (specs : List RangeSpec) (slots : List SlotChange) → checked_setup space unit cap a specs slots ≡ Ok tt → AreChecked space unit cap a specs slots
+setup_checked space unit cap a specs slots ok =
+    let first = both_ok (checked_limits unit cap a) (result_and (checked_watched space unit cap a.max specs) (checked_slots slots)) ok in
+    let second = both_ok (checked_watched space unit cap a.max specs) (checked_slots slots) first.1 in
+    record { limits = first.0; watched = second.0; slots_ok = second.1 }

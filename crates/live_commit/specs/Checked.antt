@@ -1,4 +1,4 @@
--- The first fault of what a setup is made of.
+-- The checks of the parts of a setup.
 use Rattle.std.specs.Prelude.{◌≡◌, ◌⊎◌, ℕ, ◌&&◌, ◌==◌, nat_le, nat_lt, List, length, Result, Ok, Err, if◌then◌else◌}
 use Rattle.std.specs.Result.{result_and}
 use Rattle.damon_types.specs.declared.attrs.Attrs.{Attrs}
@@ -9,49 +9,56 @@ use Rattle.damon_types.specs.declared.space.Target.{Target}
 use Rattle.damon_types.specs.Attrs.{checked_attrs}
 use Rattle.target_ranges.specs.declared.fault.RangeFault.{RangeFault}
 use Rattle.target_ranges.specs.Checked.{checked_ranges}
+use Rattle.live_commit.specs.declared.setup.TheConstants.{MAX_CAP, MAX_UNIT, MIN_CAP}
 use Rattle.live_commit.specs.declared.fault.SetupFault.{SetupFault}
 use Rattle.live_commit.specs.declared.fault.SetupFault.TheVariants.{BadUnit, BadCap, BadAttrs, OverCap, NoRange, BadRange, RangesOverMax, Memory}
 use Rattle.live_commit.specs.Slots.{checked_slots}
 
--- the least pages of a region are from 1 to 1,048,576
+-- the least size of a region is from 1 page to MAX_UNIT
 abbrev pub checked_unit : ℕ → Result (Unit {0}) SetupFault
-checked_unit unit = if nat_le 1 unit && nat_le unit 1048576 then Ok tt else Err (BadUnit unit)
+checked_unit unit = if nat_le 1 unit && nat_le unit MAX_UNIT then Ok tt else Err (BadUnit unit)
 
--- the most regions ever are from 3 to 4,096
+-- the cap on the number of regions is from MIN_CAP to MAX_CAP
 abbrev pub checked_cap : ℕ → Result (Unit {0}) SetupFault
-checked_cap cap = if nat_le 3 cap && nat_le cap 4096 then Ok tt else Err (BadCap cap)
+checked_cap cap = if nat_le MIN_CAP cap && nat_le cap MAX_CAP then Ok tt else Err (BadCap cap)
 
--- the fault of attributes becomes one of the setup
+-- what the attributes break, as a fault of the setup
 abbrev pub attrs_fault : Result (Unit {0}) AttrsFault → Result (Unit {0}) SetupFault
 attrs_fault (Ok t) = Ok t
 attrs_fault (Err why) = Err (BadAttrs why)
 
--- the most regions are at most the most ever
+-- the attributes allow at most `cap` regions
 abbrev pub checked_max : ℕ → ℕ → Result (Unit {0}) SetupFault
 checked_max max cap = if nat_lt cap max then Err (OverCap max cap) else Ok tt
 
--- the first fault of the numbers
+-- the first check of the numbers that fails
 abbrev pub checked_limits : ℕ → ℕ → Attrs → Result (Unit {0}) SetupFault
-checked_limits unit cap a = result_and (checked_unit unit) (result_and (checked_cap cap) (result_and (attrs_fault (checked_attrs a)) (checked_max a.max cap)))
+checked_limits unit cap a =
+    result_and (checked_unit unit)
+    (result_and (checked_cap cap) (result_and (attrs_fault (checked_attrs a)) (checked_max a.max cap)))
 
--- the fault of a range becomes one of the setup
+-- why a range is rejected, as a fault of the setup
 abbrev pub range_fault : Result (Unit {0}) RangeFault → Result (Unit {0}) SetupFault
 range_fault (Ok t) = Ok t
 range_fault (Err f) = Err (BadRange f.index f.why)
 
--- so many ranges are at most the most regions
+-- the ranges are at most `max`
 abbrev pub checked_count : ℕ → ℕ → Result (Unit {0}) SetupFault
 checked_count ranges max = if nat_lt max ranges then Err (RangesOverMax ranges max) else Ok tt
 
--- the first fault of the ranges: there is none, one is bad, or they are too many
+-- the first check of the ranges that fails: that there is one, that each is accepted, that they are not too many
 abbrev pub checked_watched : List Target → ℕ → ℕ → ℕ → List RangeSpec → Result (Unit {0}) SetupFault
-checked_watched space unit cap max specs = if length specs == 0 then Err NoRange else result_and (range_fault (checked_ranges space unit cap specs)) (checked_count (length specs) max)
+checked_watched space unit cap max specs =
+    if length specs == 0 then Err NoRange
+    else result_and (range_fault (checked_ranges space unit cap specs)) (checked_count (length specs) max)
 
--- the first fault of what a setup is made of: of the numbers, then of the ranges, then of the slots
+-- the first check of a setup that fails: of the numbers, then of the ranges, then of the slots
 abbrev pub checked_setup : List Target → ℕ → ℕ → Attrs → List RangeSpec → List SlotChange → Result (Unit {0}) SetupFault
-checked_setup space unit cap a specs slots = result_and (checked_limits unit cap a) (result_and (checked_watched space unit cap a.max specs) (checked_slots slots))
+checked_setup space unit cap a specs slots =
+    result_and (checked_limits unit cap a)
+    (result_and (checked_watched space unit cap a.max specs) (checked_slots slots))
 
--- something is made where a check finds no fault, or the error is the fault; want of memory comes last
+-- something is made only if the check succeeds; an error is that of the check, or Memory if the check succeeds
 abbrev pub AnswersAs : {T : Type 0} → Result (Unit {0}) SetupFault → Result T SetupFault → Type 0
 AnswersAs checked (Ok made) = checked ≡ Ok tt
 AnswersAs checked (Err e) = (checked ≡ Err e) ⊎ ((e ≡ Memory) × (checked ≡ Ok tt))

@@ -1,4 +1,4 @@
--- What a commit shows.
+-- A commit as contracts see it.
 use Rattle.std.specs.Prelude.{ℕ, List, Option}
 use Rattle.std.specs.Option.{option_map}
 use Rattle.damon_types.specs.declared.attrs.Attrs.{Attrs}
@@ -15,4 +15,9 @@ pub record CommitValue : Type 0 where
 
 -- the parts of a commit, its ranges without their room
 abbrev pub commit_value : Commit → CommitValue
-commit_value c = record { attrs = c.attrs; ranges = option_map (λ l. l.list) c.ranges; slot = c.slot; metric = c.metric }
+commit_value c = record {
+  attrs = c.attrs;
+  ranges = option_map (λ l. l.list) c.ranges;
+  slot = c.slot;
+  metric = c.metric;
+}

@@ -1,4 +1,4 @@
--- What a setup shows, and what it is made of.
+-- A setup as contracts see it, and of which parts it is made.
 use Rattle.std.specs.Prelude.{ℕ, List}
 use Rattle.damon_types.specs.declared.attrs.Attrs.{Attrs}
 use Rattle.damon_types.specs.declared.range.RangeSpec.{RangeSpec}
@@ -11,8 +11,22 @@ use Rattle.live_commit.specs.Slots.{kept_slots}
 
 -- the parts of a setup, without the proof of their limits
 abbrev pub value_of : Setup → SetupValue
-value_of s = record { space = s.space; unit = s.unit; cap = s.cap; attrs = s.attrs; ranges = s.ranges.list; slots = s.slots.list }
+value_of s = record {
+  space = s.space;
+  unit = s.unit;
+  cap = s.cap;
+  attrs = s.attrs;
+  ranges = s.ranges.list;
+  slots = s.slots.list;
+}
 
--- a setup with the pages of these ranges, and the slots of the changes that have a scheme
+-- the setup of these parts: the pages of the range specs, and the slot changes that have a scheme
 abbrev pub setup_of : List Target → ℕ → ℕ → Attrs → List RangeSpec → List SlotChange → SetupValue
-setup_of space unit cap a specs slots = record { space = space; unit = unit; cap = cap; attrs = a; ranges = ranges_of space specs; slots = kept_slots slots }
+setup_of space unit cap a specs slots = record {
+  space = space;
+  unit = unit;
+  cap = cap;
+  attrs = a;
+  ranges = ranges_of space specs;
+  slots = kept_slots slots;
+}

@@ -1,4 +1,4 @@
--- The slots of a setup: which changes are kept, and the first fault of a list of changes.
+-- The slot changes of a setup: which are accepted, and which set a slot.
 use Rattle.std.specs.Prelude.{ℕ, Bool, ◌&&◌, ◌==◌, List, [], ◌∷◌, ◌++◌, length, Option, Some, None, Result, Ok, Err, if◌then◌else◌}
 use Rattle.std.specs.List.{filter, list_any}
 use Rattle.std.specs.Option.{is_some}
@@ -18,33 +18,39 @@ has_scheme c = is_some c.scheme
 abbrev pub sets : ℕ → SlotChange → Bool
 sets slot c = has_scheme c && (c.slot == slot)
 
+-- whether one of these changes sets this slot
+abbrev pub is_set : ℕ → List SlotChange → Bool
+is_set slot changes = list_any (sets slot) changes
+
 -- the changes that have a scheme
 abbrev pub kept_slots : List SlotChange → List SlotChange
 kept_slots changes = filter has_scheme changes
 
--- the fault of a scheme becomes one of the change with this index
+-- what a scheme breaks, as a fault of the change with this index
 abbrev pub scheme_fault : ℕ → Result (Unit {0}) SchemeFault → Result (Unit {0}) SetupFault
 scheme_fault index (Ok t) = Ok t
 scheme_fault index (Err why) = Err (BadScheme index why)
 
--- a slot that an earlier change set may not be set again
+-- a slot that an earlier change sets may not be set again
 abbrev pub checked_free : ℕ → Bool → Result (Unit {0}) SetupFault
 checked_free index set = if set then Err (RepeatedSlot index) else Ok tt
 
--- the fault of a slot that may get a scheme: of the scheme, or that the slot is set already
+-- a slot may get a scheme where the scheme is within its limits, and the slot is not set yet
 abbrev pub checked_set : ℕ → Bool → ℕ → Option Scheme → Result (Unit {0}) SetupFault
 checked_set index set slot None = Ok tt
-checked_set index set slot (Some s) = result_and (scheme_fault index (checked_scheme slot s)) (checked_free index set)
+checked_set index set slot (Some s) =
+    result_and (scheme_fault index (checked_scheme slot s)) (checked_free index set)
 
--- the fault of a change with this index behind these changes
+-- the fault of a change with this index, after these changes
 abbrev pub checked_slot : ℕ → List SlotChange → SlotChange → Result (Unit {0}) SetupFault
-checked_slot index before c = checked_set index (list_any (sets c.slot) before) c.slot c.scheme
+checked_slot index before c = checked_set index (is_set c.slot before) c.slot c.scheme
 
--- the first fault of changes that come behind these
-abbrev pub checked_behind : List SlotChange → List SlotChange → Result (Unit {0}) SetupFault
-checked_behind before [] = Ok tt
-checked_behind before (c ∷ changes) = result_and (checked_slot (length before) before c) (checked_behind (before ++ c ∷ []) changes)
+-- the first fault of changes that come after these
+abbrev pub checked_after : List SlotChange → List SlotChange → Result (Unit {0}) SetupFault
+checked_after before [] = Ok tt
+checked_after before (c ∷ changes) =
+    result_and (checked_slot (length before) before c) (checked_after (before ++ c ∷ []) changes)
 
 -- the first fault of changes
 abbrev pub checked_slots : List SlotChange → Result (Unit {0}) SetupFault
-checked_slots changes = checked_behind [] changes
+checked_slots changes = checked_after [] changes

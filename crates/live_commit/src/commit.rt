@@ -1,15 +1,15 @@
 use damon_types::{Attrs, RangeSpecs, SlotChange};
 
-/// Changes of a monitor that runs. They take effect in the order of the fields: the attributes, the
-/// ranges, the slot, the metric. None leaves what its field would change.
-#[derive(Drop)]
+/// Changes of a running monitor. They take effect in the order of the fields; `None` changes
+/// nothing.
+#[derive(Debug, Drop)]
 pub struct Commit {
-    /// The attributes, in place of those that it has.
+    /// The new attributes.
     pub attrs: Option<Attrs>,
-    /// The ranges that are watched, in place of all that it has.
+    /// The new ranges, in place of all that are watched.
     pub ranges: Option<RangeSpecs>,
-    /// One of the sixteen slots: it gets a scheme, or is emptied.
+    /// One slot, which gets a scheme or is emptied.
     pub slot: Option<SlotChange>,
-    /// The value of the metric that watermarks are compared with.
+    /// The new value of the metric that watermarks are compared with.
     pub metric: Option<u32>,
 }

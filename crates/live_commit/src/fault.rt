@@ -1,27 +1,31 @@
+ghost use Rattle.std.specs.Prelude.{◌≡◌};
+
 use damon_types::{AttrsFault, SchemeFault};
+use std::alloc::AllocError;
 use target_ranges::RangeWhy;
 use thiserror::Error;
 
-/// The first reason for which parts make no setup, in the order of the variants; of the slots the
-/// first change that has one of the two reasons counts.
+/// The first check of a setup that failed, in the order of the variants. The two checks of slot
+/// changes are made change by change.
 #[derive(Clone, Copy, Debug, PartialEq, Eq, Error)]
 pub enum SetupFault {
-    /// The least pages of a region are 0, or more than 1,048,576.
+    /// The least pages of a region are 0, or more than [`MAX_UNIT`](crate::MAX_UNIT).
     #[error("BadUnit")]
     BadUnit { unit: u32 },
-    /// The most regions ever are fewer than 3, or more than 4,096.
+    /// The most regions ever are fewer than [`MIN_CAP`](crate::MIN_CAP), or more than
+    /// [`MAX_CAP`](crate::MAX_CAP).
     #[error("BadCap")]
     BadCap { cap: u32 },
-    /// The attributes break a limit of their own.
+    /// The attributes break one of their limits.
     #[error("BadAttrs")]
     BadAttrs { why: AttrsFault },
-    /// The attributes allow more regions than there may ever be.
+    /// The attributes allow more regions than `cap`.
     #[error("OverCap")]
     OverCap { max: u32, cap: u32 },
     /// There is no range.
     #[error("NoRange")]
     NoRange,
-    /// The range with this index is the first against which there is a reason.
+    /// The range with this index is the first that is rejected.
     #[error("BadRange")]
     BadRange { index: u32, why: RangeWhy },
     /// There are more ranges than the attributes allow regions.
@@ -30,10 +34,20 @@ pub enum SetupFault {
     /// The slot change with this index has a scheme that breaks a limit.
     #[error("BadScheme")]
     BadScheme { index: u32, why: SchemeFault },
-    /// The slot change with this index sets a slot that an earlier one set.
+    /// The slot change with this index sets a slot that an earlier change sets.
     #[error("RepeatedSlot")]
     RepeatedSlot { index: u32 },
-    /// No memory is left. There is no other reason.
+    /// Out of memory. No check failed.
     #[error("Memory")]
     Memory,
+}
+
+impl From<AllocError> for SetupFault {
+    ghost use Rattle.live_commit.specs.declared.fault.SetupFault.TheVariants.{Memory};
+
+    ghost from_gives = { λ _ fault. fault ≡ Memory };
+
+    fn from(_error: AllocError) -> SetupFault {
+        SetupFault::Memory
+    }
 }

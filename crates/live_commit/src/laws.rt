@@ -1,9 +1,9 @@
-// Laws of the definitions that the contracts cite, for proofs about callers. No function here does
-// anything.
+// Laws of the definitions that the contracts cite, for the proofs of callers. The functions have no
+// bodies.
 ghost use Rattle.live_commit.specs.Laws.{ChecksInTurn};
 
-/// Behind slot changes without a fault one change more is judged by itself: the fault of the longer
-/// list is the fault of that change, if it has one.
+/// Slot changes that are accepted, with one more: the longer list is accepted, or rejected for the
+/// first reason against that change.
 pub fn slots_are_checked_in_turn()
     ensures next { ChecksInTurn }
 {}

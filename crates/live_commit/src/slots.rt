@@ -1,13 +1,12 @@
-// The changes of slots that a setup begins with.
+// The slot changes of a setup.
 ghost use Rattle.std.specs.Prelude.{◌≡◌, ◌<◌, ◌^◌, ◌-◌, [], ◌∷◌, ◌++◌, length, IfOk, OnOk};
-ghost use Rattle.std.specs.List.{list_any};
-ghost use Rattle.live_commit.specs.Slots.{checked_slot, checked_slots, kept_slots, sets};
+ghost use Rattle.live_commit.specs.Slots.{checked_slot, checked_slots, is_set, kept_slots};
 
 use crate::SetupFault;
 use damon_types::{SlotChange, SlotChanges};
 use std::alloc::{AllocError, Global};
 
-// The first fault of changes.
+// Checks changes, each after those before it.
 pub fn check_slots(changes: &[SlotChange]) -> Result<(), SetupFault>
     requires { length changes.now < 2 ^ 32 }
     ensures exact { result ≡ checked_slots changes.now }
@@ -18,7 +17,7 @@ pub fn check_slots(changes: &[SlotChange]) -> Result<(), SetupFault>
     Ok(())
 }
 
-// The fault of one change behind others.
+// Checks one change after others.
 fn check_slot(before: &[SlotChange], change: &SlotChange) -> Result<(), SetupFault>
     requires { length before.now < 2 ^ 32 }
     ensures exact { result ≡ checked_slot (length before.now) before.now change.now }
@@ -27,18 +26,18 @@ fn check_slot(before: &[SlotChange], change: &SlotChange) -> Result<(), SetupFau
         return Ok(());
     };
     let index = before.len() as u32;
-    if let Err(why) = scheme.check(change.slot) {
-        return Err(SetupFault::BadScheme { index, why });
-    }
+    scheme
+        .check(change.slot)
+        .map_err(|why| SetupFault::BadScheme { index, why })?;
     if is_set(before, change.slot) {
         return Err(SetupFault::RepeatedSlot { index });
     }
     Ok(())
 }
 
-// Whether one of the changes sets the slot.
-fn is_set(changes: &[SlotChange], slot: u8) -> bool
-    ensures exact { result ≡ list_any (sets slot) changes.now }
+/// Whether one of these changes sets the slot: gives it a scheme.
+pub fn is_set(changes: &[SlotChange], slot: u8) -> bool
+    ensures { result ≡ is_set slot changes.now }
 {
     changes
         .iter()

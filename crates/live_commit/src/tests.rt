@@ -1,6 +1,5 @@
-// Parts with the first reason for which they make no setup, and setups that are made, worked out by
-// hand.
-use crate::{Setup, SetupFault, slots_are_checked_in_turn};
+// Parts of setups with the first check that fails, and setups that are made, worked out by hand.
+use crate::{Setup, SetupFault};
 use damon_types::{
     Action, Attrs, AttrsFault, Filters, Pattern, Prefer, Range, RangeSpec, Scheme, SchemeFault,
     SlotChange, Space, Span, Target, Weights,
@@ -63,7 +62,7 @@ const fn emptied(slot: u8) -> SlotChange {
     SlotChange { slot, scheme: None }
 }
 
-// Sees that a unit, a cap and attributes are refused so, with no range.
+// Checks how a unit, a cap and attributes are rejected, with no range.
 fn expect_refusal(
     rt: &(impl Abort + AllocGlobal),
     unit: u32,
@@ -110,7 +109,7 @@ fn numbers_have_limits(rt: HostRuntime) -> Result<(), Fail> {
     Ok(())
 }
 
-// Sees what ranges and slot changes are answered, with a unit of 2 pages and a cap of 8.
+// Checks the result for ranges and slot changes, with a unit of 2 pages and a cap of 8.
 fn expect_answer(
     rt: &(impl Abort + AllocGlobal),
     specs: &[RangeSpec],
@@ -177,6 +176,45 @@ fn slots_have_limits(rt: HostRuntime) -> Result<(), Fail> {
 }
 
 #[test]
+fn messages_are_names(rt: HostRuntime) -> Result<(), Fail> {
+    let bad_attrs = AttrsFault::MinTooSmall { min: 1 };
+    let bad_range = RangeWhy::Overlap;
+    let bad_scheme = SchemeFault::ZeroReset;
+    let cases = [
+        (SetupFault::BadUnit { unit: 0 }, "BadUnit"),
+        (SetupFault::BadCap { cap: 2 }, "BadCap"),
+        (SetupFault::BadAttrs { why: bad_attrs }, "BadAttrs"),
+        (SetupFault::OverCap { max: 9, cap: 8 }, "OverCap"),
+        (SetupFault::NoRange, "NoRange"),
+        (
+            SetupFault::BadRange {
+                index: 1,
+                why: bad_range,
+            },
+            "BadRange",
+        ),
+        (
+            SetupFault::RangesOverMax { ranges: 4, max: 3 },
+            "RangesOverMax",
+        ),
+        (
+            SetupFault::BadScheme {
+                index: 1,
+                why: bad_scheme,
+            },
+            "BadScheme",
+        ),
+        (SetupFault::RepeatedSlot { index: 1 }, "RepeatedSlot"),
+        (SetupFault::Memory, "Memory"),
+    ];
+    for (fault, name) in cases {
+        let message = format!(in rt.alloc(); "{fault}")?;
+        assert_eq!(rt; message.as_str(), name);
+    }
+    Ok(())
+}
+
+#[test]
 fn a_setup_is_made(rt: HostRuntime) -> Result<(), Fail> {
     let space = Space::new(rt.alloc(), &[TARGET])?;
     let slots = [set(3, span(1, 2)), emptied(4), set(5, span(1, 2))];
@@ -200,9 +238,4 @@ fn a_setup_is_made(rt: HostRuntime) -> Result<(), Fail> {
     assert_eq!(rt; setup.slots.as_slice(), [slots[0], slots[2]].as_slice());
     assert_eq!(rt; (setup.space.pages(), setup.unit, setup.cap), (16, 2, 8));
     Ok(())
-}
-
-#[test]
-fn laws_are_called() {
-    slots_are_checked_in_turn();
 }

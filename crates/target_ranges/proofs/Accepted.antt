@@ -8,7 +8,7 @@ use Rattle.target_ranges.specs.declared.fault.RangeWhy.TheVariants.{TooMany, Una
 use Rattle.target_ranges.specs.Checked.{checked_within, checked_range, is_aligned, lies_in, overlaps}
 use Rattle.target_ranges.specs.Made.{IsPlaced, page_count}
 
--- a spec within its limits, behind the one before it
+-- a spec within its limits, after the one before it
 pub record IsAccepted (ts : List Target) (unit : ℕ) (before : Option RangeSpec) (s : RangeSpec) : Type 0 where
   pub placed : IsPlaced ts s
   pub wide : unit ≤ page_count s

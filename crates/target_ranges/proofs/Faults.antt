@@ -31,7 +31,7 @@ first_accepted ts unit room index before s specs ok =
     let both = both_ok (fault_at index (checked_range ts unit room index before s)) (checked_from ts unit room (index + 1) (Some s) specs) ok in
     (no_fault index (checked_range ts unit room index before s) both.0, both.1)
 
--- with one spec more behind a list without a fault, only that one can be at fault
+-- with one spec more after a list that is accepted, only that one can be rejected
 checked_from-push : (ts : List Target) (unit room index at : ℕ) (before : Option RangeSpec) (specs : List RangeSpec) (s : RangeSpec) → at ≡ index + length specs → checked_from ts unit room index before specs ≡ Ok tt → checked_from ts unit room index before (specs ++ s ∷ []) ≡ fault_at at (checked_range ts unit room at (last_or before specs) s)
 checked_from-push ts unit room index at before [] s is ok =
     let same : index ≡ at = omega arith in

@@ -111,7 +111,7 @@ follows_made ts t p specs i s within ordered =
     let made : ranges_of ts specs ≡ ranges_of ts (take i specs) ++ range_of ts (get_or specs i s) ∷ ranges_of ts (drop (suc i) specs) = ap (ranges_of ts) parts ∙ map-append (range_of ts) (take i specs) (get_or specs i s ∷ drop (suc i) specs) in
     follows_in_order t p (ranges_of ts (take i specs)) (range_of ts (get_or specs i s)) (ranges_of ts (drop (suc i) specs)) (rw made at ordered)
 
--- a spec of a list without a fault: its range can be pushed behind those of the ones before it
+-- a spec of a list that is accepted: its range can be pushed after those of the specs before it
 pub record CanPush (ts : List Target) (room : ℕ) (before : List Range) (s : RangeSpec) : Type 0 where
   pub placed : IsPlaced ts s
   pub range : IsRange (range_of ts s)

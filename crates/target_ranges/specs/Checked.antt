@@ -1,7 +1,9 @@
--- The first reason against specs of ranges.
+-- Which range specs are accepted, and the first reason against others.
 use Rattle.std.specs.Prelude.{ℕ, ◌+◌, ◌*◌, ◌%◌, Bool, false, not, ◌&&◌, ◌||◌, ◌==◌, nat_le, nat_lt, List, [], ◌∷◌, length, slice_get, Option, Some, None, Result, Ok, Err, if◌then◌else◌}
 use Rattle.std.specs.List.{last_or}
 use Rattle.std.specs.Result.{result_and}
+use Rattle.damon_types.specs.declared.range.TheConstants.{MAX_CLASS}
+use Rattle.damon_types.specs.declared.space.TheConstants.{PAGE_SIZE}
 use Rattle.damon_types.specs.declared.space.Target.{Target}
 use Rattle.damon_types.specs.declared.range.RangeSpec.{RangeSpec}
 use Rattle.target_ranges.specs.declared.fault.RangeFault.{RangeFault}
@@ -9,20 +11,20 @@ use Rattle.target_ranges.specs.declared.fault.RangeWhy.{RangeWhy}
 use Rattle.target_ranges.specs.declared.fault.RangeWhy.TheVariants.{TooMany, NoSuchTarget, Unaligned, Reversed, OutsideSpan, TooSmall, BadClass, Overlap}
 use Rattle.target_ranges.specs.Made.{page_count}
 
--- both addresses begin a page
+-- both addresses are multiples of the page size
 abbrev pub is_aligned : RangeSpec → Bool
-is_aligned s = (s.from % 4096 == 0) && (s.to % 4096 == 0)
+is_aligned s = (s.from % PAGE_SIZE == 0) && (s.to % PAGE_SIZE == 0)
 
 -- the addresses lie in the target
 abbrev pub lies_in : Target → RangeSpec → Bool
-lies_in t s = nat_le t.base s.from && nat_le s.to (t.base + 4096 * t.pages)
+lies_in t s = nat_le t.base s.from && nat_le s.to (t.base + PAGE_SIZE * t.pages)
 
--- the spec does not come after the one before it, where there is one: it is of an earlier target, or begins below the end in the same one
+-- the spec does not come after the one before it: it is in an earlier target, or in the same one and begins before its end
 abbrev pub overlaps : Option RangeSpec → RangeSpec → Bool
 overlaps None s = false
 overlaps (Some p) s = nat_lt s.target p.target || ((s.target == p.target) && nat_lt s.from p.to)
 
--- the first reason against a spec behind the one before it, in the target if that is there
+-- the first reason against a spec after the one before it, in its target if there is one
 abbrev pub checked_within : ℕ → Option RangeSpec → RangeSpec → Option Target → Result (Unit {0}) RangeWhy
 checked_within unit before s None = Err NoSuchTarget
 checked_within unit before s (Some t) =
@@ -30,28 +32,31 @@ checked_within unit before s (Some t) =
     else if nat_le s.to s.from then Err Reversed
     else if not (lies_in t s) then Err OutsideSpan
     else if nat_lt (page_count s) unit then Err TooSmall
-    else if nat_lt 15 s.class then Err BadClass
+    else if nat_lt MAX_CLASS s.class then Err BadClass
     else if overlaps before s then Err Overlap
     else Ok tt
 
--- the first reason against a spec with this index, behind the one before it
+-- the first reason against the spec with this index, after the one before it
 abbrev pub checked_range : List Target → ℕ → ℕ → ℕ → Option RangeSpec → RangeSpec → Result (Unit {0}) RangeWhy
-checked_range ts unit cap index before s = if nat_le cap index then Err TooMany else checked_within unit before s (slice_get ts s.target)
+checked_range ts unit cap index before s =
+    if nat_le cap index then Err TooMany else checked_within unit before s (slice_get ts s.target)
 
--- the first reason against one spec more behind these
+-- the first reason against one spec more after these
 abbrev pub checked_next : List Target → ℕ → ℕ → List RangeSpec → RangeSpec → Result (Unit {0}) RangeWhy
 checked_next ts unit cap before s = checked_range ts unit cap (length before) (last_or None before) s
 
--- the reason becomes a fault of the spec with this index
+-- the reason against the spec with this index, as a fault of the list
 abbrev pub fault_at : ℕ → Result (Unit {0}) RangeWhy → Result (Unit {0}) RangeFault
 fault_at index (Ok t) = Ok t
 fault_at index (Err why) = Err (record { index = index; why = why })
 
--- the first fault of specs, the first of which has this index and this one before it
+-- the first spec that is rejected, where the first of these specs has this index and this spec before it
 abbrev pub checked_from : List Target → ℕ → ℕ → ℕ → Option RangeSpec → List RangeSpec → Result (Unit {0}) RangeFault
 checked_from ts unit cap index before [] = Ok tt
-checked_from ts unit cap index before (s ∷ specs) = result_and (fault_at index (checked_range ts unit cap index before s)) (checked_from ts unit cap (index + 1) (Some s) specs)
+checked_from ts unit cap index before (s ∷ specs) =
+    result_and (fault_at index (checked_range ts unit cap index before s))
+    (checked_from ts unit cap (index + 1) (Some s) specs)
 
--- the first fault of specs
+-- the first spec that is rejected
 abbrev pub checked_ranges : List Target → ℕ → ℕ → List RangeSpec → Result (Unit {0}) RangeFault
 checked_ranges ts unit cap specs = checked_from ts unit cap 0 None specs

@@ -2,14 +2,12 @@ ghost use Rattle.std.specs.Prelude.{◌≡◌, Some};
 ghost use Rattle.target_ranges.specs.Checked.{checked_within, checked_next, checked_ranges, overlaps};
 
 use crate::{RangeFault, RangeWhy};
-use damon_types::{PAGE_SIZE, RangeSpec, Space, Target};
+use damon_types::{MAX_CLASS, PAGE_SIZE, RangeSpec, Space, Target};
 
-const MOST_CLASS: u8 = 15;
-
-/// Whether these ranges of addresses can be watched in the space: at most `cap` of them, by target,
-/// then address, without overlap, each of whole pages of its target, at least one of them and at
-/// least `unit`, and with a class of at most 15. The fault is that of the first range against which
-/// there is a reason, with the first such reason in the order of [`RangeWhy`].
+/// Checks whether these ranges can be watched in the space: at most `cap` of them, without overlap,
+/// sorted by target and then by address, each of whole pages of its target, with at least one page
+/// and at least `unit`, and with a class of at most [`MAX_CLASS`]. An error names the first range
+/// that is rejected, and the first reason in the order of [`RangeWhy`].
 pub fn check_ranges(
     space: &Space,
     unit: u32,
@@ -29,9 +27,9 @@ pub fn check_ranges(
     Ok(())
 }
 
-/// Whether one range more can stand behind ranges that have no fault, or else the first reason
-/// against it. Looks at the number of these ranges and at the last of them alone, so it takes the
-/// same time behind any number of them.
+/// Checks whether a range can follow ranges that are accepted: as [`check_ranges`], for one range
+/// more. Looks at the number of ranges before it and at the last of them only, so it takes constant
+/// time.
 #[tactic(auto, using(crate::proofs::Last::last_by_index))]
 pub fn check_next(
     space: &Space,
@@ -56,7 +54,7 @@ pub fn check_next(
     )
 }
 
-// The first reason against a range in its target, behind the range before it.
+// The first reason against a range in its target, after the range before it.
 fn check_within(
     target: Target,
     unit: u32,
@@ -78,7 +76,7 @@ fn check_within(
     if (spec.to - spec.from) / PAGE_SIZE < u64::from(unit) {
         return Err(RangeWhy::TooSmall);
     }
-    if spec.class > MOST_CLASS {
+    if spec.class > MAX_CLASS {
         return Err(RangeWhy::BadClass);
     }
     if overlaps(before, spec) {
@@ -87,7 +85,7 @@ fn check_within(
     Ok(())
 }
 
-// Whether a range does not come after the one before it, if there is one.
+// Whether a range does not come after the one before it.
 fn overlaps(before: Option<RangeSpec>, spec: &RangeSpec) -> bool
     ensures exact { result ≡ overlaps before spec.now }
 {

@@ -1,31 +1,30 @@
-/// A reason against a range of addresses. Of several reasons the first in the order of the variants
-/// counts.
+/// Why a range is rejected: the first reason, in the order of the variants.
 #[derive(Clone, Copy, Debug, PartialEq, Eq)]
 pub enum RangeWhy {
-    /// As many ranges as there is room for come before it.
+    /// `cap` ranges come before it.
     TooMany,
     /// There is no target with this index.
     NoSuchTarget,
-    /// One of its addresses is no multiple of 4096.
+    /// One of its addresses is no multiple of [`PAGE_SIZE`](damon_types::PAGE_SIZE).
     Unaligned,
-    /// It does not end above the address where it begins.
+    /// Its end is not above its first address.
     Reversed,
     /// It begins below its target, or ends above it.
     OutsideSpan,
     /// It has fewer than `unit` pages.
     TooSmall,
-    /// Its class is above 15.
+    /// Its class is above [`MAX_CLASS`](damon_types::MAX_CLASS).
     BadClass,
-    /// It is of an earlier target than the range before it, or of the same and begins below its
-    /// end.
+    /// It is in an earlier target than the range before it, or in the same target and begins before
+    /// the end of that range.
     Overlap,
 }
 
-/// The fault of a list of ranges: the first range that cannot stand there.
+/// The first range of a list that is rejected.
 #[derive(Clone, Copy, Debug, PartialEq, Eq)]
 pub struct RangeFault {
     /// The index of the range in the list.
     pub index: u32,
-    /// The first reason against it.
+    /// The first reason.
     pub why: RangeWhy,
 }

@@ -1,24 +1,24 @@
-// Laws of the definitions that the contracts cite, for proofs about callers. No function here does
-// anything.
+// Laws of the definitions that the contracts cite, for the proofs of callers. The functions have no
+// bodies.
 ghost use Rattle.target_ranges.specs.Laws.{ChecksOneMore, HasRoom, KeepsFault, MakesEach, MakesInOrder};
 
-/// Behind a list without a fault one range more is judged by itself: the longer list has no fault,
-/// or the first reason against that range at its index.
+/// A list that is accepted, with one range more: the longer list is accepted, or rejected for the
+/// first reason against that range.
 pub fn next_decides()
     ensures next { ChecksOneMore }
 {}
 
-/// A list's fault is the fault of every list that it begins.
+/// A list that is rejected stays rejected for the same reason when ranges are appended.
 pub fn fault_stays()
     ensures first { KeepsFault }
 {}
 
-/// A list without a fault has at most as many ranges as there is room for.
+/// A list that is accepted has at most `cap` ranges.
 pub fn accepted_has_room()
     ensures room { HasRoom }
 {}
 
-/// The ranges made of a list without a fault are in order, one for each.
+/// The ranges made of a list that is accepted are in order, one for each.
 pub fn made_in_order()
     ensures order { MakesInOrder }
     ensures count { MakesEach }

@@ -1,19 +1,19 @@
-//! Ranges that a user writes by addresses: the first fault of a list, and the pages that a list
-//! without one stands for.
+//! Ranges that a user gives by addresses: which lists are accepted, and the pages that they stand
+//! for.
 #![tactic(auto)]
 
-/// The first fault of a list.
+/// Checking lists of ranges.
 mod check;
-/// Faults of ranges.
+/// Why ranges are rejected.
 mod fault;
-/// The pages that addresses stand for.
+/// The pages of ranges.
 mod fill;
-/// What a fault has to do with longer lists, and with the pages.
+/// How checking relates to longer lists, and to the pages.
 mod laws;
 #[cfg(test)]
 mod tests;
 
 pub use check::{check_next, check_ranges};
 pub use fault::{RangeFault, RangeWhy};
-pub use fill::fill_ranges;
+pub use fill::{fill_checked, fill_ranges};
 pub use laws::{accepted_has_room, fault_stays, made_in_order, next_decides};

@@ -1,8 +1,6 @@
-// Lists of ranges with the fault of each, and the pages that they stand for, worked out by hand.
-use crate::{
-    RangeFault, RangeWhy, accepted_has_room, check_next, check_ranges, fault_stays, fill_ranges,
-    made_in_order, next_decides,
-};
+// Lists of ranges, the first that is rejected, and the pages that they stand for, worked out by
+// hand.
+use crate::{RangeFault, RangeWhy, check_next, check_ranges, fill_checked, fill_ranges};
 use damon_types::{Range, RangeSpec, Ranges, Space, Target};
 use std::test::Fail;
 
@@ -139,12 +137,4 @@ fn ranges_are_made(rt: HostRuntime) -> Result<(), Fail> {
     assert_eq!(rt; ranges.get(0), two_pages(0, 0));
     assert_eq!(rt; ranges.get(1), two_pages(1, 4));
     Ok(())
-}
-
-#[test]
-fn laws_are_called() {
-    next_decides();
-    fault_stays();
-    accepted_has_room();
-    made_in_order();
 }

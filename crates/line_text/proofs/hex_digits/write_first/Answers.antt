@@ -17,4 +17,4 @@ pub returns-clause-written : goal.returns-clause-written
 returns-clause-written c =
     let long = length_hex_two c.args.value c.if-value-lt16.false c.requires.small in
     let e : c.args.end - 2 + 2 ≡ c.args.end = omega arith in
-    rw (c.write_pair.ensures, e, hex_two c.args.value c.if-value-lt16.false c.requires.small)
+    rw (c.write_pair.ensures.written, e, hex_two c.args.value c.if-value-lt16.false c.requires.small)

@@ -4,8 +4,8 @@ use Rattle.std.proofs.lemmas.List.{set_comm, drop-set}
 use Rattle.line_text.proofs.HexPairs.{PAIRS_at}
 use Rattle.line_text.proofs.hex_digits.write_pair.Goals as goal
 
-pub returns : goal.returns
-returns c =
+pub returns-clause-written : goal.returns-clause-written
+returns-clause-written c =
     let p = PAIRS_at c.args.pair c.requires.small in
     let at = c.args.at in
     let bytes = c.args.bytes.now in

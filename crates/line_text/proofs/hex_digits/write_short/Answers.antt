@@ -6,4 +6,4 @@ pub returns-clause-written : goal.returns-clause-written
 returns-clause-written c =
     let long = length_hex_pair c.args.value c.if-value-lt256.false (omega arith) in
     let e : c.args.end - 2 + 2 ≡ c.args.end = omega arith in
-    rw (c.write_first-2.ensures.written, c.write_pair.ensures, e, hex_pair c.args.value c.if-value-lt256.false (omega arith), append_assoc)
+    rw (c.write_first-2.ensures.written, c.write_pair.ensures.written, e, hex_pair c.args.value c.if-value-lt256.false (omega arith), append_assoc)

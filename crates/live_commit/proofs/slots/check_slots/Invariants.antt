@@ -1,6 +1,6 @@
 use Rattle.std.proofs.Common.{◌≡◌, take, drop}
-use Rattle.live_commit.specs.Slots.{checked_behind, checked_slots}
+use Rattle.live_commit.specs.Slots.{checked_after, checked_slots}
 use Rattle.live_commit.proofs.slots.check_slots.Given as goal
 
 abbrev pub invariant-loop-index : goal.invariant-loop-index
-invariant-loop-index l = checked_slots l.changes ≡ checked_behind (take l.index l.changes) (drop l.index l.changes)
+invariant-loop-index l = checked_slots l.changes ≡ checked_after (take l.index l.changes) (drop l.index l.changes)
