@@ -12,19 +12,15 @@ use Rattle.damon_types.specs.Span.{span_of, spans}
 use Rattle.region_list.specs.declared.shrink.Pair.{Pair}
 use Rattle.region_list.specs.Rows.{no_row, row_at}
 use Rattle.region_list.specs.Tiling.{Tiling}
+use Rattle.region_list.specs.Walk.{RestFrom, BeginsIn}
 use Rattle.region_list.specs.Shrink.{in_one_range, difference, closest}
 use Rattle.region_list.proofs.TilingLemmas.{end_at}
 use Rattle.region_list.proofs.PairLemmas.{IsPair, pair_within, closest_is}
-use Rattle.region_list.proofs.WalkLemmas.{RestFrom, Next, Step, step, tiling_rest, drop_tail, ordered_behind, next_in, next_out, some_pair}
+use Rattle.region_list.proofs.WalkLemmas.{Next, Step, step, tiling_rest, drop_tail, ordered_behind, next_in, next_out, some_pair}
 
 -- the rows from index i on begin in range k, which has this end
-pub record At (all : List Range) (rows : List Row) (k i end : ℕ) : Type 0 where
-  pub from : ℕ
-  pub range : Range
-  pub others : List Range
-  pub ranges : drop k all ≡ range ∷ others
-  pub end_is : end ≡ end_of range
-  pub rest : RestFrom from (range ∷ others) (spans (drop i rows))
+abbrev pub At : List Range → List Row → ℕ → ℕ → ℕ → Type 0
+At all rows k i end = BeginsIn all (drop i rows) k end
 
 -- the two rows from an index on
 two_rows : (rows : List Row) (i : ℕ) → i + 1 < length rows → drop i rows ≡ row_at rows i ∷ row_at rows (i + 1) ∷ drop (suc (suc i)) rows
@@ -63,13 +59,13 @@ end_read (h ∷ all) zero g gs end is end_is = let head : h ≡ g = cc in let sa
 end_read (h ∷ all) (suc k) g gs end is end_is = end_read all k g gs end is end_is
 
 -- the walk begins at the first range
-at_begin : (all : List Range) (rows : List Row) (end : ℕ) → InOrder all → Tiling 1 all (spans rows) → 0 < length rows → option_map end_of (slice_get all 0) ≡ Some end → At all rows 0 0 end
+pub at_begin : (all : List Range) (rows : List Row) (end : ℕ) → InOrder all → Tiling 1 all (spans rows) → 0 < length rows → option_map end_of (slice_get all 0) ≡ Some end → At all rows 0 0 end
 at_begin all rows end ordered tiling some end_is =
     let begun = tiling_rest 0 0 all (spans rows) ordered tiling (omega (arith, length-map rows span_of)) in
     record { from = begun.0.first; range = begun.0; others = begun.1; ranges = begun.2; end_is = end_read all 0 begun.0 begun.1 end begun.2 end_is; rest = begun.4 }
 
 -- the range is there
-here_within : (all : List Range) (k : ℕ) (g : Range) (gs : List Range) → drop k all ≡ g ∷ gs → (k < length all) × (slice_get all k ≡ Some g)
+pub here_within : (all : List Range) (k : ℕ) (g : Range) (gs : List Range) → drop k all ≡ g ∷ gs → (k < length all) × (slice_get all k ≡ Some g)
 here_within [] zero g gs is = absurd (cc)
 here_within [] (suc k) g gs is = absurd (cc)
 here_within (h ∷ all) zero g gs is = let head : h ≡ g = cc in (omega arith, ap (λ x. Some x) head)
@@ -83,17 +79,17 @@ rows_behind (r ∷ rows) zero a more is = cc
 rows_behind (r ∷ rows) (suc i) a more is = rows_behind rows i a more is
 
 -- the step from one row to the next
-at_step : (all : List Range) (rows : List Row) (k i end : ℕ) (a b : Row) (more : List Row) → drop i rows ≡ a ∷ b ∷ more → (at : At all rows k i end) → Step at.from at.range at.others a (b ∷ more)
+pub at_step : (all : List Range) (rows : List Row) (k i end : ℕ) (a b : Row) (more : List Row) → drop i rows ≡ a ∷ b ∷ more → (at : At all rows k i end) → Step at.from at.range at.others a (b ∷ more)
 at_step all rows k i end a b more is at = step at.from at.range at.others a (b ∷ more) (subst (λ rs. RestFrom at.from (at.range ∷ at.others) (spans rs)) is at.rest)
 
 -- a row ends with its range or before
-at_fits : (all : List Range) (rows : List Row) (k i end : ℕ) (a b : Row) (more : List Row) → InOrder all → drop i rows ≡ a ∷ b ∷ more → At all rows k i end → a.start + a.pages < 2 ^ 32
+pub at_fits : (all : List Range) (rows : List Row) (k i end : ℕ) (a b : Row) (more : List Row) → InOrder all → drop i rows ≡ a ∷ b ∷ more → At all rows k i end → a.start + a.pages < 2 ^ 32
 at_fits all rows k i end a b more ordered is at =
     let s = at_step all rows k i end a b more is at in
     omega (arith, s.high, s.start, end_at 0 0 all k at.range ordered (here_within all k at.range at.others at.ranges).1)
 
 -- a row that ends before its range is followed by one of the range
-at_on : (all : List Range) (rows : List Row) (k i end : ℕ) (a b : Row) (more : List Row) → InOrder all → drop i rows ≡ a ∷ b ∷ more → At all rows k i end → (a.start + a.pages ≡ end → ⊥) → At all rows k (suc i) end × (in_one_range all a b ≡ true)
+pub at_on : (all : List Range) (rows : List Row) (k i end : ℕ) (a b : Row) (more : List Row) → InOrder all → drop i rows ≡ a ∷ b ∷ more → At all rows k i end → (a.start + a.pages ≡ end → ⊥) → At all rows k (suc i) end × (in_one_range all a b ≡ true)
 at_on all rows k i end a b more ordered is at on =
     let s = at_step all rows k i end a b more is at in by s s.next
   where
@@ -105,7 +101,7 @@ at_on all rows k i end a b more ordered is at on =
     by s (inr over) = absurd (on (omega (arith, over.0, s.start, at.end_is)))
 
 -- a row that ends with its range is followed by one of the next range
-at_over : (all : List Range) (rows : List Row) (k i end : ℕ) (a b : Row) (more : List Row) → InOrder all → drop i rows ≡ a ∷ b ∷ more → At all rows k i end → a.start + a.pages ≡ end → (k + 1 < length all) × ((next_end : ℕ) → option_map end_of (slice_get all (k + 1)) ≡ Some next_end → At all rows (k + 1) (suc i) next_end) × (in_one_range all a b ≡ false)
+pub at_over : (all : List Range) (rows : List Row) (k i end : ℕ) (a b : Row) (more : List Row) → InOrder all → drop i rows ≡ a ∷ b ∷ more → At all rows k i end → a.start + a.pages ≡ end → (k + 1 < length all) × ((next_end : ℕ) → option_map end_of (slice_get all (k + 1)) ≡ Some next_end → At all rows (k + 1) (suc i) next_end) × (in_one_range all a b ≡ false)
 at_over all rows k i end a b more ordered is at over = let s = at_step all rows k i end a b more is at in by s s.next
   where
     by : Step at.from at.range at.others a (b ∷ more) → Next (at.from + a.pages) at.range at.others (spans (b ∷ more)) → (k + 1 < length all) × ((next_end : ℕ) → option_map end_of (slice_get all (k + 1)) ≡ Some next_end → At all rows (k + 1) (suc i) next_end) × (in_one_range all a b ≡ false)

@@ -9,15 +9,11 @@ use Rattle.damon_types.specs.declared.row.Row.{Row}
 use Rattle.damon_types.specs.Ranges.{OrderedFrom, InOrder, end_of}
 use Rattle.damon_types.specs.Span.{Span, span_of, spans}
 use Rattle.region_list.specs.Tiling.{Chain, Tiling}
+use Rattle.region_list.specs.Walk.{RestFrom}
 use Rattle.region_list.specs.Join.{join}
 use Rattle.region_list.specs.Shrink.{holds_row, in_one_range, difference, joined_at}
 use Rattle.region_list.proofs.TilingLemmas.{chain_le}
 use Rattle.region_list.proofs.PairLemmas.{IsPair, pair_within}
-
--- rows from a page of the first range on: to its end, and then those of the other ranges
-abbrev pub RestFrom : ℕ → List Range → List Span → Type 0
-RestFrom from [] ss = ⊥
-RestFrom from (g ∷ gs) ss = (front : List Span) × (back : List Span) × (ss ≡ front ++ back) × (g.first ≤ from) × (from < end_of g) × Chain 1 g.target from (end_of g) front × Tiling 1 gs back
 
 -- the rows from a page on: still of the first range, or those of the others
 abbrev pub Next : ℕ → Range → List Range → List Span → Type 0

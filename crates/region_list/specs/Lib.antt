@@ -5,3 +5,5 @@ pub mod Division
 pub mod Join
 pub mod Shrink
 pub mod Regions
+pub mod Walk
+pub mod Sweep

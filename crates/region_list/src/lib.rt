@@ -8,16 +8,24 @@ mod division;
 mod join;
 /// Laws of tiling, division and shrinking.
 mod laws;
+/// Joining the pairs of one level, for shrinking.
+mod level;
+/// Passes that replace all rows.
+mod pass;
 /// Rows that tile their ranges.
 mod regions;
 /// A list of rows with a fixed capacity.
 mod row_buf;
 /// Shrinking a list of rows.
 mod shrink;
+/// Walking the rows range by range.
+mod walk;
 
 pub use division::divide;
 pub use join::join_rows;
 pub use laws::{division_tiles, shrunk_rows_tile, tiling_is_per_page};
+pub use pass::RowPass;
 pub use regions::Regions;
 pub use row_buf::RowBuf;
 pub use shrink::shrink_rows;
+pub use walk::range_end;

@@ -5,10 +5,11 @@ ghost use Rattle.region_list.specs.Rows.{with_values};
 ghost use Rattle.region_list.specs.Tiles.{Tiles};
 ghost use Rattle.region_list.specs.Tiling.{Tiling};
 
-use crate::RowBuf;
+use crate::{RowBuf, RowPass};
 use damon_types::{Ranges, Row, append_reserved};
 use std::alloc::{AllocError, Global};
 use std::marker::Model;
+use std::mem;
 
 /// The ranges of a monitor and the rows that tile them: each page of a range lies in exactly one
 /// row, each row lies in one range and has at least `unit` pages, and there are at most `max` rows,
@@ -17,6 +18,8 @@ use std::marker::Model;
 pub struct Regions {
     ranges: Ranges,
     rows: Vec<Row>,
+    // Where a pass puts its rows, which are then swapped in. Its contents mean nothing between calls.
+    spare: Vec<Row>,
     unit: u32,
     cap: u32,
     max: u32,
@@ -31,13 +34,13 @@ impl Model for Regions {
     ghost view = { λ r. record { ranges = r.ranges.list; rows = r.rows.items; unit = r.unit; cap = r.cap; max = r.max } };
 
     ghost invariant = { λ r. IsRegionList (record { ranges = r.ranges.list; rows = r.rows.items; unit = r.unit; cap = r.cap; max = r.max })
-        × (r.ranges.cap ≡ r.cap) × (r.cap ≤ vec_capacity r.rows) };
+        × (r.ranges.cap ≡ r.cap) × (r.cap ≤ vec_capacity r.rows) × (r.cap ≤ vec_capacity r.spare) };
 }
 
 impl Regions {
     /// No ranges and no rows, with room for `cap` of each, or an error when out of memory. At most
-    /// `max` rows will be allowed (1 to `cap`), each of at least `unit` pages (at least 1). No other
-    /// call takes memory.
+    /// `max` rows will be allowed (1 to `cap`), each of at least `unit` pages (at least 1). Takes memory
+    /// for `cap` ranges and twice `cap` rows; no other call takes memory.
     pub fn new(alloc: Global, unit: u32, cap: u32, max: u32) -> Result<Regions, AllocError>
         requires unit { 1 ≤ unit }
         requires least { 1 ≤ max }
@@ -47,9 +50,11 @@ impl Regions {
     {
         let ranges = Ranges::new(alloc, cap)?;
         let rows = Vec::with_capacity(alloc, cap as usize)?;
+        let spare = Vec::with_capacity(alloc, cap as usize)?;
         Ok(Regions {
             ranges,
             rows,
+            spare,
             unit,
             cap,
             max,
@@ -76,6 +81,22 @@ impl Regions {
         self.max = max;
     }
 
+    /// Replaces all rows by those that a pass makes of them. The new rows tile the ranges with this
+    /// list's `unit` and are at most `max`.
+    pub fn remake<P: RowPass>(&mut self, pass: &P)
+        requires can { P.can_run pass.now self.old.rows }
+        requires tiling { Tiling self.old.unit self.old.ranges
+            (spans (P.rows_of pass.now self.old.ranges self.old.rows)) }
+        requires few { length (P.rows_of pass.now self.old.ranges self.old.rows) ≤ self.old.max }
+        ensures { self.new ≡ record self.old {
+          rows = P.rows_of pass.now self.old.ranges self.old.rows;
+        } }
+    {
+        self.spare.clear();
+        pass.run(&self.ranges, &self.rows, &mut self.spare);
+        mem::swap(&mut self.rows, &mut self.spare);
+    }
+
     /// The number of rows. Its clauses also say what holds of every region list.
     pub fn len(&self) -> u32
         ensures len { result ≡ length self.now.rows }
@@ -84,6 +105,7 @@ impl Regions {
         ensures small { self.now.cap < 2 ^ 32 }
         ensures unit { 1 ≤ self.now.unit }
         ensures order { InOrder self.now.ranges }
+        ensures tiling { Tiling self.now.unit self.now.ranges (spans self.now.rows) }
         ensures tiles { Tiles self.now.ranges (spans self.now.rows) self.now.unit }
     {
         self.rows.len() as u32

@@ -1,9 +1,11 @@
-ghost use Rattle.std.specs.Prelude.{◌≡◌, ◌+◌, ◌^◌, ◌≤◌, ◌<◌, [], ◌∷◌, ◌++◌, length, slice_get, IfOk};
-ghost use Rattle.region_list.specs.Rows.{row_at};
-ghost use Rattle.region_list.specs.Shrink.{joined_at};
+ghost use Rattle.std.specs.Prelude.{◌≡◌, ◌⊎◌, ℕ, ◌+◌, ◌^◌, ◌≤◌, ◌<◌, [], ◌∷◌, ◌++◌, length, slice_get, IfOk};
+ghost use Rattle.damon_types.specs.Span.{spans};
+ghost use Rattle.region_list.specs.Tiling.{Tiling};
+ghost use Rattle.region_list.specs.Shrink.{shrunk};
+ghost use Rattle.region_list.specs.Sweep.{DifferBy};
 
-use crate::join_rows;
-use damon_types::Row;
+use crate::level::join_level;
+use damon_types::{Ranges, Row};
 use std::alloc::{AllocError, Global};
 use std::marker::Model;
 
@@ -72,16 +74,22 @@ impl RowBuf {
         self.rows.push_reserved(row);
     }
 
-    // Replaces the row with this index and the next one by their join.
-    pub(crate) fn join_at(&mut self, index: usize)
-        requires next { index + 1 < length self.old.rows }
-        requires some { 1 ≤ (row_at self.old.rows index).pages }
-        requires few { (row_at self.old.rows index).pages + (row_at self.old.rows (index + 1)).pages < 2 ^ 32 }
-        ensures { self.new ≡ record self.old { rows = joined_at index self.old.rows } }
+    // Joins closest pairs, in the order that shrinking takes them, until the counts of each adjacent
+    // pair of one range differ by more than `level`, or at most `to` rows are left.
+    pub(crate) fn join_level(&mut self, ranges: &Ranges, level: u32, to: u32)
+        requires tiling { Tiling 1 ranges.now.list (spans self.old.rows) }
+        requires some { 0 < length self.old.rows }
+        requires enough { length ranges.now.list ≤ to }
+        requires low { DifferBy ranges.now.list level self.old.rows }
+        ensures cap { self.new.cap ≡ self.old.cap }
+        ensures same { shrunk ranges.now.list to self.new.rows ≡ shrunk ranges.now.list to self.old.rows }
+        ensures tiles { (unit : ℕ)
+            → Tiling unit ranges.now.list (spans self.old.rows)
+            → Tiling unit ranges.now.list (spans self.new.rows) }
+        ensures done { (length self.new.rows ≤ to) ⊎ DifferBy ranges.now.list (level + 1) self.new.rows }
     {
-        let joined = join_rows(&self.rows[index], &self.rows[index + 1]);
-        self.rows[index] = joined;
-        self.rows.remove(index + 1);
+        let kept = join_level(&mut self.rows, ranges, level, to as usize);
+        self.rows.truncate(kept);
     }
 
     /// Empties the list. The capacity stays.

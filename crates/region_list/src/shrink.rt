@@ -1,17 +1,16 @@
 ghost use Rattle.std.specs.Prelude.{◌≡◌, ℕ, ◌+◌, ◌^◌, ◌≤◌, ◌<◌, length, slice_get, nat_le, IfNone, IfSome, if◌then◌else◌};
-ghost use Rattle.std.specs.Option.{option_map};
-ghost use Rattle.damon_types.specs.Ranges.{InOrder, end_of};
+ghost use Rattle.damon_types.specs.Ranges.{InOrder};
 ghost use Rattle.damon_types.specs.Span.{spans};
 ghost use Rattle.region_list.specs.Tiling.{Tiling};
-ghost use Rattle.region_list.specs.Shrink.{closest as closest_of, shrunk};
+ghost use Rattle.region_list.specs.Shrink.{closest as closest_of, differences, least, shrunk};
 
-use crate::RowBuf;
+use crate::{RowBuf, range_end};
 use damon_types::{Ranges, Row};
 
 /// Shrinks the list: while there are more than `to` rows, joins the adjacent pair of one range whose
 /// counts differ least, the first such pair where several differ equally. The rows tile the ranges,
 /// each with at least one page, and there are at most `to` ranges. Rows that tile the ranges with a
-/// minimum size still do so afterwards. This rule is the project's own.
+/// minimum size still do so afterwards. Takes no memory. This rule is the project's own.
 pub fn shrink_rows(rows: &mut RowBuf, ranges: &Ranges, to: u32)
     requires tiling { Tiling 1 ranges.now.list (spans rows.old.rows) }
     requires enough { length ranges.now.list ≤ to }
@@ -19,10 +18,24 @@ pub fn shrink_rows(rows: &mut RowBuf, ranges: &Ranges, to: u32)
     ensures few { length rows.new.rows ≤ to }
     ensures tiling { (unit : ℕ) → Tiling unit ranges.now.list (spans rows.old.rows) → Tiling unit ranges.now.list (spans rows.new.rows) }
 {
-    'joins: while rows.len() > to {
-        let first = closest(rows.as_slice(), ranges);
-        rows.join_at(first);
+    // For its clauses alone: the ranges are in order.
+    let _count = ranges.len();
+    // Each round joins all pairs that differ least, and those that come to differ as little by a join.
+    'levels: while rows.len() > to {
+        let level = least_difference(rows.as_slice(), ranges);
+        rows.join_level(ranges, level, to);
     }
+}
+
+// The least difference of the counts of an adjacent pair of one range.
+fn least_difference(rows: &[Row], ranges: &Ranges) -> u32
+    requires tiling { Tiling 1 ranges.now.list (spans rows.now) }
+    requires more { length ranges.now.list < length rows.now }
+    ensures { result ≡ least (differences ranges.now.list rows.now) }
+{
+    let first = closest(rows, ranges);
+    prove!(first < rows.len() - 1);
+    rows[first].count.abs_diff(rows[first + 1].count)
 }
 
 // An adjacent pair: the index of its first row, and the difference of the counts.
@@ -42,13 +55,13 @@ fn closest(rows: &[Row], ranges: &Ranges) -> usize
     // For its clauses alone: the ranges are in order, and their number is a u32.
     let _count = ranges.len();
     let mut range = 0;
-    let mut end = end_at(ranges, range);
+    let mut end = range_end(ranges, range);
     let mut best: Option<Pair> = None;
     'rows: for index in 0..rows.len() - 1 {
         let row = rows[index];
         if row.start + row.pages == end {
             range += 1;
-            end = end_at(ranges, range);
+            end = range_end(ranges, range);
         } else {
             let difference = row.count.abs_diff(rows[index + 1].count);
             if difference == 0 {
@@ -65,16 +78,6 @@ fn closest(rows: &[Row], ranges: &Ranges) -> usize
         Some(pair) => pair.first,
         None => unreachable!(),
     }
-}
-
-// The page after the last page of a range.
-fn end_at(ranges: &Ranges, index: u32) -> u32
-    requires here { index < length ranges.now.list }
-    requires order { InOrder ranges.now.list }
-    ensures { option_map end_of (slice_get ranges.now.list index) ≡ Some result }
-{
-    let range = ranges.get(index);
-    range.first + range.pages
 }
 
 // The pair that differs less, or the first where both differ equally.

@@ -1,0 +1,147 @@
+ghost use Rattle.std.specs.Prelude.{◌≡◌, ◌⊎◌, ℕ, ◌+◌, ◌-◌, ◌*◌, ◌^◌, ◌≤◌, ◌<◌, ◌&&◌, ◌==◌, not, nat_lt, nat_le, cond, true, false, [], ◌∷◌, ◌++◌, length, take, drop, if◌then◌else◌};
+ghost use Rattle.damon_types.specs.Span.{spans};
+ghost use Rattle.region_list.specs.Rows.{row_at};
+ghost use Rattle.region_list.specs.Tiling.{Tiling};
+ghost use Rattle.region_list.specs.Shrink.{difference, shrunk};
+ghost use Rattle.region_list.specs.Sweep.{DifferBy, IsSweep};
+
+use crate::{join_rows, range_end};
+use damon_types::{Ranges, Row};
+
+// A sweep over a slice of rows, which joins in place. The first `kept` rows are finished, `top` is the
+// row in hand, and the rows from `index` on are still to come. `top` lies in the range number `range`,
+// which ends at page `end`, and so do the last `chain` of the finished rows.
+#[derive(Clone, Copy)]
+struct Sweep {
+    top: Row,
+    kept: usize,
+    chain: usize,
+    index: usize,
+    range: u32,
+    end: u32,
+}
+
+/// Joins closest pairs, in the order that shrinking takes them, until the counts of each adjacent pair
+/// of one range differ by more than `level`, or at most `to` rows are left. At the call no such pair
+/// differs by less than `level`. The rows that are left are the first n of the slice, n being the
+/// result.
+pub(crate) fn join_level(rows: &mut [Row], ranges: &Ranges, level: u32, to: usize) -> usize
+    requires tiling { Tiling 1 ranges.now.list (spans rows.old) }
+    requires some { 0 < length rows.old }
+    requires enough { length ranges.now.list ≤ to }
+    requires low { DifferBy ranges.now.list level rows.old }
+    ensures within { result ≤ length rows.new }
+    ensures same { shrunk ranges.now.list to (take result rows.new) ≡ shrunk ranges.now.list to rows.old }
+    ensures tiles { (unit : ℕ) → Tiling unit ranges.now.list (spans rows.old) → Tiling unit ranges.now.list (spans (take result rows.new)) }
+    ensures done { (result ≤ to) ⊎ DifferBy ranges.now.list (level + 1) (take result rows.new) }
+{
+    // For its clauses alone: the ranges are in order.
+    let _count = ranges.len();
+    let mut sweep = Sweep {
+        top: rows[0],
+        kept: 0,
+        chain: 0,
+        index: 1,
+        range: 0,
+        end: range_end(ranges, 0),
+    };
+    let mut on = true;
+    'moves: while on {
+        on = advance(&mut sweep, rows, ranges, level, to);
+    }
+    rows[sweep.kept] = sweep.top;
+    sweep.kept + 1
+}
+
+// Takes one step of a sweep: the top is joined with the row before it or with the next one, or it is
+// finished and the next row becomes the top. False where the top is the last row and stays.
+fn advance(sweep: &mut Sweep, rows: &mut [Row], ranges: &Ranges, level: u32, to: usize) -> bool
+    requires sweep { IsSweep ranges.now.list level to (take sweep.old.kept rows.old) sweep.old.top (drop sweep.old.index rows.old) sweep.old.chain sweep.old.range sweep.old.end }
+    requires behind { sweep.old.kept < sweep.old.index }
+    requires within { sweep.old.index ≤ length rows.old }
+    requires tiling { Tiling 1 ranges.now.list (spans (take sweep.old.kept rows.old ++ sweep.old.top ∷ drop sweep.old.index rows.old)) }
+    requires enough { length ranges.now.list ≤ to }
+    ensures sweep { IsSweep ranges.now.list level to (take sweep.new.kept rows.new) sweep.new.top (drop sweep.new.index rows.new) sweep.new.chain sweep.new.range sweep.new.end }
+    ensures behind { sweep.new.kept < sweep.new.index }
+    ensures within { sweep.new.index ≤ length rows.new }
+    ensures same { shrunk ranges.now.list to (take sweep.new.kept rows.new ++ sweep.new.top ∷ drop sweep.new.index rows.new) ≡ shrunk ranges.now.list to (take sweep.old.kept rows.old ++ sweep.old.top ∷ drop sweep.old.index rows.old) }
+    ensures tiles { (unit : ℕ) → Tiling unit ranges.now.list (spans (take sweep.old.kept rows.old ++ sweep.old.top ∷ drop sweep.old.index rows.old)) → Tiling unit ranges.now.list (spans (take sweep.new.kept rows.new ++ sweep.new.top ∷ drop sweep.new.index rows.new)) }
+    ensures less { 2 * (length rows.new - sweep.new.index) + sweep.new.kept + cond result 1 0 ≤ 2 * (length rows.old - sweep.old.index) + sweep.old.kept }
+    ensures last { result ≡ false → sweep.new.index ≡ length rows.new }
+    ensures done { result ≡ false → (sweep.new.kept + 1 ≤ to) ⊎ DifferBy ranges.now.list (level + 1) (take sweep.new.kept rows.new ++ sweep.new.top ∷ []) }
+{
+    // For its clauses alone: the ranges are in order, and their number is a u32.
+    let _count = ranges.len();
+    let more = sweep.kept + 1 + (rows.len() - sweep.index) > to;
+    let over = sweep.top.start + sweep.top.pages == sweep.end;
+    let left = left_difference(sweep, rows);
+    let right = right_difference(sweep, rows, over);
+    if joins_left(more, left, right, level) {
+        sweep.kept -= 1;
+        sweep.chain -= 1;
+        sweep.top = join_rows(&rows[sweep.kept], &sweep.top);
+        return true;
+    }
+    if joins_right(more, right, level) {
+        sweep.top = join_rows(&sweep.top, &rows[sweep.index]);
+        sweep.index += 1;
+        return true;
+    }
+    if sweep.index == rows.len() {
+        return false;
+    }
+    rows[sweep.kept] = sweep.top;
+    sweep.top = rows[sweep.index];
+    sweep.kept += 1;
+    sweep.index += 1;
+    if over {
+        sweep.range += 1;
+        sweep.end = range_end(ranges, sweep.range);
+        sweep.chain = 0;
+    } else {
+        sweep.chain += 1;
+    }
+    true
+}
+
+// The difference where there is no row to join with: more than any two counts differ by.
+const NO_ROW: u64 = 1 << 32;
+
+// By how much the counts of the top and of the row before it differ, where one range holds both.
+fn left_difference(sweep: &Sweep, rows: &[Row]) -> u64
+    requires kept { sweep.now.kept ≤ length rows.now }
+    requires chain { sweep.now.chain ≤ sweep.now.kept }
+    ensures { result ≡ (if sweep.now.chain == 0 then 2 ^ 32 else difference (row_at rows.now (sweep.now.kept - 1)) sweep.now.top) }
+{
+    if sweep.chain == 0 {
+        NO_ROW
+    } else {
+        u64::from(rows[sweep.kept - 1].count.abs_diff(sweep.top.count))
+    }
+}
+
+// By how much the counts of the top and of the next row differ, where one range holds both. `over` says
+// that the range ends with the top.
+fn right_difference(sweep: &Sweep, rows: &[Row], over: bool) -> u64
+    ensures { result ≡ (if nat_lt sweep.now.index (length rows.now) && not over then difference sweep.now.top (row_at rows.now sweep.now.index) else 2 ^ 32) }
+{
+    if sweep.index < rows.len() && !over {
+        u64::from(sweep.top.count.abs_diff(rows[sweep.index].count))
+    } else {
+        NO_ROW
+    }
+}
+
+// Whether the top is joined with the row before it, which is done first where both sides differ equally.
+fn joins_left(more: bool, left: u64, right: u64, level: u32) -> bool
+    ensures { result ≡ (more && (nat_le left level && nat_le left right)) }
+{
+    more && left <= u64::from(level) && left <= right
+}
+
+// Whether the top is joined with the next row, where it is not joined with the row before it.
+fn joins_right(more: bool, right: u64, level: u32) -> bool
+    ensures { result ≡ (more && nat_le right level) }
+{
+    more && right <= u64::from(level)
+}

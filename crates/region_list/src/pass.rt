@@ -1,0 +1,28 @@
+// Passes that replace a whole list of rows.
+ghost use Rattle.std.specs.Prelude.{◌≡◌, ◌≤◌, [], List, length, vec_capacity};
+ghost use Rattle.damon_types.specs.declared.range.Range.{Range as range};
+ghost use Rattle.damon_types.specs.declared.row.Row.{Row as row};
+ghost use Rattle.damon_types.specs.Span.{spans};
+ghost use Rattle.region_list.specs.Tiling.{Tiling};
+
+use damon_types::{Ranges, Row};
+
+/// A pass over rows that tile some ranges: it reads them and produces the rows that replace them.
+/// `Regions::remake` runs it.
+pub trait RowPass {
+    /// The rows that replace these rows of these ranges.
+    ghost rows_of: { Self → List range → List row → List row };
+
+    /// What the pass needs of the rows besides that they tile their ranges.
+    ghost can_run: { Self → List row → Type 0 };
+
+    /// Pushes the new rows onto `made`, which is empty and has the capacity for them. The pass takes
+    /// no memory.
+    fn run(&self, ranges: &Ranges, rows: &[Row], made: &mut Vec<Row>)
+        requires tiling { Tiling 1 ranges.now.list (spans rows.now) }
+        requires can { can_run self.now rows.now }
+        requires empty { made.old.items ≡ [] }
+        requires room { length (rows_of self.now ranges.now.list rows.now) ≤ vec_capacity made.old }
+        ensures rows { made.new.items ≡ rows_of self.now ranges.now.list rows.now }
+        ensures capacity { vec_capacity made.new ≡ vec_capacity made.old };
+}
