@@ -1,3 +1,4 @@
+pub mod Opening
 pub mod Keeping
 pub mod Tallying
 pub mod Standing

@@ -10,13 +10,14 @@ use Rattle.sampler.specs.Pick.{picks_of}
 use Rattle.live_commit.specs.declared.phase.Phase.{Phase}
 use Rattle.live_commit.specs.declared.phase.Phase.TheVariants.{Idle, Clearing, Armed, Checking, Void, Due}
 use Rattle.live_commit.specs.Setup.{SetupValue}
-use Rattle.damon_core.specs.Note.{Note, touched, cleared, checked, finished, voided, dropped, metric, turned, clears_of, checks_of}
-use Rattle.damon_core.specs.State.{State, row_count, opening}
+use Rattle.damon_core.specs.Note.{Note, touched, cleared, checked, finished, voided, set, dropped, metric, turned, clears_of, checks_of}
+use Rattle.damon_core.specs.State.{State, row_count, opening, opening_notes}
 use Rattle.damon_core.specs.Event.{IsLoading, load_index}
 use Rattle.damon_core.specs.After.{phase_after_clear, phase_after_pass, prepared_core, cleared_at, loaded_at, finished_pass, voided_pass}
 use Rattle.damon_core.specs.Kept.{IsWithin, loaded_so_far}
 use Rattle.damon_core.specs.Bound.{OneInEach, EachPassChecks}
 use Rattle.damon_core.proofs.Keeping.{Keeps}
+use Rattle.damon_core.proofs.Opening.{opening_holds}
 use Rattle.damon_core.proofs.Rows.{RowLaws, HasRows, rows_kept}
 
 enumerate_from-take-suc : (n k j : ℕ) (ps : List ℕ) → k < length ps → n + k ≡ j → enumerate_from n (take (suc k) ps) ≡ enumerate_from n (take k ps) ++ (j, slice_index ps k) ∷ []
@@ -81,6 +82,7 @@ ends_later m n (voided i ∷ notes) low ends = (omega (arith, ends.0), ends_late
 ends_later m n (touched p ∷ notes) low ends = ends_later m n notes low ends
 ends_later m n (cleared i k p ∷ notes) low ends = ends_later m n notes low ends
 ends_later m n (checked i k p h ∷ notes) low ends = ends_later m n notes low ends
+ends_later m n (set i x ∷ notes) low ends = ends_later m n notes low ends
 ends_later m n (dropped i ∷ notes) low ends = ends_later m n notes low ends
 ends_later m n (metric i ∷ notes) low ends = ends_later m n notes low ends
 ends_later m n (turned i t ∷ notes) low ends = ends_later m n notes low ends
@@ -105,6 +107,7 @@ passes_same last old new (voided n ∷ notes) same ends passes = (sym (same.chec
 passes_same last old new (touched p ∷ notes) same ends passes = passes_same last old new notes same ends passes
 passes_same last old new (cleared i k p ∷ notes) same ends passes = passes_same last old new notes same ends passes
 passes_same last old new (checked i k p h ∷ notes) same ends passes = passes_same last old new notes same ends passes
+passes_same last old new (set i x ∷ notes) same ends passes = passes_same last old new notes same ends passes
 passes_same last old new (dropped i ∷ notes) same ends passes = passes_same last old new notes same ends passes
 passes_same last old new (metric i ∷ notes) same ends passes = passes_same last old new notes same ends passes
 passes_same last old new (turned i t ∷ notes) same ends passes = passes_same last old new notes same ends passes
@@ -161,16 +164,23 @@ loadable (Clearing k) rows picks ss clears fits lie all = absurd fits
 loadable Void rows picks ss clears fits lie all = absurd fits
 loadable Due rows picks ss clears fits lie all = absurd fits
 
+-- no page is cleared or checked at an opening
+no_clears : (v : SetupValue) (n : ℕ) → clears_of (opening_notes v) n ≡ []
+no_clears v n = opening_holds (λ notes. clears_of notes n ≡ []) refl (λ slot scheme notes none. none) v
+
+no_checks : (v : SetupValue) (n : ℕ) → checks_of (opening_notes v) n ≡ []
+no_checks v n = opening_holds (λ notes. checks_of notes n ≡ []) refl (λ slot scheme notes none. none) v
+
 passes_open : (v : SetupValue) → HasRows (opening v) → HasPasses (opening v)
 passes_open v rows = record {
   rows = rows;
   picks = tt;
-  clears = refl;
-  checks = refl;
-  no_later_clears = λ n later. refl;
-  no_later_checks = λ n later. refl;
-  ends = tt;
-  passes = tt;
+  clears = no_clears v 1;
+  checks = no_checks v 1;
+  no_later_clears = λ n later. no_clears v n;
+  no_later_checks = λ n later. no_checks v n;
+  ends = opening_holds (EndsBy 0) tt (λ slot scheme notes ends. ends) v;
+  passes = opening_holds (EachPassChecks (opening_notes v)) tt (λ slot scheme notes passes. passes) v;
 }
 
 passes_touch : (s : State) (p : ℕ) → HasRows (record s { notes = touched p ∷ s.notes }) → HasPasses s → HasPasses (record s { notes = touched p ∷ s.notes })

@@ -38,6 +38,7 @@ pub record HasRows (s : State) : Type 0 where
   pub wide : 1 ≤ s.core.regions.unit
   pub some : 0 < row_count s.core
   pub few : row_count s.core ≤ s.core.attrs.max
+  pub max : s.core.regions.max ≡ s.core.attrs.max
   pub most : s.core.attrs.max ≤ s.core.regions.cap
   pub within : IsWithin s.core.phase (row_count s.core)
 
@@ -90,6 +91,7 @@ rows_open laws v can =
       wide = can.sound.unit_some;
       some = omega (arith, some, length-map rows span_of);
       few = laws.shrunk_few v.attrs.max v.ranges parts can.order pages can.sound.ranges_most;
+      max = refl;
       most = can.sound.max_cap;
       within = tt;
     }
@@ -98,10 +100,10 @@ rows_open laws v can =
 pub rows_kept : (Q : State → Bool → Type 0) → RowLaws → Keeps Q HasRows
 rows_kept Q laws = record {
   opens = rows_open laws;
-  touching = λ s p h. record { tiles = h.tiles; wide = h.wide; some = h.some; few = h.few; most = h.most; within = h.within };
-  preparing = λ s ws idle count h. record { tiles = h.tiles; wide = h.wide; some = h.some; few = h.few; most = h.most; within = h.some };
-  clearing = λ s k is h. record { tiles = h.tiles; wide = h.wide; some = h.some; few = h.few; most = h.most; within = within_after_clear k (row_count s.core) (subst (λ (ph : Phase). IsWithin ph (row_count s.core)) is h.within) };
-  loading = λ s k hit fits is known h. record { tiles = h.tiles; wide = h.wide; some = h.some; few = h.few; most = h.most; within = within_after_load s.core.phase k (row_count s.core) h.some fits is };
+  touching = λ s p h. record { tiles = h.tiles; wide = h.wide; some = h.some; few = h.few; max = h.max; most = h.most; within = h.within };
+  preparing = λ s ws idle count h. record { tiles = h.tiles; wide = h.wide; some = h.some; few = h.few; max = h.max; most = h.most; within = h.some };
+  clearing = λ s k is h. record { tiles = h.tiles; wide = h.wide; some = h.some; few = h.few; max = h.max; most = h.most; within = within_after_clear k (row_count s.core) (subst (λ (ph : Phase). IsWithin ph (row_count s.core)) is h.within) };
+  loading = λ s k hit fits is known h. record { tiles = h.tiles; wide = h.wide; some = h.some; few = h.few; max = h.max; most = h.most; within = within_after_load s.core.phase k (row_count s.core) h.some fits is };
   finishing = λ s is h.
       (let same = length-counted_from 0 s.notes (s.core.ticks + 1) s.core.regions.rows in
       let places = spans-counted_from 0 s.notes (s.core.ticks + 1) s.core.regions.rows in
@@ -110,8 +112,9 @@ rows_kept Q laws = record {
         wide = h.wide;
         some = omega (arith, h.some, same);
         few = omega (arith, h.few, same);
+        max = h.max;
         most = h.most;
         within = within_after_pass (s.core.since + 1) s.core.attrs.aggr (length (counted_from 0 s.notes (s.core.ticks + 1) s.core.regions.rows));
       });
-  voiding = λ s is h. record { tiles = h.tiles; wide = h.wide; some = h.some; few = h.few; most = h.most; within = within_after_pass (s.core.since + 1) s.core.attrs.aggr (row_count s.core) };
+  voiding = λ s is h. record { tiles = h.tiles; wide = h.wide; some = h.some; few = h.few; max = h.max; most = h.most; within = within_after_pass (s.core.since + 1) s.core.attrs.aggr (row_count s.core) };
 }

@@ -4,15 +4,16 @@ use Rattle.std.specs.Prelude.{◌==◌, ◌&&◌, ◌||◌, nat_le}
 use Rattle.std.proofs.lemmas.Bool.Decides.{nat_tests}
 use Rattle.live_commit.specs.declared.phase.Phase.{Phase}
 use Rattle.live_commit.specs.declared.phase.Phase.TheVariants.{Idle, Clearing, Armed, Checking, Void, Due}
-use Rattle.damon_core.specs.Note.{Note, touched, cleared, checked, finished, voided, dropped, metric, turned, was_hit}
+use Rattle.damon_core.specs.Note.{Note, touched, cleared, checked, finished, voided, set, dropped, metric, turned, was_hit}
 use Rattle.damon_core.specs.Totals.{pass_checks, pass_hits}
-use Rattle.damon_core.specs.State.{State, row_count}
+use Rattle.damon_core.specs.State.{State, row_count, opening_notes}
 use Rattle.damon_core.specs.Event.{IsLoading, load_index}
 use Rattle.damon_core.specs.After.{phase_after_clear, phase_after_pass, loaded_at}
 use Rattle.damon_core.specs.Reached.{Reached}
 use Rattle.damon_core.specs.Stands.{last_pass}
 use Rattle.damon_core.specs.Kept.{loaded_so_far}
 use Rattle.damon_core.proofs.Keeping.{Keeps, any_result, reached_keeps}
+use Rattle.damon_core.proofs.Opening.{opening_holds}
 
 -- a phase after a clear or after a pass has no load before it
 pub loaded_so_far-phase_after_clear : (k rows : ℕ) → loaded_so_far (phase_after_clear k rows) ≡ 0
@@ -53,7 +54,9 @@ early_load s i hit is early = record {
 
 keeps_early : Keeps any_result HasNoEarly
 keeps_early = record {
-  opens = λ v can. record { this_pass = λ k beyond. refl; later = λ n k above. refl };
+  opens = λ v can.
+      (let none : (n k : ℕ) → was_hit (opening_notes v) n k ≡ false = λ n k. opening_holds (λ notes. was_hit notes n k ≡ false) refl (λ slot scheme notes none. none) v in
+      record { this_pass = λ k beyond. none 1 k; later = λ n k above. none n k });
   touching = λ s p early. record { this_pass = early.this_pass; later = early.later };
   preparing = λ s ws idle len early. record { this_pass = λ k beyond. early.this_pass k (let none : loaded_so_far s.core.phase ≡ 0 = ap loaded_so_far idle in omega arith); later = early.later };
   clearing = λ s k is early. record { this_pass = λ j beyond. early.this_pass j (let none : loaded_so_far s.core.phase ≡ 0 = ap loaded_so_far is in omega arith); later = early.later };
@@ -81,7 +84,9 @@ tallied_load s i hit is tallied = record {
 
 keeps_tally : Keeps any_result IsTallied
 keeps_tally = record {
-  opens = λ v can. record { this_pass = refl; later = λ n above. refl };
+  opens = λ v can.
+      (let none : (n : ℕ) → pass_checks (opening_notes v) n ≡ 0 = λ n. opening_holds (λ notes. pass_checks notes n ≡ 0) refl (λ slot scheme notes none. none) v in
+      record { this_pass = none 1; later = λ n above. none n });
   touching = λ s p tallied. record { this_pass = tallied.this_pass; later = tallied.later };
   preparing = λ s ws idle len tallied. record { this_pass = tallied.this_pass ∙ ap loaded_so_far idle; later = tallied.later };
   clearing = λ s k is tallied. record { this_pass = tallied.this_pass ∙ ap loaded_so_far is ∙ sym (loaded_so_far-phase_after_clear k (row_count s.core)); later = tallied.later };
@@ -107,6 +112,7 @@ pass_hits_le (touched p ∷ notes) n = pass_hits_le notes n
 pass_hits_le (cleared m k p ∷ notes) n = pass_hits_le notes n
 pass_hits_le (finished m rows ∷ notes) n = pass_hits_le notes n
 pass_hits_le (voided m ∷ notes) n = pass_hits_le notes n
+pass_hits_le (set slot x ∷ notes) n = pass_hits_le notes n
 pass_hits_le (dropped slot ∷ notes) n = pass_hits_le notes n
 pass_hits_le (metric v ∷ notes) n = pass_hits_le notes n
 pass_hits_le (turned slot tick ∷ notes) n = pass_hits_le notes n

@@ -1,5 +1,5 @@
 ghost use Rattle.std.specs.List.{AllByRecursion};
-ghost use Rattle.std.specs.Prelude.{◌≡◌, ◌+◌, ◌^◌, ◌≤◌, ◌<◌, ◌==◌, if◌then◌else◌, ℕ, true, length, slice_get, slice_index, IfOk};
+ghost use Rattle.std.specs.Prelude.{◌≡◌, ◌+◌, ◌^◌, ◌≤◌, ◌<◌, ◌==◌, if◌then◌else◌, ℕ, true, length, slice_get, slice_index, IfOk, []};
 ghost use Rattle.damon_types.specs.Space.{pages_of};
 ghost use Rattle.damon_types.specs.Span.{spans};
 ghost use Rattle.region_list.specs.Tiling.{Tiling};
@@ -59,8 +59,10 @@ impl Model for Monitor {
 
 impl Monitor {
     /// A monitor before its first pass. Its rows are the division of the setup's ranges, of which
-    /// adjacent ones are joined until there are at most `max`. Takes memory; no other call does.
+    /// adjacent ones are joined until there are at most `max`. Takes memory; no other call does. The
+    /// setup sets no slot, since schemes are not built yet.
     pub fn new(alloc: Global, setup: &Setup) -> Result<Monitor, AllocError>
+        requires no_slots { setup.now.slots.list ≡ [] }
         ensures core { IfOk result (λ m. m.core ≡ opening_core (value_of setup.now)) }
         ensures opening { IfOk result (λ m. Stands m (opening (value_of setup.now))) }
     {
