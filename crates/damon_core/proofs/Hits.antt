@@ -8,9 +8,9 @@ use Rattle.live_commit.specs.declared.phase.Phase.TheVariants.{Idle, Clearing, A
 use Rattle.damon_core.specs.Note.{Note, touched, cleared, checked, finished, voided, set, dropped, metric, turned, is_cleared, is_touched, has_clear, touched_after_clear, hit}
 use Rattle.damon_core.specs.State.{State, row_count}
 use Rattle.damon_core.specs.Event.{IsLoading, load_index, next_hit}
-use Rattle.damon_core.specs.After.{phase_after_clear, phase_after_pass, cleared_at, loaded_at}
+use Rattle.damon_core.specs.After.{phase_cleared, phase_after_pass, cleared_at, loaded_at}
 use Rattle.damon_core.specs.Reached.{Reached}
-use Rattle.damon_core.specs.Kept.{cleared_so_far}
+use Rattle.damon_core.specs.Pass.{cleared_so_far}
 use Rattle.damon_core.specs.Bound.{EachHitRests}
 use Rattle.damon_core.proofs.Keeping.{Keeps, any_result, true_result, reached_keeps}
 use Rattle.damon_core.proofs.Opening.{opening_holds}
@@ -20,10 +20,10 @@ use Rattle.damon_core.proofs.Rows.{RowLaws, HasRows, rows_kept}
 pub record HasClears (s : State) : Type 0 where
   pub each : (k : ℕ) → k < cleared_so_far s.core.phase (row_count s.core) → has_clear s.notes (s.core.ticks + 1) k (slice_index s.core.picks k) ≡ true
 
-cleared_so_far-after_clear : (i k rows : ℕ) → k < cleared_so_far (phase_after_clear i rows) rows → k ≤ i
+cleared_so_far-after_clear : (i k rows : ℕ) → k < cleared_so_far (phase_cleared (i + 1) rows) rows → k ≤ i
 cleared_so_far-after_clear i k rows below = elim (i + 1 == rows) as (λ b. (i + 1 == rows) ≡ b → k ≤ i) [
-  | true ↦ λ is. (let e : phase_after_clear i rows ≡ Armed = rw is refl in let all : k < rows = subst (λ ph. k < cleared_so_far ph rows) e below in grind (arith, nat_tests))
-  | false ↦ λ isnt. (let e : phase_after_clear i rows ≡ Clearing (i + 1) = rw isnt refl in let some : k < i + 1 = subst (λ ph. k < cleared_so_far ph rows) e below in omega arith)
+  | true ↦ λ is. (let e : phase_cleared (i + 1) rows ≡ Armed = rw is refl in let all : k < rows = subst (λ ph. k < cleared_so_far ph rows) e below in grind (arith, nat_tests))
+  | false ↦ λ isnt. (let e : phase_cleared (i + 1) rows ≡ Clearing (i + 1) = rw isnt refl in let some : k < i + 1 = subst (λ ph. k < cleared_so_far ph rows) e below in omega arith)
 ] refl
 
 cleared_so_far-after_pass : (since aggr rows k : ℕ) → k < cleared_so_far (phase_after_pass since aggr) rows → ⊥

@@ -13,8 +13,9 @@ use Rattle.live_commit.specs.Setup.{SetupValue}
 use Rattle.damon_core.specs.Note.{Note, touched, cleared, checked, finished, voided, set, dropped, metric, turned, clears_of, checks_of}
 use Rattle.damon_core.specs.State.{State, row_count, opening, opening_notes}
 use Rattle.damon_core.specs.Event.{IsLoading, load_index}
-use Rattle.damon_core.specs.After.{phase_after_clear, phase_after_pass, prepared_core, cleared_at, loaded_at, finished_pass, voided_pass}
-use Rattle.damon_core.specs.Kept.{IsWithin, loaded_so_far}
+use Rattle.damon_core.specs.After.{phase_cleared, phase_after_pass, prepared_core, cleared_at, loaded_at, finished_pass, voided_pass}
+use Rattle.damon_core.specs.Kept.{loaded_so_far}
+use Rattle.damon_core.specs.Pass.{IsPickWithin}
 use Rattle.damon_core.specs.Bound.{OneInEach, EachPassChecks}
 use Rattle.damon_core.proofs.Keeping.{Keeps}
 use Rattle.damon_core.proofs.Opening.{opening_holds}
@@ -126,20 +127,20 @@ checks_of-here notes n k p h = let e : (n == n) ≡ true = grind (arith, nat_tes
 checks_of-other : (notes : List Note) (n k p : ℕ) (h : Bool) (m : ℕ) → (n ≡ m → ⊥) → checks_of (checked n k p h ∷ notes) m ≡ checks_of notes m
 checks_of-other notes n k p h m other = let e : (n == m) ≡ false = grind (arith, nat_tests) in rw e refl
 
-PicksLie-after_clear : (k rows : ℕ) (picks : List ℕ) (ss : List Span) → OneInEach picks ss → PicksLie (phase_after_clear k rows) picks ss
-PicksLie-after_clear k rows picks ss one = elim (k + 1 == rows) as (λ b. (k + 1 == rows) ≡ b → PicksLie (phase_after_clear k rows) picks ss) [ true ↦ λ is. rw is one | false ↦ λ isnt. rw isnt one ] refl
+PicksLie-after_clear : (k rows : ℕ) (picks : List ℕ) (ss : List Span) → OneInEach picks ss → PicksLie (phase_cleared (k + 1) rows) picks ss
+PicksLie-after_clear k rows picks ss one = elim (k + 1 == rows) as (λ b. (k + 1 == rows) ≡ b → PicksLie (phase_cleared (k + 1) rows) picks ss) [ true ↦ λ is. rw is one | false ↦ λ isnt. rw isnt one ] refl
 
 PicksLie-after_pass : (since aggr : ℕ) (picks : List ℕ) (ss : List Span) → PicksLie (phase_after_pass since aggr) picks ss
 PicksLie-after_pass since aggr picks ss = elim (nat_le aggr since) as (λ b. (nat_le aggr since) ≡ b → PicksLie (phase_after_pass since aggr) picks ss) [ true ↦ λ is. rw is tt | false ↦ λ isnt. rw isnt tt ] refl
 
-loaded_so_far-after_clear : (k rows : ℕ) → loaded_so_far (phase_after_clear k rows) ≡ 0
-loaded_so_far-after_clear k rows = elim (k + 1 == rows) as (λ b. (k + 1 == rows) ≡ b → loaded_so_far (phase_after_clear k rows) ≡ 0) [ true ↦ λ is. rw is refl | false ↦ λ isnt. rw isnt refl ] refl
+loaded_so_far-after_clear : (k rows : ℕ) → loaded_so_far (phase_cleared (k + 1) rows) ≡ 0
+loaded_so_far-after_clear k rows = elim (k + 1 == rows) as (λ b. (k + 1 == rows) ≡ b → loaded_so_far (phase_cleared (k + 1) rows) ≡ 0) [ true ↦ λ is. rw is refl | false ↦ λ isnt. rw isnt refl ] refl
 
 loaded_so_far-after_pass : (since aggr : ℕ) → loaded_so_far (phase_after_pass since aggr) ≡ 0
 loaded_so_far-after_pass since aggr = elim (nat_le aggr since) as (λ b. (nat_le aggr since) ≡ b → loaded_so_far (phase_after_pass since aggr) ≡ 0) [ true ↦ λ is. rw is refl | false ↦ λ isnt. rw isnt refl ] refl
 
-ClearsAre-after_clear : (k rows : ℕ) (picks : List ℕ) (old new : List (ℕ × ℕ)) → k < rows → length picks ≡ rows → old ≡ enumerate_from 0 (take k picks) → new ≡ old ++ (k, slice_index picks k) ∷ [] → ClearsAre (phase_after_clear k rows) picks new
-ClearsAre-after_clear k rows picks old new below count is more = elim (k + 1 == rows) as (λ b. (k + 1 == rows) ≡ b → ClearsAre (phase_after_clear k rows) picks new) [
+ClearsAre-after_clear : (k rows : ℕ) (picks : List ℕ) (old new : List (ℕ × ℕ)) → k < rows → length picks ≡ rows → old ≡ enumerate_from 0 (take k picks) → new ≡ old ++ (k, slice_index picks k) ∷ [] → ClearsAre (phase_cleared (k + 1) rows) picks new
+ClearsAre-after_clear k rows picks old new below count is more = elim (k + 1 == rows) as (λ b. (k + 1 == rows) ≡ b → ClearsAre (phase_cleared (k + 1) rows) picks new) [
   | true ↦ λ all. (let e : new ≡ enumerate_from 0 picks = now ∙ ap (λ (ps : List ℕ). enumerate_from 0 ps) (take_all (k + 1) picks (grind (arith, nat_tests))) in rw all e)
   | false ↦ λ some. rw some now
 ] refl
@@ -213,7 +214,7 @@ passes_clear s k is rows h =
     let page : ℕ = slice_index s.core.picks k in
     let ss = spans s.core.regions.rows in
     let lie : OneInEach s.core.picks ss = subst (λ (ph : Phase). PicksLie ph s.core.picks ss) is h.picks in
-    let below : k < row_count s.core = subst (λ (ph : Phase). IsWithin ph (row_count s.core)) is h.rows.within in
+    let below : k < row_count s.core = subst (λ (ph : Phase). IsPickWithin ph (row_count s.core)) is h.rows.within in
     let count : length s.core.picks ≡ row_count s.core = length-from_OneInEach s.core.picks ss lie ∙ length-map s.core.regions.rows span_of in
     let so_far = subst (λ (ph : Phase). ClearsAre ph s.core.picks (clears_of s.notes pass)) is h.clears in
     record {

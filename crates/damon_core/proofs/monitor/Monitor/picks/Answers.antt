@@ -2,7 +2,7 @@ use Rattle.std.proofs.Common.{◌≡◌, ◌<◌, ℕ, true, sym, subst}
 use Rattle.damon_core.specs.Note.{is_cleared}
 use Rattle.damon_core.specs.State.{Core, row_count}
 use Rattle.std.specs.Prelude.{slice_index}
-use Rattle.damon_core.specs.Kept.{cleared_so_far}
+use Rattle.damon_core.specs.Pass.{cleared_so_far}
 use Rattle.damon_core.proofs.Hits.{reached_cleared}
 use Rattle.damon_core.proofs.monitor.Monitor.picks.Goals as goal
 
