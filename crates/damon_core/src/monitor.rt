@@ -140,7 +140,8 @@ impl Monitor {
         ensures pages { result.now.pages ≡ self.now.core.picks }
         ensures bits { result.now.bits ≡ self.now.bits }
 
-        // A pass under way has a pick for each row.
+        // A pass under way has a pick for each row, which is a page of the space.
+        ensures each { IsInPass self.now.core.phase → length self.now.core.picks ≡ row_count self.now.core }
         ensures inside {
             IsInPass self.now.core.phase
                 → (k : ℕ) → k < row_count self.now.core
