@@ -129,8 +129,3 @@ pub counts-raised : (since : ℕ) (bits : List Bool) (rows : List Row) → AllBy
 counts-raised since [] rows all = weaker since rows all
 counts-raised since (b ∷ bits) [] all = tt
 counts-raised since (b ∷ bits) (r ∷ rows) all = (one_more b r.count since all.0, counts-raised since bits rows all.1)
-
--- counts within so many passes can be raised
-pub counts_small : (since : ℕ) (rows : List Row) → since ≤ 1000 → AllByRecursion (λ r. r.count ≤ since) rows → AllByRecursion (λ r. r.count + 1 < 2 ^ 32) rows
-counts_small since [] few all = tt
-counts_small since (r ∷ rows) few all = (omega (arith, all.0), counts_small since rows few all.1)

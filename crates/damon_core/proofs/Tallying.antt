@@ -96,9 +96,6 @@ keeps_tally = record {
   voiding = λ s is tallied. record { this_pass = tallied.later (s.core.ticks + 1 + 1) (omega arith) ∙ sym (loaded_so_far-phase_after_pass (s.core.since + 1) s.core.attrs.aggr); later = λ n above. tallied.later n (omega arith) };
 }
 
-pub reached_tallied : (s : State) → Reached s → IsTallied s
-reached_tallied = reached_keeps IsTallied keeps_tally
-
 one_more : (b hit : Bool) (x y : ℕ) → x ≤ y → cond (b && hit) 1 0 + x ≤ cond b 1 0 + y
 one_more true true x y le = omega arith
 one_more true false x y le = omega arith

@@ -281,12 +281,3 @@ loading_kept (Clearing k) rows loading = absurd loading
 loading_kept Idle rows loading = absurd loading
 loading_kept Void rows loading = absurd loading
 loading_kept Due rows loading = absurd loading
-
--- as many loads come next as rows are left
-pub loads_of_kind : (ph : Phase) (rows : ℕ) → IsLoading ph rows → steps_of_kind ph rows ≡ rows - load_index ph
-loads_of_kind Armed rows loading = omega arith
-loads_of_kind (Checking k) rows loading = omega (arith, loading)
-loads_of_kind (Clearing k) rows loading = absurd loading
-loads_of_kind Idle rows loading = absurd loading
-loads_of_kind Void rows loading = absurd loading
-loads_of_kind Due rows loading = absurd loading

@@ -22,7 +22,3 @@ events_append (suc n) k m =
     let e = next_event m.state m.stream in
     let one : suc n + k ≡ suc (n + k) = omega arith in
     ap (λ i. events_of_steps i m) one ∙ ap (λ es. e ∷ es) (events_append n k (moved m e))
-
--- the moment after steps and those that follow
-pub stepped_append : (n k : ℕ) (m : Moment) → stepped_times (n + k) m ≡ stepped_times k (stepped_times n m)
-stepped_append n k m = ap (along m) (events_append n k m) ∙ along-append m (events_of_steps n m) (events_of_steps k (stepped_times n m))

@@ -41,23 +41,6 @@ event_in-load Idle s stream fits = absurd fits
 event_in-load Void s stream fits = absurd fits
 event_in-load Due s stream fits = absurd fits
 
-tells_load : (ph : Phase) (s : State) → IsLoading ph (row_count s.core) → Tells ph s (Loaded (load_page s) (next_hit s))
-tells_load Armed s fits = refl
-tells_load (Checking k) s fits = sym (ap (λ b. cond b (Observed false) (Loaded (load_page s) (next_hit s))) (not_last k (row_count s.core) fits))
-tells_load (Clearing k) s fits = absurd fits
-tells_load Idle s fits = absurd fits
-tells_load Void s fits = absurd fits
-tells_load Due s fits = absurd fits
-
--- each pick is cleared before the loads
-cleared_before_load : (ph : Phase) (rows : ℕ) → IsLoading ph rows → cleared_so_far ph rows ≡ rows
-cleared_before_load Armed rows fits = refl
-cleared_before_load (Checking k) rows fits = refl
-cleared_before_load (Clearing k) rows fits = absurd fits
-cleared_before_load Idle rows fits = absurd fits
-cleared_before_load Void rows fits = absurd fits
-cleared_before_load Due rows fits = absurd fits
-
 -- a load or the end of a pass leaves the words of the pages
 pub word_of-by_load : (ph : Phase) (s : State) (h : Bool) (p : ℕ) → word_of (by_load ph h s).notes p ≡ word_of s.notes p
 word_of-by_load Armed s h p = refl
@@ -82,32 +65,6 @@ event_in-observe Armed s stream fits = absurd fits
 event_in-observe (Clearing k) s stream fits = absurd fits
 event_in-observe Idle s stream fits = absurd fits
 event_in-observe Due s stream fits = absurd fits
-
--- what the next step tells, by the phase that the monitor shows
-pub tells_prepare : (m : MonitorView) (s : State) → Stands m s → m.core.phase ≡ Idle → Tells s.core.phase s Prepared
-tells_prepare m s stands idle = subst (λ ph. Tells ph s Prepared) (sym (phase_of m s stands ∙ idle)) refl
-
-pub tells_clear : (m : MonitorView) (s : State) (k page : ℕ) → Stands m s → m.core.phase ≡ Clearing k → slice_get m.core.picks k ≡ Some page → Tells s.core.phase s (Cleared page)
-tells_clear m s k page stands clearing picked =
-    let page_is : slice_index s.core.picks k ≡ page = ap (λ (c : Core). slice_index c.picks k) (sym stands.same) ∙ get_or_from_slice_get m.core.picks k page 0 picked in
-    subst (λ ph. Tells ph s (Cleared page)) (sym (phase_of m s stands ∙ clearing)) (ap (λ p. Cleared p) (sym page_is))
-
-pub tells_loaded : {R : Type 0} (w : WorldView R) (s : State) (i page n : ℕ) (h : Bool) → Reached s → StandsFor w s → IsLoading w.monitor.core.phase (row_count w.monitor.core) → i < row_count w.monitor.core → i ≡ load_index w.monitor.core.phase → slice_get w.monitor.core.picks i ≡ Some page → page < pages_of w.monitor.core.space → n ≡ slice_index w.words page → h ≡ (n % 2 == 1) → ((t : State) → Reached t → Stands w.monitor t → i < cleared_so_far w.monitor.core.phase (row_count w.monitor.core) → is_cleared t.notes page ≡ true) → Tells s.core.phase s (Loaded page h)
-tells_loaded w s i page n h reached stands fits below index picked inside word bit ready =
-    let m = w.monitor in
-    let loading : IsLoading s.core.phase (row_count s.core) = subst (λ (c : Core). IsLoading c.phase (row_count c)) stands.monitor.same fits in
-    let cleared : i < cleared_so_far m.core.phase (row_count m.core) = omega (arith, below, cleared_before_load m.core.phase (row_count m.core) fits) in
-    let page_is : page ≡ load_page s = sym (get_or_from_slice_get m.core.picks i page 0 picked) ∙ ap (λ j. slice_index m.core.picks j) index ∙ ap (λ (c : Core). slice_index c.picks (load_index c.phase)) stands.monitor.same in
-    let hit_is : h ≡ next_hit s = bit ∙ lowest_is_hit s.notes page n (word ∙ stands.words page inside) (ready s reached stands.monitor cleared) ∙ ap (λ p. hit s.notes p) page_is in
-    subst (λ p. Tells s.core.phase s (Loaded p h)) (sym page_is) (subst (λ b. Tells s.core.phase s (Loaded (load_page s) b)) (sym hit_is) (tells_load s.core.phase s loading))
-
-pub tells_observed : (m : MonitorView) (s : State) (k : ℕ) → Stands m s → m.core.phase ≡ Checking k → k ≡ row_count m.core → Tells s.core.phase s (Observed false)
-tells_observed m s k stands checking last =
-    let all : k ≡ row_count s.core = last ∙ ap row_count stands.same in
-    subst (λ ph. Tells ph s (Observed false)) (sym (phase_of m s stands ∙ checking)) (sym (ap (λ b. cond b (Observed false) (Loaded (load_page s) (next_hit s))) (is_last k (row_count s.core) all)))
-
-pub tells_void : (m : MonitorView) (s : State) → Stands m s → m.core.phase ≡ Void → Tells s.core.phase s (Observed true)
-tells_void m s stands void = subst (λ ph. Tells ph s (Observed true)) (sym (phase_of m s stands ∙ void)) refl
 
 -- one step, from the event that comes next at each moment
 one_step : {R : Type 0} (stream : R → Stream) (old new : WorldView R) → ((x : Moment) → Reached x.state → StandsAt stream old x → (e : Event) × (next_event x.state x.stream ≡ e) × (AllFit x.state (e ∷ []) × StandsAt stream new (moved x e))) → new.monitor.core.ticks ≤ old.monitor.core.ticks + 1 → new.monitor.core.space ≡ old.monitor.core.space → IsAdvance stream old new 1

@@ -29,7 +29,7 @@ pub enum Stepped {
     Prepared,
     /// The accessed mark of the page was cleared.
     Cleared { page: u32 },
-    /// The accessed mark of the page was looked at: it was accessed since its clear, or not.
+    /// The accessed mark of the page was checked: it was accessed since its clear, or not.
     Loaded { page: u32, hit: bool },
     /// The pass was observed, as a void one or not.
     Observed { void: bool },
@@ -40,7 +40,7 @@ pub enum Stepped {
 pub struct World<R: Rng> {
     monitor: Monitor,
     words: PlainWords,
-    // The random words of a step, in room that is taken once.
+    // The random words of a step; the room for them is taken once.
     drawn: Vec<u32>,
     source: R,
 }
@@ -85,8 +85,8 @@ impl<R: Rng + Drop> World<R> {
         &self.monitor
     }
 
-    /// Touches a page of the space, and gives the tag: the pass that cleared the page last, 0 where
-    /// none did.
+    /// Touches a page of the space, and returns the tag: the pass that cleared the page last, 0 if none
+    /// did.
     pub fn touch(&mut self, page: u32) -> u64
         requires { page < pages_of self.old.monitor.core.space }
         ensures tag { result ≡ slice_index self.old.words page / 2 }
@@ -114,7 +114,9 @@ impl<R: Rng + Drop> World<R> {
         requires not_due { self.old.monitor.core.phase ≢ Phase.Due }
         requires ticks { self.old.monitor.core.ticks < 2 ^ 40 }
         ensures plays { Plays R.stream self.old self.new (λ m. next_event m.state m.stream ∷ []) }
-        ensures told { (s : State) → Reached s → StandsFor self.old s → Tells s.core.phase s result }
+        ensures told {
+            (s : State) → Reached s → StandsFor self.old s → Tells s.core.phase s result
+        }
 
         // What a caller needs for the next step.
         ensures passes { self.new.monitor.core.ticks ≤ self.old.monitor.core.ticks + 1 }
@@ -133,11 +135,15 @@ impl<R: Rng + Drop> World<R> {
         requires not_due { self.old.monitor.core.phase ≢ Phase.Due }
         requires ticks { self.old.monitor.core.ticks < 2 ^ 40 }
         ensures count {
-            result ≡ min most (steps_of_kind self.old.monitor.core.phase (row_count self.old.monitor.core))
+            result
+                ≡ min most
+                    (steps_of_kind self.old.monitor.core.phase (row_count self.old.monitor.core))
         }
         ensures some { 1 ≤ result }
         ensures plays { Plays R.stream self.old self.new (λ m. events_of_steps result m) }
-        ensures amid { (m : Moment) → Reached m.state → StandsAt R.stream self.old m → AreAmid result m }
+        ensures amid {
+            (m : Moment) → Reached m.state → StandsAt R.stream self.old m → AreAmid result m
+        }
 
         // What a caller needs for the next steps.
         ensures passes { self.new.monitor.core.ticks ≤ self.old.monitor.core.ticks + 1 }
@@ -210,7 +216,7 @@ impl<R: Rng + Drop> World<R> {
         // For its clauses alone: each pick is a page of the space.
         let _picks = self.monitor.picks();
         let count = at_most(self.monitor.rows().len() - next, most);
-        clear_words(&self.monitor, next, count, &mut self.words);
+        clear_words(&self.monitor, next, next + count, &mut self.words);
         self.monitor.cleared_next(count);
         u64::from(count)
     }
@@ -250,21 +256,21 @@ fn at_most(count: u32, most: u64) -> u32
     u64::from(count).min(most) as u32
 }
 
-// Clears the words of the `count` picks of the pass under way that begin with pick `from`.
-fn clear_words(monitor: &Monitor, from: u32, count: u32, words: &mut PlainWords)
+// Clears the words of the picks of the pass under way from pick `from` to before pick `to`.
+fn clear_words(monitor: &Monitor, from: u32, to: u32, words: &mut PlainWords)
     requires pass { IsInPass monitor.now.core.phase }
-    requires within { from + count ≤ row_count monitor.now.core }
+    requires order { from ≤ to }
+    requires within { to ≤ row_count monitor.now.core }
     requires each { length words.old ≡ pages_of monitor.now.core.space }
     requires ticks { monitor.now.core.ticks < 2 ^ 40 }
     ensures {
         words.new
-            ≡ cleared_words monitor.now.core.picks from count (2 * (monitor.now.core.ticks + 1)) words.old
+            ≡ cleared_words monitor.now.core.picks from (to - from)
+                (2 * (monitor.now.core.ticks + 1)) words.old
     }
 {
-    // For its clauses alone: the number of rows is a u32.
-    let _rows = monitor.rows().len();
     let pass = monitor.ticks() + 1;
-    for next in from..from + count {
+    for next in from..to {
         words.clear(monitor.pick(next), pass);
     }
 }

@@ -38,12 +38,3 @@ loaded_bits_more marks picks from n bits below each =
     let more : n + 1 ≡ suc n = omega arith in
     ap (λ k. take from bits ++ map (mark_of marks) (take k (drop from picks)) ++ drop (from + (n + 1)) bits) more
     ∙ bits_more (mark_of marks) picks bits from n (from + n) (from + (n + 1)) refl (omega arith) below each
-
--- no pick
-pub no_bits : (marks : List Bool) (picks : List ℕ) (from : ℕ) (bits : List Bool) → loaded_bits marks picks from 0 bits ≡ bits
-no_bits marks picks from bits = let none : from + 0 ≡ from = omega arith in rw none (ap (λ bs. bs ++ drop from bits) (append-nil (take from bits)) ∙ rejoined from bits)
-  where
-    rejoined : (i : ℕ) (bs : List Bool) → take i bs ++ drop i bs ≡ bs
-    rejoined zero bs = refl
-    rejoined (suc i) [] = refl
-    rejoined (suc i) (b ∷ bs) = ap (λ xs. b ∷ xs) (rejoined i bs)

@@ -1,4 +1,4 @@
-use Rattle.std.proofs.Common.{◌≡◌, ◌+◌, ◌*◌, ◌≤◌, ◌<◌, ℕ, List, length, ap, sym, subst, ◌∙◌, arith}
+use Rattle.std.proofs.Common.{◌≡◌, ◌+◌, ◌-◌, ◌*◌, ◌≤◌, ◌<◌, ℕ, List, length, ap, sym, subst, ◌∙◌, arith}
 use Rattle.region_list.specs.Regions.{RegionList}
 use Rattle.damon_types.specs.Space.{pages_of}
 use Rattle.live_commit.specs.declared.phase.Phase.TheVariants.{Clearing}
@@ -6,6 +6,7 @@ use Rattle.damon_core.specs.Pass.{IsInPass}
 use Rattle.damon_core.specs.State.{Core, row_count}
 use Rattle.damon_world.specs.Stands.{WorldView}
 use Rattle.damon_world.specs.Kept.{IsAdvance}
+use Rattle.damon_world.specs.Words.{cleared_words}
 use Rattle.damon_world.proofs.Advancing.{clears_advance, length-cleared_words}
 use Rattle.damon_world.proofs.world.World.clear_picks.Goals as goal
 
@@ -14,7 +15,7 @@ invariant_of-self g c =
     let m = c.self.inside.monitor in
     let shown = c.cleared_next.ensures.core in
     record {
-      each = ap length c.clear_words.ensures ∙ length-cleared_words m.core.picks c.args.next c.at_most-count.result (2 * (m.core.ticks + 1)) c.self.inside.words ∙ c.self.invariant.each ∙ ap (λ (x : Core). pages_of x.space) (sym shown);
+      each = ap length c.clear_words.ensures ∙ length-cleared_words m.core.picks c.args.next (c.args.next + c.at_most-count.result - c.args.next) (2 * (m.core.ticks + 1)) c.self.inside.words ∙ c.self.invariant.each ∙ ap (λ (x : Core). pages_of x.space) (sym shown);
       room = omega (arith, c.self.invariant.room, ap (λ (x : Core). x.regions.cap) shown);
     }
 
@@ -31,8 +32,10 @@ returns-clause-advance g c =
     let within : k + n ≤ row_count m.core = omega (arith, c.at_most-count.ensures, rows, below) in
     let inside_space = c.picks-picks.ensures.inside (subst IsInPass (sym clearing) tt) in
     let made = clears_advance stream m c.cleared_next.new.self inside.words inside.source k n clearing below within c.cleared_next.ensures.core c.cleared_next.ensures.events c.self.invariant.each inside_space in
+    let count : k + n - k ≡ n = omega arith in
+    let words = c.clear_words.ensures ∙ ap (λ j. cleared_words m.core.picks k j (2 * (m.core.ticks + 1)) inside.words) count in
     let old : WorldView g.row.R.Denot = record { monitor = m; words = inside.words; source = inside.source } in
     let new : List ℕ → WorldView g.row.R.Denot = λ ws. record { monitor = c.cleared_next.new.self; words = ws; source = inside.source } in
     subst (λ x. IsAdvance stream x (new c.clear_words.new.words) c.from.result) c.self.view_is
     (subst (λ j. IsAdvance stream old (new c.clear_words.new.words) j) (sym c.from.ensures)
-    (subst (λ ws. IsAdvance stream old (new ws) n) (sym c.clear_words.ensures) made))
+    (subst (λ ws. IsAdvance stream old (new ws) n) (sym words) made))
