@@ -12,4 +12,4 @@ pub reached_bound : RowLaws → (s : State) → ReachedByHit s → Bound s
 reached_bound laws s reached =
     let passes = reached_keeps HasPasses (passes_kept any_result laws) s (reached_of s reached) in
     let hits = reached_by_hit_keeps HasHits (hits_kept laws) s reached in
-    record { tiles = passes.rows.tiles; few = passes.rows.few; most = passes.rows.most; passes = passes.passes; hits = hits.rests }
+    record { tiles = passes.rows.tiles; few = passes.rows.few; max = passes.rows.max; most = passes.rows.most; passes = passes.passes; hits = hits.rests }

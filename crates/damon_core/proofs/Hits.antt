@@ -5,24 +5,25 @@ use Rattle.std.proofs.lemmas.Bool.{cases_eq, or_cases, or_left, or_right, and_pa
 use Rattle.std.proofs.lemmas.Bool.Decides.{nat_tests}
 use Rattle.live_commit.specs.declared.phase.Phase.{Phase}
 use Rattle.live_commit.specs.declared.phase.Phase.TheVariants.{Idle, Clearing, Armed, Checking, Void, Due}
-use Rattle.damon_core.specs.Note.{Note, touched, cleared, checked, finished, voided, dropped, metric, turned, is_cleared, is_touched, has_clear, touched_after_clear, hit}
+use Rattle.damon_core.specs.Note.{Note, touched, cleared, checked, finished, voided, set, dropped, metric, turned, is_cleared, is_touched, has_clear, touched_after_clear, hit}
 use Rattle.damon_core.specs.State.{State, row_count}
 use Rattle.damon_core.specs.Event.{IsLoading, load_index, next_hit}
-use Rattle.damon_core.specs.After.{phase_after_clear, phase_after_pass, cleared_at, loaded_at}
+use Rattle.damon_core.specs.After.{phase_cleared, phase_after_pass, cleared_at, loaded_at}
 use Rattle.damon_core.specs.Reached.{Reached}
-use Rattle.damon_core.specs.Kept.{cleared_so_far}
+use Rattle.damon_core.specs.Pass.{cleared_so_far}
 use Rattle.damon_core.specs.Bound.{EachHitRests}
 use Rattle.damon_core.proofs.Keeping.{Keeps, any_result, true_result, reached_keeps}
+use Rattle.damon_core.proofs.Opening.{opening_holds}
 use Rattle.damon_core.proofs.Rows.{RowLaws, HasRows, rows_kept}
 
 -- the pass has cleared each pick before the one that comes next
 pub record HasClears (s : State) : Type 0 where
   pub each : (k : ℕ) → k < cleared_so_far s.core.phase (row_count s.core) → has_clear s.notes (s.core.ticks + 1) k (slice_index s.core.picks k) ≡ true
 
-cleared_so_far-after_clear : (i k rows : ℕ) → k < cleared_so_far (phase_after_clear i rows) rows → k ≤ i
+cleared_so_far-after_clear : (i k rows : ℕ) → k < cleared_so_far (phase_cleared (i + 1) rows) rows → k ≤ i
 cleared_so_far-after_clear i k rows below = elim (i + 1 == rows) as (λ b. (i + 1 == rows) ≡ b → k ≤ i) [
-  | true ↦ λ is. (let e : phase_after_clear i rows ≡ Armed = rw is refl in let all : k < rows = subst (λ ph. k < cleared_so_far ph rows) e below in grind (arith, nat_tests))
-  | false ↦ λ isnt. (let e : phase_after_clear i rows ≡ Clearing (i + 1) = rw isnt refl in let some : k < i + 1 = subst (λ ph. k < cleared_so_far ph rows) e below in omega arith)
+  | true ↦ λ is. (let e : phase_cleared (i + 1) rows ≡ Armed = rw is refl in let all : k < rows = subst (λ ph. k < cleared_so_far ph rows) e below in grind (arith, nat_tests))
+  | false ↦ λ isnt. (let e : phase_cleared (i + 1) rows ≡ Clearing (i + 1) = rw isnt refl in let some : k < i + 1 = subst (λ ph. k < cleared_so_far ph rows) e below in omega arith)
 ] refl
 
 cleared_so_far-after_pass : (since aggr rows k : ℕ) → k < cleared_so_far (phase_after_pass since aggr) rows → ⊥
@@ -78,6 +79,7 @@ is_cleared-from_has_clear (touched q ∷ notes) n k p has = is_cleared-from_has_
 is_cleared-from_has_clear (checked m j q h ∷ notes) n k p has = is_cleared-from_has_clear notes n k p has
 is_cleared-from_has_clear (finished m rows ∷ notes) n k p has = is_cleared-from_has_clear notes n k p has
 is_cleared-from_has_clear (voided m ∷ notes) n k p has = is_cleared-from_has_clear notes n k p has
+is_cleared-from_has_clear (set m x ∷ notes) n k p has = is_cleared-from_has_clear notes n k p has
 is_cleared-from_has_clear (dropped m ∷ notes) n k p has = is_cleared-from_has_clear notes n k p has
 is_cleared-from_has_clear (metric m ∷ notes) n k p has = is_cleared-from_has_clear notes n k p has
 is_cleared-from_has_clear (turned m t ∷ notes) n k p has = is_cleared-from_has_clear notes n k p has
@@ -107,6 +109,7 @@ touched_after_clear-from_is_touched (cleared m j q ∷ notes) n k p is has =
 touched_after_clear-from_is_touched (checked m j q h ∷ notes) n k p is has = touched_after_clear-from_is_touched notes n k p is has
 touched_after_clear-from_is_touched (finished m rows ∷ notes) n k p is has = touched_after_clear-from_is_touched notes n k p is has
 touched_after_clear-from_is_touched (voided m ∷ notes) n k p is has = touched_after_clear-from_is_touched notes n k p is has
+touched_after_clear-from_is_touched (set m x ∷ notes) n k p is has = touched_after_clear-from_is_touched notes n k p is has
 touched_after_clear-from_is_touched (dropped m ∷ notes) n k p is has = touched_after_clear-from_is_touched notes n k p is has
 touched_after_clear-from_is_touched (metric m ∷ notes) n k p is has = touched_after_clear-from_is_touched notes n k p is has
 touched_after_clear-from_is_touched (turned m t ∷ notes) n k p is has = touched_after_clear-from_is_touched notes n k p is has
@@ -144,7 +147,7 @@ load_rests s k hit fits is known h = EachHitRests-after_check s.notes (s.core.ti
 -- each step keeps the hits, where the results of loads are those of their pages
 pub hits_kept : RowLaws → Keeps true_result HasHits
 hits_kept laws = let rows = rows_kept true_result laws in let clears = clears_kept true_result in record {
-  opens = λ v can. record { rows = rows.opens v can; clears = clears.opens v can; rests = tt };
+  opens = λ v can. record { rows = rows.opens v can; clears = clears.opens v can; rests = opening_holds EachHitRests tt (λ slot scheme notes rests. rests) v };
   touching = λ s p h. record { rows = rows.touching s p h.rows; clears = clears.touching s p h.clears; rests = h.rests };
   preparing = λ s ws idle count h. record { rows = rows.preparing s ws idle count h.rows; clears = clears.preparing s ws idle count h.clears; rests = h.rests };
   clearing = λ s k is h. record { rows = rows.clearing s k is h.rows; clears = clears.clearing s k is h.clears; rests = h.rests };

@@ -1,7 +1,10 @@
+pub mod Opening
 pub mod Keeping
+pub mod Shown
 pub mod Tallying
 pub mod Standing
 pub mod Running
+pub mod Counting
 pub mod RowFacts
 pub mod Between
 pub mod Rows

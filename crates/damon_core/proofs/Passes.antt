@@ -10,13 +10,15 @@ use Rattle.sampler.specs.Pick.{picks_of}
 use Rattle.live_commit.specs.declared.phase.Phase.{Phase}
 use Rattle.live_commit.specs.declared.phase.Phase.TheVariants.{Idle, Clearing, Armed, Checking, Void, Due}
 use Rattle.live_commit.specs.Setup.{SetupValue}
-use Rattle.damon_core.specs.Note.{Note, touched, cleared, checked, finished, voided, dropped, metric, turned, clears_of, checks_of}
-use Rattle.damon_core.specs.State.{State, row_count, opening}
+use Rattle.damon_core.specs.Note.{Note, touched, cleared, checked, finished, voided, set, dropped, metric, turned, clears_of, checks_of}
+use Rattle.damon_core.specs.State.{State, row_count, opening, opening_notes}
 use Rattle.damon_core.specs.Event.{IsLoading, load_index}
-use Rattle.damon_core.specs.After.{phase_after_clear, phase_after_pass, prepared_core, cleared_at, loaded_at, finished_pass, voided_pass}
-use Rattle.damon_core.specs.Kept.{IsWithin, loaded_so_far}
+use Rattle.damon_core.specs.After.{phase_cleared, phase_after_pass, prepared_core, cleared_at, loaded_at, finished_pass, voided_pass}
+use Rattle.damon_core.specs.Kept.{loaded_so_far}
+use Rattle.damon_core.specs.Pass.{IsPickWithin}
 use Rattle.damon_core.specs.Bound.{OneInEach, EachPassChecks}
 use Rattle.damon_core.proofs.Keeping.{Keeps}
+use Rattle.damon_core.proofs.Opening.{opening_holds}
 use Rattle.damon_core.proofs.Rows.{RowLaws, HasRows, rows_kept}
 
 enumerate_from-take-suc : (n k j : ℕ) (ps : List ℕ) → k < length ps → n + k ≡ j → enumerate_from n (take (suc k) ps) ≡ enumerate_from n (take k ps) ++ (j, slice_index ps k) ∷ []
@@ -81,6 +83,7 @@ ends_later m n (voided i ∷ notes) low ends = (omega (arith, ends.0), ends_late
 ends_later m n (touched p ∷ notes) low ends = ends_later m n notes low ends
 ends_later m n (cleared i k p ∷ notes) low ends = ends_later m n notes low ends
 ends_later m n (checked i k p h ∷ notes) low ends = ends_later m n notes low ends
+ends_later m n (set i x ∷ notes) low ends = ends_later m n notes low ends
 ends_later m n (dropped i ∷ notes) low ends = ends_later m n notes low ends
 ends_later m n (metric i ∷ notes) low ends = ends_later m n notes low ends
 ends_later m n (turned i t ∷ notes) low ends = ends_later m n notes low ends
@@ -105,6 +108,7 @@ passes_same last old new (voided n ∷ notes) same ends passes = (sym (same.chec
 passes_same last old new (touched p ∷ notes) same ends passes = passes_same last old new notes same ends passes
 passes_same last old new (cleared i k p ∷ notes) same ends passes = passes_same last old new notes same ends passes
 passes_same last old new (checked i k p h ∷ notes) same ends passes = passes_same last old new notes same ends passes
+passes_same last old new (set i x ∷ notes) same ends passes = passes_same last old new notes same ends passes
 passes_same last old new (dropped i ∷ notes) same ends passes = passes_same last old new notes same ends passes
 passes_same last old new (metric i ∷ notes) same ends passes = passes_same last old new notes same ends passes
 passes_same last old new (turned i t ∷ notes) same ends passes = passes_same last old new notes same ends passes
@@ -123,20 +127,20 @@ checks_of-here notes n k p h = let e : (n == n) ≡ true = grind (arith, nat_tes
 checks_of-other : (notes : List Note) (n k p : ℕ) (h : Bool) (m : ℕ) → (n ≡ m → ⊥) → checks_of (checked n k p h ∷ notes) m ≡ checks_of notes m
 checks_of-other notes n k p h m other = let e : (n == m) ≡ false = grind (arith, nat_tests) in rw e refl
 
-PicksLie-after_clear : (k rows : ℕ) (picks : List ℕ) (ss : List Span) → OneInEach picks ss → PicksLie (phase_after_clear k rows) picks ss
-PicksLie-after_clear k rows picks ss one = elim (k + 1 == rows) as (λ b. (k + 1 == rows) ≡ b → PicksLie (phase_after_clear k rows) picks ss) [ true ↦ λ is. rw is one | false ↦ λ isnt. rw isnt one ] refl
+PicksLie-after_clear : (k rows : ℕ) (picks : List ℕ) (ss : List Span) → OneInEach picks ss → PicksLie (phase_cleared (k + 1) rows) picks ss
+PicksLie-after_clear k rows picks ss one = elim (k + 1 == rows) as (λ b. (k + 1 == rows) ≡ b → PicksLie (phase_cleared (k + 1) rows) picks ss) [ true ↦ λ is. rw is one | false ↦ λ isnt. rw isnt one ] refl
 
 PicksLie-after_pass : (since aggr : ℕ) (picks : List ℕ) (ss : List Span) → PicksLie (phase_after_pass since aggr) picks ss
 PicksLie-after_pass since aggr picks ss = elim (nat_le aggr since) as (λ b. (nat_le aggr since) ≡ b → PicksLie (phase_after_pass since aggr) picks ss) [ true ↦ λ is. rw is tt | false ↦ λ isnt. rw isnt tt ] refl
 
-loaded_so_far-after_clear : (k rows : ℕ) → loaded_so_far (phase_after_clear k rows) ≡ 0
-loaded_so_far-after_clear k rows = elim (k + 1 == rows) as (λ b. (k + 1 == rows) ≡ b → loaded_so_far (phase_after_clear k rows) ≡ 0) [ true ↦ λ is. rw is refl | false ↦ λ isnt. rw isnt refl ] refl
+loaded_so_far-after_clear : (k rows : ℕ) → loaded_so_far (phase_cleared (k + 1) rows) ≡ 0
+loaded_so_far-after_clear k rows = elim (k + 1 == rows) as (λ b. (k + 1 == rows) ≡ b → loaded_so_far (phase_cleared (k + 1) rows) ≡ 0) [ true ↦ λ is. rw is refl | false ↦ λ isnt. rw isnt refl ] refl
 
 loaded_so_far-after_pass : (since aggr : ℕ) → loaded_so_far (phase_after_pass since aggr) ≡ 0
 loaded_so_far-after_pass since aggr = elim (nat_le aggr since) as (λ b. (nat_le aggr since) ≡ b → loaded_so_far (phase_after_pass since aggr) ≡ 0) [ true ↦ λ is. rw is refl | false ↦ λ isnt. rw isnt refl ] refl
 
-ClearsAre-after_clear : (k rows : ℕ) (picks : List ℕ) (old new : List (ℕ × ℕ)) → k < rows → length picks ≡ rows → old ≡ enumerate_from 0 (take k picks) → new ≡ old ++ (k, slice_index picks k) ∷ [] → ClearsAre (phase_after_clear k rows) picks new
-ClearsAre-after_clear k rows picks old new below count is more = elim (k + 1 == rows) as (λ b. (k + 1 == rows) ≡ b → ClearsAre (phase_after_clear k rows) picks new) [
+ClearsAre-after_clear : (k rows : ℕ) (picks : List ℕ) (old new : List (ℕ × ℕ)) → k < rows → length picks ≡ rows → old ≡ enumerate_from 0 (take k picks) → new ≡ old ++ (k, slice_index picks k) ∷ [] → ClearsAre (phase_cleared (k + 1) rows) picks new
+ClearsAre-after_clear k rows picks old new below count is more = elim (k + 1 == rows) as (λ b. (k + 1 == rows) ≡ b → ClearsAre (phase_cleared (k + 1) rows) picks new) [
   | true ↦ λ all. (let e : new ≡ enumerate_from 0 picks = now ∙ ap (λ (ps : List ℕ). enumerate_from 0 ps) (take_all (k + 1) picks (grind (arith, nat_tests))) in rw all e)
   | false ↦ λ some. rw some now
 ] refl
@@ -161,16 +165,23 @@ loadable (Clearing k) rows picks ss clears fits lie all = absurd fits
 loadable Void rows picks ss clears fits lie all = absurd fits
 loadable Due rows picks ss clears fits lie all = absurd fits
 
+-- no page is cleared or checked at an opening
+no_clears : (v : SetupValue) (n : ℕ) → clears_of (opening_notes v) n ≡ []
+no_clears v n = opening_holds (λ notes. clears_of notes n ≡ []) refl (λ slot scheme notes none. none) v
+
+no_checks : (v : SetupValue) (n : ℕ) → checks_of (opening_notes v) n ≡ []
+no_checks v n = opening_holds (λ notes. checks_of notes n ≡ []) refl (λ slot scheme notes none. none) v
+
 passes_open : (v : SetupValue) → HasRows (opening v) → HasPasses (opening v)
 passes_open v rows = record {
   rows = rows;
   picks = tt;
-  clears = refl;
-  checks = refl;
-  no_later_clears = λ n later. refl;
-  no_later_checks = λ n later. refl;
-  ends = tt;
-  passes = tt;
+  clears = no_clears v 1;
+  checks = no_checks v 1;
+  no_later_clears = λ n later. no_clears v n;
+  no_later_checks = λ n later. no_checks v n;
+  ends = opening_holds (EndsBy 0) tt (λ slot scheme notes ends. ends) v;
+  passes = opening_holds (EachPassChecks (opening_notes v)) tt (λ slot scheme notes passes. passes) v;
 }
 
 passes_touch : (s : State) (p : ℕ) → HasRows (record s { notes = touched p ∷ s.notes }) → HasPasses s → HasPasses (record s { notes = touched p ∷ s.notes })
@@ -203,7 +214,7 @@ passes_clear s k is rows h =
     let page : ℕ = slice_index s.core.picks k in
     let ss = spans s.core.regions.rows in
     let lie : OneInEach s.core.picks ss = subst (λ (ph : Phase). PicksLie ph s.core.picks ss) is h.picks in
-    let below : k < row_count s.core = subst (λ (ph : Phase). IsWithin ph (row_count s.core)) is h.rows.within in
+    let below : k < row_count s.core = subst (λ (ph : Phase). IsPickWithin ph (row_count s.core)) is h.rows.within in
     let count : length s.core.picks ≡ row_count s.core = length-from_OneInEach s.core.picks ss lie ∙ length-map s.core.regions.rows span_of in
     let so_far = subst (λ (ph : Phase). ClearsAre ph s.core.picks (clears_of s.notes pass)) is h.clears in
     record {

@@ -57,6 +57,12 @@ picks_in n [] ws all = tt
 picks_in n (r ∷ rows) [] all = tt
 picks_in n (r ∷ rows) (w ∷ ws) all = (omega arith, picks_in n rows ws all.1)
 
+-- as many picks as rows
+pub length-picks_of : (rows : List Row) (ws : List ℕ) → length ws ≡ length rows → length (picks_of rows ws) ≡ length rows
+length-picks_of [] ws same = refl
+length-picks_of (r ∷ rows) [] same = absurd (omega arith)
+length-picks_of (r ∷ rows) (w ∷ ws) same = ap suc (length-picks_of rows ws (omega arith))
+
 zero_is_one : (n : ℕ) → n ≡ 0 → n ≡ 1 → ⊥
 zero_is_one n none one = omega arith
 
@@ -114,7 +120,7 @@ one_more : (b : Bool) (n since : ℕ) → n ≤ since → n + cond b 1 0 ≤ sin
 one_more true n since few = omega arith
 one_more false n since few = omega arith
 
-weaker : (since : ℕ) (rows : List Row) → AllByRecursion (λ r. r.count ≤ since) rows → AllByRecursion (λ r. r.count ≤ since + 1) rows
+pub weaker : (since : ℕ) (rows : List Row) → AllByRecursion (λ r. r.count ≤ since) rows → AllByRecursion (λ r. r.count ≤ since + 1) rows
 weaker since [] all = tt
 weaker since (r ∷ rows) all = (omega (arith, all.0), weaker since rows all.1)
 
@@ -123,8 +129,3 @@ pub counts-raised : (since : ℕ) (bits : List Bool) (rows : List Row) → AllBy
 counts-raised since [] rows all = weaker since rows all
 counts-raised since (b ∷ bits) [] all = tt
 counts-raised since (b ∷ bits) (r ∷ rows) all = (one_more b r.count since all.0, counts-raised since bits rows all.1)
-
--- counts within so many passes can be raised
-pub counts_small : (since : ℕ) (rows : List Row) → since ≤ 1000 → AllByRecursion (λ r. r.count ≤ since) rows → AllByRecursion (λ r. r.count + 1 < 2 ^ 32) rows
-counts_small since [] few all = tt
-counts_small since (r ∷ rows) few all = (omega (arith, all.0), counts_small since rows few all.1)

@@ -19,9 +19,9 @@ use Rattle.live_commit.specs.Setup.{SetupValue}
 use Rattle.damon_core.specs.Note.{Note}
 use Rattle.damon_core.specs.State.{State, row_count, opening, opening_rows}
 use Rattle.damon_core.specs.Event.{IsLoading, load_index}
-use Rattle.damon_core.specs.After.{counted_from, phase_after_clear, phase_after_pass}
+use Rattle.damon_core.specs.After.{counted_from, phase_cleared, phase_after_pass}
 use Rattle.damon_core.specs.Reached.{CanOpen}
-use Rattle.damon_core.specs.Kept.{IsWithin}
+use Rattle.damon_core.specs.Pass.{IsPickWithin}
 use Rattle.damon_core.proofs.Keeping.{Keeps}
 use Rattle.damon_core.proofs.RowFacts.{tiling_of_pages}
 
@@ -38,8 +38,9 @@ pub record HasRows (s : State) : Type 0 where
   pub wide : 1 ≤ s.core.regions.unit
   pub some : 0 < row_count s.core
   pub few : row_count s.core ≤ s.core.attrs.max
+  pub max : s.core.regions.max ≡ s.core.attrs.max
   pub most : s.core.attrs.max ≤ s.core.regions.cap
-  pub within : IsWithin s.core.phase (row_count s.core)
+  pub within : IsPickWithin s.core.phase (row_count s.core)
 
 pub spans-counted_from : (k : ℕ) (notes : List Note) (n : ℕ) (rows : List Row) → spans (counted_from k notes n rows) ≡ spans rows
 spans-counted_from k notes n [] = refl
@@ -59,14 +60,14 @@ tiling_some : (unit : ℕ) (gs : List Range) (ss : List Span) → 1 ≤ unit →
 tiling_some unit [] ss some any wide tiling = absurd (omega arith)
 tiling_some unit (g ∷ gs) ss some any wide tiling = omega (arith, ap length tiling.2, length-append tiling.0 tiling.1, chain_some unit g.target g.first (end_of g) tiling.0 (omega (arith, wide.0)) tiling.3)
 
-within_after_clear : (k rows : ℕ) → k < rows → IsWithin (phase_after_clear k rows) rows
-within_after_clear k rows below = elim (k + 1 == rows) as (λ b. (k + 1 == rows) ≡ b → IsWithin (phase_after_clear k rows) rows) [
+within_after_clear : (k rows : ℕ) → k < rows → IsPickWithin (phase_cleared (k + 1) rows) rows
+within_after_clear k rows below = elim (k + 1 == rows) as (λ b. (k + 1 == rows) ≡ b → IsPickWithin (phase_cleared (k + 1) rows) rows) [
   | true ↦ λ is. rw is tt
   | false ↦ λ isnt. (let more : k + 1 < rows = grind (arith, nat_tests) in rw isnt more)
 ] refl
 
-within_after_pass : (since aggr rows : ℕ) → IsWithin (phase_after_pass since aggr) rows
-within_after_pass since aggr rows = elim (nat_le aggr since) as (λ b. (nat_le aggr since) ≡ b → IsWithin (phase_after_pass since aggr) rows) [ true ↦ λ is. rw is tt | false ↦ λ isnt. rw isnt tt ] refl
+within_after_pass : (since aggr rows : ℕ) → IsPickWithin (phase_after_pass since aggr) rows
+within_after_pass since aggr rows = elim (nat_le aggr since) as (λ b. (nat_le aggr since) ≡ b → IsPickWithin (phase_after_pass since aggr) rows) [ true ↦ λ is. rw is tt | false ↦ λ isnt. rw isnt tt ] refl
 
 within_after_load : (ph : Phase) (k rows : ℕ) → 0 < rows → IsLoading ph rows → load_index ph ≡ k → k + 1 ≤ rows
 within_after_load Armed k rows some fits is = omega arith
@@ -90,6 +91,7 @@ rows_open laws v can =
       wide = can.sound.unit_some;
       some = omega (arith, some, length-map rows span_of);
       few = laws.shrunk_few v.attrs.max v.ranges parts can.order pages can.sound.ranges_most;
+      max = refl;
       most = can.sound.max_cap;
       within = tt;
     }
@@ -98,10 +100,10 @@ rows_open laws v can =
 pub rows_kept : (Q : State → Bool → Type 0) → RowLaws → Keeps Q HasRows
 rows_kept Q laws = record {
   opens = rows_open laws;
-  touching = λ s p h. record { tiles = h.tiles; wide = h.wide; some = h.some; few = h.few; most = h.most; within = h.within };
-  preparing = λ s ws idle count h. record { tiles = h.tiles; wide = h.wide; some = h.some; few = h.few; most = h.most; within = h.some };
-  clearing = λ s k is h. record { tiles = h.tiles; wide = h.wide; some = h.some; few = h.few; most = h.most; within = within_after_clear k (row_count s.core) (subst (λ (ph : Phase). IsWithin ph (row_count s.core)) is h.within) };
-  loading = λ s k hit fits is known h. record { tiles = h.tiles; wide = h.wide; some = h.some; few = h.few; most = h.most; within = within_after_load s.core.phase k (row_count s.core) h.some fits is };
+  touching = λ s p h. record { tiles = h.tiles; wide = h.wide; some = h.some; few = h.few; max = h.max; most = h.most; within = h.within };
+  preparing = λ s ws idle count h. record { tiles = h.tiles; wide = h.wide; some = h.some; few = h.few; max = h.max; most = h.most; within = h.some };
+  clearing = λ s k is h. record { tiles = h.tiles; wide = h.wide; some = h.some; few = h.few; max = h.max; most = h.most; within = within_after_clear k (row_count s.core) (subst (λ (ph : Phase). IsPickWithin ph (row_count s.core)) is h.within) };
+  loading = λ s k hit fits is known h. record { tiles = h.tiles; wide = h.wide; some = h.some; few = h.few; max = h.max; most = h.most; within = within_after_load s.core.phase k (row_count s.core) h.some fits is };
   finishing = λ s is h.
       (let same = length-counted_from 0 s.notes (s.core.ticks + 1) s.core.regions.rows in
       let places = spans-counted_from 0 s.notes (s.core.ticks + 1) s.core.regions.rows in
@@ -110,8 +112,9 @@ rows_kept Q laws = record {
         wide = h.wide;
         some = omega (arith, h.some, same);
         few = omega (arith, h.few, same);
+        max = h.max;
         most = h.most;
         within = within_after_pass (s.core.since + 1) s.core.attrs.aggr (length (counted_from 0 s.notes (s.core.ticks + 1) s.core.regions.rows));
       });
-  voiding = λ s is h. record { tiles = h.tiles; wide = h.wide; some = h.some; few = h.few; most = h.most; within = within_after_pass (s.core.since + 1) s.core.attrs.aggr (row_count s.core) };
+  voiding = λ s is h. record { tiles = h.tiles; wide = h.wide; some = h.some; few = h.few; max = h.max; most = h.most; within = within_after_pass (s.core.since + 1) s.core.attrs.aggr (row_count s.core) };
 }

@@ -1,105 +1,69 @@
 -- Events one after another.
-use Rattle.std.proofs.Common.{◌≡◌, ℕ, zero, suc, ◌+◌, ◌<◌, ◌≤◌, Bool, false, List, [], ◌∷◌, ◌++◌, cond, length, set, refl, sym, ap, ◌∙◌, subst, arith}
-use Rattle.std.specs.Prelude.{◌==◌, if◌then◌else◌}
+use Rattle.std.proofs.Common.{◌≡◌, ℕ, zero, suc, ◌+◌, ◌<◌, ◌≤◌, Bool, false, List, [], ◌∷◌, ◌++◌, cond, drop, length, set, take, refl, sym, ap, ◌∙◌, subst, arith}
+use Rattle.std.specs.Prelude.{◌==◌, map, slice_index}
 use Rattle.std.proofs.lemmas.Bool.Decides.{nat_tests}
-use Rattle.std.proofs.lemmas.List.{length-set}
+use Rattle.std.proofs.lemmas.List.{drop_more, length-set}
 use Rattle.live_commit.specs.declared.phase.Phase.{Phase}
 use Rattle.live_commit.specs.declared.phase.Phase.TheVariants.{Idle, Clearing, Armed, Checking, Void, Due}
-use Rattle.damon_core.specs.State.{State, Core, opening, row_count}
-use Rattle.damon_core.specs.Event.{Event, IsClearing, IsLoading, clear, clear_index, load, load_index}
+use Rattle.sampler.specs.Loaded.{loaded_bits, mark_of, next_picks}
+use Rattle.damon_core.specs.State.{Core, row_count}
+use Rattle.damon_core.specs.Event.{IsClearing, IsLoading, clear, clear_index, load, load_index}
 use Rattle.damon_core.specs.Several.{clears, loads}
-use Rattle.sampler.specs.Loaded.{loaded_bits, loaded_hits, mark_at}
-use Rattle.damon_core.specs.After.{after}
-use Rattle.damon_core.specs.Reached.{run, AllFit, Reached}
-use Rattle.damon_core.specs.Stands.{MonitorView, Stands, AreEvents, IsEvent}
-use Rattle.damon_core.specs.Shown.{phase_by_clear, phase_by_clears, after_clear, after_clears, after_load, after_loads}
-use Rattle.damon_core.specs.Kept.{HasPicks, IsWithin}
+use Rattle.damon_core.specs.After.{loaded_core, phase_cleared}
+use Rattle.damon_core.specs.Pass.{IsPickWithin}
+use Rattle.damon_core.specs.Makes.{Makes, Makes-append}
+use Rattle.damon_core.specs.Stands.{MonitorView, Stands}
+use Rattle.damon_core.specs.Kept.{HasPicks, SinceFew}
+use Rattle.damon_core.proofs.Shown.{after_clears, after_load, after_loads}
 use Rattle.damon_core.proofs.Standing.{clear_stands, load_fits, load_stands}
 
-run-append : (s : State) (es fs : List Event) → run s (es ++ fs) ≡ run (run s es) fs
-run-append s [] fs = refl
-run-append s (e ∷ es) fs = run-append (after s e) es fs
-
-AllFit-append : (s : State) (es fs : List Event) → AllFit s es → AllFit (run s es) fs → AllFit s (es ++ fs)
-AllFit-append s [] fs fit more = more
-AllFit-append s (e ∷ es) fs fit more = (fit.0, AllFit-append (after s e) es fs fit.1 more)
-
-Reached-run : (s : State) (es : List Event) → Reached s → AllFit s es → Reached (run s es)
-Reached-run s es reached fit = record {
-  setup = reached.setup;
-  events = reached.events ++ es;
-  can_open = reached.can_open;
-  fit = AllFit-append (opening reached.setup) reached.events es reached.fit (subst (λ t. AllFit t es) (sym reached.is) fit);
-  is = run-append (opening reached.setup) reached.events es ∙ ap (λ t. run t es) reached.is;
-}
-
 -- no event
-pub no_events : (m : MonitorView) → AreEvents m m []
-no_events m s reached stands = (tt, stands)
+makes_none : (m : MonitorView) → Makes Stands m m []
+makes_none m s reached stands = (tt, stands)
 
--- one event more
-pub more_events : (a b c : MonitorView) (es : List Event) (e : Event) → AreEvents a b es → IsEvent b c e → AreEvents a c (es ++ e ∷ [])
-more_events a b c es e before event s reached stands =
-    let first = before s reached stands in
-    let next = event (run s es) (Reached-run s es reached first.0) first.1 in (
-      AllFit-append s es (e ∷ []) first.0 (next.0, tt),
-      subst (Stands c) (sym (run-append s es (e ∷ []))) next.1,
-    )
+not_last : (k rows : ℕ) → k < rows → (k == rows) ≡ false
+not_last k rows below = grind (arith, nat_tests)
 
 -- the phase before a further clear
-clearing_before : (k n rows : ℕ) → k + n < rows → phase_by_clears n (Clearing k) rows ≡ Clearing (k + n)
-clearing_before k n rows below = let e : (k + n == rows) ≡ false = grind (arith, nat_tests) in rw e refl
+clearing_before : (k rows : ℕ) → k < rows → phase_cleared k rows ≡ Clearing k
+clearing_before k rows below = ap (λ b. cond b Armed (Clearing k)) (not_last k rows below)
 
-still_at : (ph : Phase) (n rows : ℕ) → IsClearing ph → clear_index ph + n < rows → IsClearing (phase_by_clears n ph rows)
-still_at (Clearing k) n rows clearing below = subst IsClearing (sym (clearing_before k n rows below)) tt
-still_at Idle n rows clearing below = absurd clearing
-still_at Armed n rows clearing below = absurd clearing
-still_at (Checking k) n rows clearing below = absurd clearing
-still_at Void n rows clearing below = absurd clearing
-still_at Due n rows clearing below = absurd clearing
+-- the pick that is cleared next
+clearing_at : (ph : Phase) → IsClearing ph → Clearing (clear_index ph) ≡ ph
+clearing_at (Clearing k) clearing = refl
+clearing_at Idle clearing = absurd clearing
+clearing_at Armed clearing = absurd clearing
+clearing_at (Checking k) clearing = absurd clearing
+clearing_at Void clearing = absurd clearing
+clearing_at Due clearing = absurd clearing
 
-clear_at : (ph : Phase) (n rows : ℕ) → IsClearing ph → clear_index ph + n < rows → phase_by_clear (phase_by_clears n ph rows) rows ≡ phase_by_clears (n + 1) ph rows
-clear_at (Clearing k) n rows clearing below =
-    let next : k + n + 1 ≡ k + (n + 1) = omega arith in
-    ap (λ ph. phase_by_clear ph rows) (clearing_before k n rows below) ∙ ap (λ i. if i == rows then Armed else Clearing i) next
-clear_at Idle n rows clearing below = absurd clearing
-clear_at Armed n rows clearing below = absurd clearing
-clear_at (Checking k) n rows clearing below = absurd clearing
-clear_at Void n rows clearing below = absurd clearing
-clear_at Due n rows clearing below = absurd clearing
-
--- a further clear may come
-pub still_clearing : (m : MonitorView) (n : ℕ) → IsClearing m.core.phase → clear_index m.core.phase + n < row_count m.core → IsClearing (after_clears n m).core.phase
-still_clearing m n clearing below = still_at m.core.phase n (row_count m.core) clearing below
-
-pub one_clear_more : (m : MonitorView) (n : ℕ) → IsClearing m.core.phase → clear_index m.core.phase + n < row_count m.core → after_clear (after_clears n m) ≡ after_clears (n + 1) m
-one_clear_more m n clearing below = ap (λ ph. record m { core = record m.core { phase = ph } }) (clear_at m.core.phase n (row_count m.core) clearing below)
-
-none_at : (ph : Phase) (rows : ℕ) → IsClearing ph → clear_index ph < rows → phase_by_clears 0 ph rows ≡ ph
-none_at (Clearing k) rows clearing below =
+no_clear : (m : MonitorView) → IsClearing m.core.phase → clear_index m.core.phase < row_count m.core → after_clears 0 m ≡ m
+no_clear m clearing below =
+    let k = clear_index m.core.phase in
     let same : k + 0 ≡ k = omega arith in
-    clearing_before k 0 rows (omega arith) ∙ ap (λ i. Clearing i) same
-none_at Idle rows clearing below = absurd clearing
-none_at Armed rows clearing below = absurd clearing
-none_at (Checking k) rows clearing below = absurd clearing
-none_at Void rows clearing below = absurd clearing
-none_at Due rows clearing below = absurd clearing
+    ap (λ ph. record m { core = record m.core { phase = ph } }) (ap (λ i. phase_cleared i (row_count m.core)) same ∙ clearing_before k (row_count m.core) below ∙ clearing_at m.core.phase clearing)
 
-pub no_clear : (m : MonitorView) → IsClearing m.core.phase → clear_index m.core.phase < row_count m.core → after_clears 0 m ≡ m
-no_clear m clearing below = ap (λ ph. record m { core = record m.core { phase = ph } }) (none_at m.core.phase (row_count m.core) clearing below)
+pub one_clear : (m : MonitorView) → IsClearing m.core.phase → Makes Stands m (after_clears 1 m) (clear ∷ [])
+one_clear m clearing s reached stands = ((subst (λ (c : Core). IsClearing c.phase) stands.same clearing, tt), clear_stands m s stands clearing)
 
--- so many clears
-pub clears_are_events : (m : MonitorView) (n : ℕ) → IsClearing m.core.phase → clear_index m.core.phase < row_count m.core → clear_index m.core.phase + n ≤ row_count m.core → AreEvents m (after_clears n m) (clears n)
-clears_are_events m zero clearing some within = subst (λ x. AreEvents m x []) (sym (no_clear m clearing some)) (no_events m)
-clears_are_events m (suc n) clearing some within =
-    let now = after_clears n m in
-    let next : n + 1 ≡ suc n = omega arith in
-    let still : IsClearing now.core.phase = still_clearing m n clearing (omega arith) in
-    let one : IsEvent now (after_clear now) clear = λ s reached stands. (subst (λ (c : Core). IsClearing c.phase) stands.same still, clear_stands now s stands still) in
-    more_events m now (after_clears (suc n) m) (clears n) clear (clears_are_events m n clearing some (omega arith)) (subst (λ x. IsEvent now x clear) (one_clear_more m n clearing (omega arith) ∙ ap (λ k. after_clears k m) next) one)
+-- n clears are events
+pub clears_make : (m : MonitorView) (n : ℕ) → IsClearing m.core.phase → clear_index m.core.phase < row_count m.core → clear_index m.core.phase + n ≤ row_count m.core → Makes Stands m (after_clears n m) (clears n)
+clears_make m zero clearing some within = subst (λ x. Makes Stands m x []) (sym (no_clear m clearing some)) (makes_none m)
+clears_make m (suc zero) clearing some within = one_clear m clearing
+clears_make m (suc (suc n)) clearing some within =
+    let rows = row_count m.core in
+    let k = clear_index m.core.phase in
+    let next = after_clears 1 m in
+    let phase : next.core.phase ≡ Clearing (k + 1) = clearing_before (k + 1) rows (omega arith) in
+    let index : clear_index next.core.phase ≡ k + 1 = ap clear_index phase in
+    let still : IsClearing next.core.phase = subst IsClearing (sym phase) tt in
+    let last : clear_index next.core.phase + suc n ≡ k + suc (suc n) = omega (arith, index) in
+    let more : Makes Stands next (after_clears (suc n) next) (clears (suc n)) = clears_make next (suc n) still (omega (arith, index)) (omega (arith, index)) in
+    subst (λ x. Makes Stands m x (clears (suc (suc n)))) (ap (λ i. record m { core = record m.core { phase = phase_cleared i rows } }) last)
+    (Makes-append Stands m next (after_clears (suc n) next) (clear ∷ []) (clears (suc n)) (one_clear m clearing) more)
 
 -- the next pick is one of the rows
-pub next_below : (ph : Phase) (rows : ℕ) → IsClearing ph → IsWithin ph rows → clear_index ph < rows
+pub next_below : (ph : Phase) (rows : ℕ) → IsClearing ph → IsPickWithin ph rows → clear_index ph < rows
 next_below (Clearing k) rows clearing within = within
 next_below Idle rows clearing within = absurd clearing
 next_below Armed rows clearing within = absurd clearing
@@ -107,45 +71,62 @@ next_below (Checking k) rows clearing within = absurd clearing
 next_below Void rows clearing within = absurd clearing
 next_below Due rows clearing within = absurd clearing
 
-length-loaded_bits : (marks : List Bool) (picks : List ℕ) (from n : ℕ) (bits : List Bool) → length (loaded_bits marks picks from n bits) ≡ length bits
-length-loaded_bits marks picks from zero bits = refl
-length-loaded_bits marks picks from (suc n) bits = length-set (loaded_bits marks picks from n bits) (from + n) (mark_at marks picks (from + n)) ∙ length-loaded_bits marks picks from n bits
+-- the first of the next picks, and those after it
+next_picks_first : (picks : List ℕ) (from n : ℕ) → from < length picks → next_picks picks from (suc n) ≡ slice_index picks from ∷ next_picks picks (from + 1) n
+next_picks_first picks from n below = ap (take (suc n)) (drop_more picks from 0 below)
 
--- no load, and one load more
-no_load : (m : MonitorView) (marks : List Bool) → after_load (mark_at marks m.core.picks (load_index m.core.phase + 0)) m ≡ after_loads marks 1 m
-no_load m marks =
-    let from = load_index m.core.phase in
-    let h = mark_at marks m.core.picks (from + 0) in
-    let same : from + 0 ≡ from = omega arith in
-    let one : m.found + cond h 1 0 ≡ m.found + (0 + cond h 1 0) = omega arith in
-    ap (λ i. record m { core = record m.core { phase = Checking (from + 1) }; bits = set m.bits i h; found = m.found + cond h 1 0 }) (sym same)
-    ∙ ap (λ k. record m { core = record m.core { phase = Checking (from + 1) }; bits = set m.bits (from + 0) h; found = k }) one
+-- the bits after the first of the loads, and after those that follow it
+bits_after_first : (f : ℕ → Bool) (picks : List ℕ) (bits : List Bool) (from n k : ℕ) → k ≡ from + suc n → from < length picks → length bits ≡ length picks → take (suc from) (set bits from (f (slice_index picks from))) ++ map f (take n (drop (suc from) picks)) ++ drop k (set bits from (f (slice_index picks from))) ≡ take from bits ++ map f (take (suc n) (drop from picks)) ++ drop k bits
+bits_after_first f [] bits from n k is below each = absurd (omega arith)
+bits_after_first f (p ∷ picks) [] from n k is below each = absurd (omega arith)
+bits_after_first f (p ∷ picks) (b ∷ bits) from n zero is below each = absurd (omega (arith, is))
+bits_after_first f (p ∷ picks) (b ∷ bits) zero n (suc k) is below each = refl
+bits_after_first f (p ∷ picks) (b ∷ bits) (suc from) n (suc k) is below each = ap (λ bs. b ∷ bs) (bits_after_first f picks bits from n k (omega (arith, is)) (omega (arith, below)) (omega (arith, each)))
 
-one_load_more : (m : MonitorView) (marks : List Bool) (n : ℕ) → after_load (mark_at marks m.core.picks (load_index m.core.phase + n)) (after_loads marks n m) ≡ after_loads marks (suc n) m
-one_load_more m marks n =
-    let from = load_index m.core.phase in
-    let h = mark_at marks m.core.picks (from + n) in
-    let hits = loaded_hits marks m.core.picks from n in
-    let bits = set (loaded_bits marks m.core.picks from n m.bits) (from + n) h in
-    let next : from + n + 1 ≡ from + suc n = omega arith in
-    let more : m.found + hits + cond h 1 0 ≡ m.found + (hits + cond h 1 0) = omega arith in
-    ap (λ i. record m { core = record m.core { phase = Checking i }; bits = bits; found = m.found + hits + cond h 1 0 }) next
-    ∙ ap (λ k. record m { core = record m.core { phase = Checking (from + suc n) }; bits = bits; found = k }) more
+loaded_bits_first : (marks : List Bool) (picks : List ℕ) (from n : ℕ) (bits : List Bool) → from < length picks → length bits ≡ length picks → loaded_bits marks picks (from + 1) n (set bits from (mark_of marks (slice_index picks from))) ≡ loaded_bits marks picks from (suc n) bits
+loaded_bits_first marks picks from n bits below each =
+    let h = mark_of marks (slice_index picks from) in
+    let next : from + 1 ≡ suc from = omega arith in
+    let last : from + 1 + n ≡ from + suc n = omega arith in
+    ap (λ i. take i (set bits from h) ++ map (mark_of marks) (take n (drop i picks)) ++ drop (from + 1 + n) (set bits from h)) next
+    ∙ ap (λ k. take (suc from) (set bits from h) ++ map (mark_of marks) (take n (drop (suc from) picks)) ++ drop k (set bits from h)) last
+    ∙ bits_after_first (mark_of marks) picks bits from n (from + suc n) refl below each
 
--- so many loads
-pub loads_are_events : (m : MonitorView) (marks : List Bool) (n : ℕ) → IsLoading m.core.phase (row_count m.core) → load_index m.core.phase + suc n ≤ row_count m.core → length m.bits ≡ row_count m.core → AreEvents m (after_loads marks (suc n) m) (loads marks m.core.picks (load_index m.core.phase) (suc n))
-loads_are_events m marks zero loading within each =
-    let h = mark_at marks m.core.picks (load_index m.core.phase + 0) in
-    let one : IsEvent m (after_load h m) (load h) = λ s reached stands. (load_fits m s h stands loading, load_stands m s h reached stands loading (omega arith)) in
-    more_events m m (after_loads marks 1 m) [] (load h) (no_events m) (subst (λ x. IsEvent m x (load h)) (no_load m marks) one)
-loads_are_events m marks (suc n) loading within each =
+rejoined : (i : ℕ) (bits : List Bool) → (take i bits ++ []) ++ drop i bits ≡ bits
+rejoined zero bits = refl
+rejoined (suc i) [] = refl
+rejoined (suc i) (b ∷ bits) = ap (λ bs. b ∷ bs) (rejoined i bits)
+
+no_bits : (marks : List Bool) (picks : List ℕ) (from : ℕ) (bits : List Bool) → loaded_bits marks picks from 0 bits ≡ bits
+no_bits marks picks from bits = let none : from + 0 ≡ from = omega arith in ap (λ i. take from bits ++ [] ++ drop i bits) none ∙ rejoined from bits
+
+pub one_load : (m : MonitorView) (h : Bool) → IsLoading m.core.phase (row_count m.core) → load_index m.core.phase < length m.bits → Makes Stands m (after_load h m) (load h ∷ [])
+one_load m h loading here s reached stands = ((load_fits m s h stands loading, tt), load_stands m s h reached stands loading here)
+
+-- loads of the next n picks, at least one, are events
+pub loads_make : (m : MonitorView) (marks : List Bool) (n : ℕ) → IsLoading m.core.phase (row_count m.core) → load_index m.core.phase + suc n ≤ row_count m.core → length m.core.picks ≡ row_count m.core → length m.bits ≡ row_count m.core → Makes Stands m (after_loads marks (suc n) m) (loads marks (next_picks m.core.picks (load_index m.core.phase) (suc n)))
+loads_make m marks zero loading within picks bits =
     let from = load_index m.core.phase in
-    let now = after_loads marks (suc n) m in
-    let h = mark_at marks m.core.picks (from + suc n) in
-    let still : IsLoading now.core.phase (row_count now.core) = (omega arith) in
-    let here : load_index now.core.phase < length now.bits = omega (arith, within, each, length-loaded_bits marks m.core.picks from (suc n) m.bits) in
-    let one : IsEvent now (after_load h now) (load h) = λ s reached stands. (load_fits now s h stands still, load_stands now s h reached stands still here) in
-    more_events m now (after_loads marks (suc (suc n)) m) (loads marks m.core.picks from (suc n)) (load h) (loads_are_events m marks n loading (omega arith) each) (subst (λ x. IsEvent now x (load h)) (one_load_more m marks (suc n)) one)
+    let h = mark_of marks (slice_index m.core.picks from) in
+    let below : from < length m.core.picks = omega arith in
+    let each : length m.bits ≡ length m.core.picks = omega arith in
+    let is : set m.bits from h ≡ loaded_bits marks m.core.picks from 1 m.bits = sym (no_bits marks m.core.picks (from + 1) (set m.bits from h)) ∙ loaded_bits_first marks m.core.picks from 0 m.bits below each in
+    subst (λ ps. Makes Stands m (after_loads marks 1 m) (loads marks ps)) (sym (next_picks_first m.core.picks from 0 below))
+    (subst (λ bs. Makes Stands m (record m { core = loaded_core 1 m.core; bits = bs }) (load h ∷ [])) is (one_load m h loading (omega arith)))
+loads_make m marks (suc n) loading within picks bits =
+    let from = load_index m.core.phase in
+    let h = mark_of marks (slice_index m.core.picks from) in
+    let next = after_load h m in
+    let below : from < length m.core.picks = omega arith in
+    let each : length m.bits ≡ length m.core.picks = omega arith in
+    let still : IsLoading next.core.phase (row_count next.core) = (omega arith) in
+    let more : Makes Stands next (after_loads marks (suc n) next) (loads marks (next_picks m.core.picks (from + 1) (suc n))) =
+    loads_make next marks n still (omega arith) picks (length-set m.bits from h ∙ bits) in
+    let last : from + 1 + suc n ≡ from + suc (suc n) = omega arith in
+    subst (λ ps. Makes Stands m (after_loads marks (suc (suc n)) m) (loads marks ps)) (sym (next_picks_first m.core.picks from (suc n) below))
+    (subst (λ bs. Makes Stands m (record m { core = loaded_core (suc (suc n)) m.core; bits = bs }) (load h ∷ loads marks (next_picks m.core.picks (from + 1) (suc n)))) (loaded_bits_first marks m.core.picks from (suc n) m.bits below each)
+    (subst (λ i. Makes Stands m (record m { core = record m.core { phase = Checking i }; bits = loaded_bits marks m.core.picks (from + 1) (suc n) (set m.bits from h) }) (load h ∷ loads marks (next_picks m.core.picks (from + 1) (suc n)))) last
+    (Makes-append Stands m next (after_loads marks (suc n) next) (load h ∷ []) (loads marks (next_picks m.core.picks (from + 1) (suc n))) (one_load m h loading (omega arith)) more)))
 
 -- where a load comes next each row has a pick
 pub bits_of_rows : (ph : Phase) (rows n : ℕ) → HasPicks ph rows n → IsLoading ph rows → n ≡ rows
@@ -155,3 +136,12 @@ bits_of_rows (Clearing k) rows n has loading = absurd loading
 bits_of_rows Idle rows n has loading = absurd loading
 bits_of_rows Void rows n has loading = absurd loading
 bits_of_rows Due rows n has loading = absurd loading
+
+-- a load leaves the passes since the last aggregation
+pub load_since : (ph : Phase) (rows since : ℕ) → IsLoading ph rows → SinceFew ph since → since < 1000
+load_since Armed rows since loading few = few
+load_since (Checking k) rows since loading few = few
+load_since (Clearing k) rows since loading few = absurd loading
+load_since Idle rows since loading few = absurd loading
+load_since Void rows since loading few = absurd loading
+load_since Due rows since loading few = absurd loading

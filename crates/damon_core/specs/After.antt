@@ -7,13 +7,13 @@ use Rattle.live_commit.specs.declared.phase.Phase.TheVariants.{Idle, Clearing, A
 use Rattle.sampler.specs.Pick.{picks_of}
 use Rattle.damon_core.specs.Note.{Note, touched, cleared, checked, finished, voided, was_hit}
 use Rattle.damon_core.specs.State.{Core, State, row_count}
-use Rattle.damon_core.specs.Event.{Event, touch, prepare, clear, load, observe, aggregate, show}
+use Rattle.damon_core.specs.Event.{Event, touch, prepare, clear, load, observe, aggregate, show, clear_index, load_index}
 
--- the phase after clear k
-abbrev pub phase_after_clear : ℕ → ℕ → Phase
-phase_after_clear k rows = if k + 1 == rows then Armed else Clearing (k + 1)
+-- the phase once k picks are cleared
+abbrev pub phase_cleared : ℕ → ℕ → Phase
+phase_cleared k rows = if k == rows then Armed else Clearing k
 
--- the phase after a pass: an aggregation is due after so many passes since the last one
+-- the phase after a pass: an aggregation is due once `aggr` passes have ended since the last one
 abbrev pub phase_after_pass : ℕ → ℕ → Phase
 phase_after_pass since aggr = if nat_le aggr since then Due else Idle
 
@@ -21,10 +21,18 @@ phase_after_pass since aggr = if nat_le aggr since then Due else Idle
 abbrev pub prepared_core : List ℕ → Core → Core
 prepared_core words c = record c { phase = Clearing 0; picks = picks_of c.regions.rows words }
 
+-- what a monitor shows once n picks more are cleared
+abbrev pub cleared_core : ℕ → Core → Core
+cleared_core n c = record c { phase = phase_cleared (clear_index c.phase + n) (row_count c) }
+
+-- what a monitor shows once n picks more are loaded
+abbrev pub loaded_core : ℕ → Core → Core
+loaded_core n c = record c { phase = Checking (load_index c.phase + n) }
+
 -- the state after pick k is cleared
 abbrev pub cleared_at : ℕ → State → State
 cleared_at k s = record {
-  core = record s.core { phase = phase_after_clear k (row_count s.core) };
+  core = record s.core { phase = phase_cleared (k + 1) (row_count s.core) };
   notes = cleared (s.core.ticks + 1) k (slice_index s.core.picks k) ∷ s.notes;
 }
 

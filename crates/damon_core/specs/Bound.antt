@@ -33,11 +33,13 @@ EachHitRests [] = Unit {0}
 EachHitRests (checked n k p true ∷ earlier) = (touched_after_clear earlier n k p ≡ true) × EachHitRests earlier
 EachHitRests (_ ∷ earlier) = EachHitRests earlier
 
--- The rows tile their ranges with at least `unit` pages each; there are at most `max`, which is at most `cap`;
--- each finished pass checks one page of each row; each hit rests on a touch.
+-- The rows tile their ranges with at least `unit` pages each; there are at most `max`, which is the maximum of
+-- the attributes and of the regions alike and at most `cap`; each finished pass checks one page of each row; each
+-- hit rests on a touch.
 pub record Bound (s : State) : Type 0 where
   pub tiles : Tiles s.core.regions.ranges (spans s.core.regions.rows) s.core.regions.unit
   pub few : row_count s.core ≤ s.core.attrs.max
+  pub max : s.core.regions.max ≡ s.core.attrs.max
   pub most : s.core.attrs.max ≤ s.core.regions.cap
   pub passes : EachPassChecks s.notes s.notes
   pub hits : EachHitRests s.notes

@@ -3,10 +3,10 @@ pub mod Totals
 pub mod State
 pub mod Event
 pub mod Several
+pub mod Pass
 pub mod After
 pub mod Reached
 pub mod Makes
 pub mod Stands
-pub mod Shown
 pub mod Bound
 pub mod Kept

@@ -1,6 +1,7 @@
 -- What has happened to a monitor and its pages.
 use Rattle.std.specs.Prelude.{ℕ, ◌+◌, ◌*◌, Bool, false, ◌&&◌, ◌||◌, ◌==◌, List, [], ◌∷◌, ◌++◌, if◌then◌else◌, cond}
 use Rattle.damon_types.specs.Span.{Span}
+use Rattle.damon_types.specs.declared.scheme.Scheme.{Scheme}
 
 -- one thing that has happened; a list of notes has the newest first
 pub data Note : Type 0 where
@@ -9,6 +10,7 @@ pub data Note : Type 0 where
   checked : (pass index page : ℕ) → (hit : Bool) → Note
   finished : (pass : ℕ) → (rows : List Span) → Note
   voided : (pass : ℕ) → Note
+  set : (slot : ℕ) → (scheme : Scheme) → Note
   dropped : (slot : ℕ) → Note
   metric : (value : ℕ) → Note
   turned : (slot tick : ℕ) → Note

@@ -1,15 +1,17 @@
 -- The state of a monitor, as the definitions see it.
-use Rattle.std.specs.Prelude.{ℕ, List, [], length}
+use Rattle.std.specs.Prelude.{ℕ, List, [], length, reverse, filter_map, Option}
+use Rattle.std.specs.Option.{option_map}
 use Rattle.damon_types.specs.declared.space.Target.{Target}
 use Rattle.damon_types.specs.declared.attrs.Attrs.{Attrs}
 use Rattle.damon_types.specs.declared.row.Row.{Row}
+use Rattle.damon_types.specs.declared.scheme.SlotChange.{SlotChange}
 use Rattle.region_list.specs.Regions.{RegionList}
 use Rattle.region_list.specs.Division.{divided}
 use Rattle.region_list.specs.Shrink.{shrunk}
 use Rattle.live_commit.specs.declared.phase.Phase.{Phase}
 use Rattle.live_commit.specs.declared.phase.Phase.TheVariants.{Idle}
 use Rattle.live_commit.specs.Setup.{SetupValue}
-use Rattle.damon_core.specs.Note.{Note}
+use Rattle.damon_core.specs.Note.{Note, set}
 
 -- What a monitor shows of itself: its targets, attributes, regions and phase, the picks of the pass that
 -- was prepared last, the passes in all, and those since the last aggregation.
@@ -47,6 +49,14 @@ opening_core v = record {
   since = 0;
 }
 
+-- the note that a change sets its slot, where the change has a scheme
+abbrev pub set_note : SlotChange → Option Note
+set_note change = option_map (set change.slot) change.scheme
+
+-- the notes before the first event: each slot of the setup is set, in order
+abbrev pub opening_notes : SetupValue → List Note
+opening_notes v = reverse (filter_map set_note v.slots)
+
 -- the state before the first event
 abbrev pub opening : SetupValue → State
-opening v = record { core = opening_core v; notes = [] }
+opening v = record { core = opening_core v; notes = opening_notes v }

@@ -1,5 +1,5 @@
 ghost use Rattle.std.specs.List.{AllByRecursion};
-ghost use Rattle.std.specs.Prelude.{◌≡◌, ◌+◌, ◌^◌, ◌≤◌, ◌<◌, ◌==◌, if◌then◌else◌, ℕ, true, length, slice_get, slice_index, IfOk};
+ghost use Rattle.std.specs.Prelude.{◌≡◌, ◌+◌, ◌^◌, ◌≤◌, ◌<◌, ℕ, true, [], ◌∷◌, length, slice_get, slice_index, IfOk};
 ghost use Rattle.damon_types.specs.Space.{pages_of};
 ghost use Rattle.damon_types.specs.Span.{spans};
 ghost use Rattle.region_list.specs.Tiling.{Tiling};
@@ -8,11 +8,12 @@ ghost use Rattle.damon_core.specs.Note.{is_cleared};
 ghost use Rattle.damon_core.specs.State.{State, opening, opening_core, opening_rows, row_count};
 ghost use Rattle.damon_core.specs.Event.{IsClearing, IsLoading, IsObserving, clear_index, load_index, prepare as prepare_event, clear as clear_event, load as load_event, observe as observe_event};
 ghost use Rattle.damon_core.specs.Several.{clears, loads};
-ghost use Rattle.damon_core.specs.After.{phase_after_pass};
+ghost use Rattle.damon_core.specs.After.{prepared_core, cleared_core, loaded_core, passed_core, phase_cleared, phase_after_pass};
 ghost use Rattle.damon_core.specs.Reached.{Reached};
-ghost use Rattle.damon_core.specs.Stands.{Stands, AreEvents, IsEvent};
-ghost use Rattle.damon_core.specs.Shown.{after_prepare, after_clear, after_clears, after_load, after_loads, after_observe, ended};
-ghost use Rattle.damon_core.specs.Kept.{IsInPass, IsWithin, SinceWithin, cleared_so_far};
+ghost use Rattle.damon_core.specs.Pass.{IsInPass, IsPickWithin, cleared_so_far};
+ghost use Rattle.damon_core.specs.Makes.{Makes};
+ghost use Rattle.damon_core.specs.Stands.{Stands};
+ghost use Rattle.sampler.specs.Loaded.{next_picks};
 
 use damon_types::{Attrs, Space};
 use live_commit::{Phase, Setup};
@@ -34,7 +35,7 @@ pub struct Monitor {
     ticks: u64,
     since: u32,
     // The hits of the pass so far, counted as they come, so that no second look at the picks is needed.
-    found: u32,
+    hits_so_far: u32,
     checks: u64,
     hits: u64,
 }
@@ -49,18 +50,19 @@ impl Model for Monitor {
     ghost view = { λ m. record {
       core = record { space = m.space; attrs = m.attrs; regions = m.regions; phase = m.phase; picks = m.picks.pages; ticks = m.ticks; since = m.since };
       bits = m.picks.bits;
-      found = m.found;
       checks = m.checks;
       hits = m.hits;
     } };
 
-    ghost invariant = { λ m. IsMonitor m.space m.attrs m.regions m.phase m.picks m.ticks m.since m.found m.checks m.hits };
+    ghost invariant = { λ m. IsMonitor m.space m.attrs m.regions m.phase m.picks m.ticks m.since m.hits_so_far m.checks m.hits };
 }
 
 impl Monitor {
     /// A monitor before its first pass. Its rows are the division of the setup's ranges, of which
-    /// adjacent ones are joined until there are at most `max`. Takes memory; no other call does.
+    /// adjacent ones are joined until there are at most `max`. Takes memory; no other call does. The
+    /// setup sets no slot, since schemes are not built yet.
     pub fn new(alloc: Global, setup: &Setup) -> Result<Monitor, AllocError>
+        requires no_slots { setup.now.slots.list ≡ [] }
         ensures core { IfOk result (λ m. m.core ≡ opening_core (value_of setup.now)) }
         ensures opening { IfOk result (λ m. Stands m (opening (value_of setup.now))) }
     {
@@ -77,18 +79,16 @@ impl Monitor {
             picks,
             ticks: 0,
             since: 0,
-            found: 0,
+            hits_so_far: 0,
             checks: 0,
             hits: 0,
         })
     }
 
-    /// Where the monitor is in its pass. The pick of a phase is one of the rows, and an aggregation is
-    /// due once there are `aggr` passes since the last one.
+    /// Where the monitor is in its pass. The pick that a phase names is one of the rows.
     pub fn phase(&self) -> Phase
         ensures phase { result ≡ self.now.core.phase }
-        ensures within { IsWithin self.now.core.phase (row_count self.now.core) }
-        ensures since { SinceWithin self.now.core.phase self.now.core.since self.now.core.attrs.aggr }
+        ensures within { IsPickWithin self.now.core.phase (row_count self.now.core) }
     {
         self.phase
     }
@@ -110,7 +110,9 @@ impl Monitor {
     /// The rows, with the ranges that they tile. Each has a page, and its pages are pages of the space.
     pub fn rows(&self) -> &Regions
         ensures rows { result.now ≡ self.now.core.regions }
-        ensures in_space { AllByRecursion (λ r. (1 ≤ r.pages) × (r.start + r.pages ≤ pages_of self.now.core.space)) self.now.core.regions.rows }
+        ensures in_space {
+            AllByRecursion (λ r. (1 ≤ r.pages) × (r.start + r.pages ≤ pages_of self.now.core.space)) self.now.core.regions.rows
+        }
         ensures some { 0 < row_count self.now.core }
     {
         // For its clauses alone: the rows tile their ranges and are within their limits.
@@ -138,9 +140,18 @@ impl Monitor {
         ensures pages { result.now.pages ≡ self.now.core.picks }
         ensures bits { result.now.bits ≡ self.now.bits }
 
-        // A pass under way has a pick for each row.
-        ensures inside { IsInPass self.now.core.phase → (k : ℕ) → k < row_count self.now.core → slice_index self.now.core.picks k < pages_of self.now.core.space }
-        ensures cleared { (s : State) → Reached s → Stands self.now s → (k : ℕ) → k < cleared_so_far self.now.core.phase (row_count self.now.core) → is_cleared s.notes (slice_index self.now.core.picks k) ≡ true }
+        // A pass under way has a pick for each row, which is a page of the space.
+        ensures each { IsInPass self.now.core.phase → length self.now.core.picks ≡ row_count self.now.core }
+        ensures inside {
+            IsInPass self.now.core.phase
+                → (k : ℕ) → k < row_count self.now.core
+                → slice_index self.now.core.picks k < pages_of self.now.core.space
+        }
+        ensures cleared {
+            (s : State) → Reached s → Stands self.now s
+                → (k : ℕ) → k < cleared_so_far self.now.core.phase (row_count self.now.core)
+                → is_cleared s.notes (slice_index self.now.core.picks k) ≡ true
+        }
     {
         &self.picks
     }
@@ -150,15 +161,13 @@ impl Monitor {
     pub fn prepare(&mut self, words: &[u32])
         requires idle { self.old.core.phase ≡ Phase.Idle }
         requires words { length words.now ≡ row_count self.old.core }
-        ensures shown { self.new ≡ after_prepare words.now self.old }
-        ensures event { IsEvent self.old self.new (prepare_event words.now) }
+        ensures core { self.new.core ≡ prepared_core words.now self.old.core }
+        ensures event { Makes Stands self.old self.new (prepare_event words.now ∷ []) }
     {
         // For its clauses alone: the rows tile their ranges and are within their limits.
         let _rows = self.regions.len();
         set_picks(&self.regions, words, &mut self.picks);
-        // For its clauses alone: there is a bit for each pick.
-        let _picks = self.picks.len();
-        self.found = 0;
+        self.hits_so_far = 0;
         self.phase = Phase::Clearing { next: 0 };
     }
 
@@ -168,7 +177,11 @@ impl Monitor {
         requires within { k < row_count self.now.core }
         ensures page { slice_get self.now.core.picks k ≡ Some result }
         ensures inside { result < pages_of self.now.core.space }
-        ensures cleared { (s : State) → Reached s → Stands self.now s → k < cleared_so_far self.now.core.phase (row_count self.now.core) → is_cleared s.notes result ≡ true }
+        ensures cleared {
+            (s : State) → Reached s → Stands self.now s
+                → k < cleared_so_far self.now.core.phase (row_count self.now.core)
+                → is_cleared s.notes result ≡ true
+        }
     {
         self.picks.page(k)
     }
@@ -176,57 +189,56 @@ impl Monitor {
     /// Takes note that the page of the next pick was cleared. The phase is Clearing.
     pub fn cleared(&mut self)
         requires { IsClearing self.old.core.phase }
-        ensures shown { self.new ≡ after_clear self.old }
-        ensures event { IsEvent self.old self.new clear_event }
+        ensures core { self.new.core ≡ cleared_core 1 self.old.core }
+        ensures event { Makes Stands self.old self.new (clear_event ∷ []) }
     {
         if let Phase::Clearing { next } = self.phase {
-            self.phase = phase_after(next + 1, self.regions.len());
+            self.phase = phase_cleared(next + 1, self.regions.len());
         }
     }
 
-    /// Takes note that the pages of the next `count` picks were cleared. The phase is Clearing, and so
-    /// many picks are not cleared.
+    /// Takes note that the pages of the next `count` picks were cleared. The phase is Clearing, and at
+    /// least `count` picks are left to clear.
     pub fn cleared_next(&mut self, count: u32)
         requires phase { IsClearing self.old.core.phase }
         requires within { clear_index self.old.core.phase + count ≤ row_count self.old.core }
-        ensures shown { self.new ≡ after_clears count self.old }
-        ensures events { AreEvents self.old self.new (clears count) }
+        ensures core { self.new.core ≡ cleared_core count self.old.core }
+        ensures events { Makes Stands self.old self.new (clears count) }
     {
         if let Phase::Clearing { next } = self.phase {
-            self.phase = phase_after(next + count, self.regions.len());
+            self.phase = phase_cleared(next + count, self.regions.len());
         }
     }
 
-    /// Takes note that the page of the next pick was loaded, with this result. Each pick is cleared,
-    /// and not each is loaded.
+    /// Takes note that the page of the next pick was loaded, with this result. The phase is Armed, or
+    /// Checking with a pick that is left to load.
     pub fn loaded(&mut self, hit: bool)
         requires { IsLoading self.old.core.phase (row_count self.old.core) }
-        ensures shown { self.new ≡ after_load hit self.old }
-        ensures event { IsEvent self.old self.new (load_event hit) }
+        ensures core { self.new.core ≡ loaded_core 1 self.old.core }
+        ensures event { Makes Stands self.old self.new (load_event hit ∷ []) }
     {
         let index = next_load(self.phase);
-        // For its clauses alone: there is a bit for each pick.
-        let _picks = self.picks.len();
         self.picks.set(index, hit);
-        self.found += u32::from(hit);
+        self.hits_so_far += u32::from(hit);
         self.phase = Phase::Checking { next: index + 1 };
     }
 
-    /// Takes note that the next `count` picks were loaded, at least one, each with the mark of its page
-    /// as its result. Each pick is cleared, and so many are not loaded; each page of the space has a
-    /// mark.
+    /// Takes note that the pages of the next `count` picks (at least 1) were loaded, each with the mark
+    /// of its page as its result. At least `count` picks are left to load, and there is a mark for each
+    /// page of the space.
     pub fn loaded_next(&mut self, count: u32, marks: &[bool])
         requires phase { IsLoading self.old.core.phase (row_count self.old.core) }
         requires some { 1 ≤ count }
         requires within { load_index self.old.core.phase + count ≤ row_count self.old.core }
         requires marks { length marks.now ≡ pages_of self.old.core.space }
-        ensures shown { self.new ≡ after_loads marks.now count self.old }
-        ensures events { AreEvents self.old self.new (loads marks.now self.old.core.picks (load_index self.old.core.phase) count) }
+        ensures core { self.new.core ≡ loaded_core count self.old.core }
+        ensures events {
+            Makes Stands self.old self.new
+                (loads marks.now (next_picks self.old.core.picks (load_index self.old.core.phase) count))
+        }
     {
         let from = next_load(self.phase);
-        // For its clauses alone: there is a bit for each pick.
-        let _picks = self.picks.len();
-        self.found += self.picks.load(from, count, marks);
+        self.hits_so_far += self.picks.load(from, count, marks);
         self.phase = Phase::Checking { next: from + count };
     }
 
@@ -235,8 +247,9 @@ impl Monitor {
     pub fn observe(&mut self)
         requires phase { IsObserving self.old.core.phase (row_count self.old.core) }
         requires ticks { self.old.core.ticks < 2 ^ 40 }
-        ensures shown { self.new ≡ after_observe self.old }
-        ensures event { IsEvent self.old self.new observe_event }
+        ensures core { self.new.core ≡ passed_core (record self.old.core { regions = self.new.core.regions }) }
+        ensures cap { self.new.core.regions.cap ≡ self.old.core.regions.cap }
+        ensures event { Makes Stands self.old self.new (observe_event ∷ []) }
     {
         match self.phase {
             Phase::Checking { .. } => self.finish_pass(),
@@ -248,14 +261,13 @@ impl Monitor {
     fn finish_pass(&mut self)
         requires phase { self.old.core.phase ≡ Phase.Checking (row_count self.old.core) }
         requires ticks { self.old.core.ticks < 2 ^ 40 }
-        ensures shown { self.new ≡ ended self.old.core.phase self.old }
-        ensures bits { length self.old.bits ≡ row_count self.old.core }
+        ensures core { self.new.core ≡ passed_core (record self.old.core { regions = self.new.core.regions }) }
+        ensures cap { self.new.core.regions.cap ≡ self.old.core.regions.cap }
+        ensures event { Makes Stands self.old self.new (observe_event ∷ []) }
     {
-        // For its clauses alone: there is a bit for each pick.
-        let _picks = self.picks.len();
         sampler::observe(&mut self.regions, &self.picks);
         self.checks += u64::from(self.regions.len());
-        self.hits += u64::from(self.found);
+        self.hits += u64::from(self.hits_so_far);
         self.ticks += 1;
         self.since += 1;
         self.phase = phase_between(self.since, self.attrs.aggr);
@@ -265,7 +277,8 @@ impl Monitor {
     fn void_pass(&mut self)
         requires phase { self.old.core.phase ≡ Phase.Void }
         requires ticks { self.old.core.ticks < 2 ^ 40 }
-        ensures { self.new ≡ ended self.old.core.phase self.old }
+        ensures core { self.new.core ≡ passed_core self.old.core }
+        ensures event { Makes Stands self.old self.new (observe_event ∷ []) }
     {
         self.ticks += 1;
         self.since += 1;
@@ -296,9 +309,9 @@ fn first_rows(alloc: Global, setup: &Setup) -> Result<RowBuf, AllocError>
     Ok(rows)
 }
 
-// The phase where so many picks are cleared.
-fn phase_after(cleared: u32, rows: u32) -> Phase
-    ensures { result ≡ (if cleared == rows then Phase.Armed else Phase.Clearing cleared) }
+// The phase once this many of the picks are cleared.
+fn phase_cleared(cleared: u32, rows: u32) -> Phase
+    ensures { result ≡ phase_cleared cleared rows }
 {
     if cleared == rows {
         Phase::Armed
@@ -307,7 +320,7 @@ fn phase_after(cleared: u32, rows: u32) -> Phase
     }
 }
 
-// The phase between two passes, so many passes after the last aggregation.
+// The phase between two passes, with `since` passes since the last aggregation.
 fn phase_between(since: u32, aggr: u32) -> Phase
     ensures { result ≡ phase_after_pass since aggr }
 {

@@ -1,4 +1,6 @@
 // The opening, and passes over three pages; the expected values were reckoned by hand.
+ghost use Rattle.std.specs.Prelude.{◌≡◌, [], IfOk};
+
 use crate::Monitor;
 use damon_types::{Attrs, RangeSpec, Space, Target};
 use live_commit::{Phase, Setup};
@@ -16,7 +18,7 @@ fn range(from: u64, to: u64) -> RangeSpec {
     }
 }
 
-// A space of one target of so many pages.
+// A space of one target with this many pages.
 fn one_target(alloc: Global, pages: u32) -> Result<Space, Fail> {
     Ok(Space::new(
         alloc,
@@ -27,8 +29,10 @@ fn one_target(alloc: Global, pages: u32) -> Result<Space, Fail> {
     )?)
 }
 
-// The setup of three pages that are watched whole.
-fn three_pages(alloc: Global, aggr: u32) -> Result<Setup, Fail> {
+// The setup of three pages that are watched whole, without a slot.
+fn three_pages(alloc: Global, aggr: u32) -> Result<Setup, Fail>
+    ensures { IfOk result (λ s. s.slots.list ≡ []) }
+{
     let attrs = Attrs {
         min: 3,
         max: 8,
@@ -36,11 +40,14 @@ fn three_pages(alloc: Global, aggr: u32) -> Result<Setup, Fail> {
     };
     let space = one_target(alloc, 3)?;
     let ranges = [range(0x1_0000, 0x1_3000)];
-    Ok(Setup::new(alloc, space, 1, 8, attrs, &ranges, &[])?)
+    let setup = Setup::new(alloc, space, 1, 8, attrs, &ranges, &[])?;
+    Ok(setup)
 }
 
 // The setup of ranges of 1, 1 and 98 pages, whose division has four rows, one more than are allowed.
-fn three_ranges(alloc: Global) -> Result<Setup, Fail> {
+fn three_ranges(alloc: Global) -> Result<Setup, Fail>
+    ensures { IfOk result (λ s. s.slots.list ≡ []) }
+{
     let attrs = Attrs {
         min: 3,
         max: 3,
@@ -52,7 +59,8 @@ fn three_ranges(alloc: Global) -> Result<Setup, Fail> {
         range(0x1_4000, 0x7_6000),
     ];
     let space = one_target(alloc, 102)?;
-    Ok(Setup::new(alloc, space, 1, 8, attrs, &ranges, &[])?)
+    let setup = Setup::new(alloc, space, 1, 8, attrs, &ranges, &[])?;
+    Ok(setup)
 }
 
 // Clears the next pick, whose page is this one.

@@ -1,87 +1,94 @@
 -- Steps of one kind.
-use Rattle.std.proofs.Common.{◌≡◌, ℕ, zero, suc, ◌+◌, ◌-◌, ◌*◌, ◌≤◌, ◌<◌, Bool, false, List, [], ◌∷◌, ◌++◌, length, refl, sym, ap, ◌∙◌, subst, arith}
-use Rattle.std.specs.Prelude.{◌==◌, if◌then◌else◌, slice_index}
+use Rattle.std.proofs.Common.{◌≡◌, ℕ, zero, suc, ◌+◌, ◌-◌, ◌*◌, ◌≤◌, ◌<◌, Bool, false, cond, List, [], ◌∷◌, ◌++◌, drop, length, refl, sym, ap, ◌∙◌, subst, arith}
+use Rattle.std.specs.Prelude.{◌==◌, map, slice_index}
 use Rattle.std.proofs.lemmas.Bool.Decides.{nat_tests}
-use Rattle.std.proofs.lemmas.List.{length-set}
+use Rattle.std.proofs.lemmas.List.{get_or-drop, length-drop, length-set, map-append, take_more}
 use Rattle.rand_core.specs.Stream.{Stream}
 use Rattle.damon_types.specs.Space.{pages_of}
 use Rattle.live_commit.specs.declared.phase.Phase.{Phase}
 use Rattle.live_commit.specs.declared.phase.Phase.TheVariants.{Idle, Clearing, Armed, Checking, Void, Due}
+use Rattle.sampler.specs.Loaded.{mark_of, next_picks}
 use Rattle.damon_core.specs.Note.{Note, cleared, hit, word_of}
 use Rattle.damon_core.specs.State.{Core, State, row_count}
-use Rattle.damon_core.specs.Event.{Event, Fits, IsLoading, clear, load, load_index, load_page, next_hit}
+use Rattle.damon_core.specs.Event.{Event, IsLoading, clear, load, load_index, load_page, next_hit}
 use Rattle.damon_core.specs.Several.{clears, loads}
-use Rattle.sampler.specs.Loaded.{mark_at}
-use Rattle.damon_core.specs.After.{after, by_clear, by_load, phase_after_clear}
+use Rattle.damon_core.specs.After.{after, by_clear, by_load, cleared_core, loaded_core, phase_cleared}
 use Rattle.damon_core.specs.Reached.{AllFit, Reached, run}
-use Rattle.damon_core.specs.Shown.{after_clears, phase_by_clears}
-use Rattle.damon_core.specs.Kept.{IsInPass, cleared_so_far}
-use Rattle.damon_core.specs.Stands.{AreEvents, MonitorView, Stands}
-use Rattle.damon_world.specs.Draws.{drawn_rest}
+use Rattle.damon_core.specs.Makes.{Makes, run-append}
+use Rattle.damon_core.specs.Pass.{IsInPass, cleared_so_far}
+use Rattle.damon_core.specs.Stands.{MonitorView, Stands}
 use Rattle.damon_world.specs.Words.{cleared_words}
-use Rattle.damon_world.specs.Moment.{Moment, draws, draws_in, event_in, events_of_steps, next_event, stepped, stepped_times}
-use Rattle.damon_world.specs.Stands.{StandsAt, StandsFor, WorldView}
-use Rattle.damon_world.specs.Advance.{Advances, IsAmid, steps_of_kind}
+use Rattle.damon_world.specs.Moment.{Moment, drawn_by, event_in, events_of_steps, moved, next_event, stepped, stepped_times}
+use Rattle.damon_world.specs.Draws.{drawn_rest}
+use Rattle.damon_world.specs.Stands.{StandsAt, StandsFor}
+use Rattle.damon_world.specs.Advance.{IsAmid, steps_of_kind}
+use Rattle.damon_world.specs.Kept.{IsAdvance}
 use Rattle.damon_world.proofs.Words.{set_words, word_of-cleared_same, word_of-cleared_other}
-use Rattle.damon_world.proofs.Stepping.{event_in-load, word_of-by_load}
-
-pub run-append : (s : State) (es fs : List Event) → run s (es ++ fs) ≡ run (run s es) fs
-run-append s [] fs = refl
-run-append s (e ∷ es) fs = run-append (after s e) es fs
+use Rattle.damon_world.proofs.Moments.{events_more, stepped_more}
+use Rattle.damon_world.proofs.Stepping.{event_in-load, not_last, word_of-by_load}
 
 -- the moment after one event more, if it is the next one and draws nothing
-one_more : (x : Moment) (here : State) (e : Event) (n : ℕ) → stepped_times n x ≡ record { state = here; stream = x.stream } → next_event here x.stream ≡ e → draws here.core ≡ 0 → stepped_times (suc n) x ≡ record { state = after here e; stream = x.stream }
+one_more : (x : Moment) (here : State) (e : Event) (n : ℕ) → stepped_times n x ≡ record { state = here; stream = x.stream } → next_event here x.stream ≡ e → drawn_by e ≡ 0 → stepped_times (suc n) x ≡ record { state = after here e; stream = x.stream }
 one_more x here e n is next none =
-    ap stepped is
-    ∙ ap (λ f. record { state = after here f; stream = drawn_rest (draws here.core) x.stream }) next
+    stepped_more n x
+    ∙ ap stepped is
+    ∙ ap (λ f. moved (record { state = here; stream = x.stream }) f) next
     ∙ ap (λ k. record { state = after here e; stream = drawn_rest k x.stream }) none
 
 one_event_more : (x : Moment) (here : State) (e : Event) (n : ℕ) (es : List Event) → stepped_times n x ≡ record { state = here; stream = x.stream } → next_event here x.stream ≡ e → events_of_steps n x ≡ es → events_of_steps (suc n) x ≡ es ++ e ∷ []
 one_event_more x here e n es is next before =
-    ap (λ m. events_of_steps n x ++ next_event m.state m.stream ∷ []) is
+    events_more n x
+    ∙ ap (λ m. events_of_steps n x ++ next_event m.state m.stream ∷ []) is
     ∙ ap (λ f. events_of_steps n x ++ f ∷ []) next
     ∙ ap (λ fs. fs ++ e ∷ []) before
 
 -- the phase in which the next clear comes
-pub phase_by_clears-amid : (k n rows : ℕ) → k + n < rows → phase_by_clears n (Clearing k) rows ≡ Clearing (k + n)
-phase_by_clears-amid k n rows below = let e : (k + n == rows) ≡ false = grind (arith, nat_tests) in rw e refl
+clearing_amid : (k rows : ℕ) → k < rows → phase_cleared k rows ≡ Clearing k
+clearing_amid k rows below = ap (λ b. cond b Armed (Clearing k)) (not_last k rows below)
 
--- so many clears are the steps from a moment on
+clears_more : (n : ℕ) → clears (suc n) ≡ clears n ++ clear ∷ []
+clears_more zero = refl
+clears_more (suc n) = ap (λ es. clear ∷ es) (clears_more n)
+
+-- the next n steps are clears
 pub record ClearsTo (x : Moment) (k n : ℕ) : Type 0 where
   pub state : stepped_times n x ≡ record { state = run x.state (clears n); stream = x.stream }
   pub events : events_of_steps n x ≡ clears n
-  pub core : (run x.state (clears n)).core ≡ record x.state.core { phase = phase_by_clears n (Clearing k) (row_count x.state.core) }
+  pub core : (run x.state (clears n)).core ≡ record x.state.core { phase = phase_cleared (k + n) (row_count x.state.core) }
 
 -- a clear in this phase
 clear_notes : (ph : Phase) (s : State) (k : ℕ) → ph ≡ Clearing k → (by_clear ph s).notes ≡ cleared (s.core.ticks + 1) k (slice_index s.core.picks k) ∷ s.notes
 clear_notes ph s k is = ap (λ x. (by_clear x s).notes) is
 
-clear_core : (s : State) (k : ℕ) → s.core.phase ≡ Clearing k → (after s clear).core ≡ record s.core { phase = phase_after_clear k (row_count s.core) }
+clear_core : (s : State) (k : ℕ) → s.core.phase ≡ Clearing k → (after s clear).core ≡ record s.core { phase = phase_cleared (k + 1) (row_count s.core) }
 clear_core s k is = ap (λ x. (by_clear x s).core) is
+
+-- the state after one clear more
+last_clear : (s : State) (n : ℕ) → run s (clears (suc n)) ≡ after (run s (clears n)) clear
+last_clear s n = ap (run s) (clears_more n) ∙ run-append s (clears n) (clear ∷ [])
 
 pub clears_to : (x : Moment) (k n : ℕ) → x.state.core.phase ≡ Clearing k → k < row_count x.state.core → k + n ≤ row_count x.state.core → ClearsTo x k n
 clears_to x k zero is some within =
     let rows = row_count x.state.core in
     let same : k + 0 ≡ k = omega arith in
-    let phase : phase_by_clears 0 (Clearing k) rows ≡ x.state.core.phase = phase_by_clears-amid k 0 rows (omega arith) ∙ ap (λ i. Clearing i) same ∙ sym is in
+    let phase : phase_cleared (k + 0) rows ≡ x.state.core.phase = ap (λ i. phase_cleared i rows) same ∙ clearing_amid k rows some ∙ sym is in
     record { state = refl; events = refl; core = ap (λ ph. record x.state.core { phase = ph }) (sym phase) }
 clears_to x k (suc n) is some within =
     let rows = row_count x.state.core in
     let before = clears_to x k n is some (omega arith) in
     let here = run x.state (clears n) in
-    let amid : here.core.phase ≡ Clearing (k + n) = ap (λ (c : Core). c.phase) before.core ∙ phase_by_clears-amid k n rows (omega arith) in
+    let amid : here.core.phase ≡ Clearing (k + n) = ap (λ (c : Core). c.phase) before.core ∙ clearing_amid (k + n) rows (omega arith) in
     let next : next_event here x.stream ≡ clear = ap (λ ph. event_in ph here x.stream) amid in
-    let none : draws here.core ≡ 0 = ap (λ ph. draws_in ph here.core) amid in
-    let last : run x.state (clears (suc n)) ≡ after here clear = run-append x.state (clears n) (clear ∷ []) in
+    let last = last_clear x.state n in
     let index : k + n + 1 ≡ k + suc n = omega arith in
     record {
-      state = one_more x here clear n before.state next none ∙ ap (λ s. record { state = s; stream = x.stream }) (sym last);
-      events = one_event_more x here clear n (clears n) before.state next before.events;
+      state = one_more x here clear n before.state next refl ∙ ap (λ s. record { state = s; stream = x.stream }) (sym last);
+      events = one_event_more x here clear n (clears n) before.state next before.events ∙ sym (clears_more n);
       core =
           ap (λ s. s.core) last
           ∙ clear_core here (k + n) amid
-          ∙ ap (λ (c : Core). record c { phase = phase_after_clear (k + n) (row_count c) }) before.core
-          ∙ ap (λ i. record x.state.core { phase = if i == rows then Armed else Clearing i }) index;
+          ∙ ap (λ (c : Core). record c { phase = phase_cleared (k + n + 1) (row_count c) }) before.core
+          ∙ ap (λ i. record x.state.core { phase = phase_cleared i rows }) index;
     }
 
 -- the words stand for the notes
@@ -104,8 +111,8 @@ words_cleared x k (suc n) pages words is some within len inside stands =
     let w = 2 * (x.state.core.ticks + 1) in
     let old = cleared_words picks k n w words in
     let before = words_cleared x k n pages words is some (omega arith) len (λ j below. inside j (omega arith)) stands in
-    let amid : here.core.phase ≡ Clearing (k + n) = ap (λ (c : Core). c.phase) to.core ∙ phase_by_clears-amid k n rows (omega arith) in
-    let last : run x.state (clears (suc n)) ≡ after here clear = run-append x.state (clears n) (clear ∷ []) in
+    let amid : here.core.phase ≡ Clearing (k + n) = ap (λ (c : Core). c.phase) to.core ∙ clearing_amid (k + n) rows (omega arith) in
+    let last = last_clear x.state n in
     let notes : (run x.state (clears (suc n))).notes ≡ cleared (x.state.core.ticks + 1) (k + n) page ∷ here.notes =
     ap (λ s. s.notes) last ∙ clear_notes here.core.phase here (k + n) amid ∙ ap (λ (c : Core). cleared (c.ticks + 1) (k + n) (slice_index c.picks (k + n)) ∷ here.notes) to.core in
     let added = cleared (x.state.core.ticks + 1) (k + n) page ∷ here.notes in
@@ -138,42 +145,51 @@ core-by_load Idle s h loading = absurd loading
 core-by_load Void s h loading = absurd loading
 core-by_load Due s h loading = absurd loading
 
-draws-loading : (ph : Phase) (c : Core) → IsLoading ph (row_count c) → draws_in ph c ≡ 0
-draws-loading Armed c loading = refl
-draws-loading (Checking k) c loading = refl
-draws-loading (Clearing k) c loading = absurd loading
-draws-loading Idle c loading = absurd loading
-draws-loading Void c loading = absurd loading
-draws-loading Due c loading = absurd loading
+-- one pick more
+next_picks_more : (picks : List ℕ) (from n : ℕ) → from + n < length picks → next_picks picks from (suc n) ≡ next_picks picks from n ++ slice_index picks (from + n) ∷ []
+next_picks_more picks from n below =
+    let one : n + 1 ≡ suc n = omega arith in
+    ap (next_picks picks from) (sym one)
+    ∙ take_more (drop from picks) n 0 (omega (arith, below, length-drop from picks))
+    ∙ ap (λ p. next_picks picks from n ++ p ∷ []) (get_or-drop from picks n 0)
 
--- so many loads are the steps from a moment on; they leave the words and the hits of the pages
+loads_more : (marks : List Bool) (picks : List ℕ) (from n : ℕ) → from + n < length picks → loads marks (next_picks picks from (suc n)) ≡ loads marks (next_picks picks from n) ++ load (mark_of marks (slice_index picks (from + n))) ∷ []
+loads_more marks picks from n below =
+    ap (loads marks) (next_picks_more picks from n below)
+    ∙ map-append (λ page. load (mark_of marks page)) (next_picks picks from n) (slice_index picks (from + n) ∷ [])
+
+-- the loads of the next n picks of a moment
+abbrev pub next_loads : List Bool → Moment → ℕ → ℕ → List Event
+next_loads marks x from n = loads marks (next_picks x.state.core.picks from n)
+
+-- the next n steps are loads; they leave the words and the hits of the pages
 pub record LoadsTo (x : Moment) (marks : List Bool) (from n : ℕ) : Type 0 where
-  pub state : stepped_times n x ≡ record { state = run x.state (loads marks x.state.core.picks from n); stream = x.stream }
-  pub events : events_of_steps n x ≡ loads marks x.state.core.picks from n
-  pub core : (run x.state (loads marks x.state.core.picks from n)).core ≡ record x.state.core { phase = phase_by_loads from n x.state.core.phase }
-  pub words : (p : ℕ) → word_of (run x.state (loads marks x.state.core.picks from n)).notes p ≡ word_of x.state.notes p
-  pub hits : (p : ℕ) → hit (run x.state (loads marks x.state.core.picks from n)).notes p ≡ hit x.state.notes p
+  pub state : stepped_times n x ≡ record { state = run x.state (next_loads marks x from n); stream = x.stream }
+  pub events : events_of_steps n x ≡ next_loads marks x from n
+  pub core : (run x.state (next_loads marks x from n)).core ≡ record x.state.core { phase = phase_by_loads from n x.state.core.phase }
+  pub words : (p : ℕ) → word_of (run x.state (next_loads marks x from n)).notes p ≡ word_of x.state.notes p
+  pub hits : (p : ℕ) → hit (run x.state (next_loads marks x from n)).notes p ≡ hit x.state.notes p
 
-pub loads_to : (x : Moment) (marks : List Bool) (from n : ℕ) → IsLoading x.state.core.phase (row_count x.state.core) → load_index x.state.core.phase ≡ from → from + n ≤ row_count x.state.core → ((j : ℕ) → j < from + n → mark_at marks x.state.core.picks j ≡ hit x.state.notes (slice_index x.state.core.picks j)) → LoadsTo x marks from n
-loads_to x marks from zero loading index within true_marks = record { state = refl; events = refl; core = refl; words = λ p. refl; hits = λ p. refl }
-loads_to x marks from (suc n) loading index within true_marks =
+pub loads_to : (x : Moment) (marks : List Bool) (from n : ℕ) → IsLoading x.state.core.phase (row_count x.state.core) → load_index x.state.core.phase ≡ from → from + n ≤ row_count x.state.core → length x.state.core.picks ≡ row_count x.state.core → ((j : ℕ) → j < from + n → mark_of marks (slice_index x.state.core.picks j) ≡ hit x.state.notes (slice_index x.state.core.picks j)) → LoadsTo x marks from n
+loads_to x marks from zero loading index within each true_marks = record { state = refl; events = refl; core = refl; words = λ p. refl; hits = λ p. refl }
+loads_to x marks from (suc n) loading index within each true_marks =
     let rows = row_count x.state.core in
     let picks = x.state.core.picks in
-    let before = loads_to x marks from n loading index (omega arith) (λ j below. true_marks j (omega arith)) in
-    let es = loads marks picks from n in
+    let before = loads_to x marks from n loading index (omega arith) each (λ j below. true_marks j (omega arith)) in
+    let es = next_loads marks x from n in
     let here = run x.state es in
-    let h = mark_at marks picks (from + n) in
+    let h = mark_of marks (slice_index picks (from + n)) in
     let amid = loading_by_loads from n x.state.core.phase rows loading index (omega arith) in
     let loads_here : IsLoading here.core.phase (row_count here.core) = subst (λ (c : Core). IsLoading c.phase (row_count c)) (sym before.core) amid.0 in
     let index_here : load_index here.core.phase ≡ from + n = ap (λ (c : Core). load_index c.phase) before.core ∙ amid.1 in
     let page : load_page here ≡ slice_index picks (from + n) = ap (λ i. slice_index here.core.picks i) index_here ∙ ap (λ (c : Core). slice_index c.picks (from + n)) before.core in
     let is_hit : next_hit here ≡ h = before.hits (load_page here) ∙ ap (hit x.state.notes) page ∙ sym (true_marks (from + n) (omega arith)) in
     let next : next_event here x.stream ≡ load h = event_in-load here.core.phase here x.stream loads_here ∙ ap (λ b. load b) is_hit in
-    let none : draws here.core ≡ 0 = draws-loading here.core.phase here.core loads_here in
-    let last : run x.state (loads marks picks from (suc n)) ≡ after here (load h) = run-append x.state es (load h ∷ []) in
+    let more : next_loads marks x from (suc n) ≡ es ++ load h ∷ [] = loads_more marks picks from n (omega (arith, each, within)) in
+    let last : run x.state (next_loads marks x from (suc n)) ≡ after here (load h) = ap (run x.state) more ∙ run-append x.state es (load h ∷ []) in
     record {
-      state = one_more x here (load h) n before.state next none ∙ ap (λ s. record { state = s; stream = x.stream }) (sym last);
-      events = one_event_more x here (load h) n es before.state next before.events;
+      state = one_more x here (load h) n before.state next refl ∙ ap (λ s. record { state = s; stream = x.stream }) (sym last);
+      events = one_event_more x here (load h) n es before.state next before.events ∙ sym more;
       core =
           ap (λ s. s.core) last
           ∙ core-by_load here.core.phase here h loads_here
@@ -183,74 +199,79 @@ loads_to x marks from (suc n) loading index within true_marks =
       hits = λ p. ap (λ s. hit s.notes p) last ∙ hit-by_load here.core.phase here h p ∙ before.hits p;
     }
 
--- a world whose next picks are cleared makes so many steps
-pub clears_advance : {R : Type 0} (stream : R → Stream) (m new : MonitorView) (words : List ℕ) (source : R) (k n : ℕ) → m.core.phase ≡ Clearing k → k < row_count m.core → k + n ≤ row_count m.core → new ≡ after_clears n m → AreEvents m new (clears n) → length words ≡ pages_of m.core.space → ((j : ℕ) → j < row_count m.core → slice_index m.core.picks j < pages_of m.core.space)
-    → Advances stream (record { monitor = m; words = words; source = source }) (record { monitor = new; words = cleared_words m.core.picks k n (2 * (m.core.ticks + 1)) words; source = source }) n
-clears_advance {R} stream m new words source k n clearing some within shown events len inside x reached stands =
-    let same = stands.state.monitor.same in
-    let rows : row_count m.core ≡ row_count x.state.core = ap row_count same in
-    let clearing_x : x.state.core.phase ≡ Clearing k = ap (λ (c : Core). c.phase) (sym same) ∙ clearing in
-    let some_x : k < row_count x.state.core = omega (arith, some, rows) in
-    let to : (j : ℕ) → k + j ≤ row_count x.state.core → ClearsTo x k j = λ j few. clears_to x k j clearing_x some_x few in
-    let all = to n (omega (arith, within, rows)) in
-    let moved = events x.state reached stands.state.monitor in
-    let inside_x : (j : ℕ) → j < row_count x.state.core → slice_index x.state.core.picks j < pages_of m.core.space = subst (λ (c : Core). (j : ℕ) → j < row_count c → slice_index c.picks j < pages_of m.core.space) same inside in
-    let now = words_cleared x k n (pages_of m.core.space) words clearing_x some_x (omega (arith, within, rows)) len (λ j below. inside_x j (omega (arith, below, within, rows))) stands.state.words in
-    let now_m : WordsOf (cleared_words m.core.picks k n (2 * (m.core.ticks + 1)) words) (run x.state (clears n)).notes (pages_of m.core.space) = subst (λ (c : Core). WordsOf (cleared_words c.picks k n (2 * (c.ticks + 1)) words) (run x.state (clears n)).notes (pages_of m.core.space)) (sym same) now in
-    let space : new.core.space ≡ m.core.space = ap (λ (y : MonitorView). y.core.space) shown in
-    let made : StandsAt stream (record { monitor = new; words = cleared_words m.core.picks k n (2 * (m.core.ticks + 1)) words; source = source }) (record { state = run x.state (clears n); stream = x.stream }) = record {
-      state = record { monitor = moved.1; words = λ p below. now_m p (subst (λ ts. p < pages_of ts) space below) };
-      words = stands.words;
-    } in
-    record {
-      fit = subst (AllFit x.state) (sym all.events) moved.0;
-      stands = subst (StandsAt stream (record { monitor = new; words = cleared_words m.core.picks k n (2 * (m.core.ticks + 1)) words; source = source })) (sym all.state) made;
-      amid = λ j least below.
-          (let part = to j (omega (arith, below, within, rows)) in
-          let phase : (run x.state (clears j)).core.phase ≡ Clearing (k + j) = ap (λ (c : Core). c.phase) part.core ∙ phase_by_clears-amid k j (row_count x.state.core) (omega (arith, below, within, rows)) in
-          subst (λ (y : Moment). IsAmid y.state.core.phase) (sym part.state) (subst IsAmid (sym phase) tt));
-    }
+-- a world whose next n picks are cleared makes n steps
+pub clears_advance : {R : Type 0} (stream : R → Stream) (m new : MonitorView) (words : List ℕ) (source : R) (k n : ℕ) → m.core.phase ≡ Clearing k → k < row_count m.core → k + n ≤ row_count m.core → new.core ≡ cleared_core n m.core → Makes Stands m new (clears n) → length words ≡ pages_of m.core.space → ((j : ℕ) → j < row_count m.core → slice_index m.core.picks j < pages_of m.core.space)
+    → IsAdvance stream (record { monitor = m; words = words; source = source }) (record { monitor = new; words = cleared_words m.core.picks k n (2 * (m.core.ticks + 1)) words; source = source }) n
+clears_advance {R} stream m new words source k n clearing some within shown events len inside = record {
+  plays = λ x reached stands.
+      (let same = stands.state.monitor.same in
+      let rows : row_count m.core ≡ row_count x.state.core = ap row_count same in
+      let clearing_x : x.state.core.phase ≡ Clearing k = ap (λ (c : Core). c.phase) (sym same) ∙ clearing in
+      let some_x : k < row_count x.state.core = omega (arith, some, rows) in
+      let all = clears_to x k n clearing_x some_x (omega (arith, within, rows)) in
+      let made = events x.state reached stands.state.monitor in
+      let inside_x : (j : ℕ) → j < row_count x.state.core → slice_index x.state.core.picks j < pages_of m.core.space = subst (λ (c : Core). (j : ℕ) → j < row_count c → slice_index c.picks j < pages_of m.core.space) same inside in
+      let now = words_cleared x k n (pages_of m.core.space) words clearing_x some_x (omega (arith, within, rows)) len (λ j below. inside_x j (omega (arith, below, within, rows))) stands.state.words in
+      let now_m : WordsOf (cleared_words m.core.picks k n (2 * (m.core.ticks + 1)) words) (run x.state (clears n)).notes (pages_of m.core.space) = subst (λ (c : Core). WordsOf (cleared_words c.picks k n (2 * (c.ticks + 1)) words) (run x.state (clears n)).notes (pages_of m.core.space)) (sym same) now in
+      let here : StandsAt stream (record { monitor = new; words = cleared_words m.core.picks k n (2 * (m.core.ticks + 1)) words; source = source }) (record { state = run x.state (clears n); stream = x.stream }) = record {
+        state = record { monitor = made.1; words = λ p below. now_m p (subst (λ ts. p < pages_of ts) space below) };
+        words = stands.words;
+      } in
+      (subst (AllFit x.state) (sym all.events) made.0, subst (StandsAt stream (record { monitor = new; words = cleared_words m.core.picks k n (2 * (m.core.ticks + 1)) words; source = source })) (sym all.state) here));
+  amid = λ x reached stands j least below.
+      (let same = stands.state.monitor.same in
+      let rows : row_count m.core ≡ row_count x.state.core = ap row_count same in
+      let clearing_x : x.state.core.phase ≡ Clearing k = ap (λ (c : Core). c.phase) (sym same) ∙ clearing in
+      let part = clears_to x k j clearing_x (omega (arith, some, rows)) (omega (arith, below, within, rows)) in
+      let phase : (run x.state (clears j)).core.phase ≡ Clearing (k + j) = ap (λ (c : Core). c.phase) part.core ∙ clearing_amid (k + j) (row_count x.state.core) (omega (arith, below, within, rows)) in
+      subst (λ (y : Moment). IsAmid y.state.core.phase) (sym part.state) (subst IsAmid (sym phase) tt));
+  passes = omega (arith, ap (λ (c : Core). c.ticks) shown);
+  space = space;
+}
+  where
+    space : new.core.space ≡ m.core.space
+    space = ap (λ (c : Core). c.space) shown
 
 amid_by_loads : (from n : ℕ) (ph : Phase) → 1 ≤ n → IsAmid (phase_by_loads from n ph)
 amid_by_loads from zero ph some = absurd (omega arith)
 amid_by_loads from (suc n) ph some = tt
 
--- a world whose next picks are loaded makes so many steps
-pub loads_advance : {R : Type 0} (stream : R → Stream) (m new : MonitorView) (words : List ℕ) (source : R) (marks : List Bool) (from n : ℕ) → IsLoading m.core.phase (row_count m.core) → load_index m.core.phase ≡ from → from + n ≤ row_count m.core → new.core.space ≡ m.core.space → AreEvents m new (loads marks m.core.picks from n) → ((s : State) → Reached s → Stands m s → WordsOf words s.notes (pages_of m.core.space) → (j : ℕ) → j < row_count m.core → mark_at marks m.core.picks j ≡ hit s.notes (slice_index m.core.picks j))
-    → Advances stream (record { monitor = m; words = words; source = source }) (record { monitor = new; words = words; source = source }) n
-loads_advance {R} stream m new words source marks from n loading index within space events true_marks x reached stands =
-    let same = stands.state.monitor.same in
-    let rows : row_count m.core ≡ row_count x.state.core = ap row_count same in
-    let loading_x = subst (λ (c : Core). IsLoading c.phase (row_count c)) same loading in
-    let index_x : load_index x.state.core.phase ≡ from = ap (λ (c : Core). load_index c.phase) (sym same) ∙ index in
-    let marks_x : (j : ℕ) → j < row_count x.state.core → mark_at marks x.state.core.picks j ≡ hit x.state.notes (slice_index x.state.core.picks j) = subst (λ (c : Core). (j : ℕ) → j < row_count c → mark_at marks c.picks j ≡ hit x.state.notes (slice_index c.picks j)) same (true_marks x.state reached stands.state.monitor stands.state.words) in
-    let to : (j : ℕ) → from + j ≤ row_count x.state.core → LoadsTo x marks from j = λ j few. loads_to x marks from j loading_x index_x few (λ i below. marks_x i (omega (arith, below, few))) in
-    let all = to n (omega (arith, within, rows)) in
-    let here = run x.state (loads marks x.state.core.picks from n) in
-    let moved = subst (λ (c : Core). AllFit x.state (loads marks c.picks from n) × Stands new (run x.state (loads marks c.picks from n))) same (events x.state reached stands.state.monitor) in
-    let made : StandsAt stream (record { monitor = new; words = words; source = source }) (record { state = here; stream = x.stream }) = record {
-      state = record { monitor = moved.1; words = λ p below. stands.state.words p (subst (λ ts. p < pages_of ts) space below) ∙ sym (all.words p) };
-      words = stands.words;
-    } in
-    record {
-      fit = subst (AllFit x.state) (sym all.events) moved.0;
-      stands = subst (StandsAt stream (record { monitor = new; words = words; source = source })) (sym all.state) made;
-      amid = λ j least below.
-          (let part = to j (omega (arith, below, within, rows)) in
-          subst (λ (y : Moment). IsAmid y.state.core.phase) (sym part.state) (subst (λ (c : Core). IsAmid c.phase) (sym part.core) (amid_by_loads from j x.state.core.phase least)));
-    }
+-- the marks of a world's picks are the hits of its state
+abbrev pub MarksAre : List Bool → MonitorView → List ℕ → Type 0
+MarksAre marks m words = (s : State) → Reached s → Stands m s → WordsOf words s.notes (pages_of m.core.space) → (j : ℕ) → j < row_count m.core → mark_of marks (slice_index m.core.picks j) ≡ hit s.notes (slice_index m.core.picks j)
 
--- one step
-pub step_advances : {R : Type 0} (stream : R → Stream) (a b : WorldView R)
-    → ((s : State) → Reached s → StandsFor a s → Fits s (next_event s (stream a.source)) × StandsFor b (after s (next_event s (stream a.source))))
-    → stream b.source ≡ drawn_rest (draws a.monitor.core) (stream a.source) → Advances stream a b 1
-step_advances stream a b event words x reached stands =
-    let moved = subst (λ t. Fits x.state (next_event x.state t) × StandsFor b (after x.state (next_event x.state t))) stands.words (event x.state reached stands.state) in
-    record {
-      fit = (moved.0, tt);
-      stands = record { state = moved.1; words = words ∙ ap (λ (c : Core). drawn_rest (draws c) (stream a.source)) stands.state.monitor.same ∙ ap (drawn_rest (draws x.state.core)) stands.words };
-      amid = λ j least below. absurd (omega arith);
-    }
+-- a world whose next n picks are loaded makes n steps
+pub loads_advance : {R : Type 0} (stream : R → Stream) (m new : MonitorView) (words : List ℕ) (source : R) (marks : List Bool) (from n : ℕ) → IsLoading m.core.phase (row_count m.core) → load_index m.core.phase ≡ from → from + n ≤ row_count m.core → length m.core.picks ≡ row_count m.core → new.core ≡ loaded_core n m.core → Makes Stands m new (loads marks (next_picks m.core.picks from n)) → MarksAre marks m words
+    → IsAdvance stream (record { monitor = m; words = words; source = source }) (record { monitor = new; words = words; source = source }) n
+loads_advance {R} stream m new words source marks from n loading index within each shown events true_marks = record {
+  plays = λ x reached stands.
+      (let same = stands.state.monitor.same in
+      let all = to x reached stands n (omega arith) in
+      let here = run x.state (next_loads marks x from n) in
+      let made = subst (λ (c : Core). AllFit x.state (loads marks (next_picks c.picks from n)) × Stands new (run x.state (loads marks (next_picks c.picks from n)))) same (events x.state reached stands.state.monitor) in
+      let now : StandsAt stream (record { monitor = new; words = words; source = source }) (record { state = here; stream = x.stream }) = record {
+        state = record { monitor = made.1; words = λ p below. stands.state.words p (subst (λ ts. p < pages_of ts) space below) ∙ sym (all.words p) };
+        words = stands.words;
+      } in
+      (subst (AllFit x.state) (sym all.events) made.0, subst (StandsAt stream (record { monitor = new; words = words; source = source })) (sym all.state) now));
+  amid = λ x reached stands j least below.
+      (let part = to x reached stands j (omega arith) in
+      subst (λ (y : Moment). IsAmid y.state.core.phase) (sym part.state) (subst (λ (c : Core). IsAmid c.phase) (sym part.core) (amid_by_loads from j x.state.core.phase least)));
+  passes = omega (arith, ap (λ (c : Core). c.ticks) shown);
+  space = space;
+}
+  where
+    space : new.core.space ≡ m.core.space
+    space = ap (λ (c : Core). c.space) shown
+    to : (x : Moment) → Reached x.state → StandsAt stream (record { monitor = m; words = words; source = source }) x → (j : ℕ) → j ≤ n → LoadsTo x marks from j
+    to x reached stands j few =
+        let same = stands.state.monitor.same in
+        let rows : row_count m.core ≡ row_count x.state.core = ap row_count same in
+        let loading_x = subst (λ (c : Core). IsLoading c.phase (row_count c)) same loading in
+        let index_x : load_index x.state.core.phase ≡ from = ap (λ (c : Core). load_index c.phase) (sym same) ∙ index in
+        let each_x : length x.state.core.picks ≡ row_count x.state.core = subst (λ (c : Core). length c.picks ≡ row_count c) same each in
+        let marks_x : (i : ℕ) → i < row_count x.state.core → mark_of marks (slice_index x.state.core.picks i) ≡ hit x.state.notes (slice_index x.state.core.picks i) = subst (λ (c : Core). (i : ℕ) → i < row_count c → mark_of marks (slice_index c.picks i) ≡ hit x.state.notes (slice_index c.picks i)) same (true_marks x.state reached stands.state.monitor stands.state.words) in
+        loads_to x marks from j loading_x index_x (omega (arith, few, within, rows)) each_x (λ i below. marks_x i (omega (arith, below, few, within, rows)))
 
 -- where a load comes next each pick is cleared
 pub loading_kept : (ph : Phase) (rows : ℕ) → IsLoading ph rows → IsInPass ph × (cleared_so_far ph rows ≡ rows)
@@ -260,12 +281,3 @@ loading_kept (Clearing k) rows loading = absurd loading
 loading_kept Idle rows loading = absurd loading
 loading_kept Void rows loading = absurd loading
 loading_kept Due rows loading = absurd loading
-
--- as many loads come next as rows are left
-pub loads_of_kind : (ph : Phase) (rows : ℕ) → IsLoading ph rows → steps_of_kind ph rows ≡ rows - load_index ph
-loads_of_kind Armed rows loading = omega arith
-loads_of_kind (Checking k) rows loading = omega (arith, loading)
-loads_of_kind (Clearing k) rows loading = absurd loading
-loads_of_kind Idle rows loading = absurd loading
-loads_of_kind Void rows loading = absurd loading
-loads_of_kind Due rows loading = absurd loading

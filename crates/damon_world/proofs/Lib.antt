@@ -1,8 +1,8 @@
 pub mod Drawing
 pub mod Words
 pub mod Parts
-pub mod Leaving
+pub mod Moments
 pub mod Stepping
-pub mod Passing
 pub mod Touching
 pub mod Advancing
+pub mod Passing

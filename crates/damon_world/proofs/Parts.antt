@@ -94,14 +94,6 @@ puts_filled xs ys n p x is here q = elim (cases_eq q p) [
       now ∙ ap (λ zs. slice_index zs q) is ∙ index_with_zeros xs n q ∙ sym (ap (λ b. if b then x else slice_index xs q) test)
 ]
 
--- 0 is put where there is nothing
-pub puts_nothing : (p : ℕ) → Puts [] [] p 0
-puts_nothing p q = same (q == p)
-  where
-    same : (b : Bool) → slice_index [] q ≡ (if b then 0 else slice_index [] q)
-    same true = refl
-    same false = refl
-
 -- numbers with zeros behind them, up to so many
 pub filled_up : (xs : List ℕ) (n : ℕ) → n ≤ length (xs ++ replicate (n - length xs) 0)
 filled_up xs n = omega (arith, length-append xs (replicate (n - length xs) 0), length-replicate {A = ℕ} (n - length xs) 0)

@@ -5,7 +5,5 @@ pub mod Stands
 pub mod Plays
 pub mod Touches
 pub mod Advance
-pub mod Left
 pub mod Kept
-pub mod Step
 pub mod Pass

@@ -1,9 +1,9 @@
 -- A state with the random words that are still to come, and the next step from it.
-use Rattle.std.specs.Prelude.{◌≡◌, ℕ, true, false, zero, suc, ◌*◌, ◌==◌, List, [], ◌∷◌, ◌++◌, length, slice_index, if◌then◌else◌}
+use Rattle.std.specs.Prelude.{◌≡◌, ℕ, true, false, zero, suc, ◌*◌, ◌==◌, List, [], ◌∷◌, length, slice_index, if◌then◌else◌}
 use Rattle.rand_core.specs.Stream.{Stream}
 use Rattle.live_commit.specs.declared.phase.Phase.{Phase}
 use Rattle.live_commit.specs.declared.phase.Phase.TheVariants.{Idle, Clearing, Armed, Checking, Void, Due}
-use Rattle.damon_core.specs.State.{Core, State, row_count}
+use Rattle.damon_core.specs.State.{State, row_count}
 use Rattle.damon_core.specs.Event.{Event, prepare, clear, load, observe, aggregate, load_page, next_hit}
 use Rattle.damon_core.specs.After.{after}
 use Rattle.damon_world.specs.Draws.{drawn, drawn_rest}
@@ -14,16 +14,6 @@ use Rattle.damon_world.specs.declared.world.Stepped.TheVariants.{Prepared, Clear
 pub record Moment : Type 0 where
   pub state : State
   pub stream : Stream
-
--- how many random words the next step draws
-abbrev pub draws_in : Phase → Core → ℕ
-draws_in Idle c = row_count c
-draws_in Due c = 2 * c.attrs.max
-draws_in _ c = 0
-
--- how many random words the next step from a state draws
-abbrev pub draws : Core → ℕ
-draws c = draws_in c.phase c
 
 -- the event of the next step, with the next random words and the true result of a load
 abbrev pub event_in : Phase → State → Stream → Event
@@ -47,20 +37,6 @@ Tells (Checking k) s told = told ≡ (if k == row_count s.core then Observed fal
 Tells Void s told = told ≡ Observed true
 Tells Due s told = ⊥
 
--- the moment after the next step
-abbrev pub stepped : Moment → Moment
-stepped m = record { state = after m.state (next_event m.state m.stream); stream = drawn_rest (draws m.state.core) m.stream }
-
--- the moment after so many steps
-abbrev pub stepped_times : ℕ → Moment → Moment
-stepped_times zero m = m
-stepped_times (suc n) m = stepped (stepped_times n m)
-
--- the events of so many steps, in order
-abbrev pub events_of_steps : ℕ → Moment → List Event
-events_of_steps zero m = []
-events_of_steps (suc n) m = events_of_steps n m ++ next_event (stepped_times n m).state (stepped_times n m).stream ∷ []
-
 -- how many random words an event takes
 abbrev pub drawn_by : Event → ℕ
 drawn_by (prepare words) = length words
@@ -75,3 +51,16 @@ moved m e = record { state = after m.state e; stream = drawn_rest (drawn_by e) m
 abbrev pub along : Moment → List Event → Moment
 along m [] = m
 along m (e ∷ es) = along (moved m e) es
+
+-- the moment after the next step
+abbrev pub stepped : Moment → Moment
+stepped m = moved m (next_event m.state m.stream)
+
+-- the events of the next n steps, in order
+abbrev pub events_of_steps : ℕ → Moment → List Event
+events_of_steps zero m = []
+events_of_steps (suc n) m = let e = next_event m.state m.stream in e ∷ events_of_steps n (moved m e)
+
+-- the moment after the next n steps
+abbrev pub stepped_times : ℕ → Moment → Moment
+stepped_times n m = along m (events_of_steps n m)

@@ -1,10 +1,15 @@
 -- A pass, by its steps.
-use Rattle.std.specs.Prelude.{◌≡◌, ℕ, ◌+◌, ◌≤◌, ◌<◌}
+use Rattle.std.specs.Prelude.{◌≡◌, ℕ, ◌+◌, ◌*◌, ◌≤◌, ◌<◌, Bool, List, [], ◌∷◌, ◌++◌, length, map}
 use Rattle.live_commit.specs.declared.phase.Phase.{Phase}
 use Rattle.live_commit.specs.declared.phase.Phase.TheVariants.{Idle, Due}
 use Rattle.damon_core.specs.State.{Core, row_count}
-use Rattle.damon_world.specs.Moment.{Moment, stepped_times}
-use Rattle.damon_world.specs.Left.{pass_steps}
+use Rattle.damon_core.specs.Event.{Event, prepare, load, observe}
+use Rattle.damon_core.specs.Several.{clears}
+use Rattle.damon_world.specs.Moment.{Moment, events_of_steps, stepped_times}
+
+-- the steps of a pass over this many rows
+abbrev pub pass_steps : ℕ → ℕ
+pass_steps rows = 2 * rows + 2
 
 -- no pass is under way
 abbrev pub IsBetween : Phase → Type 0
@@ -12,12 +17,21 @@ IsBetween Idle = Unit {0}
 IsBetween Due = Unit {0}
 IsBetween _ = ⊥
 
--- what a monitor shows after so many steps
+-- The events are those of a pass: it is prepared, the pick of each row is cleared, each is loaded, and the pass is
+-- observed.
+pub record IsPass (rows : ℕ) (events : List Event) : Type 0 where
+  pub words : List ℕ
+  pub hits : List Bool
+  pub each : length hits ≡ rows
+  pub are : events ≡ prepare words ∷ (clears rows ++ map (λ hit. load hit) hits ++ observe ∷ [])
+
+-- what a monitor shows after n steps
 abbrev pub core_after : ℕ → Moment → Core
 core_after n m = (stepped_times n m).state.core
 
--- The pass that begins here ends with step 2 * rows + 2, and with none before it.
+-- The next 2 * rows + 2 steps are a pass; it ends with the last of them, and not before.
 pub record TakesItsSteps (m : Moment) : Type 0 where
+  pub pass : IsPass (row_count m.state.core) (events_of_steps (pass_steps (row_count m.state.core)) m)
   pub still : (n : ℕ) → n < pass_steps (row_count m.state.core) → (core_after n m).ticks ≡ m.state.core.ticks
   pub under_way : (n : ℕ) → 1 ≤ n → n < pass_steps (row_count m.state.core) → ¬ IsBetween (core_after n m).phase
   pub ticks : (core_after (pass_steps (row_count m.state.core)) m).ticks ≡ m.state.core.ticks + 1

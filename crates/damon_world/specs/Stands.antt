@@ -4,9 +4,6 @@ use Rattle.rand_core.specs.Stream.{Stream}
 use Rattle.damon_types.specs.Space.{pages_of}
 use Rattle.damon_core.specs.Note.{word_of}
 use Rattle.damon_core.specs.State.{State}
-use Rattle.damon_core.specs.Event.{Event, Fits}
-use Rattle.damon_core.specs.After.{after}
-use Rattle.damon_core.specs.Reached.{AllFit, Reached, run}
 use Rattle.damon_core.specs.Stands.{MonitorView, Stands}
 use Rattle.damon_world.specs.Moment.{Moment}
 
@@ -20,14 +17,6 @@ pub record WorldView (R : Type 0) : Type 0 where
 pub record StandsFor {R : Type 0} (w : WorldView R) (s : State) : Type 0 where
   pub monitor : Stands w.monitor s
   pub words : (p : ℕ) → p < pages_of w.monitor.core.space → slice_index w.words p ≡ word_of s.notes p
-
--- In each state for which the world stands the event fits, and afterwards it stands for the state after it.
-abbrev pub IsEvent : {R : Type 0} → WorldView R → WorldView R → Event → Type 0
-IsEvent old new e = (s : State) → Reached s → StandsFor old s → Fits s e × StandsFor new (after s e)
-
--- the same of events one after another
-abbrev pub AreEvents : {R : Type 0} → WorldView R → WorldView R → List Event → Type 0
-AreEvents old new es = (s : State) → Reached s → StandsFor old s → AllFit s es × StandsFor new (run s es)
 
 -- the world stands for the state, and these are the random words that its source still gives
 pub record StandsAt {R : Type 0} (stream : R → Stream) (w : WorldView R) (m : Moment) : Type 0 where

@@ -1,12 +1,12 @@
 -- The words of pages.
 use Rattle.std.specs.Prelude.{◌≡◌, ℕ, zero, suc, ◌+◌, ◌*◌, ◌/◌, ◌%◌, ◌^◌, ◌≤◌, Bool, ◌==◌, List, [], ◌∷◌, drop, slice_index, slice_set, if◌then◌else◌, cond}
 
--- the word of a page: twice the pass that cleared it last, given by its lowest 16 bits and those above, and
--- whether the page was touched since
+-- the word of a page: twice the pass that cleared it last, plus 1 where the page was touched since; the pass is
+-- given by its lowest 16 bits and the bits above them
 abbrev pub word : ℕ → ℕ → Bool → ℕ
 word low high touched = 2 * (2 ^ 16 * high + low) + cond touched 1 0
 
--- the words of pages by their marks and the parts of their passes; parts that are not there are 0
+-- the words of pages by their marks and the parts of their passes; a part that is not stored is 0
 abbrev pub words_of : List ℕ → List ℕ → List Bool → List ℕ
 words_of lows highs [] = []
 words_of lows highs (t ∷ touched) = word (slice_index lows 0) (slice_index highs 0) t ∷ words_of (drop 1 lows) (drop 1 highs) touched
@@ -16,7 +16,7 @@ pub record IsPlainWords (pages low_room high_room : ℕ) : Type 0 where
   pub lows : pages ≤ low_room
   pub highs : pages ≤ high_room
 
--- a list with another number at one place, 0 standing where there is none
+-- the new list has this number at this place and is the old list elsewhere; a place past the end counts as 0
 abbrev pub Puts : List ℕ → List ℕ → ℕ → ℕ → Type 0
 Puts old new place number = (q : ℕ) → slice_index new q ≡ (if q == place then number else slice_index old q)
 
@@ -28,7 +28,7 @@ touched_word w = 2 * (w / 2) + 1
 abbrev pub is_touched_word : ℕ → Bool
 is_touched_word w = w % 2 == 1
 
--- the words after so many picks, from one on, are cleared: each becomes this word
+-- the words once the n picks that begin with pick `from` are cleared: each gets this word
 abbrev pub cleared_words : List ℕ → ℕ → ℕ → ℕ → List ℕ → List ℕ
 cleared_words picks from zero w words = words
 cleared_words picks from (suc n) w words = slice_set (cleared_words picks from n w words) (slice_index picks (from + n)) w

@@ -15,9 +15,9 @@ const LOWS: u64 = 0x1_0000;
 /// pass on that has any.
 #[derive(Drop)]
 pub struct PlainWords {
-    // The lowest 16 bits of each c, in room that is taken once; none as long as no page was cleared.
+    // The lowest 16 bits of each c; empty until a page is cleared. The room is taken once.
     lows: Vec<u16>,
-    // The bits above them, in the same way; none as long as all are 0.
+    // The bits above them; empty until one of them is not 0. The room is taken once.
     highs: Vec<u32>,
     touched: Vec<bool>,
 }
@@ -34,7 +34,7 @@ impl Model for PlainWords {
 }
 
 impl PlainWords {
-    /// The words of so many pages, none of which was cleared or touched. Takes memory; no other call
+    /// The words of `pages` pages, none of which was cleared or touched. Takes memory; no other call
     /// does.
     #[tactic(auto, using(crate::proofs::Parts::zeros_of_none))]
     pub fn new(alloc: Global, pages: u32) -> Result<PlainWords, AllocError>
@@ -50,22 +50,29 @@ impl PlainWords {
         })
     }
 
-    /// Touches a page, and gives the pass that cleared it last, 0 where none did.
+    /// Touches a page, and returns the pass that cleared it last, 0 if none did.
     pub fn touch(&mut self, page: u32) -> u64
         requires { page < length self.old }
         ensures tag { result ≡ slice_index self.old page / 2 }
-        ensures word { self.new ≡ slice_set self.old page (touched_word (slice_index self.old page)) }
+        ensures word {
+            self.new ≡ slice_set self.old page (touched_word (slice_index self.old page))
+        }
     {
         self.touched[page as usize] = true;
         LOWS * u64::from(high_at(&self.highs, page)) + u64::from(low_at(&self.lows, page))
     }
 
-    /// Touches the pages from one to before another.
+    /// Touches the pages from `from` to before `to`.
     pub fn sweep(&mut self, from: u32, to: u32)
         requires order { from ≤ to }
         requires within { to ≤ length self.old }
         ensures len { length self.new ≡ length self.old }
-        ensures words { (p : ℕ) → p < length self.old → slice_index self.new p ≡ (if nat_le from p && nat_lt p to then touched_word (slice_index self.old p) else slice_index self.old p) }
+        ensures words {
+            (p : ℕ) → p < length self.old
+                → slice_index self.new p
+                    ≡ (if nat_le from p && nat_lt p to
+                        then touched_word (slice_index self.old p) else slice_index self.old p)
+        }
     {
         mark(&mut self.touched, from, to);
     }
@@ -90,19 +97,23 @@ impl PlainWords {
     }
 }
 
-// Sets the marks from one page to before another.
+// Sets the marks from page `from` to before page `to`.
 fn mark(touched: &mut [bool], from: u32, to: u32)
     requires order { from ≤ to }
     requires within { to ≤ length touched.old }
     ensures len { length touched.new ≡ length touched.old }
-    ensures marks { (p : ℕ) → slice_index_or touched.new p false ≡ ((nat_le from p && nat_lt p to) || slice_index_or touched.old p false) }
+    ensures marks {
+        (p : ℕ)
+            → slice_index_or touched.new p false
+                ≡ ((nat_le from p && nat_lt p to) || slice_index_or touched.old p false)
+    }
 {
     for page in from..to {
         touched[page as usize] = true;
     }
 }
 
-// Takes a page's mark away. Most pages have none, and to look is faster than to write.
+// Clears a page's mark. Most pages have none, and a read is faster than a write.
 fn unmark(touched: &mut Vec<bool>, page: u32)
     requires { page < length touched.old.items }
     ensures { touched.new.items ≡ slice_set touched.old.items page false }
@@ -112,7 +123,7 @@ fn unmark(touched: &mut Vec<bool>, page: u32)
     }
 }
 
-// The lowest bits of a page's pass, 0 where there are none.
+// The lowest bits of a page's pass, 0 if none are stored.
 fn low_at(lows: &[u16], page: u32) -> u16
     ensures { result ≡ slice_index lows.now page }
 {
@@ -122,7 +133,7 @@ fn low_at(lows: &[u16], page: u32) -> u16
     }
 }
 
-// The bits above them.
+// The bits above the lowest, 0 if none are stored.
 fn high_at(highs: &[u32], page: u32) -> u32
     ensures { result ≡ slice_index highs.now page }
 {
@@ -132,7 +143,7 @@ fn high_at(highs: &[u32], page: u32) -> u32
     }
 }
 
-// Puts the lowest bits of a page's pass, with zeros for pages that have none.
+// Stores the lowest bits of a page's pass, with zeros for the pages that had none.
 fn put_low(lows: &mut Vec<u16>, pages: usize, page: u32, low: u16)
     requires page { page < pages }
     requires room { pages ≤ vec_capacity lows.old }
@@ -143,7 +154,7 @@ fn put_low(lows: &mut Vec<u16>, pages: usize, page: u32, low: u16)
     lows[page as usize] = low;
 }
 
-// Puts the bits above them, unless there are none and these are 0.
+// Stores the bits above the lowest, unless none are stored and these are 0.
 fn put_high(highs: &mut Vec<u32>, pages: usize, page: u32, high: u32)
     requires page { page < pages }
     requires room { pages ≤ vec_capacity highs.old }
@@ -156,10 +167,12 @@ fn put_high(highs: &mut Vec<u32>, pages: usize, page: u32, high: u32)
     }
 }
 
-// Appends copies of an item until there are at least so many.
+// Appends copies of an item until there are at least `count` items.
 fn fill_up<T: Copy + Drop>(items: &mut Vec<T>, count: usize, item: T)
     requires { count ≤ vec_capacity items.old }
-    ensures items { items.new.items ≡ items.old.items ++ replicate (count - length items.old.items) item }
+    ensures items {
+        items.new.items ≡ items.old.items ++ replicate (count - length items.old.items) item
+    }
     ensures capacity { vec_capacity items.new ≡ vec_capacity items.old }
 {
     for _ in items.len()..count {

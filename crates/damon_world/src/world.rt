@@ -1,19 +1,19 @@
-ghost use Rattle.std.specs.Prelude.{◌≡◌, ◌≢◌, ◌+◌, ◌-◌, ◌*◌, ◌/◌, ◌^◌, ◌≤◌, ◌<◌, ℕ, ◌↔◌, min, length, IsTrue, IfOk, slice_index, vec_capacity};
+ghost use Rattle.std.specs.Prelude.{◌≡◌, ◌≢◌, ◌+◌, ◌-◌, ◌*◌, ◌/◌, ◌^◌, ◌≤◌, ◌<◌, [], ◌∷◌, min, length, IfOk, slice_index, vec_capacity};
 ghost use Rattle.damon_types.specs.Space.{pages_of};
 ghost use Rattle.live_commit.specs.SetupView.{value_of};
 ghost use Rattle.damon_core.specs.State.{State, opening, opening_core, row_count};
-ghost use Rattle.damon_core.specs.Event.{Fits, IsLoading, IsObserving, load_index, touch as touch_event};
-ghost use Rattle.damon_core.specs.After.{after};
+ghost use Rattle.damon_core.specs.Event.{IsLoading, IsObserving, load_index, touch as touch_event};
+ghost use Rattle.damon_core.specs.Makes.{Makes};
+ghost use Rattle.damon_core.specs.Pass.{IsInPass};
 ghost use Rattle.damon_core.specs.Reached.{Reached};
-ghost use Rattle.damon_core.specs.Kept.{IsInPass};
 ghost use Rattle.damon_world.specs.Draws.{drawn, drawn_rest};
-ghost use Rattle.damon_world.specs.Stands.{StandsFor, AreEvents, IsEvent};
+ghost use Rattle.damon_world.specs.Stands.{StandsAt, StandsFor};
 ghost use Rattle.damon_world.specs.Words.{cleared_words};
 ghost use Rattle.damon_world.specs.Touches.{touches};
-ghost use Rattle.damon_world.specs.Advance.{Advances, IsAdvance, steps_of_kind};
-ghost use Rattle.damon_world.specs.Moment.{draws, next_event, Tells};
-ghost use Rattle.damon_world.specs.Left.{steps_to_due};
-ghost use Rattle.damon_world.specs.Step.{IsStep};
+ghost use Rattle.damon_world.specs.Advance.{AreAmid, steps_of_kind};
+ghost use Rattle.damon_world.specs.Moment.{Moment, Tells, events_of_steps, next_event};
+ghost use Rattle.damon_world.specs.Plays.{Plays};
+ghost use Rattle.damon_world.specs.Kept.{IsAdvance};
 
 use crate::PlainWords;
 use damon_core::Monitor;
@@ -29,7 +29,7 @@ pub enum Stepped {
     Prepared,
     /// The accessed mark of the page was cleared.
     Cleared { page: u32 },
-    /// The accessed mark of the page was looked at: it was accessed since its clear, or not.
+    /// The accessed mark of the page was checked: it was accessed since its clear, or not.
     Loaded { page: u32, hit: bool },
     /// The pass was observed, as a void one or not.
     Observed { void: bool },
@@ -40,7 +40,7 @@ pub enum Stepped {
 pub struct World<R: Rng> {
     monitor: Monitor,
     words: PlainWords,
-    // The random words of a step, in room that is taken once.
+    // The random words of a step; the room for them is taken once.
     drawn: Vec<u32>,
     source: R,
 }
@@ -59,8 +59,10 @@ impl<R: Rng> Model for World<R> {
 }
 
 impl<R: Rng + Drop> World<R> {
-    /// A world before its first event: no page was touched. Takes memory; no other call does.
+    /// A world before its first event: no page was touched. Takes memory; no other call does. The setup
+    /// sets no slot, since schemes are not built yet.
     pub fn new(alloc: Global, setup: &Setup, source: R) -> Result<World<R>, AllocError>
+        requires no_slots { setup.now.slots.list ≡ [] }
         ensures core { IfOk result (λ w. w.monitor.core ≡ opening_core (value_of setup.now)) }
         ensures source { IfOk result (λ w. w.source ≡ source) }
         ensures opening { IfOk result (λ w. StandsFor w (opening (value_of setup.now))) }
@@ -83,113 +85,150 @@ impl<R: Rng + Drop> World<R> {
         &self.monitor
     }
 
-    /// Touches a page of the space, and gives the tag: the pass that cleared the page last, 0 where
-    /// none did.
+    /// Touches a page of the space, and returns the tag: the pass that cleared the page last, 0 if none
+    /// did.
     pub fn touch(&mut self, page: u32) -> u64
         requires { page < pages_of self.old.monitor.core.space }
         ensures tag { result ≡ slice_index self.old.words page / 2 }
         ensures monitor { self.new.monitor ≡ self.old.monitor }
         ensures source { self.new.source ≡ self.old.source }
-        ensures event { IsEvent self.old self.new (touch_event page) }
+        ensures event { Makes StandsFor self.old self.new (touch_event page ∷ []) }
     {
         self.words.touch(page)
     }
 
-    /// Touches the pages of the space from one to before another, in ascending order.
+    /// Touches the pages of the space from `from` to before `to`, in ascending order.
     pub fn sweep(&mut self, from: u32, to: u32)
         requires order { from ≤ to }
         requires within { to ≤ pages_of self.old.monitor.core.space }
         ensures monitor { self.new.monitor ≡ self.old.monitor }
         ensures source { self.new.source ≡ self.old.source }
-        ensures events { AreEvents self.old self.new (touches from (to - from)) }
+        ensures events { Makes StandsFor self.old self.new (touches from (to - from)) }
     {
         self.words.sweep(from, to);
     }
 
-    /// Carries out the monitor's next step. No aggregation is due, as none is carried out yet. The
-    /// passes in all are below 2^40.
+    /// Carries out the monitor's next step, and tells what it did. No aggregation is due, since none is
+    /// carried out yet. The passes in all are below 2^40.
     pub fn step(&mut self) -> Stepped
         requires not_due { self.old.monitor.core.phase ≢ Phase.Due }
         requires ticks { self.old.monitor.core.ticks < 2 ^ 40 }
-
-        // The random words are drawn from the front of the stream, as many as the step wants.
-        ensures words { R.stream self.new.source ≡ drawn_rest (draws self.old.monitor.core) (R.stream self.old.source) }
-
-        // In each state for which the world stands the step is the next event.
-        ensures event { (s : State) → Reached s → StandsFor self.old s → Fits s (next_event s (R.stream self.old.source)) × StandsFor self.new (after s (next_event s (R.stream self.old.source))) }
-        ensures told { (s : State) → Reached s → StandsFor self.old s → Tells s.core.phase s result }
+        ensures plays { Plays R.stream self.old self.new (λ m. next_event m.state m.stream ∷ []) }
+        ensures told {
+            (s : State) → Reached s → StandsFor self.old s → Tells s.core.phase s result
+        }
 
         // What a caller needs for the next step.
-        ensures left { steps_to_due self.new.monitor.core + 1 ≡ steps_to_due self.old.monitor.core }
+        ensures passes { self.new.monitor.core.ticks ≤ self.old.monitor.core.ticks + 1 }
+        ensures space { self.new.monitor.core.space ≡ self.old.monitor.core.space }
+    {
+        let stepped = self.next_step();
+        self.advance(1);
+        stepped
+    }
+
+    /// Carries out up to `most` (at least 1) of the monitor's next steps, as long as they are of one
+    /// kind, and returns how many. No aggregation is due, since none is carried out yet. The passes in
+    /// all are below 2^40.
+    pub fn advance(&mut self, most: u64) -> u64
+        requires some { 1 ≤ most }
+        requires not_due { self.old.monitor.core.phase ≢ Phase.Due }
+        requires ticks { self.old.monitor.core.ticks < 2 ^ 40 }
+        ensures count {
+            result
+                ≡ min most
+                    (steps_of_kind self.old.monitor.core.phase (row_count self.old.monitor.core))
+        }
+        ensures some { 1 ≤ result }
+        ensures plays { Plays R.stream self.old self.new (λ m. events_of_steps result m) }
+        ensures amid {
+            (m : Moment) → Reached m.state → StandsAt R.stream self.old m → AreAmid result m
+        }
+
+        // What a caller needs for the next steps.
         ensures passes { self.new.monitor.core.ticks ≤ self.old.monitor.core.ticks + 1 }
         ensures space { self.new.monitor.core.space ≡ self.old.monitor.core.space }
     {
         match self.monitor.phase() {
             Phase::Idle => self.prepare(),
-            Phase::Clearing { next } => self.clear(next),
-            Phase::Armed => self.load(0),
-            Phase::Checking { next } => self.check(next),
-            Phase::Void => self.observe(true),
+            Phase::Clearing { next } => self.clear_picks(next, most),
+            Phase::Armed => self.load_picks(0, most),
+            Phase::Checking { next } if next < self.monitor.rows().len() => self.load_picks(
+                next, most,
+            ),
+            Phase::Due => unreachable!(),
+            _ => self.observe(),
+        }
+    }
+
+    // What the next step does.
+    fn next_step(&self) -> Stepped
+        requires { self.now.monitor.core.phase ≢ Phase.Due }
+        ensures { (s : State) → Reached s → StandsFor self.now s → Tells s.core.phase s result }
+    {
+        let rows = self.monitor.rows().len();
+        match self.monitor.phase() {
+            Phase::Idle => Stepped::Prepared,
+            Phase::Clearing { next } => Stepped::Cleared {
+                page: self.monitor.pick(next),
+            },
+            Phase::Armed => self.next_load(0),
+            Phase::Checking { next } if next < rows => self.next_load(next),
+            Phase::Checking { .. } => Stepped::Observed { void: false },
+            Phase::Void => Stepped::Observed { void: true },
             Phase::Due => unreachable!(),
         }
     }
 
-    /// Carries out the monitor's next steps as long as they are of one kind, at most `most` of them,
-    /// which is not 0, and says how many. No aggregation is due, as none is carried out yet. The passes
-    /// in all are below 2^40.
-    pub fn advance(&mut self, most: u64) -> u64
-        requires some { 1 ≤ most }
-        requires not_due { self.old.monitor.core.phase ≢ Phase.Due }
-        requires ticks { self.old.monitor.core.ticks < 2 ^ 40 }
-        ensures count { result ≡ min most (steps_of_kind self.old.monitor.core.phase (row_count self.old.monitor.core)) }
-        ensures some { 1 ≤ result }
-        ensures steps { Advances R.stream self.old self.new result }
-        ensures passes { self.new.monitor.core.ticks ≤ self.old.monitor.core.ticks + 1 }
-        ensures space { self.new.monitor.core.space ≡ self.old.monitor.core.space }
+    // What the load of pick `next` will do.
+    fn next_load(&self, next: u32) -> Stepped
+        requires phase { IsLoading self.now.monitor.core.phase (row_count self.now.monitor.core) }
+        requires index { next ≡ load_index self.now.monitor.core.phase }
+        requires within { next < row_count self.now.monitor.core }
+        ensures { (s : State) → Reached s → StandsFor self.now s → Tells s.core.phase s result }
     {
-        match self.monitor.phase() {
-            Phase::Clearing { next } => self.clear_run(next, most),
-            Phase::Armed => self.load_run(0, most),
-            Phase::Checking { next } if next < self.monitor.rows().len() => self.load_run(
-                next, most,
-            ),
-            _ => self.one_step(),
-        }
+        let page = self.monitor.pick(next);
+        let hit = self.words.marks()[page as usize];
+        Stepped::Loaded { page, hit }
     }
 
-    // Carries out the next step, which is the only one of its kind.
-    fn one_step(&mut self) -> u64
-        requires not_due { self.old.monitor.core.phase ≢ Phase.Due }
-        requires ticks { self.old.monitor.core.ticks < 2 ^ 40 }
-        requires only { steps_of_kind self.old.monitor.core.phase (row_count self.old.monitor.core) ≡ 1 }
-        ensures { IsAdvance R.stream self.old self.new 1 result }
+    // Prepares a pass by the next random words, which is one step.
+    fn prepare(&mut self) -> u64
+        requires { self.old.monitor.core.phase ≡ Phase.Idle }
+        ensures one { result ≡ 1 }
+        ensures advance { IsAdvance R.stream self.old self.new 1 }
     {
-        let _stepped = self.step();
+        let rows = self.monitor.rows().len();
+        draw(&mut self.source, rows, &mut self.drawn);
+        self.monitor.prepare(&self.drawn);
         1
     }
 
-    // Clears the pages of picks from `next` on, at most so many.
-    fn clear_run(&mut self, next: u32, most: u64) -> u64
+    // Clears the pages of at most `most` picks that begin with pick `next`, and returns how many.
+    fn clear_picks(&mut self, next: u32, most: u64) -> u64
         requires some { 1 ≤ most }
         requires phase { self.old.monitor.core.phase ≡ Phase.Clearing next }
         requires within { next < row_count self.old.monitor.core }
         requires ticks { self.old.monitor.core.ticks < 2 ^ 40 }
-        ensures { IsAdvance R.stream self.old self.new most result }
+        ensures count { result ≡ min most (row_count self.old.monitor.core - next) }
+        ensures advance { IsAdvance R.stream self.old self.new result }
     {
         // For its clauses alone: each pick is a page of the space.
         let _picks = self.monitor.picks();
         let count = at_most(self.monitor.rows().len() - next, most);
-        clear_words(&self.monitor, next, count, &mut self.words);
+        clear_words(&self.monitor, next, next + count, &mut self.words);
         self.monitor.cleared_next(count);
         u64::from(count)
     }
 
-    // Loads the pages of picks from `next` on, at most so many.
-    fn load_run(&mut self, next: u32, most: u64) -> u64
+    // Loads the pages of at most `most` picks that begin with pick `next`, and returns how many.
+    fn load_picks(&mut self, next: u32, most: u64) -> u64
         requires some { 1 ≤ most }
         requires phase { IsLoading self.old.monitor.core.phase (row_count self.old.monitor.core) }
         requires index { next ≡ load_index self.old.monitor.core.phase }
-        ensures { IsAdvance R.stream self.old self.new most result }
+        ensures count { result ≡ min most (row_count self.old.monitor.core - next) }
+        ensures some { 1 ≤ result }
+        ensures advance { IsAdvance R.stream self.old self.new result }
     {
         // For its clauses alone: each pick is a page of the space, and those to be loaded are cleared.
         let _picks = self.monitor.picks();
@@ -198,94 +237,45 @@ impl<R: Rng + Drop> World<R> {
         u64::from(count)
     }
 
-    // Prepares a pass by the next random words.
-    fn prepare(&mut self) -> Stepped
-        requires { self.old.monitor.core.phase ≡ Phase.Idle }
-        ensures { IsStep R.stream self.old self.new result }
-    {
-        let rows = self.monitor.rows().len();
-        draw(&mut self.source, rows, &mut self.drawn);
-        self.monitor.prepare(&self.drawn);
-        Stepped::Prepared
-    }
-
-    // Clears the page of pick `next`.
-    fn clear(&mut self, next: u32) -> Stepped
-        requires phase { self.old.monitor.core.phase ≡ Phase.Clearing next }
-        requires within { next < row_count self.old.monitor.core }
-        requires ticks { self.old.monitor.core.ticks < 2 ^ 40 }
-        ensures { IsStep R.stream self.old self.new result }
-    {
-        let page = self.monitor.pick(next);
-        self.words.clear(page, self.monitor.ticks() + 1);
-        self.monitor.cleared();
-        Stepped::Cleared { page }
-    }
-
-    // Loads the page of pick `next`, or observes the pass where all are loaded.
-    fn check(&mut self, next: u32) -> Stepped
-        requires phase { self.old.monitor.core.phase ≡ Phase.Checking next }
-        requires within { next ≤ row_count self.old.monitor.core }
-        requires ticks { self.old.monitor.core.ticks < 2 ^ 40 }
-        ensures { IsStep R.stream self.old self.new result }
-    {
-        if next < self.monitor.rows().len() {
-            self.load(next)
-        } else {
-            self.observe(false)
-        }
-    }
-
-    // Loads the page of pick `next`.
-    fn load(&mut self, next: u32) -> Stepped
-        requires phase { IsLoading self.old.monitor.core.phase (row_count self.old.monitor.core) }
-        requires index { next ≡ load_index self.old.monitor.core.phase }
-        ensures { IsStep R.stream self.old self.new result }
-    {
-        // For its clauses alone: there is a row, so there is a pick.
-        let _rows = self.monitor.rows();
-        let page = self.monitor.pick(next);
-        let hit = self.words.marks()[page as usize];
-        self.monitor.loaded(hit);
-        Stepped::Loaded { page, hit }
-    }
-
-    // Ends the pass.
-    fn observe(&mut self, void: bool) -> Stepped
+    // Ends the pass, which is one step.
+    fn observe(&mut self) -> u64
         requires phase { IsObserving self.old.monitor.core.phase (row_count self.old.monitor.core) }
-        requires void { IsTrue void ↔ (self.old.monitor.core.phase ≡ Phase.Void) }
         requires ticks { self.old.monitor.core.ticks < 2 ^ 40 }
-        ensures { IsStep R.stream self.old self.new result }
+        ensures one { result ≡ 1 }
+        ensures advance { IsAdvance R.stream self.old self.new 1 }
     {
         self.monitor.observe();
-        Stepped::Observed { void }
+        1
     }
 }
 
-// So many, but no more than that.
+// `count`, or `most` where that is less.
 fn at_most(count: u32, most: u64) -> u32
     ensures { result ≡ min count most }
 {
     u64::from(count).min(most) as u32
 }
 
-// Clears the words of so many picks of the pass under way, from one on.
-fn clear_words(monitor: &Monitor, from: u32, count: u32, words: &mut PlainWords)
+// Clears the words of the picks of the pass under way from pick `from` to before pick `to`.
+fn clear_words(monitor: &Monitor, from: u32, to: u32, words: &mut PlainWords)
     requires pass { IsInPass monitor.now.core.phase }
-    requires within { from + count ≤ row_count monitor.now.core }
+    requires order { from ≤ to }
+    requires within { to ≤ row_count monitor.now.core }
     requires each { length words.old ≡ pages_of monitor.now.core.space }
     requires ticks { monitor.now.core.ticks < 2 ^ 40 }
-    ensures { words.new ≡ cleared_words monitor.now.core.picks from count (2 * (monitor.now.core.ticks + 1)) words.old }
+    ensures {
+        words.new
+            ≡ cleared_words monitor.now.core.picks from (to - from)
+                (2 * (monitor.now.core.ticks + 1)) words.old
+    }
 {
-    // For its clauses alone: the number of rows is a u32.
-    let _rows = monitor.rows().len();
     let pass = monitor.ticks() + 1;
-    for next in from..from + count {
+    for next in from..to {
         words.clear(monitor.pick(next), pass);
     }
 }
 
-// Draws so many random words.
+// Replaces the words by `count` random ones.
 fn draw<R: Rng>(source: &mut R, count: u32, words: &mut Vec<u32>)
     requires { count ≤ vec_capacity words.old }
     ensures words { words.new.items ≡ drawn count (R.stream source.old) }

@@ -25,8 +25,10 @@ use std::alloc::{AllocError, Global};
 const STREAM: u64 = 54;
 
 /// A world before the first command of a script, whose random words are those of the script's seed.
-/// Takes memory.
+/// Takes memory. The script sets no slot, since schemes are not built yet.
 pub fn open_world(alloc: Global, script: &Script) -> Result<World<Lcg64Xsh32>, AllocError>
+    requires no_slots { script.now.setup.slots.list ≡ [] }
+
     // The world stands at the start of the script.
     ensures start { IfOk result (λ w. (form : form_type) → Progress (stream_of (steps_u32 pcg32)) form (said_by script.now) w (map command_value script.now.commands.list) []) }
     ensures core { IfOk result (λ w. w.monitor.core ≡ opening_core (value_of script.now.setup)) }

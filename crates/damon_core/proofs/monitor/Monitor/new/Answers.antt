@@ -1,4 +1,4 @@
-use Rattle.std.proofs.Common.{◌≡◌, ℕ, ◌≤◌, ◌<◌, List, [], ◌∷◌, length, ap, sym, subst, arith}
+use Rattle.std.proofs.Common.{◌≡◌, ℕ, ◌≤◌, ◌<◌, List, [], ◌∷◌, length, ap, sym, ◌∙◌, subst, arith}
 use Rattle.std.specs.Prelude.{All}
 use Rattle.std.specs.List.{AllByRecursion}
 use Rattle.std.proofs.lemmas.List.Elements.{All-head}
@@ -38,10 +38,11 @@ invariant_of-result c =
       counts = subst (λ (x : RegionList). AllByRecursion (λ q. q.count ≤ 0) x.rows) (sym made) (counts-shrunk 0 v.attrs.max v.ranges (divided v.unit v.attrs.min v.ranges) (counts-divided v.unit v.attrs.min v.ranges));
       room = omega (arith, ap (λ (x : RegionList). x.cap) made, ap (λ p. p.cap) c.in_ok-picks.ensures);
       within = tt;
+      bits_each = ap (λ (p : PickList). length p.bits) c.in_ok-picks.ensures ∙ sym (ap (λ (p : PickList). length p.pages) c.in_ok-picks.ensures);
       has_picks = tt;
       picks_in = subst (λ (p : PickList). AllByRecursion (λ (q : ℕ). q < pages_of c.in_ok-space.space) p.pages) (sym c.in_ok-picks.ensures) tt;
-      since_within = sound.attrs.aggr_some;
-      found_within = omega arith;
+      since_few = omega arith;
+      found = tt;
       checks_few = omega arith;
       hits_few = omega arith;
     }

@@ -3,7 +3,7 @@ use Rattle.std.specs.Prelude.{slice_index}
 use Rattle.std.proofs.lemmas.Option.{get_or_from_slice_get}
 use Rattle.damon_core.specs.Note.{is_cleared}
 use Rattle.damon_core.specs.State.{Core, row_count}
-use Rattle.damon_core.specs.Kept.{cleared_so_far}
+use Rattle.damon_core.specs.Pass.{cleared_so_far}
 use Rattle.damon_core.specs.Stands.{MonitorView}
 use Rattle.damon_core.proofs.Hits.{reached_cleared}
 use Rattle.damon_core.proofs.monitor.Monitor.pick.Goals as goal
