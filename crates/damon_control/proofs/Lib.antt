@@ -2,6 +2,7 @@ pub mod PartLemmas
 pub mod WordLemmas
 pub mod PlaceLemmas
 pub mod SlotLemmas
+pub mod SettingLemmas
 pub mod SpellSteps
 pub mod SpellWords
 pub mod SpellLines
