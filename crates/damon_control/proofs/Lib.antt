@@ -5,6 +5,13 @@ pub mod SlotLemmas
 pub mod SettingLemmas
 pub mod SpellSteps
 pub mod SpellWords
+pub mod PlainWords
+pub mod SpellFits
+pub mod ReadFields
+pub mod ReadKeys
+pub mod ReadSchemes
+pub mod ReadLines
+pub mod ReadCommands
 pub mod SpellLines
 pub mod SpellKeys
 pub mod SpellSchemes

@@ -5,7 +5,7 @@ use Rattle.damon_types.specs.declared.scheme.Scheme.{Scheme}
 use Rattle.damon_types.specs.declared.scheme.SlotChange.{SlotChange}
 use Rattle.damon_types.specs.declared.space.Target.{Target}
 use Rattle.damon_types.specs.Space.{page_of}
-use Rattle.line_text.specs.Laws.{PutsPartsTogether, ReadsOnlyDecimal, ReadsOnlySpelledAddress, StripsOnlyFront}
+use Rattle.line_text.specs.Laws.{PutsPartsTogether, ReadsDecimal, ReadsOnlyDecimal, ReadsOnlySpelledAddress, ReadsSpelledAddress, SpellsDigits, SpellsHexDigits, StripsOnlyFront, TakesApartPieces}
 use Rattle.live_commit.specs.Commit.{CommitValue}
 use Rattle.damon_control.specs.declared.commit.Part.{Part}
 use Rattle.damon_control.specs.declared.commit.Part.TheVariants.{Attrs, Range, Slot, Metric}
@@ -24,8 +24,13 @@ use Rattle.damon_control.specs.Spelling.{spelled_action, spelled_attrs, spelled_
 -- what is known of words, and of the numbers and addresses that they spell
 pub record WordLaws : Type 0 where
   pub parts : PutsPartsTogether
+  pub pieces : TakesApartPieces
   pub numbers : ReadsOnlyDecimal
+  pub spelled_numbers : ReadsDecimal
+  pub digits : SpellsDigits
   pub addresses : ReadsOnlySpelledAddress
+  pub spelled_addresses : ReadsSpelledAddress
+  pub hex_digits : SpellsHexDigits
   pub fronts : StripsOnlyFront
 
 -- what something is read from is the spelling of it

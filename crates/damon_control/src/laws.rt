@@ -8,11 +8,13 @@ ghost use Rattle.damon_control.specs.Fields.{attrs_in, range_in};
 ghost use Rattle.damon_control.specs.Head.{attrs_line, cap_line, one_target, range_line, seed_line, unit_line};
 ghost use Rattle.damon_control.specs.Keys.{setting_of};
 ghost use Rattle.damon_control.specs.Laws.{NamesActions, ReadsOnly, ReadsOnlyCommands, ReadsOnlyParts, ReadsOnlySchemes, WordLaws};
+ghost use Rattle.damon_control.specs.ReadBack.{LinesReadBack};
 ghost use Rattle.damon_control.specs.Spelling.{attrs_words, range_words, spelled_attrs, spelled_cap, spelled_range, spelled_seed, spelled_setting, spelled_target, spelled_unit};
 ghost use Rattle.damon_control.specs.Text.{ReadsOnlyTexts};
 
 use line_text::{
-    address_is_spelled, number_is_decimal, parts_are_pieces, stripped_front_was_first,
+    address_is_spelled, decimal_has_digits, decimal_is_read, number_is_decimal, parts_are_pieces,
+    pieces_are_parts, spelled_address_has_digits, spelled_address_is_read, stripped_front_was_first,
 };
 
 // What is known of words, and of the numbers and addresses that they spell.
@@ -20,8 +22,13 @@ fn words_have_laws()
     ensures laws { WordLaws }
 {
     parts_are_pieces();
+    pieces_are_parts();
     number_is_decimal();
+    decimal_is_read();
+    decimal_has_digits();
     address_is_spelled();
+    spelled_address_is_read();
+    spelled_address_has_digits();
     stripped_front_was_first();
 }
 
@@ -62,6 +69,14 @@ pub fn schemes_are_spelled()
 pub fn body_lines_are_spelled()
     ensures commands { ReadsOnlyCommands }
     ensures parts { ReadsOnlyParts }
+{
+    words_have_laws();
+}
+
+/// A line that says something, each number of it within its field and its limits, is read as what
+/// it says.
+pub fn spelled_lines_are_read()
+    ensures lines { LinesReadBack }
 {
     words_have_laws();
 }
