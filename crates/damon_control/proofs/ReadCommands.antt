@@ -1,5 +1,5 @@
 -- The lines of a body are read as what they say.
-use Rattle.std.proofs.Common.{◌≡◌, ◌⊎◌, inl, inr, ◌≤◌, ◌^◌, ◌-◌, ◌+◌, ◌<◌, ◌∷◌, [], ◌&&◌, ℕ, Bool, true, false, List, codes, Some, None, Ok, refl, sym, ap, ◌∙◌, decimal, arith}
+use Rattle.std.proofs.Common.{◌≡◌, inl, inr, ◌≤◌, ◌^◌, ◌-◌, ◌+◌, ◌<◌, ◌∷◌, [], ◌&&◌, ℕ, Bool, true, false, List, codes, Some, None, Ok, refl, sym, ap, ◌∙◌, decimal, arith}
 use Rattle.std.specs.Prelude.{Option, is_none, option_map}
 use Rattle.std.specs.Cmp.Derive.{both_true}
 use Rattle.std.specs.List.{list_all}
@@ -21,9 +21,9 @@ use Rattle.damon_control.specs.Fields.{attrs_in, range_in}
 use Rattle.damon_control.specs.Fits.{FitsAttrs, FitsRange}
 use Rattle.damon_control.specs.Head.{limited}
 use Rattle.damon_control.specs.Keys.{scheme_in}
-use Rattle.damon_control.specs.Laws.{EmptiesSlot, GivesScheme, IsCommand, IsPart, IsScheme, IsSweep, IsTouch, WordLaws, may_come}
+use Rattle.damon_control.specs.Laws.{GivesScheme, IsCommand, IsPart, IsSweep, WordLaws, may_come}
 use Rattle.damon_control.specs.Refusal.{◌>>=◌, only_if}
-use Rattle.damon_control.specs.Spelling.{attrs_words, range_words, scheme_words, spelled_attrs, spelled_drop, spelled_metric, spelled_range, spelled_scheme, spelled_step, spelled_sweep, spelled_touch}
+use Rattle.damon_control.specs.Spelling.{attrs_words, range_words, scheme_words, spelled_attrs, spelled_drop, spelled_metric, spelled_range, spelled_step, spelled_sweep, spelled_touch}
 use Rattle.damon_control.specs.Words.{arguments, begins_with, byte_address, number_8, number_32, one_word, same_word}
 use Rattle.damon_control.proofs.PlainWords.{address_field, begins_with-spaced, field_8, field_32, field_word, is_plain_word}
 use Rattle.damon_control.proofs.ReadFields.{attrs_in-words, byte_address-spelled, number_8-decimal, number_32-decimal, range_in-words}
@@ -53,7 +53,7 @@ touch_line-spelled : (laws : WordLaws) (space : List Target) (target addr page :
 touch_line-spelled laws space target addr page target_fits addr_fits holds =
     let words = decimal target ∷ spelled_address addr ∷ [] in
     let plain : list_all is_plain_word words ≡ true =
-        both_true (field_word (decimal target) (field_32 laws target target_fits)) (both_true (field_word (spelled_address addr) (address_field laws addr addr_fits)) refl) in
+    both_true (field_word (decimal target) (field_32 laws target target_fits)) (both_true (field_word (spelled_address addr) (address_field laws addr addr_fits)) refl) in
     touch_way space (spelled_touch target addr) (Touch page) (begins_with-spaced laws (codes "touch") (codes "touch") words plain)
     (arguments-read laws (codes "touch") words _ (Ok (Touch page)) refl plain
     (then-Ok (number_32 (decimal target)) _ target _ (number_32-decimal laws target target_fits)
@@ -74,8 +74,8 @@ sweep_line-spelled laws space line first end is =
     let words = decimal target ∷ spelled_address from ∷ spelled_address to ∷ [] in
     let said = spelled_sweep target from to in
     let plain : list_all is_plain_word words ≡ true =
-        both_true (field_word (decimal target) (field_32 laws target is.target_fits))
-        (both_true (field_word (spelled_address from) (address_field laws from is.from_fits)) (both_true (field_word (spelled_address to) (address_field laws to is.to_fits)) refl)) in
+    both_true (field_word (decimal target) (field_32 laws target is.target_fits))
+    (both_true (field_word (spelled_address from) (address_field laws from is.from_fits)) (both_true (field_word (spelled_address to) (address_field laws to is.to_fits)) refl)) in
     sweep_way space said (Sweep first end) (begins_with-spaced laws (codes "touch") (codes "sweep") words plain) (begins_with-spaced laws (codes "sweep") (codes "sweep") words plain)
     (arguments-read laws (codes "sweep") words _ (Ok (Sweep first end)) refl plain
     (then-Ok (number_32 (decimal target)) _ target _ (number_32-decimal laws target is.target_fits)

@@ -1,7 +1,6 @@
 -- The words of settings are read as them.
-use Rattle.std.proofs.Common.{◌≡◌, ◌^◌, ◌<◌, ◌+◌, ◌∷◌, [], ◌==◌, nat_lt, ℕ, Bool, true, false, not, List, ◌++◌, length, take, drop, map, codes, Some, Ok, refl, ap, ◌∙◌, decimal, arith}
+use Rattle.std.proofs.Common.{◌≡◌, ◌<◌, ◌+◌, ◌∷◌, [], ◌==◌, nat_lt, ℕ, Bool, true, false, not, List, ◌++◌, length, take, drop, map, Ok, refl, ap, ◌∙◌, decimal, arith}
 use Rattle.std.specs.Prelude.{Result}
-use Rattle.std.specs.Cmp.Derive.{both_true}
 use Rattle.std.specs.List.{list_all, position_or_len}
 use Rattle.std.specs.Option.{ok_or}
 use Rattle.std.proofs.lemmas.Bool.Decides.{nat_tests}

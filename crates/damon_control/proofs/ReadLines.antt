@@ -1,5 +1,5 @@
 -- The lines of a setup are read as what they say.
-use Rattle.std.proofs.Common.{◌≡◌, ◌≤◌, ◌^◌, ◌+◌, ◌*◌, ◌%◌, ◌<◌, ◌∷◌, [], ◌==◌, ◌&&◌, nat_le, nat_lt, ℕ, Bool, true, false, not, List, ◌++◌, length, codes, Some, Ok, Err, refl, sym, ap, subst, ◌∙◌, decimal, arith}
+use Rattle.std.proofs.Common.{◌≡◌, ◌≤◌, ◌^◌, ◌+◌, ◌*◌, ◌%◌, ◌<◌, ◌∷◌, [], ◌==◌, ◌&&◌, nat_le, nat_lt, ℕ, true, false, not, List, ◌++◌, length, codes, Some, Ok, Err, refl, ap, subst, ◌∙◌, decimal, arith}
 use Rattle.std.specs.Prelude.{Result, is_ok}
 use Rattle.std.specs.Cmp.Derive.{both_true}
 use Rattle.std.specs.List.{list_all}
@@ -12,7 +12,7 @@ use Rattle.damon_types.specs.declared.space.SpaceFault.{SpaceFault}
 use Rattle.damon_types.specs.declared.space.Target.{Target}
 use Rattle.damon_types.specs.Attrs.{checked_attrs}
 use Rattle.damon_types.specs.Scheme.{checked_scheme}
-use Rattle.damon_types.specs.Space.{and_next, checked, checked_from, checked_target, pages_of}
+use Rattle.damon_types.specs.Space.{and_next, checked, checked_from, checked_target}
 use Rattle.line_text.specs.Address.{spelled_address}
 use Rattle.line_text.specs.Parts.{joined}
 use Rattle.target_ranges.specs.Checked.{checked_next}
@@ -92,8 +92,8 @@ target_small : (i : ℕ) (t : Target) → checked_target i t ≡ Ok tt → (t.ba
 target_small i t e =
     tested_way (nat_le 1 t.pages && nat_le t.pages 1048576) _ _ _
     (λ pages. tested_way ((t.base % 4096 == 0) && nat_le (t.base + 4096 * t.pages) (2 ^ 63)) _ _ _
-        (λ base _. (grind (arith, nat_tests), grind (arith, nat_tests)))
-        (λ none. absurd cc))
+    (λ base _. (grind (arith, nat_tests), grind (arith, nat_tests)))
+    (λ none. absurd cc))
     (λ none. absurd cc) e
 
 first_check : (a b : Result (Unit {0}) SpaceFault) → and_next a b ≡ Ok tt → a ≡ Ok tt
@@ -120,7 +120,7 @@ pub target_line-spelled : (laws : WordLaws) (before : List Target) (t : Target) 
 target_line-spelled laws before t sound =
     let small = target_fits before t sound in
     let plain : list_all is_plain_word (target_words t) ≡ true =
-        both_true (field_word (spelled_address t.base) (address_field laws t.base small.0)) (both_true (field_word (decimal t.pages) (field_32 laws t.pages small.1)) refl) in
+    both_true (field_word (spelled_address t.base) (address_field laws t.base small.0)) (both_true (field_word (decimal t.pages) (field_32 laws t.pages small.1)) refl) in
     then-Ok (one_target (spelled_target t)) _ t _ (arguments-read laws (codes "target") (target_words t) target_in (Ok t) refl plain (target_in-words laws t small.0 small.1))
     (ap (λ r. only_if (is_ok r) Limit t) sound)
 
@@ -139,7 +139,7 @@ scheme-read laws line slot scheme read said is reads =
     let words = scheme_words slot is.action is.settings in
     ap (λ l. arguments (codes "scheme") l >>= read) is.spelled
     ∙ arguments-read laws (codes "scheme") words read said refl (scheme_words-plain laws slot is.action is.settings is.small is.fit)
-      (reads words (scheme_in-words laws slot is.action is.settings scheme is.small is.fit is.in_order is.made))
+    (reads words (scheme_in-words laws slot is.action is.settings scheme is.small is.fit is.in_order is.made))
 
 -- the first change of a slot is accepted
 first_change : (before : List SlotChange) (change : SlotChange) (scheme : Scheme) → change.scheme ≡ Some scheme → is_changed change.slot before ≡ false
@@ -151,5 +151,5 @@ pub scheme_line-spelled : (laws : WordLaws) (before : List SlotChange) (line : L
 scheme_line-spelled laws before line change scheme gives is sound fresh =
     let same : gives.0 ≡ scheme = cc in
     scheme-read laws line change.slot scheme _ (Ok change) (subst (IsScheme line change.slot) same gives.2) (λ words said.
-        then-Ok (scheme_in words) _ (change.slot, scheme) (Ok change) said
-        (then-Ok (refused_as BadScheme (checked_scheme change.slot scheme)) _ tt (Ok change) (ap (refused_as BadScheme) sound) (first_change before change scheme is fresh)))
+    then-Ok (scheme_in words) _ (change.slot, scheme) (Ok change) said
+    (then-Ok (refused_as BadScheme (checked_scheme change.slot scheme)) _ tt (Ok change) (ap (refused_as BadScheme) sound) (first_change before change scheme is fresh)))

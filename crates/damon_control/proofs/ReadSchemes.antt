@@ -1,11 +1,9 @@
 -- Lines of schemes are read as what they say.
-use Rattle.std.proofs.Common.{◌≡◌, ◌⊎◌, inl, inr, ◌^◌, ◌<◌, ◌∷◌, [], ◌==◌, ◌&&◌, ◌||◌, nat_lt, ℕ, Bool, true, false, not, List, ◌++◌, map, codes, Option, Some, None, Ok, refl, sym, ap, ◌∙◌, decimal, arith}
-use Rattle.std.specs.Prelude.{Result}
+use Rattle.std.proofs.Common.{◌≡◌, inl, inr, ◌^◌, ◌<◌, ◌∷◌, [], ◌==◌, ◌&&◌, ◌||◌, nat_lt, ℕ, Bool, true, false, not, List, ◌++◌, map, Option, Some, None, Ok, refl, sym, ap, ◌∙◌, decimal, arith}
 use Rattle.std.specs.Cmp.Derive.{both_true}
 use Rattle.std.specs.List.{list_all}
 use Rattle.std.specs.Option.{ok_or}
 use Rattle.std.proofs.lemmas.Bool.Decides.{nat_tests}
-use Rattle.damon_types.specs.declared.filter.Filter.{Filter}
 use Rattle.damon_types.specs.declared.filter.FilterKind.{FilterKind}
 use Rattle.damon_types.specs.declared.filter.FilterKind.TheVariants.{Addr, Target, Class}
 use Rattle.damon_types.specs.declared.scheme.Action.{Action}
@@ -20,7 +18,7 @@ use Rattle.damon_control.specs.declared.keys.Key.TheVariants.{Size, Count, Age, 
 use Rattle.damon_control.specs.declared.keys.Setting.{Setting}
 use Rattle.damon_control.specs.declared.keys.Setting.TheVariants.{Size as SizeOf, Count as CountOf, Age as AgeOf, Quota as QuotaOf, Weights as WeightsOf, Prefer as PreferOf, Marks as MarksOf, Filter as FilterOf}
 use Rattle.damon_control.specs.Fits.{FitSettings, FitsKind, FitsSetting}
-use Rattle.damon_control.specs.Keys.{action_of, are_formed, default_scheme, is_formed, is_misformed, key_and_value, key_place, may_follow, place_in, scheme_in, setting_for, settings_of, settled, with_settings}
+use Rattle.damon_control.specs.Keys.{action_of, are_formed, default_scheme, is_formed, is_misformed, key_and_value, key_place, may_follow, place_in, scheme_in, settings_of, settled, with_settings}
 use Rattle.damon_control.specs.Laws.{AreInOrder, MayStandAfter, WordLaws, key_of}
 use Rattle.damon_control.specs.Refusal.{only_if}
 use Rattle.damon_control.specs.Separators.{colon, comma, dash}

@@ -18,7 +18,7 @@ settled_by_word so_far word words setting is = rw is (by (settings_of words) so_
   where
     by : (rest : Result (List Setting) ScriptKind) (so_far : Result Scheme ScriptKind)
         → ((rest >>= λ settings. Ok (setting ∷ settings)) >>= λ settings. (so_far >>= λ scheme. settled scheme settings))
-            ≡ (rest >>= λ settings. ((so_far >>= λ scheme. with_setting scheme setting) >>= λ scheme. settled scheme settings))
+        ≡ (rest >>= λ settings. ((so_far >>= λ scheme. with_setting scheme setting) >>= λ scheme. settled scheme settings))
     by (Err kind) so_far = refl
     by (Ok settings) (Err kind) = refl
     by (Ok settings) (Ok scheme) = refl

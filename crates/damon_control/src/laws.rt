@@ -14,7 +14,8 @@ ghost use Rattle.damon_control.specs.Text.{ReadsOnlyTexts};
 
 use line_text::{
     address_is_spelled, decimal_has_digits, decimal_is_read, number_is_decimal, parts_are_pieces,
-    pieces_are_parts, spelled_address_has_digits, spelled_address_is_read, stripped_front_was_first,
+    pieces_are_parts, spelled_address_has_digits, spelled_address_is_read,
+    stripped_front_was_first,
 };
 
 // What is known of words, and of the numbers and addresses that they spell.

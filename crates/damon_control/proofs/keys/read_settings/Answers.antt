@@ -1,6 +1,5 @@
 use Rattle.std.proofs.Common.{◌≡◌, ◌∷◌, ◌∙◌, Ok, sym, ap, arith}
 use Rattle.std.proofs.lemmas.Grind.{common_steps}
-use Rattle.line_text.specs.Parts.{parts}
 use Rattle.damon_control.specs.Keys.{setting_of, with_setting}
 use Rattle.damon_control.specs.Refusal.{◌>>=◌}
 use Rattle.damon_control.specs.Words.{words_in}
