@@ -19,7 +19,7 @@ use Rattle.damon_control.specs.declared.keys.Setting.{Setting}
 use Rattle.damon_control.specs.declared.keys.Setting.TheVariants.{Size as SizeOf, Count as CountOf, Age as AgeOf, Quota as QuotaOf, Weights as WeightsOf, Prefer as PreferOf, Marks as MarksOf, Filter as FilterOf}
 use Rattle.damon_control.specs.Fits.{FitSettings, FitsKind, FitsSetting}
 use Rattle.damon_control.specs.Keys.{action_of, are_formed, default_scheme, is_formed, is_misformed, key_and_value, key_place, may_follow, place_in, scheme_in, settings_of, settled, with_settings}
-use Rattle.damon_control.specs.Laws.{AreInOrder, MayStandAfter, WordLaws, key_of}
+use Rattle.damon_control.specs.Laws.{AreInOrder, MayFollow, WordLaws, key_of}
 use Rattle.damon_control.specs.Refusal.{only_if}
 use Rattle.damon_control.specs.Separators.{colon, comma, dash}
 use Rattle.damon_control.specs.Spelling.{kind_name, kind_value, scheme_words, spelled_action, spelled_answer, spelled_prefer, spelled_setting, spelled_side}
@@ -51,17 +51,17 @@ last_place MarksKey e = absurd cc
 last_place FilterKey e = refl
 
 -- the test of keys is the order of their settings
-may_follow-after : (earlier later : Setting) → MayStandAfter earlier later → may_follow (Some (key_place (key_of earlier))) (key_of later) ≡ true
+may_follow-after : (earlier later : Setting) → MayFollow earlier later → may_follow (Some (key_place (key_of earlier))) (key_of later) ≡ true
 may_follow-after earlier later (inl less) =
     let rises : nat_lt (key_place (key_of earlier)) (key_place (key_of later)) ≡ true = grind (arith, nat_tests) in
     ap (λ t. t || ((key_place (key_of earlier) == 7) && (key_place (key_of later) == 7))) rises
 may_follow-after earlier later (inr (first, second)) = λ i. may_follow (Some (key_place (first i))) (second i)
 
-after_may_follow : (earlier later : Setting) → may_follow (Some (key_place (key_of earlier))) (key_of later) ≡ true → MayStandAfter earlier later
+after_may_follow : (earlier later : Setting) → may_follow (Some (key_place (key_of earlier))) (key_of later) ≡ true → MayFollow earlier later
 after_may_follow earlier later e = by (nat_lt (key_place (key_of earlier)) (key_place (key_of later))) refl e
   where
     by : (rises : Bool) → nat_lt (key_place (key_of earlier)) (key_place (key_of later)) ≡ rises
-        → (rises || ((key_place (key_of earlier) == 7) && (key_place (key_of later) == 7))) ≡ true → MayStandAfter earlier later
+        → (rises || ((key_place (key_of earlier) == 7) && (key_place (key_of later) == 7))) ≡ true → MayFollow earlier later
     by true is passes = let less : key_place (key_of earlier) < key_place (key_of later) = grind (arith, nat_tests) in inl less
     by false is both =
         inr (last_place (key_of earlier) (first_true (key_place (key_of earlier) == 7) _ both), last_place (key_of later) (second_true (key_place (key_of earlier) == 7) _ both))

@@ -119,7 +119,7 @@ plain_name-whole laws name = by (after_prefix (codes "not-") name) refl
   where
     by : (o : Option (List ℕ)) → after_prefix (codes "not-") name ≡ o → name ≡ spelled_side (plain_name name).0 ++ (plain_name name).1
     by None is = rw is refl
-    by (Some bare) is = rw is (laws.fronts (codes "not-") name bare is)
+    by (Some bare) is = rw is (laws.prefixes (codes "not-") name bare is)
 
 -- a name of a kind is what stands before it and the kind's own name
 side_name : (laws : WordLaws) (name : List ℕ) (kind : FilterKind) → (plain_name name).1 ≡ kind_name kind → name ≡ spelled_side (plain_name name).0 ++ kind_name kind
