@@ -1,67 +1,98 @@
--- What is accepted is spelled so.
-use Rattle.std.specs.Prelude.{◌≡◌, ◌⊎◌, ℕ, ◌+◌, ◌-◌, Bool, true, List, [], ◌∷◌, map, codes, Some, None, option_map, Result, Ok, is_none}
+-- What each line says, and that a line that is read says what was read.
+use Rattle.std.specs.Prelude.{◌≡◌, ◌⊎◌, ℕ, ◌+◌, ◌-◌, ◌^◌, ◌<◌, ◌≤◌, Bool, true, List, [], ◌∷◌, codes, Some, None, option_map, Result, Ok, is_none}
 use Rattle.damon_types.specs.declared.scheme.Action.{Action}
 use Rattle.damon_types.specs.declared.scheme.Scheme.{Scheme}
 use Rattle.damon_types.specs.declared.scheme.SlotChange.{SlotChange}
 use Rattle.damon_types.specs.declared.space.Target.{Target}
 use Rattle.damon_types.specs.Space.{page_of}
-use Rattle.line_text.specs.Laws.{PutsPartsTogether, ReadsOnlyDecimal, ReadsOnlySpelledAddress, StripsOnlyFront}
+use Rattle.line_text.specs.Laws.{PutsPartsTogether, ReadsDecimal, ReadsOnlyDecimal, ReadsOnlySpelledAddress, ReadsSpelledAddress, SpellsDigits, SpellsHexDigits, StripsOnlyFront, TakesApartPieces}
 use Rattle.live_commit.specs.Commit.{CommitValue}
 use Rattle.damon_control.specs.declared.commit.Part.{Part}
 use Rattle.damon_control.specs.declared.commit.Part.TheVariants.{Attrs, Range, Slot, Metric}
 use Rattle.damon_control.specs.declared.fault.ScriptKind.{ScriptKind}
+use Rattle.damon_control.specs.declared.keys.Key.{Key}
+use Rattle.damon_control.specs.declared.keys.Key.TheVariants.{Size, Count, Age, Quota as QuotaKey, Weights as WeightsKey, Prefer as PreferKey, Marks as MarksKey, Filter as FilterKey}
 use Rattle.damon_control.specs.declared.keys.Setting.{Setting}
+use Rattle.damon_control.specs.declared.keys.Setting.TheVariants.{Size as SizeOf, Count as CountOf, Age as AgeOf, Quota as QuotaOf, Weights as WeightsOf, Prefer as PreferOf, Marks as MarksOf, Filter as FilterOf}
 use Rattle.damon_control.specs.Body.{are_swept, command_line, part_line, wants_attrs, wants_slot}
 use Rattle.damon_control.specs.Command.{CommandValue, Touch, Sweep, Step, Arm, Finish, Show, Commit}
 use Rattle.damon_control.specs.Head.{scheme_line}
-use Rattle.damon_control.specs.Keys.{action_of, are_formed, default_scheme, with_setting}
-use Rattle.damon_control.specs.Refusal.{◌>>=◌}
-use Rattle.damon_control.specs.Spelling.{spelled_action, spelled_attrs, spelled_drop, spelled_metric, spelled_range, spelled_scheme, spelled_setting, spelled_step, spelled_sweep, spelled_touch}
+use Rattle.damon_control.specs.Fits.{FitSettings, FitsAttrs, FitsRange}
+use Rattle.damon_control.specs.Keys.{action_of, default_scheme, key_place, settled}
+use Rattle.damon_control.specs.Spelling.{spelled_action, spelled_attrs, spelled_drop, spelled_metric, spelled_range, spelled_scheme, spelled_step, spelled_sweep, spelled_touch}
 
--- what is known of words, and of the numbers and addresses that they spell
+-- what the laws of `line_text` say of words, numbers and addresses
 pub record WordLaws : Type 0 where
   pub parts : PutsPartsTogether
+  pub pieces : TakesApartPieces
   pub numbers : ReadsOnlyDecimal
+  pub spelled_numbers : ReadsDecimal
+  pub digits : SpellsDigits
   pub addresses : ReadsOnlySpelledAddress
-  pub fronts : StripsOnlyFront
+  pub spelled_addresses : ReadsSpelledAddress
+  pub hex_digits : SpellsHexDigits
+  pub prefixes : StripsOnlyFront
 
--- what something is read from is the spelling of it
+-- text that a value is read from is the spelling of that value
 abbrev pub ReadsOnly : {T A : Type 0} → (T → Result A ScriptKind) → (A → T) → Type 0
 ReadsOnly {T} {A} read spelled = (text : T) (x : A) → read text ≡ Ok x → text ≡ spelled x
 
 -- a word that names an action is the name of it
 abbrev pub NamesActions : Type 0
-NamesActions = (name : List ℕ) (action : Action) → action_of name ≡ Some action → name ≡ spelled_action action
+NamesActions =
+    (name : List ℕ) (action : Action) → action_of name ≡ Some action → name ≡ spelled_action action
 
--- a scheme with these settings, one after another
-abbrev pub settled : Scheme → List Setting → Result Scheme ScriptKind
-settled scheme [] = Ok scheme
-settled scheme (setting ∷ settings) = with_setting scheme setting >>= λ s. settled s settings
+-- the key of a setting
+abbrev pub key_of : Setting → Key
+key_of (SizeOf span) = Size
+key_of (CountOf span) = Count
+key_of (AgeOf span) = Age
+key_of (QuotaOf quota) = QuotaKey
+key_of (WeightsOf weights) = WeightsKey
+key_of (PreferOf prefer) = PreferKey
+key_of (MarksOf marks) = MarksKey
+key_of (FilterOf filter) = FilterKey
 
--- a line is the spelling of a slot, an action and settings in order, which make a scheme of the action's default
+-- a setting may follow another: its key has a later place, or both are filters
+abbrev pub MayFollow : Setting → Setting → Type 0
+MayFollow earlier later =
+    (key_place (key_of earlier) < key_place (key_of later))
+    ⊎ ((key_of earlier ≡ FilterKey) × (key_of later ≡ FilterKey))
+
+-- settings stand in the order of their keys, and only the filter repeats
+abbrev pub AreInOrder : List Setting → Type 0
+AreInOrder [] = Unit {0}
+AreInOrder (setting ∷ []) = Unit {0}
+AreInOrder (earlier ∷ later ∷ more) = MayFollow earlier later × AreInOrder (later ∷ more)
+
+-- a line spells a slot, an action and settings in order, which turn the action's default into this scheme
 pub record IsScheme (line : List ℕ) (slot : ℕ) (scheme : Scheme) : Type 0 where
   pub action : Action
   pub settings : List Setting
   pub spelled : line ≡ spelled_scheme slot action settings
-  pub in_order : are_formed None (map spelled_setting settings) ≡ true
+  pub small : slot < 2 ^ 8
+  pub fit : FitSettings settings
+  pub in_order : AreInOrder settings
   pub made : settled (default_scheme action) settings ≡ Ok scheme
 
 -- a line gives a slot its scheme
 abbrev pub GivesScheme : List ℕ → SlotChange → Type 0
-GivesScheme line change = (scheme : Scheme) × (change.scheme ≡ Some scheme) × IsScheme line change.slot scheme
+GivesScheme line change =
+    (scheme : Scheme) × (change.scheme ≡ Some scheme) × IsScheme line change.slot scheme
 
 -- a line empties a slot
 abbrev pub EmptiesSlot : List ℕ → SlotChange → Type 0
-EmptiesSlot line change = (change.scheme ≡ None) × (line ≡ spelled_drop change.slot)
+EmptiesSlot line change =
+    (change.scheme ≡ None) × (line ≡ spelled_drop change.slot) × (change.slot < 2 ^ 8)
 
 -- a line says a part of a commit
 abbrev pub IsPart : List ℕ → Part → Type 0
-IsPart line (Attrs attrs) = line ≡ spelled_attrs attrs
-IsPart line (Range range) = line ≡ spelled_range range
+IsPart line (Attrs attrs) = (line ≡ spelled_attrs attrs) × FitsAttrs attrs
+IsPart line (Range range) = (line ≡ spelled_range range) × FitsRange range
 IsPart line (Slot change) = GivesScheme line change ⊎ EmptiesSlot line change
-IsPart line (Metric value) = line ≡ spelled_metric value
+IsPart line (Metric value) = (line ≡ spelled_metric value) × (value < 2 ^ 32)
 
--- whether a part may come in a commit: attributes before all else, ranges before a slot change and a metric, and each of these once
+-- whether a part may come next: attributes, ranges, a slot change, a metric; only ranges repeat
 abbrev pub may_come : CommitValue → Part → Bool
 may_come before (Attrs attrs) = wants_attrs before
 may_come before (Range range) = wants_slot before
@@ -73,6 +104,8 @@ pub record IsTouch (space : List Target) (line : List ℕ) (page : ℕ) : Type 0
   pub target : ℕ
   pub addr : ℕ
   pub spelled : line ≡ spelled_touch target addr
+  pub target_fits : target < 2 ^ 32
+  pub addr_fits : addr < 2 ^ 64
   pub holds : page_of space target addr ≡ Some page
 
 -- a line sweeps the pages of a target between two addresses, from `first` to before `end`
@@ -81,28 +114,37 @@ pub record IsSweep (space : List Target) (line : List ℕ) (first end : ℕ) : T
   pub from : ℕ
   pub to : ℕ
   pub spelled : line ≡ spelled_sweep target from to
+  pub target_fits : target < 2 ^ 32
+  pub from_fits : from < 2 ^ 64
+  pub to_fits : to < 2 ^ 64
   pub whole : are_swept from to ≡ true
   pub begins : page_of space target from ≡ Some first
   pub ends : option_map (λ last. last + 1) (page_of space target (to - 4096)) ≡ Some end
 
--- a line says a command, which is no commit, since that has more lines
+-- a line says a command; a commit has lines of its own
 abbrev pub IsCommand : List Target → List ℕ → CommandValue → Type 0
 IsCommand space line (Touch page) = IsTouch space line page
 IsCommand space line (Sweep first end) = IsSweep space line first end
-IsCommand space line (Step times) = line ≡ spelled_step times
+IsCommand space line (Step times) = (line ≡ spelled_step times) × (1 ≤ times) × (times ≤ 1000000)
 IsCommand space line Arm = line ≡ codes "arm"
 IsCommand space line Finish = line ≡ codes "finish"
 IsCommand space line Show = line ≡ codes "show"
 IsCommand space line (Commit commit) = ⊥
 
--- a line that a command is read from says it
+-- a line that a command is read from says that command
 abbrev pub ReadsOnlyCommands : Type 0
-ReadsOnlyCommands = (space : List Target) (line : List ℕ) (command : CommandValue) → command_line space line ≡ Ok command → IsCommand space line command
+ReadsOnlyCommands =
+    (space : List Target) (line : List ℕ) (command : CommandValue)
+    → command_line space line ≡ Ok command → IsCommand space line command
 
--- a line that a part of a commit is read from says it, where it may come
+-- a line that a part of a commit is read from says that part, and it may come there
 abbrev pub ReadsOnlyParts : Type 0
-ReadsOnlyParts = (before : CommitValue) (line : List ℕ) (part : Part) → part_line before line ≡ Ok part → (may_come before part ≡ true) × IsPart line part
+ReadsOnlyParts =
+    (before : CommitValue) (line : List ℕ) (part : Part)
+    → part_line before line ≡ Ok part → (may_come before part ≡ true) × IsPart line part
 
--- a line of a setup that a change of a slot is read from gives the slot its scheme
+-- a line of a setup that a slot change is read from gives the slot its scheme
 abbrev pub ReadsOnlySchemes : Type 0
-ReadsOnlySchemes = (before : List SlotChange) (line : List ℕ) (change : SlotChange) → scheme_line before line ≡ Ok change → GivesScheme line change
+ReadsOnlySchemes =
+    (before : List SlotChange) (line : List ℕ) (change : SlotChange)
+    → scheme_line before line ≡ Ok change → GivesScheme line change

@@ -19,6 +19,7 @@ use Rattle.line_text.specs.Address.{spelled_address}
 use Rattle.line_text.specs.Parts.{joined}
 use Rattle.damon_control.specs.declared.keys.Setting.{Setting}
 use Rattle.damon_control.specs.declared.keys.Setting.TheVariants.{Size as SizeOf, Count as CountOf, Age as AgeOf, Quota as QuotaOf, Weights as WeightsOf, Prefer as PreferOf, Marks as MarksOf, Filter as FilterOf}
+use Rattle.damon_control.specs.Separators.{colon, comma, dash}
 
 -- words with a space between each two
 abbrev pub spaced : List (List ℕ) → List ℕ
@@ -26,7 +27,7 @@ spaced words = joined 32 words
 
 -- values with a comma between each two
 abbrev pub listed : List (List ℕ) → List ℕ
-listed values = joined 44 values
+listed values = joined comma values
 
 -- `seed N`
 abbrev pub spelled_seed : ℕ → List ℕ
@@ -58,7 +59,8 @@ spelled_target t = spaced (codes "target" ∷ target_words t)
 
 -- `TARGET FROM TO CLASS`
 abbrev pub range_words : RangeSpec → List (List ℕ)
-range_words r = decimal r.target ∷ spelled_address r.from ∷ spelled_address r.to ∷ decimal r.class ∷ []
+range_words r =
+    decimal r.target ∷ spelled_address r.from ∷ spelled_address r.to ∷ decimal r.class ∷ []
 
 -- `range TARGET FROM TO CLASS`
 abbrev pub spelled_range : RangeSpec → List ℕ
@@ -70,7 +72,8 @@ spelled_touch target addr = spaced (codes "touch" ∷ decimal target ∷ spelled
 
 -- `sweep TARGET FROM TO`
 abbrev pub spelled_sweep : ℕ → ℕ → ℕ → List ℕ
-spelled_sweep target from to = spaced (codes "sweep" ∷ decimal target ∷ spelled_address from ∷ spelled_address to ∷ [])
+spelled_sweep target from to =
+    spaced (codes "sweep" ∷ decimal target ∷ spelled_address from ∷ spelled_address to ∷ [])
 
 -- `step TIMES`
 abbrev pub spelled_step : ℕ → List ℕ
@@ -121,7 +124,7 @@ abbrev pub spelled_answer : Bool → List ℕ
 spelled_answer true = codes "allow"
 spelled_answer false = codes "reject"
 
--- what stands before the name of a kind: nothing, or `not-` where all other pages are meant
+-- what stands before the name of a kind: nothing, or `not-` for all other pages
 abbrev pub spelled_side : Bool → List ℕ
 spelled_side true = []
 spelled_side false = codes "not-"
@@ -134,13 +137,14 @@ kind_name (Class class) = codes "class"
 
 -- the pages of a kind: `FROM-TO`, `TARGET` or `CLASS`
 abbrev pub kind_value : FilterKind → List ℕ
-kind_value (Addr from to) = joined 45 (spelled_address from ∷ spelled_address to ∷ [])
+kind_value (Addr from to) = joined dash (spelled_address from ∷ spelled_address to ∷ [])
 kind_value (TargetKind target) = decimal target
 kind_value (Class class) = decimal class
 
 -- `ANSWER:[not-]KIND:VALUE`
 abbrev pub spelled_filter : Filter → List ℕ
-spelled_filter f = joined 58 (spelled_answer f.allow ∷ (spelled_side f.matching ++ kind_name f.kind) ∷ kind_value f.kind ∷ [])
+spelled_filter f =
+    joined colon (spelled_answer f.allow ∷ (spelled_side f.matching ++ kind_name f.kind) ∷ kind_value f.kind ∷ [])
 
 -- `KEY=VALUE`
 abbrev pub spelled_setting : Setting → List ℕ
@@ -155,7 +159,8 @@ spelled_setting (FilterOf filter) = codes "filter=" ++ spelled_filter filter
 
 -- `SLOT ACTION KEYS`
 abbrev pub scheme_words : ℕ → Action → List Setting → List (List ℕ)
-scheme_words slot action settings = decimal slot ∷ spelled_action action ∷ map spelled_setting settings
+scheme_words slot action settings =
+    decimal slot ∷ spelled_action action ∷ map spelled_setting settings
 
 -- `scheme SLOT ACTION KEYS`
 abbrev pub spelled_scheme : ℕ → Action → List Setting → List ℕ

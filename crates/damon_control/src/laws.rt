@@ -1,5 +1,5 @@
-// Laws of the definitions that the contracts cite: what is accepted is spelled so. No function here
-// does anything.
+// Laws of the definitions that the contracts cite: a line that is read says what was read, and a line
+// that says something is read as that. These functions do nothing.
 ghost use Rattle.std.specs.Prelude.{ℕ, List};
 ghost use Rattle.damon_types.specs.declared.range.RangeSpec.{RangeSpec};
 ghost use Rattle.damon_types.specs.declared.space.Target.{Target};
@@ -8,25 +8,33 @@ ghost use Rattle.damon_control.specs.Fields.{attrs_in, range_in};
 ghost use Rattle.damon_control.specs.Head.{attrs_line, cap_line, one_target, range_line, seed_line, unit_line};
 ghost use Rattle.damon_control.specs.Keys.{setting_of};
 ghost use Rattle.damon_control.specs.Laws.{NamesActions, ReadsOnly, ReadsOnlyCommands, ReadsOnlyParts, ReadsOnlySchemes, WordLaws};
+ghost use Rattle.damon_control.specs.ReadBack.{LinesReadBack};
 ghost use Rattle.damon_control.specs.Spelling.{attrs_words, range_words, spelled_attrs, spelled_cap, spelled_range, spelled_seed, spelled_setting, spelled_target, spelled_unit};
 ghost use Rattle.damon_control.specs.Text.{ReadsOnlyTexts};
 
 use line_text::{
-    address_is_spelled, number_is_decimal, parts_are_pieces, stripped_front_was_first,
+    address_is_spelled, decimal_has_digits, decimal_is_read, number_is_decimal, parts_are_pieces,
+    pieces_are_parts, spelled_address_has_digits, spelled_address_is_read,
+    stripped_front_was_first,
 };
 
-// What is known of words, and of the numbers and addresses that they spell.
+// The laws of `line_text` on words, numbers and addresses, in one record.
 fn words_have_laws()
     ensures laws { WordLaws }
 {
     parts_are_pieces();
+    pieces_are_parts();
     number_is_decimal();
+    decimal_is_read();
+    decimal_has_digits();
     address_is_spelled();
+    spelled_address_is_read();
+    spelled_address_has_digits();
     stripped_front_was_first();
 }
 
-/// The words behind `attrs` and `range` that are accepted, in a setup and in a commit alike, spell
-/// what is read from them.
+/// The words after `attrs` and `range` that are accepted, in a setup and in a commit, are the
+/// spelling of what is read from them.
 pub fn fields_are_spelled()
     ensures attrs { ReadsOnly attrs_in attrs_words }
     ensures range { ReadsOnly range_in range_words }
@@ -41,14 +49,15 @@ pub fn setup_lines_are_spelled()
     ensures cap { ReadsOnly cap_line spelled_cap }
     ensures attrs { (cap : ℕ) → ReadsOnly (attrs_line cap) spelled_attrs }
     ensures target { ReadsOnly one_target spelled_target }
-    ensures range { (f : Frame) (targets : List Target) (before : List RangeSpec) → ReadsOnly (range_line f targets before) spelled_range }
+    ensures range { (f : Frame) (targets : List Target) (before : List RangeSpec)
+        → ReadsOnly (range_line f targets before) spelled_range }
 {
     words_have_laws();
 }
 
-/// A line of a setup that gives a slot a scheme is the spelling of it: the slot, the name of an
-/// action and settings, each in its one spelling, which make the scheme of the action's default. A
-/// word that names an action or sets something is the spelling of it.
+/// A line of a setup that gives a slot a scheme is the spelling of a slot, an action and settings in
+/// order, which turn the action's default into that scheme. A word that is read as an action or a
+/// setting is its spelling.
 pub fn schemes_are_spelled()
     ensures actions { NamesActions }
     ensures settings { ReadsOnly setting_of spelled_setting }
@@ -57,8 +66,8 @@ pub fn schemes_are_spelled()
     words_have_laws();
 }
 
-/// A line of a body or of a commit that is accepted is the spelling of what it says: a command of
-/// one line, or a part of a commit, where it may come.
+/// A line of a body that is accepted says the command that is read from it. A line of a commit that
+/// is accepted says the part that is read from it, and that part may come there.
 pub fn body_lines_are_spelled()
     ensures commands { ReadsOnlyCommands }
     ensures parts { ReadsOnlyParts }
@@ -66,8 +75,17 @@ pub fn body_lines_are_spelled()
     words_have_laws();
 }
 
+/// Each line of a script that says something, with each number within its field and its limits, is
+/// read as what it says. With the laws above: a line is read as a value exactly where it says that
+/// value.
+pub fn spelled_lines_are_read()
+    ensures lines { LinesReadBack }
+{
+    words_have_laws();
+}
+
 /// A text that is accepted as a script is the lines of this script, each with its LF and nothing
-/// behind the last: the header, the lines of the setup, one for each scheme, `begin`, those of each
+/// after the last: the header, the lines of the setup, one for each scheme, `begin`, those of each
 /// command in order, and `end`.
 pub fn texts_are_spelled()
     ensures texts { ReadsOnlyTexts }

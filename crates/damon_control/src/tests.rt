@@ -331,5 +331,6 @@ fn laws_are_called() {
     setup_lines_are_spelled();
     schemes_are_spelled();
     body_lines_are_spelled();
+    spelled_lines_are_read();
     texts_are_spelled();
 }
