@@ -8,7 +8,8 @@ pub mod SpellLines
 pub mod SpellKeys
 pub mod SpellSchemes
 pub mod SpellCommands
-pub mod SpellPlaces
-pub mod SpellTexts
+pub mod Leads
+pub mod LineLimits
+pub mod Says
 mod SpellExamples
 pub mod WorkLemmas

@@ -6,7 +6,7 @@ use Rattle.damon_types.specs.declared.scheme.Action.TheVariants.{LruDeprio}
 use Rattle.damon_types.specs.declared.scheme.Prefer.TheVariants.{Cold}
 use Rattle.damon_control.specs.declared.keys.Setting.TheVariants.{Age, Prefer, Marks, Filter}
 use Rattle.damon_control.specs.Spelling.{spelled_attrs, spelled_range, spelled_scheme, spelled_seed, spelled_setting, spelled_sweep, spelled_target}
-use Rattle.damon_control.specs.Text.{text_of}
+use Rattle.damon_control.specs.Text.{lines_text}
 
 seed_is_decimal : spelled_seed 18446744073709551615 ≡ codes "seed 18446744073709551615"
 unfolding digits
@@ -52,5 +52,5 @@ scheme_has_settings : spelled_scheme 3 LruDeprio (Prefer Cold ∷ Filter (record
 unfolding digits
 scheme_has_settings = refl
 
-lines_have_their_ends : text_of (codes "begin" ∷ codes "end" ∷ []) ≡ codes "begin\nend\n"
+lines_have_their_ends : lines_text (codes "begin" ∷ codes "end" ∷ []) ≡ codes "begin\nend\n"
 lines_have_their_ends = refl

@@ -7,7 +7,7 @@ use Rattle.damon_control.specs.declared.script.Command.{Command}
 use Rattle.damon_control.specs.Command.{CommandValue, command_value}
 use Rattle.live_commit.specs.Setup.{SetupValue}
 use Rattle.damon_control.specs.Body.{no_commit}
-use Rattle.damon_control.specs.Limits.{IsWithin}
+use Rattle.damon_control.specs.Limits.{IsCommandWithin}
 use Rattle.damon_control.specs.Script.{AtEnd, Body, InCommit, Place, with_command}
 
 -- what a command that was read says, or why it was not
@@ -26,7 +26,7 @@ body_said b (Err kind) = Err kind
 abbrev pub LineIsWithin : ℕ → BodyLine → Type 0
 LineIsWithin pages End = Unit {0}
 LineIsWithin pages Commit = Unit {0}
-LineIsWithin pages (Say command) = IsWithin pages command
+LineIsWithin pages (Say command) = IsCommandWithin pages (command_value command)
 
 -- a body with these commands, and this work of theirs
 abbrev pub body_at : ℕ → SetupValue → List Command → ℕ → Body

@@ -5,7 +5,7 @@ use Rattle.damon_control.specs.declared.fault.ReadFail.{ReadFail}
 use Rattle.damon_control.specs.declared.fault.ReadFail.TheVariants.{Script, Memory}
 use Rattle.damon_control.specs.declared.fault.ScriptFault.{ScriptFault}
 use Rattle.damon_control.specs.declared.lines.Lines.{Lines}
-use Rattle.damon_control.specs.Script.{Body, Place, AtEnd, ScriptValue, after, at, reads, with_command}
+use Rattle.damon_control.specs.Script.{Body, Place, AtEnd, ScriptValue, place_after, at, reads, with_command}
 use Rattle.damon_control.specs.Command.{CommandValue}
 use Rattle.damon_control.specs.Refusal.{◌>>=◌}
 use Rattle.damon_control.specs.Words.{begins_with}
@@ -16,7 +16,7 @@ reads_left place lines = reads (lines.taken + 1) place (parts 10 lines.rest.now)
 
 -- what is said from behind a line at a place, by that line and those that are left behind it
 abbrev pub reads_behind : Place → List ℕ → Lines → Result ScriptValue ScriptFault
-reads_behind place line lines = at lines.taken (after place line) >>= λ behind. reads_left behind lines
+reads_behind place line lines = at lines.taken (place_after place line) >>= λ behind. reads_left behind lines
 
 -- a place that wants a line
 abbrev pub IsOpen : Place → Type 0

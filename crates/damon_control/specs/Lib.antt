@@ -17,3 +17,4 @@ pub mod Fits
 pub mod Laws
 pub mod ReadBack
 pub mod Text
+pub mod Sound

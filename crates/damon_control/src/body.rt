@@ -6,7 +6,7 @@ ghost use Rattle.damon_control.specs.Body.{are_swept, command_line, step_line, s
 ghost use Rattle.damon_control.specs.BodyLine.{LineIsWithin, body_at, body_said, command_said};
 ghost use Rattle.damon_control.specs.Command.{command_value, weight, work_of};
 ghost use Rattle.damon_control.specs.Left.{FaultOf, reads_left};
-ghost use Rattle.damon_control.specs.Limits.{IsWithin};
+ghost use Rattle.damon_control.specs.Limits.{IsCommandWithin};
 ghost use Rattle.damon_control.specs.Refusal.{only_if};
 ghost use Rattle.damon_control.specs.Script.{AtEnd, Body, InBody, after_body, begun};
 ghost use Rattle.damon_control.specs.Words.{begins_with};
@@ -44,7 +44,7 @@ pub fn read_body(alloc: Global, lines: &mut Lines, setup: &Setup) -> Result<Comm
     requires { lines.old.taken + length lines.old.rest.now ≤ 16777216 }
     ensures ok { IfOk result (λ commands. (seed : ℕ) → reads_left (InBody (begun seed (value_of setup.now))) lines.old ≡ reads_left (AtEnd (record { seed = seed; setup = value_of setup.now; commands = map command_value commands.list })) lines.new) }
     ensures fault { (seed : ℕ) → FaultOf result (reads_left (InBody (begun seed (value_of setup.now))) lines.old) }
-    ensures within { IfOk result (λ commands. All (IsWithin (pages_of setup.now.space)) commands.list) }
+    ensures within { IfOk result (λ commands. All (λ c. IsCommandWithin (pages_of setup.now.space) (command_value c)) commands.list) }
     ensures work { IfOk result (λ commands. work_of setup.now.cap (map command_value commands.list) ≤ 16777216) }
     ensures small { lines.new.taken + length lines.new.rest.now ≤ 16777216 }
 {
@@ -73,7 +73,7 @@ fn take_command(
     ensures fault { (seed : ℕ) → FaultOf result (reads_left (InBody (body_at seed (value_of setup.now) commands.old.list work)) lines.old) }
     ensures sum { IfOk result (λ answer. IfSome answer (λ sum. sum + work_of setup.now.cap (map command_value commands.old.list) ≡ work + work_of setup.now.cap (map command_value commands.new.list))) }
     ensures same { IfOk result (λ answer. answer ≡ None → commands.new.list ≡ commands.old.list) }
-    ensures within { OnOk result (All (IsWithin (pages_of setup.now.space)) commands.old.list → All (IsWithin (pages_of setup.now.space)) commands.new.list) }
+    ensures within { OnOk result (All (λ c. IsCommandWithin (pages_of setup.now.space) (command_value c)) commands.old.list → All (λ c. IsCommandWithin (pages_of setup.now.space) (command_value c)) commands.new.list) }
     ensures few { OnOk result (length commands.new.list ≤ lines.new.taken) }
     ensures most { IfOk result (λ answer. IfSome answer (λ sum. sum ≤ 16777216)) }
     ensures small { lines.new.taken + length lines.new.rest.now ≤ 16777216 }
@@ -111,7 +111,7 @@ fn read_body_line(space: &Space, line: &[u8]) -> Result<BodyLine, ScriptKind>
 // Reads a command of one line.
 fn read_command(space: &Space, line: &[u8]) -> Result<Command, ScriptKind>
     ensures exact { command_said result ≡ command_line space.now line.now }
-    ensures within { IfOk result (λ c. IsWithin (pages_of space.now) c) }
+    ensures within { IfOk result (λ c. IsCommandWithin (pages_of space.now) (command_value c)) }
 {
     if begins_with(b"touch", line) {
         read_touch(space, line)
@@ -134,7 +134,7 @@ fn read_command(space: &Space, line: &[u8]) -> Result<Command, ScriptKind>
 // Reads `touch TARGET ADDRESS`.
 fn read_touch(space: &Space, line: &[u8]) -> Result<Command, ScriptKind>
     ensures exact { command_said result ≡ touch_line space.now line.now }
-    ensures within { IfOk result (λ c. IsWithin (pages_of space.now) c) }
+    ensures within { IfOk result (λ c. IsCommandWithin (pages_of space.now) (command_value c)) }
 {
     let (target, addr) = two_words(arguments(b"touch", line)?)?;
     let target = read_32(target)?;
@@ -158,7 +158,7 @@ fn read_page(space: &Space, target: u32, addr: u64) -> Result<u32, ScriptKind>
 // Reads `sweep TARGET FROM TO`.
 fn read_sweep(space: &Space, line: &[u8]) -> Result<Command, ScriptKind>
     ensures exact { command_said result ≡ sweep_line space.now line.now }
-    ensures within { IfOk result (λ c. IsWithin (pages_of space.now) c) }
+    ensures within { IfOk result (λ c. IsCommandWithin (pages_of space.now) (command_value c)) }
 {
     pages_rise();
     // There are at most 1,048,576 pages.
@@ -181,7 +181,7 @@ fn read_sweep(space: &Space, line: &[u8]) -> Result<Command, ScriptKind>
 // Reads `step TIMES`.
 fn read_step(line: &[u8]) -> Result<Command, ScriptKind>
     ensures exact { command_said result ≡ step_line line.now }
-    ensures within { (pages : ℕ) → IfOk result (λ c. IsWithin pages c) }
+    ensures within { (pages : ℕ) → IfOk result (λ c. IsCommandWithin pages (command_value c)) }
 {
     let times = read_32(one_word(arguments(b"step", line)?)?)?;
     let times = limited(1, MOST_STEPS, times)?;

@@ -14,6 +14,8 @@ ghost use Rattle.damon_control.specs.Text.{ReadsOnlyTexts};
 use line_text::{
     address_is_spelled, number_is_decimal, parts_are_pieces, stripped_front_was_first,
 };
+use live_commit::slots_are_checked_in_turn;
+use target_ranges::next_decides;
 
 // What is known of words, and of the numbers and addresses that they spell.
 fn words_have_laws()
@@ -73,4 +75,6 @@ pub fn texts_are_spelled()
     ensures texts { ReadsOnlyTexts }
 {
     words_have_laws();
+    next_decides();
+    slots_are_checked_in_turn();
 }

@@ -7,7 +7,7 @@ ghost use Rattle.damon_control.specs.declared.fault.ReadFail.TheVariants.{Memory
 ghost use Rattle.damon_control.specs.Command.{command_value, work_of};
 ghost use Rattle.damon_control.specs.Head.{setup_said};
 ghost use Rattle.damon_control.specs.Left.{FaultOf, reads_left};
-ghost use Rattle.damon_control.specs.Limits.{AreLimits, IsWithin};
+ghost use Rattle.damon_control.specs.Limits.{AreLimits, IsCommandWithin};
 ghost use Rattle.damon_control.specs.Script.{AtHeader, InBody, begun, script_of};
 ghost use Rattle.damon_control.specs.ScriptView.{said_by};
 
@@ -26,7 +26,7 @@ pub fn read_script(alloc: Global, text: &[u8]) -> Result<Script, ReadFail>
     requires { length text.now ≤ 16777216 }
     ensures script { IfOk result (λ s. script_of text.now ≡ Ok (said_by s)) }
     ensures fault { FaultOf result (script_of text.now) }
-    ensures within { IfOk result (λ s. All (IsWithin (pages_of s.setup.space)) s.commands.list) }
+    ensures within { IfOk result (λ s. All (λ c. IsCommandWithin (pages_of s.setup.space) (command_value c)) s.commands.list) }
     ensures work { IfOk result (λ s. work_of s.setup.cap (map command_value s.commands.list) ≤ 16777216) }
 {
     let mut lines = Lines::new(text);
