@@ -10,6 +10,9 @@ pub mod SpellSchemes
 pub mod SpellCommands
 pub mod Leads
 pub mod LineLimits
+pub mod SpaceLimits
+pub mod SetupLimits
+pub mod CommandLimits
 pub mod Says
 mod SpellExamples
 pub mod WorkLemmas

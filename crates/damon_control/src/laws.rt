@@ -8,14 +8,16 @@ ghost use Rattle.damon_control.specs.Fields.{attrs_in, range_in};
 ghost use Rattle.damon_control.specs.Head.{attrs_line, cap_line, one_target, range_line, seed_line, unit_line};
 ghost use Rattle.damon_control.specs.Keys.{setting_of};
 ghost use Rattle.damon_control.specs.Laws.{NamesActions, ReadsOnly, ReadsOnlyCommands, ReadsOnlyParts, ReadsOnlySchemes, WordLaws};
+ghost use Rattle.damon_control.specs.Sound.{ScriptsAreSound};
 ghost use Rattle.damon_control.specs.Spelling.{attrs_words, range_words, spelled_attrs, spelled_cap, spelled_range, spelled_seed, spelled_setting, spelled_target, spelled_unit};
 ghost use Rattle.damon_control.specs.Text.{ReadsOnlyTexts};
 
+use damon_types::pages_rise;
 use line_text::{
     address_is_spelled, number_is_decimal, parts_are_pieces, stripped_front_was_first,
 };
 use live_commit::slots_are_checked_in_turn;
-use target_ranges::next_decides;
+use target_ranges::{made_in_order, next_decides};
 
 // What is known of words, and of the numbers and addresses that they spell.
 fn words_have_laws()
@@ -77,4 +79,17 @@ pub fn texts_are_spelled()
     words_have_laws();
     next_decides();
     slots_are_checked_in_turn();
+    pages_rise();
+}
+
+/// A script that a text is read as is within its limits: those of a setup, whose ranges are in
+/// order, of each command, whose pages are those of the targets, and of the work in all.
+pub fn scripts_are_sound()
+    ensures { ScriptsAreSound }
+{
+    words_have_laws();
+    next_decides();
+    made_in_order();
+    slots_are_checked_in_turn();
+    pages_rise();
 }

@@ -7,5 +7,6 @@ returns c = record {
     words = c.words_have_laws.ensures.laws;
     ranges = c.next_decides.ensures.next;
     slots = c.slots_are_checked_in_turn.ensures.next;
+    pages = record { below = c.pages_rise.ensures.below; rise = c.pages_rise.ensures.rise };
   });
 }
