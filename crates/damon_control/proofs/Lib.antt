@@ -14,5 +14,6 @@ pub mod SpaceLimits
 pub mod SetupLimits
 pub mod CommandLimits
 pub mod Says
+pub mod LineWords
 mod SpellExamples
 pub mod WorkLemmas
