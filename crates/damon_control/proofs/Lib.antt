@@ -15,5 +15,6 @@ pub mod SetupLimits
 pub mod CommandLimits
 pub mod Says
 pub mod LineWords
+pub mod Leading
 mod SpellExamples
 pub mod WorkLemmas

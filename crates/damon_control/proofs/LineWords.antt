@@ -48,7 +48,7 @@ begins_same word other line e = by (parts 32 line) refl
 pub begins_other : (word other line : List ℕ) → begins_with word line ≡ true → same_word word other ≡ false → begins_with other line ≡ false
 begins_other word other line e differ = begins_same word other line e ∙ differ
 
-both_true : (first second : Bool) → (first && second) ≡ true → (first ≡ true) × (second ≡ true)
+pub both_true : (first second : Bool) → (first && second) ≡ true → (first ≡ true) × (second ≡ true)
 both_true true second both = (refl, both)
 both_true false second both = absurd cc
 

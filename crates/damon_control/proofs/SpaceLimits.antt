@@ -4,8 +4,9 @@ use Rattle.std.specs.Prelude.{All, Option, Result, slice_get, if◌then◌else�
 use Rattle.std.specs.List.{AllByRecursion, last_or}
 use Rattle.std.specs.Result.{result_and}
 use Rattle.std.proofs.lemmas.Bool.Decides.{nat_tests}
+use Rattle.std.proofs.lemmas.List.{length-append}
 use Rattle.std.proofs.lemmas.List.Elements.{All-from_recursion, All-map}
-use Rattle.std.proofs.lemmas.List.Sums.{sum_by-cons}
+use Rattle.std.proofs.lemmas.List.Sums.{sum_by-append, sum_by-cons}
 use Rattle.std.proofs.lemmas.Option.{slice_get_within}
 use Rattle.damon_types.specs.declared.range.Range.{Range}
 use Rattle.damon_types.specs.declared.range.RangeSpec.{RangeSpec}
@@ -82,6 +83,32 @@ checked-IsSpace ts ok =
       each = All-from_recursion IsTarget ts (each_target 0 ts found.each);
       total = grind (arith, nat_tests, found.total);
     }
+
+each_before : (i : ℕ) (front back : List Target) → checked_from i (front ++ back) ≡ Ok tt → checked_from i front ≡ Ok tt
+each_before i [] back ok = refl
+each_before i (t ∷ front) back ok =
+    let both = both_accept (checked_target i t) (checked_from (i + 1) (front ++ back)) ok in
+    rw both.0 (each_before (i + 1) front back both.1)
+
+accepted-checked : (ts : List Target) → Accepted ts → checked ts ≡ Ok tt
+accepted-checked ts found = rw (found.some, found.few, found.each, found.total) refl
+
+-- the first of accepted targets are accepted
+pub checked_before : (front back : List Target) → 1 ≤ length front → checked (front ++ back) ≡ Ok tt → checked front ≡ Ok tt
+checked_before front back some ok =
+    let found = targets_accepted (front ++ back) ok in
+    let length_is = length-append front back in
+    let pages_are = sum_by-append (λ (t : Target). t.pages) front back in
+    let few : length (front ++ back) ≤ 64 = grind (arith, nat_tests, found.few) in
+    let total : pages_of (front ++ back) ≤ 1048576 = grind (arith, nat_tests, found.total) in
+    let few_first : length front ≤ 64 = omega (arith, few, length_is) in
+    let total_first : pages_of front ≤ 1048576 = omega (arith, total, pages_are) in
+    accepted-checked front (record {
+      some = grind (arith, nat_tests);
+      few = grind (arith, nat_tests);
+      each = each_before 0 front back found.each;
+      total = grind (arith, nat_tests);
+    })
 
 -- ---- ranges
 
