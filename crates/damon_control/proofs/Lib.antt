@@ -2,8 +2,16 @@ pub mod PartLemmas
 pub mod WordLemmas
 pub mod PlaceLemmas
 pub mod SlotLemmas
+pub mod SettingLemmas
 pub mod SpellSteps
 pub mod SpellWords
+pub mod PlainWords
+pub mod SpellFits
+pub mod ReadFields
+pub mod ReadKeys
+pub mod ReadSchemes
+pub mod ReadLines
+pub mod ReadCommands
 pub mod SpellLines
 pub mod SpellKeys
 pub mod SpellSchemes
@@ -12,7 +20,7 @@ pub mod Leads
 pub mod LineLimits
 pub mod SpaceLimits
 pub mod SetupLimits
-pub mod CommandLimits
+pub mod TextLimits
 pub mod Says
 pub mod LineWords
 pub mod Leading

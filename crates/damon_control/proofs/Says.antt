@@ -9,14 +9,14 @@ use Rattle.damon_types.specs.declared.attrs.Attrs.{Attrs}
 use Rattle.damon_types.specs.declared.range.RangeSpec.{RangeSpec}
 use Rattle.damon_types.specs.declared.scheme.SlotChange.{SlotChange}
 use Rattle.damon_types.specs.declared.space.Target.{Target}
-use Rattle.damon_types.specs.Space.{checked, pages_of}
+use Rattle.damon_types.specs.Space.{checked}
 use Rattle.line_text.specs.Parts.{parts}
 use Rattle.live_commit.specs.Checked.{checked_cap, checked_limits, checked_unit}
 use Rattle.live_commit.specs.Commit.{CommitValue}
 use Rattle.live_commit.specs.Laws.{ChecksInTurn}
 use Rattle.live_commit.specs.Slots.{checked_slots}
 use Rattle.target_ranges.specs.Checked.{checked_next, checked_ranges, fault_at}
-use Rattle.target_ranges.specs.Laws.{ChecksOneMore, MakesEach, MakesInOrder}
+use Rattle.target_ranges.specs.Laws.{ChecksOneMore}
 use Rattle.target_ranges.specs.Made.{ranges_of}
 use Rattle.damon_control.specs.declared.commit.Part.{Part}
 use Rattle.damon_control.specs.declared.fault.ScriptKind.{ScriptKind}
@@ -26,29 +26,24 @@ use Rattle.damon_control.specs.Body.{command_line, no_commit, part_line, with_pa
 use Rattle.damon_control.specs.Command.{CommandValue, Commit, most_work, weight, work_of}
 use Rattle.damon_control.specs.Head.{attrs_line, cap_line, range_line, scheme_line, seed_line, setup_said, target_line, unit_line}
 use Rattle.damon_control.specs.Laws.{GivesScheme, IsPart, WordLaws, may_come}
-use Rattle.damon_control.specs.Limits.{AreCommandsWithin, IsCommandWithin}
 use Rattle.damon_control.specs.Refusal.{◌>>=◌}
 use Rattle.damon_control.specs.Script.{AtAttrs, AtCap, AtEnd, AtHeader, AtRanges, AtSchemes, AtSeed, AtTargets, AtUnit, Body, InBody, InCommit, Place, ScriptValue, after_body, after_commit, after_ranges, after_schemes, after_targets, opened, place_after, script_of, with_command}
-use Rattle.damon_control.specs.Sound.{ScriptsAreSound}
 use Rattle.damon_control.specs.Spelling.{spelled_attrs, spelled_cap, spelled_range, spelled_seed, spelled_target, spelled_unit}
-use Rattle.damon_control.specs.Text.{EachSays, IsText, ReadsOnlyTexts, SayCommand, SaySetup, all_lines, come_in_order, lines_text, setup_lines, with_parts}
+use Rattle.damon_control.specs.Text.{EachSays, IsText, SayCommand, SaySetup, all_lines, come_in_order, lines_text, setup_lines, with_parts}
 use Rattle.damon_control.specs.Words.{alone, begins_with, same_word}
-use Rattle.damon_control.proofs.CommandLimits.{PageLaws, command_within, within_more}
 use Rattle.damon_control.proofs.Leads.{leads, read-Lead}
 use Rattle.damon_control.proofs.LineLimits.{cap_sound, limits_sound, range_follows, scheme_sound, seed_fits, target_sound, unit_sound}
-use Rattle.damon_control.proofs.SetupLimits.{SaySetup-InOrder, SaySetup-IsSetup}
 use Rattle.damon_control.proofs.SpellCommands.{command_line-Ok, part_line-Ok}
 use Rattle.damon_control.proofs.SpellLines.{attrs_line-Ok, cap_line-Ok, range_line-Ok, seed_line-Ok, target_line-Ok, unit_line-Ok}
 use Rattle.damon_control.proofs.SpellSchemes.{scheme_line-Ok}
 use Rattle.damon_control.proofs.SpellSteps.{bind-Ok, either_way, only_if-Ok}
 use Rattle.damon_control.proofs.SpellWords.{alone-Ok}
 
--- what is known of words, of the checks of ranges and slots, and of pages
+-- what is known of words, and of the checks of ranges and slots
 pub record TextLaws : Type 0 where
   pub words : WordLaws
   pub ranges : ChecksOneMore
   pub slots : ChecksInTurn
-  pub pages : PageLaws
 
 -- the lines of a frame, and others behind them
 abbrev frame_lines : Frame → List (List ℕ) → List (List ℕ)
@@ -83,7 +78,6 @@ pub record SayBody (lines : List (List ℕ)) (b : Body) : Type 0 where
   say_commands : EachSays (SayCommand b.said.setup.space) commands b.said.commands
   sum : b.work ≡ work_of b.said.setup.cap b.said.commands
   work : b.work ≤ most_work
-  within : AreCommandsWithin (pages_of b.said.setup.space) b.said.commands
 
 -- and of a commit that is not at its end
 record SayCommit (lines : List (List ℕ)) (b : Body) (commit : CommitValue) : Type 0 where
@@ -113,7 +107,7 @@ Says lines (AtRanges f targets specs) = SayRanges lines f targets specs
 Says lines (AtSchemes f targets specs slots) = SaySetup lines f.seed (setup_said f targets specs slots)
 Says lines (InBody b) = SayBody lines b
 Says lines (InCommit b commit) = SayCommit lines b commit
-Says lines (AtEnd s) = IsText (lines_text lines) s × AreCommandsWithin (pages_of s.setup.space) s.commands
+Says lines (AtEnd s) = IsText (lines_text lines) s
 
 -- what holds of each place to which a reading leads, holds of the one to which it did
 read_to : {A : Type 0} (P : Place → Type 0) (r : Result A ScriptKind) (to : A → Place) (next : Place) → ((x : A) → r ≡ Ok x → P (to x)) → (r >>= λ x. Ok (to x)) ≡ Ok next → P next
@@ -159,8 +153,8 @@ work-more cap (d ∷ commands) c =
 -- ---- what a line adds to what the lines before it say
 
 more_command : (lines front : List (List ℕ)) (b : Body) (group : List (List ℕ)) (command : CommandValue) (next : Place) → SayBody front b → lines ≡ front ++ group → SayCommand b.said.setup.space group command
-    → IsCommandWithin (pages_of b.said.setup.space) command → with_command b command ≡ Ok next → Says lines next
-more_command lines front b group command next before is says within e =
+    → with_command b command ≡ Ok next → Says lines next
+more_command lines front b group command next before is says e =
     let work = b.work + weight b.said.setup.cap command in
     let now : Body = record { said = record b.said { commands = b.said.commands ++ command ∷ [] }; work = work } in
     let passes = only_if-Ok (nat_le work most_work) TooMuch (InBody now) next e in
@@ -176,7 +170,6 @@ more_command lines front b group command next before is says within e =
       say_commands = each_more (SayCommand b.said.setup.space) before.commands b.said.commands group command before.say_commands says;
       sum = ap (λ n. n + weight b.said.setup.cap command) before.sum ∙ sym (work-more b.said.setup.cap b.said.commands command);
       work = grind (arith, nat_tests, passes.0);
-      within = within_more (pages_of b.said.setup.space) b.said.commands command before.within within;
     })
 
 in_body : (laws : TextLaws) (lines : List (List ℕ)) (b : Body) (line : List ℕ) (next : Place) → SayBody lines b → after_body b line ≡ Ok next → Says (lines ++ line ∷ []) next
@@ -184,19 +177,16 @@ in_body laws lines b line next before e =
     either_way (begins_with (codes "end") line) _ _ _ at_end (either_way (begins_with (codes "commit") line) _ _ _ at_commit at_command) e
   where
     at_end : (alone (codes "end") line >>= λ _. Ok (AtEnd b.said)) ≡ Ok next → Says (lines ++ line ∷ []) next
-    at_end = read_to (Says (lines ++ line ∷ [])) (alone (codes "end") line) (λ _. AtEnd b.said) next (λ t read. (
-      record {
-        setup = before.setup;
-        commands = before.commands;
-        spelled =
-            ap lines_text ((λ i. before.spelled i ++ alone-Ok laws.words (codes "end") line read i ∷ [])
-            ∙ append_assoc before.setup (codes "begin" ∷ all_lines before.commands) (codes "end" ∷ []));
-        says_setup = before.says_setup;
-        say_commands = before.say_commands;
-        work = subst (λ n. n ≤ most_work) before.sum before.work;
-      },
-      before.within,
-    ))
+    at_end = read_to (Says (lines ++ line ∷ [])) (alone (codes "end") line) (λ _. AtEnd b.said) next (λ t read. record {
+      setup = before.setup;
+      commands = before.commands;
+      spelled =
+          ap lines_text ((λ i. before.spelled i ++ alone-Ok laws.words (codes "end") line read i ∷ [])
+          ∙ append_assoc before.setup (codes "begin" ∷ all_lines before.commands) (codes "end" ∷ []));
+      says_setup = before.says_setup;
+      say_commands = before.say_commands;
+      work = subst (λ n. n ≤ most_work) before.sum before.work;
+    })
 
     at_commit : (alone (codes "commit") line >>= λ _. Ok (InCommit b no_commit)) ≡ Ok next → Says (lines ++ line ∷ []) next
     at_commit = read_to (Says (lines ++ line ∷ [])) (alone (codes "commit") line) (λ _. InCommit b no_commit) next (λ t read. record {
@@ -214,7 +204,7 @@ in_body laws lines b line next before e =
     at_command read =
         let command = bind-Ok (command_line b.said.setup.space line) (with_command b) (next) read in
         let says = command_line-Ok laws.words b.said.setup.space line command.0 command.1 in
-        more_command (lines ++ line ∷ []) lines b (line ∷ []) command.0 next before refl (inl (line, refl, says)) (command_within laws.pages b.said.setup.space line command.0 command.1) command.2
+        more_command (lines ++ line ∷ []) lines b (line ∷ []) command.0 next before refl (inl (line, refl, says)) command.2
 
 in_commit : (laws : TextLaws) (lines : List (List ℕ)) (b : Body) (commit : CommitValue) (line : List ℕ) (next : Place) → SayCommit lines b commit → after_commit b commit line ≡ Ok next
     → Says (lines ++ line ∷ []) next
@@ -230,7 +220,7 @@ in_commit laws lines b commit line next before e = either_way (begins_with (code
         in
         more_command (lines ++ line ∷ []) before.front b group (Commit commit) next before.body is
         (inr (commit, refl, record { between = before.between; parts = before.parts; spelled = refl; each = before.each; in_order = before.in_order; made = before.made }))
-        tt word.2
+        word.2
 
     at_part : (part_line commit line >>= λ part. Ok (InCommit b (with_part commit part))) ≡ Ok next → Says (lines ++ line ∷ []) next
     at_part = read_to (Says (lines ++ line ∷ [])) (part_line commit line) (λ part. InCommit b (with_part commit part)) next (λ part read.
@@ -277,7 +267,6 @@ at_schemes laws lines f targets specs slots line next before e = either_way (beg
       say_commands = tt;
       sum = refl;
       work = omega arith;
-      within = tt;
     })
 
 -- behind its ranges a setup has no scheme yet
@@ -382,24 +371,8 @@ leads-Says laws front place (line ∷ lines) last before e =
     subst (λ ls. Says ls last) (append_assoc front (line ∷ []) lines)
     (leads-Says laws (front ++ line ∷ []) next.0 lines last (line-Says laws front place line next.0 before next.1) next.2)
 
--- the lines of a text that is read as a script say it, and its commands are within their limits
-script-Says : TextLaws → (text : List ℕ) (s : ScriptValue) → script_of text ≡ Ok s → IsText text s × AreCommandsWithin (pages_of s.setup.space) s.commands
-script-Says laws text s e =
-    let read = read-Lead 1 AtHeader (parts 10 text) s e in
-    let says = leads-Says laws [] AtHeader read.lines (AtEnd s) refl read.lead in
-    (subst (λ (t : List ℕ). IsText t s) (sym (sym (laws.words.parts 10 text).0 ∙ read.whole)) says.0, says.1)
-
 -- a text that is read as a script says it
-pub script_of-Ok : TextLaws → ReadsOnlyTexts
-script_of-Ok laws text s e = (script-Says laws text s e).0
-
--- it gives a script within its limits
-pub script_of-IsSound : TextLaws → MakesEach → MakesInOrder → ScriptsAreSound
-script_of-IsSound laws makes orders text s e =
-    let says = script-Says laws text s e in
-    record {
-      setup = SaySetup-IsSetup makes says.0.setup s.seed s.setup says.0.says_setup;
-      order = SaySetup-InOrder orders says.0.setup s.seed s.setup says.0.says_setup;
-      commands = says.1;
-      work = says.0.work;
-    }
+pub script_of-IsText : TextLaws → (text : List ℕ) (s : ScriptValue) → script_of text ≡ Ok s → IsText text s
+script_of-IsText laws text s e =
+    let read = read-Lead 1 AtHeader (parts 10 text) s e in
+    subst (λ (t : List ℕ). IsText t s) (sym (sym (laws.words.parts 10 text).0 ∙ read.whole)) (leads-Says laws [] AtHeader read.lines (AtEnd s) refl read.lead)

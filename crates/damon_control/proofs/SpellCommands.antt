@@ -1,5 +1,5 @@
 -- The lines of a body are spelled so.
-use Rattle.std.proofs.Common.{◌≡◌, inl, inr, ◌∷◌, [], ℕ, ◌+◌, ◌-◌, true, ◌&&◌, List, codes, Some, None, Ok, refl, ap, subst, ◌∙◌, decimal}
+use Rattle.std.proofs.Common.{◌≡◌, inl, inr, ◌∷◌, [], ℕ, ◌+◌, ◌-◌, ◌^◌, ◌<◌, true, ◌&&◌, List, codes, Some, None, Ok, refl, ap, subst, ◌∙◌, decimal}
 use Rattle.std.specs.Prelude.{is_none, option_map}
 use Rattle.std.specs.Option.{ok_or}
 use Rattle.damon_types.specs.declared.scheme.SlotChange.{SlotChange}
@@ -13,23 +13,32 @@ use Rattle.damon_control.specs.declared.fault.ScriptKind.TheVariants.{Form, Limi
 use Rattle.damon_control.specs.Body.{are_swept, change_line, drop_line, step_line, sweep_line, touch_line, wants_attrs, wants_slot, word_line}
 use Rattle.damon_control.specs.Command.{CommandValue, Touch, Sweep, Step, Arm, Finish, Show}
 use Rattle.damon_control.specs.Fields.{attrs_in, range_in}
+use Rattle.damon_control.specs.Fits.{FitsAttrs, FitsRange}
 use Rattle.damon_control.specs.Head.{limited}
 use Rattle.damon_control.specs.Laws.{EmptiesSlot, IsCommand, IsPart, ReadsOnlyCommands, ReadsOnlyParts, WordLaws, may_come}
 use Rattle.damon_control.specs.Refusal.{◌>>=◌, only_if}
 use Rattle.damon_control.specs.Spelling.{attrs_words, range_words, spelled_sweep, spelled_touch}
 use Rattle.damon_control.specs.Words.{alone, arguments, begins_with, byte_address, number_8, number_32, one_word}
-use Rattle.damon_control.proofs.SpellLines.{attrs_in-Ok, limited-Ok, range_in-Ok, words-Ok}
+use Rattle.damon_control.proofs.SpellFits.{attrs_in-fits, range_in-fits}
+use Rattle.damon_control.proofs.SpellLines.{attrs_in-Ok, limited-Ok, limited-within_limits, range_in-Ok, words-Ok, words-have}
 use Rattle.damon_control.proofs.SpellSchemes.{change_line-Ok}
 use Rattle.damon_control.proofs.SpellSteps.{bind-Ok, either_way, second_true, tested_way, ok_or-Ok, only_if-Ok, two_of-Some, three_of-Some}
-use Rattle.damon_control.proofs.SpellWords.{alone-Ok, arguments-Ok, byte_address-Ok, number_8-Ok, number_32-Ok, one_word-Ok}
+use Rattle.damon_control.proofs.SpellWords.{alone-Ok, arguments-Ok, byte_address-Ok, byte_address-small, number_8-Ok, number_8-small, number_32-Ok, number_32-small, one_word-Ok, one_word-has}
 
 -- the page of a byte
-touch_page : (space : List Target) (line : List ℕ) (command : CommandValue) (target addr : ℕ) → line ≡ spelled_touch target addr
+touch_page : (space : List Target) (line : List ℕ) (command : CommandValue) (target addr : ℕ) → line ≡ spelled_touch target addr → target < 2 ^ 32 → addr < 2 ^ 64
     → (ok_or (page_of space target addr) Outside >>= λ page. Ok (Touch page)) ≡ Ok command → IsCommand space line command
-touch_page space line command target addr spelled e =
+touch_page space line command target addr spelled target_fits addr_fits e =
     let page = bind-Ok (ok_or (page_of space target addr) Outside) _ command e in
     let is : Touch page.0 ≡ command = cc in
-    subst (IsCommand space line) is (record { target = target; addr = addr; spelled = spelled; holds = ok_or-Ok (page_of space target addr) Outside page.0 page.1 })
+    subst (IsCommand space line) is (record {
+      target = target;
+      addr = addr;
+      spelled = spelled;
+      target_fits = target_fits;
+      addr_fits = addr_fits;
+      holds = ok_or-Ok (page_of space target addr) Outside page.0 page.1;
+    })
 
 -- the words of a touch
 touch_words : (laws : WordLaws) (line : List ℕ) (words : List (List ℕ)) (fields : List ℕ × List ℕ) (target addr : ℕ) → arguments (codes "touch") line ≡ Ok words
@@ -47,17 +56,18 @@ touch_line-Ok laws space line command e =
     let addr = bind-Ok (byte_address fields.0.1) _ command target.2 in
     let two = ok_or-Ok (two_of words.0) Form fields.0 fields.1 in
     let spelled = touch_words laws line words.0 fields.0 target.0 addr.0 words.1 two target.1 addr.1 in
-    touch_page space line command target.0 addr.0 spelled addr.2
+    touch_page space line command target.0 addr.0 spelled (number_32-small laws fields.0.0 target.0 target.1) (byte_address-small laws fields.0.1 addr.0 addr.1) addr.2
 
 -- the pages between two addresses of a target
 sweep_pages : (space : List Target) (line : List ℕ) (command : CommandValue) (target from to : ℕ) → line ≡ spelled_sweep target from to
+    → target < 2 ^ 32 → from < 2 ^ 64 → to < 2 ^ 64
     → (do
       whole ← only_if (are_swept from to) Limit (tt {0})
       first ← ok_or (page_of space target from) Outside
       last ← ok_or (page_of space target (to - 4096)) Outside
       Ok (Sweep first (last + 1))) ≡ Ok command
     → IsCommand space line command
-sweep_pages space line command target from to spelled e =
+sweep_pages space line command target from to spelled target_fits from_fits to_fits e =
     let whole = bind-Ok (only_if (are_swept from to) Limit (tt {0})) _ command e in
     let first = bind-Ok (ok_or (page_of space target from) Outside) _ command whole.2 in
     let last = bind-Ok (ok_or (page_of space target (to - 4096)) Outside) _ command first.2 in
@@ -67,6 +77,9 @@ sweep_pages space line command target from to spelled e =
       from = from;
       to = to;
       spelled = spelled;
+      target_fits = target_fits;
+      from_fits = from_fits;
+      to_fits = to_fits;
       whole = (only_if-Ok (are_swept from to) Limit (tt {0}) whole.0 whole.1).0;
       begins = ok_or-Ok (page_of space target from) Outside first.0 first.1;
       ends = ap (option_map (λ page. page + 1)) (ok_or-Ok (page_of space target (to - 4096)) Outside last.0 last.1);
@@ -89,14 +102,16 @@ sweep_line-Ok laws space line command e =
     let to = bind-Ok (byte_address fields.0.2) _ command from.2 in
     let three = ok_or-Ok (three_of words.0) Form fields.0 fields.1 in
     let spelled = sweep_words laws line words.0 fields.0 target.0 from.0 to.0 words.1 three target.1 from.1 to.1 in
-    sweep_pages space line command target.0 from.0 to.0 spelled to.2
+    sweep_pages space line command target.0 from.0 to.0 spelled (number_32-small laws fields.0.0 target.0 target.1) (byte_address-small laws fields.0.1 from.0 from.1)
+    (byte_address-small laws fields.0.2 to.0 to.1) to.2
 
 step_line-Ok : (laws : WordLaws) (space : List Target) (line : List ℕ) (command : CommandValue) → step_line line ≡ Ok command → IsCommand space line command
 step_line-Ok laws space line command e =
     let times = bind-Ok (arguments (codes "step") line >>= one_word >>= number_32 >>= limited 1 1000000) _ command e in
     let read = limited-Ok (arguments (codes "step") line >>= one_word >>= number_32) 1 1000000 times.0 times.1 in
     let is : Step times.0 ≡ command = cc in
-    subst (IsCommand space line) is (one_word-Ok laws (codes "step") number_32 decimal (number_32-Ok laws) line times.0 read)
+    let within = limited-within_limits (arguments (codes "step") line >>= one_word >>= number_32) 1 1000000 times.0 times.1 in
+    subst (IsCommand space line) is (one_word-Ok laws (codes "step") number_32 decimal (number_32-Ok laws) line times.0 read, within.0, within.1)
 
 word_line-Ok : (laws : WordLaws) (space : List Target) (word : List ℕ) (said : CommandValue) (line : List ℕ) (command : CommandValue) → word_line word said line ≡ Ok command
     → (line ≡ word → IsCommand space line said) → IsCommand space line command
@@ -119,7 +134,11 @@ drop_line-Ok : (laws : WordLaws) (line : List ℕ) (change : SlotChange) → dro
 drop_line-Ok laws line change e =
     let slot = bind-Ok (arguments (codes "drop") line >>= one_word >>= number_8) _ change e in
     let is : record { slot = slot.0; scheme = None } ≡ change = cc in
-    subst (EmptiesSlot line) is (refl, one_word-Ok laws (codes "drop") number_8 decimal (number_8-Ok laws) line slot.0 slot.1)
+    subst (EmptiesSlot line) is (
+      refl,
+      one_word-Ok laws (codes "drop") number_8 decimal (number_8-Ok laws) line slot.0 slot.1,
+      one_word-has (λ n. n < 2 ^ 8) (codes "drop") number_8 (number_8-small laws) line slot.0 slot.1,
+    )
 
 -- a line says a part that may come behind those of a commit
 abbrev SaysPart : CommitValue → List ℕ → Part → Type 0
@@ -130,14 +149,20 @@ attrs_part : (laws : WordLaws) (before : CommitValue) (line : List ℕ) (part : 
 attrs_part laws before line part wanted e =
     let attrs = bind-Ok (arguments (codes "attrs") line >>= attrs_in) _ part e in
     let is : Attrs attrs.0 ≡ part = cc in
-    subst (SaysPart before line) is (wanted, words-Ok laws (codes "attrs") attrs_in attrs_words (attrs_in-Ok laws) line attrs.0 attrs.1)
+    subst (SaysPart before line) is (
+      wanted,
+      (words-Ok laws (codes "attrs") attrs_in attrs_words (attrs_in-Ok laws) line attrs.0 attrs.1, words-have FitsAttrs (codes "attrs") attrs_in (attrs_in-fits laws) line attrs.0 attrs.1),
+    )
 
 range_part : (laws : WordLaws) (before : CommitValue) (line : List ℕ) (part : Part) → wants_slot before ≡ true → (arguments (codes "range") line >>= range_in >>= λ range. Ok (Range range)) ≡ Ok part
     → SaysPart before line part
 range_part laws before line part wanted e =
     let range = bind-Ok (arguments (codes "range") line >>= range_in) _ part e in
     let is : Range range.0 ≡ part = cc in
-    subst (SaysPart before line) is (wanted, words-Ok laws (codes "range") range_in range_words (range_in-Ok laws) line range.0 range.1)
+    subst (SaysPart before line) is (
+      wanted,
+      (words-Ok laws (codes "range") range_in range_words (range_in-Ok laws) line range.0 range.1, words-have FitsRange (codes "range") range_in (range_in-fits laws) line range.0 range.1),
+    )
 
 scheme_part : (laws : WordLaws) (before : CommitValue) (line : List ℕ) (part : Part) → wants_slot before ≡ true → (change_line line >>= λ change. Ok (Slot change)) ≡ Ok part → SaysPart before line part
 scheme_part laws before line part wanted e =
@@ -156,7 +181,13 @@ metric_part : (laws : WordLaws) (before : CommitValue) (line : List ℕ) (part :
 metric_part laws before line part wanted e =
     let value = bind-Ok (arguments (codes "metric") line >>= one_word >>= number_32) _ part e in
     let is : Metric value.0 ≡ part = cc in
-    subst (SaysPart before line) is (wanted, one_word-Ok laws (codes "metric") number_32 decimal (number_32-Ok laws) line value.0 value.1)
+    subst (SaysPart before line) is (
+      wanted,
+      (
+        one_word-Ok laws (codes "metric") number_32 decimal (number_32-Ok laws) line value.0 value.1,
+        one_word-has (λ n. n < 2 ^ 32) (codes "metric") number_32 (number_32-small laws) line value.0 value.1,
+      ),
+    )
 
 -- a line that a part of a commit is read from says it, where it may come
 pub part_line-Ok : WordLaws → ReadsOnlyParts

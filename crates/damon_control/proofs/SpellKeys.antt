@@ -16,7 +16,7 @@ use Rattle.damon_control.specs.declared.keys.Key.{Key}
 use Rattle.damon_control.specs.declared.keys.Key.TheVariants.{Size, Count, Age, Quota as QuotaKey, Weights as WeightsKey, Prefer as PreferKey, Marks as MarksKey, Filter as FilterKey}
 use Rattle.damon_control.specs.declared.keys.Setting.{Setting}
 use Rattle.damon_control.specs.declared.keys.Setting.TheVariants.{Size as SizeOf, Count as CountOf, Age as AgeOf, Quota as QuotaOf, Weights as WeightsOf, Prefer as PreferOf, Marks as MarksOf, Filter as FilterOf}
-use Rattle.damon_control.specs.Keys.{addr_of, answer_of, filter_of, key_and_value, key_named, kind_of, marks_of, plain_name, prefer_of, quota_of, setting_for, setting_of, span_of, weights_of}
+use Rattle.damon_control.specs.Keys.{addr_of, answer_of, filter_of, key_and_value, key_named, kind_of, marks_of, plain_name, prefer_of, quota_of, setting_for, setting_of, span_in, weights_of}
 use Rattle.damon_control.specs.Laws.{ReadsOnly, WordLaws}
 use Rattle.damon_control.specs.Refusal.{◌>>=◌}
 use Rattle.damon_control.specs.Spelling.{kind_name, kind_value, spelled_answer, spelled_filter, spelled_marks, spelled_prefer, spelled_quota, spelled_setting, spelled_side, spelled_span, spelled_weights}
@@ -24,8 +24,8 @@ use Rattle.damon_control.specs.Words.{byte_address, number_8, number_16, number_
 use Rattle.damon_control.proofs.SpellSteps.{bind-Ok, ok_or-Ok}
 use Rattle.damon_control.proofs.SpellWords.{byte_address-Ok, number_8-Ok, number_16-Ok, number_32-Ok, number_64-Ok, same_or_other, three_parts-Ok, two_parts-Ok}
 
-span_of-Ok : WordLaws → ReadsOnly span_of spelled_span
-span_of-Ok laws value span e =
+span_in-Ok : WordLaws → ReadsOnly span_in spelled_span
+span_in-Ok laws value span e =
     let ends = bind-Ok (ok_or (two_of (parts 44 value)) Form) _ span e in
     let low = bind-Ok (number_32 ends.0.0) _ span ends.2 in
     let high = bind-Ok (number_32 ends.0.1) _ span low.2 in
@@ -184,17 +184,17 @@ split_at_byte-whole byte bytes sides e = by (nat_lt at (length bytes)) refl e
 setting_for-Ok : (laws : WordLaws) (key : Key) (value : List ℕ) (setting : Setting) → setting_for key value ≡ Ok setting → key_name key ++ 61 ∷ value ≡ spelled_setting setting
 unfolding key_name
 setting_for-Ok laws Size value setting e =
-    let x = bind-Ok (span_of value) _ setting e in
+    let x = bind-Ok (span_in value) _ setting e in
     let is : SizeOf x.0 ≡ setting = cc in
-    ap (λ v. codes "size=" ++ v) (span_of-Ok laws value x.0 x.1) ∙ ap spelled_setting is
+    ap (λ v. codes "size=" ++ v) (span_in-Ok laws value x.0 x.1) ∙ ap spelled_setting is
 setting_for-Ok laws Count value setting e =
-    let x = bind-Ok (span_of value) _ setting e in
+    let x = bind-Ok (span_in value) _ setting e in
     let is : CountOf x.0 ≡ setting = cc in
-    ap (λ v. codes "count=" ++ v) (span_of-Ok laws value x.0 x.1) ∙ ap spelled_setting is
+    ap (λ v. codes "count=" ++ v) (span_in-Ok laws value x.0 x.1) ∙ ap spelled_setting is
 setting_for-Ok laws Age value setting e =
-    let x = bind-Ok (span_of value) _ setting e in
+    let x = bind-Ok (span_in value) _ setting e in
     let is : AgeOf x.0 ≡ setting = cc in
-    ap (λ v. codes "age=" ++ v) (span_of-Ok laws value x.0 x.1) ∙ ap spelled_setting is
+    ap (λ v. codes "age=" ++ v) (span_in-Ok laws value x.0 x.1) ∙ ap spelled_setting is
 setting_for-Ok laws QuotaKey value setting e =
     let x = bind-Ok (quota_of value) _ setting e in
     let is : QuotaOf x.0 ≡ setting = cc in

@@ -1,7 +1,8 @@
 -- The lines of a setup, and lines of one number, are spelled so.
-use Rattle.std.proofs.Common.{◌≡◌, ◌∷◌, [], ℕ, ◌&&◌, nat_le, nat_lt, List, ◌++◌, length, codes, Ok, ap, ◌∙◌, decimal}
+use Rattle.std.proofs.Common.{◌≡◌, ◌≤◌, arith, ◌∷◌, [], ℕ, ◌&&◌, nat_le, nat_lt, List, ◌++◌, length, codes, Ok, ap, ◌∙◌, decimal}
 use Rattle.std.specs.Prelude.{Result, is_ok}
 use Rattle.std.specs.Option.{ok_or}
+use Rattle.std.proofs.lemmas.Bool.Decides.{nat_tests}
 use Rattle.damon_types.specs.declared.range.RangeSpec.{RangeSpec}
 use Rattle.damon_types.specs.declared.space.Target.{Target}
 use Rattle.damon_types.specs.Attrs.{checked_attrs}
@@ -17,7 +18,7 @@ use Rattle.damon_control.specs.Laws.{ReadsOnly, WordLaws}
 use Rattle.damon_control.specs.Refusal.{◌>>=◌, refused_as}
 use Rattle.damon_control.specs.Spelling.{attrs_words, range_words, spelled_attrs, spelled_cap, spelled_range, spelled_seed, spelled_target, spelled_unit, target_words}
 use Rattle.damon_control.specs.Words.{arguments, byte_address, number_8, number_32, number_64, one_word}
-use Rattle.damon_control.proofs.SpellSteps.{bind-Ok, ok_or-Ok, only_if-Ok, two_of-Some, three_of-Some, four_of-Some}
+use Rattle.damon_control.proofs.SpellSteps.{bind-Ok, first_true, ok_or-Ok, only_if-Ok, second_true, two_of-Some, three_of-Some, four_of-Some}
 use Rattle.damon_control.proofs.SpellWords.{arguments-Ok, byte_address-Ok, number_8-Ok, number_32-Ok, number_64-Ok, one_word-Ok}
 
 -- a number within limits is the number
@@ -25,6 +26,16 @@ pub limited-Ok : (r : Result ℕ ScriptKind) (least most n : ℕ) → (r >>= lim
 limited-Ok r least most n e =
     let within = bind-Ok r (limited least most) n e in
     within.1 ∙ ap (λ m. Ok m) (only_if-Ok (nat_le least within.0 && nat_le within.0 most) Limit within.0 n within.2).1
+
+-- a number within limits is between them
+pub limited-within_limits : (r : Result ℕ ScriptKind) (least most n : ℕ) → (r >>= limited least most) ≡ Ok n → (least ≤ n) × (n ≤ most)
+limited-within_limits r least most n e =
+    let within = bind-Ok r (limited least most) n e in
+    let passed = only_if-Ok (nat_le least within.0 && nat_le within.0 most) Limit within.0 n within.2 in
+    let same : within.0 ≡ n = passed.1 in
+    let first = first_true (nat_le least within.0) (nat_le within.0 most) passed.0 in
+    let second = second_true (nat_le least within.0) (nat_le within.0 most) passed.0 in
+    (grind (arith, nat_tests), grind (arith, nat_tests))
 
 pub seed_line-Ok : WordLaws → ReadsOnly seed_line spelled_seed
 seed_line-Ok laws = one_word-Ok laws (codes "seed") number_64 decimal (number_64-Ok laws)
@@ -38,6 +49,11 @@ pub cap_line-Ok : WordLaws → ReadsOnly cap_line spelled_cap
 cap_line-Ok laws line n e =
     one_word-Ok laws (codes "cap") number_32 decimal (number_32-Ok laws) line n
     (limited-Ok (arguments (codes "cap") line >>= one_word >>= number_32) 3 4096 n e)
+
+-- what is read from the words of a line has what each that is read so has
+pub words-have : {A : Type 0} (P : A → Type 0) (word : List ℕ) (read : List (List ℕ) → Result A ScriptKind) → ((words : List (List ℕ)) (x : A) → read words ≡ Ok x → P x)
+    → (line : List ℕ) (x : A) → (arguments word line >>= read) ≡ Ok x → P x
+words-have P word read has line x e = let words = bind-Ok (arguments word line) read x e in has words.0 x words.2
 
 -- a line of a word and others, which something is read from
 pub words-Ok : {A : Type 0} (laws : WordLaws) (word : List ℕ) (read : List (List ℕ) → Result A ScriptKind) (spelled : A → List (List ℕ)) → ReadsOnly read spelled

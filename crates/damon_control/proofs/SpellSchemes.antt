@@ -1,6 +1,6 @@
 -- Lines of schemes are spelled so.
-use Rattle.std.proofs.Common.{◌≡◌, ◌∷◌, [], ℕ, true, not, List, map, codes, Some, None, Ok, Err, refl, ap, subst, ◌∙◌}
-use Rattle.std.specs.Prelude.{Option, Result}
+use Rattle.std.proofs.Common.{◌≡◌, ◌∷◌, [], ℕ, true, not, List, map, codes, Some, None, Ok, refl, ap, subst, ◌∙◌}
+use Rattle.std.specs.Prelude.{Option}
 use Rattle.std.specs.Option.{ok_or}
 use Rattle.damon_types.specs.declared.scheme.Action.{Action}
 use Rattle.damon_types.specs.declared.scheme.Action.TheVariants.{Stat, Willneed, Cold, Pageout, Hugepage, Nohugepage, LruPrio, LruDeprio}
@@ -8,19 +8,19 @@ use Rattle.damon_types.specs.declared.scheme.Scheme.{Scheme}
 use Rattle.damon_types.specs.declared.scheme.SlotChange.{SlotChange}
 use Rattle.damon_types.specs.Scheme.{checked_scheme}
 use Rattle.line_text.specs.Parts.{joined}
-use Rattle.damon_control.specs.declared.fault.ScriptKind.{ScriptKind}
 use Rattle.damon_control.specs.declared.fault.ScriptKind.TheVariants.{Form, Repeated, Scheme as BadScheme}
-use Rattle.damon_control.specs.declared.keys.Setting.{Setting}
 use Rattle.damon_control.specs.Body.{change_line}
 use Rattle.damon_control.specs.Head.{is_changed}
-use Rattle.damon_control.specs.Keys.{action_of, are_formed, default_scheme, scheme_in, setting_of, with_setting, with_settings}
-use Rattle.damon_control.specs.Laws.{GivesScheme, IsScheme, NamesActions, ReadsOnlySchemes, WordLaws, settled}
+use Rattle.damon_control.specs.Keys.{action_of, are_formed, default_scheme, scheme_in, setting_of, settings_of, settled, with_settings}
+use Rattle.damon_control.specs.Laws.{GivesScheme, IsScheme, NamesActions, ReadsOnly, ReadsOnlySchemes, WordLaws}
 use Rattle.damon_control.specs.Refusal.{◌>>=◌, only_if, refused_as}
 use Rattle.damon_control.specs.Spelling.{spelled_action, spelled_setting}
 use Rattle.damon_control.specs.Words.{arguments, number_8}
+use Rattle.damon_control.proofs.ReadSchemes.{in_order-formed}
+use Rattle.damon_control.proofs.SpellFits.{settings_of-fit}
 use Rattle.damon_control.proofs.SpellKeys.{setting_of-Ok}
 use Rattle.damon_control.proofs.SpellSteps.{bind-Ok, ok_or-Ok, only_if-Ok}
-use Rattle.damon_control.proofs.SpellWords.{arguments-Ok, number_8-Ok, same_or_other}
+use Rattle.damon_control.proofs.SpellWords.{arguments-Ok, number_8-Ok, number_8-small, same_or_other}
 
 pub action_of-Some : NamesActions
 action_of-Some name action e =
@@ -36,30 +36,14 @@ action_of-Some name action e =
     named : (here : Action) → name ≡ spelled_action here → ◌≡◌ {A = Option Action} (Some here) (Some action) → name ≡ spelled_action action
     named here is e = let same : here ≡ action = cc in is ∙ ap spelled_action same
 
--- words spell settings, which make a scheme of another
-record AreSettings (start scheme : Scheme) (keys : List (List ℕ)) : Type 0 where
-  settings : List Setting
-  spelled : keys ≡ map spelled_setting settings
-  made : settled start settings ≡ Ok scheme
-
--- a scheme that was refused stays so
-refused : (keys : List (List ℕ)) (kind : ScriptKind) (scheme : Scheme) → with_settings (Err kind) keys ≡ Ok scheme → ⊥
-refused [] kind scheme e = absurd cc
-refused (word ∷ words) kind scheme e = let setting = bind-Ok (setting_of word) _ scheme e in refused words kind scheme setting.2
-
-with_settings-Ok : (laws : WordLaws) (keys : List (List ℕ)) (start scheme : Scheme) → with_settings (Ok start) keys ≡ Ok scheme → AreSettings start scheme keys
-with_settings-Ok laws [] start scheme e = record { settings = []; spelled = refl; made = e }
-with_settings-Ok laws (word ∷ words) start scheme e =
-    let setting = bind-Ok (setting_of word) _ scheme e in
-    by (λ next. with_settings-Ok laws words next scheme) setting.0 (setting_of-Ok laws word setting.0 setting.1) (with_setting start setting.0) refl setting.2
-  where
-    by : ((next : Scheme) → with_settings (Ok next) words ≡ Ok scheme → AreSettings next scheme words)
-        → (setting : Setting) → word ≡ spelled_setting setting → (next : Result Scheme ScriptKind) → with_setting start setting ≡ next → with_settings next words ≡ Ok scheme
-        → AreSettings start scheme (word ∷ words)
-    by others setting said (Ok next) is rest =
-        let more = others next rest in
-        record { settings = setting ∷ more.settings; spelled = λ i. said i ∷ more.spelled i; made = rw is more.made }
-    by others setting said (Err kind) is rest = absurd (refused words kind scheme rest)
+-- words that settings are read from are the spellings of them
+settings_of-Ok : WordLaws → ReadsOnly settings_of (map spelled_setting)
+settings_of-Ok laws [] settings e = let none : [] ≡ settings = cc in ap (map spelled_setting) none
+settings_of-Ok laws (word ∷ words) settings e =
+    let first = bind-Ok (setting_of word) _ settings e in
+    let others = bind-Ok (settings_of words) _ settings first.2 in
+    let is : first.0 ∷ others.0 ≡ settings = cc in
+    (λ i. setting_of-Ok laws word first.0 first.1 i ∷ settings_of-Ok laws words others.0 others.1 i) ∙ ap (map spelled_setting) is
 
 -- words that a scheme is read from, in a line
 scheme_in-Ok : (laws : WordLaws) (line : List ℕ) (words : List (List ℕ)) (said : ℕ × Scheme) → line ≡ joined 32 (codes "scheme" ∷ words) → scheme_in words ≡ Ok said
@@ -70,17 +54,20 @@ scheme_in-Ok laws line (slot ∷ name ∷ keys) said is e =
     let action = bind-Ok (ok_or (action_of name) Form) _ said e in
     let formed = bind-Ok (only_if (are_formed None keys) Form (tt {0})) _ said action.2 in
     let number = bind-Ok (number_8 slot) _ said formed.2 in
-    let scheme = bind-Ok (with_settings (Ok (default_scheme action.0)) keys) _ said number.2 in
+    let scheme = bind-Ok (with_settings (default_scheme action.0) keys) _ said number.2 in
     let same : (number.0, scheme.0) ≡ said = cc in
-    let set = with_settings-Ok laws keys (default_scheme action.0) scheme.0 scheme.1 in
-    let in_order = (only_if-Ok (are_formed None keys) Form (tt {0}) formed.0 formed.1).0 in
+    let settings = bind-Ok (settings_of keys) (settled (default_scheme action.0)) scheme.0 scheme.1 in
+    let are = settings_of-Ok laws keys settings.0 settings.1 in
+    let formed_so = (only_if-Ok (are_formed None keys) Form (tt {0}) formed.0 formed.1).0 in
     let named = action_of-Some name action.0 (ok_or-Ok (action_of name) Form action.0 action.1) in
     subst (λ (s : ℕ × Scheme). IsScheme line s.0 s.1) same (record {
       action = action.0;
-      settings = set.settings;
-      spelled = is ∙ (λ i. joined 32 (codes "scheme" ∷ number_8-Ok laws slot number.0 number.1 i ∷ named i ∷ set.spelled i));
-      in_order = subst (λ ks. are_formed None ks ≡ true) set.spelled in_order;
-      made = set.made;
+      settings = settings.0;
+      spelled = is ∙ (λ i. joined 32 (codes "scheme" ∷ number_8-Ok laws slot number.0 number.1 i ∷ named i ∷ are i));
+      small = number_8-small laws slot number.0 number.1;
+      fit = settings_of-fit laws keys settings.0 settings.1;
+      in_order = in_order-formed settings.0 (subst (λ ks. are_formed None ks ≡ true) are formed_so);
+      made = settings.2;
     })
 
 pub change_line-Ok : (laws : WordLaws) (line : List ℕ) (change : SlotChange) → change_line line ≡ Ok change → GivesScheme line change

@@ -1,5 +1,5 @@
 -- What was accepted step by step, each step accepted.
-use Rattle.std.proofs.Common.{◌≡◌, ◌∷◌, [], ℕ, Bool, true, false, List, Some, None, Ok, Err, refl, ◌&&◌}
+use Rattle.std.proofs.Common.{◌≡◌, ◌∷◌, [], ℕ, Bool, true, false, List, Some, None, Ok, Err, refl, ap, ◌∙◌, ◌&&◌}
 use Rattle.std.specs.Prelude.{Option, Result, if◌then◌else◌}
 use Rattle.std.specs.Option.{ok_or}
 use Rattle.line_text.specs.Parts.{one_of, two_of, three_of, four_of}
@@ -11,6 +11,10 @@ pub bind-Ok : {A B E : Type 0} (r : Result A E) (f : A → Result B E) (y : B) �
 bind-Ok (Ok x) f y e = (x, refl, e)
 bind-Ok (Err k) f y e = absurd cc
 
+-- a value that is made, and then what is made of it
+pub then-Ok : {A B E : Type 0} (r : Result A E) (f : A → Result B E) (x : A) (y : Result B E) → r ≡ Ok x → f x ≡ y → (r >>= f) ≡ y
+then-Ok r f x y first rest = ap (λ s. s >>= f) first ∙ rest
+
 -- a value that is there
 pub ok_or-Ok : {A : Type 0} (o : Option A) (kind : ScriptKind) (x : A) → ok_or o kind ≡ Ok x → o ≡ Some x
 ok_or-Ok (Some y) kind x e = cc
@@ -21,6 +25,14 @@ pub only_if-Ok : {A : Type 0} (test : Bool) (kind : ScriptKind) (value x : A) �
 only_if-Ok true kind value x e = (refl, cc)
 only_if-Ok false kind value x e = absurd cc
 
+-- the first of two ways, where the test passes
+pub chosen : {R : Type 0} (test : Bool) (here others x : R) → test ≡ true → here ≡ x → (if test then here else others) ≡ x
+chosen test here others x passes is = ap (λ t. if t then here else others) passes ∙ is
+
+-- the second of two ways, where the test fails
+pub passed_over : {R : Type 0} (test : Bool) (here others x : R) → test ≡ false → others ≡ x → (if test then here else others) ≡ x
+passed_over test here others x fails is = ap (λ t. if t then here else others) fails ∙ is
+
 -- one of two ways was gone, the first after its test
 pub tested_way : {R G : Type 0} (test : Bool) (here others x : R) → (test ≡ true → here ≡ x → G) → (others ≡ x → G) → (if test then here else others) ≡ x → G
 tested_way true here others x found next e = found refl e
@@ -29,6 +41,11 @@ tested_way false here others x found next e = next e
 -- one of two ways was gone
 pub either_way : {R G : Type 0} (test : Bool) (here others x : R) → (here ≡ x → G) → (others ≡ x → G) → (if test then here else others) ≡ x → G
 either_way test here others x found next = tested_way test here others x (λ _. found) next
+
+-- the first of two tests that pass
+pub first_true : (first second : Bool) → (first && second) ≡ true → first ≡ true
+first_true true second both = refl
+first_true false second both = absurd cc
 
 -- the second of two tests that pass
 pub second_true : (first second : Bool) → (first && second) ≡ true → second ≡ true

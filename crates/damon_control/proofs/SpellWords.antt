@@ -1,5 +1,5 @@
 -- The words of a line, and the numbers that they are read as.
-use Rattle.std.proofs.Common.{◌≡◌, ◌-◌, ◌^◌, ◌<◌, ◌∷◌, [], ℕ, Bool, true, false, not, List, drop, Ok, Err, refl, sym, ap, ◌∙◌, decimal, arith}
+use Rattle.std.proofs.Common.{◌≡◌, ◌-◌, ◌^◌, ◌<◌, ◌≤◌, ◌∷◌, [], ℕ, Bool, true, false, not, List, drop, Ok, Err, refl, sym, ap, ◌∙◌, decimal, arith}
 use Rattle.std.specs.Prelude.{Result, if◌then◌else◌}
 use Rattle.std.specs.Option.{ok_or}
 use Rattle.std.specs.Cmp.Lexicographic.{same_text}
@@ -49,6 +49,24 @@ alone-Ok laws word line e =
 number-Ok : (laws : WordLaws) (most : ℕ) → most < 2 ^ 64 → (word : List ℕ) (n : ℕ) → ok_or (number most word) Number ≡ Ok n → word ≡ decimal n
 number-Ok laws most small word n e = (laws.numbers most n word small (ok_or-Ok (number most word) Number n e)).0
 
+number-small : (laws : WordLaws) (most : ℕ) → most < 2 ^ 64 → (word : List ℕ) (n : ℕ) → ok_or (number most word) Number ≡ Ok n → n ≤ most
+number-small laws most small word n e = (laws.numbers most n word small (ok_or-Ok (number most word) Number n e)).1
+
+pub number_8-small : (laws : WordLaws) (word : List ℕ) (n : ℕ) → number_8 word ≡ Ok n → n < 2 ^ 8
+number_8-small laws word n e = omega (arith, number-small laws (2 ^ 8 - 1) (omega arith) word n e)
+
+pub number_16-small : (laws : WordLaws) (word : List ℕ) (n : ℕ) → number_16 word ≡ Ok n → n < 2 ^ 16
+number_16-small laws word n e = omega (arith, number-small laws (2 ^ 16 - 1) (omega arith) word n e)
+
+pub number_32-small : (laws : WordLaws) (word : List ℕ) (n : ℕ) → number_32 word ≡ Ok n → n < 2 ^ 32
+number_32-small laws word n e = omega (arith, number-small laws (2 ^ 32 - 1) (omega arith) word n e)
+
+pub number_64-small : (laws : WordLaws) (word : List ℕ) (n : ℕ) → number_64 word ≡ Ok n → n < 2 ^ 64
+number_64-small laws word n e = omega (arith, number-small laws (2 ^ 64 - 1) (omega arith) word n e)
+
+pub byte_address-small : (laws : WordLaws) (word : List ℕ) (n : ℕ) → byte_address word ≡ Ok n → n < 2 ^ 64
+byte_address-small laws word n e = (laws.addresses n word (ok_or-Ok (address word) Number n e)).1
+
 pub number_8-Ok : WordLaws → ReadsOnly number_8 decimal
 number_8-Ok laws word n e = number-Ok laws (2 ^ 8 - 1) (omega arith) word n e
 
@@ -73,6 +91,11 @@ one_word-Ok laws word read spelled only line x e =
     let is : words.0 ≡ one.0 ∷ [] = one_of-Some words.0 one.0 (ok_or-Ok (one_of words.0) Form one.0 words.2) in
     arguments-Ok laws word line words.0 words.1
     ∙ ap (λ ws. joined 32 (word ∷ ws)) (is ∙ ap (λ w. w ∷ []) (only one.0 x one.2))
+
+-- what is read from the one word of a line has what each word that is read so has
+pub one_word-has : {A : Type 0} (P : A → Type 0) (word : List ℕ) (read : List ℕ → Result A ScriptKind) → ((w : List ℕ) (x : A) → read w ≡ Ok x → P x)
+    → (line : List ℕ) (x : A) → (arguments word line >>= one_word >>= read) ≡ Ok x → P x
+one_word-has P word read has line x e = let one = bind-Ok (arguments word line >>= one_word) read x e in has one.0 x one.2
 
 -- two parts that a value has are the value
 pub two_parts-Ok : (laws : WordLaws) (separator : ℕ) (value : List ℕ) (x : List ℕ × List ℕ) → ok_or (two_of (parts separator value)) Form ≡ Ok x

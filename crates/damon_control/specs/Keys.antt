@@ -22,6 +22,7 @@ use Rattle.damon_control.specs.declared.keys.Key.TheVariants.{Size, Count, Age, 
 use Rattle.damon_control.specs.declared.keys.Setting.{Setting}
 use Rattle.damon_control.specs.declared.keys.Setting.TheVariants.{Size as SizeOf, Count as CountOf, Age as AgeOf, Quota as QuotaOf, Weights as WeightsOf, Prefer as PreferOf, Marks as MarksOf, Filter as FilterOf}
 use Rattle.damon_control.specs.Refusal.{◌>>=◌, only_if}
+use Rattle.damon_control.specs.Separators.{colon, comma, dash, equals_sign}
 use Rattle.damon_control.specs.Words.{byte_address, number_8, number_16, number_32, number_64, same_word}
 
 -- the action with this name
@@ -50,21 +51,21 @@ key_named name =
     else if same_word name (codes "filter") then Some FilterKey
     else None
 
--- the places of keys in a line
-abbrev pub place_of : Key → ℕ
-place_of Size = 0
-place_of Count = 1
-place_of Age = 2
-place_of QuotaKey = 3
-place_of WeightsKey = 4
-place_of PreferKey = 5
-place_of MarksKey = 6
-place_of FilterKey = 7
+-- the place of a key in the order of keys
+abbrev pub key_place : Key → ℕ
+key_place Size = 0
+key_place Count = 1
+key_place Age = 2
+key_place QuotaKey = 3
+key_place WeightsKey = 4
+key_place PreferKey = 5
+key_place MarksKey = 6
+key_place FilterKey = 7
 
 -- `LOW,HIGH`
-abbrev pub span_of : List ℕ → Result Span ScriptKind
-span_of value = do
-  ends ← ok_or (two_of (parts 44 value)) Form
+abbrev pub span_in : List ℕ → Result Span ScriptKind
+span_in value = do
+  ends ← ok_or (two_of (parts comma value)) Form
   low ← number_32 ends.0
   high ← number_32 ends.1
   Ok (record { low = low; high = high })
@@ -72,7 +73,7 @@ span_of value = do
 -- `BYTES,RESET`
 abbrev pub quota_of : List ℕ → Result Quota ScriptKind
 quota_of value = do
-  fields ← ok_or (two_of (parts 44 value)) Form
+  fields ← ok_or (two_of (parts comma value)) Form
   bytes ← number_64 fields.0
   reset ← number_32 fields.1
   Ok (record { bytes = bytes; reset = reset })
@@ -80,7 +81,7 @@ quota_of value = do
 -- `SIZE,COUNT,AGE`
 abbrev pub weights_of : List ℕ → Result Weights ScriptKind
 weights_of value = do
-  fields ← ok_or (three_of (parts 44 value)) Form
+  fields ← ok_or (three_of (parts comma value)) Form
   size ← number_16 fields.0
   count ← number_16 fields.1
   age ← number_16 fields.2
@@ -93,7 +94,7 @@ prefer_of value = if same_word value (codes "hot") then Ok Hot else if same_word
 -- `HIGH,MID,LOW`
 abbrev pub marks_of : List ℕ → Result Marks ScriptKind
 marks_of value = do
-  fields ← ok_or (three_of (parts 44 value)) Form
+  fields ← ok_or (three_of (parts comma value)) Form
   high ← number_32 fields.0
   mid ← number_32 fields.1
   low ← number_32 fields.2
@@ -106,7 +107,7 @@ answer_of name = if same_word name (codes "allow") then Ok true else if same_wor
 -- `FROM-TO`
 abbrev pub addr_of : List ℕ → Result FilterKind ScriptKind
 addr_of value = do
-  ends ← ok_or (two_of (parts 45 value)) Form
+  ends ← ok_or (two_of (parts dash value)) Form
   from ← byte_address ends.0
   to ← byte_address ends.1
   Ok (Addr from to)
@@ -130,16 +131,16 @@ plain_name name = by (after_prefix (codes "not-") name)
 -- `ANSWER:KIND:VALUE`
 abbrev pub filter_of : List ℕ → Result Filter ScriptKind
 filter_of value = do
-  fields ← ok_or (three_of (parts 58 value)) Form
+  fields ← ok_or (three_of (parts colon value)) Form
   allow ← answer_of fields.0
   kind ← kind_of (plain_name fields.1).1 fields.2
   Ok (record { allow = allow; matching = (plain_name fields.1).0; kind = kind })
 
 -- what a value sets under a key
 abbrev pub setting_for : Key → List ℕ → Result Setting ScriptKind
-setting_for Size value = span_of value >>= λ x. Ok (SizeOf x)
-setting_for Count value = span_of value >>= λ x. Ok (CountOf x)
-setting_for Age value = span_of value >>= λ x. Ok (AgeOf x)
+setting_for Size value = span_in value >>= λ x. Ok (SizeOf x)
+setting_for Count value = span_in value >>= λ x. Ok (CountOf x)
+setting_for Age value = span_in value >>= λ x. Ok (AgeOf x)
 setting_for QuotaKey value = quota_of value >>= λ x. Ok (QuotaOf x)
 setting_for WeightsKey value = weights_of value >>= λ x. Ok (WeightsOf x)
 setting_for PreferKey value = prefer_of value >>= λ x. Ok (PreferOf x)
@@ -149,7 +150,7 @@ setting_for FilterKey value = filter_of value >>= λ x. Ok (FilterOf x)
 -- the key of `KEY=VALUE`, which ends at the first equals sign, and its value
 abbrev pub key_and_value : List ℕ → Result (Key × List ℕ) ScriptKind
 key_and_value word = do
-  sides ← ok_or (split_at_byte 61 word) Form
+  sides ← ok_or (split_at_byte equals_sign word) Form
   key ← ok_or (key_named sides.0) Form
   Ok (key, sides.1)
 
@@ -160,7 +161,7 @@ setting_of word = key_and_value word >>= λ both. setting_for both.0 both.1
 -- whether a key may stand behind the one with this place: they stand in order, and filters alone may be many
 abbrev pub may_follow : Option ℕ → Key → Bool
 may_follow None key = true
-may_follow (Some place) key = nat_lt place (place_of key) || ((place == 7) && (place_of key == 7))
+may_follow (Some place) key = nat_lt place (key_place key) || ((place == 7) && (key_place key == 7))
 
 -- whether a word is refused for its form
 abbrev pub is_misformed : Result Setting ScriptKind → Bool
@@ -175,7 +176,7 @@ is_formed last (Ok both) = may_follow last both.0 && not (is_misformed (setting_
 -- the place of a key that is there
 abbrev pub place_in : Result (Key × List ℕ) ScriptKind → Option ℕ
 place_in (Err e) = None
-place_in (Ok both) = Some (place_of both.0)
+place_in (Ok both) = Some (key_place both.0)
 
 -- whether words have the form of settings and stand in order, behind a key with this place
 abbrev pub are_formed : Option ℕ → List (List ℕ) → Bool
@@ -208,10 +209,22 @@ with_setting s (PreferOf x) = Ok (record s { prefer = x })
 with_setting s (MarksOf x) = Ok (record s { marks = Some x })
 with_setting s (FilterOf x) = only_if (nat_lt (length s.filters) 8) Limit (record s { filters = s.filters ++ x ∷ [] })
 
--- a scheme with the settings of words; a misspelt number in any of them is refused before a ninth filter
-abbrev pub with_settings : Result Scheme ScriptKind → List (List ℕ) → Result Scheme ScriptKind
-with_settings scheme [] = scheme
-with_settings scheme (word ∷ words) = setting_of word >>= λ setting. with_settings (scheme >>= λ s. with_setting s setting) words
+-- a scheme with these settings, one after another
+abbrev pub settled : Scheme → List Setting → Result Scheme ScriptKind
+settled scheme [] = Ok scheme
+settled scheme (setting ∷ settings) = with_setting scheme setting >>= λ s. settled s settings
+
+-- what each word sets
+abbrev pub settings_of : List (List ℕ) → Result (List Setting) ScriptKind
+settings_of [] = Ok []
+settings_of (word ∷ words) = do
+  setting ← setting_of word
+  settings ← settings_of words
+  Ok (setting ∷ settings)
+
+-- a scheme with the settings of words; a bad number in any of them is refused before a ninth filter
+abbrev pub with_settings : Scheme → List (List ℕ) → Result Scheme ScriptKind
+with_settings scheme words = settings_of words >>= settled scheme
 
 -- `SLOT ACTION KEYS`: the form of the whole line is refused before its numbers
 abbrev pub scheme_in : List (List ℕ) → Result (ℕ × Scheme) ScriptKind
@@ -219,6 +232,6 @@ scheme_in (slot ∷ name ∷ keys) = do
   action ← ok_or (action_of name) Form
   formed ← only_if (are_formed None keys) Form (tt {0})
   number ← number_8 slot
-  scheme ← with_settings (Ok (default_scheme action)) keys
+  scheme ← with_settings (default_scheme action) keys
   Ok (number, scheme)
 scheme_in _ = Err Form

@@ -1,28 +1,36 @@
 -- What is accepted is spelled so.
-use Rattle.std.specs.Prelude.{◌≡◌, ◌⊎◌, ℕ, ◌+◌, ◌-◌, Bool, true, List, [], ◌∷◌, map, codes, Some, None, option_map, Result, Ok, is_none}
+use Rattle.std.specs.Prelude.{◌≡◌, ◌⊎◌, ℕ, ◌+◌, ◌-◌, ◌^◌, ◌<◌, ◌≤◌, Bool, true, List, [], ◌∷◌, codes, Some, None, option_map, Result, Ok, is_none}
 use Rattle.damon_types.specs.declared.scheme.Action.{Action}
 use Rattle.damon_types.specs.declared.scheme.Scheme.{Scheme}
 use Rattle.damon_types.specs.declared.scheme.SlotChange.{SlotChange}
 use Rattle.damon_types.specs.declared.space.Target.{Target}
 use Rattle.damon_types.specs.Space.{page_of}
-use Rattle.line_text.specs.Laws.{PutsPartsTogether, ReadsOnlyDecimal, ReadsOnlySpelledAddress, StripsOnlyFront}
+use Rattle.line_text.specs.Laws.{PutsPartsTogether, ReadsDecimal, ReadsOnlyDecimal, ReadsOnlySpelledAddress, ReadsSpelledAddress, SpellsDigits, SpellsHexDigits, StripsOnlyFront, TakesApartPieces}
 use Rattle.live_commit.specs.Commit.{CommitValue}
 use Rattle.damon_control.specs.declared.commit.Part.{Part}
 use Rattle.damon_control.specs.declared.commit.Part.TheVariants.{Attrs, Range, Slot, Metric}
 use Rattle.damon_control.specs.declared.fault.ScriptKind.{ScriptKind}
+use Rattle.damon_control.specs.declared.keys.Key.{Key}
+use Rattle.damon_control.specs.declared.keys.Key.TheVariants.{Size, Count, Age, Quota as QuotaKey, Weights as WeightsKey, Prefer as PreferKey, Marks as MarksKey, Filter as FilterKey}
 use Rattle.damon_control.specs.declared.keys.Setting.{Setting}
+use Rattle.damon_control.specs.declared.keys.Setting.TheVariants.{Size as SizeOf, Count as CountOf, Age as AgeOf, Quota as QuotaOf, Weights as WeightsOf, Prefer as PreferOf, Marks as MarksOf, Filter as FilterOf}
 use Rattle.damon_control.specs.Body.{are_swept, command_line, part_line, wants_attrs, wants_slot}
 use Rattle.damon_control.specs.Command.{CommandValue, Touch, Sweep, Step, Arm, Finish, Show, Commit}
 use Rattle.damon_control.specs.Head.{scheme_line}
-use Rattle.damon_control.specs.Keys.{action_of, are_formed, default_scheme, with_setting}
-use Rattle.damon_control.specs.Refusal.{◌>>=◌}
-use Rattle.damon_control.specs.Spelling.{spelled_action, spelled_attrs, spelled_drop, spelled_metric, spelled_range, spelled_scheme, spelled_setting, spelled_step, spelled_sweep, spelled_touch}
+use Rattle.damon_control.specs.Fits.{FitSettings, FitsAttrs, FitsRange}
+use Rattle.damon_control.specs.Keys.{action_of, default_scheme, key_place, settled}
+use Rattle.damon_control.specs.Spelling.{spelled_action, spelled_attrs, spelled_drop, spelled_metric, spelled_range, spelled_scheme, spelled_step, spelled_sweep, spelled_touch}
 
 -- what is known of words, and of the numbers and addresses that they spell
 pub record WordLaws : Type 0 where
   pub parts : PutsPartsTogether
+  pub pieces : TakesApartPieces
   pub numbers : ReadsOnlyDecimal
+  pub spelled_numbers : ReadsDecimal
+  pub digits : SpellsDigits
   pub addresses : ReadsOnlySpelledAddress
+  pub spelled_addresses : ReadsSpelledAddress
+  pub hex_digits : SpellsHexDigits
   pub fronts : StripsOnlyFront
 
 -- what something is read from is the spelling of it
@@ -33,17 +41,35 @@ ReadsOnly {T} {A} read spelled = (text : T) (x : A) → read text ≡ Ok x → t
 abbrev pub NamesActions : Type 0
 NamesActions = (name : List ℕ) (action : Action) → action_of name ≡ Some action → name ≡ spelled_action action
 
--- a scheme with these settings, one after another
-abbrev pub settled : Scheme → List Setting → Result Scheme ScriptKind
-settled scheme [] = Ok scheme
-settled scheme (setting ∷ settings) = with_setting scheme setting >>= λ s. settled s settings
+-- the key of a setting
+abbrev pub key_of : Setting → Key
+key_of (SizeOf span) = Size
+key_of (CountOf span) = Count
+key_of (AgeOf span) = Age
+key_of (QuotaOf quota) = QuotaKey
+key_of (WeightsOf weights) = WeightsKey
+key_of (PreferOf prefer) = PreferKey
+key_of (MarksOf marks) = MarksKey
+key_of (FilterOf filter) = FilterKey
 
--- a line is the spelling of a slot, an action and settings in order, which make a scheme of the action's default
+-- a setting may stand after another: its key has a later place, or both are filters
+abbrev pub MayStandAfter : Setting → Setting → Type 0
+MayStandAfter earlier later = (key_place (key_of earlier) < key_place (key_of later)) ⊎ ((key_of earlier ≡ FilterKey) × (key_of later ≡ FilterKey))
+
+-- settings in the order of their keys, of which the filter alone may repeat
+abbrev pub AreInOrder : List Setting → Type 0
+AreInOrder [] = Unit {0}
+AreInOrder (setting ∷ []) = Unit {0}
+AreInOrder (earlier ∷ later ∷ more) = MayStandAfter earlier later × AreInOrder (later ∷ more)
+
+-- a line is the spelling of a slot, an action and settings in order, which make this scheme of the action's default
 pub record IsScheme (line : List ℕ) (slot : ℕ) (scheme : Scheme) : Type 0 where
   pub action : Action
   pub settings : List Setting
   pub spelled : line ≡ spelled_scheme slot action settings
-  pub in_order : are_formed None (map spelled_setting settings) ≡ true
+  pub small : slot < 2 ^ 8
+  pub fit : FitSettings settings
+  pub in_order : AreInOrder settings
   pub made : settled (default_scheme action) settings ≡ Ok scheme
 
 -- a line gives a slot its scheme
@@ -52,14 +78,14 @@ GivesScheme line change = (scheme : Scheme) × (change.scheme ≡ Some scheme) �
 
 -- a line empties a slot
 abbrev pub EmptiesSlot : List ℕ → SlotChange → Type 0
-EmptiesSlot line change = (change.scheme ≡ None) × (line ≡ spelled_drop change.slot)
+EmptiesSlot line change = (change.scheme ≡ None) × (line ≡ spelled_drop change.slot) × (change.slot < 2 ^ 8)
 
 -- a line says a part of a commit
 abbrev pub IsPart : List ℕ → Part → Type 0
-IsPart line (Attrs attrs) = line ≡ spelled_attrs attrs
-IsPart line (Range range) = line ≡ spelled_range range
+IsPart line (Attrs attrs) = (line ≡ spelled_attrs attrs) × FitsAttrs attrs
+IsPart line (Range range) = (line ≡ spelled_range range) × FitsRange range
 IsPart line (Slot change) = GivesScheme line change ⊎ EmptiesSlot line change
-IsPart line (Metric value) = line ≡ spelled_metric value
+IsPart line (Metric value) = (line ≡ spelled_metric value) × (value < 2 ^ 32)
 
 -- whether a part may come in a commit: attributes before all else, ranges before a slot change and a metric, and each of these once
 abbrev pub may_come : CommitValue → Part → Bool
@@ -73,6 +99,8 @@ pub record IsTouch (space : List Target) (line : List ℕ) (page : ℕ) : Type 0
   pub target : ℕ
   pub addr : ℕ
   pub spelled : line ≡ spelled_touch target addr
+  pub target_fits : target < 2 ^ 32
+  pub addr_fits : addr < 2 ^ 64
   pub holds : page_of space target addr ≡ Some page
 
 -- a line sweeps the pages of a target between two addresses, from `first` to before `end`
@@ -81,15 +109,18 @@ pub record IsSweep (space : List Target) (line : List ℕ) (first end : ℕ) : T
   pub from : ℕ
   pub to : ℕ
   pub spelled : line ≡ spelled_sweep target from to
+  pub target_fits : target < 2 ^ 32
+  pub from_fits : from < 2 ^ 64
+  pub to_fits : to < 2 ^ 64
   pub whole : are_swept from to ≡ true
   pub begins : page_of space target from ≡ Some first
   pub ends : option_map (λ last. last + 1) (page_of space target (to - 4096)) ≡ Some end
 
--- a line says a command, which is no commit, since that has more lines
+-- a line says a command: 1 to 1,000,000 steps, and no commit, since that has more lines
 abbrev pub IsCommand : List Target → List ℕ → CommandValue → Type 0
 IsCommand space line (Touch page) = IsTouch space line page
 IsCommand space line (Sweep first end) = IsSweep space line first end
-IsCommand space line (Step times) = line ≡ spelled_step times
+IsCommand space line (Step times) = (line ≡ spelled_step times) × (1 ≤ times) × (times ≤ 1000000)
 IsCommand space line Arm = line ≡ codes "arm"
 IsCommand space line Finish = line ≡ codes "finish"
 IsCommand space line Show = line ≡ codes "show"

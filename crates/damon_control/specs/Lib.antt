@@ -1,5 +1,6 @@
 pub mod Refusal
 pub mod Words
+pub mod Separators
 pub mod Fields
 pub mod Keys
 pub mod Head

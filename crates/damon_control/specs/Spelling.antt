@@ -19,6 +19,7 @@ use Rattle.line_text.specs.Address.{spelled_address}
 use Rattle.line_text.specs.Parts.{joined}
 use Rattle.damon_control.specs.declared.keys.Setting.{Setting}
 use Rattle.damon_control.specs.declared.keys.Setting.TheVariants.{Size as SizeOf, Count as CountOf, Age as AgeOf, Quota as QuotaOf, Weights as WeightsOf, Prefer as PreferOf, Marks as MarksOf, Filter as FilterOf}
+use Rattle.damon_control.specs.Separators.{colon, comma, dash}
 
 -- words with a space between each two
 abbrev pub spaced : List (List ℕ) → List ℕ
@@ -26,7 +27,7 @@ spaced words = joined 32 words
 
 -- values with a comma between each two
 abbrev pub listed : List (List ℕ) → List ℕ
-listed values = joined 44 values
+listed values = joined comma values
 
 -- `seed N`
 abbrev pub spelled_seed : ℕ → List ℕ
@@ -134,13 +135,13 @@ kind_name (Class class) = codes "class"
 
 -- the pages of a kind: `FROM-TO`, `TARGET` or `CLASS`
 abbrev pub kind_value : FilterKind → List ℕ
-kind_value (Addr from to) = joined 45 (spelled_address from ∷ spelled_address to ∷ [])
+kind_value (Addr from to) = joined dash (spelled_address from ∷ spelled_address to ∷ [])
 kind_value (TargetKind target) = decimal target
 kind_value (Class class) = decimal class
 
 -- `ANSWER:[not-]KIND:VALUE`
 abbrev pub spelled_filter : Filter → List ℕ
-spelled_filter f = joined 58 (spelled_answer f.allow ∷ (spelled_side f.matching ++ kind_name f.kind) ∷ kind_value f.kind ∷ [])
+spelled_filter f = joined colon (spelled_answer f.allow ∷ (spelled_side f.matching ++ kind_name f.kind) ∷ kind_value f.kind ∷ [])
 
 -- `KEY=VALUE`
 abbrev pub spelled_setting : Setting → List ℕ

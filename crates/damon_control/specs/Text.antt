@@ -94,7 +94,3 @@ pub record IsText (text : List ℕ) (s : ScriptValue) : Type 0 where
 -- the texts that are read as a script are those that say it
 abbrev pub TextsAreRead : Type 0
 TextsAreRead = (text : List ℕ) (s : ScriptValue) → (script_of text ≡ Ok s) ↔ IsText text s
-
--- a text that is read as a script says it
-abbrev pub ReadsOnlyTexts : Type 0
-ReadsOnlyTexts = (text : List ℕ) (s : ScriptValue) → script_of text ≡ Ok s → IsText text s

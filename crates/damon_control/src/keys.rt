@@ -2,7 +2,7 @@ ghost use Rattle.std.specs.Prelude.{◌≡◌, ◌<◌, Ok, Err, Option, Some, N
 ghost use Rattle.std.specs.Option.{ok_or};
 ghost use Rattle.std.specs.Prelude.{option_map};
 ghost use Rattle.damon_control.specs.Words.{words_in};
-ghost use Rattle.damon_control.specs.Keys.{action_of, addr_of, answer_of, are_formed, default_scheme, filter_of, is_misformed, key_and_value, key_named, kind_of, marks_of, may_follow, place_of, plain_name, prefer_of, quota_of, scheme_in, setting_for, setting_of, span_of, weights_of, with_setting, with_settings};
+ghost use Rattle.damon_control.specs.Keys.{action_of, addr_of, answer_of, are_formed, default_scheme, filter_of, is_misformed, key_and_value, key_named, kind_of, marks_of, may_follow, key_place, plain_name, prefer_of, quota_of, scheme_in, setting_for, setting_of, span_in, weights_of, with_setting, with_settings};
 ghost use Rattle.damon_control.specs.KeyViews.{view_key, view_name};
 
 use crate::ScriptKind;
@@ -133,7 +133,7 @@ fn are_formed(keys: Words) -> bool
 
 // Whether a key may stand behind the one before it: keys stand in order, and filters may be many.
 fn may_follow(last: Option<Key>, key: Key) -> bool
-    ensures { result ≡ may_follow (option_map place_of last) key }
+    ensures { result ≡ may_follow (option_map key_place last) key }
 {
     match last {
         None => true,
@@ -144,7 +144,7 @@ fn may_follow(last: Option<Key>, key: Key) -> bool
 
 // The place of a key in a line.
 fn place(key: Key) -> u8
-    ensures { result ≡ place_of key }
+    ensures { result ≡ key_place key }
 {
     match key {
         Key::Size => 0,
@@ -167,7 +167,7 @@ fn is_misformed(key: Key, value: &[u8]) -> bool
 
 // A scheme with the settings of words.
 fn read_settings(scheme: Scheme, keys: Words) -> Result<Scheme, ScriptKind>
-    ensures { result ≡ with_settings (Ok scheme) (words_in keys.entry) }
+    ensures { result ≡ with_settings scheme (words_in keys.entry) }
 {
     let mut scheme = Ok(scheme);
     let mut rest = keys;
@@ -206,7 +206,7 @@ fn read_value(key: Key, value: &[u8]) -> Result<Setting, ScriptKind>
 
 // Reads `LOW,HIGH`.
 fn read_span(value: &[u8]) -> Result<Span, ScriptKind>
-    ensures { result ≡ span_of value.now }
+    ensures { result ≡ span_in value.now }
 {
     let (low, high) = two_parts(value, b',').ok_or(ScriptKind::Form)?;
     Ok(Span {

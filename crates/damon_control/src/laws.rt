@@ -8,24 +8,32 @@ ghost use Rattle.damon_control.specs.Fields.{attrs_in, range_in};
 ghost use Rattle.damon_control.specs.Head.{attrs_line, cap_line, one_target, range_line, seed_line, unit_line};
 ghost use Rattle.damon_control.specs.Keys.{setting_of};
 ghost use Rattle.damon_control.specs.Laws.{NamesActions, ReadsOnly, ReadsOnlyCommands, ReadsOnlyParts, ReadsOnlySchemes, WordLaws};
+ghost use Rattle.damon_control.specs.ReadBack.{LinesReadBack};
 ghost use Rattle.damon_control.specs.Sound.{ScriptsAreSound};
 ghost use Rattle.damon_control.specs.Spelling.{attrs_words, range_words, spelled_attrs, spelled_cap, spelled_range, spelled_seed, spelled_setting, spelled_target, spelled_unit};
-ghost use Rattle.damon_control.specs.Text.{ReadsOnlyTexts};
+ghost use Rattle.damon_control.specs.Text.{TextsAreRead};
 
 use damon_types::pages_rise;
 use line_text::{
-    address_is_spelled, number_is_decimal, parts_are_pieces, stripped_front_was_first,
+    address_is_spelled, decimal_has_digits, decimal_is_read, number_is_decimal, parts_are_pieces,
+    pieces_are_parts, spelled_address_has_digits, spelled_address_is_read,
+    stripped_front_was_first,
 };
 use live_commit::slots_are_checked_in_turn;
-use target_ranges::{made_in_order, next_decides};
+use target_ranges::{fault_stays, made_in_order, next_decides};
 
 // What is known of words, and of the numbers and addresses that they spell.
 fn words_have_laws()
     ensures laws { WordLaws }
 {
     parts_are_pieces();
+    pieces_are_parts();
     number_is_decimal();
+    decimal_is_read();
+    decimal_has_digits();
     address_is_spelled();
+    spelled_address_is_read();
+    spelled_address_has_digits();
     stripped_front_was_first();
 }
 
@@ -70,26 +78,33 @@ pub fn body_lines_are_spelled()
     words_have_laws();
 }
 
-/// A text that is accepted as a script is the lines of this script, each with its LF and nothing
-/// behind the last: the header, the lines of the setup, one for each scheme, `begin`, those of each
-/// command in order, and `end`.
-pub fn texts_are_spelled()
-    ensures texts { ReadsOnlyTexts }
+/// A line that says something, each number of it within its field and its limits, is read as what
+/// it says.
+pub fn spelled_lines_are_read()
+    ensures lines { LinesReadBack }
 {
     words_have_laws();
+}
+
+/// A text is read as a script exactly where it says it, line by line, each within its limits: the
+/// header, the lines of the setup, one for each scheme, `begin`, those of each command in order, and
+/// `end`, each with its LF and nothing behind the last.
+pub fn texts_are_exactly_read()
+    ensures texts { TextsAreRead }
+{
+    words_have_laws();
+    spelled_lines_are_read();
     next_decides();
+    fault_stays();
     slots_are_checked_in_turn();
-    pages_rise();
 }
 
 /// A script that a text is read as is within its limits: those of a setup, whose ranges are in
 /// order, of each command, whose pages are those of the targets, and of the work in all.
 pub fn scripts_are_sound()
-    ensures { ScriptsAreSound }
+    ensures sound { ScriptsAreSound }
 {
-    words_have_laws();
-    next_decides();
+    texts_are_exactly_read();
     made_in_order();
-    slots_are_checked_in_turn();
     pages_rise();
 }

@@ -324,12 +324,3 @@ fn the_highest_page_can_be_watched(rt: HostRuntime) -> Result<(), Fail> {
     assert_eq!(rt; fault_of(&rt, b""), Some((1, ScriptKind::Cut)));
     Ok(())
 }
-
-#[test]
-fn laws_are_called() {
-    fields_are_spelled();
-    setup_lines_are_spelled();
-    schemes_are_spelled();
-    body_lines_are_spelled();
-    texts_are_spelled();
-}

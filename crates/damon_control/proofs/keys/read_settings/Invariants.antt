@@ -1,11 +1,13 @@
-use Rattle.std.proofs.Common.{◌≡◌, Ok}
+use Rattle.std.proofs.Common.{◌≡◌}
 use Rattle.damon_control.specs.Words.{words_in}
-use Rattle.damon_control.specs.Keys.{with_settings}
+use Rattle.damon_control.specs.Keys.{settings_of, settled, with_settings}
+use Rattle.damon_control.specs.Refusal.{◌>>=◌}
 use Rattle.damon_control.proofs.WordLemmas.{size_left}
 use Rattle.damon_control.proofs.keys.read_settings.Given as goal
 
 abbrev pub invariant-words : goal.invariant-words
-invariant-words l = with_settings (Ok l.fn.scheme) (words_in l.keys) ≡ with_settings l.scheme (words_in l.rest)
+invariant-words l =
+    with_settings l.fn.scheme (words_in l.keys) ≡ (settings_of (words_in l.rest) >>= λ settings. (l.scheme >>= λ scheme. settled scheme settings))
 
 abbrev pub decreases-words : goal.decreases-words
 decreases-words l = size_left l.rest
