@@ -4,7 +4,7 @@ ghost use Rattle.damon_types.specs.Space.{page_of, pages_of};
 ghost use Rattle.live_commit.specs.SetupView.{value_of};
 ghost use Rattle.damon_control.specs.Body.{are_swept, command_line, step_line, sweep_line, touch_line, word_line};
 ghost use Rattle.damon_control.specs.BodyLine.{LineIsWithin, body_at, body_said, command_said};
-ghost use Rattle.damon_control.specs.Command.{command_value, weight, work_of};
+ghost use Rattle.damon_control.specs.Command.{command_value, most_work, weight, work_of};
 ghost use Rattle.damon_control.specs.Left.{FaultOf, reads_left};
 ghost use Rattle.damon_control.specs.Limits.{IsCommandWithin};
 ghost use Rattle.damon_control.specs.Refusal.{only_if};
@@ -16,18 +16,14 @@ use crate::commit::read_commit;
 use crate::head::limited;
 use crate::lines::Lines;
 use crate::words::{
-    alone, arguments, begins_with, one_word, read_32, read_byte_address, three_words, two_words,
+    alone, arguments, first_word, one_word, read_32, read_byte_address, same_word, three_words,
+    two_words,
 };
+use crate::script::{MAX_STEPS, MAX_WORK};
 use crate::{Command, Commands, ReadFail, ScriptKind};
 use damon_types::{PAGE_SIZE, Space, pages_rise};
 use live_commit::Setup;
 use std::alloc::Global;
-
-// The most work that the commands of a script may be in all.
-const MOST_WORK: u64 = 16_777_216;
-
-// The most steps of one command.
-const MOST_STEPS: u32 = 1_000_000;
 
 // What a line of a body says.
 pub enum BodyLine {
@@ -94,13 +90,15 @@ fn take_command(
 
 // Reads a line of a body.
 fn read_body_line(space: &Space, line: &[u8]) -> Result<BodyLine, ScriptKind>
-    ensures exact { (b : Body) → b.said.setup.space ≡ space.now → body_said b result ≡ after_body b line.now }
+    ensures exact { (b : Body) → b.said.setup.space ≡ space.now
+        → body_said b result ≡ after_body b line.now }
     ensures within { IfOk result (λ line. LineIsWithin (pages_of space.now) line) }
 {
-    if begins_with(b"end", line) {
+    let word = first_word(line);
+    if same_word(word, b"end") {
         alone(b"end", line)?;
         Ok(BodyLine::End)
-    } else if begins_with(b"commit", line) {
+    } else if same_word(word, b"commit") {
         alone(b"commit", line)?;
         Ok(BodyLine::Commit)
     } else {
@@ -113,21 +111,24 @@ fn read_command(space: &Space, line: &[u8]) -> Result<Command, ScriptKind>
     ensures exact { command_said result ≡ command_line space.now line.now }
     ensures within { IfOk result (λ c. IsCommandWithin (pages_of space.now) (command_value c)) }
 {
-    if begins_with(b"touch", line) {
+    let word = first_word(line);
+    if same_word(word, b"touch") {
         read_touch(space, line)
-    } else if begins_with(b"sweep", line) {
+    } else if same_word(word, b"sweep") {
         read_sweep(space, line)
-    } else if begins_with(b"step", line) {
+    } else if same_word(word, b"step") {
         read_step(line)
-    } else if begins_with(b"arm", line) {
+    } else if same_word(word, b"arm") {
         alone(b"arm", line)?;
         Ok(Command::Arm)
-    } else if begins_with(b"finish", line) {
+    } else if same_word(word, b"finish") {
         alone(b"finish", line)?;
         Ok(Command::Finish)
-    } else {
+    } else if same_word(word, b"show") {
         alone(b"show", line)?;
         Ok(Command::Show)
+    } else {
+        Err(ScriptKind::Word)
     }
 }
 
@@ -184,26 +185,20 @@ fn read_step(line: &[u8]) -> Result<Command, ScriptKind>
     ensures within { (pages : ℕ) → IfOk result (λ c. IsCommandWithin pages (command_value c)) }
 {
     let times = read_32(one_word(arguments(b"step", line)?)?)?;
-    let times = limited(1, MOST_STEPS, times)?;
+    let times = limited(1, MAX_STEPS, times)?;
     Ok(Command::Step { times })
 }
 
-// The work so far with that of one more command, where it is within the limit.
+// The work so far and that of one more command, where both are within the limit.
 fn added_work(work: u64, cap: u32, command: &Command) -> Result<u64, ScriptKind>
-    requires { work ≤ 16777216 }
-    ensures exact { result ≡ only_if (nat_le (work + weight cap (command_value command.now)) 16777216) TooMuch (work + weight cap (command_value command.now)) }
+    requires { work ≤ MAX_WORK }
+    ensures exact { let sum = work + weight cap (command_value command.now) in
+        result ≡ only_if (nat_le sum most_work) TooMuch sum }
     ensures sum { IfOk result (λ sum. sum ≡ work + weight cap (command_value command.now)) }
-    ensures most { IfOk result (λ sum. sum ≤ 16777216) }
+    ensures most { IfOk result (λ sum. sum ≤ MAX_WORK) }
 {
-    let pass = 2 * u64::from(cap) + 3;
-    let more = match command {
-        Command::Touch { .. } | Command::Show | Command::Commit { .. } => 1,
-        Command::Sweep { from, to } => u64::from(to.saturating_sub(*from)),
-        Command::Step { times } => u64::from(*times),
-        Command::Arm | Command::Finish => pass,
-    };
-    let sum = work + more;
-    if sum <= MOST_WORK {
+    let sum = work + command.weight(cap);
+    if sum <= MAX_WORK {
         Ok(sum)
     } else {
         Err(ScriptKind::TooMuch)

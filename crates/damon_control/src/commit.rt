@@ -9,7 +9,7 @@ ghost use Rattle.damon_control.specs.Words.{begins_with};
 use crate::fields::{read_attrs, read_range};
 use crate::keys::read_scheme;
 use crate::lines::Lines;
-use crate::words::{alone, arguments, begins_with, one_word, read_8, read_32};
+use crate::words::{alone, arguments, first_word, one_word, read_8, read_32, same_word};
 use crate::{ReadFail, ScriptKind};
 use damon_types::{Attrs, RangeSpec, RangeSpecs, SlotChange};
 use live_commit::Commit;
@@ -32,7 +32,7 @@ pub fn read_commit(alloc: Global, lines: &mut Lines) -> Result<Commit, ReadFail>
     };
     'lines: loop {
         let line = lines.take_line()?;
-        if begins_with(b"apply", line) {
+        if same_word(first_word(line), b"apply") {
             lines.refuse(alone(b"apply", line))?;
             return Ok(commit);
         }
@@ -57,17 +57,18 @@ pub enum Part {
 fn read_part(commit: &Commit, line: &[u8]) -> Result<Part, ScriptKind>
     ensures { result ≡ part_line (commit_value commit.now) line.now }
 {
-    if begins_with(b"attrs", line) && wants_attrs(commit) {
+    let word = first_word(line);
+    if same_word(word, b"attrs") && wants_attrs(commit) {
         let attrs = read_attrs(arguments(b"attrs", line)?)?;
         Ok(Part::Attrs(attrs))
-    } else if begins_with(b"range", line) && wants_slot(commit) {
+    } else if same_word(word, b"range") && wants_slot(commit) {
         let range = read_range(arguments(b"range", line)?)?;
         Ok(Part::Range(range))
-    } else if begins_with(b"scheme", line) && wants_slot(commit) {
+    } else if same_word(word, b"scheme") && wants_slot(commit) {
         Ok(Part::Slot(read_change(line)?))
-    } else if begins_with(b"drop", line) && wants_slot(commit) {
+    } else if same_word(word, b"drop") && wants_slot(commit) {
         Ok(Part::Slot(read_drop(line)?))
-    } else if begins_with(b"metric", line) && commit.metric.is_none() {
+    } else if same_word(word, b"metric") && commit.metric.is_none() {
         let value = read_32(one_word(arguments(b"metric", line)?)?)?;
         Ok(Part::Metric(value))
     } else {

@@ -79,9 +79,7 @@ fn read_attrs_line(cap: u32, line: &[u8]) -> Result<Attrs, ScriptKind>
     ensures { result ≡ attrs_line cap line.now }
 {
     let attrs = read_attrs(arguments(b"attrs", line)?)?;
-    if let Err(why) = attrs.check() {
-        return Err(ScriptKind::Attrs { why });
-    }
+    attrs.check().map_err(|why| ScriptKind::Attrs { why })?;
     if attrs.max > cap {
         return Err(ScriptKind::OverCap);
     }
@@ -118,9 +116,8 @@ fn read_range_line(
     ensures room { OnOk result (length before.now < frame.now.attrs.max) }
 {
     let range = read_range(arguments(b"range", line)?)?;
-    if let Err(why) = check_next(space, frame.unit, frame.cap, before, &range) {
-        return Err(ScriptKind::Range { why });
-    }
+    check_next(space, frame.unit, frame.cap, before, &range)
+        .map_err(|why| ScriptKind::Range { why })?;
     if before.len() >= frame.attrs.max as usize {
         return Err(ScriptKind::RangesOverMax);
     }
@@ -135,9 +132,9 @@ fn read_scheme_line(before: &[SlotChange], line: &[u8]) -> Result<SlotChange, Sc
     ensures set { IfOk result (λ c. has_scheme c ≡ true) }
 {
     let (slot, scheme) = read_scheme(arguments(b"scheme", line)?)?;
-    if let Err(why) = scheme.check(slot) {
-        return Err(ScriptKind::Scheme { why });
-    }
+    scheme
+        .check(slot)
+        .map_err(|why| ScriptKind::Scheme { why })?;
     if is_changed(slot, before) {
         return Err(ScriptKind::Repeated);
     }

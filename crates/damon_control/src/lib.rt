@@ -33,4 +33,4 @@ pub use laws::{
     setup_lines_are_spelled, spelled_lines_are_read, texts_are_exactly_read,
 };
 pub use reader::read_script;
-pub use script::{Command, Commands, Script};
+pub use script::{Command, Commands, MAX_STEPS, MAX_WORK, Script};

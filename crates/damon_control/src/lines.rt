@@ -3,7 +3,7 @@ ghost use Rattle.damon_control.specs.Left.{IsOpen, first_begins, reads_behind, r
 ghost use Rattle.damon_control.specs.Script.{AtEnd, Place, ScriptValue, at};
 ghost use Rattle.damon_control.specs.Words.{begins_with};
 
-use crate::words::begins_with;
+use crate::words::{first_word, same_word};
 use crate::{ScriptFault, ScriptKind};
 use line_text::split_front;
 
@@ -71,7 +71,7 @@ impl<'a> Lines<'a> {
         ensures { result ≡ first_begins word.now self.now.rest.now }
     {
         match split_front(self.rest, b'\n') {
-            (line, Some(_)) => begins_with(word, line),
+            (line, Some(_)) => same_word(first_word(line), word),
             (_, None) => false,
         }
     }
