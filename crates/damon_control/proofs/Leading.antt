@@ -31,8 +31,9 @@ use Rattle.damon_control.specs.declared.commit.Part.{Part}
 use Rattle.damon_control.specs.declared.fault.ScriptKind.{ScriptKind}
 use Rattle.damon_control.specs.declared.fault.ScriptKind.TheVariants.{TooMuch}
 use Rattle.damon_control.specs.declared.head.Frame.{Frame}
+use Rattle.damon_control.specs.declared.script.TheConstants.{MAX_WORK}
 use Rattle.damon_control.specs.Body.{command_line, no_commit, part_line, with_part}
-use Rattle.damon_control.specs.Command.{CommandValue, Commit, most_work, weight, work_of}
+use Rattle.damon_control.specs.Command.{CommandValue, Commit, weight, work_of}
 use Rattle.damon_control.specs.Fits.{FitsAttrs}
 use Rattle.damon_control.specs.Head.{attrs_line, cap_line, is_changed, range_line, scheme_line, seed_line, setup_said, target_line, unit_line}
 use Rattle.damon_control.specs.Laws.{GivesScheme, IsCommand, IsPart, may_come}
@@ -282,11 +283,11 @@ one_and_more b c commands =
     λ i. record { said = record b.said { commands = all i }; work = sum i }
 
 -- a command that is not too much work is taken
-command_taken : (b : Body) (c : CommandValue) → b.work + weight b.said.setup.cap c ≤ most_work → with_command b c ≡ Ok (InBody (with_one b c))
-command_taken b c few = then_way (nat_le (b.work + weight b.said.setup.cap c) most_work) _ _ (grind (arith, nat_tests))
+command_taken : (b : Body) (c : CommandValue) → b.work + weight b.said.setup.cap c ≤ MAX_WORK → with_command b c ≡ Ok (InBody (with_one b c))
+command_taken b c few = then_way (nat_le (b.work + weight b.said.setup.cap c) MAX_WORK) _ _ (grind (arith, nat_tests))
 
 -- the line of a command
-line_leads : LinesReadBack → (b : Body) (line : List ℕ) (c : CommandValue) → IsCommand b.said.setup.space line c → b.work + weight b.said.setup.cap c ≤ most_work
+line_leads : LinesReadBack → (b : Body) (line : List ℕ) (c : CommandValue) → IsCommand b.said.setup.space line c → b.work + weight b.said.setup.cap c ≤ MAX_WORK
     → place_after (InBody b) line ≡ Ok (InBody (with_one b c))
 line_leads back b line c is few =
     let read = back.command b.said.setup.space line c is in
@@ -297,7 +298,7 @@ line_leads back b line c is few =
     ∙ command_taken b c few
 
 -- the lines of a commit
-commit_leads : LinesReadBack → (b : Body) (commit : CommitValue) (group lines : List (List ℕ)) → AreCommit group commit → b.work + weight b.said.setup.cap (Commit commit) ≤ most_work
+commit_leads : LinesReadBack → (b : Body) (commit : CommitValue) (group lines : List (List ℕ)) → AreCommit group commit → b.work + weight b.said.setup.cap (Commit commit) ≤ MAX_WORK
     → leads (InBody b) (group ++ lines) ≡ leads (InBody (with_one b (Commit commit))) lines
 commit_leads back b commit group lines are few =
     ap (λ ls. leads (InBody b) (ls ++ lines)) are.spelled
@@ -308,17 +309,17 @@ commit_leads back b commit group lines are few =
     ∙ leads-line (InCommit b commit) (InBody (with_one b (Commit commit))) (codes "apply") lines (command_taken b (Commit commit) few)
 
 -- the lines of one command
-group_leads : LinesReadBack → (b : Body) (group : List (List ℕ)) (c : CommandValue) (lines : List (List ℕ)) → SayCommand b.said.setup.space group c → b.work + weight b.said.setup.cap c ≤ most_work
+group_leads : LinesReadBack → (b : Body) (group : List (List ℕ)) (c : CommandValue) (lines : List (List ℕ)) → SayCommand b.said.setup.space group c → b.work + weight b.said.setup.cap c ≤ MAX_WORK
     → leads (InBody b) (group ++ lines) ≡ leads (InBody (with_one b c)) lines
 group_leads back b group c lines (inl (line, is, says)) few =
     ap (λ ls. leads (InBody b) (ls ++ lines)) is
     ∙ leads-line (InBody b) (InBody (with_one b c)) line lines (line_leads back b line c says few)
 group_leads back b group c lines (inr (commit, is, are)) few =
-    commit_leads back b commit group lines are (subst (λ (d : CommandValue). b.work + weight b.said.setup.cap d ≤ most_work) is few)
+    commit_leads back b commit group lines are (subst (λ (d : CommandValue). b.work + weight b.said.setup.cap d ≤ MAX_WORK) is few)
     ∙ ap (λ d. leads (InBody (with_one b d)) lines) (sym is)
 
 commands_lead : LinesReadBack → (b : Body) (groups : List (List (List ℕ))) (commands : List CommandValue) (lines : List (List ℕ)) → EachSays (SayCommand b.said.setup.space) groups commands
-    → b.work + work_of b.said.setup.cap commands ≤ most_work → leads (InBody b) (all_lines groups ++ lines) ≡ leads (InBody (with_commands b commands)) lines
+    → b.work + work_of b.said.setup.cap commands ≤ MAX_WORK → leads (InBody b) (all_lines groups ++ lines) ≡ leads (InBody (with_commands b commands)) lines
 commands_lead back b [] [] lines each few = ap (λ d. leads (InBody d) lines) (no_more b)
 commands_lead back b (group ∷ groups) (c ∷ commands) lines each few =
     let sum = sum_by-cons (weight b.said.setup.cap) c commands in

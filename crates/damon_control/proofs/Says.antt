@@ -22,8 +22,9 @@ use Rattle.damon_control.specs.declared.commit.Part.{Part}
 use Rattle.damon_control.specs.declared.fault.ScriptKind.{ScriptKind}
 use Rattle.damon_control.specs.declared.fault.ScriptKind.TheVariants.{Header, TooMuch}
 use Rattle.damon_control.specs.declared.head.Frame.{Frame}
+use Rattle.damon_control.specs.declared.script.TheConstants.{MAX_WORK}
 use Rattle.damon_control.specs.Body.{command_line, no_commit, part_line, with_part}
-use Rattle.damon_control.specs.Command.{CommandValue, Commit, most_work, weight, work_of}
+use Rattle.damon_control.specs.Command.{CommandValue, Commit, weight, work_of}
 use Rattle.damon_control.specs.Head.{attrs_line, cap_line, range_line, scheme_line, seed_line, setup_said, target_line, unit_line}
 use Rattle.damon_control.specs.Laws.{GivesScheme, IsPart, WordLaws, may_come}
 use Rattle.damon_control.specs.Refusal.{◌>>=◌}
@@ -77,7 +78,7 @@ pub record SayBody (lines : List (List ℕ)) (b : Body) : Type 0 where
   says_setup : SaySetup setup b.said.seed b.said.setup
   say_commands : EachSays (SayCommand b.said.setup.space) commands b.said.commands
   sum : b.work ≡ work_of b.said.setup.cap b.said.commands
-  work : b.work ≤ most_work
+  work : b.work ≤ MAX_WORK
 
 -- and of a commit that is not at its end
 record SayCommit (lines : List (List ℕ)) (b : Body) (commit : CommitValue) : Type 0 where
@@ -157,7 +158,7 @@ more_command : (lines front : List (List ℕ)) (b : Body) (group : List (List �
 more_command lines front b group command next before is says e =
     let work = b.work + weight b.said.setup.cap command in
     let now : Body = record { said = record b.said { commands = b.said.commands ++ command ∷ [] }; work = work } in
-    let passes = only_if-Ok (nat_le work most_work) TooMuch (InBody now) next e in
+    let passes = only_if-Ok (nat_le work MAX_WORK) TooMuch (InBody now) next e in
     subst (Says lines) passes.1 (record {
       setup = before.setup;
       commands = before.commands ++ group ∷ [];
@@ -185,7 +186,7 @@ in_body laws lines b line next before e =
           ∙ append_assoc before.setup (codes "begin" ∷ all_lines before.commands) (codes "end" ∷ []));
       says_setup = before.says_setup;
       say_commands = before.say_commands;
-      work = subst (λ n. n ≤ most_work) before.sum before.work;
+      work = subst (λ n. n ≤ MAX_WORK) before.sum before.work;
     })
 
     at_commit : (alone (codes "commit") line >>= λ _. Ok (InCommit b no_commit)) ≡ Ok next → Says (lines ++ line ∷ []) next

@@ -34,10 +34,6 @@ weight cap Finish = 2 * cap + 3
 weight cap Show = 1
 weight cap (Commit commit) = 1
 
--- the most work that the commands of a script may be in all
-abbrev pub most_work : ℕ
-most_work = 16777216
-
 -- the work of commands in all
 abbrev pub work_of : ℕ → List CommandValue → ℕ
 work_of cap commands = sum_by (weight cap) commands

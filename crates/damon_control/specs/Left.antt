@@ -1,14 +1,19 @@
 -- What is left of a text.
-use Rattle.std.specs.Prelude.{◌≡◌, ℕ, ◌+◌, Bool, true, false, ◌||◌, ◌==◌, List, [], ◌∷◌, Result, Ok, Err}
+use Rattle.std.specs.Prelude.{◌≡◌, ℕ, ◌+◌, ◌≤◌, Bool, true, false, ◌||◌, ◌==◌, List, [], ◌∷◌, length, Result, Ok, Err}
 use Rattle.line_text.specs.Parts.{parts}
 use Rattle.damon_control.specs.declared.fault.ReadFail.{ReadFail}
 use Rattle.damon_control.specs.declared.fault.ReadFail.TheVariants.{Script, Memory}
 use Rattle.damon_control.specs.declared.fault.ScriptFault.{ScriptFault}
 use Rattle.damon_control.specs.declared.lines.Lines.{Lines}
+use Rattle.damon_control.specs.declared.reader.TheConstants.{MAX_BYTES}
 use Rattle.damon_control.specs.Script.{Body, Place, AtEnd, ScriptValue, place_after, at, reads, with_command}
 use Rattle.damon_control.specs.Command.{CommandValue}
 use Rattle.damon_control.specs.Refusal.{◌>>=◌}
 use Rattle.damon_control.specs.Words.{begins_with}
+
+-- the lines that were taken and the bytes that are left are at most as many as the most bytes of a text
+abbrev pub IsShort : Lines → Type 0
+IsShort lines = lines.taken + length lines.rest.now ≤ MAX_BYTES
 
 -- what is said from a place on by the lines that are left
 abbrev pub reads_left : Place → Lines → Result ScriptValue ScriptFault

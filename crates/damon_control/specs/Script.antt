@@ -10,8 +10,9 @@ use Rattle.damon_control.specs.declared.fault.ScriptFault.{ScriptFault}
 use Rattle.damon_control.specs.declared.fault.ScriptKind.{ScriptKind}
 use Rattle.damon_control.specs.declared.fault.ScriptKind.TheVariants.{After, Cut, Header, TooMuch}
 use Rattle.damon_control.specs.declared.head.Frame.{Frame}
+use Rattle.damon_control.specs.declared.script.TheConstants.{MAX_WORK}
 use Rattle.damon_control.specs.Body.{command_line, no_commit, part_line, with_part}
-use Rattle.damon_control.specs.Command.{CommandValue, Commit, most_work, weight}
+use Rattle.damon_control.specs.Command.{CommandValue, Commit, weight}
 use Rattle.damon_control.specs.Head.{attrs_line, cap_line, range_line, scheme_line, seed_line, setup_said, target_line, unit_line}
 use Rattle.damon_control.specs.Refusal.{◌>>=◌, only_if}
 use Rattle.damon_control.specs.Words.{alone, begins_with, same_word}
@@ -45,7 +46,7 @@ pub data Place : Type 0 where
 abbrev pub with_command : Body → CommandValue → Result Place ScriptKind
 with_command b command =
     let work = b.work + weight b.said.setup.cap command in
-    only_if (nat_le work most_work) TooMuch (InBody (record { said = record b.said { commands = b.said.commands ++ command ∷ [] }; work = work }))
+    only_if (nat_le work MAX_WORK) TooMuch (InBody (record { said = record b.said { commands = b.said.commands ++ command ∷ [] }; work = work }))
 
 -- a body that begins: of its commands nothing is said yet
 abbrev pub begun : ℕ → SetupValue → Body

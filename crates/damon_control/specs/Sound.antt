@@ -3,7 +3,8 @@ use Rattle.std.specs.Prelude.{◌≡◌, ℕ, ◌≤◌, List, Ok}
 use Rattle.damon_types.specs.Ranges.{InOrder}
 use Rattle.damon_types.specs.Space.{pages_of}
 use Rattle.live_commit.specs.Setup.{IsSetup}
-use Rattle.damon_control.specs.Command.{most_work, work_of}
+use Rattle.damon_control.specs.declared.script.TheConstants.{MAX_WORK}
+use Rattle.damon_control.specs.Command.{work_of}
 use Rattle.damon_control.specs.Limits.{AreCommandsWithin}
 use Rattle.damon_control.specs.Script.{ScriptValue, script_of}
 
@@ -12,7 +13,7 @@ pub record IsSound (s : ScriptValue) : Type 0 where
   pub setup : IsSetup s.setup
   pub order : InOrder s.setup.ranges
   pub commands : AreCommandsWithin (pages_of s.setup.space) s.commands
-  pub work : work_of s.setup.cap s.commands ≤ most_work
+  pub work : work_of s.setup.cap s.commands ≤ MAX_WORK
 
 -- each text that is read as a script gives one within its limits
 abbrev pub ScriptsAreSound : Type 0

@@ -10,8 +10,9 @@ use Rattle.live_commit.specs.Slots.{checked_slots}
 use Rattle.target_ranges.specs.Checked.{checked_ranges}
 use Rattle.target_ranges.specs.Made.{ranges_of}
 use Rattle.damon_control.specs.declared.commit.Part.{Part}
+use Rattle.damon_control.specs.declared.script.TheConstants.{MAX_WORK}
 use Rattle.damon_control.specs.Body.{no_commit, with_part}
-use Rattle.damon_control.specs.Command.{CommandValue, Commit, most_work, work_of}
+use Rattle.damon_control.specs.Command.{CommandValue, Commit, work_of}
 use Rattle.damon_control.specs.Laws.{GivesScheme, IsCommand, IsPart, may_come}
 use Rattle.damon_control.specs.Script.{ScriptValue, script_of}
 use Rattle.damon_control.specs.Spelling.{spelled_attrs, spelled_cap, spelled_range, spelled_seed, spelled_target, spelled_unit}
@@ -89,7 +90,7 @@ pub record IsText (text : List ℕ) (s : ScriptValue) : Type 0 where
   pub spelled : text ≡ lines_text (setup ++ codes "begin" ∷ (all_lines commands ++ codes "end" ∷ []))
   pub says_setup : SaySetup setup s.seed s.setup
   pub say_commands : EachSays (SayCommand s.setup.space) commands s.commands
-  pub work : work_of s.setup.cap s.commands ≤ most_work
+  pub work : work_of s.setup.cap s.commands ≤ MAX_WORK
 
 -- the texts that are read as a script are those that say it
 abbrev pub TextsAreRead : Type 0

@@ -4,8 +4,8 @@ ghost use Rattle.damon_types.specs.Space.{page_of, pages_of};
 ghost use Rattle.live_commit.specs.SetupView.{value_of};
 ghost use Rattle.damon_control.specs.Body.{are_swept, command_line, step_line, sweep_line, touch_line, word_line};
 ghost use Rattle.damon_control.specs.BodyLine.{LineIsWithin, body_at, body_said, command_said};
-ghost use Rattle.damon_control.specs.Command.{command_value, most_work, weight, work_of};
-ghost use Rattle.damon_control.specs.Left.{FaultOf, reads_left};
+ghost use Rattle.damon_control.specs.Command.{command_value, weight, work_of};
+ghost use Rattle.damon_control.specs.Left.{FaultOf, IsShort, reads_left};
 ghost use Rattle.damon_control.specs.Limits.{IsCommandWithin};
 ghost use Rattle.damon_control.specs.Refusal.{only_if};
 ghost use Rattle.damon_control.specs.Script.{AtEnd, Body, InBody, after_body, begun};
@@ -15,11 +15,11 @@ ghost use Rattle.damon_control.specs.declared.fault.ScriptKind.TheVariants.{Outs
 use crate::commit::read_commit;
 use crate::head::limited;
 use crate::lines::Lines;
+use crate::script::{MAX_STEPS, MAX_WORK};
 use crate::words::{
     alone, arguments, first_word, one_word, read_32, read_byte_address, same_word, three_words,
     two_words,
 };
-use crate::script::{MAX_STEPS, MAX_WORK};
 use crate::{Command, Commands, ReadFail, ScriptKind};
 use damon_types::{PAGE_SIZE, Space, pages_rise};
 use live_commit::Setup;
@@ -37,12 +37,12 @@ pub enum BodyLine {
 
 // Reads the commands of a script, up to its last line.
 pub fn read_body(alloc: Global, lines: &mut Lines, setup: &Setup) -> Result<Commands, ReadFail>
-    requires { lines.old.taken + length lines.old.rest.now ≤ 16777216 }
+    requires { IsShort lines.old }
     ensures ok { IfOk result (λ commands. (seed : ℕ) → reads_left (InBody (begun seed (value_of setup.now))) lines.old ≡ reads_left (AtEnd (record { seed = seed; setup = value_of setup.now; commands = map command_value commands.list })) lines.new) }
     ensures fault { (seed : ℕ) → FaultOf result (reads_left (InBody (begun seed (value_of setup.now))) lines.old) }
     ensures within { IfOk result (λ commands. All (λ c. IsCommandWithin (pages_of setup.now.space) (command_value c)) commands.list) }
     ensures work { IfOk result (λ commands. work_of setup.now.cap (map command_value commands.list) ≤ 16777216) }
-    ensures small { lines.new.taken + length lines.new.rest.now ≤ 16777216 }
+    ensures small { IsShort lines.new }
 {
     let mut commands = Commands::new(alloc);
     let mut work = 0;
@@ -61,7 +61,7 @@ fn take_command(
     commands: &mut Commands,
     work: u64,
 ) -> Result<Option<u64>, ReadFail>
-    requires small { lines.old.taken + length lines.old.rest.now ≤ 16777216 }
+    requires small { IsShort lines.old }
     requires few { length commands.old.list ≤ lines.old.taken }
     requires most { work ≤ 16777216 }
     ensures more { IfOk result (λ answer. IfSome answer (λ sum. (seed : ℕ) → reads_left (InBody (body_at seed (value_of setup.now) commands.old.list work)) lines.old ≡ reads_left (InBody (body_at seed (value_of setup.now) commands.new.list sum)) lines.new)) }
@@ -72,7 +72,7 @@ fn take_command(
     ensures within { OnOk result (All (λ c. IsCommandWithin (pages_of setup.now.space) (command_value c)) commands.old.list → All (λ c. IsCommandWithin (pages_of setup.now.space) (command_value c)) commands.new.list) }
     ensures few { OnOk result (length commands.new.list ≤ lines.new.taken) }
     ensures most { IfOk result (λ answer. IfSome answer (λ sum. sum ≤ 16777216)) }
-    ensures small { lines.new.taken + length lines.new.rest.now ≤ 16777216 }
+    ensures small { IsShort lines.new }
     ensures shorter { OnOk result (length lines.new.rest.now < length lines.old.rest.now) }
 {
     let line = lines.take_line()?;
@@ -193,7 +193,7 @@ fn read_step(line: &[u8]) -> Result<Command, ScriptKind>
 fn added_work(work: u64, cap: u32, command: &Command) -> Result<u64, ScriptKind>
     requires { work ≤ MAX_WORK }
     ensures exact { let sum = work + weight cap (command_value command.now) in
-        result ≡ only_if (nat_le sum most_work) TooMuch sum }
+        result ≡ only_if (nat_le sum MAX_WORK) TooMuch sum }
     ensures sum { IfOk result (λ sum. sum ≡ work + weight cap (command_value command.now)) }
     ensures most { IfOk result (λ sum. sum ≤ MAX_WORK) }
 {

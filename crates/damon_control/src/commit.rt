@@ -2,7 +2,7 @@ ghost use Rattle.std.specs.Prelude.{◌≡◌, ◌≤◌, ◌<◌, ◌+◌, ◌-
 ghost use Rattle.live_commit.specs.Commit.{commit_value, CommitValue};
 ghost use Rattle.damon_control.specs.Body.{change_line, drop_line, no_commit, part_line, wants_attrs, wants_slot, with_range};
 ghost use Rattle.damon_control.specs.Command.{Commit as CommitCommand};
-ghost use Rattle.damon_control.specs.Left.{FaultOf, reads_command, reads_left};
+ghost use Rattle.damon_control.specs.Left.{FaultOf, IsShort, reads_command, reads_left};
 ghost use Rattle.damon_control.specs.Script.{Body, InCommit};
 ghost use Rattle.damon_control.specs.Words.{begins_with};
 
@@ -17,12 +17,12 @@ use std::alloc::{AllocError, Global};
 
 // Reads the lines of a commit behind its first, up to the line `apply`.
 pub fn read_commit(alloc: Global, lines: &mut Lines) -> Result<Commit, ReadFail>
-    requires { lines.old.taken + length lines.old.rest.now ≤ 16777216 }
+    requires { IsShort lines.old }
     ensures ok { IfOk result (λ c. (b : Body) → reads_left (InCommit b no_commit) lines.old ≡ reads_command b (CommitCommand (commit_value c)) lines.new) }
     ensures fault { (b : Body) → FaultOf result (reads_left (InCommit b no_commit) lines.old) }
     ensures later { OnOk result (lines.old.taken ≤ lines.new.taken) }
     ensures shorter { OnOk result (length lines.new.rest.now < length lines.old.rest.now) }
-    ensures small { lines.new.taken + length lines.new.rest.now ≤ 16777216 }
+    ensures small { IsShort lines.new }
 {
     let mut commit = Commit {
         attrs: None,

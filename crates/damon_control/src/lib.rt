@@ -32,5 +32,5 @@ pub use laws::{
     body_lines_are_spelled, fields_are_spelled, schemes_are_spelled, scripts_are_sound,
     setup_lines_are_spelled, spelled_lines_are_read, texts_are_exactly_read,
 };
-pub use reader::read_script;
+pub use reader::{MAX_BYTES, read_script};
 pub use script::{Command, Commands, MAX_STEPS, MAX_WORK, Script};

@@ -1,5 +1,5 @@
 ghost use Rattle.std.specs.Prelude.{ℕ, List, ◌≡◌, ◌+◌, ◌<◌, ◌≤◌, length, IfOk, IfErr, OnOk, Ok, Err};
-ghost use Rattle.damon_control.specs.Left.{IsOpen, first_begins, reads_behind, reads_left};
+ghost use Rattle.damon_control.specs.Left.{IsOpen, IsShort, first_begins, reads_behind, reads_left};
 ghost use Rattle.damon_control.specs.Script.{AtEnd, Place, ScriptValue, at};
 ghost use Rattle.damon_control.specs.Words.{begins_with};
 
@@ -31,13 +31,13 @@ impl<'a> Lines<'a> {
     // Takes the next line, without its LF.
     #[tactic(auto, using(crate::proofs::PartLemmas::reads_line, crate::proofs::PartLemmas::begins_lines_parts))]
     pub fn take_line(&mut self) -> Result<&'a [u8], ScriptFault>
-        requires { self.old.taken + length self.old.rest.now ≤ 16777216 }
+        requires { IsShort self.old }
         ensures line { IfOk result (λ line. (place : Place) → reads_left place self.old ≡ reads_behind place line.now self.new) }
         ensures cut { IfErr result (λ fault. (place : Place) → IsOpen place → reads_left place self.old ≡ Err fault) }
         ensures first { IfOk result (λ line. (word : List ℕ) → first_begins word self.old.rest.now ≡ begins_with word line.now) }
         ensures taken { IfOk result (λ _. self.new.taken ≡ self.old.taken + 1) }
         ensures shorter { IfOk result (λ _. length self.new.rest.now < length self.old.rest.now) }
-        ensures small { self.new.taken + length self.new.rest.now ≤ 16777216 }
+        ensures small { IsShort self.new }
     {
         match split_front(self.rest, b'\n') {
             (line, Some(rest)) => {
@@ -79,7 +79,7 @@ impl<'a> Lines<'a> {
     // Sees that nothing is left.
     #[tactic(auto, using(crate::proofs::PartLemmas::reads_after))]
     pub fn end(&self) -> Result<(), ScriptFault>
-        requires { self.now.taken + length self.now.rest.now ≤ 16777216 }
+        requires { IsShort self.now }
         ensures ok { OnOk result ((s : ScriptValue) → reads_left (AtEnd s) self.now ≡ Ok s) }
         ensures fault { IfErr result (λ fault. (s : ScriptValue) → reads_left (AtEnd s) self.now ≡ Err fault) }
     {

@@ -41,7 +41,7 @@ impl Command {
             Command::Touch { .. } | Command::Show | Command::Commit { .. } => 1,
             Command::Sweep { from, to } => u64::from(to.saturating_sub(*from)),
             Command::Step { times } => u64::from(*times),
-            // One pass more than a whole one, each step of it counted.
+            // No more steps are needed to the phase that is wanted.
             Command::Arm | Command::Finish => 2 * u64::from(cap) + 3,
         }
     }

@@ -3,7 +3,7 @@ use Rattle.damon_types.specs.Space.{pages_of}
 use Rattle.live_commit.specs.SetupView.{value_of}
 use Rattle.damon_control.specs.Command.{command_value, work_of}
 use Rattle.damon_control.specs.Limits.{IsCommandWithin}
-use Rattle.damon_control.specs.Left.{reads_left}
+use Rattle.damon_control.specs.Left.{IsShort, reads_left}
 use Rattle.damon_control.specs.Script.{InBody, begun}
 use Rattle.damon_control.proofs.body.read_body.Given as goal
 
@@ -15,7 +15,7 @@ invariant-lines l = record {
   few : length l.commands.list ≤ l.lines.taken;
   sum : l.work ≡ work_of l.setup.cap (map command_value l.commands.list);
   most : l.work ≤ 16777216;
-  small : l.lines.taken + length l.lines.rest.now ≤ 16777216;
+  small : IsShort l.lines;
 }
 
 abbrev pub decreases-lines : goal.decreases-lines
