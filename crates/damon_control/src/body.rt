@@ -3,10 +3,10 @@ ghost use Rattle.std.specs.Option.{ok_or};
 ghost use Rattle.damon_types.specs.Space.{page_of, pages_of};
 ghost use Rattle.live_commit.specs.SetupView.{value_of};
 ghost use Rattle.damon_control.specs.Body.{are_swept, command_line, step_line, sweep_line, touch_line, word_line};
-ghost use Rattle.damon_control.specs.BodyLine.{LineIsWithin, body_at, body_said, command_said};
+ghost use Rattle.damon_control.specs.BodyLine.{LineIsWithin, body_at, body_said, command_said, script_at};
 ghost use Rattle.damon_control.specs.Command.{command_value, weight, work_of};
-ghost use Rattle.damon_control.specs.Left.{FaultOf, IsShort, reads_left};
-ghost use Rattle.damon_control.specs.Limits.{IsCommandWithin};
+ghost use Rattle.damon_control.specs.Left.{FaultOf, IsShort, MovesTo, reads_left};
+ghost use Rattle.damon_control.specs.Limits.{EachIsWithin, IsCommandWithin};
 ghost use Rattle.damon_control.specs.Refusal.{only_if};
 ghost use Rattle.damon_control.specs.Script.{AtEnd, Body, InBody, after_body, begun};
 ghost use Rattle.damon_control.specs.Words.{begins_with};
@@ -38,10 +38,15 @@ pub enum BodyLine {
 // Reads the commands of a script, up to its last line.
 pub fn read_body(alloc: Global, lines: &mut Lines, setup: &Setup) -> Result<Commands, ReadFail>
     requires { IsShort lines.old }
-    ensures ok { IfOk result (λ commands. (seed : ℕ) → reads_left (InBody (begun seed (value_of setup.now))) lines.old ≡ reads_left (AtEnd (record { seed = seed; setup = value_of setup.now; commands = map command_value commands.list })) lines.new) }
-    ensures fault { (seed : ℕ) → FaultOf result (reads_left (InBody (begun seed (value_of setup.now))) lines.old) }
-    ensures within { IfOk result (λ commands. All (λ c. IsCommandWithin (pages_of setup.now.space) (command_value c)) commands.list) }
-    ensures work { IfOk result (λ commands. work_of setup.now.cap (map command_value commands.list) ≤ 16777216) }
+    ensures ok { IfOk result (λ commands. (seed : ℕ) →
+        MovesTo (InBody (begun seed (value_of setup.now))) lines.old
+            (AtEnd (script_at seed (value_of setup.now) commands.list)) lines.new) }
+    ensures fault { (seed : ℕ) →
+        FaultOf result (reads_left (InBody (begun seed (value_of setup.now))) lines.old) }
+    ensures within { IfOk result (λ commands.
+        EachIsWithin (pages_of setup.now.space) commands.list) }
+    ensures work { IfOk result (λ commands.
+        work_of setup.now.cap (map command_value commands.list) ≤ MAX_WORK) }
     ensures small { IsShort lines.new }
 {
     let mut commands = Commands::new(alloc);
@@ -63,15 +68,25 @@ fn take_command(
 ) -> Result<Option<u64>, ReadFail>
     requires small { IsShort lines.old }
     requires few { length commands.old.list ≤ lines.old.taken }
-    requires most { work ≤ 16777216 }
-    ensures more { IfOk result (λ answer. IfSome answer (λ sum. (seed : ℕ) → reads_left (InBody (body_at seed (value_of setup.now) commands.old.list work)) lines.old ≡ reads_left (InBody (body_at seed (value_of setup.now) commands.new.list sum)) lines.new)) }
-    ensures end { IfOk result (λ answer. answer ≡ None → (seed : ℕ) → reads_left (InBody (body_at seed (value_of setup.now) commands.old.list work)) lines.old ≡ reads_left (AtEnd (body_at seed (value_of setup.now) commands.new.list work).said) lines.new) }
-    ensures fault { (seed : ℕ) → FaultOf result (reads_left (InBody (body_at seed (value_of setup.now) commands.old.list work)) lines.old) }
-    ensures sum { IfOk result (λ answer. IfSome answer (λ sum. sum + work_of setup.now.cap (map command_value commands.old.list) ≡ work + work_of setup.now.cap (map command_value commands.new.list))) }
-    ensures same { IfOk result (λ answer. answer ≡ None → commands.new.list ≡ commands.old.list) }
-    ensures within { OnOk result (All (λ c. IsCommandWithin (pages_of setup.now.space) (command_value c)) commands.old.list → All (λ c. IsCommandWithin (pages_of setup.now.space) (command_value c)) commands.new.list) }
+    requires most { work ≤ MAX_WORK }
+    ensures more { IfOk result (λ answer. IfSome answer (λ sum. (seed : ℕ) →
+        MovesTo (InBody (body_at seed (value_of setup.now) commands.old.list work)) lines.old
+            (InBody (body_at seed (value_of setup.now) commands.new.list sum)) lines.new)) }
+    ensures end { IfOk result (λ answer. answer ≡ None → (seed : ℕ) →
+        MovesTo (InBody (body_at seed (value_of setup.now) commands.old.list work)) lines.old
+            (AtEnd (script_at seed (value_of setup.now) commands.new.list)) lines.new) }
+    ensures fault { (seed : ℕ) →
+        let place = InBody (body_at seed (value_of setup.now) commands.old.list work) in
+        FaultOf result (reads_left place lines.old) }
+    ensures sum { IfOk result (λ answer. IfSome answer (λ sum.
+        sum + work_of setup.now.cap (map command_value commands.old.list)
+            ≡ work + work_of setup.now.cap (map command_value commands.new.list))) }
+    ensures same { IfOk result (λ answer.
+        answer ≡ None → commands.new.list ≡ commands.old.list) }
+    ensures within { OnOk result (EachIsWithin (pages_of setup.now.space) commands.old.list
+        → EachIsWithin (pages_of setup.now.space) commands.new.list) }
     ensures few { OnOk result (length commands.new.list ≤ lines.new.taken) }
-    ensures most { IfOk result (λ answer. IfSome answer (λ sum. sum ≤ 16777216)) }
+    ensures most { IfOk result (λ answer. IfSome answer (λ sum. sum ≤ MAX_WORK)) }
     ensures small { IsShort lines.new }
     ensures shorter { OnOk result (length lines.new.rest.now < length lines.old.rest.now) }
 {

@@ -15,10 +15,12 @@ use damon_types::{Attrs, RangeSpec, RangeSpecs, SlotChange};
 use live_commit::Commit;
 use std::alloc::{AllocError, Global};
 
-// Reads the lines of a commit behind its first, up to the line `apply`.
+// Reads the lines of a commit after its first, up to the line `apply`.
 pub fn read_commit(alloc: Global, lines: &mut Lines) -> Result<Commit, ReadFail>
     requires { IsShort lines.old }
-    ensures ok { IfOk result (λ c. (b : Body) → reads_left (InCommit b no_commit) lines.old ≡ reads_command b (CommitCommand (commit_value c)) lines.new) }
+    ensures ok { IfOk result (λ c. (b : Body) →
+        reads_left (InCommit b no_commit) lines.old
+            ≡ reads_command b (CommitCommand (commit_value c)) lines.new) }
     ensures fault { (b : Body) → FaultOf result (reads_left (InCommit b no_commit) lines.old) }
     ensures later { OnOk result (lines.old.taken ≤ lines.new.taken) }
     ensures shorter { OnOk result (length lines.new.rest.now < length lines.old.rest.now) }
@@ -53,7 +55,7 @@ pub enum Part {
     Metric(u32),
 }
 
-// Reads a line of a commit, behind the parts that are there already.
+// Reads a line of a commit, after the parts that are there already.
 fn read_part(commit: &Commit, line: &[u8]) -> Result<Part, ScriptKind>
     ensures { result ≡ part_line (commit_value commit.now) line.now }
 {
@@ -90,7 +92,7 @@ fn wants_attrs(commit: &Commit) -> bool
     commit.attrs.is_none() && commit.ranges.is_none() && wants_slot(commit)
 }
 
-// Reads `scheme SLOT ACTION KEYS`, of which the form alone is looked at.
+// Reads `scheme SLOT ACTION KEYS`, of which only the form is checked.
 fn read_change(line: &[u8]) -> Result<SlotChange, ScriptKind>
     ensures { result ≡ change_line line.now }
 {
@@ -116,7 +118,8 @@ fn add_range(
     range: RangeSpec,
 ) -> Result<(), AllocError>
     requires { IfSome ranges.old (λ l. length l.list < 2 ^ 32 - 1) }
-    ensures { OnOk result (option_map (λ l. l.list) ranges.new ≡ with_range (option_map (λ l. l.list) ranges.old) range) }
+    ensures { OnOk result (option_map (λ l. l.list) ranges.new
+        ≡ with_range (option_map (λ l. l.list) ranges.old) range) }
 {
     match ranges {
         Some(list) => list.push(range),

@@ -32,9 +32,12 @@ impl<'a> Lines<'a> {
     #[tactic(auto, using(crate::proofs::PartLemmas::reads_line, crate::proofs::PartLemmas::begins_lines_parts))]
     pub fn take_line(&mut self) -> Result<&'a [u8], ScriptFault>
         requires { IsShort self.old }
-        ensures line { IfOk result (λ line. (place : Place) → reads_left place self.old ≡ reads_behind place line.now self.new) }
-        ensures cut { IfErr result (λ fault. (place : Place) → IsOpen place → reads_left place self.old ≡ Err fault) }
-        ensures first { IfOk result (λ line. (word : List ℕ) → first_begins word self.old.rest.now ≡ begins_with word line.now) }
+        ensures line { IfOk result (λ line. (place : Place) →
+            reads_left place self.old ≡ reads_behind place line.now self.new) }
+        ensures cut { IfErr result (λ fault. (place : Place) → IsOpen place
+            → reads_left place self.old ≡ Err fault) }
+        ensures first { IfOk result (λ line. (word : List ℕ) →
+            first_begins word self.old.rest.now ≡ begins_with word line.now) }
         ensures taken { IfOk result (λ _. self.new.taken ≡ self.old.taken + 1) }
         ensures shorter { IfOk result (λ _. length self.new.rest.now < length self.old.rest.now) }
         ensures small { IsShort self.new }
@@ -52,7 +55,7 @@ impl<'a> Lines<'a> {
         }
     }
 
-    // The refusal of the line that was taken last, as the fault of the text.
+    // Turns the rejection of the line that was taken last into the fault of the text.
     pub fn refuse<T>(&self, said: Result<T, ScriptKind>) -> Result<T, ScriptFault>
         ensures { result ≡ at self.now.taken said }
     {
@@ -76,12 +79,13 @@ impl<'a> Lines<'a> {
         }
     }
 
-    // Sees that nothing is left.
+    // Checks that nothing is left.
     #[tactic(auto, using(crate::proofs::PartLemmas::reads_after))]
     pub fn end(&self) -> Result<(), ScriptFault>
         requires { IsShort self.now }
         ensures ok { OnOk result ((s : ScriptValue) → reads_left (AtEnd s) self.now ≡ Ok s) }
-        ensures fault { IfErr result (λ fault. (s : ScriptValue) → reads_left (AtEnd s) self.now ≡ Err fault) }
+        ensures fault { IfErr result (λ fault. (s : ScriptValue) →
+            reads_left (AtEnd s) self.now ≡ Err fault) }
     {
         if self.rest.is_empty() {
             Ok(())

@@ -6,8 +6,8 @@ ghost use Rattle.live_commit.specs.Slots.{checked_slots, kept_slots};
 ghost use Rattle.damon_control.specs.declared.fault.ReadFail.TheVariants.{Memory};
 ghost use Rattle.damon_control.specs.Command.{command_value, work_of};
 ghost use Rattle.damon_control.specs.Head.{setup_said};
-ghost use Rattle.damon_control.specs.Left.{FaultOf, IsShort, reads_left};
-ghost use Rattle.damon_control.specs.Limits.{AreLimits, IsCommandWithin};
+ghost use Rattle.damon_control.specs.Left.{FaultOf, IsShort, MovesTo, reads_left};
+ghost use Rattle.damon_control.specs.Limits.{AreLimits, EachIsWithin};
 ghost use Rattle.damon_control.specs.Script.{AtHeader, InBody, begun, script_of};
 ghost use Rattle.damon_control.specs.ScriptView.{said_by};
 
@@ -35,7 +35,7 @@ pub fn read_script(alloc: Global, text: &[u8]) -> Result<Script, ReadFail>
     ensures script { IfOk result (λ s. script_of text.now ≡ Ok (said_by s)) }
     ensures fault { FaultOf result (script_of text.now) }
     ensures within { IfOk result (λ s.
-        All (λ c. IsCommandWithin (pages_of s.setup.space) (command_value c)) s.commands.list) }
+        EachIsWithin (pages_of s.setup.space) s.commands.list) }
     ensures work { IfOk result (λ s.
         work_of s.setup.cap (map command_value s.commands.list) ≤ MAX_WORK) }
 {
@@ -60,7 +60,8 @@ struct Opening {
 // Reads the lines up to `begin`.
 fn read_opening(alloc: Global, lines: &mut Lines) -> Result<Opening, ReadFail>
     requires { IsShort lines.old }
-    ensures ok { IfOk result (λ o. reads_left AtHeader lines.old ≡ reads_left (InBody (begun o.seed (value_of o.setup))) lines.new) }
+    ensures ok { IfOk result (λ o.
+        MovesTo AtHeader lines.old (InBody (begun o.seed (value_of o.setup))) lines.new) }
     ensures fault { FaultOf result (reads_left AtHeader lines.old) }
     ensures small { IsShort lines.new }
 {
@@ -104,7 +105,8 @@ fn make_setup(
     requires most { length specs.now.list ≤ frame.now.attrs.max }
     requires slots { checked_slots slots.now.list ≡ Ok tt }
     requires set { kept_slots slots.now.list ≡ slots.now.list }
-    ensures setup { IfOk result (λ s. value_of s ≡ setup_said frame.now space specs.now.list slots.now.list) }
+    ensures setup { IfOk result (λ s.
+        value_of s ≡ setup_said frame.now space specs.now.list slots.now.list) }
     ensures memory { IfErr result (λ fail. fail ≡ Memory) }
 {
     // Both lists have fewer than 2^32 items.
