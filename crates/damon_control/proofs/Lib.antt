@@ -16,7 +16,13 @@ pub mod SpellLines
 pub mod SpellKeys
 pub mod SpellSchemes
 pub mod SpellCommands
-pub mod SpellPlaces
-pub mod SpellTexts
+pub mod Leads
+pub mod LineLimits
+pub mod SpaceLimits
+pub mod SetupLimits
+pub mod TextLimits
+pub mod Says
+pub mod LineWords
+pub mod Leading
 mod SpellExamples
 pub mod WorkLemmas

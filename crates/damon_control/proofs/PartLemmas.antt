@@ -6,7 +6,7 @@ use Rattle.line_text.specs.Parts.{one_of, parts}
 use Rattle.damon_control.specs.declared.fault.ScriptKind.TheVariants.{After, Form}
 use Rattle.damon_control.specs.Left.{begins_lines}
 use Rattle.damon_control.specs.Refusal.{◌>>=◌}
-use Rattle.damon_control.specs.Script.{AtEnd, Place, ScriptValue, after, at, reads}
+use Rattle.damon_control.specs.Script.{AtEnd, Place, ScriptValue, place_after, at, reads}
 use Rattle.damon_control.specs.Words.{begins_with, no_word}
 
 parts-some : (separator : ℕ) (bytes : List ℕ) → 0 < length (parts separator bytes)
@@ -29,12 +29,15 @@ one_of_parts word bytes = by (parts 32 bytes) (parts-some 32 bytes)
     by (next ∷ words) some = refl
 
 -- a line with lines behind it is read, and then these
-pub reads_line : (n : ℕ) (place : Place) (line bytes : List ℕ) → reads n place (line ∷ parts 10 bytes) ≡ (at n (after place line) >>= λ behind. reads (n + 1) behind (parts 10 bytes))
-reads_line n place line bytes = by (parts 10 bytes) (parts-some 10 bytes)
-  where
-    by : (lines : List (List ℕ)) → 0 < length lines → reads n place (line ∷ lines) ≡ (at n (after place line) >>= λ behind. reads (n + 1) behind lines)
-    by [] some = absurd (omega arith)
-    by (next ∷ more) some = refl
+pub reads_more : (n : ℕ) (place : Place) (line : List ℕ) (lines : List (List ℕ)) → 0 < length lines
+    → reads n place (line ∷ lines) ≡ (at n (place_after place line) >>= λ behind. reads (n + 1) behind lines)
+reads_more n place line [] some = absurd (omega arith)
+reads_more n place line (next ∷ more) some = refl
+
+-- a line with bytes behind it is read, and then these
+pub reads_line : (n : ℕ) (place : Place) (line bytes : List ℕ)
+    → reads n place (line ∷ parts 10 bytes) ≡ (at n (place_after place line) >>= λ behind. reads (n + 1) behind (parts 10 bytes))
+reads_line n place line bytes = reads_more n place line (parts 10 bytes) (parts-some 10 bytes)
 
 -- a line with lines behind it is the first
 pub begins_lines_parts : (word line bytes : List ℕ) → begins_lines word (line ∷ parts 10 bytes) ≡ begins_with word line

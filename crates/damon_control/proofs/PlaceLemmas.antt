@@ -6,7 +6,7 @@ use Rattle.damon_types.specs.declared.space.Target.{Target}
 use Rattle.damon_control.specs.declared.head.Frame.{Frame}
 use Rattle.damon_control.specs.Left.{begins_lines}
 use Rattle.damon_control.specs.Refusal.{◌>>=◌}
-use Rattle.damon_control.specs.Script.{AtRanges, AtSchemes, AtTargets, after, at, reads}
+use Rattle.damon_control.specs.Script.{AtRanges, AtSchemes, AtTargets, place_after, at, reads}
 
 some_is_not_none : (n : ℕ) → 1 ≤ n → (n == 0) ≡ false
 some_is_not_none n some = grind (arith, nat_tests)
@@ -17,7 +17,7 @@ reads_ranges n f targets [] some other = refl
 reads_ranges n f targets (bytes ∷ []) some other = refl
 reads_ranges n f targets (line ∷ next ∷ more) some other = ap (λ r. at n r >>= λ behind. reads (n + 1) behind (next ∷ more)) same
   where
-    same : after (AtTargets f targets) line ≡ after (AtRanges f targets []) line
+    same : place_after (AtTargets f targets) line ≡ place_after (AtRanges f targets []) line
     same = rw (other, some_is_not_none (length targets) some) refl
 
 -- behind some ranges a line that is of none is read as the first of the schemes
@@ -26,5 +26,5 @@ reads_schemes n f targets ranges [] some other = refl
 reads_schemes n f targets ranges (bytes ∷ []) some other = refl
 reads_schemes n f targets ranges (line ∷ next ∷ more) some other = ap (λ r. at n r >>= λ behind. reads (n + 1) behind (next ∷ more)) same
   where
-    same : after (AtRanges f targets ranges) line ≡ after (AtSchemes f targets ranges []) line
+    same : place_after (AtRanges f targets ranges) line ≡ place_after (AtSchemes f targets ranges []) line
     same = rw (other, some_is_not_none (length ranges) some) refl

@@ -8,7 +8,7 @@ use Rattle.damon_control.specs.declared.keys.Setting.{Setting}
 use Rattle.damon_control.specs.declared.keys.Setting.TheVariants.{Age, Prefer, Marks, Filter}
 use Rattle.damon_control.specs.Laws.{AreInOrder}
 use Rattle.damon_control.specs.Spelling.{spelled_attrs, spelled_range, spelled_scheme, spelled_seed, spelled_setting, spelled_sweep, spelled_target}
-use Rattle.damon_control.specs.Text.{text_of}
+use Rattle.damon_control.specs.Text.{lines_text}
 
 seed_is_decimal : spelled_seed 18446744073709551615 ≡ codes "seed 18446744073709551615"
 unfolding digits
@@ -68,5 +68,5 @@ keys_stand_in_order : AreInOrder (Prefer Cold ∷ Age (record { low = 2; high = 
 keys_stand_in_order (inl rises, rest) = omega arith
 keys_stand_in_order (inr (filter, same), rest) = cc
 
-lines_have_their_ends : text_of (codes "begin" ∷ codes "end" ∷ []) ≡ codes "begin\nend\n"
+lines_have_their_ends : lines_text (codes "begin" ∷ codes "end" ∷ []) ≡ codes "begin\nend\n"
 lines_have_their_ends = refl

@@ -7,15 +7,15 @@ use Rattle.damon_control.specs.declared.script.Command.{Command}
 use Rattle.damon_control.specs.Command.{CommandValue, command_value}
 use Rattle.live_commit.specs.Setup.{SetupValue}
 use Rattle.damon_control.specs.Body.{no_commit}
-use Rattle.damon_control.specs.Limits.{IsWithin}
-use Rattle.damon_control.specs.Script.{AtEnd, Body, InCommit, Place, with_command}
+use Rattle.damon_control.specs.Limits.{IsCommandWithin}
+use Rattle.damon_control.specs.Script.{AtEnd, Body, InCommit, Place, ScriptValue, with_command}
 
--- what a command that was read says, or why it was not
+-- what a command that was read says, or why it was rejected
 abbrev pub command_said : Result Command ScriptKind → Result CommandValue ScriptKind
 command_said (Ok command) = Ok (command_value command)
 command_said (Err kind) = Err kind
 
--- the place behind a line of a body that was read, or why it was not
+-- the place after a line of a body that was read, or why it was rejected
 abbrev pub body_said : Body → Result BodyLine ScriptKind → Result Place ScriptKind
 body_said b (Ok End) = Ok (AtEnd b.said)
 body_said b (Ok Commit) = Ok (InCommit b no_commit)
@@ -26,8 +26,12 @@ body_said b (Err kind) = Err kind
 abbrev pub LineIsWithin : ℕ → BodyLine → Type 0
 LineIsWithin pages End = Unit {0}
 LineIsWithin pages Commit = Unit {0}
-LineIsWithin pages (Say command) = IsWithin pages command
+LineIsWithin pages (Say command) = IsCommandWithin pages (command_value command)
+
+-- a script with these commands
+abbrev pub script_at : ℕ → SetupValue → List Command → ScriptValue
+script_at seed setup commands = record { seed = seed; setup = setup; commands = map command_value commands }
 
 -- a body with these commands, and this work of theirs
 abbrev pub body_at : ℕ → SetupValue → List Command → ℕ → Body
-body_at seed setup commands work = record { said = record { seed = seed; setup = setup; commands = map command_value commands }; work = work }
+body_at seed setup commands work = record { said = script_at seed setup commands; work = work }

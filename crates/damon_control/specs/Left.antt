@@ -1,22 +1,31 @@
 -- What is left of a text.
-use Rattle.std.specs.Prelude.{◌≡◌, ℕ, ◌+◌, Bool, true, false, ◌||◌, ◌==◌, List, [], ◌∷◌, Result, Ok, Err}
+use Rattle.std.specs.Prelude.{◌≡◌, ℕ, ◌+◌, ◌≤◌, Bool, true, false, ◌||◌, ◌==◌, List, [], ◌∷◌, length, Result, Ok, Err}
 use Rattle.line_text.specs.Parts.{parts}
 use Rattle.damon_control.specs.declared.fault.ReadFail.{ReadFail}
 use Rattle.damon_control.specs.declared.fault.ReadFail.TheVariants.{Script, Memory}
 use Rattle.damon_control.specs.declared.fault.ScriptFault.{ScriptFault}
 use Rattle.damon_control.specs.declared.lines.Lines.{Lines}
-use Rattle.damon_control.specs.Script.{Body, Place, AtEnd, ScriptValue, after, at, reads, with_command}
+use Rattle.damon_control.specs.declared.reader.TheConstants.{MAX_BYTES}
+use Rattle.damon_control.specs.Script.{Body, Place, AtEnd, ScriptValue, place_after, at, reads, with_command}
 use Rattle.damon_control.specs.Command.{CommandValue}
 use Rattle.damon_control.specs.Refusal.{◌>>=◌}
 use Rattle.damon_control.specs.Words.{begins_with}
+
+-- the lines that were taken and the bytes that are left are at most as many as the most bytes of a text
+abbrev pub IsShort : Lines → Type 0
+IsShort lines = lines.taken + length lines.rest.now ≤ MAX_BYTES
 
 -- what is said from a place on by the lines that are left
 abbrev pub reads_left : Place → Lines → Result ScriptValue ScriptFault
 reads_left place lines = reads (lines.taken + 1) place (parts 10 lines.rest.now)
 
--- what is said from behind a line at a place, by that line and those that are left behind it
+-- a reader goes from a place to another: what the text still says is the same before and after
+abbrev pub MovesTo : Place → Lines → Place → Lines → Type 0
+MovesTo place old next new = reads_left place old ≡ reads_left next new
+
+-- what is said from a place on by a line and those that are left after it
 abbrev pub reads_behind : Place → List ℕ → Lines → Result ScriptValue ScriptFault
-reads_behind place line lines = at lines.taken (after place line) >>= λ behind. reads_left behind lines
+reads_behind place line lines = at lines.taken (place_after place line) >>= λ next. reads_left next lines
 
 -- a place that wants a line
 abbrev pub IsOpen : Place → Type 0
@@ -33,16 +42,16 @@ begins_lines word (line ∷ next ∷ more) = begins_with word line
 abbrev pub first_begins : List ℕ → List ℕ → Bool
 first_begins word text = begins_lines word (parts 10 text)
 
--- the next line must be of this kind, whose word it then begins with, or is of this kind, of which there is one at least
+-- a line of this kind is read next: the next line begins with its word, or no line of the kind was read yet
 abbrev pub IsWanted : List ℕ → ℕ → Lines → Type 0
 IsWanted word count lines = (first_begins word lines.rest.now || (count == 0)) ≡ true
 
--- a fault that is answered is what the text says; want of memory says nothing
+-- a fault that is returned is the fault of the text; out of memory says nothing of the text
 abbrev pub FaultOf : {T : Type 0} → Result T ReadFail → Result ScriptValue ScriptFault → Type 0
 FaultOf (Ok value) said = Unit {0}
 FaultOf (Err Memory) said = Unit {0}
 FaultOf (Err (Script fault)) said = said ≡ Err fault
 
--- what is said from behind a line that says a command, by that line and those that are left behind it
+-- what is said by a command, whose last line was taken, and the lines that are left after it
 abbrev pub reads_command : Body → CommandValue → Lines → Result ScriptValue ScriptFault
-reads_command b command lines = at lines.taken (with_command b command) >>= λ behind. reads_left behind lines
+reads_command b command lines = at lines.taken (with_command b command) >>= λ next. reads_left next lines

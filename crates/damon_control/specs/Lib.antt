@@ -18,3 +18,4 @@ pub mod Fits
 pub mod Laws
 pub mod ReadBack
 pub mod Text
+pub mod Sound

@@ -10,6 +10,7 @@ use Rattle.damon_control.specs.declared.fault.ScriptFault.{ScriptFault}
 use Rattle.damon_control.specs.declared.fault.ScriptKind.{ScriptKind}
 use Rattle.damon_control.specs.declared.fault.ScriptKind.TheVariants.{After, Cut, Header, TooMuch}
 use Rattle.damon_control.specs.declared.head.Frame.{Frame}
+use Rattle.damon_control.specs.declared.script.TheConstants.{MAX_WORK}
 use Rattle.damon_control.specs.Body.{command_line, no_commit, part_line, with_part}
 use Rattle.damon_control.specs.Command.{CommandValue, Commit, weight}
 use Rattle.damon_control.specs.Head.{attrs_line, cap_line, range_line, scheme_line, seed_line, setup_said, target_line, unit_line}
@@ -45,7 +46,7 @@ pub data Place : Type 0 where
 abbrev pub with_command : Body → CommandValue → Result Place ScriptKind
 with_command b command =
     let work = b.work + weight b.said.setup.cap command in
-    only_if (nat_le work 16777216) TooMuch (InBody (record { said = record b.said { commands = b.said.commands ++ command ∷ [] }; work = work }))
+    only_if (nat_le work MAX_WORK) TooMuch (InBody (record { said = record b.said { commands = b.said.commands ++ command ∷ [] }; work = work }))
 
 -- a body that begins: of its commands nothing is said yet
 abbrev pub begun : ℕ → SetupValue → Body
@@ -87,18 +88,18 @@ after_commit b commit line =
     else (part_line commit line >>= λ part. Ok (InCommit b (with_part commit part)))
 
 -- the place behind a line, or the kind of its fault
-abbrev pub after : Place → List ℕ → Result Place ScriptKind
-after AtHeader line = only_if (same_word line (codes "damon script 1")) Header AtSeed
-after AtSeed line = seed_line line >>= λ seed. Ok (AtUnit seed)
-after (AtUnit seed) line = unit_line line >>= λ unit. Ok (AtCap seed unit)
-after (AtCap seed unit) line = cap_line line >>= λ cap. Ok (AtAttrs seed unit cap)
-after (AtAttrs seed unit cap) line = attrs_line cap line >>= λ attrs. Ok (AtTargets (record { seed = seed; unit = unit; cap = cap; attrs = attrs }) [])
-after (AtTargets f targets) line = after_targets f targets line
-after (AtRanges f targets ranges) line = after_ranges f targets ranges line
-after (AtSchemes f targets ranges slots) line = after_schemes f targets ranges slots line
-after (InBody b) line = after_body b line
-after (InCommit b commit) line = after_commit b commit line
-after (AtEnd s) line = Err After
+abbrev pub place_after : Place → List ℕ → Result Place ScriptKind
+place_after AtHeader line = only_if (same_word line (codes "damon script 1")) Header AtSeed
+place_after AtSeed line = seed_line line >>= λ seed. Ok (AtUnit seed)
+place_after (AtUnit seed) line = unit_line line >>= λ unit. Ok (AtCap seed unit)
+place_after (AtCap seed unit) line = cap_line line >>= λ cap. Ok (AtAttrs seed unit cap)
+place_after (AtAttrs seed unit cap) line = attrs_line cap line >>= λ attrs. Ok (AtTargets (record { seed = seed; unit = unit; cap = cap; attrs = attrs }) [])
+place_after (AtTargets f targets) line = after_targets f targets line
+place_after (AtRanges f targets ranges) line = after_ranges f targets ranges line
+place_after (AtSchemes f targets ranges slots) line = after_schemes f targets ranges slots line
+place_after (InBody b) line = after_body b line
+place_after (InCommit b commit) line = after_commit b commit line
+place_after (AtEnd s) line = Err After
 
 -- a refusal becomes a fault of the line with this number
 abbrev pub at : {A : Type 0} → ℕ → Result A ScriptKind → Result A ScriptFault
@@ -106,16 +107,16 @@ at n (Err kind) = Err (record { line = n; kind = kind })
 at n (Ok value) = Ok value
 
 -- what is said where the text has no line more: these bytes, which no LF ends, in place of line n
-abbrev pub ended : ℕ → Place → List ℕ → Result ScriptValue ScriptFault
-ended n (AtEnd s) [] = Ok s
-ended n (AtEnd s) (b ∷ bs) = at n (Err After)
-ended n place bytes = at n (Err Cut)
+abbrev pub at_text_end : ℕ → Place → List ℕ → Result ScriptValue ScriptFault
+at_text_end n (AtEnd s) [] = Ok s
+at_text_end n (AtEnd s) (b ∷ bs) = at n (Err After)
+at_text_end n place bytes = at n (Err Cut)
 
 -- what is said from a place on, by lines of which the first is line n, and the bytes behind the last LF
 abbrev pub reads : ℕ → Place → List (List ℕ) → Result ScriptValue ScriptFault
-reads n place [] = ended n place []
-reads n place (bytes ∷ []) = ended n place bytes
-reads n place (line ∷ next ∷ more) = at n (after place line) >>= λ behind. reads (n + 1) behind (next ∷ more)
+reads n place [] = at_text_end n place []
+reads n place (bytes ∷ []) = at_text_end n place bytes
+reads n place (line ∷ next ∷ more) = at n (place_after place line) >>= λ behind. reads (n + 1) behind (next ∷ more)
 
 -- the script that a text spells, or its first line that is refused and the kind of its fault
 abbrev pub script_of : List ℕ → Result ScriptValue ScriptFault

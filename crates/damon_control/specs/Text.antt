@@ -1,22 +1,28 @@
--- A text that is accepted, line for line.
-use Rattle.std.specs.Prelude.{◌≡◌, ◌⊎◌, ℕ, Bool, true, ◌&&◌, List, [], ◌∷◌, ◌++◌, map, codes, Ok}
+-- A script as a text: its lines, what they say, and the limits of what they say.
+use Rattle.std.specs.Prelude.{◌≡◌, ◌⊎◌, ℕ, ◌^◌, ◌<◌, ◌≤◌, Bool, true, ◌&&◌, List, [], ◌∷◌, ◌++◌, length, map, codes, Ok, ◌↔◌}
 use Rattle.damon_types.specs.declared.range.RangeSpec.{RangeSpec}
 use Rattle.damon_types.specs.declared.space.Target.{Target}
+use Rattle.damon_types.specs.Space.{checked}
+use Rattle.live_commit.specs.Checked.{checked_limits}
 use Rattle.live_commit.specs.Commit.{CommitValue}
+use Rattle.live_commit.specs.Setup.{SetupValue}
+use Rattle.live_commit.specs.Slots.{checked_slots}
+use Rattle.target_ranges.specs.Checked.{checked_ranges}
 use Rattle.target_ranges.specs.Made.{ranges_of}
 use Rattle.damon_control.specs.declared.commit.Part.{Part}
+use Rattle.damon_control.specs.declared.script.TheConstants.{MAX_WORK}
 use Rattle.damon_control.specs.Body.{no_commit, with_part}
-use Rattle.damon_control.specs.Command.{CommandValue, Commit}
+use Rattle.damon_control.specs.Command.{CommandValue, Commit, work_of}
 use Rattle.damon_control.specs.Laws.{GivesScheme, IsCommand, IsPart, may_come}
 use Rattle.damon_control.specs.Script.{ScriptValue, script_of}
 use Rattle.damon_control.specs.Spelling.{spelled_attrs, spelled_cap, spelled_range, spelled_seed, spelled_target, spelled_unit}
 
 -- the text of lines, each with its LF
-abbrev pub text_of : List (List ℕ) → List ℕ
-text_of [] = []
-text_of (line ∷ lines) = line ++ 10 ∷ text_of lines
+abbrev pub lines_text : List (List ℕ) → List ℕ
+lines_text [] = []
+lines_text (line ∷ lines) = line ++ 10 ∷ lines_text lines
 
--- the lines of groups
+-- the lines of groups, one group after another
 abbrev pub all_lines : List (List (List ℕ)) → List (List ℕ)
 all_lines [] = []
 all_lines (group ∷ groups) = group ++ all_lines groups
@@ -27,12 +33,37 @@ EachSays says [] [] = Unit {0}
 EachSays says (line ∷ lines) (value ∷ values) = says line value × EachSays says lines values
 EachSays says _ _ = ⊥
 
+-- the lines of a setup up to its schemes
+abbrev pub setup_lines : ℕ → SetupValue → List RangeSpec → List (List ℕ)
+setup_lines seed setup specs =
+    codes "damon script 1"
+    ∷ spelled_seed seed
+    ∷ spelled_unit setup.unit
+    ∷ spelled_cap setup.cap
+    ∷ spelled_attrs setup.attrs
+    ∷ (map spelled_target setup.space ++ map spelled_range specs)
+
+-- lines say a seed and a setup: a line for each number, target, range and scheme, in this order and each within its limits
+pub record SaySetup (lines : List (List ℕ)) (seed : ℕ) (setup : SetupValue) : Type 0 where
+  pub specs : List RangeSpec
+  pub schemes : List (List ℕ)
+  pub spelled : lines ≡ setup_lines seed setup specs ++ schemes
+  pub seed_fits : seed < 2 ^ 64
+  pub limits : checked_limits setup.unit setup.cap setup.attrs ≡ Ok tt
+  pub targets : checked setup.space ≡ Ok tt
+  pub ranges : checked_ranges setup.space setup.unit setup.cap specs ≡ Ok tt
+  pub some_range : 1 ≤ length specs
+  pub few_ranges : length specs ≤ setup.attrs.max
+  pub watched : ranges_of setup.space specs ≡ setup.ranges
+  pub slots : checked_slots setup.slots ≡ Ok tt
+  pub give : EachSays GivesScheme schemes setup.slots
+
 -- a commit with more parts, one after another
 abbrev pub with_parts : CommitValue → List Part → CommitValue
 with_parts commit [] = commit
 with_parts commit (part ∷ parts) = with_parts (with_part commit part) parts
 
--- whether parts may come behind those of a commit, one after another
+-- whether parts may follow those of a commit, one after another
 abbrev pub come_in_order : CommitValue → List Part → Bool
 come_in_order commit [] = true
 come_in_order commit (part ∷ parts) = may_come commit part && come_in_order (with_part commit part) parts
@@ -52,22 +83,15 @@ SayCommand space lines command =
     ((line : List ℕ) × (lines ≡ line ∷ []) × IsCommand space line command)
     ⊎ ((commit : CommitValue) × (command ≡ Commit commit) × AreCommit lines commit)
 
--- the lines of a setup up to its schemes
-abbrev pub setup_lines : ScriptValue → List RangeSpec → List (List ℕ)
-setup_lines s ranges =
-    codes "damon script 1" ∷ spelled_seed s.seed ∷ spelled_unit s.setup.unit ∷ spelled_cap s.setup.cap ∷ spelled_attrs s.setup.attrs
-    ∷ (map spelled_target s.setup.space ++ map spelled_range ranges)
-
--- a text is the lines of a script: its setup, a line for each scheme, `begin`, the lines of each command, and `end`
+-- a text says a script: the lines of its setup, `begin`, those of each command, and `end`; the commands are not too much work
 pub record IsText (text : List ℕ) (s : ScriptValue) : Type 0 where
-  pub ranges : List RangeSpec
-  pub schemes : List (List ℕ)
+  pub setup : List (List ℕ)
   pub commands : List (List (List ℕ))
-  pub spelled : text ≡ text_of (setup_lines s ranges ++ (schemes ++ codes "begin" ∷ (all_lines commands ++ codes "end" ∷ [])))
-  pub watched : ranges_of s.setup.space ranges ≡ s.setup.ranges
-  pub give : EachSays GivesScheme schemes s.setup.slots
-  pub say : EachSays (SayCommand s.setup.space) commands s.commands
+  pub spelled : text ≡ lines_text (setup ++ codes "begin" ∷ (all_lines commands ++ codes "end" ∷ []))
+  pub says_setup : SaySetup setup s.seed s.setup
+  pub say_commands : EachSays (SayCommand s.setup.space) commands s.commands
+  pub work : work_of s.setup.cap s.commands ≤ MAX_WORK
 
--- a text that spells a script is the lines of it
-abbrev pub ReadsOnlyTexts : Type 0
-ReadsOnlyTexts = (text : List ℕ) (s : ScriptValue) → script_of text ≡ Ok s → IsText text s
+-- the texts that are read as a script are those that say it
+abbrev pub TextsAreRead : Type 0
+TextsAreRead = (text : List ℕ) (s : ScriptValue) → (script_of text ≡ Ok s) ↔ IsText text s

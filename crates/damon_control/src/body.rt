@@ -3,10 +3,10 @@ ghost use Rattle.std.specs.Option.{ok_or};
 ghost use Rattle.damon_types.specs.Space.{page_of, pages_of};
 ghost use Rattle.live_commit.specs.SetupView.{value_of};
 ghost use Rattle.damon_control.specs.Body.{are_swept, command_line, step_line, sweep_line, touch_line, word_line};
-ghost use Rattle.damon_control.specs.BodyLine.{LineIsWithin, body_at, body_said, command_said};
+ghost use Rattle.damon_control.specs.BodyLine.{LineIsWithin, body_at, body_said, command_said, script_at};
 ghost use Rattle.damon_control.specs.Command.{command_value, weight, work_of};
-ghost use Rattle.damon_control.specs.Left.{FaultOf, reads_left};
-ghost use Rattle.damon_control.specs.Limits.{IsWithin};
+ghost use Rattle.damon_control.specs.Left.{FaultOf, IsShort, MovesTo, reads_left};
+ghost use Rattle.damon_control.specs.Limits.{EachIsWithin, IsCommandWithin};
 ghost use Rattle.damon_control.specs.Refusal.{only_if};
 ghost use Rattle.damon_control.specs.Script.{AtEnd, Body, InBody, after_body, begun};
 ghost use Rattle.damon_control.specs.Words.{begins_with};
@@ -15,19 +15,15 @@ ghost use Rattle.damon_control.specs.declared.fault.ScriptKind.TheVariants.{Outs
 use crate::commit::read_commit;
 use crate::head::limited;
 use crate::lines::Lines;
+use crate::script::{MAX_STEPS, MAX_WORK};
 use crate::words::{
-    alone, arguments, begins_with, one_word, read_32, read_byte_address, three_words, two_words,
+    alone, arguments, first_word, one_word, read_32, read_byte_address, same_word, three_words,
+    two_words,
 };
 use crate::{Command, Commands, ReadFail, ScriptKind};
 use damon_types::{PAGE_SIZE, Space, pages_rise};
 use live_commit::Setup;
 use std::alloc::Global;
-
-// The most work that the commands of a script may be in all.
-const MOST_WORK: u64 = 16_777_216;
-
-// The most steps of one command.
-const MOST_STEPS: u32 = 1_000_000;
 
 // What a line of a body says.
 pub enum BodyLine {
@@ -41,12 +37,17 @@ pub enum BodyLine {
 
 // Reads the commands of a script, up to its last line.
 pub fn read_body(alloc: Global, lines: &mut Lines, setup: &Setup) -> Result<Commands, ReadFail>
-    requires { lines.old.taken + length lines.old.rest.now ≤ 16777216 }
-    ensures ok { IfOk result (λ commands. (seed : ℕ) → reads_left (InBody (begun seed (value_of setup.now))) lines.old ≡ reads_left (AtEnd (record { seed = seed; setup = value_of setup.now; commands = map command_value commands.list })) lines.new) }
-    ensures fault { (seed : ℕ) → FaultOf result (reads_left (InBody (begun seed (value_of setup.now))) lines.old) }
-    ensures within { IfOk result (λ commands. All (IsWithin (pages_of setup.now.space)) commands.list) }
-    ensures work { IfOk result (λ commands. work_of setup.now.cap (map command_value commands.list) ≤ 16777216) }
-    ensures small { lines.new.taken + length lines.new.rest.now ≤ 16777216 }
+    requires { IsShort lines.old }
+    ensures ok { IfOk result (λ commands. (seed : ℕ) →
+        MovesTo (InBody (begun seed (value_of setup.now))) lines.old
+            (AtEnd (script_at seed (value_of setup.now) commands.list)) lines.new) }
+    ensures fault { (seed : ℕ) →
+        FaultOf result (reads_left (InBody (begun seed (value_of setup.now))) lines.old) }
+    ensures within { IfOk result (λ commands.
+        EachIsWithin (pages_of setup.now.space) commands.list) }
+    ensures work { IfOk result (λ commands.
+        work_of setup.now.cap (map command_value commands.list) ≤ MAX_WORK) }
+    ensures small { IsShort lines.new }
 {
     let mut commands = Commands::new(alloc);
     let mut work = 0;
@@ -65,18 +66,28 @@ fn take_command(
     commands: &mut Commands,
     work: u64,
 ) -> Result<Option<u64>, ReadFail>
-    requires small { lines.old.taken + length lines.old.rest.now ≤ 16777216 }
+    requires small { IsShort lines.old }
     requires few { length commands.old.list ≤ lines.old.taken }
-    requires most { work ≤ 16777216 }
-    ensures more { IfOk result (λ answer. IfSome answer (λ sum. (seed : ℕ) → reads_left (InBody (body_at seed (value_of setup.now) commands.old.list work)) lines.old ≡ reads_left (InBody (body_at seed (value_of setup.now) commands.new.list sum)) lines.new)) }
-    ensures end { IfOk result (λ answer. answer ≡ None → (seed : ℕ) → reads_left (InBody (body_at seed (value_of setup.now) commands.old.list work)) lines.old ≡ reads_left (AtEnd (body_at seed (value_of setup.now) commands.new.list work).said) lines.new) }
-    ensures fault { (seed : ℕ) → FaultOf result (reads_left (InBody (body_at seed (value_of setup.now) commands.old.list work)) lines.old) }
-    ensures sum { IfOk result (λ answer. IfSome answer (λ sum. sum + work_of setup.now.cap (map command_value commands.old.list) ≡ work + work_of setup.now.cap (map command_value commands.new.list))) }
-    ensures same { IfOk result (λ answer. answer ≡ None → commands.new.list ≡ commands.old.list) }
-    ensures within { OnOk result (All (IsWithin (pages_of setup.now.space)) commands.old.list → All (IsWithin (pages_of setup.now.space)) commands.new.list) }
+    requires most { work ≤ MAX_WORK }
+    ensures more { IfOk result (λ answer. IfSome answer (λ sum. (seed : ℕ) →
+        MovesTo (InBody (body_at seed (value_of setup.now) commands.old.list work)) lines.old
+            (InBody (body_at seed (value_of setup.now) commands.new.list sum)) lines.new)) }
+    ensures end { IfOk result (λ answer. answer ≡ None → (seed : ℕ) →
+        MovesTo (InBody (body_at seed (value_of setup.now) commands.old.list work)) lines.old
+            (AtEnd (script_at seed (value_of setup.now) commands.new.list)) lines.new) }
+    ensures fault { (seed : ℕ) →
+        let place = InBody (body_at seed (value_of setup.now) commands.old.list work) in
+        FaultOf result (reads_left place lines.old) }
+    ensures sum { IfOk result (λ answer. IfSome answer (λ sum.
+        sum + work_of setup.now.cap (map command_value commands.old.list)
+            ≡ work + work_of setup.now.cap (map command_value commands.new.list))) }
+    ensures same { IfOk result (λ answer.
+        answer ≡ None → commands.new.list ≡ commands.old.list) }
+    ensures within { OnOk result (EachIsWithin (pages_of setup.now.space) commands.old.list
+        → EachIsWithin (pages_of setup.now.space) commands.new.list) }
     ensures few { OnOk result (length commands.new.list ≤ lines.new.taken) }
-    ensures most { IfOk result (λ answer. IfSome answer (λ sum. sum ≤ 16777216)) }
-    ensures small { lines.new.taken + length lines.new.rest.now ≤ 16777216 }
+    ensures most { IfOk result (λ answer. IfSome answer (λ sum. sum ≤ MAX_WORK)) }
+    ensures small { IsShort lines.new }
     ensures shorter { OnOk result (length lines.new.rest.now < length lines.old.rest.now) }
 {
     let line = lines.take_line()?;
@@ -94,13 +105,15 @@ fn take_command(
 
 // Reads a line of a body.
 fn read_body_line(space: &Space, line: &[u8]) -> Result<BodyLine, ScriptKind>
-    ensures exact { (b : Body) → b.said.setup.space ≡ space.now → body_said b result ≡ after_body b line.now }
+    ensures exact { (b : Body) → b.said.setup.space ≡ space.now
+        → body_said b result ≡ after_body b line.now }
     ensures within { IfOk result (λ line. LineIsWithin (pages_of space.now) line) }
 {
-    if begins_with(b"end", line) {
+    let word = first_word(line);
+    if same_word(word, b"end") {
         alone(b"end", line)?;
         Ok(BodyLine::End)
-    } else if begins_with(b"commit", line) {
+    } else if same_word(word, b"commit") {
         alone(b"commit", line)?;
         Ok(BodyLine::Commit)
     } else {
@@ -111,30 +124,33 @@ fn read_body_line(space: &Space, line: &[u8]) -> Result<BodyLine, ScriptKind>
 // Reads a command of one line.
 fn read_command(space: &Space, line: &[u8]) -> Result<Command, ScriptKind>
     ensures exact { command_said result ≡ command_line space.now line.now }
-    ensures within { IfOk result (λ c. IsWithin (pages_of space.now) c) }
+    ensures within { IfOk result (λ c. IsCommandWithin (pages_of space.now) (command_value c)) }
 {
-    if begins_with(b"touch", line) {
+    let word = first_word(line);
+    if same_word(word, b"touch") {
         read_touch(space, line)
-    } else if begins_with(b"sweep", line) {
+    } else if same_word(word, b"sweep") {
         read_sweep(space, line)
-    } else if begins_with(b"step", line) {
+    } else if same_word(word, b"step") {
         read_step(line)
-    } else if begins_with(b"arm", line) {
+    } else if same_word(word, b"arm") {
         alone(b"arm", line)?;
         Ok(Command::Arm)
-    } else if begins_with(b"finish", line) {
+    } else if same_word(word, b"finish") {
         alone(b"finish", line)?;
         Ok(Command::Finish)
-    } else {
+    } else if same_word(word, b"show") {
         alone(b"show", line)?;
         Ok(Command::Show)
+    } else {
+        Err(ScriptKind::Word)
     }
 }
 
 // Reads `touch TARGET ADDRESS`.
 fn read_touch(space: &Space, line: &[u8]) -> Result<Command, ScriptKind>
     ensures exact { command_said result ≡ touch_line space.now line.now }
-    ensures within { IfOk result (λ c. IsWithin (pages_of space.now) c) }
+    ensures within { IfOk result (λ c. IsCommandWithin (pages_of space.now) (command_value c)) }
 {
     let (target, addr) = two_words(arguments(b"touch", line)?)?;
     let target = read_32(target)?;
@@ -158,7 +174,7 @@ fn read_page(space: &Space, target: u32, addr: u64) -> Result<u32, ScriptKind>
 // Reads `sweep TARGET FROM TO`.
 fn read_sweep(space: &Space, line: &[u8]) -> Result<Command, ScriptKind>
     ensures exact { command_said result ≡ sweep_line space.now line.now }
-    ensures within { IfOk result (λ c. IsWithin (pages_of space.now) c) }
+    ensures within { IfOk result (λ c. IsCommandWithin (pages_of space.now) (command_value c)) }
 {
     pages_rise();
     // There are at most 1,048,576 pages.
@@ -181,29 +197,23 @@ fn read_sweep(space: &Space, line: &[u8]) -> Result<Command, ScriptKind>
 // Reads `step TIMES`.
 fn read_step(line: &[u8]) -> Result<Command, ScriptKind>
     ensures exact { command_said result ≡ step_line line.now }
-    ensures within { (pages : ℕ) → IfOk result (λ c. IsWithin pages c) }
+    ensures within { (pages : ℕ) → IfOk result (λ c. IsCommandWithin pages (command_value c)) }
 {
     let times = read_32(one_word(arguments(b"step", line)?)?)?;
-    let times = limited(1, MOST_STEPS, times)?;
+    let times = limited(1, MAX_STEPS, times)?;
     Ok(Command::Step { times })
 }
 
-// The work so far with that of one more command, where it is within the limit.
+// The work so far and that of one more command, where both are within the limit.
 fn added_work(work: u64, cap: u32, command: &Command) -> Result<u64, ScriptKind>
-    requires { work ≤ 16777216 }
-    ensures exact { result ≡ only_if (nat_le (work + weight cap (command_value command.now)) 16777216) TooMuch (work + weight cap (command_value command.now)) }
+    requires { work ≤ MAX_WORK }
+    ensures exact { let sum = work + weight cap (command_value command.now) in
+        result ≡ only_if (nat_le sum MAX_WORK) TooMuch sum }
     ensures sum { IfOk result (λ sum. sum ≡ work + weight cap (command_value command.now)) }
-    ensures most { IfOk result (λ sum. sum ≤ 16777216) }
+    ensures most { IfOk result (λ sum. sum ≤ MAX_WORK) }
 {
-    let pass = 2 * u64::from(cap) + 3;
-    let more = match command {
-        Command::Touch { .. } | Command::Show | Command::Commit { .. } => 1,
-        Command::Sweep { from, to } => u64::from(to.saturating_sub(*from)),
-        Command::Step { times } => u64::from(*times),
-        Command::Arm | Command::Finish => pass,
-    };
-    let sum = work + more;
-    if sum <= MOST_WORK {
+    let sum = work + command.weight(cap);
+    if sum <= MAX_WORK {
         Ok(sum)
     } else {
         Err(ScriptKind::TooMuch)

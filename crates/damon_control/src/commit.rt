@@ -2,27 +2,29 @@ ghost use Rattle.std.specs.Prelude.{◌≡◌, ◌≤◌, ◌<◌, ◌+◌, ◌-
 ghost use Rattle.live_commit.specs.Commit.{commit_value, CommitValue};
 ghost use Rattle.damon_control.specs.Body.{change_line, drop_line, no_commit, part_line, wants_attrs, wants_slot, with_range};
 ghost use Rattle.damon_control.specs.Command.{Commit as CommitCommand};
-ghost use Rattle.damon_control.specs.Left.{FaultOf, reads_command, reads_left};
+ghost use Rattle.damon_control.specs.Left.{FaultOf, IsShort, reads_command, reads_left};
 ghost use Rattle.damon_control.specs.Script.{Body, InCommit};
 ghost use Rattle.damon_control.specs.Words.{begins_with};
 
 use crate::fields::{read_attrs, read_range};
 use crate::keys::read_scheme;
 use crate::lines::Lines;
-use crate::words::{alone, arguments, begins_with, one_word, read_8, read_32};
+use crate::words::{alone, arguments, first_word, one_word, read_8, read_32, same_word};
 use crate::{ReadFail, ScriptKind};
 use damon_types::{Attrs, RangeSpec, RangeSpecs, SlotChange};
 use live_commit::Commit;
 use std::alloc::{AllocError, Global};
 
-// Reads the lines of a commit behind its first, up to the line `apply`.
+// Reads the lines of a commit after its first, up to the line `apply`.
 pub fn read_commit(alloc: Global, lines: &mut Lines) -> Result<Commit, ReadFail>
-    requires { lines.old.taken + length lines.old.rest.now ≤ 16777216 }
-    ensures ok { IfOk result (λ c. (b : Body) → reads_left (InCommit b no_commit) lines.old ≡ reads_command b (CommitCommand (commit_value c)) lines.new) }
+    requires { IsShort lines.old }
+    ensures ok { IfOk result (λ c. (b : Body) →
+        reads_left (InCommit b no_commit) lines.old
+            ≡ reads_command b (CommitCommand (commit_value c)) lines.new) }
     ensures fault { (b : Body) → FaultOf result (reads_left (InCommit b no_commit) lines.old) }
     ensures later { OnOk result (lines.old.taken ≤ lines.new.taken) }
     ensures shorter { OnOk result (length lines.new.rest.now < length lines.old.rest.now) }
-    ensures small { lines.new.taken + length lines.new.rest.now ≤ 16777216 }
+    ensures small { IsShort lines.new }
 {
     let mut commit = Commit {
         attrs: None,
@@ -32,7 +34,7 @@ pub fn read_commit(alloc: Global, lines: &mut Lines) -> Result<Commit, ReadFail>
     };
     'lines: loop {
         let line = lines.take_line()?;
-        if begins_with(b"apply", line) {
+        if same_word(first_word(line), b"apply") {
             lines.refuse(alone(b"apply", line))?;
             return Ok(commit);
         }
@@ -53,21 +55,22 @@ pub enum Part {
     Metric(u32),
 }
 
-// Reads a line of a commit, behind the parts that are there already.
+// Reads a line of a commit, after the parts that are there already.
 fn read_part(commit: &Commit, line: &[u8]) -> Result<Part, ScriptKind>
     ensures { result ≡ part_line (commit_value commit.now) line.now }
 {
-    if begins_with(b"attrs", line) && wants_attrs(commit) {
+    let word = first_word(line);
+    if same_word(word, b"attrs") && wants_attrs(commit) {
         let attrs = read_attrs(arguments(b"attrs", line)?)?;
         Ok(Part::Attrs(attrs))
-    } else if begins_with(b"range", line) && wants_slot(commit) {
+    } else if same_word(word, b"range") && wants_slot(commit) {
         let range = read_range(arguments(b"range", line)?)?;
         Ok(Part::Range(range))
-    } else if begins_with(b"scheme", line) && wants_slot(commit) {
+    } else if same_word(word, b"scheme") && wants_slot(commit) {
         Ok(Part::Slot(read_change(line)?))
-    } else if begins_with(b"drop", line) && wants_slot(commit) {
+    } else if same_word(word, b"drop") && wants_slot(commit) {
         Ok(Part::Slot(read_drop(line)?))
-    } else if begins_with(b"metric", line) && commit.metric.is_none() {
+    } else if same_word(word, b"metric") && commit.metric.is_none() {
         let value = read_32(one_word(arguments(b"metric", line)?)?)?;
         Ok(Part::Metric(value))
     } else {
@@ -89,7 +92,7 @@ fn wants_attrs(commit: &Commit) -> bool
     commit.attrs.is_none() && commit.ranges.is_none() && wants_slot(commit)
 }
 
-// Reads `scheme SLOT ACTION KEYS`, of which the form alone is looked at.
+// Reads `scheme SLOT ACTION KEYS`, of which only the form is checked.
 fn read_change(line: &[u8]) -> Result<SlotChange, ScriptKind>
     ensures { result ≡ change_line line.now }
 {
@@ -115,7 +118,8 @@ fn add_range(
     range: RangeSpec,
 ) -> Result<(), AllocError>
     requires { IfSome ranges.old (λ l. length l.list < 2 ^ 32 - 1) }
-    ensures { OnOk result (option_map (λ l. l.list) ranges.new ≡ with_range (option_map (λ l. l.list) ranges.old) range) }
+    ensures { OnOk result (option_map (λ l. l.list) ranges.new
+        ≡ with_range (option_map (λ l. l.list) ranges.old) range) }
 {
     match ranges {
         Some(list) => list.push(range),

@@ -5,8 +5,11 @@ use std::alloc::{AllocError, AllocFailed};
 use std::fmt;
 use target_ranges::RangeWhy;
 
-/// Why a line is refused. Of the kinds that apply to a line the first one is given. The kinds and
-/// their order are this project's own.
+/// Why a line is rejected. If more than one kind applies, the first is given. The kinds and their
+/// order are this project's own.
+///
+/// [`Display`](fmt::Display) writes the kind in a few words, without the reason that three of the
+/// kinds hold.
 #[derive(Clone, Copy, Debug, PartialEq, Eq)]
 pub enum ScriptKind {
     /// Bytes follow the line `end`.
@@ -17,8 +20,8 @@ pub enum ScriptKind {
     Header,
     /// The first word, up to a space or the line's end, is not allowed at this place.
     Word,
-    /// A byte that does not print, a space too many or too few, a word too many or too few, an action
-    /// or a key that there is not, keys out of order, or a value with the wrong parts or words.
+    /// A byte that is not printable, a space or a word too many or too few, an unknown action or
+    /// key, keys out of order, or a value with the wrong parts or words.
     Form,
     /// A number or an address is misspelt or above the greatest value of its field.
     Number,
@@ -28,7 +31,7 @@ pub enum ScriptKind {
     Attrs { why: AttrsFault },
     /// The most regions are above the most that are ever allowed.
     OverCap,
-    /// The range is refused behind those before it.
+    /// The range is rejected after those before it.
     Range { why: RangeWhy },
     /// This range is one more than the most regions.
     RangesOverMax,
@@ -36,16 +39,19 @@ pub enum ScriptKind {
     Scheme { why: SchemeFault },
     /// The slot was set by an earlier line.
     Repeated,
-    /// The target is none, or the page outside of it.
+    /// No such target, or the address is outside it.
     Outside,
-    /// With this line the script is more work than is allowed.
+    /// With this line the script is more work than [`MAX_WORK`](crate::MAX_WORK).
     TooMuch,
 }
 
-/// The first line of a text that is refused.
+/// The first rejected line of a text.
+///
+/// [`Display`](fmt::Display) writes the line and the kind, and in parentheses the reason, if the kind
+/// has one: `line 5: bad attrs (MinTooSmall { min: 2 })`.
 #[derive(Clone, Copy, Debug, PartialEq, Eq)]
 pub struct ScriptFault {
-    /// The number of the line, from 1 on. A line that is missing counts.
+    /// The number of the line, from 1. A missing line counts.
     pub line: u64,
     pub kind: ScriptKind,
 }
@@ -53,7 +59,7 @@ pub struct ScriptFault {
 /// Why a text was not read.
 #[derive(Clone, Copy, Debug, PartialEq, Eq)]
 pub enum ReadFail {
-    /// It is no script.
+    /// It is not a script.
     Script { fault: ScriptFault },
     /// Memory ran out.
     Memory,
@@ -78,6 +84,18 @@ impl fmt::Display for ScriptKind {
             ScriptKind::Outside => "outside span",
             ScriptKind::TooMuch => "too much work",
         })
+    }
+}
+
+impl fmt::Display for ScriptFault {
+    fn fmt<W: fmt::Write>(&self, f: &mut fmt::Formatter<W>) -> fmt::Result {
+        write!(f, "line {}: {}", self.line, self.kind)?;
+        match self.kind {
+            ScriptKind::Attrs { why } => write!(f, " ({why:?})"),
+            ScriptKind::Range { why } => write!(f, " ({why:?})"),
+            ScriptKind::Scheme { why } => write!(f, " ({why:?})"),
+            _ => Ok(()),
+        }
     }
 }
 

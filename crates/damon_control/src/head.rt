@@ -7,7 +7,7 @@ ghost use Rattle.damon_control.specs.declared.head.Frame.{Frame as frame};
 ghost use Rattle.live_commit.specs.Checked.{checked_cap, checked_unit};
 ghost use Rattle.live_commit.specs.Slots.{checked_slot, checked_slots, has_scheme, kept_slots};
 ghost use Rattle.damon_control.specs.Limits.{AreLimits};
-ghost use Rattle.damon_control.specs.Left.{FaultOf, IsWanted, reads_left};
+ghost use Rattle.damon_control.specs.Left.{FaultOf, IsShort, IsWanted, MovesTo, reads_left};
 ghost use Rattle.damon_control.specs.Script.{AtAttrs, AtHeader, AtRanges, AtSchemes, AtTargets, InBody, opened};
 ghost use Rattle.damon_control.specs.Refusal.{only_if};
 ghost use Rattle.damon_control.specs.Words.{same_word, words_in};
@@ -19,7 +19,7 @@ use crate::lines::Lines;
 use crate::words::{
     Words, alone, arguments, one_word, read_32, read_64, read_byte_address, same_word, two_words,
 };
-use crate::{ReadFail, ScriptFault, ScriptKind};
+use crate::{MAX_BYTES, ReadFail, ScriptFault, ScriptKind};
 use damon_types::{Attrs, RangeSpec, RangeSpecs, SlotChange, SlotChanges, Space, Target};
 use live_commit::slots_are_checked_in_turn;
 use std::alloc::Global;
@@ -79,9 +79,7 @@ fn read_attrs_line(cap: u32, line: &[u8]) -> Result<Attrs, ScriptKind>
     ensures { result ≡ attrs_line cap line.now }
 {
     let attrs = read_attrs(arguments(b"attrs", line)?)?;
-    if let Err(why) = attrs.check() {
-        return Err(ScriptKind::Attrs { why });
-    }
+    attrs.check().map_err(|why| ScriptKind::Attrs { why })?;
     if attrs.max > cap {
         return Err(ScriptKind::OverCap);
     }
@@ -106,7 +104,7 @@ fn read_target(words: Words) -> Result<Target, ScriptKind>
     })
 }
 
-// Reads `range TARGET FROM TO CLASS` behind other ranges.
+// Reads `range TARGET FROM TO CLASS` after other ranges.
 fn read_range_line(
     frame: &Frame,
     space: &Space,
@@ -114,20 +112,21 @@ fn read_range_line(
     line: &[u8],
 ) -> Result<RangeSpec, ScriptKind>
     ensures exact { result ≡ range_line frame.now space.now before.now line.now }
-    ensures accepted { IfOk result (λ s. checked_next space.now frame.now.unit frame.now.cap before.now s ≡ Ok tt) }
+    ensures accepted { IfOk result (λ s.
+        checked_next space.now frame.now.unit frame.now.cap before.now s ≡ Ok tt) }
     ensures room { OnOk result (length before.now < frame.now.attrs.max) }
 {
     let range = read_range(arguments(b"range", line)?)?;
-    if let Err(why) = check_next(space, frame.unit, frame.cap, before, &range) {
-        return Err(ScriptKind::Range { why });
-    }
+    check_next(space, frame.unit, frame.cap, before, &range).map_err(|why| ScriptKind::Range {
+        why,
+    })?;
     if before.len() >= frame.attrs.max as usize {
         return Err(ScriptKind::RangesOverMax);
     }
     Ok(range)
 }
 
-// Reads `scheme SLOT ACTION KEYS` behind other schemes.
+// Reads `scheme SLOT ACTION KEYS` after other schemes.
 #[tactic(auto, using(crate::proofs::SlotLemmas::checked_slot_accepted))]
 fn read_scheme_line(before: &[SlotChange], line: &[u8]) -> Result<SlotChange, ScriptKind>
     ensures exact { result ≡ scheme_line before.now line.now }
@@ -135,9 +134,9 @@ fn read_scheme_line(before: &[SlotChange], line: &[u8]) -> Result<SlotChange, Sc
     ensures set { IfOk result (λ c. has_scheme c ≡ true) }
 {
     let (slot, scheme) = read_scheme(arguments(b"scheme", line)?)?;
-    if let Err(why) = scheme.check(slot) {
-        return Err(ScriptKind::Scheme { why });
-    }
+    scheme
+        .check(slot)
+        .map_err(|why| ScriptKind::Scheme { why })?;
     if is_changed(slot, before) {
         return Err(ScriptKind::Repeated);
     }
@@ -156,11 +155,11 @@ fn is_changed(slot: u8, changes: &[SlotChange]) -> bool
 
 // Reads the lines before the targets.
 pub fn read_frame(lines: &mut Lines) -> Result<Frame, ScriptFault>
-    requires { lines.old.taken + length lines.old.rest.now ≤ 16777216 }
-    ensures ok { IfOk result (λ f. reads_left AtHeader lines.old ≡ reads_left (AtTargets f []) lines.new) }
+    requires { IsShort lines.old }
+    ensures ok { IfOk result (λ f. MovesTo AtHeader lines.old (AtTargets f []) lines.new) }
     ensures fault { IfErr result (λ fault. reads_left AtHeader lines.old ≡ Err fault) }
     ensures limits { IfOk result (λ f. AreLimits f) }
-    ensures small { lines.new.taken + length lines.new.rest.now ≤ 16777216 }
+    ensures small { IsShort lines.new }
 {
     let (seed, unit, cap) = read_numbers(lines)?;
     let line = lines.take_line()?;
@@ -175,12 +174,12 @@ pub fn read_frame(lines: &mut Lines) -> Result<Frame, ScriptFault>
 
 // Reads the lines before the attributes: the seed, the unit and the cap.
 fn read_numbers(lines: &mut Lines) -> Result<(u64, u32, u32), ScriptFault>
-    requires { lines.old.taken + length lines.old.rest.now ≤ 16777216 }
-    ensures ok { IfOk result (λ n. reads_left AtHeader lines.old ≡ reads_left (AtAttrs n.0 n.1 n.2) lines.new) }
+    requires { IsShort lines.old }
+    ensures ok { IfOk result (λ n. MovesTo AtHeader lines.old (AtAttrs n.0 n.1 n.2) lines.new) }
     ensures fault { IfErr result (λ fault. reads_left AtHeader lines.old ≡ Err fault) }
     ensures unit { IfOk result (λ n. checked_unit n.1 ≡ Ok tt) }
     ensures cap { IfOk result (λ n. checked_cap n.2 ≡ Ok tt) }
-    ensures small { lines.new.taken + length lines.new.rest.now ≤ 16777216 }
+    ensures small { IsShort lines.new }
 {
     let line = lines.take_line()?;
     lines.refuse(read_header(line))?;
@@ -193,17 +192,18 @@ fn read_numbers(lines: &mut Lines) -> Result<(u64, u32, u32), ScriptFault>
     Ok((seed, unit, cap))
 }
 
-// Reads the lines of the targets, of which there is one at least.
+// Reads the lines of the targets, at least one.
 pub fn read_targets(
     alloc: Global,
     lines: &mut Lines,
     frame: &Frame,
 ) -> Result<Vec<Target>, ReadFail>
-    requires { lines.old.taken + length lines.old.rest.now ≤ 16777216 }
-    ensures ok { IfOk result (λ v. reads_left (AtTargets frame.now []) lines.old ≡ reads_left (AtRanges frame.now v.items []) lines.new) }
+    requires { IsShort lines.old }
+    ensures ok { IfOk result (λ v.
+        MovesTo (AtTargets frame.now []) lines.old (AtRanges frame.now v.items []) lines.new) }
     ensures fault { FaultOf result (reads_left (AtTargets frame.now []) lines.old) }
     ensures sound { IfOk result (λ v. checked v.items ≡ Ok tt) }
-    ensures small { lines.new.taken + length lines.new.rest.now ≤ 16777216 }
+    ensures small { IsShort lines.new }
 {
     let mut targets = Vec::new(alloc);
     take_target(lines, &mut targets)?;
@@ -216,14 +216,17 @@ pub fn read_targets(
 // Reads one more `target BASE PAGES`.
 fn take_target(lines: &mut Lines, targets: &mut Vec<Target>) -> Result<(), ReadFail>
     requires wanted { IsWanted (codes "target") (length targets.old.items) lines.old }
-    requires small { lines.old.taken + length lines.old.rest.now ≤ 16777216 }
+    requires small { IsShort lines.old }
     requires few { length targets.old.items < 2 ^ 32 - 1 }
-    ensures ok { OnOk result ((f : frame) → reads_left (AtTargets f targets.old.items) lines.old ≡ reads_left (AtTargets f targets.new.items) lines.new) }
-    ensures fault { (f : frame) → FaultOf result (reads_left (AtTargets f targets.old.items) lines.old) }
+    ensures ok { OnOk result ((f : frame) →
+        MovesTo (AtTargets f targets.old.items) lines.old
+            (AtTargets f targets.new.items) lines.new) }
+    ensures fault { (f : frame) →
+        FaultOf result (reads_left (AtTargets f targets.old.items) lines.old) }
     ensures sound { OnOk result (checked targets.new.items ≡ Ok tt) }
     ensures some { OnOk result (1 ≤ length targets.new.items) }
     ensures few { OnOk result (length targets.new.items ≤ 64) }
-    ensures small { lines.new.taken + length lines.new.rest.now ≤ 16777216 }
+    ensures small { IsShort lines.new }
     ensures shorter { OnOk result (length lines.new.rest.now < length lines.old.rest.now) }
 {
     let line = lines.take_line()?;
@@ -244,21 +247,24 @@ fn check_targets(targets: &[Target]) -> Result<(), ScriptKind>
     }
 }
 
-// Reads the lines of the ranges, of which there is one at least.
+// Reads the lines of the ranges, at least one.
 pub fn read_ranges(
     alloc: Global,
     lines: &mut Lines,
     frame: &Frame,
     space: &Space,
 ) -> Result<RangeSpecs, ReadFail>
-    requires small { lines.old.taken + length lines.old.rest.now ≤ 16777216 }
+    requires small { IsShort lines.old }
     requires cap { frame.now.cap ≤ 4096 }
-    ensures ok { IfOk result (λ specs. reads_left (AtRanges frame.now space.now []) lines.old ≡ reads_left (AtSchemes frame.now space.now specs.list []) lines.new) }
+    ensures ok { IfOk result (λ specs.
+        MovesTo (AtRanges frame.now space.now []) lines.old
+            (AtSchemes frame.now space.now specs.list []) lines.new) }
     ensures fault { FaultOf result (reads_left (AtRanges frame.now space.now []) lines.old) }
-    ensures sound { IfOk result (λ specs. checked_ranges space.now frame.now.unit frame.now.cap specs.list ≡ Ok tt) }
+    ensures sound { IfOk result (λ specs.
+        checked_ranges space.now frame.now.unit frame.now.cap specs.list ≡ Ok tt) }
     ensures some { IfOk result (λ specs. 1 ≤ length specs.list) }
     ensures most { IfOk result (λ specs. length specs.list ≤ frame.now.attrs.max) }
-    ensures small { lines.new.taken + length lines.new.rest.now ≤ 16777216 }
+    ensures small { IsShort lines.new }
 {
     let mut specs = RangeSpecs::new(alloc);
     take_range(lines, frame, space, &mut specs)?;
@@ -276,15 +282,19 @@ fn take_range(
     specs: &mut RangeSpecs,
 ) -> Result<(), ReadFail>
     requires wanted { IsWanted (codes "range") (length specs.old.list) lines.old }
-    requires small { lines.old.taken + length lines.old.rest.now ≤ 16777216 }
+    requires small { IsShort lines.old }
     requires cap { frame.now.cap ≤ 4096 }
     requires sound { checked_ranges space.now frame.now.unit frame.now.cap specs.old.list ≡ Ok tt }
-    ensures ok { OnOk result (reads_left (AtRanges frame.now space.now specs.old.list) lines.old ≡ reads_left (AtRanges frame.now space.now specs.new.list) lines.new) }
-    ensures fault { FaultOf result (reads_left (AtRanges frame.now space.now specs.old.list) lines.old) }
-    ensures sound { OnOk result (checked_ranges space.now frame.now.unit frame.now.cap specs.new.list ≡ Ok tt) }
+    ensures ok { OnOk result (
+        MovesTo (AtRanges frame.now space.now specs.old.list) lines.old
+            (AtRanges frame.now space.now specs.new.list) lines.new) }
+    ensures fault {
+        FaultOf result (reads_left (AtRanges frame.now space.now specs.old.list) lines.old) }
+    ensures sound { OnOk result (
+        checked_ranges space.now frame.now.unit frame.now.cap specs.new.list ≡ Ok tt) }
     ensures some { OnOk result (1 ≤ length specs.new.list) }
     ensures most { OnOk result (length specs.new.list ≤ frame.now.attrs.max) }
-    ensures small { lines.new.taken + length lines.new.rest.now ≤ 16777216 }
+    ensures small { IsShort lines.new }
     ensures shorter { OnOk result (length lines.new.rest.now < length lines.old.rest.now) }
 {
     next_decides();
@@ -295,7 +305,7 @@ fn take_range(
     Ok(())
 }
 
-// Reads the lines of the schemes, and the line `begin` behind them.
+// Reads the lines of the schemes, and the line `begin` after them.
 pub fn read_slots(
     alloc: Global,
     lines: &mut Lines,
@@ -303,13 +313,16 @@ pub fn read_slots(
     space: &Space,
     specs: &RangeSpecs,
 ) -> Result<SlotChanges, ReadFail>
-    requires small { lines.old.taken + length lines.old.rest.now ≤ 16777216 }
-    ensures ok { IfOk result (λ slots. reads_left (AtSchemes frame.now space.now specs.now.list []) lines.old ≡ reads_left (InBody (opened frame.now space.now specs.now.list slots.list)) lines.new) }
-    ensures fault { FaultOf result (reads_left (AtSchemes frame.now space.now specs.now.list []) lines.old) }
+    requires small { IsShort lines.old }
+    ensures ok { IfOk result (λ slots.
+        MovesTo (AtSchemes frame.now space.now specs.now.list []) lines.old
+            (InBody (opened frame.now space.now specs.now.list slots.list)) lines.new) }
+    ensures fault {
+        FaultOf result (reads_left (AtSchemes frame.now space.now specs.now.list []) lines.old) }
     ensures sound { IfOk result (λ slots. checked_slots slots.list ≡ Ok tt) }
     ensures set { IfOk result (λ slots. kept_slots slots.list ≡ slots.list) }
-    ensures few { IfOk result (λ slots. length slots.list ≤ 16777216) }
-    ensures small { lines.new.taken + length lines.new.rest.now ≤ 16777216 }
+    ensures few { IfOk result (λ slots. length slots.list ≤ MAX_BYTES) }
+    ensures small { IsShort lines.new }
 {
     slots_are_checked_in_turn();
     let mut slots = SlotChanges::new(alloc);

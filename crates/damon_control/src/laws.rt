@@ -9,14 +9,18 @@ ghost use Rattle.damon_control.specs.Head.{attrs_line, cap_line, one_target, ran
 ghost use Rattle.damon_control.specs.Keys.{setting_of};
 ghost use Rattle.damon_control.specs.Laws.{NamesActions, ReadsOnly, ReadsOnlyCommands, ReadsOnlyParts, ReadsOnlySchemes, WordLaws};
 ghost use Rattle.damon_control.specs.ReadBack.{LinesReadBack};
+ghost use Rattle.damon_control.specs.Sound.{ScriptsAreSound};
 ghost use Rattle.damon_control.specs.Spelling.{attrs_words, range_words, spelled_attrs, spelled_cap, spelled_range, spelled_seed, spelled_setting, spelled_target, spelled_unit};
-ghost use Rattle.damon_control.specs.Text.{ReadsOnlyTexts};
+ghost use Rattle.damon_control.specs.Text.{TextsAreRead};
 
+use damon_types::pages_rise;
 use line_text::{
     address_is_spelled, decimal_has_digits, decimal_is_read, number_is_decimal, parts_are_pieces,
     pieces_are_parts, spelled_address_has_digits, spelled_address_is_read,
     stripped_front_was_first,
 };
+use live_commit::slots_are_checked_in_turn;
+use target_ranges::{fault_stays, made_in_order, next_decides};
 
 // The laws of `line_text` on words, numbers and addresses, in one record.
 fn words_have_laws()
@@ -84,11 +88,25 @@ pub fn spelled_lines_are_read()
     words_have_laws();
 }
 
-/// A text that is accepted as a script is the lines of this script, each with its LF and nothing
-/// after the last: the header, the lines of the setup, one for each scheme, `begin`, those of each
-/// command in order, and `end`.
-pub fn texts_are_spelled()
-    ensures texts { ReadsOnlyTexts }
+/// A text is read as a script exactly where it says it, line by line, each within its limits: the
+/// header, the lines of the setup, one for each scheme, `begin`, those of each command in order, and
+/// `end`, each with its LF and nothing after the last.
+pub fn texts_are_exactly_read()
+    ensures texts { TextsAreRead }
 {
     words_have_laws();
+    spelled_lines_are_read();
+    next_decides();
+    fault_stays();
+    slots_are_checked_in_turn();
+}
+
+/// A script that a text is read as is within its limits: those of a setup, whose ranges are in
+/// order, of each command, whose pages are those of the targets, and of the work in all.
+pub fn scripts_are_sound()
+    ensures sound { ScriptsAreSound }
+{
+    texts_are_exactly_read();
+    made_in_order();
+    pages_rise();
 }

@@ -29,8 +29,8 @@ mod words;
 
 pub use fault::{ReadFail, ScriptFault, ScriptKind};
 pub use laws::{
-    body_lines_are_spelled, fields_are_spelled, schemes_are_spelled, setup_lines_are_spelled,
-    spelled_lines_are_read, texts_are_spelled,
+    body_lines_are_spelled, fields_are_spelled, schemes_are_spelled, scripts_are_sound,
+    setup_lines_are_spelled, spelled_lines_are_read, texts_are_exactly_read,
 };
-pub use reader::read_script;
-pub use script::{Command, Commands, Script};
+pub use reader::{MAX_BYTES, read_script};
+pub use script::{Command, Commands, MAX_STEPS, MAX_WORK, Script};

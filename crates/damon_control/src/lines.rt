@@ -1,9 +1,9 @@
 ghost use Rattle.std.specs.Prelude.{ℕ, List, ◌≡◌, ◌+◌, ◌<◌, ◌≤◌, length, IfOk, IfErr, OnOk, Ok, Err};
-ghost use Rattle.damon_control.specs.Left.{IsOpen, first_begins, reads_behind, reads_left};
+ghost use Rattle.damon_control.specs.Left.{IsOpen, IsShort, first_begins, reads_behind, reads_left};
 ghost use Rattle.damon_control.specs.Script.{AtEnd, Place, ScriptValue, at};
 ghost use Rattle.damon_control.specs.Words.{begins_with};
 
-use crate::words::begins_with;
+use crate::words::{first_word, same_word};
 use crate::{ScriptFault, ScriptKind};
 use line_text::split_front;
 
@@ -31,13 +31,16 @@ impl<'a> Lines<'a> {
     // Takes the next line, without its LF.
     #[tactic(auto, using(crate::proofs::PartLemmas::reads_line, crate::proofs::PartLemmas::begins_lines_parts))]
     pub fn take_line(&mut self) -> Result<&'a [u8], ScriptFault>
-        requires { self.old.taken + length self.old.rest.now ≤ 16777216 }
-        ensures line { IfOk result (λ line. (place : Place) → reads_left place self.old ≡ reads_behind place line.now self.new) }
-        ensures cut { IfErr result (λ fault. (place : Place) → IsOpen place → reads_left place self.old ≡ Err fault) }
-        ensures first { IfOk result (λ line. (word : List ℕ) → first_begins word self.old.rest.now ≡ begins_with word line.now) }
+        requires { IsShort self.old }
+        ensures line { IfOk result (λ line. (place : Place) →
+            reads_left place self.old ≡ reads_behind place line.now self.new) }
+        ensures cut { IfErr result (λ fault. (place : Place) → IsOpen place
+            → reads_left place self.old ≡ Err fault) }
+        ensures first { IfOk result (λ line. (word : List ℕ) →
+            first_begins word self.old.rest.now ≡ begins_with word line.now) }
         ensures taken { IfOk result (λ _. self.new.taken ≡ self.old.taken + 1) }
         ensures shorter { IfOk result (λ _. length self.new.rest.now < length self.old.rest.now) }
-        ensures small { self.new.taken + length self.new.rest.now ≤ 16777216 }
+        ensures small { IsShort self.new }
     {
         match split_front(self.rest, b'\n') {
             (line, Some(rest)) => {
@@ -52,7 +55,7 @@ impl<'a> Lines<'a> {
         }
     }
 
-    // The refusal of the line that was taken last, as the fault of the text.
+    // Turns the rejection of the line that was taken last into the fault of the text.
     pub fn refuse<T>(&self, said: Result<T, ScriptKind>) -> Result<T, ScriptFault>
         ensures { result ≡ at self.now.taken said }
     {
@@ -71,17 +74,18 @@ impl<'a> Lines<'a> {
         ensures { result ≡ first_begins word.now self.now.rest.now }
     {
         match split_front(self.rest, b'\n') {
-            (line, Some(_)) => begins_with(word, line),
+            (line, Some(_)) => same_word(first_word(line), word),
             (_, None) => false,
         }
     }
 
-    // Sees that nothing is left.
+    // Checks that nothing is left.
     #[tactic(auto, using(crate::proofs::PartLemmas::reads_after))]
     pub fn end(&self) -> Result<(), ScriptFault>
-        requires { self.now.taken + length self.now.rest.now ≤ 16777216 }
+        requires { IsShort self.now }
         ensures ok { OnOk result ((s : ScriptValue) → reads_left (AtEnd s) self.now ≡ Ok s) }
-        ensures fault { IfErr result (λ fault. (s : ScriptValue) → reads_left (AtEnd s) self.now ≡ Err fault) }
+        ensures fault { IfErr result (λ fault. (s : ScriptValue) →
+            reads_left (AtEnd s) self.now ≡ Err fault) }
     {
         if self.rest.is_empty() {
             Ok(())

@@ -6,28 +6,38 @@ ghost use Rattle.live_commit.specs.Slots.{checked_slots, kept_slots};
 ghost use Rattle.damon_control.specs.declared.fault.ReadFail.TheVariants.{Memory};
 ghost use Rattle.damon_control.specs.Command.{command_value, work_of};
 ghost use Rattle.damon_control.specs.Head.{setup_said};
-ghost use Rattle.damon_control.specs.Left.{FaultOf, reads_left};
-ghost use Rattle.damon_control.specs.Limits.{AreLimits, IsWithin};
+ghost use Rattle.damon_control.specs.Left.{FaultOf, IsShort, MovesTo, reads_left};
+ghost use Rattle.damon_control.specs.Limits.{AreLimits, EachIsWithin};
 ghost use Rattle.damon_control.specs.Script.{AtHeader, InBody, begun, script_of};
 ghost use Rattle.damon_control.specs.ScriptView.{said_by};
 
 use crate::body::read_body;
 use crate::head::{Frame, read_frame, read_ranges, read_slots, read_targets};
 use crate::lines::Lines;
+use crate::script::MAX_WORK;
 use crate::{ReadFail, Script};
 use damon_types::{RangeSpecs, SlotChanges, Space, Target};
 use live_commit::Setup;
 use std::alloc::Global;
 
-/// Reads a script of at most 16,777,216 bytes. The fault of a text that is none is its first line
-/// that is refused, with the first kind that applies to it. Takes memory, and answers `Memory` only
-/// where it ran out.
+/// The most bytes of a text that is read as a script.
+pub const MAX_BYTES: usize = 16_777_216;
+
+/// Reads a script of at most [`MAX_BYTES`] bytes. For any other text, returns the first line that is
+/// rejected and the first kind that applies to it. By the law [`texts_are_exactly_read`] a text is a
+/// script exactly where it says one, line by line; by [`scripts_are_sound`] its script is within its
+/// limits. Allocates; returns `Memory` only if out of memory.
+///
+/// [`texts_are_exactly_read`]: crate::texts_are_exactly_read
+/// [`scripts_are_sound`]: crate::scripts_are_sound
 pub fn read_script(alloc: Global, text: &[u8]) -> Result<Script, ReadFail>
-    requires { length text.now ≤ 16777216 }
+    requires { length text.now ≤ MAX_BYTES }
     ensures script { IfOk result (λ s. script_of text.now ≡ Ok (said_by s)) }
     ensures fault { FaultOf result (script_of text.now) }
-    ensures within { IfOk result (λ s. All (IsWithin (pages_of s.setup.space)) s.commands.list) }
-    ensures work { IfOk result (λ s. work_of s.setup.cap (map command_value s.commands.list) ≤ 16777216) }
+    ensures within { IfOk result (λ s.
+        EachIsWithin (pages_of s.setup.space) s.commands.list) }
+    ensures work { IfOk result (λ s.
+        work_of s.setup.cap (map command_value s.commands.list) ≤ MAX_WORK) }
 {
     let mut lines = Lines::new(text);
     let Opening { seed, setup } = read_opening(alloc, &mut lines)?;
@@ -49,10 +59,11 @@ struct Opening {
 
 // Reads the lines up to `begin`.
 fn read_opening(alloc: Global, lines: &mut Lines) -> Result<Opening, ReadFail>
-    requires { lines.old.taken + length lines.old.rest.now ≤ 16777216 }
-    ensures ok { IfOk result (λ o. reads_left AtHeader lines.old ≡ reads_left (InBody (begun o.seed (value_of o.setup))) lines.new) }
+    requires { IsShort lines.old }
+    ensures ok { IfOk result (λ o.
+        MovesTo AtHeader lines.old (InBody (begun o.seed (value_of o.setup))) lines.new) }
     ensures fault { FaultOf result (reads_left AtHeader lines.old) }
-    ensures small { lines.new.taken + length lines.new.rest.now ≤ 16777216 }
+    ensures small { IsShort lines.new }
 {
     let frame = read_frame(lines)?;
     let targets = read_targets(alloc, lines, &frame)?;
@@ -66,7 +77,7 @@ fn read_opening(alloc: Global, lines: &mut Lines) -> Result<Opening, ReadFail>
     })
 }
 
-// The space of targets that make one.
+// The space of targets that are accepted.
 fn make_space(alloc: Global, targets: &[Target]) -> Result<Space, ReadFail>
     requires sound { checked targets.now ≡ Ok tt }
     requires few { length targets.now < 2 ^ 32 }
@@ -75,12 +86,12 @@ fn make_space(alloc: Global, targets: &[Target]) -> Result<Space, ReadFail>
 {
     match Space::new(alloc, targets) {
         Ok(space) => Ok(space),
-        // The targets have no fault, so memory ran out.
+        // The targets are accepted, so memory ran out.
         Err(_) => Err(ReadFail::Memory),
     }
 }
 
-// The setup of lines that were accepted.
+// The setup that accepted lines say.
 fn make_setup(
     alloc: Global,
     frame: &Frame,
@@ -94,7 +105,8 @@ fn make_setup(
     requires most { length specs.now.list ≤ frame.now.attrs.max }
     requires slots { checked_slots slots.now.list ≡ Ok tt }
     requires set { kept_slots slots.now.list ≡ slots.now.list }
-    ensures setup { IfOk result (λ s. value_of s ≡ setup_said frame.now space specs.now.list slots.now.list) }
+    ensures setup { IfOk result (λ s.
+        value_of s ≡ setup_said frame.now space specs.now.list slots.now.list) }
     ensures memory { IfErr result (λ fail. fail ≡ Memory) }
 {
     // Both lists have fewer than 2^32 items.
@@ -110,7 +122,7 @@ fn make_setup(
     );
     match made {
         Ok(setup) => Ok(setup),
-        // The lines have no fault, so memory ran out.
+        // The lines are accepted, so memory ran out.
         Err(_) => Err(ReadFail::Memory),
     }
 }

@@ -36,7 +36,7 @@ fn text_with(alloc: Global, changed: usize, other: &[u8]) -> Result<Vec<u8>, All
 
 // The fault of a text; None where it is a script.
 fn fault_of(rt: &(impl Abort + AllocGlobal), text: &[u8]) -> Option<(u64, ScriptKind)> {
-    assert!(rt; text.len() <= 16_777_216);
+    assert!(rt; text.len() <= MAX_BYTES);
     match read_script(rt.alloc(), text) {
         Ok(_) => None,
         Err(ReadFail::Script { fault }) => Some((fault.line, fault.kind)),
@@ -44,7 +44,7 @@ fn fault_of(rt: &(impl Abort + AllocGlobal), text: &[u8]) -> Option<(u64, Script
     }
 }
 
-// Sees that the script with other lines in place of one has this fault, at that line or another.
+// Checks that the script with other lines in place of one has this fault, at that line or another.
 fn expect_faults(
     rt: &(impl Abort + AllocGlobal),
     cases: &[(usize, &[u8], u64, ScriptKind)],
@@ -262,7 +262,7 @@ fn arms_are_work(rt: HostRuntime) -> Result<(), Fail> {
 
 // Reads a text that is a script.
 fn script_of(rt: &(impl Abort + AllocGlobal), text: &[u8]) -> Script {
-    assert!(rt; text.len() <= 16_777_216);
+    assert!(rt; text.len() <= MAX_BYTES);
     match read_script(rt.alloc(), text) {
         Ok(script) => script,
         Err(fail) => panic!(rt; "{fail:?}"),
@@ -326,11 +326,27 @@ fn the_highest_page_can_be_watched(rt: HostRuntime) -> Result<(), Fail> {
 }
 
 #[test]
-fn laws_are_called() {
-    fields_are_spelled();
-    setup_lines_are_spelled();
-    schemes_are_spelled();
-    body_lines_are_spelled();
-    spelled_lines_are_read();
-    texts_are_spelled();
+fn a_fault_is_printed_with_its_reason(rt: HostRuntime) -> Result<(), Fail> {
+    let why = AttrsFault::MinTooSmall { min: 2 };
+    let attrs = ScriptFault {
+        line: 5,
+        kind: ScriptKind::Attrs { why },
+    };
+    let text = format!(in rt.alloc(); "{attrs}")?;
+    assert_eq!(rt; text.as_str(), "line 5: bad attrs (MinTooSmall { min: 2 })");
+    let range = ScriptFault {
+        line: 7,
+        kind: ScriptKind::Range {
+            why: RangeWhy::Overlap,
+        },
+    };
+    let text = format!(in rt.alloc(); "{range}")?;
+    assert_eq!(rt; text.as_str(), "line 7: bad range (Overlap)");
+    let end = ScriptFault {
+        line: 14,
+        kind: ScriptKind::After,
+    };
+    let text = format!(in rt.alloc(); "{end}")?;
+    assert_eq!(rt; text.as_str(), "line 14: text after end");
+    Ok(())
 }

@@ -1,8 +1,8 @@
-ghost use Rattle.std.specs.Prelude.{◌≡◌, ◌^◌, ◌-◌};
+ghost use Rattle.std.specs.Prelude.{◌≡◌, ℕ, ◌^◌, ◌-◌, List};
 ghost use Rattle.std.specs.Option.{ok_or};
 ghost use Rattle.line_text.specs.Parts.{one_of, two_of, three_of, four_of};
 ghost use Rattle.damon_control.specs.declared.fault.ScriptKind.TheVariants.{Form};
-ghost use Rattle.damon_control.specs.Views.{view_left, view_one, view_two, view_three, view_four};
+ghost use Rattle.damon_control.specs.Views.{shown_words, shown_one, shown_two, shown_three, shown_four};
 ghost use Rattle.damon_control.specs.Words.{alone, arguments, begins_with, byte_address, number_8, number_16, number_32, number_64, same_word, words_in};
 
 use crate::ScriptKind;
@@ -21,17 +21,17 @@ pub fn same_word(word: &[u8], text: &[u8]) -> bool
     word == text
 }
 
-// Whether the first word of a line, up to a space or the line's end, is this one.
-pub fn begins_with(word: &[u8], line: &[u8]) -> bool
-    ensures { result ≡ begins_with word.now line.now }
+// The first word of a line, up to a space or the line's end.
+pub fn first_word(line: &[u8]) -> &[u8]
+    ensures { (word : List ℕ) → begins_with word line.now ≡ same_word result.now word }
 {
     let (first, _rest) = split_front(line, b' ');
-    same_word(first, word)
+    first
 }
 
 // The words behind the first, of a well-formed line that begins with this one.
 pub fn arguments<'a>(word: &[u8], line: &'a [u8]) -> Result<Words<'a>, ScriptKind>
-    ensures { view_left result ≡ arguments word.now line.now }
+    ensures { shown_words result ≡ arguments word.now line.now }
 {
     let (first, rest) = split_front(line, b' ');
     if !same_word(first, word) {
@@ -57,7 +57,7 @@ pub fn alone(word: &[u8], line: &[u8]) -> Result<(), ScriptKind>
 // The one word that there is.
 #[tactic(auto, using(crate::proofs::PartLemmas::one_of_parts))]
 pub fn one_word<'a>(words: Words<'a>) -> Result<&'a [u8], ScriptKind>
-    ensures { view_one result ≡ ok_or (one_of (words_in words.entry)) Form }
+    ensures { shown_one result ≡ ok_or (one_of (words_in words.entry)) Form }
 {
     match words.map(|text| split_front(text, b' ')) {
         Some((word, None)) => Ok(word),
@@ -67,14 +67,14 @@ pub fn one_word<'a>(words: Words<'a>) -> Result<&'a [u8], ScriptKind>
 
 // The two words that there are.
 pub fn two_words<'a>(words: Words<'a>) -> Result<(&'a [u8], &'a [u8]), ScriptKind>
-    ensures { view_two result ≡ ok_or (two_of (words_in words.entry)) Form }
+    ensures { shown_two result ≡ ok_or (two_of (words_in words.entry)) Form }
 {
     two_parts(words.ok_or(ScriptKind::Form)?, b' ').ok_or(ScriptKind::Form)
 }
 
 // The three words that there are.
 pub fn three_words<'a>(words: Words<'a>) -> Result<(&'a [u8], &'a [u8], &'a [u8]), ScriptKind>
-    ensures { view_three result ≡ ok_or (three_of (words_in words.entry)) Form }
+    ensures { shown_three result ≡ ok_or (three_of (words_in words.entry)) Form }
 {
     three_parts(words.ok_or(ScriptKind::Form)?, b' ').ok_or(ScriptKind::Form)
 }
@@ -83,7 +83,7 @@ pub fn three_words<'a>(words: Words<'a>) -> Result<(&'a [u8], &'a [u8], &'a [u8]
 pub fn four_words<'a>(
     words: Words<'a>,
 ) -> Result<(&'a [u8], &'a [u8], &'a [u8], &'a [u8]), ScriptKind>
-    ensures { view_four result ≡ ok_or (four_of (words_in words.entry)) Form }
+    ensures { shown_four result ≡ ok_or (four_of (words_in words.entry)) Form }
 {
     four_parts(words.ok_or(ScriptKind::Form)?, b' ').ok_or(ScriptKind::Form)
 }

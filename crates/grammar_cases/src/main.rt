@@ -3,12 +3,10 @@
 //! as `%XX`.
 #![tactic(auto)]
 
-use damon_control::{ReadFail, read_script};
+use damon_control::{MAX_BYTES, ReadFail, read_script};
 use line_text::next_word;
 use percent_encoding::percent_decode;
 use std::io;
-
-const MOST_BYTES: usize = 16_777_216;
 
 fn main(rt: HostRuntime) -> io::Result<()> {
     for line in rt.lines(rt.alloc()) {
@@ -25,7 +23,7 @@ fn say<R: AllocGlobal + Print>(rt: &R, name: &[u8], text: &[u8]) -> io::Result<(
     let name = str::from_utf8(name).unwrap_or("?");
     let mut bytes = Vec::new(rt.alloc());
     percent_decode(text).append_to(&mut bytes)?;
-    if bytes.len() > MOST_BYTES {
+    if bytes.len() > MAX_BYTES {
         return println!(rt; "{name} is too long");
     }
     match read_script(rt.alloc(), &bytes) {

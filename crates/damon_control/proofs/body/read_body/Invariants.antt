@@ -1,21 +1,23 @@
-use Rattle.std.proofs.Common.{◌≡◌, ℕ, ◌≤◌, ◌+◌, All, length, map}
+use Rattle.std.proofs.Common.{◌≡◌, ℕ, ◌≤◌, length, map}
 use Rattle.damon_types.specs.Space.{pages_of}
 use Rattle.live_commit.specs.SetupView.{value_of}
+use Rattle.damon_control.specs.declared.script.TheConstants.{MAX_WORK}
 use Rattle.damon_control.specs.Command.{command_value, work_of}
-use Rattle.damon_control.specs.Limits.{IsWithin}
-use Rattle.damon_control.specs.Left.{reads_left}
+use Rattle.damon_control.specs.BodyLine.{body_at}
+use Rattle.damon_control.specs.Limits.{EachIsWithin}
+use Rattle.damon_control.specs.Left.{IsShort, reads_left}
 use Rattle.damon_control.specs.Script.{InBody, begun}
 use Rattle.damon_control.proofs.body.read_body.Given as goal
 
 abbrev pub invariant-lines : goal.invariant-lines
 invariant-lines l = record {
   said : (seed : ℕ) → reads_left (InBody (begun seed (value_of l.setup))) l.fn.lines
-      ≡ reads_left (InBody (record { said = record { seed = seed; setup = value_of l.setup; commands = map command_value l.commands.list }; work = l.work })) l.lines;
-  within : All (IsWithin (pages_of l.setup.space)) l.commands.list;
+      ≡ reads_left (InBody (body_at seed (value_of l.setup) l.commands.list l.work)) l.lines;
+  within : EachIsWithin (pages_of l.setup.space) l.commands.list;
   few : length l.commands.list ≤ l.lines.taken;
   sum : l.work ≡ work_of l.setup.cap (map command_value l.commands.list);
-  most : l.work ≤ 16777216;
-  small : l.lines.taken + length l.lines.rest.now ≤ 16777216;
+  most : l.work ≤ MAX_WORK;
+  small : IsShort l.lines;
 }
 
 abbrev pub decreases-lines : goal.decreases-lines

@@ -1,7 +1,7 @@
 use Rattle.std.proofs.Common.{◌≡◌, ◌≤◌, ◌+◌, IfSome, length}
 use Rattle.live_commit.specs.Commit.{commit_value}
 use Rattle.damon_control.specs.Body.{no_commit}
-use Rattle.damon_control.specs.Left.{reads_left}
+use Rattle.damon_control.specs.Left.{IsShort, reads_left}
 use Rattle.damon_control.specs.Script.{Body, InCommit}
 use Rattle.damon_control.proofs.commit.read_commit.Given as goal
 
@@ -11,7 +11,7 @@ invariant-lines l = record {
   few : IfSome l.commit.ranges (λ r. length r.list ≤ l.lines.taken);
   later : l.fn.lines.taken ≤ l.lines.taken;
   shorter : length l.lines.rest.now ≤ length l.fn.lines.rest.now;
-  small : l.lines.taken + length l.lines.rest.now ≤ 16777216;
+  small : IsShort l.lines;
 }
 
 abbrev pub decreases-lines : goal.decreases-lines

@@ -1,6 +1,6 @@
 use Rattle.std.proofs.Common.{◌≡◌, ◌≤◌, ◌+◌, Ok, [], length}
 use Rattle.target_ranges.specs.Checked.{checked_ranges}
-use Rattle.damon_control.specs.Left.{reads_left}
+use Rattle.damon_control.specs.Left.{IsShort, reads_left}
 use Rattle.damon_control.specs.Script.{AtRanges}
 use Rattle.damon_control.proofs.head.read_ranges.Given as goal
 
@@ -10,7 +10,7 @@ invariant-more l = record {
   sound : checked_ranges l.space l.frame.unit l.frame.cap l.specs.list ≡ Ok tt;
   some : 1 ≤ length l.specs.list;
   most : length l.specs.list ≤ l.frame.attrs.max;
-  small : l.lines.taken + length l.lines.rest.now ≤ 16777216;
+  small : IsShort l.lines;
 }
 
 abbrev pub decreases-more : goal.decreases-more

@@ -1,6 +1,6 @@
 use Rattle.std.proofs.Common.{◌≡◌, ◌≤◌, ◌+◌, Ok, [], length}
 use Rattle.live_commit.specs.Slots.{checked_slots, kept_slots}
-use Rattle.damon_control.specs.Left.{reads_left}
+use Rattle.damon_control.specs.Left.{IsShort, reads_left}
 use Rattle.damon_control.specs.Script.{AtSchemes}
 use Rattle.damon_control.proofs.head.read_slots.Given as goal
 
@@ -10,7 +10,7 @@ invariant-schemes l = record {
   sound : checked_slots l.slots.list ≡ Ok tt;
   set : kept_slots l.slots.list ≡ l.slots.list;
   few : length l.slots.list ≤ l.lines.taken;
-  small : l.lines.taken + length l.lines.rest.now ≤ 16777216;
+  small : IsShort l.lines;
 }
 
 abbrev pub decreases-schemes : goal.decreases-schemes

@@ -1,6 +1,6 @@
 use Rattle.std.proofs.Common.{◌≡◌, ◌≤◌, ◌+◌, Ok, [], length}
 use Rattle.damon_types.specs.Space.{checked}
-use Rattle.damon_control.specs.Left.{reads_left}
+use Rattle.damon_control.specs.Left.{IsShort, reads_left}
 use Rattle.damon_control.specs.Script.{AtTargets}
 use Rattle.damon_control.proofs.head.read_targets.Given as goal
 
@@ -10,7 +10,7 @@ invariant-targets l = record {
   sound : checked l.targets.items ≡ Ok tt;
   some : 1 ≤ length l.targets.items;
   few : length l.targets.items ≤ 64;
-  small : l.lines.taken + length l.lines.rest.now ≤ 16777216;
+  small : IsShort l.lines;
 }
 
 abbrev pub decreases-targets : goal.decreases-targets

@@ -1,0 +1,243 @@
+-- A line that is accepted begins with its word, and no byte of it is an LF.
+use Rattle.std.proofs.Common.{◌≡◌, ◌≢◌, ◌∷◌, [], ◌&&◌, ◌||◌, ◌==◌, ℕ, Bool, true, false, not, nat_le, List, drop, length, codes, Ok, Err, refl, sym, ap, ◌∙◌}
+use Rattle.std.specs.Prelude.{All, Result, if◌then◌else◌, is_none}
+use Rattle.std.specs.Cmp.Lexicographic.{same_text}
+use Rattle.std.specs.List.{AllByRecursion, list_all}
+use Rattle.std.proofs.lemmas.List.Elements.{All-from_recursion}
+use Rattle.damon_types.specs.declared.range.RangeSpec.{RangeSpec}
+use Rattle.damon_types.specs.declared.scheme.SlotChange.{SlotChange}
+use Rattle.damon_types.specs.declared.space.Target.{Target}
+use Rattle.line_text.specs.Parts.{IsPiece, is_plain, is_printable, is_word, parts}
+use Rattle.live_commit.specs.Commit.{CommitValue}
+use Rattle.damon_control.specs.declared.commit.Part.{Part}
+use Rattle.damon_control.specs.declared.commit.Part.TheVariants.{Attrs, Range, Slot, Metric}
+use Rattle.damon_control.specs.declared.fault.ScriptKind.{ScriptKind}
+use Rattle.damon_control.specs.declared.fault.ScriptKind.TheVariants.{Form, Header, Word}
+use Rattle.damon_control.specs.declared.head.Frame.{Frame}
+use Rattle.damon_control.specs.Body.{change_line, command_line, drop_line, no_commit, part_line, step_line, sweep_line, touch_line, wants_attrs, wants_slot, with_part, word_line}
+use Rattle.damon_control.specs.Command.{Arm, CommandValue, Commit, Finish, Show}
+use Rattle.damon_control.specs.Fields.{attrs_in, range_in}
+use Rattle.damon_control.specs.Head.{attrs_line, cap_line, limited, one_target, range_line, scheme_line, seed_line, target_line, unit_line}
+use Rattle.damon_control.specs.Keys.{scheme_in}
+use Rattle.damon_control.specs.Refusal.{◌>>=◌}
+use Rattle.damon_control.specs.Script.{AtAttrs, AtCap, AtEnd, AtHeader, AtRanges, AtSchemes, AtSeed, AtTargets, AtUnit, Body, InBody, InCommit, Place, after_body, after_commit, after_ranges, after_schemes, after_targets, opened, place_after, with_command}
+use Rattle.damon_control.specs.Words.{alone, arguments, begins_with, no_word, number_8, number_32, number_64, one_word, same_word}
+use Rattle.damon_control.proofs.Leads.{leads}
+use Rattle.damon_control.proofs.SpellSteps.{bind-Ok, either_way, only_if-Ok}
+
+-- a well-formed line that begins with this word
+pub record BeginsPlain (word line : List ℕ) : Type 0 where
+  pub begins : begins_with word line ≡ true
+  pub plain : is_plain line ≡ true
+
+-- a line has one first word
+begins_same : (word other line : List ℕ) → begins_with word line ≡ true → begins_with other line ≡ same_word word other
+begins_same word other line e = by (parts 32 line) refl
+  where
+    by : (words : List (List ℕ)) → parts 32 line ≡ words → begins_with other line ≡ same_word word other
+    by [] is =
+        let begins = rw is at e in
+        let same : [] ≡ word = same_text [] word (sym begins) in
+        rw is (ap (λ w. same_word w other) same)
+    by (first ∷ rest) is =
+        let begins = rw is at e in
+        let same : first ≡ word = same_text first word (sym begins) in
+        rw is (ap (λ w. same_word w other) same)
+
+-- a line that begins with one word begins with no other
+pub begins_other : (word other line : List ℕ) → begins_with word line ≡ true → same_word word other ≡ false → begins_with other line ≡ false
+begins_other word other line e differ = begins_same word other line e ∙ differ
+
+pub both_true : (first second : Bool) → (first && second) ≡ true → (first ≡ true) × (second ≡ true)
+both_true true second both = (refl, both)
+both_true false second both = absurd cc
+
+-- a byte that prints is no LF
+prints : (c : ℕ) → is_printable c ≡ true → c ≢ 10
+prints c e is = let below = rw is at e in cc
+
+each_prints : (line : List ℕ) → list_all is_printable line ≡ true → AllByRecursion (λ c. c ≢ 10) line
+each_prints [] e = tt
+each_prints (c ∷ line) e =
+    let both = both_true (is_printable c) (list_all is_printable line) e in
+    (prints c both.0, each_prints line both.1)
+
+-- no byte of a well-formed line is an LF
+pub plain-IsPiece : (line : List ℕ) → is_plain line ≡ true → IsPiece 10 line
+plain-IsPiece line e =
+    All-from_recursion (λ c. c ≢ 10) line (each_prints line (both_true (list_all is_printable line) (list_all is_word (parts 32 line)) e).0)
+
+-- ---- the first word of each line that is accepted
+
+arguments_begin : (word line : List ℕ) (words : List (List ℕ)) → arguments word line ≡ Ok words → BeginsPlain word line
+arguments_begin word line words e = by (begins_with word line) (is_plain line) refl refl e
+  where
+    by : (begins plain : Bool) → begins_with word line ≡ begins → is_plain line ≡ plain
+        → (if not begins then Err Word else if not plain then Err Form else Ok (drop 1 (parts 32 line))) ≡ Ok words → BeginsPlain word line
+    by true true begins plain accepted = record { begins = begins; plain = plain }
+    by true false begins plain accepted = absurd cc
+    by false plain begins is accepted = absurd cc
+
+-- a line of a word and others, which something is read from
+pub words_begin : {A : Type 0} (word line : List ℕ) (read : List (List ℕ) → Result A ScriptKind) (x : A) → (arguments word line >>= read) ≡ Ok x → BeginsPlain word line
+words_begin word line read x e =
+    let words = bind-Ok (arguments word line) read x e in
+    arguments_begin word line words.0 words.1
+
+-- a line of a word and one more
+one_begins : {A : Type 0} (word line : List ℕ) (read : List ℕ → Result A ScriptKind) (x : A) → (arguments word line >>= one_word >>= read) ≡ Ok x → BeginsPlain word line
+one_begins word line read x e =
+    let one = bind-Ok (arguments word line >>= one_word) read x e in
+    words_begin word line one_word one.0 one.1
+
+-- a line of a word and a number within limits
+limited_begins : (word line : List ℕ) (least most n : ℕ) → (arguments word line >>= one_word >>= number_32 >>= limited least most) ≡ Ok n → BeginsPlain word line
+limited_begins word line least most n e =
+    let number = bind-Ok (arguments word line >>= one_word >>= number_32) (limited least most) n e in
+    one_begins word line number_32 number.0 number.1
+
+alone_begins : (word line : List ℕ) (t : Unit {0}) → alone word line ≡ Ok t → BeginsPlain word line
+alone_begins word line t e = words_begin word line no_word t e
+
+pub target_begins : (before : List Target) (line : List ℕ) (t : Target) → target_line before line ≡ Ok t → BeginsPlain (codes "target") line
+target_begins before line t e =
+    let one = bind-Ok (one_target line) _ t e in
+    words_begin (codes "target") line _ one.0 one.1
+
+pub range_begins : (f : Frame) (targets : List Target) (before : List RangeSpec) (line : List ℕ) (r : RangeSpec) → range_line f targets before line ≡ Ok r → BeginsPlain (codes "range") line
+range_begins f targets before line r e = words_begin (codes "range") line _ r e
+
+pub scheme_begins : (before : List SlotChange) (line : List ℕ) (c : SlotChange) → scheme_line before line ≡ Ok c → BeginsPlain (codes "scheme") line
+scheme_begins before line c e = words_begin (codes "scheme") line _ c e
+
+-- a well-formed line that does not begin with these words
+pub record BeginsNeither (first second line : List ℕ) : Type 0 where
+  pub not_first : begins_with first line ≡ false
+  pub not_second : begins_with second line ≡ false
+  pub plain : is_plain line ≡ true
+
+neither : (word first second line : List ℕ) → BeginsPlain word line → same_word word first ≡ false → same_word word second ≡ false → BeginsNeither first second line
+neither word first second line is one two = record {
+  not_first = begins_other word first line is.begins one;
+  not_second = begins_other word second line is.begins two;
+  plain = is.plain;
+}
+
+-- a command neither ends a script nor begins a commit
+pub command_begins : (space : List Target) (line : List ℕ) (c : CommandValue) → command_line space line ≡ Ok c → BeginsNeither (codes "end") (codes "commit") line
+command_begins space line c e =
+    either_way (begins_with (codes "touch") line) _ _ _ (λ read. neither (codes "touch") (codes "end") (codes "commit") line (words_begin (codes "touch") line _ c read) refl refl)
+    (either_way (begins_with (codes "sweep") line) _ _ _ (λ read. neither (codes "sweep") (codes "end") (codes "commit") line (words_begin (codes "sweep") line _ c read) refl refl)
+    (either_way (begins_with (codes "step") line) _ _ _ at_step
+    (either_way (begins_with (codes "arm") line) _ _ _ (at_word (codes "arm") Arm refl refl)
+    (either_way (begins_with (codes "finish") line) _ _ _ (at_word (codes "finish") Finish refl refl)
+    (at_word (codes "show") Show refl refl))))) e
+  where
+    at_step : step_line line ≡ Ok c → BeginsNeither (codes "end") (codes "commit") line
+    at_step read =
+        let times = bind-Ok (arguments (codes "step") line >>= one_word >>= number_32 >>= limited 1 1000000) _ c read in
+        neither (codes "step") (codes "end") (codes "commit") line (limited_begins (codes "step") line 1 1000000 times.0 times.1) refl refl
+
+    at_word : (word : List ℕ) (said : CommandValue) → same_word word (codes "end") ≡ false → same_word word (codes "commit") ≡ false → word_line word said line ≡ Ok c
+        → BeginsNeither (codes "end") (codes "commit") line
+    at_word word said one two read =
+        let only = bind-Ok (alone word line) _ c read in
+        neither word (codes "end") (codes "commit") line (alone_begins word line only.0 only.1) one two
+
+-- a part of a commit does not end it
+pub part_begins : (commit : CommitValue) (line : List ℕ) (part : Part) → part_line commit line ≡ Ok part → BeginsNeither (codes "apply") (codes "apply") line
+part_begins commit line part e =
+    either_way (begins_with (codes "attrs") line && wants_attrs commit) _ _ _ at_attrs
+    (either_way (begins_with (codes "range") line && wants_slot commit) _ _ _ at_range
+    (either_way (begins_with (codes "scheme") line && wants_slot commit) _ _ _ at_scheme
+    (either_way (begins_with (codes "drop") line && wants_slot commit) _ _ _ at_drop
+    (either_way (begins_with (codes "metric") line && is_none commit.metric) _ _ _ at_metric (λ no. absurd cc))))) e
+  where
+    says : (word : List ℕ) → BeginsPlain word line → same_word word (codes "apply") ≡ false → BeginsNeither (codes "apply") (codes "apply") line
+    says word is differs = neither word (codes "apply") (codes "apply") line is differs differs
+
+    at_attrs : (arguments (codes "attrs") line >>= attrs_in >>= λ attrs. Ok (Attrs attrs)) ≡ Ok part → BeginsNeither (codes "apply") (codes "apply") line
+    at_attrs read =
+        let attrs = bind-Ok (arguments (codes "attrs") line >>= attrs_in) _ part read in
+        says (codes "attrs") (words_begin (codes "attrs") line attrs_in attrs.0 attrs.1) refl
+
+    at_range : (arguments (codes "range") line >>= range_in >>= λ range. Ok (Range range)) ≡ Ok part → BeginsNeither (codes "apply") (codes "apply") line
+    at_range read =
+        let range = bind-Ok (arguments (codes "range") line >>= range_in) _ part read in
+        says (codes "range") (words_begin (codes "range") line range_in range.0 range.1) refl
+
+    at_scheme : (change_line line >>= λ change. Ok (Slot change)) ≡ Ok part → BeginsNeither (codes "apply") (codes "apply") line
+    at_scheme read =
+        let change = bind-Ok (change_line line) _ part read in
+        let said = bind-Ok (arguments (codes "scheme") line >>= scheme_in) _ change.0 change.1 in
+        says (codes "scheme") (words_begin (codes "scheme") line scheme_in said.0 said.1) refl
+
+    at_drop : (drop_line line >>= λ change. Ok (Slot change)) ≡ Ok part → BeginsNeither (codes "apply") (codes "apply") line
+    at_drop read =
+        let change = bind-Ok (drop_line line) _ part read in
+        let slot = bind-Ok (arguments (codes "drop") line >>= one_word >>= number_8) _ change.0 change.1 in
+        says (codes "drop") (one_begins (codes "drop") line number_8 slot.0 slot.1) refl
+
+    at_metric : (arguments (codes "metric") line >>= one_word >>= number_32 >>= λ value. Ok (Metric value)) ≡ Ok part → BeginsNeither (codes "apply") (codes "apply") line
+    at_metric read =
+        let value = bind-Ok (arguments (codes "metric") line >>= one_word >>= number_32) _ part read in
+        says (codes "metric") (one_begins (codes "metric") line number_32 value.0 value.1) refl
+
+-- ---- no line that leads on has an LF
+
+read_plain : {A B : Type 0} (r : Result A ScriptKind) (to : A → Result B ScriptKind) (next : B) (line : List ℕ) → ((x : A) → r ≡ Ok x → is_plain line ≡ true) → (r >>= to) ≡ Ok next → is_plain line ≡ true
+read_plain r to next line each e =
+    let said = bind-Ok r to next e in
+    each said.0 said.1
+
+schemes_plain : (f : Frame) (targets : List Target) (specs : List RangeSpec) (slots : List SlotChange) (line : List ℕ) (next : Place) → after_schemes f targets specs slots line ≡ Ok next → is_plain line ≡ true
+schemes_plain f targets specs slots line next e =
+    either_way (begins_with (codes "scheme") line) _ _ _ (read_plain (scheme_line slots line) _ next line (λ c read. (scheme_begins slots line c read).plain))
+    (read_plain (alone (codes "begin") line) _ next line (λ t read. (alone_begins (codes "begin") line t read).plain)) e
+
+ranges_plain : (f : Frame) (targets : List Target) (specs : List RangeSpec) (line : List ℕ) (next : Place) → after_ranges f targets specs line ≡ Ok next → is_plain line ≡ true
+ranges_plain f targets specs line next e =
+    either_way (begins_with (codes "range") line || (length specs == 0)) _ _ _ (read_plain (range_line f targets specs line) _ next line (λ r read. (range_begins f targets specs line r read).plain))
+    (schemes_plain f targets specs [] line next) e
+
+targets_plain : (f : Frame) (targets : List Target) (line : List ℕ) (next : Place) → after_targets f targets line ≡ Ok next → is_plain line ≡ true
+targets_plain f targets line next e =
+    either_way (begins_with (codes "target") line || (length targets == 0)) _ _ _ (read_plain (target_line targets line) _ next line (λ t read. (target_begins targets line t read).plain))
+    (ranges_plain f targets [] line next) e
+
+body_plain : (b : Body) (line : List ℕ) (next : Place) → after_body b line ≡ Ok next → is_plain line ≡ true
+body_plain b line next e =
+    either_way (begins_with (codes "end") line) _ _ _ (read_plain (alone (codes "end") line) _ next line (λ t read. (alone_begins (codes "end") line t read).plain))
+    (either_way (begins_with (codes "commit") line) _ _ _ (read_plain (alone (codes "commit") line) _ next line (λ t read. (alone_begins (codes "commit") line t read).plain))
+    (read_plain (command_line b.said.setup.space line) _ next line (λ c read. (command_begins b.said.setup.space line c read).plain))) e
+
+commit_plain : (b : Body) (commit : CommitValue) (line : List ℕ) (next : Place) → after_commit b commit line ≡ Ok next → is_plain line ≡ true
+commit_plain b commit line next e =
+    either_way (begins_with (codes "apply") line) _ _ _ (read_plain (alone (codes "apply") line) _ next line (λ t read. (alone_begins (codes "apply") line t read).plain))
+    (read_plain (part_line commit line) _ next line (λ part read. (part_begins commit line part read).plain)) e
+
+line-IsPiece : (place : Place) (line : List ℕ) (next : Place) → place_after place line ≡ Ok next → IsPiece 10 line
+line-IsPiece AtHeader line next e =
+    let only = only_if-Ok (same_word line (codes "damon script 1")) Header AtSeed next e in
+    let is : line ≡ codes "damon script 1" = same_text line (codes "damon script 1") (sym only.0) in
+    plain-IsPiece line (ap is_plain is)
+line-IsPiece AtSeed line next e = plain-IsPiece line (read_plain (seed_line line) _ next line (λ n read. (one_begins (codes "seed") line number_64 n read).plain) e)
+line-IsPiece (AtUnit seed) line next e = plain-IsPiece line (read_plain (unit_line line) _ next line (λ n read. (limited_begins (codes "unit") line 1 1048576 n read).plain) e)
+line-IsPiece (AtCap seed unit) line next e = plain-IsPiece line (read_plain (cap_line line) _ next line (λ n read. (limited_begins (codes "cap") line 3 4096 n read).plain) e)
+line-IsPiece (AtAttrs seed unit cap) line next e = plain-IsPiece line (read_plain (attrs_line cap line) _ next line (λ a read. (words_begin (codes "attrs") line _ a read).plain) e)
+line-IsPiece (AtTargets f targets) line next e = plain-IsPiece line (targets_plain f targets line next e)
+line-IsPiece (AtRanges f targets specs) line next e = plain-IsPiece line (ranges_plain f targets specs line next e)
+line-IsPiece (AtSchemes f targets specs slots) line next e = plain-IsPiece line (schemes_plain f targets specs slots line next e)
+line-IsPiece (InBody b) line next e = plain-IsPiece line (body_plain b line next e)
+line-IsPiece (InCommit b commit) line next e = plain-IsPiece line (commit_plain b commit line next e)
+line-IsPiece (AtEnd s) line next e = absurd cc
+
+each_piece : (place : Place) (lines : List (List ℕ)) (last : Place) → leads place lines ≡ Ok last → AllByRecursion (IsPiece 10) lines
+each_piece place [] last e = tt
+each_piece place (line ∷ lines) last e =
+    let next = bind-Ok (place_after place line) (λ p. leads p lines) last e in
+    (line-IsPiece place line next.0 next.1, each_piece next.0 lines last next.2)
+
+-- no line that leads on has an LF
+pub leads-IsPiece : (place : Place) (lines : List (List ℕ)) (last : Place) → leads place lines ≡ Ok last → All (IsPiece 10) lines
+leads-IsPiece place lines last e = All-from_recursion (IsPiece 10) lines (each_piece place lines last e)
