@@ -10,3 +10,4 @@ pub mod Stands
 pub mod Shown
 pub mod Bound
 pub mod Kept
+pub mod InPhase
