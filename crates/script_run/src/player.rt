@@ -22,7 +22,7 @@ use snapshot_print::{Form, print_end, print_show};
 use std::alloc::{AllocError, Global};
 use std::marker::Model;
 
-/// The bytes of text that [`Player::fill`] makes at once: 64 KiB.
+/// The bytes that are made, read or handed over at once: 64 KiB.
 pub const PIECE: usize = 65_536;
 
 /// Where [`Player::fill`] stopped.
