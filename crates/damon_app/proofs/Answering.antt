@@ -1,14 +1,16 @@
--- What the answer of a replay says, failure by failure.
+-- What the status of a replay says, failure by failure.
 use Rattle.std.proofs.Common.{◌≡◌, ◌⊎◌, inl, inr, ℕ, ◌≤◌, true, false, List, ◌++◌, length, Option, Some, None, Result, Ok, Err, refl, sym, ap, ◌∙◌, subst, append-nil}
 use Rattle.std.specs.Prelude.{IsSome, IfSome}
-use Rattle.std.specs.Io.KnownBytes.{Consumes, IsAtEnd}
+use Rattle.std.specs.Io.KnownBytes.{Appends, Consumes, IsAtEnd}
 use Rattle.damon_types.specs.Causes.{Rose}
 use Rattle.damon_control.specs.Script.{ScriptValue, script_of}
 use Rattle.damon_control.specs.declared.fault.ReadFail.{ReadFail}
 use Rattle.damon_control.specs.declared.fault.ReadFail.TheVariants as reads
 use Rattle.damon_control.specs.declared.fault.ScriptFault.{ScriptFault}
 use Rattle.damon_control.specs.declared.fault.ScriptKind.{ScriptKind}
-use Rattle.script_run.specs.Unfold.{has_later_parts}
+use Rattle.snapshot_print.specs.declared.form.Form.TheVariants.{Text}
+use Rattle.script_run.specs.NotBuilt.{comes_to_aggregation, has_later_parts}
+use Rattle.script_run.specs.Report.{written_text}
 use Rattle.damon_app.specs.declared.input.InputFault.{InputFault}
 use Rattle.damon_app.specs.declared.input.InputFault.TheVariants as inputs
 use Rattle.damon_app.specs.declared.status.Status.{Status}
@@ -16,11 +18,11 @@ use Rattle.damon_app.specs.declared.status.Status.TheVariants as statuses
 use Rattle.damon_app.specs.Given.{GaveOver, GaveUpTo}
 use Rattle.damon_app.specs.Taken.{WritesPart}
 use Rattle.damon_app.specs.Causes.{input_status, read_status}
-use Rattle.damon_app.specs.Replay.{EndsRun, Replays, SpellsLater, StopsBefore, WritesFront, report_of}
-use Rattle.damon_app.specs.Deserved.{IsFailure, answer_to, answer_to_spelled}
-use Rattle.damon_app.specs.Answers.{Ends, IsAnswer, TellsFault, TellsLater}
+use Rattle.damon_app.specs.Replay.{Replays, SpellsNotBuilt, TellsFault, TellsLater, WritesPrefix}
+use Rattle.damon_app.specs.StatusOf.{IsFailure, status_of_input, status_of_spelled}
+use Rattle.damon_app.specs.Answers.{Ends, EndsRun, IsAnswer}
 use Rattle.damon_app.proofs.Known.{GaveUpTo-not_over}
-use Rattle.damon_app.proofs.Deserving.{answer_to-long, answer_to-short, answer_to_script-built, answer_to_script-not_built, had_over}
+use Rattle.damon_app.proofs.Statuses.{had_over, status_of_input-long, status_of_input-short, status_of_script-built, status_of_script-not_built}
 
 -- what holds of no bytes in particular
 untold : (P : List ℕ → Type 0) (told : Option (List ℕ)) → ((bytes : List ℕ) → P bytes) → IfSome told P
@@ -38,20 +40,20 @@ same_fault : (f g : ScriptFault) → f.line ≡ g.line → f.kind ≡ g.kind →
 same_fault f g line kind = ap (λ (n : ℕ). record f { line = n }) line ∙ ap (λ (k : ScriptKind). record g { kind = k }) kind
 
 -- the sink was left alone
-alone : (a : Option (List ℕ)) (old new : Option (List ℕ)) (same : Type 0) → same → IfSome a (λ bytes. same ⊎ WritesFront bytes old new)
-alone a old new same is = untold (λ bytes. same ⊎ WritesFront bytes old new) a (λ bytes. inl is)
+alone : (a : Option (List ℕ)) (old new : Option (List ℕ)) (same : Type 0) → same → IfSome a (λ bytes. same ⊎ WritesPrefix bytes old new)
+alone a old new same is = untold (λ bytes. same ⊎ WritesPrefix bytes old new) a (λ bytes. inl is)
 
 module _ (limit : ℕ) (source source' sink sink' : Ends) (same : Type 0) where
-  -- the answer is the one that the bytes deserve, or a failure
-  abbrev Deserves : Status → List ℕ → Type 0
-  Deserves answer bytes = (answer ≡ answer_to limit bytes) ⊎ IsFailure answer (Rose source.faults source'.faults) (Rose sink.faults sink'.faults)
+  -- the status is the one of the bytes, or a failure
+  abbrev HasStatus : Status → List ℕ → Type 0
+  HasStatus status bytes = (status ≡ status_of_input limit bytes) ⊎ IsFailure status (Rose source.faults source'.faults) (Rose sink.faults sink'.faults)
 
   -- a failure is an answer to any bytes
-  failed : (answer : Status) → IsFailure answer (Rose source.faults source'.faults) (Rose sink.faults sink'.faults) → IfSome source.bytes (Deserves answer)
-  failed answer is = untold (Deserves answer) source.bytes (λ bytes. inr is)
+  failed : (status : Status) → IsFailure status (Rose source.faults source'.faults) (Rose sink.faults sink'.faults) → IfSome source.bytes (HasStatus status)
+  failed status is = untold (HasStatus status) source.bytes (λ bytes. inr is)
 
   -- there was no memory, and what the sink took is this
-  no_memory : IfSome source.bytes (λ bytes. same ⊎ WritesFront bytes sink.bytes sink'.bytes) → IsAnswer limit source source' sink sink' same statuses.Memory
+  no_memory : IfSome source.bytes (λ bytes. same ⊎ WritesPrefix bytes sink.bytes sink'.bytes) → IsAnswer limit source source' sink sink' same statuses.Memory
   no_memory part = record {
     ok = λ e. absurd (cc e);
     end = λ no. absurd no;
@@ -64,7 +66,7 @@ module _ (limit : ℕ) (source source' sink sink' : Ends) (same : Type 0) where
     write = λ e. absurd (cc e);
     asked = λ e. absurd (cc e);
     unwritten = λ no. absurd no;
-    front = part;
+    prefix = part;
   }
 
   -- there was no memory before anything was written
@@ -86,12 +88,12 @@ module _ (limit : ℕ) (source source' sink sink' : Ends) (same : Type 0) where
     write = λ e. absurd (cc e);
     asked = λ e. absurd (cc e);
     unwritten = λ yes. is;
-    front = alone source.bytes sink.bytes sink'.bytes same is;
+    prefix = alone source.bytes sink.bytes sink'.bytes same is;
   }
   not_read inputs.TooLong is over within cause = record {
     ok = λ e. absurd (cc e);
     end = λ no. absurd no;
-    complete = had_over limit source.bytes source'.bytes (Deserves statuses.TooLong) (over refl) (λ bytes long. inl (sym (answer_to-long limit bytes long)));
+    complete = had_over limit source.bytes source'.bytes (HasStatus statuses.TooLong) (over refl) (λ bytes long. inl (sym (status_of_input-long limit bytes long)));
     too_long = λ not known. ((λ e. over refl), (λ gave. refl));
     script = λ no. absurd no;
     not_yet = λ e. absurd (cc e);
@@ -100,7 +102,7 @@ module _ (limit : ℕ) (source source' sink sink' : Ends) (same : Type 0) where
     write = λ e. absurd (cc e);
     asked = λ e. absurd (cc e);
     unwritten = λ yes. is;
-    front = alone source.bytes sink.bytes sink'.bytes same is;
+    prefix = alone source.bytes sink.bytes sink'.bytes same is;
   }
 
   -- what is known of an input that was read to its end
@@ -111,16 +113,16 @@ module _ (limit : ℕ) (source source' sink sink' : Ends) (same : Type 0) where
     of_bytes : (P : List ℕ → Type 0) → P bytes → IfSome source.bytes P
     of_bytes P holds = read_whole P source.bytes source'.bytes bytes all end holds
 
-    -- the answer is that to what the text spells
-    deserved : (spelled : Result ScriptValue ScriptFault) (answer : Status) → script_of bytes ≡ spelled → answer_to_spelled spelled ≡ answer → IfSome source.bytes (Deserves answer)
-    deserved spelled answer spells is = of_bytes (Deserves answer) (inl (sym (answer_to-short limit bytes spelled few spells ∙ is)))
+    -- the status is the one of what the text spells
+    has_status : (spelled : Result ScriptValue ScriptFault) (status : Status) → script_of bytes ≡ spelled → status_of_spelled spelled ≡ status → IfSome source.bytes (HasStatus status)
+    has_status spelled status spells is = of_bytes (HasStatus status) (inl (sym (status_of_input-short limit bytes spelled few spells ∙ is)))
 
     -- the text has this fault
     faulty : (fault : ScriptFault) → same → script_of bytes ≡ Err fault → IsAnswer limit source source' sink sink' same (statuses.Script fault.line fault.kind)
     faulty fault is spells = record {
       ok = λ e. absurd (cc e);
       end = λ yes. end;
-      complete = deserved (Err fault) (statuses.Script fault.line fault.kind) spells refl;
+      complete = has_status (Err fault) (statuses.Script fault.line fault.kind) spells refl;
       too_long = λ not known. ((λ e. absurd (cc e)), (λ gave. absurd (not_over known gave)));
       script = λ yes. of_bytes (TellsFault (statuses.Script fault.line fault.kind)) (λ other. (
         (λ e. spells ∙ ap (λ f. Err f) (same_fault fault other (cc e) (cc e))),
@@ -132,7 +134,7 @@ module _ (limit : ℕ) (source source' sink sink' : Ends) (same : Type 0) where
       write = λ e. absurd (cc e);
       asked = λ e. absurd (cc e);
       unwritten = λ yes. is;
-      front = alone source.bytes sink.bytes sink'.bytes same is;
+      prefix = alone source.bytes sink.bytes sink'.bytes same is;
     }
 
     -- the text was not read as a script
@@ -142,56 +144,52 @@ module _ (limit : ℕ) (source source' sink sink' : Ends) (same : Type 0) where
 
     -- the text is this script
     module _ (s : ScriptValue) (spells : script_of bytes ≡ Ok s) where
-      -- the answer is no fault of the text
-      no_fault : (answer : Status) → ((fault : ScriptFault) → answer ≡ statuses.Script fault.line fault.kind → ⊥) → TellsFault answer bytes
-      no_fault answer not fault = ((λ e. absurd (not fault e)), (λ e. absurd (let two : Ok s ≡ Err fault = sym spells ∙ e in cc two)))
+      -- the status is no fault of the text
+      no_fault : (status : Status) → ((fault : ScriptFault) → status ≡ statuses.Script fault.line fault.kind → ⊥) → TellsFault status bytes
+      no_fault status not fault = ((λ e. absurd (not fault e)), (λ e. absurd (let two : Ok s ≡ Err fault = sym spells ∙ e in cc two)))
 
       -- the script has no part that is not built
-      no_later : (answer : Status) → has_later_parts s ≡ false → TellsLater answer bytes
-      no_later answer built t spelt has = absurd (let one : Ok s ≡ Ok t = sym spells ∙ spelt in let equal : s ≡ t = cc one in cc (built, has, equal))
+      no_later : (status : Status) → has_later_parts s ≡ false → TellsLater status bytes
+      no_later status built t spelt has = absurd (let one : Ok s ≡ Ok t = sym spells ∙ spelt in let equal : s ≡ t = cc one in cc (built, has, equal))
 
       -- the script has a part that is not built
       pub not_built : same → has_later_parts s ≡ true → IsAnswer limit source source' sink sink' same statuses.NotYet
       not_built is has = record {
         ok = λ e. absurd (cc e);
         end = λ yes. end;
-        complete = deserved (Ok s) statuses.NotYet spells (answer_to_script-not_built s same sink.bytes sink'.bytes (inl (has, is)));
+        complete = has_status (Ok s) statuses.NotYet spells (status_of_script-not_built s same sink.bytes sink'.bytes (inl (has, is)));
         too_long = λ not known. ((λ e. absurd (cc e)), (λ gave. absurd (not_over known gave)));
         script = λ yes. of_bytes (TellsFault statuses.NotYet) (no_fault statuses.NotYet (λ fault e. cc e));
-        not_yet = λ e. of_bytes (λ bs. SpellsLater bs same sink.bytes sink'.bytes) (s, spells, inl (has, is));
+        not_yet = λ e. of_bytes (λ bs. SpellsNotBuilt bs same sink.bytes sink'.bytes) (s, spells, inl (has, is));
         later = λ yes. of_bytes (TellsLater statuses.NotYet) (λ t spelt has. refl);
         read = λ e. absurd (cc e);
         write = λ e. absurd (cc e);
         asked = λ e. absurd (cc e);
         unwritten = λ no. absurd no;
-        front = alone source.bytes sink.bytes sink'.bytes same is;
+        prefix = alone source.bytes sink.bytes sink'.bytes same is;
       }
 
       -- what the sink took of the report
-      front_of : same ⊎ WritesPart sink.bytes sink'.bytes (report_of s) → IfSome source.bytes (λ bs. same ⊎ WritesFront bs sink.bytes sink'.bytes)
-      front_of part = of_bytes (λ bs. same ⊎ WritesFront bs sink.bytes sink'.bytes) (by part)
-        where
-          by : same ⊎ WritesPart sink.bytes sink'.bytes (report_of s) → same ⊎ WritesFront bytes sink.bytes sink'.bytes
-          by (inl is) = inl is
-          by (inr taken) = inr (s, spells, taken)
+      prefix_of : has_later_parts s ≡ false → WritesPart sink.bytes sink'.bytes (written_text Text s) → IfSome source.bytes (λ bs. same ⊎ WritesPrefix bs sink.bytes sink'.bytes)
+      prefix_of built part = of_bytes (λ bs. same ⊎ WritesPrefix bs sink.bytes sink'.bytes) (inr (s, spells, built, part))
 
       -- the run of the script did not end
-      pub not_run : (answer : Status) → has_later_parts s ≡ false → EndsRun answer → (answer ≡ statuses.NotYet → StopsBefore s sink.bytes sink'.bytes) → (answer ≡ statuses.WriteFault → Rose sink.faults sink'.faults) → same ⊎ WritesPart sink.bytes sink'.bytes (report_of s) → IsAnswer limit source source' sink sink' same answer
-      not_run statuses.NotYet built ends stops cause part = record {
+      pub not_run : (status : Status) → has_later_parts s ≡ false → EndsRun status → (status ≡ statuses.NotYet → comes_to_aggregation s ≡ true) → (status ≡ statuses.NotYet → Appends sink.bytes sink'.bytes (written_text Text s)) → (status ≡ statuses.WriteFault → Rose sink.faults sink'.faults) → WritesPart sink.bytes sink'.bytes (written_text Text s) → IsAnswer limit source source' sink sink' same status
+      not_run statuses.NotYet built ends due up_to cause part = record {
         ok = λ e. absurd (cc e);
         end = λ yes. end;
-        complete = deserved (Ok s) statuses.NotYet spells (answer_to_script-not_built s same sink.bytes sink'.bytes (inr (stops refl)));
+        complete = has_status (Ok s) statuses.NotYet spells (status_of_script-not_built s same sink.bytes sink'.bytes (inr (built, due refl, up_to refl)));
         too_long = λ not known. ((λ e. absurd (cc e)), (λ gave. absurd (not_over known gave)));
         script = λ yes. of_bytes (TellsFault statuses.NotYet) (no_fault statuses.NotYet (λ fault e. cc e));
-        not_yet = λ e. of_bytes (λ bs. SpellsLater bs same sink.bytes sink'.bytes) (s, spells, inr (stops refl));
+        not_yet = λ e. of_bytes (λ bs. SpellsNotBuilt bs same sink.bytes sink'.bytes) (s, spells, inr (built, due refl, up_to refl));
         later = λ yes. of_bytes (TellsLater statuses.NotYet) (λ t spelt has. refl);
         read = λ e. absurd (cc e);
         write = λ e. absurd (cc e);
         asked = λ e. absurd (cc e);
         unwritten = λ no. absurd no;
-        front = front_of part;
+        prefix = prefix_of built part;
       }
-      not_run statuses.WriteFault built ends stops cause part = record {
+      not_run statuses.WriteFault built ends due up_to cause part = record {
         ok = λ e. absurd (cc e);
         end = λ yes. end;
         complete = failed statuses.WriteFault (cause refl);
@@ -203,21 +201,21 @@ module _ (limit : ℕ) (source source' sink sink' : Ends) (same : Type 0) where
         write = λ e. cause refl;
         asked = λ e. absurd (cc e);
         unwritten = λ no. absurd no;
-        front = front_of part;
+        prefix = prefix_of built part;
       }
-      not_run statuses.Memory built ends stops cause part = no_memory (front_of part)
-      not_run statuses.Ok built ends stops cause part = absurd ends
-      not_run statuses.Usage built ends stops cause part = absurd ends
-      not_run (statuses.Script line kind) built ends stops cause part = absurd ends
-      not_run statuses.TooLong built ends stops cause part = absurd ends
-      not_run statuses.ReadFault built ends stops cause part = absurd ends
+      not_run statuses.Memory built ends due up_to cause part = no_memory (prefix_of built part)
+      not_run statuses.Ok built ends due up_to cause part = absurd ends
+      not_run statuses.Usage built ends due up_to cause part = absurd ends
+      not_run (statuses.Script line kind) built ends due up_to cause part = absurd ends
+      not_run statuses.TooLong built ends due up_to cause part = absurd ends
+      not_run statuses.ReadFault built ends due up_to cause part = absurd ends
 
       -- the whole report was written
-      pub replayed : has_later_parts s ≡ false → Replays bytes sink.bytes sink'.bytes → same ⊎ WritesPart sink.bytes sink'.bytes (report_of s) → IsAnswer limit source source' sink sink' same statuses.Ok
+      pub replayed : has_later_parts s ≡ false → Replays bytes sink.bytes sink'.bytes → WritesPart sink.bytes sink'.bytes (written_text Text s) → IsAnswer limit source source' sink sink' same statuses.Ok
       replayed built replays part = record {
         ok = λ e. of_bytes (λ bs. Replays bs sink.bytes sink'.bytes) replays;
         end = λ yes. end;
-        complete = deserved (Ok replays.script) statuses.Ok replays.spells (answer_to_script-built replays.script replays.built replays.whole);
+        complete = has_status (Ok replays.script) statuses.Ok replays.spells (status_of_script-built replays.script replays.built replays.whole);
         too_long = λ not known. ((λ e. absurd (cc e)), (λ gave. absurd (not_over known gave)));
         script = λ yes. of_bytes (TellsFault statuses.Ok) (no_fault statuses.Ok (λ fault e. cc e));
         not_yet = λ e. absurd (cc e);
@@ -226,5 +224,5 @@ module _ (limit : ℕ) (source source' sink sink' : Ends) (same : Type 0) where
         write = λ e. absurd (cc e);
         asked = λ e. absurd (cc e);
         unwritten = λ no. absurd no;
-        front = front_of part;
+        prefix = prefix_of built part;
       }

@@ -5,7 +5,7 @@ use Rattle.std.proofs.KnownBytes.{Consumes-nil, Appends-nil, Appends-trans, Appe
 use Rattle.std.proofs.Math.Seq.{take-length, take-append-add}
 use Rattle.std.proofs.lemmas.List.{take-append-le}
 use Rattle.damon_app.specs.Given.{GaveOver, GaveUpTo}
-use Rattle.damon_app.specs.Taken.{WritesPart, Written}
+use Rattle.damon_app.specs.Taken.{WritesPart}
 
 -- known bytes that went once are as many as those that went
 pub Consumes-length : (a b : Option (List ℕ)) (xs ys : List ℕ) → IsSome a → Consumes a b xs → Consumes a b ys → length xs ≡ length ys
@@ -33,34 +33,24 @@ WritesPart-kept a b text kept = (0, omega arith, Appends-kept a a b [] (Appends-
 pub WritesPart-whole : (a b : Option (List ℕ)) (text : List ℕ) → Appends a b text → WritesPart a b text
 WritesPart-whole a b text all = (length text, omega arith, subst (Appends a b) (sym (take-length text)) all)
 
--- a part of the front
+-- a part of a prefix
 pub WritesPart-longer : (a b : Option (List ℕ)) (text more : List ℕ) → WritesPart a b text → WritesPart a b (text ++ more)
 WritesPart-longer a b text more (n, within, taken) = (n, omega (arith, length-append text more), subst (Appends a b) (sym (take-append-le n text more within)) taken)
 
--- a part after a front
+-- a part after a prefix
 pub WritesPart-after : (a b c : Option (List ℕ)) (front rest : List ℕ) → Appends a b front → WritesPart b c rest → WritesPart a c (front ++ rest)
 WritesPart-after a b c front rest first (n, within, more) = (length front + n, omega (arith, length-append front rest), subst (Appends a c) (sym (take-append-add front rest n)) (Appends-trans a b c front (take n rest) first more))
 
--- ---- a text of which the sink took a front
+-- ---- a text of which the sink took a prefix
 
-pub Written-none : (a : Option (List ℕ)) (text : List ℕ) → Written a text a text
-Written-none a text = ([], Appends-nil a, refl)
-
-pub Written-whole : (a b : Option (List ℕ)) (text : List ℕ) → Appends a b text → Written a text b []
-Written-whole a b text all = (text, all, sym (append-nil text))
+-- the sink took a prefix of a text, and the rest of it is left
+abbrev pub Written : Option (List ℕ) → List ℕ → Option (List ℕ) → List ℕ → Type 0
+Written old old_text new new_text = (taken : List ℕ) × Appends old new taken × (old_text ≡ taken ++ new_text)
 
 -- the sink took more of what was left
 pub Written-then : (a b c : Option (List ℕ)) (text rest last : List ℕ) → Written a text b rest → Written b rest c last → Written a text c last
 Written-then a b c text rest last (front, first, is) (front', second, is') =
     (front ++ front', Appends-trans a b c front front' first second, is ∙ ap (λ zs. front ++ zs) is' ∙ sym (append_assoc front front' last))
-
--- the text grew at its end
-pub Written-longer : (a b : Option (List ℕ)) (text rest more : List ℕ) → Written a text b rest → Written a (text ++ more) b (rest ++ more)
-Written-longer a b text rest more (front, first, is) = (front, first, ap (λ zs. zs ++ more) is ∙ append_assoc front rest more)
-
--- the sink took all that was left
-pub Written-all : (a b c : Option (List ℕ)) (text rest : List ℕ) → Written a text b rest → Appends b c rest → Appends a c text
-Written-all a b c text rest (front, first, is) second = subst (Appends a c) (sym is) (Appends-trans a b c front rest first second)
 
 -- the sink took a part of what was left
 pub Written-part : (a b c : Option (List ℕ)) (text rest : List ℕ) → Written a text b rest → WritesPart b c rest → WritesPart a c text
@@ -71,7 +61,3 @@ pub only_one : {A : Type 0} (xs : List A) (x : A) → 1 ≤ length xs → length
 only_one [] x some few is = absurd (omega arith)
 only_one (y ∷ []) x some few is = cc
 only_one (y ∷ z ∷ ys) x some few is = absurd (omega arith)
-
--- what the sink took so far is a part of the text
-pub Written-so_far : (a b : Option (List ℕ)) (text rest : List ℕ) → Written a text b rest → WritesPart a b text
-Written-so_far a b text rest (front, first, is) = subst (WritesPart a b) (sym is) (WritesPart-longer a b front rest (WritesPart-whole a b front first))

@@ -1,6 +1,6 @@
 pub mod Given
 pub mod Taken
 pub mod Causes
+pub mod StatusOf
 pub mod Replay
-pub mod Deserved
 pub mod Answers

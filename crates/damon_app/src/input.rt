@@ -3,8 +3,8 @@ ghost use Rattle.std.specs.Io.KnownBytes.{Consumes, IsAtEnd};
 ghost use Rattle.damon_types.specs.Causes.{Rose};
 ghost use Rattle.damon_app.specs.Given.{GaveOver, GaveUpTo};
 
-use crate::PIECE;
 use damon_types::{Failed, Source};
+use script_run::PIECE;
 use std::alloc::{AllocError, Global};
 
 /// The most bytes that an input may have.
@@ -13,7 +13,7 @@ pub const INPUT_LIMIT: usize = 16_777_216;
 /// Why an input was not read to its end.
 #[derive(Clone, Copy, Debug, PartialEq, Eq)]
 pub enum InputFault {
-    /// There was no memory for its bytes.
+    /// Memory for its bytes ran out.
     Memory,
     /// A read failed.
     Fault,

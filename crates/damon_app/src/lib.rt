@@ -7,11 +7,11 @@ mod input;
 mod output;
 /// The top call.
 mod replay;
-/// How a run ends.
+/// How a run of the program ended.
 mod status;
 
 pub use input::{INPUT_LIMIT, InputFault, read_all};
-pub use output::{PIECE, flush_if_full, write_all};
+pub use output::write_all;
 pub use replay::replay_main;
 pub use status::Status;
 

@@ -1,12 +1,10 @@
-ghost use Rattle.std.specs.Prelude.{◌≡◌, ◌≤◌, ◌<◌, ◌-◌, ◌≢◌, ◌⊎◌, [], All, length, take, slice_index, vec_len, vec_capacity, IfSome, IfNone, IsOk, OnOk, OnErr};
+ghost use Rattle.std.specs.Prelude.{◌≡◌, ◌≤◌, ◌<◌, ◌-◌, ◌≢◌, ◌⊎◌, [], All, length, take, slice_index, IfSome, IfNone, OnOk};
 ghost use Rattle.std.specs.Io.KnownBytes.{Appends};
 ghost use Rattle.damon_types.specs.Causes.{HasCause};
-ghost use Rattle.damon_app.specs.Taken.{Written, WritesPart};
+ghost use Rattle.damon_app.specs.Taken.{WritesPart};
 
 use damon_types::{Failed, Sink};
-
-/// The bytes that are read or handed over at once: 64 KiB.
-pub const PIECE: usize = 65_536;
+use script_run::PIECE;
 
 /// Hands a text to the sink, until all of it is taken. A text longer than [`PIECE`] goes in pieces
 /// that end at line ends. After a failure the sink is left alone.
@@ -40,8 +38,8 @@ fn write_piece<K: Sink>(sink: &mut K, piece: &[u8]) -> Result<(), Failed>
     Ok(())
 }
 
-// How many bytes of a text are handed over first: whole lines of at most `PIECE` bytes, or all where
-// the text is no longer or has no line end there.
+// How many bytes of a text are handed over first: whole lines of at most `PIECE` bytes together, or
+// all of the text where it is short or has no line end there.
 fn piece_length(text: &[u8]) -> usize
     ensures within { result ≤ length text.now }
     ensures some { 0 < length text.now → 0 < result }
@@ -58,37 +56,11 @@ fn piece_length(text: &[u8]) -> usize
     }
 }
 
-// Where the last LF stands.
+// The index of the last LF.
 fn last_line_feed(bytes: &[u8]) -> Option<usize>
     ensures within { IfSome result (λ last. last < length bytes.now) }
     ensures found { IfSome result (λ last. slice_index bytes.now last ≡ 10) }
     ensures absent { IfNone result (All (λ byte. byte ≢ 10) bytes.now) }
 {
     bytes.iter().rposition(|byte| *byte == b'\n')
-}
-
-/// Hands the text to the sink once it has [`PIECE`] bytes or more, and empties it. A shorter text
-/// and its sink are left alone. After a failure the text is as it was, and the sink is left alone.
-pub fn flush_if_full<K: Sink>(sink: &mut K, text: &mut Vec<u8>) -> Result<(), Failed>
-    // No byte is lost, and none comes twice.
-    ensures kept { OnOk result (Written (K.taken sink.old) text.old.items (K.taken sink.new) text.new.items) }
-    ensures emptied { OnOk result (PIECE ≤ vec_len text.old → text.new.items ≡ []) }
-    ensures capacity { vec_capacity text.new ≡ vec_capacity text.old }
-
-    // A failure.
-    ensures part { OnErr result (WritesPart (K.taken sink.old) (K.taken sink.new) text.old.items) }
-    ensures err { OnErr result (text.new.items ≡ text.old.items) }
-    ensures cause { HasCause (K.faults sink.old) (K.faults sink.new) result }
-
-    // A text that is shorter than a piece.
-    ensures short_ok { vec_len text.old < PIECE → IsOk result }
-    ensures short_text { vec_len text.old < PIECE → text.new.items ≡ text.old.items }
-    ensures short_sink { vec_len text.old < PIECE → sink.new ≡ sink.old }
-{
-    if text.len() < PIECE {
-        return Ok(());
-    }
-    write_all(sink, text)?;
-    text.clear();
-    Ok(())
 }

@@ -2,15 +2,17 @@ use crate::InputFault;
 use damon_control::{ReadFail, ScriptKind};
 use damon_types::Failed;
 use std::alloc::AllocError;
+use std::fmt;
 
-/// How a run of the program ended.
+/// How a run of the program ended. Its text is the line that is written to standard error; that of
+/// [`Status::Ok`] is empty, and no line is written for it.
 #[derive(Clone, Copy, Debug, PartialEq, Eq)]
 pub enum Status {
     /// The input was read to its end, and its report was written.
     Ok,
-    /// The words are none that the program knows.
+    /// The words after the program's name are not `replay` alone.
     Usage,
-    /// The input is no script: its first line that is refused, and why.
+    /// The input is not a script: its first rejected line, and why.
     Script { line: u64, kind: ScriptKind },
     /// The input has more than 16,777,216 bytes.
     TooLong,
@@ -18,11 +20,42 @@ pub enum Status {
     ReadFault,
     /// A write failed.
     WriteFault,
-    /// There was no memory.
+    /// Memory ran out.
     Memory,
     /// The script has a scheme or a commit, or its run comes to an aggregation: these are not built
     /// yet.
     NotYet,
+}
+
+impl Status {
+    /// The number with which the process ends.
+    pub fn number(self) -> u8 {
+        match self {
+            Status::Ok => 0,
+            Status::Usage => 2,
+            Status::Script { .. } => 3,
+            Status::TooLong => 4,
+            Status::ReadFault => 5,
+            Status::WriteFault => 6,
+            Status::Memory => 7,
+            Status::NotYet => 11,
+        }
+    }
+}
+
+impl fmt::Display for Status {
+    fn fmt<W: fmt::Write>(&self, f: &mut fmt::Formatter<W>) -> fmt::Result {
+        match self {
+            Status::Ok => Ok(()),
+            Status::Usage => f.write_str("usage: damon replay"),
+            Status::Script { line, kind } => write!(f, "line {line}: {kind}"),
+            Status::TooLong => f.write_str("input is longer than 16777216 bytes"),
+            Status::ReadFault => f.write_str("reading failed"),
+            Status::WriteFault => f.write_str("writing failed"),
+            Status::Memory => f.write_str("out of memory"),
+            Status::NotYet => f.write_str("not built yet"),
+        }
+    }
 }
 
 impl From<InputFault> for Status {
@@ -74,7 +107,7 @@ impl From<Failed> for Status {
 
     ghost from_gives = { λ _ status. status ≡ WriteFault };
 
-    // The one failure of a stream that is passed on as it is: a read has its own form.
+    // Only writes pass their failure on as it is: a failed read is an `InputFault`.
     fn from(_failed: Failed) -> Status {
         Status::WriteFault
     }

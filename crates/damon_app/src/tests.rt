@@ -2,7 +2,8 @@
 ghost use Rattle.std.specs.Prelude.{◌≤◌};
 
 use crate::fakes::KeptSink;
-use crate::{INPUT_LIMIT, InputFault, flush_if_full, read_all, write_all};
+use crate::{INPUT_LIMIT, InputFault, Status, read_all, write_all};
+use damon_control::ScriptKind;
 use damon_types::{Failed, FaultSink, FaultSource};
 use std::alloc::{AllocError, Global};
 use std::process::Abort;
@@ -121,15 +122,25 @@ fn pieces_end_at_line_ends(rt: HostRuntime) -> Result<(), Fail> {
     Ok(())
 }
 
+// Each status has its number, and each but Ok its line.
 #[test]
-fn a_text_waits_until_it_is_full(rt: HostRuntime) -> Result<(), Fail> {
-    let mut text = lines(rt.alloc(), 655)?;
-    let mut sink = FaultSink::new(rt.alloc(), 100_000, 65_536, &[])?;
-    assert_eq!(rt; flush_if_full(&mut sink, &mut text), Ok(()));
-    assert_eq!(rt; (text.len(), sink.calls()), (65_500, 0));
-
-    text.extend_from_slice(&[b'b'; 36])?;
-    assert_eq!(rt; flush_if_full(&mut sink, &mut text), Ok(()));
-    assert_eq!(rt; (text.len(), sink.bytes().len()), (0, 65_536));
+fn a_status_has_its_number_and_line(rt: HostRuntime) -> Result<(), Fail> {
+    let fault = Status::Script {
+        line: 9,
+        kind: ScriptKind::Number,
+    };
+    for (status, number, line) in [
+        (Status::Ok, 0, ""),
+        (Status::Usage, 2, "usage: damon replay"),
+        (fault, 3, "line 9: bad number"),
+        (Status::TooLong, 4, "input is longer than 16777216 bytes"),
+        (Status::ReadFault, 5, "reading failed"),
+        (Status::WriteFault, 6, "writing failed"),
+        (Status::Memory, 7, "out of memory"),
+        (Status::NotYet, 11, "not built yet"),
+    ] {
+        assert_eq!(rt; status.number(), number);
+        assert_eq!(rt; status.to_string(rt.alloc())?.as_str(), line);
+    }
     Ok(())
 }

@@ -10,3 +10,4 @@ pub mod Makes
 pub mod Stands
 pub mod Bound
 pub mod Kept
+pub mod InPhase

@@ -6,7 +6,7 @@ mod laws;
 /// The object that stands for a state.
 mod monitor;
 
-pub use laws::reached_states_are_bound;
+pub use laws::{reached_states_are_bound, reached_states_are_in_phase};
 pub use monitor::Monitor;
 
 #[cfg(test)]

@@ -1,4 +1,10 @@
-pub mod Steps
+pub mod Parts
 pub mod Unfold
+pub mod NotBuilt
 pub mod Report
-pub mod Played
+pub mod Player
+pub mod Kept
+pub mod Way
+pub mod Sound
+pub mod BoundAlong
+pub mod Reaching

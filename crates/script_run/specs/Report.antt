@@ -1,15 +1,16 @@
--- The report of events.
-use Rattle.std.specs.Prelude.{ℕ, List, [], ◌∷◌, ◌++◌}
+-- The report of a script.
+use Rattle.std.specs.Prelude.{◌≡◌, ℕ, List, [], ◌∷◌, ◌++◌, if◌then◌else◌, refl}
+use Rattle.std.proofs.Common.{◌∙◌, ap, sym, append_assoc}
 use Rattle.damon_core.specs.Totals.{checks_made, hits_made}
-use Rattle.damon_core.specs.State.{Core, State, opening}
-use Rattle.damon_core.specs.Stands.{MonitorView}
+use Rattle.damon_core.specs.State.{State, opening}
 use Rattle.damon_core.specs.Event.{Event, show}
 use Rattle.damon_core.specs.After.{after}
 use Rattle.damon_core.specs.Reached.{run}
 use Rattle.snapshot_print.specs.declared.form.Form.{Form}
 use Rattle.snapshot_print.specs.Lines.{show_text, end_text}
-use Rattle.live_commit.specs.Setup.{SetupValue}
-use Rattle.damon_control.specs.Command.{CommandValue, Show}
+use Rattle.damon_control.specs.Script.{ScriptValue}
+use Rattle.script_run.specs.Unfold.{unfold_script}
+use Rattle.script_run.specs.NotBuilt.{built_events, comes_to_aggregation}
 
 -- what an event writes; the others write nothing
 abbrev pub event_text : Form → State → Event → List ℕ
@@ -21,23 +22,24 @@ abbrev pub text_from : Form → State → List Event → List ℕ
 text_from form s [] = []
 text_from form s (e ∷ es) = event_text form s e ++ text_from form (after s e) es
 
--- what is written at the end of a state
+-- the last line of a report, at the end of a state
 abbrev pub last_text : Form → State → List ℕ
 last_text form s = end_text form s.core (checks_made s.notes) (hits_made s.notes)
 
--- what events write from the opening of a setup on, without a last line
-abbrev pub text_of : Form → SetupValue → List Event → List ℕ
-text_of form setup events = text_from form (opening setup) events
+-- the report of a script: what its events write, and the last line
+abbrev pub report : Form → ScriptValue → List ℕ
+report form s =
+    text_from form (opening s.setup) (unfold_script s) ++ last_text form (run (opening s.setup) (unfold_script s))
 
--- the report of events from the opening of a setup
-abbrev pub report : Form → SetupValue → List Event → List ℕ
-report form setup events = text_of form setup events ++ last_text form (run (opening setup) events)
+-- What the run of a script writes: its report, or where it comes to an aggregation the text of the events before.
+abbrev pub written_text : Form → ScriptValue → List ℕ
+written_text form s =
+    if comes_to_aggregation s then text_from form (opening s.setup) (built_events s) else report form s
 
--- what is written at the end, by what the monitor shows
-abbrev pub shown_last : Form → MonitorView → List ℕ
-shown_last form m = end_text form m.core m.checks m.hits
-
--- what a command writes, by what the monitor shows before it
-abbrev pub command_text : Form → Core → CommandValue → List ℕ
-command_text form c Show = show_text form c
-command_text form c _ = []
+-- the text of events and then others
+pub text_from-append : (form : Form) (s : State) (es fs : List Event)
+    → text_from form s (es ++ fs) ≡ text_from form s es ++ text_from form (run s es) fs
+text_from-append form s [] fs = refl
+text_from-append form s (e ∷ es) fs =
+    ap (λ t. event_text form s e ++ t) (text_from-append form (after s e) es fs)
+    ∙ sym (append_assoc (event_text form s e) (text_from form (after s e) es) (text_from form (run (after s e) es) fs))

@@ -1,15 +1,21 @@
 // What holds of the events of each script.
-ghost use Rattle.std.specs.Prelude.{◌≡◌, ◌++◌, List};
-ghost use Rattle.damon_core.specs.State.{opening};
-ghost use Rattle.damon_core.specs.Event.{Event};
-ghost use Rattle.damon_core.specs.Reached.{AllFit, CanOpen, run};
-ghost use Rattle.damon_core.specs.Bound.{Bound};
-ghost use Rattle.damon_control.specs.Script.{ScriptValue};
-ghost use Rattle.script_run.specs.Unfold.{unfold_script};
+ghost use Rattle.script_run.specs.BoundAlong.{ScriptsAreBoundAlong};
+ghost use Rattle.script_run.specs.Reaching.{ReachTheirPhase};
 
-/// Each state that a front of a script's events leads to is bound, where the events fit.
-pub fn script_states_are_bound()
-    ensures { (s : ScriptValue) (front rest : List Event) → CanOpen s.setup → AllFit (opening s.setup) (unfold_script s) → unfold_script s ≡ front ++ rest → Bound (run (opening s.setup) front) }
+/// The events of the script of each text fit from the opening of its setup, up to its first
+/// aggregation, and each state to which a prefix of them leads is bound. No code is run for it.
+pub fn scripts_are_bound_along()
+    ensures { ScriptsAreBoundAlong }
 {
     damon_core::reached_states_are_bound();
+    damon_core::reached_states_are_in_phase();
+}
+
+/// From each state to which fitting events lead, the steps of `arm` lead to where each pick of a pass
+/// is cleared, and those of `finish` to where no pass is under way, or an aggregation is among them:
+/// `2 × cap + 3` steps are enough.
+pub fn passes_reach_their_phase()
+    ensures { ReachTheirPhase }
+{
+    damon_core::reached_states_are_in_phase();
 }

@@ -1,15 +1,17 @@
 //! What a script's commands mean on a world: their events, and the text that they cause.
 #![tactic(auto)]
 
-/// One command played on a world.
-mod command;
-/// What holds of the states of a script.
+/// What holds of the events of each script.
 mod laws;
-/// A script from its opening to its end.
+/// A command as far as it is left to make.
+mod part;
+/// A script that is played piece by piece.
+mod player;
+/// The random words of a script.
+mod random;
+/// What of a script is not built yet.
 mod script;
-/// Steps that stop at a phase.
-mod steps;
 
-pub use command::{Ran, run_command};
-pub use laws::script_states_are_bound;
-pub use script::{finish, has_later_parts, open_world};
+pub use laws::{passes_reach_their_phase, scripts_are_bound_along};
+pub use player::{Filled, PIECE, Player, open_player};
+pub use script::has_later_parts;

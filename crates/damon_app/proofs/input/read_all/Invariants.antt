@@ -1,7 +1,7 @@
 use Rattle.std.proofs.Common.{◌≡◌, ◌≤◌, ◌+◌, ◌-◌, vec_len}
 use Rattle.std.specs.Io.KnownBytes.{Consumes}
 use Rattle.damon_app.specs.declared.input.TheConstants.{INPUT_LIMIT}
-use Rattle.damon_app.specs.declared.output.TheConstants.{PIECE}
+use Rattle.script_run.specs.declared.player.TheConstants.{PIECE}
 use Rattle.damon_app.proofs.input.read_all.Given as goal
 
 abbrev pub invariant-reads : goal.invariant-reads

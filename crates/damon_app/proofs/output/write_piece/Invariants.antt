@@ -1,5 +1,5 @@
 use Rattle.std.proofs.Common.{◌≤◌, length}
-use Rattle.damon_app.specs.Taken.{Written}
+use Rattle.damon_app.proofs.Known.{Written}
 use Rattle.damon_app.proofs.output.write_piece.Given as goal
 
 abbrev pub invariant-writes : goal.invariant-writes

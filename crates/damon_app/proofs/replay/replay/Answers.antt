@@ -3,8 +3,6 @@ use Rattle.std.proofs.lemmas.Result.{err_from_is_err_and}
 use Rattle.damon_control.specs.Script.{script_of}
 use Rattle.damon_control.specs.ScriptView.{said_by}
 use Rattle.damon_app.specs.declared.input.TheConstants.{INPUT_LIMIT}
-use Rattle.damon_app.specs.Replay.{report_of}
-use Rattle.damon_app.proofs.Known.{WritesPart-whole}
 use Rattle.damon_app.proofs.Answering.{not_read, not_spelled, not_built, not_run, replayed}
 use Rattle.damon_app.proofs.replay.replay.Goals as goal
 
@@ -41,7 +39,7 @@ returns-then-has_later_parts g c =
     (record { bytes = g.S.Source.left c.read_all.new.source; faults = g.S.Source.faults c.read_all.new.source })
     (record { bytes = g.K.Sink.taken c.args.sink.now; faults = g.K.Sink.faults c.args.sink.now })
     (record { bytes = g.K.Sink.taken c.args.sink.now; faults = g.K.Sink.faults c.args.sink.now })
-    (c.args.sink.now ≡ c.args.sink.now) c.in_ok-bytes.bytes.items read.all read.end read.limit (said_by c.in_ok-script.script) spells refl (sym c.has_later_parts.ensures.exact ∙ c.if-has_later_parts.true)
+    (c.args.sink.now ≡ c.args.sink.now) c.in_ok-bytes.bytes.items read.all read.end read.limit (said_by c.in_ok-script.script) spells refl (sym c.has_later_parts.ensures ∙ c.if-has_later_parts.true)
 
 pub returns-in_err-write_report : goal.returns-in_err-write_report
 returns-in_err-write_report g c =
@@ -55,8 +53,8 @@ returns-in_err-write_report g c =
     (record { bytes = g.K.Sink.taken c.args.sink.now; faults = g.K.Sink.faults c.args.sink.now })
     (record { bytes = g.K.Sink.taken c.write_report.new.sink; faults = g.K.Sink.faults c.write_report.new.sink })
     (c.write_report.new.sink ≡ c.args.sink.now) c.in_ok-bytes.bytes.items read.all read.end read.limit (said_by c.in_ok-script.script) spells c.in_err-write_report.field-0.0
-    (sym c.has_later_parts.ensures.exact ∙ c.if-has_later_parts.false) failed.answers
-    (λ e. failed.stopped (ap (λ x. Err x) e)) (λ e. failed.cause (ap (λ x. Err x) e)) failed.part)
+    (sym c.has_later_parts.ensures ∙ c.if-has_later_parts.false) failed.answers
+    (λ e. failed.due (ap (λ x. Err x) e)) (λ e. failed.up_to (ap (λ x. Err x) e)) (λ e. failed.cause (ap (λ x. Err x) e)) failed.part)
 
 pub returns : goal.returns
 returns g c =
@@ -64,12 +62,12 @@ returns g c =
     let ran = c.in_ok-write_report.ensures in
     let script = said_by c.in_ok-script.script in
     let spells = ap script_of (sym c.deref.ensures.value) ∙ c.in_ok-script.ensures.script in
-    let built = sym c.has_later_parts.ensures.exact ∙ c.if-has_later_parts.false in
+    let built = sym c.has_later_parts.ensures ∙ c.if-has_later_parts.false in
     replayed INPUT_LIMIT
     (record { bytes = g.S.Source.left c.args.source.now; faults = g.S.Source.faults c.args.source.now })
     (record { bytes = g.S.Source.left c.read_all.new.source; faults = g.S.Source.faults c.read_all.new.source })
     (record { bytes = g.K.Sink.taken c.args.sink.now; faults = g.K.Sink.faults c.args.sink.now })
     (record { bytes = g.K.Sink.taken c.write_report.new.sink; faults = g.K.Sink.faults c.write_report.new.sink })
     (c.write_report.new.sink ≡ c.args.sink.now) c.in_ok-bytes.bytes.items read.all read.end read.limit script spells built
-    (record { script = script; spells = spells; built = built; whole = ran.whole; along = ran.along; report = ran.all })
-    (inr (WritesPart-whole (g.K.Sink.taken c.args.sink.now) (g.K.Sink.taken c.write_report.new.sink) (report_of script) ran.all))
+    (record { script = script; spells = spells; built = built; whole = ran.whole; report = ran.all })
+    ran.part

@@ -1,0 +1,28 @@
+-- The status that an input has, and the failures that may come in its place.
+use Rattle.std.specs.Prelude.{ℕ, ◌||◌, nat_lt, if◌then◌else◌, List, length, Result, Ok, Err}
+use Rattle.damon_control.specs.Script.{ScriptValue, script_of}
+use Rattle.damon_control.specs.declared.fault.ScriptFault.{ScriptFault}
+use Rattle.script_run.specs.NotBuilt.{comes_to_aggregation, has_later_parts}
+use Rattle.damon_app.specs.declared.status.Status.{Status}
+use Rattle.damon_app.specs.declared.status.Status.TheVariants as statuses
+
+-- the status of a script: `NotYet` where it has parts that are not built or its run comes to an aggregation, else `Ok`
+abbrev pub status_of_script : ScriptValue → Status
+status_of_script s = if has_later_parts s || comes_to_aggregation s then statuses.NotYet else statuses.Ok
+
+-- the status of what a text spells: a script, or its first fault
+abbrev pub status_of_spelled : Result ScriptValue ScriptFault → Status
+status_of_spelled (Ok s) = status_of_script s
+status_of_spelled (Err fault) = statuses.Script fault.line fault.kind
+
+-- the status of the bytes of an input, of which at most `limit` are allowed
+abbrev pub status_of_input : ℕ → List ℕ → Status
+status_of_input limit bytes =
+    if nat_lt limit (length bytes) then statuses.TooLong else status_of_spelled (script_of bytes)
+
+-- the status is a failure: memory ran out, a read failed, or a write failed
+abbrev pub IsFailure : Status → Type 0 → Type 0 → Type 0
+IsFailure statuses.Memory read write = Unit {0}
+IsFailure statuses.ReadFault read write = read
+IsFailure statuses.WriteFault read write = write
+IsFailure _ read write = ⊥

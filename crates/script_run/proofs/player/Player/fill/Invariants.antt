@@ -1,0 +1,15 @@
+use Rattle.std.proofs.Common.{◌≡◌, ◌<◌, ◌≤◌, vec_len}
+use Rattle.script_run.specs.declared.player.TheConstants.{PIECE}
+use Rattle.script_run.specs.Player.{GoesOn, left_moves}
+use Rattle.script_run.proofs.player.Player.fill.Given as goal
+
+-- the player went on so far, and has less left where it made a piece
+abbrev pub invariant-moves : goal.invariant-moves
+invariant-moves g l = record {
+  on : GoesOn g.R.Rng.stream l.fn.self l.self l.fn.out.items l.out.items;
+  most : left_moves l.self ≤ left_moves l.fn.self;
+  less : vec_len l.fn.out < PIECE → PIECE ≤ vec_len l.out → left_moves l.self < left_moves l.fn.self;
+}
+
+abbrev pub decreases-moves : goal.decreases-moves
+decreases-moves g l = left_moves l.self

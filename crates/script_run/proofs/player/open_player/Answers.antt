@@ -1,0 +1,71 @@
+use Rattle.std.proofs.Common.{◌≡◌, ℕ, ◌+◌, ◌-◌, ◌≤◌, List, [], ◌∷◌, length, map, refl, sym, ap, ◌∙◌, subst, arith}
+use Rattle.std.specs.List.{AllByRecursion}
+use Rattle.std.proofs.lemmas.List.Elements.{recursion_from_All}
+use Rattle.std.proofs.lemmas.List.Sums.{sum_by-cons}
+use Rattle.std.proofs.lemmas.List.{length-map}
+use Rattle.rand_core.specs.Steps.{stream_of, steps_u32}
+use Rattle.rand_pcg.specs.Pcg.{pcg32}
+use Rattle.damon_types.specs.Space.{pages_of}
+use Rattle.damon_control.specs.declared.script.Command.{Command}
+use Rattle.damon_control.specs.declared.script.Command.TheVariants as commands
+use Rattle.damon_control.specs.Command.{CommandValue, Touch, Sweep, Step, Arm, Finish, Show, Commit, command_value, weight, work_of}
+use Rattle.damon_control.specs.Limits.{IsWithin}
+use Rattle.damon_control.specs.ScriptView.{said_by}
+use Rattle.script_run.specs.declared.part.Part.TheVariants as part
+use Rattle.script_run.specs.Kept.{ArePartsWithin, IsPartWithin}
+use Rattle.script_run.specs.Player.{left_in, left_of}
+use Rattle.script_run.specs.Parts.{part_of, parts_of}
+use Rattle.script_run.proofs.player.open_player.Goals as goal
+
+left_of-part : (cap : ℕ) (c : CommandValue) → left_of (part_of cap c) ≤ weight cap c
+left_of-part cap (Touch page) = omega arith
+left_of-part cap (Sweep from to) = omega arith
+left_of-part cap (Step times) = omega arith
+left_of-part cap Arm = omega arith
+left_of-part cap Finish = omega arith
+left_of-part cap Show = omega arith
+left_of-part cap (Commit commit) = omega arith
+
+left_in-parts : (cap : ℕ) (cs : List CommandValue) → left_in (parts_of cap cs) ≤ work_of cap cs + length cs
+left_in-parts cap [] = omega arith
+left_in-parts cap (c ∷ cs) =
+    omega (arith, left_of-part cap c, left_in-parts cap cs, sum_by-cons (λ q. 1 + left_of q) (part_of cap c) (parts_of cap cs), sum_by-cons (weight cap) c cs)
+
+part_within : (cap pages : ℕ) (c : Command) → IsWithin pages c → IsPartWithin pages (part_of cap (command_value c))
+part_within cap pages (commands.Touch page) within = omega (arith, within)
+part_within cap pages (commands.Sweep from to) within = omega (arith, within.0, within.1)
+part_within cap pages (commands.Step times) within = tt
+part_within cap pages commands.Arm within = tt
+part_within cap pages commands.Finish within = tt
+part_within cap pages commands.Show within = tt
+part_within cap pages (commands.Commit commit) within = omega arith
+
+parts_within : (cap pages : ℕ) (cs : List Command) → AllByRecursion (IsWithin pages) cs → ArePartsWithin pages (parts_of cap (map command_value cs))
+parts_within cap pages [] within = tt
+parts_within cap pages (c ∷ cs) within = (part_within cap pages c within.0, parts_within cap pages cs within.1)
+
+pub invariant_of-result : goal.invariant_of-result
+invariant_of-result c =
+    let s = c.args.script in
+    let cs = map command_value s.commands.list in
+    let space : s.setup.space ≡ c.in_ok-world.world.monitor.core.space = ap (λ x. x.space) (sym c.in_ok-world.ensures.core) in
+    record {
+      space_is = space;
+      within = (
+        omega arith,
+        subst (λ sp. ArePartsWithin (pages_of sp) (parts_of s.setup.cap cs)) space
+            (parts_within s.setup.cap (pages_of s.setup.space) s.commands.list (recursion_from_All (IsWithin (pages_of s.setup.space)) s.commands.list c.requires.within)),
+      );
+      work = omega (arith, left_in-parts s.setup.cap cs, sum_by-cons (λ q. 1 + left_of q) (part.Touches 0 0) (parts_of s.setup.cap cs), c.requires.work, length-map s.commands.list command_value, c.len-commands.ensures, c.len-commands.auto.0, ap (λ x. x.ticks) c.in_ok-world.ensures.core);
+    }
+
+pub returns : goal.returns
+returns c = record {
+  can_open = record { sound = c.args.script.setup.sound; order = c.len-ranges.ensures.order };
+  made = [];
+  fit = tt;
+  stands = record { state = c.in_ok-world.ensures.opening; words = ap (stream_of (steps_u32 pcg32)) c.in_ok-world.ensures.source ∙ c.random_words.ensures };
+  left = refl;
+  written = refl;
+  form = refl;
+}

@@ -1,0 +1,122 @@
+-- A player on its way through a script, and what was written where it stops.
+use Rattle.std.specs.Prelude.{◌≡◌, ◌||◌, Bool, true, false, ℕ, List, [], ◌∷◌, ◌++◌, cond, refl}
+use Rattle.std.specs.List.{list_any}
+use Rattle.std.proofs.Common.{◌∙◌, ap, sym, subst, append-nil, append_assoc}
+use Rattle.rand_core.specs.Stream.{Stream}
+use Rattle.damon_core.specs.State.{State, opening}
+use Rattle.damon_core.specs.Event.{Event, aggregate}
+use Rattle.damon_core.specs.Reached.{AllFit, CanOpen, Reached, run}
+use Rattle.damon_core.specs.Makes.{AllFit-append}
+use Rattle.damon_world.specs.Moment.{Moment, along}
+use Rattle.damon_world.specs.Plays.{Reached-along, along-append, along-state}
+use Rattle.damon_world.specs.Stands.{StandsAt}
+use Rattle.damon_control.specs.Script.{ScriptValue}
+use Rattle.snapshot_print.specs.declared.form.Form.{Form}
+use Rattle.script_run.specs.Unfold.{start, unfold_script}
+use Rattle.script_run.specs.NotBuilt.{any_aggregation-fit, before_aggregation, before_aggregation-fit, built_events, comes_to_aggregation, is_aggregation}
+use Rattle.script_run.specs.Report.{last_text, report, text_from, text_from-append, written_text}
+use Rattle.script_run.specs.Player.{GoesOn, IsAtAggregation, IsOver, PlayerView, left_events}
+
+-- The player made the first events of the script, which fit from its opening; it stands at the moment after them; the
+-- others are left; and this is the text of those that it made.
+pub record IsOnItsWay {R : Type 0} (stream : R → Stream) (s : ScriptValue) (f : Form) (p : PlayerView R) (text : List ℕ) : Type 0 where
+  pub can_open : CanOpen s.setup
+  pub made : List Event
+  pub fit : AllFit (opening s.setup) made
+  pub stands : StandsAt stream p.world (along (start s) made)
+  pub left : unfold_script s ≡ made ++ left_events p (along (start s) made)
+  pub written : text ≡ text_from f (opening s.setup) made
+  pub form : p.form ≡ f
+
+-- the state at the start of a script is reached
+pub Reached-start : (s : ScriptValue) → CanOpen s.setup → Reached (opening s.setup)
+Reached-start s can = record { setup = s.setup; events = []; can_open = can; fit = tt; is = refl }
+
+module _ {R : Type 0} (stream : R → Stream) (s : ScriptValue) (f : Form) where
+  -- the moment at which the player stands
+  abbrev pub moment_of : (p : PlayerView R) (text : List ℕ) → IsOnItsWay stream s f p text → Moment
+  moment_of p text way = along (start s) way.made
+
+  -- a player that goes on is on its way
+  pub way-on : (a b : PlayerView R) (text added : List ℕ) → IsOnItsWay stream s f a text → GoesOn stream a b [] added → IsOnItsWay stream s f b (text ++ added)
+  way-on a b text added way on =
+      let m = along (start s) way.made in
+      let reached : Reached m.state = Reached-along (start s) way.made (Reached-start s way.can_open) way.fit in
+      let more = on.events m in
+      let plays = on.plays m reached way.stands in
+      let state = along-state (start s) way.made in
+      let there : along (start s) (way.made ++ more) ≡ along m more = along-append (start s) way.made more in
+      record {
+        can_open = way.can_open;
+        made = way.made ++ more;
+        fit = AllFit-append (opening s.setup) way.made more way.fit (subst (λ t. AllFit t more) state plays.0);
+        stands = subst (StandsAt stream b.world) (sym there) plays.1;
+        left =
+            way.left
+            ∙ ap (λ es. way.made ++ es) (on.left m reached way.stands)
+            ∙ sym (append_assoc way.made more (left_events b (along m more)))
+            ∙ ap (λ x. (way.made ++ more) ++ left_events b x) (sym there);
+        written =
+            ap (λ t. t ++ added) way.written
+            ∙ ap (λ t. text_from f (opening s.setup) way.made ++ t) (on.text m reached way.stands)
+            ∙ ap (λ g. text_from f (opening s.setup) way.made ++ text_from g m.state more) way.form
+            ∙ ap (λ t. text_from f (opening s.setup) way.made ++ text_from f t more) state
+            ∙ sym (text_from-append f (opening s.setup) way.made more);
+        form = on.form ∙ way.form;
+      }
+
+  -- what was written is a prefix of what the run writes
+  pub way-prefix : (p : PlayerView R) (text : List ℕ) → IsOnItsWay stream s f p text → (rest : List ℕ) × (written_text f s ≡ text ++ rest)
+  way-prefix p text way = by (comes_to_aggregation s) refl
+    where
+      left : List Event
+      left = left_events p (along (start s) way.made)
+
+      there : State
+      there = run (opening s.setup) way.made
+
+      -- the text of what was made and then of others
+      joined : (es : List Event) → text_from f (opening s.setup) (way.made ++ es) ≡ text ++ text_from f there es
+      joined es = text_from-append f (opening s.setup) way.made es ∙ ap (λ t. t ++ text_from f there es) (sym way.written)
+
+      by : (b : Bool) → comes_to_aggregation s ≡ b → (rest : List ℕ) × (written_text f s ≡ text ++ rest)
+      by true is = (
+        text_from f there (before_aggregation left),
+        ap (λ b. cond b (text_from f (opening s.setup) (built_events s)) (report f s)) is
+            ∙ ap (λ es. text_from f (opening s.setup) (before_aggregation es)) way.left
+            ∙ ap (text_from f (opening s.setup)) (before_aggregation-fit (opening s.setup) way.made left way.fit)
+            ∙ joined (before_aggregation left),
+      )
+      by false is =
+          let last = last_text f (run (opening s.setup) (unfold_script s)) in (
+            text_from f there left ++ last,
+            ap (λ b. cond b (text_from f (opening s.setup) (built_events s)) (report f s)) is
+                ∙ ap (λ es. text_from f (opening s.setup) es ++ last) way.left
+                ∙ ap (λ t. t ++ last) (joined left)
+                ∙ append_assoc text (text_from f there left) last,
+          )
+
+  -- where no event is left, the script comes to no aggregation
+  pub way-over : (p : PlayerView R) (text : List ℕ) → IsOnItsWay stream s f p text → IsOver stream p → comes_to_aggregation s ≡ false
+  way-over p text way over =
+      ap (list_any is_aggregation) (way.left ∙ ap (λ es. way.made ++ es) (over (along (start s) way.made) way.stands))
+      ∙ any_aggregation-fit (opening s.setup) way.made [] way.fit
+
+  -- and what was written with the last line is its report
+  pub way-report : (p : PlayerView R) (text : List ℕ) (way : IsOnItsWay stream s f p text) → IsOver stream p → text ++ last_text p.form (along (start s) way.made).state ≡ report f s
+  way-report p text way over =
+      let all : unfold_script s ≡ way.made = way.left ∙ ap (λ es. way.made ++ es) (over (along (start s) way.made) way.stands) ∙ append-nil way.made in
+      ap (λ t. t ++ last_text p.form (along (start s) way.made).state) way.written
+      ∙ ap (λ g. text_from f (opening s.setup) way.made ++ last_text g (along (start s) way.made).state) way.form
+      ∙ ap (λ t. text_from f (opening s.setup) way.made ++ last_text f t) (along-state (start s) way.made)
+      ∙ ap (λ es. text_from f (opening s.setup) es ++ last_text f (run (opening s.setup) es)) (sym all)
+
+  -- where the next event is an aggregation, the script comes to one, and the text of the events before it was written
+  pub way-due : (p : PlayerView R) (text : List ℕ) → IsOnItsWay stream s f p text → IsAtAggregation stream p → (comes_to_aggregation s ≡ true) × (text ≡ text_from f (opening s.setup) (built_events s))
+  way-due p text way at =
+      let next = at (along (start s) way.made) way.stands in
+      let all : unfold_script s ≡ way.made ++ aggregate next.0 ∷ next.1 = way.left ∙ ap (λ es. way.made ++ es) next.2 in
+      let built : built_events s ≡ way.made = ap before_aggregation all ∙ before_aggregation-fit (opening s.setup) way.made (aggregate next.0 ∷ next.1) way.fit ∙ append-nil way.made in (
+        ap (list_any is_aggregation) all ∙ any_aggregation-fit (opening s.setup) way.made (aggregate next.0 ∷ next.1) way.fit,
+        way.written ∙ ap (text_from f (opening s.setup)) (sym built),
+      )
