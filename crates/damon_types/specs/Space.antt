@@ -1,5 +1,5 @@
 -- A space as its list of targets.
-use Rattle.std.specs.Prelude.{◌≡◌, ◌⊎◌, ℕ, ◌+◌, ◌-◌, ◌*◌, ◌/◌, ◌%◌, ◌^◌, ◌<◌, ◌≤◌, Bool, ◌&&◌, All, ◌==◌, nat_lt, nat_le, List, [], ◌∷◌, length, take, sum_by, slice_get, Option, Some, None, Result, Ok, Err, if◌then◌else◌}
+use Rattle.std.specs.Prelude.{◌≡◌, ◌⊎◌, ℕ, ◌+◌, ◌-◌, ◌*◌, ◌/◌, ◌%◌, ◌<◌, ◌≤◌, Bool, ◌&&◌, All, ◌==◌, nat_lt, nat_le, List, [], ◌∷◌, length, take, sum_by, slice_get, Option, Some, None, Result, Ok, Err, if◌then◌else◌}
 use Rattle.std.specs.Result.{result_and}
 use Rattle.damon_types.specs.declared.space.TheConstants.{ADDRESS_END, MAX_PAGES, MAX_TARGETS, PAGE_SIZE}
 use Rattle.damon_types.specs.declared.space.Target.{Target}

@@ -1,6 +1,5 @@
 ghost use Rattle.std.specs.Prelude.{◌≡◌, ◌<◌, ◌≤◌, [], ◌∷◌, ◌++◌, length, slice_get, IsOk, OnOk, OnErr, ◌↔◌};
 
-use crate::{MAX_CLASS, PAGE_SIZE};
 use std::marker::Model;
 
 /// The most filters of a scheme.
@@ -9,11 +8,12 @@ pub const MAX_FILTERS: usize = 8;
 /// The pages that a filter is about.
 #[derive(Clone, Copy, Debug, PartialEq, Eq)]
 pub enum FilterKind {
-    /// Those whose address is at least `from` and below `to`, two multiples of [`PAGE_SIZE`].
+    /// Those whose address is at least `from` and below `to`, two multiples of
+    /// [`PAGE_SIZE`](crate::PAGE_SIZE).
     Addr { from: u64, to: u64 },
     /// Those of one target.
     Target { target: u32 },
-    /// Those of ranges of one class, at most [`MAX_CLASS`].
+    /// Those of ranges of one class, at most [`MAX_CLASS`](crate::MAX_CLASS).
     Class { class: u8 },
 }
 

@@ -24,7 +24,8 @@ impl<T> Model for PlainList<T> {
     ghost Value = { Listed T };
 
     ghost view = { λ l. record {
-        list = l.items.items; spare = spare_of (vec_capacity l.items) (vec_len l.items)
+      list = l.items.items;
+      spare = spare_of (vec_capacity l.items) (vec_len l.items);
     } };
 
     ghost invariant = { λ l. vec_len l.items < 2 ^ 32 };

@@ -18,7 +18,7 @@ pub struct Range {
     pub first: u32,
     /// The number of pages, at least 1.
     pub pages: u32,
-    /// A label of the user's, by which filters choose.
+    /// A label that the user gives, which filters can match.
     pub class: u8,
 }
 
@@ -27,16 +27,16 @@ pub struct Range {
 pub struct RangeSpec {
     /// The target that the range lies in.
     pub target: u32,
-    /// The address of the first byte, a multiple of the page size.
+    /// The address of the first byte, a multiple of [`PAGE_SIZE`](crate::PAGE_SIZE).
     pub from: u64,
-    /// The address after the last byte, a multiple of the page size.
+    /// The address after the last byte, a multiple of [`PAGE_SIZE`](crate::PAGE_SIZE).
     pub to: u64,
-    /// A label of the user's, at most [`MAX_CLASS`].
+    /// A label that the user gives, at most [`MAX_CLASS`].
     pub class: u8,
 }
 
-/// Ranges by target, then address, without overlap, with room for a fixed number of them. Two that
-/// are adjacent remain two.
+/// Ranges sorted by target and then by address, without overlap, with room for a fixed number of
+/// them. Adjacent ranges are not joined.
 #[derive(Debug, Drop)]
 pub struct Ranges {
     items: Vec<Range>,

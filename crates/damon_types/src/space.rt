@@ -168,7 +168,7 @@ impl Space {
         requires { page < pages_of self.now }
         ensures place { result ≡ place_of self.now page }
         ensures inverse { page_of self.now result.target result.addr ≡ Some page }
-        ensures below { result.addr < 2 ^ 63 }
+        ensures below { result.addr < ADDRESS_END }
     {
         let index = self.target_of(page);
         let first = self.offsets[index];
