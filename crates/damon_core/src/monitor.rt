@@ -62,8 +62,8 @@ impl Model for Monitor {
       hits = m.hits;
     } };
 
-    ghost invariant = { λ m. IsMonitor m.space m.attrs m.regions m.phase m.picks m.ticks m.since m.hits_so_far
-        m.checks m.hits };
+    ghost invariant = { λ m. IsMonitor m.space m.attrs m.regions m.phase m.picks
+        m.ticks m.since m.hits_so_far m.checks m.hits };
 }
 
 impl Monitor {
@@ -119,7 +119,8 @@ impl Monitor {
     /// The rows, with the ranges that they tile. Each has a page, and its pages are pages of the space.
     pub fn rows(&self) -> &Regions
         ensures rows { result.now ≡ self.now.core.regions }
-        ensures in_space { AllByRecursion (λ r. (1 ≤ r.pages) × (r.start + r.pages ≤ pages_of self.now.core.space))
+        ensures in_space { AllByRecursion
+            (λ r. (1 ≤ r.pages) × (r.start + r.pages ≤ pages_of self.now.core.space))
             self.now.core.regions.rows }
         ensures some { 0 < row_count self.now.core }
     {
@@ -149,7 +150,8 @@ impl Monitor {
         ensures bits { result.now.bits ≡ self.now.bits }
 
         // A pass under way has a pick for each row, which is a page of the space.
-        ensures each { IsInPass self.now.core.phase → length self.now.core.picks ≡ row_count self.now.core }
+        ensures each { IsInPass self.now.core.phase
+            → length self.now.core.picks ≡ row_count self.now.core }
         ensures inside { IsInPass self.now.core.phase
             → (k : ℕ) → k < row_count self.now.core
             → slice_index self.now.core.picks k < pages_of self.now.core.space }
@@ -248,7 +250,8 @@ impl Monitor {
     pub fn observe(&mut self)
         requires phase { IsObserving self.old.core.phase (row_count self.old.core) }
         requires ticks { self.old.core.ticks < 2 ^ 40 }
-        ensures core { self.new.core ≡ passed_core (record self.old.core { regions = self.new.core.regions }) }
+        ensures core { self.new.core
+            ≡ passed_core (record self.old.core { regions = self.new.core.regions }) }
         ensures cap { self.new.core.regions.cap ≡ self.old.core.regions.cap }
         ensures event { Makes Stands self.old self.new (observe_event ∷ []) }
     {
@@ -262,7 +265,8 @@ impl Monitor {
     fn finish_pass(&mut self)
         requires phase { self.old.core.phase ≡ Phase.Checking (row_count self.old.core) }
         requires ticks { self.old.core.ticks < 2 ^ 40 }
-        ensures core { self.new.core ≡ passed_core (record self.old.core { regions = self.new.core.regions }) }
+        ensures core { self.new.core
+            ≡ passed_core (record self.old.core { regions = self.new.core.regions }) }
         ensures cap { self.new.core.regions.cap ≡ self.old.core.regions.cap }
         ensures event { Makes Stands self.old self.new (observe_event ∷ []) }
     {

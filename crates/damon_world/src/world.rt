@@ -114,7 +114,8 @@ impl<R: Rng + Drop> World<R> {
         requires not_due { self.old.monitor.core.phase ≢ Phase.Due }
         requires ticks { self.old.monitor.core.ticks < 2 ^ 40 }
         ensures plays { Plays R.stream self.old self.new (λ m. next_event m.state m.stream ∷ []) }
-        ensures told { (s : State) → Reached s → StandsFor self.old s → Tells s.core.phase s result }
+        ensures told { (s : State) → Reached s → StandsFor self.old s
+            → Tells s.core.phase s result }
 
         // What a caller needs for the next step.
         ensures passes { self.new.monitor.core.ticks ≤ self.old.monitor.core.ticks + 1 }
@@ -137,7 +138,8 @@ impl<R: Rng + Drop> World<R> {
             (steps_of_kind self.old.monitor.core.phase (row_count self.old.monitor.core)) }
         ensures some { 1 ≤ result }
         ensures plays { Plays R.stream self.old self.new (λ m. events_of_steps result m) }
-        ensures amid { (m : Moment) → Reached m.state → StandsAt R.stream self.old m → AreAmid result m }
+        ensures amid { (m : Moment) → Reached m.state → StandsAt R.stream self.old m
+            → AreAmid result m }
 
         // What a caller needs for the next steps.
         ensures passes { self.new.monitor.core.ticks ≤ self.old.monitor.core.ticks + 1 }

@@ -24,7 +24,8 @@ impl Model for Picks {
 
     ghost view = { λ p. record { pages = p.pages.items; bits = p.bits.items; cap = p.cap } };
 
-    ghost invariant = { λ p. IsPickList p.pages.items p.bits.items p.cap (vec_capacity p.pages) (vec_capacity p.bits) };
+    ghost invariant = { λ p. IsPickList p.pages.items p.bits.items p.cap
+        (vec_capacity p.pages) (vec_capacity p.bits) };
 }
 
 impl Picks {
