@@ -46,7 +46,8 @@ loaded_at k hit s = record {
 -- the rows with 1 added to the count of each whose check in the pass was a hit, counting rows from k
 abbrev pub counted_from : ℕ → List Note → ℕ → List Row → List Row
 counted_from k notes pass [] = []
-counted_from k notes pass (r ∷ rows) = record r { count = r.count + cond (was_hit notes pass k) 1 0 } ∷ counted_from (k + 1) notes pass rows
+counted_from k notes pass (r ∷ rows) =
+    record r { count = r.count + cond (was_hit notes pass k) 1 0 } ∷ counted_from (k + 1) notes pass rows
 
 -- the rows after a pass
 abbrev pub counted : List Note → ℕ → List Row → List Row

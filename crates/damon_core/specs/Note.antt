@@ -69,5 +69,6 @@ has_clear (_ ∷ earlier) pass k page = has_clear earlier pass k page
 -- whether the page was touched after the pass had cleared it as its pick k
 abbrev pub touched_after_clear : List Note → ℕ → ℕ → ℕ → Bool
 touched_after_clear [] pass k page = false
-touched_after_clear (touched p ∷ earlier) pass k page = ((p == page) && has_clear earlier pass k page) || touched_after_clear earlier pass k page
+touched_after_clear (touched p ∷ earlier) pass k page =
+    ((p == page) && has_clear earlier pass k page) || touched_after_clear earlier pass k page
 touched_after_clear (_ ∷ earlier) pass k page = touched_after_clear earlier pass k page

@@ -48,13 +48,22 @@ impl Model for Monitor {
     ghost use Rattle.damon_core.specs.Kept.{IsMonitor};
 
     ghost view = { λ m. record {
-      core = record { space = m.space; attrs = m.attrs; regions = m.regions; phase = m.phase; picks = m.picks.pages; ticks = m.ticks; since = m.since };
+      core = record {
+        space = m.space;
+        attrs = m.attrs;
+        regions = m.regions;
+        phase = m.phase;
+        picks = m.picks.pages;
+        ticks = m.ticks;
+        since = m.since;
+      };
       bits = m.picks.bits;
       checks = m.checks;
       hits = m.hits;
     } };
 
-    ghost invariant = { λ m. IsMonitor m.space m.attrs m.regions m.phase m.picks m.ticks m.since m.hits_so_far m.checks m.hits };
+    ghost invariant = { λ m. IsMonitor m.space m.attrs m.regions m.phase m.picks
+        m.ticks m.since m.hits_so_far m.checks m.hits };
 }
 
 impl Monitor {
@@ -110,9 +119,9 @@ impl Monitor {
     /// The rows, with the ranges that they tile. Each has a page, and its pages are pages of the space.
     pub fn rows(&self) -> &Regions
         ensures rows { result.now ≡ self.now.core.regions }
-        ensures in_space {
-            AllByRecursion (λ r. (1 ≤ r.pages) × (r.start + r.pages ≤ pages_of self.now.core.space)) self.now.core.regions.rows
-        }
+        ensures in_space { AllByRecursion
+            (λ r. (1 ≤ r.pages) × (r.start + r.pages ≤ pages_of self.now.core.space))
+            self.now.core.regions.rows }
         ensures some { 0 < row_count self.now.core }
     {
         // For its clauses alone: the rows tile their ranges and are within their limits.
@@ -120,38 +129,35 @@ impl Monitor {
         &self.regions
     }
 
-    /// How many loads the finished passes made.
+    /// The loads of all finished passes.
     pub fn checks(&self) -> u64
         ensures { result ≡ self.now.checks }
     {
         self.checks
     }
 
-    /// How many of them were hits: how often a count was raised.
+    /// The loads of all finished passes that were hits, each of which raised a count by 1.
     pub fn hits(&self) -> u64
         ensures { result ≡ self.now.hits }
     {
         self.hits
     }
 
-    /// The picks of the pass that was prepared last with the results of their loads so far, and none
-    /// before the first pass.
+    /// The picks of the pass that was prepared last, with the results of their loads so far; empty before
+    /// the first pass.
     pub fn picks(&self) -> &Picks
         ensures pages { result.now.pages ≡ self.now.core.picks }
         ensures bits { result.now.bits ≡ self.now.bits }
 
         // A pass under way has a pick for each row, which is a page of the space.
-        ensures each { IsInPass self.now.core.phase → length self.now.core.picks ≡ row_count self.now.core }
-        ensures inside {
-            IsInPass self.now.core.phase
-                → (k : ℕ) → k < row_count self.now.core
-                → slice_index self.now.core.picks k < pages_of self.now.core.space
-        }
-        ensures cleared {
-            (s : State) → Reached s → Stands self.now s
-                → (k : ℕ) → k < cleared_so_far self.now.core.phase (row_count self.now.core)
-                → is_cleared s.notes (slice_index self.now.core.picks k) ≡ true
-        }
+        ensures each { IsInPass self.now.core.phase
+            → length self.now.core.picks ≡ row_count self.now.core }
+        ensures inside { IsInPass self.now.core.phase
+            → (k : ℕ) → k < row_count self.now.core
+            → slice_index self.now.core.picks k < pages_of self.now.core.space }
+        ensures cleared { (s : State) → Reached s → Stands self.now s
+            → (k : ℕ) → k < cleared_so_far self.now.core.phase (row_count self.now.core)
+            → is_cleared s.notes (slice_index self.now.core.picks k) ≡ true }
     {
         &self.picks
     }
@@ -177,16 +183,14 @@ impl Monitor {
         requires within { k < row_count self.now.core }
         ensures page { slice_get self.now.core.picks k ≡ Some result }
         ensures inside { result < pages_of self.now.core.space }
-        ensures cleared {
-            (s : State) → Reached s → Stands self.now s
-                → k < cleared_so_far self.now.core.phase (row_count self.now.core)
-                → is_cleared s.notes result ≡ true
-        }
+        ensures cleared { (s : State) → Reached s → Stands self.now s
+            → k < cleared_so_far self.now.core.phase (row_count self.now.core)
+            → is_cleared s.notes result ≡ true }
     {
         self.picks.page(k)
     }
 
-    /// Takes note that the page of the next pick was cleared. The phase is Clearing.
+    /// Records that the page of the next pick was cleared. The phase is Clearing.
     pub fn cleared(&mut self)
         requires { IsClearing self.old.core.phase }
         ensures core { self.new.core ≡ cleared_core 1 self.old.core }
@@ -197,7 +201,7 @@ impl Monitor {
         }
     }
 
-    /// Takes note that the pages of the next `count` picks were cleared. The phase is Clearing, and at
+    /// Records that the pages of the next `count` picks were cleared. The phase is Clearing, and at
     /// least `count` picks are left to clear.
     pub fn cleared_next(&mut self, count: u32)
         requires phase { IsClearing self.old.core.phase }
@@ -210,7 +214,7 @@ impl Monitor {
         }
     }
 
-    /// Takes note that the page of the next pick was loaded, with this result. The phase is Armed, or
+    /// Records that the page of the next pick was loaded, with this result. The phase is Armed, or
     /// Checking with a pick that is left to load.
     pub fn loaded(&mut self, hit: bool)
         requires { IsLoading self.old.core.phase (row_count self.old.core) }
@@ -223,7 +227,7 @@ impl Monitor {
         self.phase = Phase::Checking { next: index + 1 };
     }
 
-    /// Takes note that the pages of the next `count` picks (at least 1) were loaded, each with the mark
+    /// Records that the pages of the next `count` picks (at least 1) were loaded, each with the mark
     /// of its page as its result. At least `count` picks are left to load, and there is a mark for each
     /// page of the space.
     pub fn loaded_next(&mut self, count: u32, marks: &[bool])
@@ -232,10 +236,9 @@ impl Monitor {
         requires within { load_index self.old.core.phase + count ≤ row_count self.old.core }
         requires marks { length marks.now ≡ pages_of self.old.core.space }
         ensures core { self.new.core ≡ loaded_core count self.old.core }
-        ensures events {
-            Makes Stands self.old self.new
-                (loads marks.now (next_picks self.old.core.picks (load_index self.old.core.phase) count))
-        }
+        ensures events { Makes Stands self.old self.new
+            (loads marks.now
+            (next_picks self.old.core.picks (load_index self.old.core.phase) count)) }
     {
         let from = next_load(self.phase);
         self.hits_so_far += self.picks.load(from, count, marks);
@@ -247,7 +250,8 @@ impl Monitor {
     pub fn observe(&mut self)
         requires phase { IsObserving self.old.core.phase (row_count self.old.core) }
         requires ticks { self.old.core.ticks < 2 ^ 40 }
-        ensures core { self.new.core ≡ passed_core (record self.old.core { regions = self.new.core.regions }) }
+        ensures core { self.new.core
+            ≡ passed_core (record self.old.core { regions = self.new.core.regions }) }
         ensures cap { self.new.core.regions.cap ≡ self.old.core.regions.cap }
         ensures event { Makes Stands self.old self.new (observe_event ∷ []) }
     {
@@ -261,7 +265,8 @@ impl Monitor {
     fn finish_pass(&mut self)
         requires phase { self.old.core.phase ≡ Phase.Checking (row_count self.old.core) }
         requires ticks { self.old.core.ticks < 2 ^ 40 }
-        ensures core { self.new.core ≡ passed_core (record self.old.core { regions = self.new.core.regions }) }
+        ensures core { self.new.core
+            ≡ passed_core (record self.old.core { regions = self.new.core.regions }) }
         ensures cap { self.new.core.regions.cap ≡ self.old.core.regions.cap }
         ensures event { Makes Stands self.old self.new (observe_event ∷ []) }
     {

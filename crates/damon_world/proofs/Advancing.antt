@@ -24,7 +24,7 @@ use Rattle.damon_world.specs.Stands.{StandsAt, StandsFor}
 use Rattle.damon_world.specs.Advance.{IsAmid, steps_of_kind}
 use Rattle.damon_world.specs.Kept.{IsAdvance}
 use Rattle.damon_world.proofs.Words.{set_words, word_of-cleared_same, word_of-cleared_other}
-use Rattle.damon_world.proofs.Moments.{events_more, stepped_more}
+use Rattle.damon_world.specs.Steps.{events_more, stepped_more}
 use Rattle.damon_world.proofs.Stepping.{event_in-load, not_last, word_of-by_load}
 
 -- the moment after one event more, if it is the next one and draws nothing
@@ -263,6 +263,7 @@ loads_advance {R} stream m new words source marks from n loading index within ea
   where
     space : new.core.space ≡ m.core.space
     space = ap (λ (c : Core). c.space) shown
+
     to : (x : Moment) → Reached x.state → StandsAt stream (record { monitor = m; words = words; source = source }) x → (j : ℕ) → j ≤ n → LoadsTo x marks from j
     to x reached stands j few =
         let same = stands.state.monitor.same in

@@ -1,7 +1,6 @@
 pub mod Drawing
 pub mod Words
 pub mod Parts
-pub mod Moments
 pub mod Stepping
 pub mod Touching
 pub mod Advancing

@@ -82,17 +82,17 @@ prepare_advances {R} stream m new words old_source new_source ws idle count drew
     let space : new.core.space ≡ m.core.space = ap (λ (c : Core). c.space) shown in
     one_step stream (record { monitor = m; words = words; source = old_source }) (record { monitor = new; words = words; source = new_source })
     (λ x reached stands.
-        (let s = x.state in
-        let ph : s.core.phase ≡ Idle = phase_of m s stands.state.monitor ∙ idle in
-        let rows : row_count m.core ≡ row_count s.core = ap row_count stands.state.monitor.same in
-        let next : next_event s x.stream ≡ prepare ws = ap (λ p. event_in p s x.stream) ph ∙ ap prepare (ap (λ n. drawn n x.stream) (sym rows) ∙ ap (drawn (row_count m.core)) (sym stands.words) ∙ sym drew) in
-        let made = event s reached stands.state.monitor in
-        let left : stream new_source ≡ drawn_rest (length ws) x.stream = rest ∙ ap (drawn_rest (row_count m.core)) stands.words ∙ ap (λ n. drawn_rest n x.stream) (sym count) in
-        let here : StandsAt stream (record { monitor = new; words = words; source = new_source }) (moved x (prepare ws)) = record {
-          state = record { monitor = made.1; words = λ p below. stands.state.words p (subst (λ ts. p < pages_of ts) space below) };
-          words = left;
-        } in
-        (prepare ws, next, (made.0, here))))
+    (let s = x.state in
+    let ph : s.core.phase ≡ Idle = phase_of m s stands.state.monitor ∙ idle in
+    let rows : row_count m.core ≡ row_count s.core = ap row_count stands.state.monitor.same in
+    let next : next_event s x.stream ≡ prepare ws = ap (λ p. event_in p s x.stream) ph ∙ ap prepare (ap (λ n. drawn n x.stream) (sym rows) ∙ ap (drawn (row_count m.core)) (sym stands.words) ∙ sym drew) in
+    let made = event s reached stands.state.monitor in
+    let left : stream new_source ≡ drawn_rest (length ws) x.stream = rest ∙ ap (drawn_rest (row_count m.core)) stands.words ∙ ap (λ n. drawn_rest n x.stream) (sym count) in
+    let here : StandsAt stream (record { monitor = new; words = words; source = new_source }) (moved x (prepare ws)) = record {
+      state = record { monitor = made.1; words = λ p below. stands.state.words p (subst (λ ts. p < pages_of ts) space below) };
+      words = left;
+    } in
+    (prepare ws, next, (made.0, here))))
     (omega (arith, ap (λ (c : Core). c.ticks) shown)) space
 
 pub observe_advances : {R : Type 0} (stream : R → Stream) (m new : MonitorView) (words : List ℕ) (source : R) → IsObserving m.core.phase (row_count m.core) → new.core ≡ passed_core (record m.core { regions = new.core.regions }) → Makes Stands m new (observe ∷ []) → IsAdvance stream (record { monitor = m; words = words; source = source }) (record { monitor = new; words = words; source = source }) 1
@@ -100,14 +100,14 @@ observe_advances {R} stream m new words source fits shown event =
     let space : new.core.space ≡ m.core.space = ap (λ (c : Core). c.space) shown in
     one_step stream (record { monitor = m; words = words; source = source }) (record { monitor = new; words = words; source = source })
     (λ x reached stands.
-        (let s = x.state in
-        let observing : IsObserving s.core.phase (row_count s.core) = subst (λ (c : Core). IsObserving c.phase (row_count c)) stands.state.monitor.same fits in
-        let made = event s reached stands.state.monitor in
-        let here : StandsAt stream (record { monitor = new; words = words; source = source }) (moved x observe) = record {
-          state = record { monitor = made.1; words = λ p below. stands.state.words p (subst (λ ts. p < pages_of ts) space below) ∙ sym (word_of-by_observe s.core.phase s p) };
-          words = stands.words;
-        } in
-        (observe, event_in-observe s.core.phase s x.stream observing, (made.0, here))))
+    (let s = x.state in
+    let observing : IsObserving s.core.phase (row_count s.core) = subst (λ (c : Core). IsObserving c.phase (row_count c)) stands.state.monitor.same fits in
+    let made = event s reached stands.state.monitor in
+    let here : StandsAt stream (record { monitor = new; words = words; source = source }) (moved x observe) = record {
+      state = record { monitor = made.1; words = λ p below. stands.state.words p (subst (λ ts. p < pages_of ts) space below) ∙ sym (word_of-by_observe s.core.phase s p) };
+      words = stands.words;
+    } in
+    (observe, event_in-observe s.core.phase s x.stream observing, (made.0, here))))
     (omega (arith, ap (λ (c : Core). c.ticks) shown)) space
 
 pub load_below : (ph : Phase) (rows : ℕ) → IsLoading ph rows → 0 < rows → load_index ph < rows

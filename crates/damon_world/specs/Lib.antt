@@ -3,6 +3,7 @@ pub mod Words
 pub mod Moment
 pub mod Stands
 pub mod Plays
+pub mod Steps
 pub mod Touches
 pub mod Advance
 pub mod Kept

@@ -30,7 +30,8 @@ impl Model for PlainWords {
 
     ghost view = { λ w. words_of w.lows.items w.highs.items w.touched.items };
 
-    ghost invariant = { λ w. IsPlainWords (length w.touched.items) (vec_capacity w.lows) (vec_capacity w.highs) };
+    ghost invariant = { λ w. IsPlainWords (length w.touched.items)
+        (vec_capacity w.lows) (vec_capacity w.highs) };
 }
 
 impl PlainWords {
@@ -54,9 +55,8 @@ impl PlainWords {
     pub fn touch(&mut self, page: u32) -> u64
         requires { page < length self.old }
         ensures tag { result ≡ slice_index self.old page / 2 }
-        ensures word {
-            self.new ≡ slice_set self.old page (touched_word (slice_index self.old page))
-        }
+        ensures word { self.new
+            ≡ slice_set self.old page (touched_word (slice_index self.old page)) }
     {
         self.touched[page as usize] = true;
         LOWS * u64::from(high_at(&self.highs, page)) + u64::from(low_at(&self.lows, page))
@@ -67,12 +67,10 @@ impl PlainWords {
         requires order { from ≤ to }
         requires within { to ≤ length self.old }
         ensures len { length self.new ≡ length self.old }
-        ensures words {
-            (p : ℕ) → p < length self.old
-                → slice_index self.new p
-                    ≡ (if nat_le from p && nat_lt p to
-                        then touched_word (slice_index self.old p) else slice_index self.old p)
-        }
+        ensures words { (p : ℕ) → p < length self.old
+            → slice_index self.new p
+            ≡ (if nat_le from p && nat_lt p to
+            then touched_word (slice_index self.old p) else slice_index self.old p) }
     {
         mark(&mut self.touched, from, to);
     }
@@ -102,11 +100,9 @@ fn mark(touched: &mut [bool], from: u32, to: u32)
     requires order { from ≤ to }
     requires within { to ≤ length touched.old }
     ensures len { length touched.new ≡ length touched.old }
-    ensures marks {
-        (p : ℕ)
-            → slice_index_or touched.new p false
-                ≡ ((nat_le from p && nat_lt p to) || slice_index_or touched.old p false)
-    }
+    ensures marks { (p : ℕ)
+        → slice_index_or touched.new p false
+        ≡ ((nat_le from p && nat_lt p to) || slice_index_or touched.old p false) }
 {
     for page in from..to {
         touched[page as usize] = true;
@@ -170,9 +166,8 @@ fn put_high(highs: &mut Vec<u32>, pages: usize, page: u32, high: u32)
 // Appends copies of an item until there are at least `count` items.
 fn fill_up<T: Copy + Drop>(items: &mut Vec<T>, count: usize, item: T)
     requires { count ≤ vec_capacity items.old }
-    ensures items {
-        items.new.items ≡ items.old.items ++ replicate (count - length items.old.items) item
-    }
+    ensures items { items.new.items
+        ≡ items.old.items ++ replicate (count - length items.old.items) item }
     ensures capacity { vec_capacity items.new ≡ vec_capacity items.old }
 {
     for _ in items.len()..count {

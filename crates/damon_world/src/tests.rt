@@ -1,4 +1,6 @@
 // One pass over three pages with touches in it; the expected values were reckoned by hand.
+ghost use Rattle.std.specs.Prelude.{◌≡◌, [], IfOk};
+
 use crate::{Stepped, World};
 use damon_types::{Attrs, RangeSpec, Space, Target};
 use live_commit::{Phase, Setup};
@@ -7,8 +9,10 @@ use std::alloc::Global;
 use std::process::Abort;
 use std::test::Fail;
 
-// The setup of one target of three pages that is watched whole.
-fn three_pages(alloc: Global) -> Result<Setup, Fail> {
+// The setup of one target of three pages that is watched whole, without a slot.
+fn three_pages(alloc: Global) -> Result<Setup, Fail>
+    ensures { IfOk result (λ s. s.slots.list ≡ []) }
+{
     let space = Space::new(
         alloc,
         &[Target {
@@ -27,7 +31,8 @@ fn three_pages(alloc: Global) -> Result<Setup, Fail> {
         to: 0x1_3000,
         class: 0,
     };
-    Ok(Setup::new(alloc, space, 1, 8, attrs, &[range], &[])?)
+    let setup = Setup::new(alloc, space, 1, 8, attrs, &[range], &[])?;
+    Ok(setup)
 }
 
 // A world of three pages.
@@ -45,7 +50,7 @@ fn step(rt: &impl Abort, world: &mut World<Lcg64Xsh32>) -> Stepped {
     }
 }
 
-// Makes the next steps of one kind, at most so many.
+// Makes the next steps of one kind, at most `most`.
 fn advance(rt: &impl Abort, world: &mut World<Lcg64Xsh32>, most: u64) -> u64 {
     assert_eq!(rt; world.monitor().ticks(), 0);
     assert!(rt; most > 0);
@@ -129,7 +134,7 @@ fn steps_of_one_kind_are_made_at_once(rt: HostRuntime) -> Result<(), Fail> {
     for (most, made) in [(9, 1), (2, 2), (9, 1)] {
         assert_eq!(rt; advance(&rt, &mut world, most), made);
     }
-    assert!(rt; world.monitor().phase() == Phase::Armed);
+    assert_eq!(rt; world.monitor().phase(), Phase::Armed);
     sweep(&rt, &mut world);
     for (most, made) in [(2, 2), (9, 1), (9, 1)] {
         assert_eq!(rt; advance(&rt, &mut world, most), made);

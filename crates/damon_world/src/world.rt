@@ -114,9 +114,8 @@ impl<R: Rng + Drop> World<R> {
         requires not_due { self.old.monitor.core.phase ≢ Phase.Due }
         requires ticks { self.old.monitor.core.ticks < 2 ^ 40 }
         ensures plays { Plays R.stream self.old self.new (λ m. next_event m.state m.stream ∷ []) }
-        ensures told {
-            (s : State) → Reached s → StandsFor self.old s → Tells s.core.phase s result
-        }
+        ensures told { (s : State) → Reached s → StandsFor self.old s
+            → Tells s.core.phase s result }
 
         // What a caller needs for the next step.
         ensures passes { self.new.monitor.core.ticks ≤ self.old.monitor.core.ticks + 1 }
@@ -134,16 +133,13 @@ impl<R: Rng + Drop> World<R> {
         requires some { 1 ≤ most }
         requires not_due { self.old.monitor.core.phase ≢ Phase.Due }
         requires ticks { self.old.monitor.core.ticks < 2 ^ 40 }
-        ensures count {
-            result
-                ≡ min most
-                    (steps_of_kind self.old.monitor.core.phase (row_count self.old.monitor.core))
-        }
+        ensures count { result
+            ≡ min most
+            (steps_of_kind self.old.monitor.core.phase (row_count self.old.monitor.core)) }
         ensures some { 1 ≤ result }
         ensures plays { Plays R.stream self.old self.new (λ m. events_of_steps result m) }
-        ensures amid {
-            (m : Moment) → Reached m.state → StandsAt R.stream self.old m → AreAmid result m
-        }
+        ensures amid { (m : Moment) → Reached m.state → StandsAt R.stream self.old m
+            → AreAmid result m }
 
         // What a caller needs for the next steps.
         ensures passes { self.new.monitor.core.ticks ≤ self.old.monitor.core.ticks + 1 }
@@ -263,11 +259,9 @@ fn clear_words(monitor: &Monitor, from: u32, to: u32, words: &mut PlainWords)
     requires within { to ≤ row_count monitor.now.core }
     requires each { length words.old ≡ pages_of monitor.now.core.space }
     requires ticks { monitor.now.core.ticks < 2 ^ 40 }
-    ensures {
-        words.new
-            ≡ cleared_words monitor.now.core.picks from (to - from)
-                (2 * (monitor.now.core.ticks + 1)) words.old
-    }
+    ensures { words.new
+        ≡ cleared_words monitor.now.core.picks from (to - from)
+        (2 * (monitor.now.core.ticks + 1)) words.old }
 {
     let pass = monitor.ticks() + 1;
     for next in from..to {

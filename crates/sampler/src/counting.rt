@@ -24,7 +24,11 @@ pub fn observe(regions: &mut Regions, picks: &Picks)
 fn raise_row(regions: &mut Regions, index: u32, hit: bool)
     requires within { index < length regions.old.rows }
     requires small { (row_at regions.old.rows index).count + 1 < 2 ^ 32 }
-    ensures { regions.new ≡ record regions.old { rows = slice_set regions.old.rows index (raised_row hit (row_at regions.old.rows index)) } }
+    ensures { regions.new
+        ≡ record regions.old {
+          rows = slice_set regions.old.rows index
+              (raised_row hit (row_at regions.old.rows index));
+        } }
 {
     let row = regions.row(index);
     regions.set_values(index, raised_count(row.count, hit), row.last, row.age);

@@ -24,12 +24,13 @@ impl Model for Picks {
 
     ghost view = { λ p. record { pages = p.pages.items; bits = p.bits.items; cap = p.cap } };
 
-    ghost invariant = { λ p. IsPickList p.pages.items p.bits.items p.cap (vec_capacity p.pages) (vec_capacity p.bits) };
+    ghost invariant = { λ p. IsPickList p.pages.items p.bits.items p.cap
+        (vec_capacity p.pages) (vec_capacity p.bits) };
 }
 
 impl Picks {
-    /// No picks, with room for `cap` of them. Takes memory for them, and no other call does; the error
-    /// is that there is none.
+    /// No picks, with room for `cap` of them. Takes memory, and no other call does; the error is that
+    /// memory ran out.
     pub fn new(alloc: Global, cap: u32) -> Result<Picks, AllocError>
         ensures { IfOk result (λ p. p ≡ record { pages = []; bits = []; cap = cap }) }
     {
@@ -78,12 +79,16 @@ impl Picks {
         self.bits[k as usize] = hit;
     }
 
-    /// Records the checks of `count` picks from pick `from` on, each with the mark of its page as its
-    /// result, and says how many are hits. There are so many picks, and each of their pages has a mark.
+    /// Records the checks of the `count` picks that begin with pick `from`, each with the mark of its page
+    /// as its result, and returns how many are hits. There are at least `from + count` picks, and each of
+    /// their pages has a mark.
     pub fn load(&mut self, from: u32, count: u32, marks: &[bool]) -> u32
         requires within { from + count ≤ length self.old.pages }
         requires marks { AllByRecursion (λ p. p < length marks.now) self.old.pages }
-        ensures bits { self.new ≡ record self.old { bits = loaded_bits marks.now self.old.pages from count self.old.bits } }
+        ensures bits { self.new
+            ≡ record self.old {
+              bits = loaded_bits marks.now self.old.pages from count self.old.bits;
+            } }
         ensures hits { result ≡ loaded_hits marks.now self.old.pages from count }
         ensures few { result ≤ count }
     {
@@ -91,7 +96,8 @@ impl Picks {
     }
 }
 
-// Sets the bits of so many picks, from one on, to the marks of their pages, and counts those set.
+// Sets the bits of the `count` picks that begin with pick `from` to the marks of their pages, and returns
+// how many are true.
 fn load_bits(pages: &[u32], bits: &mut [bool], from: u32, count: u32, marks: &[bool]) -> u32
     requires within { from + count ≤ length pages.now }
     requires small { length pages.now < 2 ^ 32 }
@@ -116,7 +122,11 @@ fn load_bits(pages: &[u32], bits: &mut [bool], from: u32, count: u32, marks: &[b
 pub fn set_picks(regions: &Regions, words: &[u32], picks: &mut Picks)
     requires words { length words.now ≡ length regions.now.rows }
     requires room { length regions.now.rows ≤ picks.old.cap }
-    ensures { picks.new ≡ record picks.old { pages = picks_of regions.now.rows words.now; bits = replicate (length regions.now.rows) false } }
+    ensures { picks.new
+        ≡ record picks.old {
+          pages = picks_of regions.now.rows words.now;
+          bits = replicate (length regions.now.rows) false;
+        } }
 {
     pick_pages(regions, words, &mut picks.pages);
     clear_bits(&mut picks.bits, regions.len());
@@ -136,7 +146,7 @@ fn pick_pages(regions: &Regions, words: &[u32], pages: &mut Vec<u32>)
     }
 }
 
-// Makes the list so many bits that are not set.
+// Makes the list `count` bits that are all false.
 fn clear_bits(bits: &mut Vec<bool>, count: u32)
     requires { count ≤ vec_capacity bits.old }
     ensures bits { bits.new.items ≡ replicate count false }

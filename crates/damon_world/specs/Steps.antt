@@ -1,4 +1,4 @@
--- Moments step by step.
+-- How the events of steps follow each other.
 use Rattle.std.proofs.Common.{◌≡◌, ℕ, zero, suc, ◌+◌, List, [], ◌∷◌, ◌++◌, refl, sym, ap, ◌∙◌, arith}
 use Rattle.damon_core.specs.Event.{Event}
 use Rattle.damon_world.specs.Moment.{Moment, along, events_of_steps, moved, next_event, stepped, stepped_times}
