@@ -24,11 +24,12 @@ use Rattle.damon_control.specs.declared.keys.Setting.{Setting}
 use Rattle.damon_control.specs.declared.keys.Setting.TheVariants.{Size as SizeOf, Count as CountOf, Age as AgeOf, Quota as QuotaOf, Weights as WeightsOf, Prefer as PreferOf, Marks as MarksOf, Filter as FilterOf}
 use Rattle.damon_control.specs.Fits.{FitSettings, FitsKind, FitsMarks, FitsQuota, FitsSetting, FitsSpan, FitsWeights}
 use Rattle.damon_control.specs.Keys.{answer_of, filter_of, key_and_value, key_named, kind_of, marks_of, plain_name, prefer_of, quota_of, setting_for, setting_of, settings_of, span_in, weights_of}
-use Rattle.damon_control.specs.Laws.{WordLaws, key_of}
+use Rattle.damon_control.specs.Laws.{WordLaws}
 use Rattle.damon_control.specs.Refusal.{◌>>=◌}
 use Rattle.damon_control.specs.Separators.{colon, comma, dash, equals_sign}
 use Rattle.damon_control.specs.Spelling.{kind_name, kind_value, spelled_answer, spelled_filter, spelled_marks, spelled_prefer, spelled_quota, spelled_setting, spelled_side, spelled_span, spelled_weights}
 use Rattle.damon_control.specs.Words.{byte_address, number_8, number_16, number_32, number_64}
+use Rattle.damon_control.specs.Settings.{key_of}
 use Rattle.damon_control.proofs.PlainWords.{IsField, is_word_byte, address_field, decimal_field, field_8, field_16, field_32, field_piece, is_field_byte, lacks, list_all-both, list_all-weaker}
 use Rattle.damon_control.proofs.ReadFields.{byte_address-spelled, number_8-decimal, number_16-decimal, number_32-decimal, number_64-decimal}
 use Rattle.damon_control.proofs.SpellSteps.{then-Ok}

@@ -4,27 +4,25 @@ use Rattle.std.specs.Cmp.Derive.{both_true}
 use Rattle.std.specs.List.{list_all}
 use Rattle.std.specs.Option.{ok_or}
 use Rattle.std.proofs.lemmas.Bool.Decides.{nat_tests}
-use Rattle.damon_types.specs.declared.filter.FilterKind.{FilterKind}
-use Rattle.damon_types.specs.declared.filter.FilterKind.TheVariants.{Addr, Target, Class}
 use Rattle.damon_types.specs.declared.scheme.Action.{Action}
 use Rattle.damon_types.specs.declared.scheme.Action.TheVariants.{Stat, Willneed, Cold as ColdAction, Pageout, Hugepage, Nohugepage, LruPrio, LruDeprio}
 use Rattle.damon_types.specs.declared.scheme.Prefer.{Prefer}
 use Rattle.damon_types.specs.declared.scheme.Prefer.TheVariants.{Hot, Cold}
 use Rattle.damon_types.specs.declared.scheme.Scheme.{Scheme}
-use Rattle.line_text.specs.Address.{spelled_address}
 use Rattle.damon_control.specs.declared.fault.ScriptKind.TheVariants.{Form}
 use Rattle.damon_control.specs.declared.keys.Key.{Key}
 use Rattle.damon_control.specs.declared.keys.Key.TheVariants.{Size, Count, Age, Quota as QuotaKey, Weights as WeightsKey, Prefer as PreferKey, Marks as MarksKey, Filter as FilterKey}
 use Rattle.damon_control.specs.declared.keys.Setting.{Setting}
 use Rattle.damon_control.specs.declared.keys.Setting.TheVariants.{Size as SizeOf, Count as CountOf, Age as AgeOf, Quota as QuotaOf, Weights as WeightsOf, Prefer as PreferOf, Marks as MarksOf, Filter as FilterOf}
-use Rattle.damon_control.specs.Fits.{FitSettings, FitsKind, FitsSetting}
-use Rattle.damon_control.specs.Keys.{action_of, are_formed, default_scheme, is_formed, is_misformed, key_and_value, key_place, may_follow, place_in, scheme_in, settings_of, settled, with_settings}
-use Rattle.damon_control.specs.Laws.{AreInOrder, MayFollow, WordLaws, key_of}
+use Rattle.damon_control.specs.Fits.{FitSettings, FitsSetting}
+use Rattle.damon_control.specs.Keys.{action_of, are_formed, is_formed, is_misformed, key_and_value, may_follow, place_in, scheme_in, settings_of, with_settings}
+use Rattle.damon_control.specs.Laws.{WordLaws}
 use Rattle.damon_control.specs.Refusal.{only_if}
-use Rattle.damon_control.specs.Separators.{colon, comma, dash}
+use Rattle.damon_control.specs.Separators.{colon, comma}
 use Rattle.damon_control.specs.Spelling.{kind_name, kind_value, scheme_words, spelled_action, spelled_answer, spelled_prefer, spelled_setting, spelled_side}
 use Rattle.damon_control.specs.Words.{number_8}
-use Rattle.damon_control.proofs.PlainWords.{IsField, address_field, decimal_field, field_8, field_16, field_32, field_bytes, field_word, is_plain_word, is_word_byte, list_all-both, list_all-weaker}
+use Rattle.damon_control.specs.Settings.{AreInOrder, MayFollow, default_scheme, key_of, key_place, settled}
+use Rattle.damon_control.proofs.PlainWords.{IsField, decimal_field, field_8, field_16, field_32, field_bytes, field_word, is_plain_word, is_word_byte, list_all-both, list_all-weaker}
 use Rattle.damon_control.proofs.ReadFields.{number_8-decimal}
 use Rattle.damon_control.proofs.ReadKeys.{answer_part, is_part_byte, key_and_value-spelled, name_part, setting_for-spelled, setting_value, settings_of-spelled, value_part}
 use Rattle.damon_control.proofs.SpellSteps.{first_true, second_true, then-Ok}

@@ -4,8 +4,9 @@ use Rattle.std.specs.Prelude.{Result}
 use Rattle.damon_types.specs.declared.scheme.Scheme.{Scheme}
 use Rattle.damon_control.specs.declared.fault.ScriptKind.{ScriptKind}
 use Rattle.damon_control.specs.declared.keys.Setting.{Setting}
-use Rattle.damon_control.specs.Keys.{setting_of, settings_of, settled, with_setting}
+use Rattle.damon_control.specs.Keys.{setting_of, settings_of}
 use Rattle.damon_control.specs.Refusal.{◌>>=◌}
+use Rattle.damon_control.specs.Settings.{settled, with_setting}
 
 -- the scheme so far with the settings of the words that are left
 abbrev pub settled_by : Result Scheme ScriptKind → List (List ℕ) → Result Scheme ScriptKind

@@ -6,9 +6,9 @@ use Rattle.damon_types.specs.declared.scheme.Action.TheVariants.{LruDeprio}
 use Rattle.damon_types.specs.declared.scheme.Prefer.TheVariants.{Hot, Cold}
 use Rattle.damon_control.specs.declared.keys.Setting.{Setting}
 use Rattle.damon_control.specs.declared.keys.Setting.TheVariants.{Age, Prefer, Marks, Filter}
-use Rattle.damon_control.specs.Laws.{AreInOrder}
 use Rattle.damon_control.specs.Spelling.{spelled_attrs, spelled_range, spelled_scheme, spelled_seed, spelled_setting, spelled_sweep, spelled_target}
 use Rattle.damon_control.specs.Text.{lines_text}
+use Rattle.damon_control.specs.Settings.{AreInOrder}
 
 seed_is_decimal : spelled_seed 18446744073709551615 ≡ codes "seed 18446744073709551615"
 unfolding digits

@@ -11,11 +11,12 @@ use Rattle.line_text.specs.Parts.{joined}
 use Rattle.damon_control.specs.declared.fault.ScriptKind.TheVariants.{Form, Repeated, Scheme as BadScheme}
 use Rattle.damon_control.specs.Body.{change_line}
 use Rattle.damon_control.specs.Head.{is_changed}
-use Rattle.damon_control.specs.Keys.{action_of, are_formed, default_scheme, scheme_in, setting_of, settings_of, settled, with_settings}
+use Rattle.damon_control.specs.Keys.{action_of, are_formed, scheme_in, setting_of, settings_of, with_settings}
 use Rattle.damon_control.specs.Laws.{GivesScheme, IsScheme, NamesActions, ReadsOnly, ReadsOnlySchemes, WordLaws}
 use Rattle.damon_control.specs.Refusal.{◌>>=◌, only_if, refused_as}
 use Rattle.damon_control.specs.Spelling.{spelled_action, spelled_setting}
 use Rattle.damon_control.specs.Words.{arguments, number_8}
+use Rattle.damon_control.specs.Settings.{default_scheme, settled}
 use Rattle.damon_control.proofs.ReadSchemes.{in_order-formed}
 use Rattle.damon_control.proofs.SpellFits.{settings_of-fit}
 use Rattle.damon_control.proofs.SpellKeys.{setting_of-Ok}

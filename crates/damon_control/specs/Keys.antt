@@ -1,5 +1,5 @@
--- The words of a scheme.
-use Rattle.std.specs.Prelude.{ℕ, ◌-◌, ◌^◌, Bool, true, false, not, ◌&&◌, ◌||◌, ◌==◌, nat_lt, List, [], ◌∷◌, ◌++◌, length, codes, Option, Some, None, Result, Ok, Err, if◌then◌else◌}
+-- What the words of a scheme are read as.
+use Rattle.std.specs.Prelude.{ℕ, Bool, true, false, not, ◌&&◌, ◌||◌, ◌==◌, nat_lt, List, [], ◌∷◌, codes, Option, Some, None, Result, Ok, Err, if◌then◌else◌}
 use Rattle.std.specs.Option.{ok_or}
 use Rattle.damon_types.specs.declared.filter.Filter.{Filter}
 use Rattle.damon_types.specs.declared.filter.FilterKind.{FilterKind}
@@ -16,13 +16,14 @@ use Rattle.damon_types.specs.declared.scheme.Weights.{Weights}
 use Rattle.line_text.specs.Line.{after_prefix, split_at_byte}
 use Rattle.line_text.specs.Parts.{parts, two_of, three_of}
 use Rattle.damon_control.specs.declared.fault.ScriptKind.{ScriptKind}
-use Rattle.damon_control.specs.declared.fault.ScriptKind.TheVariants.{Form, Limit}
+use Rattle.damon_control.specs.declared.fault.ScriptKind.TheVariants.{Form}
 use Rattle.damon_control.specs.declared.keys.Key.{Key}
 use Rattle.damon_control.specs.declared.keys.Key.TheVariants.{Size, Count, Age, Quota as QuotaKey, Weights as WeightsKey, Prefer as PreferKey, Marks as MarksKey, Filter as FilterKey}
 use Rattle.damon_control.specs.declared.keys.Setting.{Setting}
 use Rattle.damon_control.specs.declared.keys.Setting.TheVariants.{Size as SizeOf, Count as CountOf, Age as AgeOf, Quota as QuotaOf, Weights as WeightsOf, Prefer as PreferOf, Marks as MarksOf, Filter as FilterOf}
 use Rattle.damon_control.specs.Refusal.{◌>>=◌, only_if}
 use Rattle.damon_control.specs.Separators.{colon, comma, dash, equals_sign}
+use Rattle.damon_control.specs.Settings.{default_scheme, key_place, settled}
 use Rattle.damon_control.specs.Words.{byte_address, number_8, number_16, number_32, number_64, same_word}
 
 -- the action with this name
@@ -50,17 +51,6 @@ key_named name =
     else if same_word name (codes "marks") then Some MarksKey
     else if same_word name (codes "filter") then Some FilterKey
     else None
-
--- the place of a key in the order of keys
-abbrev pub key_place : Key → ℕ
-key_place Size = 0
-key_place Count = 1
-key_place Age = 2
-key_place QuotaKey = 3
-key_place WeightsKey = 4
-key_place PreferKey = 5
-key_place MarksKey = 6
-key_place FilterKey = 7
 
 -- `LOW,HIGH`
 abbrev pub span_in : List ℕ → Result Span ScriptKind
@@ -190,38 +180,6 @@ abbrev pub are_formed : Option ℕ → List (List ℕ) → Bool
 are_formed last [] = true
 are_formed last (word ∷ words) =
     is_formed last (key_and_value word) && are_formed (place_in (key_and_value word)) words
-
--- the scheme of an action with each key at its default
-abbrev pub default_scheme : Action → Scheme
-default_scheme action = record {
-  action = action;
-  pattern = record { size = any; count = any; age = any };
-  quota = None;
-  weights = record { size = 1; count = 1; age = 1 };
-  prefer = Hot;
-  marks = None;
-  filters = [];
-}
-  where
-    any : Span
-    any = record { low = 0; high = 2 ^ 32 - 1 }
-
--- a scheme with one more setting; a ninth filter is refused
-abbrev pub with_setting : Scheme → Setting → Result Scheme ScriptKind
-with_setting s (SizeOf x) = Ok (record s { pattern = record s.pattern { size = x } })
-with_setting s (CountOf x) = Ok (record s { pattern = record s.pattern { count = x } })
-with_setting s (AgeOf x) = Ok (record s { pattern = record s.pattern { age = x } })
-with_setting s (QuotaOf x) = Ok (record s { quota = Some x })
-with_setting s (WeightsOf x) = Ok (record s { weights = x })
-with_setting s (PreferOf x) = Ok (record s { prefer = x })
-with_setting s (MarksOf x) = Ok (record s { marks = Some x })
-with_setting s (FilterOf x) =
-    only_if (nat_lt (length s.filters) 8) Limit (record s { filters = s.filters ++ x ∷ [] })
-
--- a scheme with these settings, one after another
-abbrev pub settled : Scheme → List Setting → Result Scheme ScriptKind
-settled scheme [] = Ok scheme
-settled scheme (setting ∷ settings) = with_setting scheme setting >>= λ s. settled s settings
 
 -- what each word sets
 abbrev pub settings_of : List (List ℕ) → Result (List Setting) ScriptKind

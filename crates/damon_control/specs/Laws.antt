@@ -1,5 +1,5 @@
 -- What each line says, and that a line that is read says what was read.
-use Rattle.std.specs.Prelude.{◌≡◌, ◌⊎◌, ℕ, ◌+◌, ◌-◌, ◌^◌, ◌<◌, ◌≤◌, Bool, true, List, [], ◌∷◌, codes, Some, None, option_map, Result, Ok, is_none}
+use Rattle.std.specs.Prelude.{◌≡◌, ◌⊎◌, ℕ, ◌+◌, ◌-◌, ◌^◌, ◌<◌, ◌≤◌, Bool, true, List, codes, Some, None, option_map, Result, Ok, is_none}
 use Rattle.damon_types.specs.declared.scheme.Action.{Action}
 use Rattle.damon_types.specs.declared.scheme.Scheme.{Scheme}
 use Rattle.damon_types.specs.declared.scheme.SlotChange.{SlotChange}
@@ -10,15 +10,13 @@ use Rattle.live_commit.specs.Commit.{CommitValue}
 use Rattle.damon_control.specs.declared.commit.Part.{Part}
 use Rattle.damon_control.specs.declared.commit.Part.TheVariants.{Attrs, Range, Slot, Metric}
 use Rattle.damon_control.specs.declared.fault.ScriptKind.{ScriptKind}
-use Rattle.damon_control.specs.declared.keys.Key.{Key}
-use Rattle.damon_control.specs.declared.keys.Key.TheVariants.{Size, Count, Age, Quota as QuotaKey, Weights as WeightsKey, Prefer as PreferKey, Marks as MarksKey, Filter as FilterKey}
 use Rattle.damon_control.specs.declared.keys.Setting.{Setting}
-use Rattle.damon_control.specs.declared.keys.Setting.TheVariants.{Size as SizeOf, Count as CountOf, Age as AgeOf, Quota as QuotaOf, Weights as WeightsOf, Prefer as PreferOf, Marks as MarksOf, Filter as FilterOf}
 use Rattle.damon_control.specs.Body.{are_swept, command_line, part_line, wants_attrs, wants_slot}
 use Rattle.damon_control.specs.Command.{CommandValue, Touch, Sweep, Step, Arm, Finish, Show, Commit}
 use Rattle.damon_control.specs.Head.{scheme_line}
 use Rattle.damon_control.specs.Fits.{FitSettings, FitsAttrs, FitsRange}
-use Rattle.damon_control.specs.Keys.{action_of, default_scheme, key_place, settled}
+use Rattle.damon_control.specs.Keys.{action_of}
+use Rattle.damon_control.specs.Settings.{AreInOrder, default_scheme, settled}
 use Rattle.damon_control.specs.Spelling.{spelled_action, spelled_attrs, spelled_drop, spelled_metric, spelled_range, spelled_scheme, spelled_step, spelled_sweep, spelled_touch}
 
 -- what the laws of `line_text` say of words, numbers and addresses
@@ -41,29 +39,6 @@ ReadsOnly {T} {A} read spelled = (text : T) (x : A) → read text ≡ Ok x → t
 abbrev pub NamesActions : Type 0
 NamesActions =
     (name : List ℕ) (action : Action) → action_of name ≡ Some action → name ≡ spelled_action action
-
--- the key of a setting
-abbrev pub key_of : Setting → Key
-key_of (SizeOf span) = Size
-key_of (CountOf span) = Count
-key_of (AgeOf span) = Age
-key_of (QuotaOf quota) = QuotaKey
-key_of (WeightsOf weights) = WeightsKey
-key_of (PreferOf prefer) = PreferKey
-key_of (MarksOf marks) = MarksKey
-key_of (FilterOf filter) = FilterKey
-
--- a setting may follow another: its key has a later place, or both are filters
-abbrev pub MayFollow : Setting → Setting → Type 0
-MayFollow earlier later =
-    (key_place (key_of earlier) < key_place (key_of later))
-    ⊎ ((key_of earlier ≡ FilterKey) × (key_of later ≡ FilterKey))
-
--- settings stand in the order of their keys, and only the filter repeats
-abbrev pub AreInOrder : List Setting → Type 0
-AreInOrder [] = Unit {0}
-AreInOrder (setting ∷ []) = Unit {0}
-AreInOrder (earlier ∷ later ∷ more) = MayFollow earlier later × AreInOrder (later ∷ more)
 
 -- a line spells a slot, an action and settings in order, which turn the action's default into this scheme
 pub record IsScheme (line : List ℕ) (slot : ℕ) (scheme : Scheme) : Type 0 where

@@ -2,6 +2,7 @@ pub mod Refusal
 pub mod Words
 pub mod Separators
 pub mod Fields
+pub mod Settings
 pub mod Keys
 pub mod Head
 pub mod Command

@@ -2,8 +2,9 @@ ghost use Rattle.std.specs.Prelude.{◌≡◌, ◌<◌, Ok, Err, Option, Some, N
 ghost use Rattle.std.specs.Option.{ok_or};
 ghost use Rattle.std.specs.Prelude.{option_map};
 ghost use Rattle.damon_control.specs.Words.{words_in};
-ghost use Rattle.damon_control.specs.Keys.{action_of, addr_of, answer_of, are_formed, default_scheme, filter_of, is_misformed, key_and_value, key_named, kind_of, marks_of, may_follow, key_place, plain_name, prefer_of, quota_of, scheme_in, setting_for, setting_of, span_in, weights_of, with_setting, with_settings};
+ghost use Rattle.damon_control.specs.Keys.{action_of, addr_of, answer_of, are_formed, filter_of, is_misformed, key_and_value, key_named, kind_of, marks_of, may_follow, plain_name, prefer_of, quota_of, scheme_in, setting_for, setting_of, span_in, weights_of, with_settings};
 ghost use Rattle.damon_control.specs.KeyViews.{view_key, view_name};
+ghost use Rattle.damon_control.specs.Settings.{default_scheme, key_place, with_setting};
 
 use crate::ScriptKind;
 use crate::words::{Words, read_8, read_16, read_32, read_64, read_byte_address, same_word};

@@ -80,8 +80,8 @@ pub fn body_lines_are_spelled()
 }
 
 /// Each line of a script that says something, with each number within its field and its limits, is
-/// read as what it says. With the laws above: a line is read as a value exactly where it says that
-/// value.
+/// read as what it says. With `body_lines_are_spelled`, a line of a body is read as a command exactly
+/// where it says that command, and a line of a commit likewise.
 pub fn spelled_lines_are_read()
     ensures lines { LinesReadBack }
 {

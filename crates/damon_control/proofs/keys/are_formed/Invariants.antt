@@ -1,6 +1,7 @@
 use Rattle.std.proofs.Common.{◌≡◌, None, option_map}
 use Rattle.damon_control.specs.Words.{words_in}
-use Rattle.damon_control.specs.Keys.{are_formed, key_place}
+use Rattle.damon_control.specs.Keys.{are_formed}
+use Rattle.damon_control.specs.Settings.{key_place}
 use Rattle.damon_control.proofs.WordLemmas.{size_left}
 use Rattle.damon_control.proofs.keys.are_formed.Given as goal
 

@@ -1,8 +1,9 @@
 use Rattle.std.proofs.Common.{◌≡◌, ◌∷◌, ◌∙◌, Ok, sym, ap, arith}
 use Rattle.std.proofs.lemmas.Grind.{common_steps}
-use Rattle.damon_control.specs.Keys.{setting_of, with_setting}
+use Rattle.damon_control.specs.Keys.{setting_of}
 use Rattle.damon_control.specs.Refusal.{◌>>=◌}
 use Rattle.damon_control.specs.Words.{words_in}
+use Rattle.damon_control.specs.Settings.{with_setting}
 use Rattle.damon_control.proofs.SettingLemmas.{settled_by, settled_by_word}
 use Rattle.damon_control.proofs.WordLemmas.{size_left_less}
 use Rattle.damon_control.proofs.keys.read_settings.Goals as goal

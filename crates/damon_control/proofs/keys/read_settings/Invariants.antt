@@ -1,7 +1,8 @@
 use Rattle.std.proofs.Common.{◌≡◌}
 use Rattle.damon_control.specs.Words.{words_in}
-use Rattle.damon_control.specs.Keys.{settings_of, settled, with_settings}
+use Rattle.damon_control.specs.Keys.{settings_of, with_settings}
 use Rattle.damon_control.specs.Refusal.{◌>>=◌}
+use Rattle.damon_control.specs.Settings.{settled}
 use Rattle.damon_control.proofs.WordLemmas.{size_left}
 use Rattle.damon_control.proofs.keys.read_settings.Given as goal
 
