@@ -12,7 +12,7 @@ use Rattle.damon_types.specs.Span.{span_of, spans}
 use Rattle.region_list.specs.declared.shrink.Pair.{Pair}
 use Rattle.region_list.specs.Rows.{no_row, row_at}
 use Rattle.region_list.specs.Tiling.{Tiling}
-use Rattle.region_list.specs.Walk.{RestFrom, BeginsIn}
+use Rattle.region_list.specs.Walk.{TilesFrom, BeginsIn}
 use Rattle.region_list.specs.Shrink.{in_one_range, difference, closest}
 use Rattle.region_list.proofs.TilingLemmas.{end_at}
 use Rattle.region_list.proofs.PairLemmas.{IsPair, pair_within, closest_is}
@@ -80,7 +80,7 @@ rows_behind (r ∷ rows) (suc i) a more is = rows_behind rows i a more is
 
 -- the step from one row to the next
 pub at_step : (all : List Range) (rows : List Row) (k i end : ℕ) (a b : Row) (more : List Row) → drop i rows ≡ a ∷ b ∷ more → (at : At all rows k i end) → Step at.from at.range at.others a (b ∷ more)
-at_step all rows k i end a b more is at = step at.from at.range at.others a (b ∷ more) (subst (λ rs. RestFrom at.from (at.range ∷ at.others) (spans rs)) is at.rest)
+at_step all rows k i end a b more is at = step at.from at.range at.others a (b ∷ more) (subst (λ rs. TilesFrom at.from (at.range ∷ at.others) (spans rs)) is at.rest)
 
 -- a row ends with its range or before
 pub at_fits : (all : List Range) (rows : List Row) (k i end : ℕ) (a b : Row) (more : List Row) → InOrder all → drop i rows ≡ a ∷ b ∷ more → At all rows k i end → a.start + a.pages < 2 ^ 32
@@ -95,7 +95,7 @@ at_on all rows k i end a b more ordered is at on =
   where
     by : Step at.from at.range at.others a (b ∷ more) → Next (at.from + a.pages) at.range at.others (spans (b ∷ more)) → At all rows k (suc i) end × (in_one_range all a b ≡ true)
     by s (inl rest) = (
-      record { from = at.from + a.pages; range = at.range; others = at.others; ranges = at.ranges; end_is = at.end_is; rest = subst (λ rs. RestFrom (at.from + a.pages) (at.range ∷ at.others) (spans rs)) (sym (rows_behind rows i a (b ∷ more) is)) rest },
+      record { from = at.from + a.pages; range = at.range; others = at.others; ranges = at.ranges; end_is = at.end_is; rest = subst (λ rs. TilesFrom (at.from + a.pages) (at.range ∷ at.others) (spans rs)) (sym (rows_behind rows i a (b ∷ more) is)) rest },
       next_in 0 0 all k at.from at.range at.others a b more ordered at.ranges s rest,
     )
     by s (inr over) = absurd (on (omega (arith, over.0, s.start, at.end_is)))
@@ -109,7 +109,7 @@ at_over all rows k i end a b more ordered is at over = let s = at_step all rows 
     by s (inr passed) =
         let begun = tiling_rest at.range.target (end_of at.range) at.others (spans (b ∷ more)) (ordered_behind 0 0 all k at.range at.others ordered at.ranges) passed.1 (omega arith) in
         let tail : drop (k + 1) all ≡ begun.0 ∷ begun.1 = ap (λ n. drop n all) (add-one k) ∙ drop_tail all k at.range at.others at.ranges ∙ begun.2 in
-        let rest : RestFrom begun.0.first (begun.0 ∷ begun.1) (spans (drop (suc i) rows)) = subst (λ rs. RestFrom begun.0.first (begun.0 ∷ begun.1) (spans rs)) (sym (rows_behind rows i a (b ∷ more) is)) begun.4 in (
+        let rest : TilesFrom begun.0.first (begun.0 ∷ begun.1) (spans (drop (suc i) rows)) = subst (λ rs. TilesFrom begun.0.first (begun.0 ∷ begun.1) (spans rs)) (sym (rows_behind rows i a (b ∷ more) is)) begun.4 in (
           (here_within all (k + 1) begun.0 begun.1 tail).0,
           λ next_end end_is. record { from = begun.0.first; range = begun.0; others = begun.1; ranges = tail; end_is = end_read all (k + 1) begun.0 begun.1 next_end tail end_is; rest = rest },
           next_out 0 0 all k at.from at.range at.others a b more ordered at.ranges s passed.1,

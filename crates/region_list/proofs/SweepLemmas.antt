@@ -8,7 +8,7 @@ use Rattle.damon_types.specs.declared.row.Row.{Row}
 use Rattle.damon_types.specs.Ranges.{InOrder, end_of}
 use Rattle.damon_types.specs.Span.{Span, span_of, spans}
 use Rattle.region_list.specs.Tiling.{Chain, Tiling}
-use Rattle.region_list.specs.Walk.{RestFrom, BeginsIn}
+use Rattle.region_list.specs.Walk.{TilesFrom, BeginsIn}
 use Rattle.region_list.specs.Join.{join}
 use Rattle.region_list.specs.Rows.{row_at}
 use Rattle.region_list.specs.Shrink.{holds_row, in_one_range, difference, differences, least, closest, joined_at, joined_times, shrunk}
@@ -61,12 +61,12 @@ pair_front gs (x ∷ []) a b ys (suc k) e before pair = absurd (omega arith)
 pair_front gs (x ∷ y ∷ xs) a b ys zero e before pair = pair
 pair_front gs (x ∷ y ∷ xs) a b ys (suc k) e before pair = pair_front gs (y ∷ xs) a b ys k e (omega arith) pair
 
-pair_at : (gs : List Range) (xs : List Row) (a b : Row) (ys : List Row) → in_one_range gs a b ≡ true → IsPair gs (xs ++ a ∷ b ∷ ys) (length xs) (difference a b)
+pub pair_at : (gs : List Range) (xs : List Row) (a b : Row) (ys : List Row) → in_one_range gs a b ≡ true → IsPair gs (xs ++ a ∷ b ∷ ys) (length xs) (difference a b)
 pair_at gs [] a b ys one = (one, refl)
 pair_at gs (x ∷ []) a b ys one = (one, refl)
 pair_at gs (x ∷ y ∷ xs) a b ys one = pair_at gs (y ∷ xs) a b ys one
 
-joined_here : (xs : List Row) (a b : Row) (ys : List Row) → joined_at (length xs) (xs ++ a ∷ b ∷ ys) ≡ xs ++ join a b ∷ ys
+pub joined_here : (xs : List Row) (a b : Row) (ys : List Row) → joined_at (length xs) (xs ++ a ∷ b ∷ ys) ≡ xs ++ join a b ∷ ys
 joined_here [] a b ys = refl
 joined_here (x ∷ []) a b ys = refl
 joined_here (x ∷ y ∷ xs) a b ys = ap (λ rs. x ∷ rs) (joined_here (y ∷ xs) a b ys)
@@ -161,7 +161,7 @@ sweep_join gs level to front top b back chain k end s on =
       over = fewer s.over;
     }
   where
-    by : Step s.here.from s.here.range s.here.others top (b ∷ back) → Next (s.here.from + top.pages) s.here.range s.here.others (spans (b ∷ back)) → RestFrom s.here.from (s.here.range ∷ s.here.others) (spans (join top b ∷ back))
+    by : Step s.here.from s.here.range s.here.others top (b ∷ back) → Next (s.here.from + top.pages) s.here.range s.here.others (spans (b ∷ back)) → TilesFrom s.here.from (s.here.range ∷ s.here.others) (spans (join top b ∷ back))
     by st (inl rest) =
         let u = step (s.here.from + top.pages) s.here.range s.here.others b back rest in
         let sum : s.here.from + top.pages + b.pages ≡ s.here.from + (top.pages + b.pages) = omega arith in
@@ -202,7 +202,7 @@ sweep_on gs level to front top b back chain k end s on pushed =
       over = over_on gs level to front top b back s.over pushed;
     }
   where
-    by : Step s.here.from s.here.range s.here.others top (b ∷ back) → Next (s.here.from + top.pages) s.here.range s.here.others (spans (b ∷ back)) → RestFrom (s.here.from + top.pages) (s.here.range ∷ s.here.others) (spans (b ∷ back))
+    by : Step s.here.from s.here.range s.here.others top (b ∷ back) → Next (s.here.from + top.pages) s.here.range s.here.others (spans (b ∷ back)) → TilesFrom (s.here.from + top.pages) (s.here.range ∷ s.here.others) (spans (b ∷ back))
     by st (inl rest) = rest
     by st (inr over) = absurd (on (omega (arith, over.0, st.start, s.here.end_is)))
 

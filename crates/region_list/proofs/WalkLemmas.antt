@@ -9,7 +9,7 @@ use Rattle.damon_types.specs.declared.row.Row.{Row}
 use Rattle.damon_types.specs.Ranges.{OrderedFrom, InOrder, end_of}
 use Rattle.damon_types.specs.Span.{Span, span_of, spans}
 use Rattle.region_list.specs.Tiling.{Chain, Tiling}
-use Rattle.region_list.specs.Walk.{RestFrom}
+use Rattle.region_list.specs.Walk.{TilesFrom}
 use Rattle.region_list.specs.Join.{join}
 use Rattle.region_list.specs.Shrink.{holds_row, in_one_range, difference, joined_at}
 use Rattle.region_list.proofs.TilingLemmas.{chain_le}
@@ -17,7 +17,7 @@ use Rattle.region_list.proofs.PairLemmas.{IsPair, pair_within}
 
 -- the rows from a page on: still of the first range, or those of the others
 abbrev pub Next : ℕ → Range → List Range → List Span → Type 0
-Next from g gs ss = RestFrom from (g ∷ gs) ss ⊎ ((from ≡ end_of g) × Tiling 1 gs ss)
+Next from g gs ss = TilesFrom from (g ∷ gs) ss ⊎ ((from ≡ end_of g) × Tiling 1 gs ss)
 
 -- a row, and what follows it
 pub record Step (from : ℕ) (g : Range) (gs : List Range) (a : Row) (rows : List Row) : Type 0 where
@@ -33,7 +33,7 @@ chain_none t from to [] chain here = refl
 chain_none t from to (s ∷ ss) chain here = absurd (omega (arith, chain_le 1 t (from + s.pages) to ss chain.3, chain.2))
 
 -- the first row of the rest
-pub step : (from : ℕ) (g : Range) (gs : List Range) (a : Row) (rows : List Row) → RestFrom from (g ∷ gs) (spans (a ∷ rows)) → Step from g gs a rows
+pub step : (from : ℕ) (g : Range) (gs : List Range) (a : Row) (rows : List Row) → TilesFrom from (g ∷ gs) (spans (a ∷ rows)) → Step from g gs a rows
 step from g gs a rows rest = by rest.0 rest.2 rest.5
   where
     by : (front : List Span) → spans (a ∷ rows) ≡ front ++ rest.1 → Chain 1 g.target from (end_of g) front → Step from g gs a rows
@@ -61,20 +61,20 @@ step from g gs a rows rest = by rest.0 rest.2 rest.5
             inr (here, subst (λ ss. Tiling 1 gs ss) (sym (tail ∙ ap (λ ss. ss ++ rest.1) only)) rest.6)
 
 -- a row in front of what follows it
-pub prepend : (from : ℕ) (g : Range) (gs : List Range) (a : Row) (ss : List Span) → a.target ≡ g.target → a.start ≡ from → 1 ≤ a.pages → g.first ≤ from → Next (from + a.pages) g gs ss → RestFrom from (g ∷ gs) (span_of a ∷ ss)
+pub prepend : (from : ℕ) (g : Range) (gs : List Range) (a : Row) (ss : List Span) → a.target ≡ g.target → a.start ≡ from → 1 ≤ a.pages → g.first ≤ from → Next (from + a.pages) g gs ss → TilesFrom from (g ∷ gs) (span_of a ∷ ss)
 prepend from g gs a ss target start some low (inl rest) =
     (span_of a ∷ rest.0, rest.1, ap (λ us. span_of a ∷ us) rest.2, low, omega (arith, rest.4), (target, start, some, rest.5), rest.6)
 prepend from g gs a ss target start some low (inr over) =
     (span_of a ∷ [], ss, refl, low, omega (arith, over.0), (target, start, some, over.0), over.1)
 
 -- the rows of some ranges begin in the first one
-pub tiling_rest : (t p : ℕ) (gs : List Range) (ss : List Span) → OrderedFrom t p gs → Tiling 1 gs ss → 0 < length ss → (g : Range) × (others : List Range) × (gs ≡ g ∷ others) × (p ≤ g.first) × RestFrom g.first (g ∷ others) ss
+pub tiling_rest : (t p : ℕ) (gs : List Range) (ss : List Span) → OrderedFrom t p gs → Tiling 1 gs ss → 0 < length ss → (g : Range) × (others : List Range) × (gs ≡ g ∷ others) × (p ≤ g.first) × TilesFrom g.first (g ∷ others) ss
 tiling_rest t p [] ss ordered tiling some = absurd (omega (arith, ap length tiling))
 tiling_rest t p (g ∷ gs) ss ordered tiling some =
     (g, gs, refl, ordered.1, (tiling.0, tiling.1, tiling.2, omega arith, omega (arith, ordered.2.pages), tiling.3, tiling.4))
 
 -- and the other way
-pub rest_tiling : (g : Range) (gs : List Range) (ss : List Span) → RestFrom g.first (g ∷ gs) ss → Tiling 1 (g ∷ gs) ss
+pub rest_tiling : (g : Range) (gs : List Range) (ss : List Span) → TilesFrom g.first (g ∷ gs) ss → Tiling 1 (g ∷ gs) ss
 rest_tiling g gs ss rest = (rest.0, rest.1, rest.2, rest.5, rest.6)
 
 -- the ranges behind one
@@ -142,7 +142,7 @@ step_held from g gs a rows s = held g a s.target (omega (arith, s.low, s.start))
     held g a target low high = grind (arith, nat_tests)
 
 -- the next row lies in the range too
-pub next_in : (t p : ℕ) (all : List Range) (k from : ℕ) (g : Range) (gs : List Range) (a b : Row) (rows : List Row) → OrderedFrom t p all → drop k all ≡ g ∷ gs → Step from g gs a (b ∷ rows) → RestFrom (from + a.pages) (g ∷ gs) (spans (b ∷ rows)) → in_one_range all a b ≡ true
+pub next_in : (t p : ℕ) (all : List Range) (k from : ℕ) (g : Range) (gs : List Range) (a b : Row) (rows : List Row) → OrderedFrom t p all → drop k all ≡ g ∷ gs → Step from g gs a (b ∷ rows) → TilesFrom (from + a.pages) (g ∷ gs) (spans (b ∷ rows)) → in_one_range all a b ≡ true
 next_in t p all k from g gs a b rows ordered is s rest =
     only_range t p all k g gs a b ordered is (step_held from g gs a (b ∷ rows) s) s.some
     ∙ step_held (from + a.pages) g gs b rows (step (from + a.pages) g gs b rows rest)
@@ -158,13 +158,13 @@ next_out t p all k from g gs a b rows ordered is s tiling =
     passed g b behind some = grind (arith, nat_tests)
 
 -- a pair joined within the rest
-rest_joined : (t p : ℕ) (all : List Range) (rows : List Row) (i d k from : ℕ) (g : Range) (gs : List Range) → OrderedFrom t p all → drop k all ≡ g ∷ gs → RestFrom from (g ∷ gs) (spans rows) → IsPair all rows i d → RestFrom from (g ∷ gs) (spans (joined_at i rows))
+rest_joined : (t p : ℕ) (all : List Range) (rows : List Row) (i d k from : ℕ) (g : Range) (gs : List Range) → OrderedFrom t p all → drop k all ≡ g ∷ gs → TilesFrom from (g ∷ gs) (spans rows) → IsPair all rows i d → TilesFrom from (g ∷ gs) (spans (joined_at i rows))
 rest_joined t p all [] i d k from g gs ordered is rest pair = absurd pair
 rest_joined t p all (a ∷ []) i d k from g gs ordered is rest pair = absurd pair
 rest_joined t p all (a ∷ b ∷ rows) zero d k from g gs ordered is rest pair =
     let s = step from g gs a (b ∷ rows) rest in by s s.next
   where
-    by : Step from g gs a (b ∷ rows) → Next (from + a.pages) g gs (spans (b ∷ rows)) → RestFrom from (g ∷ gs) (span_of (join a b) ∷ spans rows)
+    by : Step from g gs a (b ∷ rows) → Next (from + a.pages) g gs (spans (b ∷ rows)) → TilesFrom from (g ∷ gs) (span_of (join a b) ∷ spans rows)
     by s (inl rest) =
         let u = step (from + a.pages) g gs b rows rest in
         let sum : from + a.pages + b.pages ≡ from + (a.pages + b.pages) = omega arith in
@@ -174,7 +174,7 @@ rest_joined t p all (a ∷ b ∷ rows) (suc i) d k from g gs ordered is rest pai
     let s = step from g gs a (b ∷ rows) rest in
     by (λ k from g gs is rest. rest_joined t p all (b ∷ rows) i d k from g gs ordered is rest pair) s s.next
   where
-    by : ((k from : ℕ) (g : Range) (gs : List Range) → drop k all ≡ g ∷ gs → RestFrom from (g ∷ gs) (spans (b ∷ rows)) → RestFrom from (g ∷ gs) (spans (joined_at i (b ∷ rows)))) → Step from g gs a (b ∷ rows) → Next (from + a.pages) g gs (spans (b ∷ rows)) → RestFrom from (g ∷ gs) (span_of a ∷ spans (joined_at i (b ∷ rows)))
+    by : ((k from : ℕ) (g : Range) (gs : List Range) → drop k all ≡ g ∷ gs → TilesFrom from (g ∷ gs) (spans (b ∷ rows)) → TilesFrom from (g ∷ gs) (spans (joined_at i (b ∷ rows)))) → Step from g gs a (b ∷ rows) → Next (from + a.pages) g gs (spans (b ∷ rows)) → TilesFrom from (g ∷ gs) (span_of a ∷ spans (joined_at i (b ∷ rows)))
     by later s (inl rest) = prepend from g gs a (spans (joined_at i (b ∷ rows))) s.target s.start s.some s.low (inl (later k (from + a.pages) g gs is rest))
     by later s (inr over) =
         let begun = tiling_rest g.target (end_of g) gs (spans (b ∷ rows)) (ordered_behind t p all k g gs ordered is) over.1 (omega arith) in
@@ -190,14 +190,14 @@ tiling_joined gs rows i d ordered tiling pair =
     subst (λ hs. Tiling 1 hs (spans (joined_at i rows))) (sym begun.2) (rest_tiling begun.0 begun.1 (spans (joined_at i rows)) joined)
 
 -- more rows than ranges have a pair
-rest_pair : (t p : ℕ) (all : List Range) (rows : List Row) (k from : ℕ) (g : Range) (gs : List Range) → OrderedFrom t p all → drop k all ≡ g ∷ gs → RestFrom from (g ∷ gs) (spans rows) → length (g ∷ gs) < length rows → (i : ℕ) × (d : ℕ) × IsPair all rows i d
+rest_pair : (t p : ℕ) (all : List Range) (rows : List Row) (k from : ℕ) (g : Range) (gs : List Range) → OrderedFrom t p all → drop k all ≡ g ∷ gs → TilesFrom from (g ∷ gs) (spans rows) → length (g ∷ gs) < length rows → (i : ℕ) × (d : ℕ) × IsPair all rows i d
 rest_pair t p all [] k from g gs ordered is rest more = absurd (omega arith)
 rest_pair t p all (a ∷ []) k from g gs ordered is rest more = absurd (omega arith)
 rest_pair t p all (a ∷ b ∷ rows) k from g gs ordered is rest more =
     let s = step from g gs a (b ∷ rows) rest in
     by (λ k from g gs is rest more. rest_pair t p all (b ∷ rows) k from g gs ordered is rest more) s s.next
   where
-    by : ((k from : ℕ) (g : Range) (gs : List Range) → drop k all ≡ g ∷ gs → RestFrom from (g ∷ gs) (spans (b ∷ rows)) → length (g ∷ gs) < length (b ∷ rows) → (i : ℕ) × (d : ℕ) × IsPair all (b ∷ rows) i d) → Step from g gs a (b ∷ rows) → Next (from + a.pages) g gs (spans (b ∷ rows)) → (i : ℕ) × (d : ℕ) × IsPair all (a ∷ b ∷ rows) i d
+    by : ((k from : ℕ) (g : Range) (gs : List Range) → drop k all ≡ g ∷ gs → TilesFrom from (g ∷ gs) (spans (b ∷ rows)) → length (g ∷ gs) < length (b ∷ rows) → (i : ℕ) × (d : ℕ) × IsPair all (b ∷ rows) i d) → Step from g gs a (b ∷ rows) → Next (from + a.pages) g gs (spans (b ∷ rows)) → (i : ℕ) × (d : ℕ) × IsPair all (a ∷ b ∷ rows) i d
     by later s (inl rest) = (0, difference a b, (next_in t p all k from g gs a b rows ordered is s rest, refl))
     by later s (inr over) =
         let begun = tiling_rest g.target (end_of g) gs (spans (b ∷ rows)) (ordered_behind t p all k g gs ordered is) over.1 (omega arith) in

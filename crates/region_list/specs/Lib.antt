@@ -6,4 +6,5 @@ pub mod Join
 pub mod Shrink
 pub mod Regions
 pub mod Walk
+pub mod Refined
 pub mod Sweep

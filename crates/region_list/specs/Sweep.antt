@@ -1,4 +1,4 @@
--- Rows joined level by level: on the way through the rows of one level.
+-- Shrinking level by level: a sweep that joins the pairs of one level. For proofs alone; `Shrink` says what shrinking means.
 use Rattle.std.specs.Prelude.{◌≡◌, ◌⊎◌, ℕ, ◌+◌, ◌≤◌, true, false, List, [], ◌∷◌, ◌++◌, length}
 use Rattle.damon_types.specs.declared.range.Range.{Range}
 use Rattle.damon_types.specs.declared.row.Row.{Row}
@@ -7,25 +7,26 @@ use Rattle.region_list.specs.Tiling.{Chain}
 use Rattle.region_list.specs.Walk.{BeginsIn}
 use Rattle.region_list.specs.Shrink.{in_one_range, difference}
 
--- adjacent rows of one range all differ by at least so much
+-- the counts of each adjacent pair of one range differ by at least d
 abbrev pub DifferBy : List Range → ℕ → List Row → Type 0
 DifferBy ranges d [] = Unit {0}
 DifferBy ranges d (a ∷ []) = Unit {0}
 DifferBy ranges d (a ∷ b ∷ rows) = (in_one_range ranges a b ≡ true → d ≤ difference a b) × DifferBy ranges d (b ∷ rows)
 
--- no range holds both the last of the rows and this one
+-- no range holds both the last of the rows and row b
 abbrev pub IsApart : List Range → List Row → Row → Type 0
 IsApart ranges [] b = Unit {0}
 IsApart ranges (a ∷ []) b = in_one_range ranges a b ≡ false
 IsApart ranges (a ∷ b ∷ rows) c = IsApart ranges (b ∷ rows) c
 
--- the first of the rows, or this one where there is none
+-- the first of the rows, or row r where there are no rows
 abbrev pub first_or : List Row → Row → Row
 first_or [] r = r
 first_or (c ∷ rows) r = c
 
--- In front of a row are rows that differ by more than the level, the last few of them in its range, and
--- behind it rows that differ by the level at least; or there are few enough rows.
+-- A sweep in progress: `front` are the finished rows, `top` is the row in hand, and `back` are the rows to come. Range
+-- number k holds the top and the last `chain` finished rows, and ends at page `end`. Either few enough rows are left, or
+-- pairs among the finished rows differ by more than the level, and pairs among those to come by at least the level.
 pub record IsSweep (ranges : List Range) (level to : ℕ) (front : List Row) (top : Row) (back : List Row) (chain k end : ℕ) : Type 0 where
   pub here : BeginsIn ranges (top ∷ back) k end
   pub earlier : List Row

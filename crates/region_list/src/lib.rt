@@ -6,7 +6,7 @@
 mod division;
 /// Joining two rows.
 mod join;
-/// Laws of tiling, division and shrinking.
+/// Laws of tiling, division, joining, cutting and shrinking.
 mod laws;
 /// Joining the pairs of one level, for shrinking.
 mod level;
@@ -23,7 +23,10 @@ mod walk;
 
 pub use division::divide;
 pub use join::join_rows;
-pub use laws::{division_tiles, shrunk_rows_tile, tiling_is_per_page};
+pub use laws::{
+    division_tiles, joined_rows_tile, refined_rows_tile, rows_follow_ranges, shrunk_rows_tile,
+    tiled_rows_fit, tiling_is_per_page,
+};
 pub use pass::RowPass;
 pub use regions::Regions;
 pub use row_buf::RowBuf;

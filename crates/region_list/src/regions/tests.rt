@@ -1,7 +1,22 @@
+ghost use Rattle.std.specs.Prelude.{Unit};
+
 use super::*;
-use crate::divide;
+use crate::{divide, range_end};
 use damon_types::Range;
 use std::test::Fail;
+
+// A pass that keeps every row.
+struct KeepAll;
+
+impl RowPass for KeepAll {
+    ghost rows_of = { λ p gs rows. rows };
+
+    ghost can_run = { λ p rows. Unit {0} };
+
+    fn run(&self, _ranges: &Ranges, rows: &[Row], made: &mut Vec<Row>) {
+        append_reserved(made, rows);
+    }
+}
 
 #[test]
 fn rows_of_a_division_are_kept(rt: HostRuntime) -> Result<(), Fail> {
@@ -23,6 +38,7 @@ fn rows_of_a_division_are_kept(rt: HostRuntime) -> Result<(), Fail> {
     assert_eq!(rt; (regions.len(), regions.max(), regions.room()), (2, 6, 4));
     assert_eq!(rt; (regions.cap(), regions.unit()), (8, 2));
     assert_eq!(rt; (regions.ranges().len(), regions.ranges().cap()), (1, 8));
+    assert_eq!(rt; range_end(regions.ranges(), 0), 8);
 
     regions.set_values(1, 9, 8, 7);
     let first = Row {
@@ -43,6 +59,7 @@ fn rows_of_a_division_are_kept(rt: HostRuntime) -> Result<(), Fail> {
     };
     assert_eq!(rt; regions.row(0), first);
     assert_eq!(rt; regions.row(1), second);
-    assert_eq!(rt; regions.len(), 2);
+    regions.remake(&KeepAll);
+    assert_eq!(rt; regions.rows(), [first, second].as_slice());
     Ok(())
 }
