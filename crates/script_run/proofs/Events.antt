@@ -8,7 +8,7 @@ use Rattle.live_commit.specs.declared.phase.Phase.TheVariants.{Idle, Clearing, A
 use Rattle.damon_core.specs.State.{State, row_count}
 use Rattle.damon_core.specs.Event.{Event, touch, observe, load, next_hit}
 use Rattle.damon_core.specs.After.{after}
-use Rattle.damon_world.specs.Moment.{Moment, along, event_in, moved, next_event}
+use Rattle.damon_world.specs.Moment.{along, event_in, events_of_steps, Moment, moved, next_event, stepped_times}
 use Rattle.damon_world.specs.Advance.{IsAmid}
 use Rattle.damon_world.specs.Plays.{along-append}
 use Rattle.damon_world.specs.Touches.{touches}
@@ -21,7 +21,6 @@ use Rattle.script_run.specs.Kept.{is_done}
 use Rattle.script_run.specs.Parts.{stops_at}
 use Rattle.script_run.specs.Report.{event_text, text_from}
 use Rattle.script_run.specs.Unfold.{part_events, parts_events, steps_until}
-use Rattle.script_run.proofs.Advancing.{after_steps, next_steps}
 
 -- ---- what writes nothing
 
@@ -38,11 +37,11 @@ silent_in form Void s t = refl
 silent_in form Due s t = refl
 
 -- steps write nothing
-pub text_from-steps : (form : Form) (n : ℕ) (m : Moment) → text_from form m.state (next_steps n m) ≡ []
+pub text_from-steps : (form : Form) (n : ℕ) (m : Moment) → text_from form m.state (events_of_steps n m) ≡ []
 text_from-steps form zero m = refl
 text_from-steps form (suc n) m =
     let e = next_event m.state m.stream in
-    ap (λ t. t ++ text_from form (moved m e).state (next_steps n (moved m e))) (silent_in form m.state.core.phase m.state m.stream)
+    ap (λ t. t ++ text_from form (moved m e).state (events_of_steps n (moved m e))) (silent_in form m.state.core.phase m.state m.stream)
     ∙ text_from-steps form n (moved m e)
 
 -- touches write nothing
@@ -58,8 +57,8 @@ along-touches m page (suc n) = along-touches (moved m (touch page)) (page + 1) n
 -- ---- steps
 
 -- steps that do not stop, and those after them
-pub steps_until-split : (u : Until) (n rest : ℕ) (m : Moment) → ((k : ℕ) → k < n → stops_at u (after_steps k m).state.core.phase ≡ false)
-    → steps_until u (n + rest) m ≡ next_steps n m ++ steps_until u rest (after_steps n m)
+pub steps_until-split : (u : Until) (n rest : ℕ) (m : Moment) → ((k : ℕ) → k < n → stops_at u (stepped_times k m).state.core.phase ≡ false)
+    → steps_until u (n + rest) m ≡ events_of_steps n m ++ steps_until u rest (stepped_times n m)
 steps_until-split u zero rest m going = let same : 0 + rest ≡ rest = omega arith in ap (λ i. steps_until u i m) same
 steps_until-split u (suc n) rest m going =
     let e = next_event m.state m.stream in
@@ -87,10 +86,10 @@ amid_goes_on until.Idle Due amid = absurd amid
 
 -- where the first step does not stop and those after it are amid a pass, none stops
 pub none_stops : (u : Until) (n : ℕ) (m : Moment) → stops_at u m.state.core.phase ≡ false
-    → ((k : ℕ) → 1 ≤ k → k < n → IsAmid (after_steps k m).state.core.phase)
-    → (k : ℕ) → k < n → stops_at u (after_steps k m).state.core.phase ≡ false
+    → ((k : ℕ) → 1 ≤ k → k < n → IsAmid (stepped_times k m).state.core.phase)
+    → (k : ℕ) → k < n → stops_at u (stepped_times k m).state.core.phase ≡ false
 none_stops u n m here amid zero below = here
-none_stops u n m here amid (suc k) below = amid_goes_on u (after_steps (suc k) m).state.core.phase (amid (suc k) (omega arith) below)
+none_stops u n m here amid (suc k) below = amid_goes_on u (stepped_times (suc k) m).state.core.phase (amid (suc k) (omega arith) below)
 
 -- ---- parts
 

@@ -3,7 +3,7 @@ use Rattle.std.proofs.Common.{◌≡◌, ℕ, zero, suc, ◌+◌, ◌*◌, ◌<�
 use Rattle.std.specs.Prelude.{◌==◌, not}
 use Rattle.std.proofs.lemmas.Bool.Decides.{nat_tests}
 use Rattle.std.proofs.lemmas.List.Sums.{take_while-cons}
-use Rattle.rand_core.specs.Stream.{Stream}
+use Rattle.rand_core.specs.Stream.{Stream, next_u32}
 use Rattle.damon_types.specs.Space.{pages_of}
 use Rattle.live_commit.specs.declared.phase.Phase.{Phase}
 use Rattle.live_commit.specs.declared.phase.Phase.TheVariants.{Idle, Clearing, Armed, Checking, Void, Due}
@@ -12,9 +12,10 @@ use Rattle.damon_core.specs.Event.{Event, Fits, IsClearing, IsLoading, IsObservi
 use Rattle.damon_core.specs.After.{after, by_clear, by_load, by_observe}
 use Rattle.damon_core.specs.Bound.{Bound}
 use Rattle.damon_core.specs.InPhase.{IsInPhase}
-use Rattle.damon_core.specs.Kept.{IsWithin}
+use Rattle.damon_core.specs.Pass.{IsPickWithin}
 use Rattle.damon_core.specs.Makes.{AllFit-append, Reached-run}
 use Rattle.damon_core.specs.Reached.{AllByHit, AllFit, CanOpen, Reached, ReachedByHit, run}
+use Rattle.damon_world.specs.Draws.{drawn}
 use Rattle.damon_world.specs.Moment.{Moment, along, event_in, moved, next_event}
 use Rattle.damon_world.specs.Plays.{Reached-along, along-state}
 use Rattle.damon_world.specs.Touches.{touches}
@@ -27,11 +28,15 @@ use Rattle.script_run.specs.BoundAlong.{ScriptsAreBoundAlong, IsBoundAlong}
 use Rattle.script_run.specs.Kept.{ArePartsWithin, IsPartWithin}
 use Rattle.script_run.specs.NotBuilt.{before_aggregation, built_events, is_aggregation}
 use Rattle.script_run.specs.Parts.{part_of, parts_of, stops_at}
-use Rattle.script_run.specs.Sound.{AreCommandsWithin, IsCommandWithin, IsSound}
+use Rattle.damon_control.specs.Limits.{AreCommandsWithin, IsCommandWithin}
+use Rattle.damon_control.specs.Sound.{IsSound, ScriptsAreSound}
 use Rattle.script_run.specs.Unfold.{part_events, parts_events, start, steps_until, unfold_script}
 use Rattle.script_run.specs.Way.{Reached-start}
-use Rattle.script_run.proofs.Advancing.{length-drawn}
 use Rattle.script_run.proofs.Hits.{AllByHit-prefix, by_hit-parts}
+
+length-drawn : (n : ℕ) (s : Stream) → length (drawn n s) ≡ n
+length-drawn zero s = refl
+length-drawn (suc n) s = ap suc (length-drawn n (next_u32 s).1)
 
 -- ---- events before the first aggregation
 
@@ -77,7 +82,7 @@ pub next_fits : (ph : Phase) (s : State) (t : Stream) → s.core.phase ≡ ph �
 next_fits Idle s t is within built = (is, length-drawn (row_count s.core) t)
 next_fits (Clearing k) s t is within built = subst IsClearing (sym is) tt
 next_fits Armed s t is within built = subst (λ ph. IsLoading ph (row_count s.core)) (sym is) tt
-next_fits (Checking k) s t is within built = fits_check (k == row_count s.core) k s is (subst (λ ph. IsWithin ph (row_count s.core)) is within.pick) refl
+next_fits (Checking k) s t is within built = fits_check (k == row_count s.core) k s is (subst (λ ph. IsPickWithin ph (row_count s.core)) is within.pick) refl
 next_fits Void s t is within built = subst (λ ph. IsObserving ph (row_count s.core)) (sym is) tt
 next_fits Due s t is within built = absurd (cc built)
 
@@ -182,7 +187,7 @@ by_hit-before s (e ∷ es) hit = subst (AllByHit s) (sym (before-cons e es)) (by
     by false hit = hit
 
 -- The built events of the script of a text fit, and each state to which a prefix of them leads is bound.
-pub bound_along : ((s : State) → Reached s → IsInPhase s) → ((s : State) → ReachedByHit s → Bound s) → ScriptsAreBoundAlong
+pub bound_along : ((s : State) → Reached s → IsInPhase s) → ((s : State) → ReachedByHit s → Bound s) → ScriptsAreSound → ScriptsAreBoundAlong
 bound_along in_phase bound each text s spells =
     let sound = each text s spells in
     let can : CanOpen s.setup = record { sound = sound.setup; order = sound.order } in

@@ -6,12 +6,13 @@ use Rattle.live_commit.specs.declared.phase.Phase.{Phase}
 use Rattle.live_commit.specs.declared.phase.Phase.TheVariants.{Due}
 use Rattle.damon_core.specs.State.{Core, State}
 use Rattle.damon_core.specs.Event.{Event, aggregate, show}
-use Rattle.damon_core.specs.Makes.{Reached-run}
+use Rattle.damon_core.specs.Makes.{Makes, Reached-run}
 use Rattle.damon_core.specs.Reached.{AllFit, Reached, run}
 use Rattle.damon_world.specs.Draws.{drawn}
-use Rattle.damon_world.specs.Moment.{Moment, along, event_in, moved, next_event}
+use Rattle.damon_world.specs.Advance.{AreAmid}
+use Rattle.damon_world.specs.Moment.{Moment, along, event_in, events_of_steps, moved, next_event, stepped_times}
 use Rattle.damon_world.specs.Plays.{Plays, Plays-append, Reached-along, along-append, along-state}
-use Rattle.damon_world.specs.Stands.{AreEvents, StandsAt, StandsFor, WorldView}
+use Rattle.damon_world.specs.Stands.{StandsAt, StandsFor, WorldView}
 use Rattle.damon_world.specs.Touches.{touches}
 use Rattle.snapshot_print.specs.Lines.{show_text}
 use Rattle.script_run.specs.declared.part.Part.{Part}
@@ -24,7 +25,6 @@ use Rattle.script_run.specs.Parts.{stops_at}
 use Rattle.script_run.specs.Player.{GoesOn, IsAtAggregation, IsOver, PlayerView, WritesSome, left_events}
 use Rattle.script_run.specs.Report.{text_from, text_from-append}
 use Rattle.script_run.specs.Unfold.{part_events, parts_events, steps_until}
-use Rattle.script_run.proofs.Advancing.{PlaysSteps, after_steps, next_steps}
 use Rattle.script_run.proofs.Events.{along-touches, none_stops, parts_events-done, parts_events-made, steps_until-split, suc_not_zero, text_from-steps, text_from-touches}
 
 module _ {R : Type 0} (stream : R → Stream) where
@@ -126,7 +126,7 @@ module _ {R : Type 0} (stream : R → Stream) where
   }
 
   -- all touches of a part
-  pub touches_made : (a b : PlayerView R) (text : List ℕ) (page count : ℕ) → a.part ≡ part.Touches page count → b.part ≡ part.Touches 0 0 → b.later ≡ a.later → b.form ≡ a.form → b.world.source ≡ a.world.source → AreEvents a.world b.world (touches page count) → GoesOn stream a b text text
+  pub touches_made : (a b : PlayerView R) (text : List ℕ) (page count : ℕ) → a.part ≡ part.Touches page count → b.part ≡ part.Touches 0 0 → b.later ≡ a.later → b.form ≡ a.form → b.world.source ≡ a.world.source → Makes StandsFor a.world b.world (touches page count) → GoesOn stream a b text text
   touches_made a b text page count old new later form source makes = record {
     events = λ m. es;
     plays = λ m reached stands. (
@@ -153,25 +153,25 @@ module _ {R : Type 0} (stream : R → Stream) where
   first_goes (suc n) stop e = ap (λ b. b || stop) (sym (suc_not_zero n)) ∙ e
 
   -- steps of one kind
-  pub steps_made : (a b : PlayerView R) (text : List ℕ) (u : Until) (most n : ℕ) → a.part ≡ part.Steps u most → b.part ≡ part.Steps u (most - n) → b.later ≡ a.later → b.form ≡ a.form → n ≤ most → is_done a.part a.world.monitor.core.phase ≡ false → PlaysSteps stream a.world b.world n → GoesOn stream a b text text
-  steps_made a b text u most n old new later form within going steps = record {
-    events = next_steps n;
-    plays = steps.plays;
+  pub steps_made : (a b : PlayerView R) (text : List ℕ) (u : Until) (most n : ℕ) → a.part ≡ part.Steps u most → b.part ≡ part.Steps u (most - n) → b.later ≡ a.later → b.form ≡ a.form → n ≤ most → is_done a.part a.world.monitor.core.phase ≡ false → Plays stream a.world b.world (λ m. events_of_steps n m) → ((m : Moment) → Reached m.state → StandsAt stream a.world m → AreAmid n m) → GoesOn stream a b text text
+  steps_made a b text u most n old new later form within going plays amid = record {
+    events = events_of_steps n;
+    plays = plays;
     left = by;
     text = λ m reached stands. sym (ap (λ t. text ++ t) (text_from-steps a.form n m) ∙ append-nil text);
     form = form;
   }
     where
-      by : (m : Moment) → Reached m.state → StandsAt stream a.world m → left_events a m ≡ next_steps n m ++ left_events b (after_steps n m)
+      by : (m : Moment) → Reached m.state → StandsAt stream a.world m → left_events a m ≡ events_of_steps n m ++ left_events b (stepped_times n m)
       by m reached stands =
-          let es = next_steps n m in
+          let es = events_of_steps n m in
           let begun : stops_at u a.world.monitor.core.phase ≡ false = first_goes most (stops_at u a.world.monitor.core.phase) (ap (λ q. is_done q a.world.monitor.core.phase) (sym old) ∙ going) in
           let here : stops_at u m.state.core.phase ≡ false = ap (λ (c : Core). stops_at u c.phase) (sym stands.state.monitor.same) ∙ begun in
           let index : most ≡ n + (most - n) = omega (arith, within) in
           let all : part_events m a.part ≡ es ++ part_events (along m es) b.part =
           ap (part_events m) old
           ∙ ap (λ i. steps_until u i m) index
-          ∙ steps_until-split u n (most - n) m (none_stops u n m here (steps.amid m reached stands))
+          ∙ steps_until-split u n (most - n) m (none_stops u n m here (amid m reached stands))
           ∙ ap (λ q. es ++ part_events (along m es) q) (sym new) in
           parts_events-made m es a.part b.part a.later all ∙ ap (λ ps. es ++ parts_events (along m es) (b.part ∷ ps)) (sym later)
 

@@ -10,7 +10,7 @@ use Rattle.live_commit.specs.declared.phase.Phase.TheVariants.{Idle, Clearing, A
 use Rattle.damon_core.specs.After.{after, by_clear, by_load, by_observe, counted_from, phase_after_clear, phase_after_pass}
 use Rattle.damon_core.specs.Event.{Event, load, next_hit, observe}
 use Rattle.damon_core.specs.InPhase.{IsInPhase}
-use Rattle.damon_core.specs.Kept.{IsWithin}
+use Rattle.damon_core.specs.Pass.{IsPickWithin}
 use Rattle.damon_core.specs.Makes.{Reached-run}
 use Rattle.damon_core.specs.Note.{Note}
 use Rattle.damon_core.specs.Reached.{Reached}
@@ -141,7 +141,7 @@ nearer-check until.Armed false k rows since aggr stops within is = let below : k
 nearer-check until.Idle false k rows since aggr stops within is = let below : k < rows = grind (arith, nat_tests) in omega (arith, below)
 
 -- a step that neither stops nor aggregates
-nearer : (u : Until) (ph : Phase) (rows since aggr : ℕ) → Stops u → 0 < rows → IsWithin ph rows → stops_at u ph ≡ false → (ph ≡ Due → ⊥) → distance u (phase_then ph rows since aggr) rows + 1 ≤ distance u ph rows
+nearer : (u : Until) (ph : Phase) (rows since aggr : ℕ) → Stops u → 0 < rows → IsPickWithin ph rows → stops_at u ph ≡ false → (ph ≡ Due → ⊥) → distance u (phase_then ph rows since aggr) rows + 1 ≤ distance u ph rows
 nearer until.Count ph rows since aggr stops some within goes built = absurd stops
 nearer until.Armed Idle rows since aggr stops some within goes built = omega arith
 nearer until.Armed Armed rows since aggr stops some within goes built = absurd (cc goes)
@@ -168,7 +168,7 @@ stopped until.Idle (Checking k) is = absurd (cc is)
 stopped until.Idle Void is = absurd (cc is)
 stopped until.Idle Due is = absurd (cc is)
 
-there : (u : Until) (ph : Phase) (rows : ℕ) → Stops u → IsWithin ph rows → distance u ph rows ≤ 0 → ph ≡ target u
+there : (u : Until) (ph : Phase) (rows : ℕ) → Stops u → IsPickWithin ph rows → distance u ph rows ≤ 0 → ph ≡ target u
 there until.Count ph rows stops within none = absurd stops
 there until.Armed Armed rows stops within none = refl
 there until.Idle Idle rows stops within none = refl

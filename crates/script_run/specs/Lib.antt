@@ -5,6 +5,5 @@ pub mod Report
 pub mod Player
 pub mod Kept
 pub mod Way
-pub mod Sound
 pub mod BoundAlong
 pub mod Reaching

@@ -7,6 +7,7 @@ ghost use Rattle.script_run.specs.Reaching.{ReachTheirPhase};
 pub fn scripts_are_bound_along()
     ensures { ScriptsAreBoundAlong }
 {
+    damon_control::scripts_are_sound();
     damon_core::reached_states_are_bound();
     damon_core::reached_states_are_in_phase();
 }

@@ -3,7 +3,7 @@ ghost use Rattle.rand_core.specs.Steps.{stream_of, steps_u32};
 ghost use Rattle.rand_pcg.specs.Pcg.{pcg32};
 ghost use Rattle.damon_types.specs.Space.{pages_of};
 ghost use Rattle.damon_control.specs.Command.{command_value, work_of};
-ghost use Rattle.damon_control.specs.Limits.{IsWithin};
+ghost use Rattle.damon_control.specs.Limits.{EachIsWithin};
 ghost use Rattle.damon_control.specs.ScriptView.{said_by};
 ghost use Rattle.script_run.specs.NotBuilt.{has_later_parts};
 ghost use Rattle.script_run.specs.Kept.{is_done};
@@ -12,7 +12,7 @@ ghost use Rattle.script_run.specs.Way.{IsOnItsWay};
 
 use crate::part::{Part, Until, is_done, part_of};
 use crate::random::random_words;
-use damon_control::{Commands, Script};
+use damon_control::{Commands, MAX_WORK, Script};
 use damon_types::Space;
 use damon_world::World;
 use live_commit::{Phase, Setup};
@@ -180,14 +180,14 @@ impl<R: Rng + Drop> Player<R> {
 
 /// A player before the first event of a script without schemes and commits, whose random words are
 /// those of the script's seed. The pages of its commands are of its space, and their work is at most
-/// 16,777,216. Takes memory.
+/// [`MAX_WORK`]. Allocates.
 pub fn open_player(
     alloc: Global,
     script: Script,
     form: Form,
 ) -> Result<Player<Lcg64Xsh32>, AllocError>
-    requires within { All (IsWithin (pages_of script.setup.space)) script.commands.list }
-    requires work { work_of script.setup.cap (map command_value script.commands.list) ≤ 16777216 }
+    requires within { EachIsWithin (pages_of script.setup.space) script.commands.list }
+    requires work { work_of script.setup.cap (map command_value script.commands.list) ≤ MAX_WORK }
     requires built { has_later_parts (said_by script) ≡ false }
     ensures { IfOk result (λ p. IsOnItsWay (stream_of (steps_u32 pcg32)) (said_by script) form p []) }
 {

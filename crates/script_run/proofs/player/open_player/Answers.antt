@@ -7,9 +7,8 @@ use Rattle.rand_core.specs.Steps.{stream_of, steps_u32}
 use Rattle.rand_pcg.specs.Pcg.{pcg32}
 use Rattle.damon_types.specs.Space.{pages_of}
 use Rattle.damon_control.specs.declared.script.Command.{Command}
-use Rattle.damon_control.specs.declared.script.Command.TheVariants as commands
 use Rattle.damon_control.specs.Command.{CommandValue, Touch, Sweep, Step, Arm, Finish, Show, Commit, command_value, weight, work_of}
-use Rattle.damon_control.specs.Limits.{IsWithin}
+use Rattle.damon_control.specs.Limits.{IsCommandWithin}
 use Rattle.damon_control.specs.ScriptView.{said_by}
 use Rattle.script_run.specs.declared.part.Part.TheVariants as part
 use Rattle.script_run.specs.Kept.{ArePartsWithin, IsPartWithin}
@@ -31,18 +30,18 @@ left_in-parts cap [] = omega arith
 left_in-parts cap (c ∷ cs) =
     omega (arith, left_of-part cap c, left_in-parts cap cs, sum_by-cons (λ q. 1 + left_of q) (part_of cap c) (parts_of cap cs), sum_by-cons (weight cap) c cs)
 
-part_within : (cap pages : ℕ) (c : Command) → IsWithin pages c → IsPartWithin pages (part_of cap (command_value c))
-part_within cap pages (commands.Touch page) within = omega (arith, within)
-part_within cap pages (commands.Sweep from to) within = omega (arith, within.0, within.1)
-part_within cap pages (commands.Step times) within = tt
-part_within cap pages commands.Arm within = tt
-part_within cap pages commands.Finish within = tt
-part_within cap pages commands.Show within = tt
-part_within cap pages (commands.Commit commit) within = omega arith
+part_within : (cap pages : ℕ) (c : CommandValue) → IsCommandWithin pages c → IsPartWithin pages (part_of cap c)
+part_within cap pages (Touch page) within = omega (arith, within)
+part_within cap pages (Sweep from to) within = omega (arith, within.0, within.1)
+part_within cap pages (Step times) within = tt
+part_within cap pages Arm within = tt
+part_within cap pages Finish within = tt
+part_within cap pages Show within = tt
+part_within cap pages (Commit commit) within = omega arith
 
-parts_within : (cap pages : ℕ) (cs : List Command) → AllByRecursion (IsWithin pages) cs → ArePartsWithin pages (parts_of cap (map command_value cs))
+parts_within : (cap pages : ℕ) (cs : List Command) → AllByRecursion (λ c. IsCommandWithin pages (command_value c)) cs → ArePartsWithin pages (parts_of cap (map command_value cs))
 parts_within cap pages [] within = tt
-parts_within cap pages (c ∷ cs) within = (part_within cap pages c within.0, parts_within cap pages cs within.1)
+parts_within cap pages (c ∷ cs) within = (part_within cap pages (command_value c) within.0, parts_within cap pages cs within.1)
 
 pub invariant_of-result : goal.invariant_of-result
 invariant_of-result c =
@@ -54,7 +53,7 @@ invariant_of-result c =
       within = (
         omega arith,
         subst (λ sp. ArePartsWithin (pages_of sp) (parts_of s.setup.cap cs)) space
-            (parts_within s.setup.cap (pages_of s.setup.space) s.commands.list (recursion_from_All (IsWithin (pages_of s.setup.space)) s.commands.list c.requires.within)),
+            (parts_within s.setup.cap (pages_of s.setup.space) s.commands.list (recursion_from_All (λ c. IsCommandWithin (pages_of s.setup.space) (command_value c)) s.commands.list c.requires.within)),
       );
       work = omega (arith, left_in-parts s.setup.cap cs, sum_by-cons (λ q. 1 + left_of q) (part.Touches 0 0) (parts_of s.setup.cap cs), c.requires.work, length-map s.commands.list command_value, c.len-commands.ensures, c.len-commands.auto.0, ap (λ x. x.ticks) c.in_ok-world.ensures.core);
     }

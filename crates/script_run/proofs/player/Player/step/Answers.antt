@@ -1,6 +1,9 @@
 use Rattle.std.proofs.Common.{refl, sym, ap, subst, ◌∙◌, arith}
-use Rattle.damon_world.specs.Advance.{Advances}
-use Rattle.script_run.proofs.Advancing.{advance_plays}
+use Rattle.damon_core.specs.Reached.{Reached}
+use Rattle.damon_world.specs.Advance.{AreAmid}
+use Rattle.damon_world.specs.Moment.{Moment, events_of_steps}
+use Rattle.damon_world.specs.Plays.{Plays}
+use Rattle.damon_world.specs.Stands.{StandsAt}
 use Rattle.script_run.proofs.Moves.{steps_made}
 use Rattle.script_run.proofs.player.Player.step.Goals as goal
 
@@ -10,5 +13,5 @@ returns-clause-on g c text =
     let n = c.advance-made.result in
     steps_made g.R.Rng.stream c.args.self.now _ text c.args.until c.args.most n c.requires.part refl
     (ap (λ v. v.later) is) (ap (λ v. v.form) is) (omega (arith, c.advance-made.ensures.count)) c.requires.some
-    (advance_plays g.R.Rng.stream c.args.self.now.world c.advance-made.new.self n
-    (subst (λ w. Advances g.R.Rng.stream w c.advance-made.new.self n) (ap (λ v. v.world) is) c.advance-made.ensures.steps))
+    (subst (λ w. Plays g.R.Rng.stream w c.advance-made.new.self (λ m. events_of_steps n m)) (ap (λ v. v.world) is) c.advance-made.ensures.plays)
+    (subst (λ w. (m : Moment) → Reached m.state → StandsAt g.R.Rng.stream w m → AreAmid n m) (ap (λ v. v.world) is) c.advance-made.ensures.amid)

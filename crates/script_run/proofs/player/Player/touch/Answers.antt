@@ -1,6 +1,7 @@
 use Rattle.std.proofs.Common.{◌≡◌, ◌+◌, ◌-◌, ◌≤◌, refl, sym, ap, subst, ◌∙◌, arith}
 use Rattle.damon_types.specs.Space.{pages_of}
-use Rattle.damon_world.specs.Stands.{AreEvents}
+use Rattle.damon_core.specs.Makes.{Makes}
+use Rattle.damon_world.specs.Stands.{StandsFor}
 use Rattle.damon_world.specs.Touches.{touches}
 use Rattle.script_run.specs.declared.part.Part.TheVariants as part
 use Rattle.script_run.specs.Kept.{IsPartWithin}
@@ -20,4 +21,4 @@ returns-clause-on g c text =
     let count : c.args.page + c.args.count - c.args.page ≡ c.args.count = omega arith in
     touches_made g.R.Rng.stream c.args.self.now _ text c.args.page c.args.count c.requires.part refl
     (ap (λ v. v.later) is) (ap (λ v. v.form) is) (c.sweep.ensures.source ∙ sym (ap (λ w. w.source) world))
-    (subst (λ w. AreEvents w c.sweep.new.self (touches c.args.page c.args.count)) (sym world) (subst (λ n. AreEvents c.self.inside.world c.sweep.new.self (touches c.args.page n)) count c.sweep.ensures.events))
+    (subst (λ w. Makes StandsFor w c.sweep.new.self (touches c.args.page c.args.count)) (sym world) (subst (λ n. Makes StandsFor c.self.inside.world c.sweep.new.self (touches c.args.page n)) count c.sweep.ensures.events))
