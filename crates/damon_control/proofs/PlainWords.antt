@@ -1,4 +1,4 @@
--- Plain words, the bytes that they have, and lines of them.
+-- Plain words: their bytes, and lines of such words.
 use Rattle.std.proofs.Common.{◌≡◌, ◌≢◌, ◌^◌, ◌<◌, ◌-◌, ◌∷◌, [], ℕ, Bool, true, false, not, ◌&&◌, ◌||◌, ◌==◌, nat_le, List, ◌++◌, Some, Ok, refl, sym, ap, ◌∙◌, decimal, arith, IsTrue, IsSome}
 use Rattle.std.specs.Char.{is_ascii_digit}
 use Rattle.std.specs.Cmp.Derive.{both_true}
@@ -14,15 +14,15 @@ use Rattle.damon_control.specs.Laws.{WordLaws}
 use Rattle.damon_control.specs.Words.{arguments, begins_with, same_word}
 use Rattle.damon_control.proofs.SpellSteps.{first_true, second_true}
 
--- a byte of a number or an address: a digit or a small letter, and so none of the separators
+-- a byte of a number or an address: a digit or a lower-case letter, so no separator
 abbrev pub is_field_byte : ℕ → Bool
 is_field_byte c = is_ascii_digit c || (nat_le 97 c && nat_le c 122)
 
--- a byte of a word: it prints, and is no space
+-- a byte of a word: printable and no space
 abbrev pub is_word_byte : ℕ → Bool
 is_word_byte c = is_printable c && not (c == 32)
 
--- a word of at least one byte, each of which may stand in a word
+-- a word that is not empty, with bytes of a word only
 abbrev pub is_plain_word : List ℕ → Bool
 is_plain_word word = is_word word && list_all is_word_byte word
 
@@ -40,7 +40,7 @@ pub list_all-both : {X : Type 0} (p : X → Bool) (xs ys : List X) → list_all 
 list_all-both p [] ys left right = right
 list_all-both p (x ∷ xs) ys left right = both_true (first_true (p x) (list_all p xs) left) (list_all-both p xs ys (second_true (p x) (list_all p xs) left) right)
 
--- bytes that pass a test have none of a byte that does not
+-- bytes that all pass a test do not contain a byte that fails it
 pub lacks : (p : ℕ → Bool) (byte : ℕ) → p byte ≡ false → (bytes : List ℕ) → list_all p bytes ≡ true → IsPiece byte bytes
 lacks p byte fails bytes all =
     All-weaker (λ c. p c ≡ true) (λ c. c ≢ byte) (λ c passes same. let clash : true ≡ false = sym passes ∙ ap p same ∙ fails in absurd cc) bytes (AllPass-from_list_all p bytes all)
@@ -78,7 +78,7 @@ field_16 laws n small = decimal_field laws n (omega arith)
 pub field_32 : (laws : WordLaws) (n : ℕ) → n < 2 ^ 32 → IsField (decimal n)
 field_32 laws n small = decimal_field laws n (omega arith)
 
--- the bytes of a number or an address may stand in a word
+-- the bytes of a number or an address are bytes of a word
 pub field_bytes : (word : List ℕ) → IsField word → list_all is_word_byte word ≡ true
 field_bytes word field = list_all-weaker is_field_byte is_word_byte field_byte word field.bytes
 
@@ -86,11 +86,11 @@ field_bytes word field = list_all-weaker is_field_byte is_word_byte field_byte w
 pub field_word : (word : List ℕ) → IsField word → is_plain_word word ≡ true
 field_word word field = both_true field.some (field_bytes word field)
 
--- a number or an address has none of a byte that is no digit and no letter
+-- a number or an address does not contain a separator
 pub field_piece : (separator : ℕ) → is_field_byte separator ≡ false → (word : List ℕ) → IsField word → IsPiece separator word
 field_piece separator fails word field = lacks is_field_byte separator fails word field.bytes
 
--- plain words with a space between each two are the words again
+-- plain words with a space between each two are taken apart again
 pub parts-spaced : (laws : WordLaws) (word : List ℕ) (words : List (List ℕ)) → list_all is_plain_word (word ∷ words) ≡ true → parts 32 (joined 32 (word ∷ words)) ≡ word ∷ words
 parts-spaced laws word words plain = laws.pieces 32 word words
     (All-weaker (λ w. is_plain_word w ≡ true) (IsPiece 32) (λ w passes. lacks is_word_byte 32 refl w (second_true (is_word w) (list_all is_word_byte w) passes)) (word ∷ words)
@@ -117,7 +117,7 @@ pub begins_with-spaced : (laws : WordLaws) (word first : List ℕ) (others : Lis
     → begins_with word (joined 32 (first ∷ others)) ≡ same_word first word
 begins_with-spaced laws word first others plain = rw (parts-spaced laws first others plain) refl
 
--- a line of plain words has the others behind the first
+-- the arguments of a line of plain words are the words after the first
 pub arguments-spaced : (laws : WordLaws) (word : List ℕ) (words : List (List ℕ)) → same_word word word ≡ true → list_all is_plain_word (word ∷ words) ≡ true
     → arguments word (joined 32 (word ∷ words)) ≡ Ok words
 arguments-spaced laws word words same plain =

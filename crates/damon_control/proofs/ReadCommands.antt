@@ -1,4 +1,4 @@
--- The lines of a body are read as what they say.
+-- A line of a body or a commit that says something is read as that.
 use Rattle.std.proofs.Common.{◌≡◌, inl, inr, ◌≤◌, ◌^◌, ◌-◌, ◌+◌, ◌<◌, ◌∷◌, [], ◌&&◌, ℕ, Bool, true, false, List, codes, Some, None, Ok, refl, sym, ap, ◌∙◌, decimal, arith}
 use Rattle.std.specs.Prelude.{Option, is_none, option_map}
 use Rattle.std.specs.Cmp.Derive.{both_true}
@@ -60,7 +60,7 @@ touch_line-spelled laws space target addr page target_fits addr_fits holds =
     (then-Ok (byte_address (spelled_address addr)) _ addr _ (byte_address-spelled laws addr addr_fits)
     (then-Ok (ok_or (page_of space target addr) Outside) _ page _ (ap (λ o. ok_or o Outside) holds) refl))))
 
--- the last page of a sweep, and the page after it
+-- the page after the last is the end of a sweep
 swept_end : (o : Option ℕ) (first end : ℕ) → option_map (λ last. last + 1) o ≡ Some end → (ok_or o Outside >>= λ last. Ok (Sweep first (last + 1))) ≡ Ok (Sweep first end)
 swept_end None first end e = absurd cc
 swept_end (Some last) first end e = let same : last + 1 ≡ end = cc in ap (λ n. Ok (Sweep first n)) same
@@ -96,7 +96,7 @@ step_line-spelled laws space times low high =
     (then-Ok (arguments (codes "step") said >>= one_word >>= number_32) (limited 1 1000000) times _ (number_line laws (codes "step") times refl refl (omega arith)) (limited-within 1 1000000 times low high))
     refl)
 
--- a line that says a command is read as it
+-- a line that says a command is read as that command
 pub command_line-said : (laws : WordLaws) (space : List Target) (line : List ℕ) (command : CommandValue) → IsCommand space line command → command_line space line ≡ Ok command
 command_line-said laws space line (Touch page) is =
     ap (command_line space) is.spelled ∙ touch_line-spelled laws space is.target is.addr page is.target_fits is.addr_fits is.holds
@@ -107,30 +107,30 @@ command_line-said laws space line Finish is = ap (command_line space) is
 command_line-said laws space line Show is = ap (command_line space) is
 command_line-said laws space line (Commit commit) is = absurd is
 
--- a line of plain words is not the one that is tested for, so its place is not asked
+-- a line with another first word fails a test for this word, wherever it stands
 other_word : (laws : WordLaws) (word first : List ℕ) (others : List (List ℕ)) (wanted : Bool) → list_all is_plain_word (first ∷ others) ≡ true → same_word first word ≡ false
     → (begins_with word (joined 32 (first ∷ others)) && wanted) ≡ false
 other_word laws word first others wanted plain other = ap (λ b. b && wanted) (begins_with-spaced laws word first others plain ∙ other)
 
--- a line of plain words is the one that is tested for, at its place
+-- a line with this first word passes the test for it, where it may come
 this_word : (laws : WordLaws) (word : List ℕ) (others : List (List ℕ)) (wanted : Bool) → list_all is_plain_word (word ∷ others) ≡ true → same_word word word ≡ true → wanted ≡ true
     → (begins_with word (joined 32 (word ∷ others)) && wanted) ≡ true
 this_word laws word others wanted plain same comes = both_true (begins_with-spaced laws word word others plain ∙ same) comes
 
--- a line that is no line of attributes, and is one of a range, is read as a range
+-- a line that begins with `range` is read as a range, after the test for attributes
 range_way : (before : CommitValue) (line : List ℕ) (part : Part) → (begins_with (codes "attrs") line && wants_attrs before) ≡ false → (begins_with (codes "range") line && wants_slot before) ≡ true
     → (arguments (codes "range") line >>= range_in >>= λ range. Ok (Range range)) ≡ Ok part → part_line before line ≡ Ok part
 range_way before line part no_attrs here read =
     passed_over (begins_with (codes "attrs") line && wants_attrs before) _ _ (Ok part) no_attrs (chosen (begins_with (codes "range") line && wants_slot before) _ _ (Ok part) here read)
 
--- neither of attributes nor of a range
+-- a line that begins with `scheme` is read as a scheme, after the tests before it
 scheme_way : (before : CommitValue) (line : List ℕ) (part : Part) → (begins_with (codes "attrs") line && wants_attrs before) ≡ false → (begins_with (codes "range") line && wants_slot before) ≡ false
     → (begins_with (codes "scheme") line && wants_slot before) ≡ true → (change_line line >>= λ change. Ok (Slot change)) ≡ Ok part → part_line before line ≡ Ok part
 scheme_way before line part no_attrs no_range here read =
     passed_over (begins_with (codes "attrs") line && wants_attrs before) _ _ (Ok part) no_attrs
     (passed_over (begins_with (codes "range") line && wants_slot before) _ _ (Ok part) no_range (chosen (begins_with (codes "scheme") line && wants_slot before) _ _ (Ok part) here read))
 
--- nor of a scheme
+-- a line that begins with `drop` is read as an emptied slot, after the tests before it
 drop_way : (before : CommitValue) (line : List ℕ) (part : Part) → (begins_with (codes "attrs") line && wants_attrs before) ≡ false → (begins_with (codes "range") line && wants_slot before) ≡ false
     → (begins_with (codes "scheme") line && wants_slot before) ≡ false → (begins_with (codes "drop") line && wants_slot before) ≡ true
     → (drop_line line >>= λ change. Ok (Slot change)) ≡ Ok part → part_line before line ≡ Ok part
@@ -139,7 +139,7 @@ drop_way before line part no_attrs no_range no_scheme here read =
     (passed_over (begins_with (codes "range") line && wants_slot before) _ _ (Ok part) no_range
     (passed_over (begins_with (codes "scheme") line && wants_slot before) _ _ (Ok part) no_scheme (chosen (begins_with (codes "drop") line && wants_slot before) _ _ (Ok part) here read)))
 
--- nor of an emptied slot
+-- a line that begins with `metric` is read as a metric, after the tests before it
 metric_way : (before : CommitValue) (line : List ℕ) (part : Part) → (begins_with (codes "attrs") line && wants_attrs before) ≡ false → (begins_with (codes "range") line && wants_slot before) ≡ false
     → (begins_with (codes "scheme") line && wants_slot before) ≡ false → (begins_with (codes "drop") line && wants_slot before) ≡ false
     → (begins_with (codes "metric") line && is_none before.metric) ≡ true
@@ -208,7 +208,7 @@ metric_part-said laws before value comes small =
     (other_word laws (codes "drop") (codes "metric") words (wants_slot before) plain refl) (this_word laws (codes "metric") words (is_none before.metric) plain refl comes)
     (then-Ok (arguments (codes "metric") said >>= one_word >>= number_32) _ value _ (number_line laws (codes "metric") value refl refl small) refl)
 
--- a line that says a part, where it may come, is read as it
+-- a line that says a part, where it may come, is read as that part
 pub part_line-said : (laws : WordLaws) (before : CommitValue) (line : List ℕ) (part : Part) → may_come before part ≡ true → IsPart line part → part_line before line ≡ Ok part
 part_line-said laws before line (Attrs attrs) comes is = ap (part_line before) is.0 ∙ attrs_part-said laws before attrs comes is.1
 part_line-said laws before line (Range range) comes is = ap (part_line before) is.0 ∙ range_part-said laws before range comes is.1

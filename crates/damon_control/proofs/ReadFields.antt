@@ -1,4 +1,4 @@
--- The words of numbers and addresses are read as them.
+-- The spelling of a number or an address is read as it.
 use Rattle.std.proofs.Common.{◌≡◌, ◌-◌, ◌^◌, ◌<◌, ℕ, Ok, refl, ap, decimal, arith}
 use Rattle.std.specs.Option.{ok_or}
 use Rattle.damon_types.specs.declared.attrs.Attrs.{Attrs}

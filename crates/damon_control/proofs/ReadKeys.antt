@@ -1,5 +1,5 @@
--- The words of settings are read as them.
-use Rattle.std.proofs.Common.{◌≡◌, ◌<◌, ◌+◌, ◌∷◌, [], ◌==◌, nat_lt, ℕ, Bool, true, false, not, List, ◌++◌, length, take, drop, map, Ok, refl, ap, ◌∙◌, decimal, arith}
+-- The spelling of a setting is read as it.
+use Rattle.std.proofs.Common.{◌≡◌, ◌<◌, ◌+◌, ◌∷◌, [], ◌==◌, nat_lt, ℕ, Bool, true, false, not, ◌&&◌, List, ◌++◌, length, take, drop, map, Ok, refl, ap, ◌∙◌, decimal, arith}
 use Rattle.std.specs.Prelude.{Result}
 use Rattle.std.specs.List.{list_all, position_or_len}
 use Rattle.std.specs.Option.{ok_or}
@@ -29,7 +29,7 @@ use Rattle.damon_control.specs.Refusal.{◌>>=◌}
 use Rattle.damon_control.specs.Separators.{colon, comma, dash, equals_sign}
 use Rattle.damon_control.specs.Spelling.{kind_name, kind_value, spelled_answer, spelled_filter, spelled_marks, spelled_prefer, spelled_quota, spelled_setting, spelled_side, spelled_span, spelled_weights}
 use Rattle.damon_control.specs.Words.{byte_address, number_8, number_16, number_32, number_64}
-use Rattle.damon_control.proofs.PlainWords.{IsField, address_field, decimal_field, field_8, field_16, field_32, field_piece, is_field_byte, lacks, list_all-both, list_all-weaker}
+use Rattle.damon_control.proofs.PlainWords.{IsField, is_word_byte, address_field, decimal_field, field_8, field_16, field_32, field_piece, is_field_byte, lacks, list_all-both, list_all-weaker}
 use Rattle.damon_control.proofs.ReadFields.{byte_address-spelled, number_8-decimal, number_16-decimal, number_32-decimal, number_64-decimal}
 use Rattle.damon_control.proofs.SpellSteps.{then-Ok}
 
@@ -41,7 +41,7 @@ two_parts-joined laws separator other a b first second =
     (laws.pieces separator a (b ∷ [])
     (All-from_recursion (IsPiece separator) (a ∷ b ∷ []) (field_piece separator other a first, (field_piece separator other b second, tt))))
 
--- three fields with a separator between each two
+-- three fields with a separator between each two are taken apart again
 three_parts-joined : (laws : WordLaws) (separator : ℕ) → is_field_byte separator ≡ false → (a b c : List ℕ) → IsField a → IsField b → IsField c
     → ok_or (three_of (parts separator (joined separator (a ∷ b ∷ c ∷ [])))) Form ≡ Ok (a, b, c)
 three_parts-joined laws separator other a b c first second third =
@@ -88,7 +88,7 @@ answer_of-spelled : (allow : Bool) → answer_of (spelled_answer allow) ≡ Ok a
 answer_of-spelled true = refl
 answer_of-spelled false = refl
 
--- the name of a kind with what stands before it is taken apart again
+-- the name of a kind and its `not-`, if any, are taken apart again
 plain_name-spelled : (matching : Bool) (kind : FilterKind) → plain_name (spelled_side matching ++ kind_name kind) ≡ (matching, kind_name kind)
 plain_name-spelled true (Addr from to) = refl
 plain_name-spelled true (Target target) = refl
@@ -106,42 +106,42 @@ kind_of-spelled laws (Addr from to) fits =
 kind_of-spelled laws (Target target) fits = then-Ok (number_32 (decimal target)) _ target _ (number_32-decimal laws target fits) refl
 kind_of-spelled laws (Class class) fits = then-Ok (number_8 (decimal class)) _ class _ (number_8-decimal laws class fits) refl
 
--- a byte that is no colon
-abbrev is_no_colon : ℕ → Bool
-is_no_colon c = not (c == colon)
+-- a byte of a part of a filter: a byte of a word, but no colon
+abbrev pub is_part_byte : ℕ → Bool
+is_part_byte c = is_word_byte c && not (c == colon)
 
-answer_piece : (allow : Bool) → list_all is_no_colon (spelled_answer allow) ≡ true
-answer_piece true = refl
-answer_piece false = refl
+pub answer_part : (allow : Bool) → list_all is_part_byte (spelled_answer allow) ≡ true
+answer_part true = refl
+answer_part false = refl
 
-name_piece : (matching : Bool) (kind : FilterKind) → list_all is_no_colon (spelled_side matching ++ kind_name kind) ≡ true
-name_piece true (Addr from to) = refl
-name_piece true (Target target) = refl
-name_piece true (Class class) = refl
-name_piece false (Addr from to) = refl
-name_piece false (Target target) = refl
-name_piece false (Class class) = refl
+pub name_part : (matching : Bool) (kind : FilterKind) → list_all is_part_byte (spelled_side matching ++ kind_name kind) ≡ true
+name_part true (Addr from to) = refl
+name_part true (Target target) = refl
+name_part true (Class class) = refl
+name_part false (Addr from to) = refl
+name_part false (Target target) = refl
+name_part false (Class class) = refl
 
-field_no_colon : (word : List ℕ) → IsField word → list_all is_no_colon word ≡ true
-field_no_colon word field = list_all-weaker is_field_byte is_no_colon (λ c passes. grind (arith, nat_tests)) word field.bytes
+field_part : (word : List ℕ) → IsField word → list_all is_part_byte word ≡ true
+field_part word field = list_all-weaker is_field_byte is_part_byte (λ c passes. grind (arith, nat_tests)) word field.bytes
 
-value_piece : (laws : WordLaws) (kind : FilterKind) → FitsKind kind → list_all is_no_colon (kind_value kind) ≡ true
-value_piece laws (Addr from to) fits =
-    list_all-both is_no_colon (spelled_address from) (dash ∷ spelled_address to) (field_no_colon (spelled_address from) (address_field laws from fits.0))
-    (field_no_colon (spelled_address to) (address_field laws to fits.1))
-value_piece laws (Target target) fits = field_no_colon (decimal target) (field_32 laws target fits)
-value_piece laws (Class class) fits = field_no_colon (decimal class) (field_8 laws class fits)
+pub value_part : (laws : WordLaws) (kind : FilterKind) → FitsKind kind → list_all is_part_byte (kind_value kind) ≡ true
+value_part laws (Addr from to) fits =
+    list_all-both is_part_byte (spelled_address from) (dash ∷ spelled_address to) (field_part (spelled_address from) (address_field laws from fits.0))
+    (field_part (spelled_address to) (address_field laws to fits.1))
+value_part laws (Target target) fits = field_part (decimal target) (field_32 laws target fits)
+value_part laws (Class class) fits = field_part (decimal class) (field_8 laws class fits)
 
 -- the three parts of a filter are taken apart again
 filter_parts : (laws : WordLaws) (f : Filter) → FitsKind f.kind
     → ok_or (three_of (parts colon (spelled_filter f))) Form ≡ Ok (spelled_answer f.allow, spelled_side f.matching ++ kind_name f.kind, kind_value f.kind)
 filter_parts laws f fits =
     let name = spelled_side f.matching ++ kind_name f.kind in
-    let piece = lacks is_no_colon colon refl in
+    let piece = lacks is_part_byte colon refl in
     ap (λ pieces. ok_or (three_of pieces) Form)
     (laws.pieces colon (spelled_answer f.allow) (name ∷ kind_value f.kind ∷ [])
     (All-from_recursion (IsPiece colon) (spelled_answer f.allow ∷ name ∷ kind_value f.kind ∷ [])
-    (piece (spelled_answer f.allow) (answer_piece f.allow), (piece name (name_piece f.matching f.kind), (piece (kind_value f.kind) (value_piece laws f.kind fits), tt)))))
+    (piece (spelled_answer f.allow) (answer_part f.allow), (piece name (name_part f.matching f.kind), (piece (kind_value f.kind) (value_part laws f.kind fits), tt)))))
 
 filter_of-spelled : (laws : WordLaws) (f : Filter) → FitsKind f.kind → filter_of (spelled_filter f) ≡ Ok f
 filter_of-spelled laws f fits =
@@ -174,14 +174,14 @@ setting_for-spelled laws (PreferOf prefer) fits = then-Ok (prefer_of (spelled_pr
 setting_for-spelled laws (MarksOf marks) fits = then-Ok (marks_of (spelled_marks marks)) _ marks _ (marks_of-spelled laws marks fits) refl
 setting_for-spelled laws (FilterOf filter) fits = then-Ok (filter_of (spelled_filter filter)) _ filter _ (filter_of-spelled laws filter fits) refl
 
--- a word with its first equals sign at this index is read as the key before it and the value after it
+-- a word whose first equals sign is at this index is read as the key before it and the value after it
 keyed : (word : List ℕ) (at : ℕ) (said : Result (Key × List ℕ) ScriptKind) → position_or_len (λ c. c == equals_sign) word ≡ at → at < length word
     → (ok_or (key_named (take at word)) Form >>= λ key. Ok (key, drop (at + 1) word)) ≡ said → key_and_value word ≡ said
 keyed word at said is within read =
     let here : nat_lt at (length word) ≡ true = grind (arith, nat_tests) in
     then-Ok (ok_or (split_at_byte equals_sign word) Form) _ (take at word, drop (at + 1) word) said (rw (is, here) refl) read
 
--- a word of a setting is its key and its value
+-- the spelling of a setting is read as its key and its value
 pub key_and_value-spelled : (x : Setting) → key_and_value (spelled_setting x) ≡ Ok (key_of x, setting_value x)
 key_and_value-spelled (SizeOf span) = keyed (spelled_setting (SizeOf span)) 4 _ refl (omega arith) refl
 key_and_value-spelled (CountOf span) = keyed (spelled_setting (CountOf span)) 5 _ refl (omega arith) refl

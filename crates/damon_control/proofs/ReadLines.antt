@@ -1,4 +1,4 @@
--- The lines of a setup are read as what they say.
+-- A line of a setup that says something is read as that.
 use Rattle.std.proofs.Common.{◌≡◌, ◌≤◌, ◌^◌, ◌+◌, ◌*◌, ◌%◌, ◌<◌, ◌∷◌, [], ◌==◌, ◌&&◌, nat_le, nat_lt, ℕ, true, false, not, List, ◌++◌, length, codes, Some, Ok, Err, refl, ap, subst, ◌∙◌, decimal, arith}
 use Rattle.std.specs.Prelude.{Result, is_ok}
 use Rattle.std.specs.Cmp.Derive.{both_true}
@@ -32,12 +32,12 @@ use Rattle.damon_control.proofs.ReadFields.{attrs_in-words, number_32-decimal, n
 use Rattle.damon_control.proofs.ReadSchemes.{scheme_in-words, scheme_words-plain}
 use Rattle.damon_control.proofs.SpellSteps.{tested_way, then-Ok}
 
--- a line of a word and others is read as these words are
+-- a line of a word and others is read as the others are
 pub arguments-read : {A : Type 0} (laws : WordLaws) (word : List ℕ) (words : List (List ℕ)) (read : List (List ℕ) → Result A ScriptKind) (said : Result A ScriptKind)
     → same_word word word ≡ true → list_all is_plain_word (word ∷ words) ≡ true → read words ≡ said → (arguments word (joined 32 (word ∷ words)) >>= read) ≡ said
 arguments-read laws word words read said same plain is = then-Ok (arguments word (joined 32 (word ∷ words))) read words said (arguments-spaced laws word words same plain) is
 
--- a line of a word and one more is read as that one is
+-- a line of a word and one more is read as the second is
 pub one_word-read : {A : Type 0} (laws : WordLaws) (word only : List ℕ) (read : List ℕ → Result A ScriptKind) (said : Result A ScriptKind)
     → same_word word word ≡ true → list_all is_plain_word (word ∷ only ∷ []) ≡ true → read only ≡ said
     → (arguments word (joined 32 (word ∷ only ∷ [])) >>= one_word >>= read) ≡ said
@@ -132,7 +132,7 @@ range_line-spelled laws f targets before r fits sound few =
     (then-Ok (range_in (range_words r)) _ r _ (range_in-words laws r fits)
     (then-Ok (refused_as BadRange (checked_next targets f.unit f.cap before r)) _ tt _ (ap (refused_as BadRange) sound) (ap (λ t. only_if t RangesOverMax r) within)))
 
--- a line that gives a slot a scheme has the words that are read so
+-- a line that says a scheme has words that are read as that scheme
 pub scheme-read : {A : Type 0} (laws : WordLaws) (line : List ℕ) (slot : ℕ) (scheme : Scheme) (read : List (List ℕ) → Result A ScriptKind) (said : Result A ScriptKind)
     → IsScheme line slot scheme → ((words : List (List ℕ)) → scheme_in words ≡ Ok (slot, scheme) → read words ≡ said) → (arguments (codes "scheme") line >>= read) ≡ said
 scheme-read laws line slot scheme read said is reads =

@@ -1,32 +1,29 @@
--- Lines of schemes are read as what they say.
+-- The spelling of a scheme is read as it.
 use Rattle.std.proofs.Common.{◌≡◌, inl, inr, ◌^◌, ◌<◌, ◌∷◌, [], ◌==◌, ◌&&◌, ◌||◌, nat_lt, ℕ, Bool, true, false, not, List, ◌++◌, map, Option, Some, None, Ok, refl, sym, ap, ◌∙◌, decimal, arith}
 use Rattle.std.specs.Cmp.Derive.{both_true}
 use Rattle.std.specs.List.{list_all}
 use Rattle.std.specs.Option.{ok_or}
 use Rattle.std.proofs.lemmas.Bool.Decides.{nat_tests}
-use Rattle.damon_types.specs.declared.filter.FilterKind.{FilterKind}
-use Rattle.damon_types.specs.declared.filter.FilterKind.TheVariants.{Addr, Target, Class}
 use Rattle.damon_types.specs.declared.scheme.Action.{Action}
 use Rattle.damon_types.specs.declared.scheme.Action.TheVariants.{Stat, Willneed, Cold as ColdAction, Pageout, Hugepage, Nohugepage, LruPrio, LruDeprio}
 use Rattle.damon_types.specs.declared.scheme.Prefer.{Prefer}
 use Rattle.damon_types.specs.declared.scheme.Prefer.TheVariants.{Hot, Cold}
 use Rattle.damon_types.specs.declared.scheme.Scheme.{Scheme}
-use Rattle.line_text.specs.Address.{spelled_address}
 use Rattle.damon_control.specs.declared.fault.ScriptKind.TheVariants.{Form}
 use Rattle.damon_control.specs.declared.keys.Key.{Key}
 use Rattle.damon_control.specs.declared.keys.Key.TheVariants.{Size, Count, Age, Quota as QuotaKey, Weights as WeightsKey, Prefer as PreferKey, Marks as MarksKey, Filter as FilterKey}
 use Rattle.damon_control.specs.declared.keys.Setting.{Setting}
 use Rattle.damon_control.specs.declared.keys.Setting.TheVariants.{Size as SizeOf, Count as CountOf, Age as AgeOf, Quota as QuotaOf, Weights as WeightsOf, Prefer as PreferOf, Marks as MarksOf, Filter as FilterOf}
-use Rattle.damon_control.specs.Fits.{FitSettings, FitsKind, FitsSetting}
+use Rattle.damon_control.specs.Fits.{FitSettings, FitsSetting}
 use Rattle.damon_control.specs.Keys.{action_of, are_formed, default_scheme, is_formed, is_misformed, key_and_value, key_place, may_follow, place_in, scheme_in, settings_of, settled, with_settings}
-use Rattle.damon_control.specs.Laws.{AreInOrder, MayStandAfter, WordLaws, key_of}
+use Rattle.damon_control.specs.Laws.{AreInOrder, MayFollow, WordLaws, key_of}
 use Rattle.damon_control.specs.Refusal.{only_if}
-use Rattle.damon_control.specs.Separators.{colon, comma, dash}
+use Rattle.damon_control.specs.Separators.{colon, comma}
 use Rattle.damon_control.specs.Spelling.{kind_name, kind_value, scheme_words, spelled_action, spelled_answer, spelled_prefer, spelled_setting, spelled_side}
 use Rattle.damon_control.specs.Words.{number_8}
-use Rattle.damon_control.proofs.PlainWords.{IsField, address_field, decimal_field, field_8, field_16, field_32, field_bytes, field_word, is_plain_word, is_word_byte, list_all-both}
+use Rattle.damon_control.proofs.PlainWords.{IsField, decimal_field, field_8, field_16, field_32, field_bytes, field_word, is_plain_word, is_word_byte, list_all-both, list_all-weaker}
 use Rattle.damon_control.proofs.ReadFields.{number_8-decimal}
-use Rattle.damon_control.proofs.ReadKeys.{key_and_value-spelled, setting_for-spelled, setting_value, settings_of-spelled}
+use Rattle.damon_control.proofs.ReadKeys.{answer_part, is_part_byte, key_and_value-spelled, name_part, setting_for-spelled, setting_value, settings_of-spelled, value_part}
 use Rattle.damon_control.proofs.SpellSteps.{first_true, second_true, then-Ok}
 
 action_of-spelled : (action : Action) → action_of (spelled_action action) ≡ Some action
@@ -39,7 +36,7 @@ action_of-spelled Nohugepage = refl
 action_of-spelled LruPrio = refl
 action_of-spelled LruDeprio = refl
 
--- the last place is that of the filter
+-- only the filter has the last place
 last_place : (key : Key) → (key_place key == 7) ≡ true → key ≡ FilterKey
 last_place Size e = absurd cc
 last_place Count e = absurd cc
@@ -50,23 +47,24 @@ last_place PreferKey e = absurd cc
 last_place MarksKey e = absurd cc
 last_place FilterKey e = refl
 
--- the test of keys is the order of their settings
-may_follow-after : (earlier later : Setting) → MayStandAfter earlier later → may_follow (Some (key_place (key_of earlier))) (key_of later) ≡ true
+-- a setting that may follow another passes the test of its key
+may_follow-after : (earlier later : Setting) → MayFollow earlier later → may_follow (Some (key_place (key_of earlier))) (key_of later) ≡ true
 may_follow-after earlier later (inl less) =
     let rises : nat_lt (key_place (key_of earlier)) (key_place (key_of later)) ≡ true = grind (arith, nat_tests) in
     ap (λ t. t || ((key_place (key_of earlier) == 7) && (key_place (key_of later) == 7))) rises
 may_follow-after earlier later (inr (first, second)) = λ i. may_follow (Some (key_place (first i))) (second i)
 
-after_may_follow : (earlier later : Setting) → may_follow (Some (key_place (key_of earlier))) (key_of later) ≡ true → MayStandAfter earlier later
+-- a setting whose key passes the test may follow the other
+after_may_follow : (earlier later : Setting) → may_follow (Some (key_place (key_of earlier))) (key_of later) ≡ true → MayFollow earlier later
 after_may_follow earlier later e = by (nat_lt (key_place (key_of earlier)) (key_place (key_of later))) refl e
   where
     by : (rises : Bool) → nat_lt (key_place (key_of earlier)) (key_place (key_of later)) ≡ rises
-        → (rises || ((key_place (key_of earlier) == 7) && (key_place (key_of later) == 7))) ≡ true → MayStandAfter earlier later
+        → (rises || ((key_place (key_of earlier) == 7) && (key_place (key_of later) == 7))) ≡ true → MayFollow earlier later
     by true is passes = let less : key_place (key_of earlier) < key_place (key_of later) = grind (arith, nat_tests) in inl less
     by false is both =
         inr (last_place (key_of earlier) (first_true (key_place (key_of earlier) == 7) _ both), last_place (key_of later) (second_true (key_place (key_of earlier) == 7) _ both))
 
--- the word of a setting has the form of one that may follow
+-- the spelling of a setting that may follow has the right form
 is_formed-spelled : (laws : WordLaws) (last : Option ℕ) (x : Setting) → FitsSetting x → may_follow last (key_of x) ≡ true → is_formed last (key_and_value (spelled_setting x)) ≡ true
 is_formed-spelled laws last x fits follows =
     ap (is_formed last) (key_and_value-spelled x) ∙ both_true follows (ap (λ r. not (is_misformed r)) (setting_for-spelled laws x fits))
@@ -78,7 +76,7 @@ are_formed_after laws last (x ∷ xs) order fit =
     both_true (is_formed-spelled laws (Some (key_place (key_of last))) x fit.0 (may_follow-after last x order.0))
     (ap (λ r. are_formed (place_in r) (map spelled_setting xs)) (key_and_value-spelled x) ∙ are_formed_after laws x xs order.1 fit.1)
 
--- words of settings in order have their form
+-- the spellings of settings in order have the right form
 are_formed-spelled : (laws : WordLaws) (xs : List Setting) → AreInOrder xs → FitSettings xs → are_formed None (map spelled_setting xs) ≡ true
 are_formed-spelled laws [] order fit = refl
 are_formed-spelled laws (x ∷ xs) order fit =
@@ -94,14 +92,14 @@ in_order_after last (x ∷ xs) formed =
     let follows = first_true (may_follow (Some (key_place (key_of last))) (key_of x)) _ (sym (ap (is_formed (Some (key_place (key_of last)))) said) ∙ first) in
     (after_may_follow last x follows, in_order_after x xs (sym (ap (λ r. are_formed (place_in r) (map spelled_setting xs)) said) ∙ others))
 
--- words that have the form of settings are those of settings in order
+-- spellings of settings that have the right form are in order
 pub in_order-formed : (xs : List Setting) → are_formed None (map spelled_setting xs) ≡ true → AreInOrder xs
 in_order-formed [] formed = tt
 in_order-formed (x ∷ xs) formed =
     in_order_after x xs
     (sym (ap (λ r. are_formed (place_in r) (map spelled_setting xs)) (key_and_value-spelled x)) ∙ second_true (is_formed None (key_and_value (spelled_setting x))) _ formed)
 
--- the words of a scheme are read as it
+-- the words of a scheme are read as that scheme
 pub scheme_in-words : (laws : WordLaws) (slot : ℕ) (action : Action) (settings : List Setting) (scheme : Scheme) → slot < 2 ^ 8 → FitSettings settings → AreInOrder settings
     → settled (default_scheme action) settings ≡ Ok scheme → scheme_in (scheme_words slot action settings) ≡ Ok (slot, scheme)
 scheme_in-words laws slot action settings scheme small fit order made =
@@ -122,7 +120,7 @@ action_word Nohugepage = refl
 action_word LruPrio = refl
 action_word LruDeprio = refl
 
--- bytes of words with a byte of a word between them
+-- two parts with a separator between them have bytes of a word only
 between : (a : List ℕ) (byte : ℕ) (b : List ℕ) → list_all is_word_byte a ≡ true → is_word_byte byte ≡ true → list_all is_word_byte b ≡ true
     → list_all is_word_byte (a ++ byte ∷ b) ≡ true
 between a byte b first separator second = list_all-both is_word_byte a (byte ∷ b) first (both_true separator second)
@@ -133,22 +131,9 @@ two_bytes a byte b separator first second = between a byte b (field_bytes a firs
 three_bytes : (a b c : List ℕ) → IsField a → IsField b → IsField c → list_all is_word_byte (a ++ comma ∷ (b ++ comma ∷ c)) ≡ true
 three_bytes a b c first second third = between a comma (b ++ comma ∷ c) (field_bytes a first) refl (two_bytes b comma c refl second third)
 
-kind_bytes : (laws : WordLaws) (kind : FilterKind) → FitsKind kind → list_all is_word_byte (kind_value kind) ≡ true
-kind_bytes laws (Addr from to) fits = two_bytes (spelled_address from) dash (spelled_address to) refl (address_field laws from fits.0) (address_field laws to fits.1)
-kind_bytes laws (Target target) fits = field_bytes (decimal target) (field_32 laws target fits)
-kind_bytes laws (Class class) fits = field_bytes (decimal class) (field_8 laws class fits)
-
-answer_bytes : (allow : Bool) → list_all is_word_byte (spelled_answer allow) ≡ true
-answer_bytes true = refl
-answer_bytes false = refl
-
-name_bytes : (matching : Bool) (kind : FilterKind) → list_all is_word_byte (spelled_side matching ++ kind_name kind) ≡ true
-name_bytes true (Addr from to) = refl
-name_bytes true (Target target) = refl
-name_bytes true (Class class) = refl
-name_bytes false (Addr from to) = refl
-name_bytes false (Target target) = refl
-name_bytes false (Class class) = refl
+-- the bytes of a part of a filter are bytes of a word
+part_bytes : (part : List ℕ) → list_all is_part_byte part ≡ true → list_all is_word_byte part ≡ true
+part_bytes part all = list_all-weaker is_part_byte is_word_byte (λ c passes. first_true (is_word_byte c) (not (c == colon)) passes) part all
 
 prefer_bytes : (prefer : Prefer) → list_all is_word_byte (spelled_prefer prefer) ≡ true
 prefer_bytes Hot = refl
@@ -165,8 +150,9 @@ value_bytes laws (PreferOf prefer) fits = prefer_bytes prefer
 value_bytes laws (MarksOf m) fits =
     three_bytes (decimal m.high) (decimal m.mid) (decimal m.low) (field_32 laws m.high fits.0) (field_32 laws m.mid fits.1) (field_32 laws m.low fits.2)
 value_bytes laws (FilterOf f) fits =
-    between (spelled_answer f.allow) colon ((spelled_side f.matching ++ kind_name f.kind) ++ colon ∷ kind_value f.kind) (answer_bytes f.allow) refl
-    (between (spelled_side f.matching ++ kind_name f.kind) colon (kind_value f.kind) (name_bytes f.matching f.kind) refl (kind_bytes laws f.kind fits))
+    between (spelled_answer f.allow) colon ((spelled_side f.matching ++ kind_name f.kind) ++ colon ∷ kind_value f.kind) (part_bytes (spelled_answer f.allow) (answer_part f.allow)) refl
+    (between (spelled_side f.matching ++ kind_name f.kind) colon (kind_value f.kind) (part_bytes (spelled_side f.matching ++ kind_name f.kind) (name_part f.matching f.kind))
+    refl (part_bytes (kind_value f.kind) (value_part laws f.kind fits)))
 
 setting_word : (laws : WordLaws) (x : Setting) → FitsSetting x → is_plain_word (spelled_setting x) ≡ true
 setting_word laws (SizeOf span) fits = value_bytes laws (SizeOf span) fits

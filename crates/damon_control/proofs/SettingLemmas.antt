@@ -1,4 +1,4 @@
--- The settings of words, one word after another.
+-- The settings of words are set one after another.
 use Rattle.std.proofs.Common.{◌≡◌, ◌∷◌, ℕ, List, Ok, Err, refl}
 use Rattle.std.specs.Prelude.{Result}
 use Rattle.damon_types.specs.declared.scheme.Scheme.{Scheme}
@@ -7,11 +7,11 @@ use Rattle.damon_control.specs.declared.keys.Setting.{Setting}
 use Rattle.damon_control.specs.Keys.{setting_of, settings_of, settled, with_setting}
 use Rattle.damon_control.specs.Refusal.{◌>>=◌}
 
--- what a scheme so far becomes with the settings of words
+-- the scheme so far with the settings of the words that are left
 abbrev pub settled_by : Result Scheme ScriptKind → List (List ℕ) → Result Scheme ScriptKind
 settled_by so_far words = settings_of words >>= λ settings. (so_far >>= λ scheme. settled scheme settings)
 
--- one word more is set
+-- the first word's setting may be set before the others are read
 pub settled_by_word : (so_far : Result Scheme ScriptKind) (word : List ℕ) (words : List (List ℕ)) (setting : Setting) → setting_of word ≡ Ok setting
     → settled_by so_far (word ∷ words) ≡ settled_by (so_far >>= λ scheme. with_setting scheme setting) words
 settled_by_word so_far word words setting is = rw is (by (settings_of words) so_far)
@@ -22,8 +22,3 @@ settled_by_word so_far word words setting is = rw is (by (settings_of words) so_
     by (Err kind) so_far = refl
     by (Ok settings) (Err kind) = refl
     by (Ok settings) (Ok scheme) = refl
-
--- with no word left the scheme so far is what the settings make
-pub settled_by_none : (so_far : Result Scheme ScriptKind) → (so_far >>= λ scheme. Ok scheme) ≡ so_far
-settled_by_none (Ok scheme) = refl
-settled_by_none (Err kind) = refl

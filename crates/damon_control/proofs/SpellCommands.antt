@@ -1,4 +1,4 @@
--- The lines of a body are spelled so.
+-- A line of a body or a commit that is read says what is read.
 use Rattle.std.proofs.Common.{◌≡◌, inl, inr, ◌∷◌, [], ℕ, ◌+◌, ◌-◌, ◌^◌, ◌<◌, true, ◌&&◌, List, codes, Some, None, Ok, refl, ap, subst, ◌∙◌, decimal}
 use Rattle.std.specs.Prelude.{is_none, option_map}
 use Rattle.std.specs.Option.{ok_or}
@@ -20,12 +20,12 @@ use Rattle.damon_control.specs.Refusal.{◌>>=◌, only_if}
 use Rattle.damon_control.specs.Spelling.{attrs_words, range_words, spelled_sweep, spelled_touch}
 use Rattle.damon_control.specs.Words.{alone, arguments, begins_with, byte_address, number_8, number_32, one_word}
 use Rattle.damon_control.proofs.SpellFits.{attrs_in-fits, range_in-fits}
-use Rattle.damon_control.proofs.SpellLines.{attrs_in-Ok, limited-Ok, limited-within_limits, range_in-Ok, words-Ok, words-have}
+use Rattle.damon_control.proofs.SpellLines.{attrs_in-Ok, limited-Ok, limited-bounds, range_in-Ok, words-Ok, words-have}
 use Rattle.damon_control.proofs.SpellSchemes.{change_line-Ok}
 use Rattle.damon_control.proofs.SpellSteps.{bind-Ok, either_way, second_true, tested_way, ok_or-Ok, only_if-Ok, two_of-Some, three_of-Some}
 use Rattle.damon_control.proofs.SpellWords.{alone-Ok, arguments-Ok, byte_address-Ok, byte_address-small, number_8-Ok, number_8-small, number_32-Ok, number_32-small, one_word-Ok, one_word-has}
 
--- the page of a byte
+-- a touch that finds its page says that page
 touch_page : (space : List Target) (line : List ℕ) (command : CommandValue) (target addr : ℕ) → line ≡ spelled_touch target addr → target < 2 ^ 32 → addr < 2 ^ 64
     → (ok_or (page_of space target addr) Outside >>= λ page. Ok (Touch page)) ≡ Ok command → IsCommand space line command
 touch_page space line command target addr spelled target_fits addr_fits e =
@@ -40,7 +40,7 @@ touch_page space line command target addr spelled target_fits addr_fits e =
       holds = ok_or-Ok (page_of space target addr) Outside page.0 page.1;
     })
 
--- the words of a touch
+-- the words of a touch spell its line
 touch_words : (laws : WordLaws) (line : List ℕ) (words : List (List ℕ)) (fields : List ℕ × List ℕ) (target addr : ℕ) → arguments (codes "touch") line ≡ Ok words
     → two_of words ≡ Some fields → number_32 fields.0 ≡ Ok target → byte_address fields.1 ≡ Ok addr → line ≡ spelled_touch target addr
 touch_words laws line words fields target addr said two is_target is_addr =
@@ -58,7 +58,7 @@ touch_line-Ok laws space line command e =
     let spelled = touch_words laws line words.0 fields.0 target.0 addr.0 words.1 two target.1 addr.1 in
     touch_page space line command target.0 addr.0 spelled (number_32-small laws fields.0.0 target.0 target.1) (byte_address-small laws fields.0.1 addr.0 addr.1) addr.2
 
--- the pages between two addresses of a target
+-- a sweep that finds its pages says these pages
 sweep_pages : (space : List Target) (line : List ℕ) (command : CommandValue) (target from to : ℕ) → line ≡ spelled_sweep target from to
     → target < 2 ^ 32 → from < 2 ^ 64 → to < 2 ^ 64
     → (do
@@ -85,7 +85,7 @@ sweep_pages space line command target from to spelled target_fits from_fits to_f
       ends = ap (option_map (λ page. page + 1)) (ok_or-Ok (page_of space target (to - 4096)) Outside last.0 last.1);
     })
 
--- the words of a sweep
+-- the words of a sweep spell its line
 sweep_words : (laws : WordLaws) (line : List ℕ) (words : List (List ℕ)) (fields : List ℕ × List ℕ × List ℕ) (target from to : ℕ) → arguments (codes "sweep") line ≡ Ok words
     → three_of words ≡ Some fields → number_32 fields.0 ≡ Ok target → byte_address fields.1 ≡ Ok from → byte_address fields.2 ≡ Ok to → line ≡ spelled_sweep target from to
 sweep_words laws line words fields target from to said three is_target is_from is_to =
@@ -110,7 +110,7 @@ step_line-Ok laws space line command e =
     let times = bind-Ok (arguments (codes "step") line >>= one_word >>= number_32 >>= limited 1 1000000) _ command e in
     let read = limited-Ok (arguments (codes "step") line >>= one_word >>= number_32) 1 1000000 times.0 times.1 in
     let is : Step times.0 ≡ command = cc in
-    let within = limited-within_limits (arguments (codes "step") line >>= one_word >>= number_32) 1 1000000 times.0 times.1 in
+    let within = limited-bounds (arguments (codes "step") line >>= one_word >>= number_32) 1 1000000 times.0 times.1 in
     subst (IsCommand space line) is (one_word-Ok laws (codes "step") number_32 decimal (number_32-Ok laws) line times.0 read, within.0, within.1)
 
 word_line-Ok : (laws : WordLaws) (space : List Target) (word : List ℕ) (said : CommandValue) (line : List ℕ) (command : CommandValue) → word_line word said line ≡ Ok command
@@ -120,7 +120,7 @@ word_line-Ok laws space word said line command e says =
     let is : said ≡ command = cc in
     subst (IsCommand space line) is (says (alone-Ok laws word line only.1))
 
--- a line that a command is read from says it
+-- a line that a command is read from says that command
 pub command_line-Ok : WordLaws → ReadsOnlyCommands
 command_line-Ok laws space line command e =
     either_way (begins_with (codes "touch") line) _ _ _ (touch_line-Ok laws space line command)
@@ -140,7 +140,7 @@ drop_line-Ok laws line change e =
       one_word-has (λ n. n < 2 ^ 8) (codes "drop") number_8 (number_8-small laws) line slot.0 slot.1,
     )
 
--- a line says a part that may come behind those of a commit
+-- a line says a part that may come after those of a commit
 abbrev SaysPart : CommitValue → List ℕ → Part → Type 0
 SaysPart before line part = (may_come before part ≡ true) × IsPart line part
 
@@ -189,7 +189,7 @@ metric_part laws before line part wanted e =
       ),
     )
 
--- a line that a part of a commit is read from says it, where it may come
+-- a line that a part of a commit is read from says that part, and it may come there
 pub part_line-Ok : WordLaws → ReadsOnlyParts
 part_line-Ok laws before line part e =
     tested_way (begins_with (codes "attrs") line && wants_attrs before) _ _ _ (λ both. attrs_part laws before line part (second_true (begins_with (codes "attrs") line) _ both))

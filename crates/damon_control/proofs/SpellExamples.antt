@@ -1,10 +1,12 @@
 -- Spellings, written out.
-use Rattle.std.proofs.Common.{◌≡◌, ◌∷◌, [], true, false, codes, refl}
+use Rattle.std.proofs.Common.{◌≡◌, inl, inr, lit<, arith, ◌∷◌, [], true, false, codes, refl}
 use Rattle.std.specs.Fmt.{digits}
 use Rattle.damon_types.specs.declared.filter.FilterKind.TheVariants.{Addr, Target, Class}
 use Rattle.damon_types.specs.declared.scheme.Action.TheVariants.{LruDeprio}
-use Rattle.damon_types.specs.declared.scheme.Prefer.TheVariants.{Cold}
+use Rattle.damon_types.specs.declared.scheme.Prefer.TheVariants.{Hot, Cold}
+use Rattle.damon_control.specs.declared.keys.Setting.{Setting}
 use Rattle.damon_control.specs.declared.keys.Setting.TheVariants.{Age, Prefer, Marks, Filter}
+use Rattle.damon_control.specs.Laws.{AreInOrder}
 use Rattle.damon_control.specs.Spelling.{spelled_attrs, spelled_range, spelled_scheme, spelled_seed, spelled_setting, spelled_sweep, spelled_target}
 use Rattle.damon_control.specs.Text.{lines_text}
 
@@ -51,6 +53,20 @@ scheme_has_settings : spelled_scheme 3 LruDeprio (Prefer Cold ∷ Filter (record
     ≡ codes "scheme 3 lru_deprio prefer=cold filter=allow:class:1"
 unfolding digits
 scheme_has_settings = refl
+
+abbrev a_filter : Setting
+a_filter = Filter (record { allow = true; matching = true; kind = Class 1 })
+
+filters_may_repeat : AreInOrder (Age (record { low = 2; high = 10 }) ∷ a_filter ∷ a_filter ∷ [])
+filters_may_repeat = (inl (lit< tt), (inr (refl, refl), tt))
+
+other_keys_stand_once : AreInOrder (Prefer Cold ∷ Prefer Hot ∷ []) → ⊥
+other_keys_stand_once (inl rises, rest) = omega arith
+other_keys_stand_once (inr (filter, same), rest) = cc
+
+keys_stand_in_order : AreInOrder (Prefer Cold ∷ Age (record { low = 2; high = 10 }) ∷ []) → ⊥
+keys_stand_in_order (inl rises, rest) = omega arith
+keys_stand_in_order (inr (filter, same), rest) = cc
 
 lines_have_their_ends : lines_text (codes "begin" ∷ codes "end" ∷ []) ≡ codes "begin\nend\n"
 lines_have_their_ends = refl

@@ -1,4 +1,4 @@
--- The settings of a scheme are spelled so.
+-- A setting that is read from a word spells that word.
 use Rattle.std.proofs.Common.{◌≡◌, ◌<◌, ◌+◌, ◌∷◌, [], ◌==◌, ℕ, Bool, true, false, cond, nat_lt, List, ◌++◌, take, drop, length, get_or, codes, Some, None, Ok, refl, ap, ◌∙◌, eqb-true, arith}
 use Rattle.std.specs.Prelude.{Option, Result, option_map}
 use Rattle.std.specs.List.{position_or_len}
@@ -66,7 +66,7 @@ marks_of-Ok laws value marks e =
     ∙ (λ i. joined 44 (number_32-Ok laws fields.0.0 high.0 high.1 i ∷ number_32-Ok laws fields.0.1 mid.0 mid.1 i ∷ number_32-Ok laws fields.0.2 low.0 low.1 i ∷ []))
     ∙ ap spelled_marks is
 
--- a word that is the name of what it stands for
+-- a word that equals one spelling is the spelling of what is read from it
 named : {A : Type 0} (spelled : A → List ℕ) (name : List ℕ) (here x : A) → name ≡ spelled here → ◌≡◌ {A = Result A ScriptKind} (Ok here) (Ok x) → name ≡ spelled x
 named spelled name here x is e = let same : here ≡ x = cc in is ∙ ap spelled same
 
@@ -113,15 +113,15 @@ kind_of-Ok laws name value kind e =
     (same_or_other name (codes "class") _ _ _ (λ is read. let both = class_of-Ok laws value kind read in (is ∙ both.0, both.1))
     (λ no. absurd cc))) e
 
--- a name is what stands before it and what it is without
+-- a name is its `not-`, if any, and the rest of it
 plain_name-whole : (laws : WordLaws) (name : List ℕ) → name ≡ spelled_side (plain_name name).0 ++ (plain_name name).1
 plain_name-whole laws name = by (after_prefix (codes "not-") name) refl
   where
     by : (o : Option (List ℕ)) → after_prefix (codes "not-") name ≡ o → name ≡ spelled_side (plain_name name).0 ++ (plain_name name).1
     by None is = rw is refl
-    by (Some bare) is = rw is (laws.fronts (codes "not-") name bare is)
+    by (Some bare) is = rw is (laws.prefixes (codes "not-") name bare is)
 
--- a name of a kind is what stands before it and the kind's own name
+-- the name of a kind is its `not-`, if any, and the kind's own name
 side_name : (laws : WordLaws) (name : List ℕ) (kind : FilterKind) → (plain_name name).1 ≡ kind_name kind → name ≡ spelled_side (plain_name name).0 ++ kind_name kind
 side_name laws name kind is = plain_name-whole laws name ∙ ap (λ n. spelled_side (plain_name name).0 ++ n) is
 
@@ -162,7 +162,7 @@ key_named-Some name key e =
     named : (here : Key) → name ≡ key_name here → ◌≡◌ {A = Option Key} (Some here) (Some key) → name ≡ key_name key
     named here is e = let same : here ≡ key = cc in is ∙ ap key_name same
 
--- what stands before the first of a byte, the byte and what stands behind it
+-- bytes that are split at a byte are the part before it, the byte and the part after it
 split_at_byte-whole : (byte : ℕ) (bytes : List ℕ) (sides : List ℕ × List ℕ) → split_at_byte byte bytes ≡ Some sides → bytes ≡ sides.0 ++ byte ∷ sides.1
 split_at_byte-whole byte bytes sides e = by (nat_lt at (length bytes)) refl e
   where
@@ -216,7 +216,7 @@ setting_for-Ok laws FilterKey value setting e =
     let is : FilterOf x.0 ≡ setting = cc in
     ap (λ v. codes "filter=" ++ v) (filter_of-Ok laws value x.0 x.1) ∙ ap spelled_setting is
 
--- a word that sets something is the spelling of what it sets
+-- a word that is read as a setting is the spelling of it
 pub setting_of-Ok : WordLaws → ReadsOnly setting_of spelled_setting
 setting_of-Ok laws word setting e =
     let both = bind-Ok (key_and_value word) _ setting e in

@@ -1,4 +1,4 @@
--- The lines of a setup, and lines of one number, are spelled so.
+-- A line of a setup that is read is the spelling of what is read, and so is a line of one number.
 use Rattle.std.proofs.Common.{◌≡◌, ◌≤◌, arith, ◌∷◌, [], ℕ, ◌&&◌, nat_le, nat_lt, List, ◌++◌, length, codes, Ok, ap, ◌∙◌, decimal}
 use Rattle.std.specs.Prelude.{Result, is_ok}
 use Rattle.std.specs.Option.{ok_or}
@@ -21,15 +21,15 @@ use Rattle.damon_control.specs.Words.{arguments, byte_address, number_8, number_
 use Rattle.damon_control.proofs.SpellSteps.{bind-Ok, first_true, ok_or-Ok, only_if-Ok, second_true, two_of-Some, three_of-Some, four_of-Some}
 use Rattle.damon_control.proofs.SpellWords.{arguments-Ok, byte_address-Ok, number_8-Ok, number_32-Ok, number_64-Ok, one_word-Ok}
 
--- a number within limits is the number
+-- a limit check returns the number that it is given
 pub limited-Ok : (r : Result ℕ ScriptKind) (least most n : ℕ) → (r >>= limited least most) ≡ Ok n → r ≡ Ok n
 limited-Ok r least most n e =
     let within = bind-Ok r (limited least most) n e in
     within.1 ∙ ap (λ m. Ok m) (only_if-Ok (nat_le least within.0 && nat_le within.0 most) Limit within.0 n within.2).1
 
--- a number within limits is between them
-pub limited-within_limits : (r : Result ℕ ScriptKind) (least most n : ℕ) → (r >>= limited least most) ≡ Ok n → (least ≤ n) × (n ≤ most)
-limited-within_limits r least most n e =
+-- a number that passes a limit check is within the limits
+pub limited-bounds : (r : Result ℕ ScriptKind) (least most n : ℕ) → (r >>= limited least most) ≡ Ok n → (least ≤ n) × (n ≤ most)
+limited-bounds r least most n e =
     let within = bind-Ok r (limited least most) n e in
     let passed = only_if-Ok (nat_le least within.0 && nat_le within.0 most) Limit within.0 n within.2 in
     let same : within.0 ≡ n = passed.1 in
@@ -50,12 +50,12 @@ cap_line-Ok laws line n e =
     one_word-Ok laws (codes "cap") number_32 decimal (number_32-Ok laws) line n
     (limited-Ok (arguments (codes "cap") line >>= one_word >>= number_32) 3 4096 n e)
 
--- what is read from the words of a line has what each that is read so has
+-- a property of all that a reader of words returns holds of what is read from a line
 pub words-have : {A : Type 0} (P : A → Type 0) (word : List ℕ) (read : List (List ℕ) → Result A ScriptKind) → ((words : List (List ℕ)) (x : A) → read words ≡ Ok x → P x)
     → (line : List ℕ) (x : A) → (arguments word line >>= read) ≡ Ok x → P x
 words-have P word read has line x e = let words = bind-Ok (arguments word line) read x e in has words.0 x words.2
 
--- a line of a word and others, which something is read from
+-- a line of a word and others is spelled by that word and the spelling of what is read
 pub words-Ok : {A : Type 0} (laws : WordLaws) (word : List ℕ) (read : List (List ℕ) → Result A ScriptKind) (spelled : A → List (List ℕ)) → ReadsOnly read spelled
     → ReadsOnly (λ line. arguments word line >>= read) (λ x. joined 32 (word ∷ spelled x))
 words-Ok laws word read spelled only line x e =

@@ -1,4 +1,4 @@
--- Lines of schemes are spelled so.
+-- A line that a scheme is read from says that scheme.
 use Rattle.std.proofs.Common.{◌≡◌, ◌∷◌, [], ℕ, true, not, List, map, codes, Some, None, Ok, refl, ap, subst, ◌∙◌}
 use Rattle.std.specs.Prelude.{Option}
 use Rattle.std.specs.Option.{ok_or}
@@ -36,7 +36,7 @@ action_of-Some name action e =
     named : (here : Action) → name ≡ spelled_action here → ◌≡◌ {A = Option Action} (Some here) (Some action) → name ≡ spelled_action action
     named here is e = let same : here ≡ action = cc in is ∙ ap spelled_action same
 
--- words that settings are read from are the spellings of them
+-- words that are read as settings are the spellings of them
 settings_of-Ok : WordLaws → ReadsOnly settings_of (map spelled_setting)
 settings_of-Ok laws [] settings e = let none : [] ≡ settings = cc in ap (map spelled_setting) none
 settings_of-Ok laws (word ∷ words) settings e =
@@ -45,7 +45,7 @@ settings_of-Ok laws (word ∷ words) settings e =
     let is : first.0 ∷ others.0 ≡ settings = cc in
     (λ i. setting_of-Ok laws word first.0 first.1 i ∷ settings_of-Ok laws words others.0 others.1 i) ∙ ap (map spelled_setting) is
 
--- words that a scheme is read from, in a line
+-- a line whose words are read as a scheme says that scheme
 scheme_in-Ok : (laws : WordLaws) (line : List ℕ) (words : List (List ℕ)) (said : ℕ × Scheme) → line ≡ joined 32 (codes "scheme" ∷ words) → scheme_in words ≡ Ok said
     → IsScheme line said.0 said.1
 scheme_in-Ok laws line [] said is e = absurd cc

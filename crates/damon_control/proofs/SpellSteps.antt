@@ -1,4 +1,4 @@
--- What was accepted step by step, each step accepted.
+-- The steps of a reader: what an accepted result says of each step, and steps that are accepted.
 use Rattle.std.proofs.Common.{◌≡◌, ◌∷◌, [], ℕ, Bool, true, false, List, Some, None, Ok, Err, refl, ap, ◌∙◌, ◌&&◌}
 use Rattle.std.specs.Prelude.{Option, Result, if◌then◌else◌}
 use Rattle.std.specs.Option.{ok_or}
@@ -6,48 +6,48 @@ use Rattle.line_text.specs.Parts.{one_of, two_of, three_of, four_of}
 use Rattle.damon_control.specs.declared.fault.ScriptKind.{ScriptKind}
 use Rattle.damon_control.specs.Refusal.{◌>>=◌, only_if}
 
--- a value, and then what is made of it
+-- where two steps in a row succeed, each of them does
 pub bind-Ok : {A B E : Type 0} (r : Result A E) (f : A → Result B E) (y : B) → (r >>= f) ≡ Ok y → (x : A) × (r ≡ Ok x) × (f x ≡ Ok y)
 bind-Ok (Ok x) f y e = (x, refl, e)
 bind-Ok (Err k) f y e = absurd cc
 
--- a value that is made, and then what is made of it
+-- where the first step succeeds, the result is that of the second
 pub then-Ok : {A B E : Type 0} (r : Result A E) (f : A → Result B E) (x : A) (y : Result B E) → r ≡ Ok x → f x ≡ y → (r >>= f) ≡ y
 then-Ok r f x y first rest = ap (λ s. s >>= f) first ∙ rest
 
--- a value that is there
+-- an option that is taken is some value
 pub ok_or-Ok : {A : Type 0} (o : Option A) (kind : ScriptKind) (x : A) → ok_or o kind ≡ Ok x → o ≡ Some x
 ok_or-Ok (Some y) kind x e = cc
 ok_or-Ok None kind x e = absurd cc
 
--- a value that passes a test
+-- a test that is passed is true, and the value is the one that was given
 pub only_if-Ok : {A : Type 0} (test : Bool) (kind : ScriptKind) (value x : A) → only_if test kind value ≡ Ok x → (test ≡ true) × (value ≡ x)
 only_if-Ok true kind value x e = (refl, cc)
 only_if-Ok false kind value x e = absurd cc
 
--- the first of two ways, where the test passes
+-- the first branch, where the test is true
 pub chosen : {R : Type 0} (test : Bool) (here others x : R) → test ≡ true → here ≡ x → (if test then here else others) ≡ x
 chosen test here others x passes is = ap (λ t. if t then here else others) passes ∙ is
 
--- the second of two ways, where the test fails
+-- the second branch, where the test is false
 pub passed_over : {R : Type 0} (test : Bool) (here others x : R) → test ≡ false → others ≡ x → (if test then here else others) ≡ x
 passed_over test here others x fails is = ap (λ t. if t then here else others) fails ∙ is
 
--- one of two ways was gone, the first after its test
+-- one of two branches was taken, the first with its test true
 pub tested_way : {R G : Type 0} (test : Bool) (here others x : R) → (test ≡ true → here ≡ x → G) → (others ≡ x → G) → (if test then here else others) ≡ x → G
 tested_way true here others x found next e = found refl e
 tested_way false here others x found next e = next e
 
--- one of two ways was gone
+-- one of two branches was taken
 pub either_way : {R G : Type 0} (test : Bool) (here others x : R) → (here ≡ x → G) → (others ≡ x → G) → (if test then here else others) ≡ x → G
 either_way test here others x found next = tested_way test here others x (λ _. found) next
 
--- the first of two tests that pass
+-- the first of two tests that are both true
 pub first_true : (first second : Bool) → (first && second) ≡ true → first ≡ true
 first_true true second both = refl
 first_true false second both = absurd cc
 
--- the second of two tests that pass
+-- the second of two tests that are both true
 pub second_true : (first second : Bool) → (first && second) ≡ true → second ≡ true
 second_true true second both = both
 second_true false second both = absurd cc

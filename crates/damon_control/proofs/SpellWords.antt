@@ -13,7 +13,7 @@ use Rattle.damon_control.specs.Refusal.{◌>>=◌}
 use Rattle.damon_control.specs.Words.{alone, arguments, begins_with, byte_address, no_word, number_8, number_16, number_32, number_64, one_word, same_word}
 use Rattle.damon_control.proofs.SpellSteps.{bind-Ok, ok_or-Ok, one_of-Some, two_of-Some, three_of-Some}
 
--- a line is its words
+-- a line that begins with a word is that word and its other parts
 begins_with-joined : (laws : WordLaws) (word line : List ℕ) → begins_with word line ≡ true → line ≡ joined 32 (word ∷ drop 1 (parts 32 line))
 begins_with-joined laws word line e = by (parts 32 line) refl (laws.parts 32 line).0
   where
@@ -24,7 +24,7 @@ begins_with-joined laws word line e = by (parts 32 line) refl (laws.parts 32 lin
         let same : first ≡ word = same_text first word (sym begins) in
         sym whole ∙ ap (λ w. joined 32 (w ∷ rest)) same
 
--- a line that begins with a word is this word and those behind it
+-- a line with these arguments is the word and the arguments
 pub arguments-Ok : (laws : WordLaws) (word line : List ℕ) (words : List (List ℕ)) → arguments word line ≡ Ok words → line ≡ joined 32 (word ∷ words)
 arguments-Ok laws word line words e = by (begins_with word line) (is_plain line) refl e
   where
@@ -36,7 +36,7 @@ arguments-Ok laws word line words e = by (begins_with word line) (is_plain line)
         let same : drop 1 (parts 32 line) ≡ words = cc in
         begins_with-joined laws word line is ∙ ap (λ ws. joined 32 (word ∷ ws)) same
 
--- a line of a word alone is this word
+-- a line of one word is that word
 pub alone-Ok : (laws : WordLaws) (word line : List ℕ) → alone word line ≡ Ok tt → line ≡ word
 alone-Ok laws word line e =
     let words = bind-Ok (arguments word line) no_word tt e in
@@ -82,7 +82,7 @@ number_64-Ok laws word n e = number-Ok laws (2 ^ 64 - 1) (omega arith) word n e
 pub byte_address-Ok : WordLaws → ReadsOnly byte_address spelled_address
 byte_address-Ok laws word n e = (laws.addresses n word (ok_or-Ok (address word) Number n e)).0
 
--- a line of a word and one more, which something is read from
+-- a line of a word and one more is spelled by that word and the spelling of what is read
 pub one_word-Ok : {A : Type 0} (laws : WordLaws) (word : List ℕ) (read : List ℕ → Result A ScriptKind) (spelled : A → List ℕ) → ReadsOnly read spelled
     → ReadsOnly (λ line. arguments word line >>= one_word >>= read) (λ x. joined 32 (word ∷ spelled x ∷ []))
 one_word-Ok laws word read spelled only line x e =
@@ -92,26 +92,26 @@ one_word-Ok laws word read spelled only line x e =
     arguments-Ok laws word line words.0 words.1
     ∙ ap (λ ws. joined 32 (word ∷ ws)) (is ∙ ap (λ w. w ∷ []) (only one.0 x one.2))
 
--- what is read from the one word of a line has what each word that is read so has
+-- a property of all that a reader of one word returns holds of what is read from a line
 pub one_word-has : {A : Type 0} (P : A → Type 0) (word : List ℕ) (read : List ℕ → Result A ScriptKind) → ((w : List ℕ) (x : A) → read w ≡ Ok x → P x)
     → (line : List ℕ) (x : A) → (arguments word line >>= one_word >>= read) ≡ Ok x → P x
 one_word-has P word read has line x e = let one = bind-Ok (arguments word line >>= one_word) read x e in has one.0 x one.2
 
--- two parts that a value has are the value
+-- a value with two parts is these parts, joined
 pub two_parts-Ok : (laws : WordLaws) (separator : ℕ) (value : List ℕ) (x : List ℕ × List ℕ) → ok_or (two_of (parts separator value)) Form ≡ Ok x
     → value ≡ joined separator (x.0 ∷ x.1 ∷ [])
 two_parts-Ok laws separator value x e =
     sym (laws.parts separator value).0
     ∙ ap (joined separator) (two_of-Some (parts separator value) x (ok_or-Ok (two_of (parts separator value)) Form x e))
 
--- three parts that a value has are the value
+-- a value with three parts is these parts, joined
 pub three_parts-Ok : (laws : WordLaws) (separator : ℕ) (value : List ℕ) (x : List ℕ × List ℕ × List ℕ) → ok_or (three_of (parts separator value)) Form ≡ Ok x
     → value ≡ joined separator (x.0 ∷ x.1 ∷ x.2 ∷ [])
 three_parts-Ok laws separator value x e =
     sym (laws.parts separator value).0
     ∙ ap (joined separator) (three_of-Some (parts separator value) x (ok_or-Ok (three_of (parts separator value)) Form x e))
 
--- a word that is tested for a text is this text, or goes on
+-- where a word is compared with a text, either it is that text or the other branch is taken
 pub same_or_other : {R G : Type 0} (name text : List ℕ) (here others x : R) → (name ≡ text → here ≡ x → G) → (others ≡ x → G)
     → (if same_word name text then here else others) ≡ x → G
 same_or_other {R} {G} name text here others x found next e = by (same_word name text) refl e

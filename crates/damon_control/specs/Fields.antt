@@ -1,4 +1,4 @@
--- The fields of lines that stand in a setup and in a commit alike.
+-- The fields of the lines that a setup and a commit have in common.
 use Rattle.std.specs.Prelude.{ℕ, List, Result, Ok}
 use Rattle.std.specs.Option.{ok_or}
 use Rattle.damon_types.specs.declared.attrs.Attrs.{Attrs}

@@ -41,7 +41,7 @@ FitsKind (Addr from to) = (from < 2 ^ 64) × (to < 2 ^ 64)
 FitsKind (Target target) = target < 2 ^ 32
 FitsKind (Class class) = class < 2 ^ 8
 
--- what a key sets
+-- the value of a setting is within its fields
 abbrev pub FitsSetting : Setting → Type 0
 FitsSetting (SizeOf span) = FitsSpan span
 FitsSetting (CountOf span) = FitsSpan span
@@ -52,7 +52,7 @@ FitsSetting (PreferOf prefer) = Unit {0}
 FitsSetting (MarksOf marks) = FitsMarks marks
 FitsSetting (FilterOf filter) = FitsKind filter.kind
 
--- the same of each setting
+-- the value of each setting is within its fields
 abbrev pub FitSettings : List Setting → Type 0
 FitSettings [] = Unit {0}
 FitSettings (setting ∷ settings) = FitsSetting setting × FitSettings settings

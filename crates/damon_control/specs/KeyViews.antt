@@ -9,6 +9,6 @@ abbrev pub view_key : Result (Key × Bor (List ℕ)) ScriptKind → Result (Key 
 view_key (Ok both) = Ok (both.0, both.1.now)
 view_key (Err kind) = Err kind
 
--- a mark and a name
+-- whether a name has no `not-` before it, and the name without it
 abbrev pub view_name : Bool × Bor (List ℕ) → Bool × List ℕ
 view_name both = (both.0, both.1.now)

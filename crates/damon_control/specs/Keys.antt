@@ -89,7 +89,10 @@ weights_of value = do
 
 -- `hot` or `cold`
 abbrev pub prefer_of : List ℕ → Result Prefer ScriptKind
-prefer_of value = if same_word value (codes "hot") then Ok Hot else if same_word value (codes "cold") then Ok Cold else Err Form
+prefer_of value =
+    if same_word value (codes "hot") then Ok Hot
+    else if same_word value (codes "cold") then Ok Cold
+    else Err Form
 
 -- `HIGH,MID,LOW`
 abbrev pub marks_of : List ℕ → Result Marks ScriptKind
@@ -102,7 +105,10 @@ marks_of value = do
 
 -- `allow` or `reject`: whether pages pass
 abbrev pub answer_of : List ℕ → Result Bool ScriptKind
-answer_of name = if same_word name (codes "allow") then Ok true else if same_word name (codes "reject") then Ok false else Err Form
+answer_of name =
+    if same_word name (codes "allow") then Ok true
+    else if same_word name (codes "reject") then Ok false
+    else Err Form
 
 -- `FROM-TO`
 abbrev pub addr_of : List ℕ → Result FilterKind ScriptKind
@@ -120,7 +126,7 @@ kind_of name value =
     else if same_word name (codes "class") then (number_8 value >>= λ class. Ok (Class class))
     else Err Form
 
--- a name, and whether it is without `not-` in front
+-- whether a name has no `not-` before it, and the name without it
 abbrev pub plain_name : List ℕ → Bool × List ℕ
 plain_name name = by (after_prefix (codes "not-") name)
   where
@@ -158,32 +164,34 @@ key_and_value word = do
 abbrev pub setting_of : List ℕ → Result Setting ScriptKind
 setting_of word = key_and_value word >>= λ both. setting_for both.0 both.1
 
--- whether a key may stand behind the one with this place: they stand in order, and filters alone may be many
+-- whether a key may stand after the one with this place: keys stand in order, and only the filter repeats
 abbrev pub may_follow : Option ℕ → Key → Bool
 may_follow None key = true
-may_follow (Some place) key = nat_lt place (key_place key) || ((place == 7) && (key_place key == 7))
+may_follow (Some place) key =
+    nat_lt place (key_place key) || ((place == key_place FilterKey) && (key_place key == key_place FilterKey))
 
 -- whether a word is refused for its form
 abbrev pub is_misformed : Result Setting ScriptKind → Bool
 is_misformed (Err Form) = true
 is_misformed _ = false
 
--- whether a key and its value have the form of a setting that may stand behind a key with this place
+-- whether a key and its value have the form of a setting, and may stand after the key with this place
 abbrev pub is_formed : Option ℕ → Result (Key × List ℕ) ScriptKind → Bool
 is_formed last (Err e) = false
 is_formed last (Ok both) = may_follow last both.0 && not (is_misformed (setting_for both.0 both.1))
 
--- the place of a key that is there
+-- the place of the key of a setting that could be taken apart
 abbrev pub place_in : Result (Key × List ℕ) ScriptKind → Option ℕ
 place_in (Err e) = None
 place_in (Ok both) = Some (key_place both.0)
 
--- whether words have the form of settings and stand in order, behind a key with this place
+-- whether words have the form of settings and stand in order, after the key with this place
 abbrev pub are_formed : Option ℕ → List (List ℕ) → Bool
 are_formed last [] = true
-are_formed last (word ∷ words) = is_formed last (key_and_value word) && are_formed (place_in (key_and_value word)) words
+are_formed last (word ∷ words) =
+    is_formed last (key_and_value word) && are_formed (place_in (key_and_value word)) words
 
--- a scheme of which nothing is said but its action
+-- the scheme of an action with each key at its default
 abbrev pub default_scheme : Action → Scheme
 default_scheme action = record {
   action = action;
@@ -207,7 +215,8 @@ with_setting s (QuotaOf x) = Ok (record s { quota = Some x })
 with_setting s (WeightsOf x) = Ok (record s { weights = x })
 with_setting s (PreferOf x) = Ok (record s { prefer = x })
 with_setting s (MarksOf x) = Ok (record s { marks = Some x })
-with_setting s (FilterOf x) = only_if (nat_lt (length s.filters) 8) Limit (record s { filters = s.filters ++ x ∷ [] })
+with_setting s (FilterOf x) =
+    only_if (nat_lt (length s.filters) 8) Limit (record s { filters = s.filters ++ x ∷ [] })
 
 -- a scheme with these settings, one after another
 abbrev pub settled : Scheme → List Setting → Result Scheme ScriptKind

@@ -1,4 +1,4 @@
--- What is accepted is spelled so.
+-- What each line says, and that a line that is read says what was read.
 use Rattle.std.specs.Prelude.{◌≡◌, ◌⊎◌, ℕ, ◌+◌, ◌-◌, ◌^◌, ◌<◌, ◌≤◌, Bool, true, List, [], ◌∷◌, codes, Some, None, option_map, Result, Ok, is_none}
 use Rattle.damon_types.specs.declared.scheme.Action.{Action}
 use Rattle.damon_types.specs.declared.scheme.Scheme.{Scheme}
@@ -21,7 +21,7 @@ use Rattle.damon_control.specs.Fits.{FitSettings, FitsAttrs, FitsRange}
 use Rattle.damon_control.specs.Keys.{action_of, default_scheme, key_place, settled}
 use Rattle.damon_control.specs.Spelling.{spelled_action, spelled_attrs, spelled_drop, spelled_metric, spelled_range, spelled_scheme, spelled_step, spelled_sweep, spelled_touch}
 
--- what is known of words, and of the numbers and addresses that they spell
+-- what the laws of `line_text` say of words, numbers and addresses
 pub record WordLaws : Type 0 where
   pub parts : PutsPartsTogether
   pub pieces : TakesApartPieces
@@ -31,15 +31,16 @@ pub record WordLaws : Type 0 where
   pub addresses : ReadsOnlySpelledAddress
   pub spelled_addresses : ReadsSpelledAddress
   pub hex_digits : SpellsHexDigits
-  pub fronts : StripsOnlyFront
+  pub prefixes : StripsOnlyFront
 
--- what something is read from is the spelling of it
+-- text that a value is read from is the spelling of that value
 abbrev pub ReadsOnly : {T A : Type 0} → (T → Result A ScriptKind) → (A → T) → Type 0
 ReadsOnly {T} {A} read spelled = (text : T) (x : A) → read text ≡ Ok x → text ≡ spelled x
 
 -- a word that names an action is the name of it
 abbrev pub NamesActions : Type 0
-NamesActions = (name : List ℕ) (action : Action) → action_of name ≡ Some action → name ≡ spelled_action action
+NamesActions =
+    (name : List ℕ) (action : Action) → action_of name ≡ Some action → name ≡ spelled_action action
 
 -- the key of a setting
 abbrev pub key_of : Setting → Key
@@ -52,17 +53,19 @@ key_of (PreferOf prefer) = PreferKey
 key_of (MarksOf marks) = MarksKey
 key_of (FilterOf filter) = FilterKey
 
--- a setting may stand after another: its key has a later place, or both are filters
-abbrev pub MayStandAfter : Setting → Setting → Type 0
-MayStandAfter earlier later = (key_place (key_of earlier) < key_place (key_of later)) ⊎ ((key_of earlier ≡ FilterKey) × (key_of later ≡ FilterKey))
+-- a setting may follow another: its key has a later place, or both are filters
+abbrev pub MayFollow : Setting → Setting → Type 0
+MayFollow earlier later =
+    (key_place (key_of earlier) < key_place (key_of later))
+    ⊎ ((key_of earlier ≡ FilterKey) × (key_of later ≡ FilterKey))
 
--- settings in the order of their keys, of which the filter alone may repeat
+-- settings stand in the order of their keys, and only the filter repeats
 abbrev pub AreInOrder : List Setting → Type 0
 AreInOrder [] = Unit {0}
 AreInOrder (setting ∷ []) = Unit {0}
-AreInOrder (earlier ∷ later ∷ more) = MayStandAfter earlier later × AreInOrder (later ∷ more)
+AreInOrder (earlier ∷ later ∷ more) = MayFollow earlier later × AreInOrder (later ∷ more)
 
--- a line is the spelling of a slot, an action and settings in order, which make this scheme of the action's default
+-- a line spells a slot, an action and settings in order, which turn the action's default into this scheme
 pub record IsScheme (line : List ℕ) (slot : ℕ) (scheme : Scheme) : Type 0 where
   pub action : Action
   pub settings : List Setting
@@ -74,11 +77,13 @@ pub record IsScheme (line : List ℕ) (slot : ℕ) (scheme : Scheme) : Type 0 wh
 
 -- a line gives a slot its scheme
 abbrev pub GivesScheme : List ℕ → SlotChange → Type 0
-GivesScheme line change = (scheme : Scheme) × (change.scheme ≡ Some scheme) × IsScheme line change.slot scheme
+GivesScheme line change =
+    (scheme : Scheme) × (change.scheme ≡ Some scheme) × IsScheme line change.slot scheme
 
 -- a line empties a slot
 abbrev pub EmptiesSlot : List ℕ → SlotChange → Type 0
-EmptiesSlot line change = (change.scheme ≡ None) × (line ≡ spelled_drop change.slot) × (change.slot < 2 ^ 8)
+EmptiesSlot line change =
+    (change.scheme ≡ None) × (line ≡ spelled_drop change.slot) × (change.slot < 2 ^ 8)
 
 -- a line says a part of a commit
 abbrev pub IsPart : List ℕ → Part → Type 0
@@ -87,7 +92,7 @@ IsPart line (Range range) = (line ≡ spelled_range range) × FitsRange range
 IsPart line (Slot change) = GivesScheme line change ⊎ EmptiesSlot line change
 IsPart line (Metric value) = (line ≡ spelled_metric value) × (value < 2 ^ 32)
 
--- whether a part may come in a commit: attributes before all else, ranges before a slot change and a metric, and each of these once
+-- whether a part may come next: attributes, ranges, a slot change, a metric; only ranges repeat
 abbrev pub may_come : CommitValue → Part → Bool
 may_come before (Attrs attrs) = wants_attrs before
 may_come before (Range range) = wants_slot before
@@ -116,7 +121,7 @@ pub record IsSweep (space : List Target) (line : List ℕ) (first end : ℕ) : T
   pub begins : page_of space target from ≡ Some first
   pub ends : option_map (λ last. last + 1) (page_of space target (to - 4096)) ≡ Some end
 
--- a line says a command: 1 to 1,000,000 steps, and no commit, since that has more lines
+-- a line says a command; a commit has lines of its own
 abbrev pub IsCommand : List Target → List ℕ → CommandValue → Type 0
 IsCommand space line (Touch page) = IsTouch space line page
 IsCommand space line (Sweep first end) = IsSweep space line first end
@@ -126,14 +131,20 @@ IsCommand space line Finish = line ≡ codes "finish"
 IsCommand space line Show = line ≡ codes "show"
 IsCommand space line (Commit commit) = ⊥
 
--- a line that a command is read from says it
+-- a line that a command is read from says that command
 abbrev pub ReadsOnlyCommands : Type 0
-ReadsOnlyCommands = (space : List Target) (line : List ℕ) (command : CommandValue) → command_line space line ≡ Ok command → IsCommand space line command
+ReadsOnlyCommands =
+    (space : List Target) (line : List ℕ) (command : CommandValue)
+    → command_line space line ≡ Ok command → IsCommand space line command
 
--- a line that a part of a commit is read from says it, where it may come
+-- a line that a part of a commit is read from says that part, and it may come there
 abbrev pub ReadsOnlyParts : Type 0
-ReadsOnlyParts = (before : CommitValue) (line : List ℕ) (part : Part) → part_line before line ≡ Ok part → (may_come before part ≡ true) × IsPart line part
+ReadsOnlyParts =
+    (before : CommitValue) (line : List ℕ) (part : Part)
+    → part_line before line ≡ Ok part → (may_come before part ≡ true) × IsPart line part
 
--- a line of a setup that a change of a slot is read from gives the slot its scheme
+-- a line of a setup that a slot change is read from gives the slot its scheme
 abbrev pub ReadsOnlySchemes : Type 0
-ReadsOnlySchemes = (before : List SlotChange) (line : List ℕ) (change : SlotChange) → scheme_line before line ≡ Ok change → GivesScheme line change
+ReadsOnlySchemes =
+    (before : List SlotChange) (line : List ℕ) (change : SlotChange)
+    → scheme_line before line ≡ Ok change → GivesScheme line change

@@ -24,9 +24,24 @@ pub record LinesReadBack : Type 0 where
   pub seed : (n : ℕ) → n < 2 ^ 64 → seed_line (spelled_seed n) ≡ Ok n
   pub unit : (n : ℕ) → 1 ≤ n → n ≤ 1048576 → unit_line (spelled_unit n) ≡ Ok n
   pub cap : (n : ℕ) → 3 ≤ n → n ≤ 4096 → cap_line (spelled_cap n) ≡ Ok n
-  pub attrs : (cap : ℕ) (a : Attrs) → FitsAttrs a → checked_attrs a ≡ Ok tt → a.max ≤ cap → attrs_line cap (spelled_attrs a) ≡ Ok a
-  pub target : (before : List Target) (t : Target) → checked (before ++ t ∷ []) ≡ Ok tt → target_line before (spelled_target t) ≡ Ok t
-  pub range : (f : Frame) (targets : List Target) (before : List RangeSpec) (r : RangeSpec) → FitsRange r → checked_next targets f.unit f.cap before r ≡ Ok tt → length before < f.attrs.max → range_line f targets before (spelled_range r) ≡ Ok r
-  pub scheme : (before : List SlotChange) (line : List ℕ) (change : SlotChange) (scheme : Scheme) → GivesScheme line change → change.scheme ≡ Some scheme → checked_scheme change.slot scheme ≡ Ok tt → is_changed change.slot before ≡ false → scheme_line before line ≡ Ok change
-  pub command : (space : List Target) (line : List ℕ) (command : CommandValue) → IsCommand space line command → command_line space line ≡ Ok command
-  pub part : (before : CommitValue) (line : List ℕ) (part : Part) → may_come before part ≡ true → IsPart line part → part_line before line ≡ Ok part
+  pub attrs :
+      (cap : ℕ) (a : Attrs) → FitsAttrs a → checked_attrs a ≡ Ok tt → a.max ≤ cap
+      → attrs_line cap (spelled_attrs a) ≡ Ok a
+  pub target :
+      (before : List Target) (t : Target) → checked (before ++ t ∷ []) ≡ Ok tt
+      → target_line before (spelled_target t) ≡ Ok t
+  pub range :
+      (f : Frame) (targets : List Target) (before : List RangeSpec) (r : RangeSpec) → FitsRange r
+      → checked_next targets f.unit f.cap before r ≡ Ok tt → length before < f.attrs.max
+      → range_line f targets before (spelled_range r) ≡ Ok r
+  pub scheme :
+      (before : List SlotChange) (line : List ℕ) (change : SlotChange) (scheme : Scheme)
+      → GivesScheme line change → change.scheme ≡ Some scheme
+      → checked_scheme change.slot scheme ≡ Ok tt → is_changed change.slot before ≡ false
+      → scheme_line before line ≡ Ok change
+  pub command :
+      (space : List Target) (line : List ℕ) (command : CommandValue)
+      → IsCommand space line command → command_line space line ≡ Ok command
+  pub part :
+      (before : CommitValue) (line : List ℕ) (part : Part) → may_come before part ≡ true
+      → IsPart line part → part_line before line ≡ Ok part

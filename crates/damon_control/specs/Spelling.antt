@@ -59,7 +59,8 @@ spelled_target t = spaced (codes "target" ∷ target_words t)
 
 -- `TARGET FROM TO CLASS`
 abbrev pub range_words : RangeSpec → List (List ℕ)
-range_words r = decimal r.target ∷ spelled_address r.from ∷ spelled_address r.to ∷ decimal r.class ∷ []
+range_words r =
+    decimal r.target ∷ spelled_address r.from ∷ spelled_address r.to ∷ decimal r.class ∷ []
 
 -- `range TARGET FROM TO CLASS`
 abbrev pub spelled_range : RangeSpec → List ℕ
@@ -71,7 +72,8 @@ spelled_touch target addr = spaced (codes "touch" ∷ decimal target ∷ spelled
 
 -- `sweep TARGET FROM TO`
 abbrev pub spelled_sweep : ℕ → ℕ → ℕ → List ℕ
-spelled_sweep target from to = spaced (codes "sweep" ∷ decimal target ∷ spelled_address from ∷ spelled_address to ∷ [])
+spelled_sweep target from to =
+    spaced (codes "sweep" ∷ decimal target ∷ spelled_address from ∷ spelled_address to ∷ [])
 
 -- `step TIMES`
 abbrev pub spelled_step : ℕ → List ℕ
@@ -122,7 +124,7 @@ abbrev pub spelled_answer : Bool → List ℕ
 spelled_answer true = codes "allow"
 spelled_answer false = codes "reject"
 
--- what stands before the name of a kind: nothing, or `not-` where all other pages are meant
+-- what stands before the name of a kind: nothing, or `not-` for all other pages
 abbrev pub spelled_side : Bool → List ℕ
 spelled_side true = []
 spelled_side false = codes "not-"
@@ -141,7 +143,8 @@ kind_value (Class class) = decimal class
 
 -- `ANSWER:[not-]KIND:VALUE`
 abbrev pub spelled_filter : Filter → List ℕ
-spelled_filter f = joined colon (spelled_answer f.allow ∷ (spelled_side f.matching ++ kind_name f.kind) ∷ kind_value f.kind ∷ [])
+spelled_filter f =
+    joined colon (spelled_answer f.allow ∷ (spelled_side f.matching ++ kind_name f.kind) ∷ kind_value f.kind ∷ [])
 
 -- `KEY=VALUE`
 abbrev pub spelled_setting : Setting → List ℕ
@@ -156,7 +159,8 @@ spelled_setting (FilterOf filter) = codes "filter=" ++ spelled_filter filter
 
 -- `SLOT ACTION KEYS`
 abbrev pub scheme_words : ℕ → Action → List Setting → List (List ℕ)
-scheme_words slot action settings = decimal slot ∷ spelled_action action ∷ map spelled_setting settings
+scheme_words slot action settings =
+    decimal slot ∷ spelled_action action ∷ map spelled_setting settings
 
 -- `scheme SLOT ACTION KEYS`
 abbrev pub spelled_scheme : ℕ → Action → List Setting → List ℕ

@@ -38,8 +38,8 @@ pub enum Setting {
     Filter(Filter),
 }
 
-// Reads `SLOT ACTION KEYS`. The form of the whole line is refused before its numbers, so the keys
-// are gone over twice.
+// Reads `SLOT ACTION KEYS`. A fault of form anywhere in the line is reported before a bad number, so
+// the keys are read twice.
 pub fn read_scheme(words: Words) -> Result<(u8, Scheme), ScriptKind>
     ensures { result ≡ scheme_in (words_in words.entry) }
 {
@@ -54,18 +54,22 @@ pub fn read_scheme(words: Words) -> Result<(u8, Scheme), ScriptKind>
     Ok((slot, scheme))
 }
 
+// The variant that a name stands for, or None where it is not in the table.
+macro_rules! variant_named {
+    ($name:ident, $kind:ident, $($text:literal => $variant:ident,)*) => {{
+        $(if same_word($name, $text) {
+            return Some($kind::$variant);
+        })*
+        None
+    }};
+}
+
 // The action with this name.
 fn read_action(name: &[u8]) -> Option<Action>
     ensures { result ≡ action_of name.now }
 {
-    macro_rules! named {
-        ($($text:literal => $action:ident,)*) => {
-            $(if same_word(name, $text) {
-                return Some(Action::$action);
-            })*
-        };
-    }
-    named! {
+    variant_named! {
+        name, Action,
         b"stat" => Stat,
         b"willneed" => Willneed,
         b"cold" => Cold,
@@ -75,21 +79,14 @@ fn read_action(name: &[u8]) -> Option<Action>
         b"lru_prio" => LruPrio,
         b"lru_deprio" => LruDeprio,
     }
-    None
 }
 
 // The key with this name.
 fn read_key(name: &[u8]) -> Option<Key>
     ensures { result ≡ key_named name.now }
 {
-    macro_rules! named {
-        ($($text:literal => $key:ident,)*) => {
-            $(if same_word(name, $text) {
-                return Some(Key::$key);
-            })*
-        };
-    }
-    named! {
+    variant_named! {
+        name, Key,
         b"size" => Size,
         b"count" => Count,
         b"age" => Age,
@@ -99,7 +96,6 @@ fn read_key(name: &[u8]) -> Option<Key>
         b"marks" => Marks,
         b"filter" => Filter,
     }
-    None
 }
 
 // Takes `KEY=VALUE` apart at its first equals sign.
@@ -131,7 +127,7 @@ fn are_formed(keys: Words) -> bool
     true
 }
 
-// Whether a key may stand behind the one before it: keys stand in order, and filters may be many.
+// Whether a key may stand after the one before it: keys stand in order, and only the filter repeats.
 fn may_follow(last: Option<Key>, key: Key) -> bool
     ensures { result ≡ may_follow (option_map key_place last) key }
 {
@@ -142,7 +138,7 @@ fn may_follow(last: Option<Key>, key: Key) -> bool
     }
 }
 
-// The place of a key in a line.
+// The place of a key in the order of keys.
 fn place(key: Key) -> u8
     ensures { result ≡ key_place key }
 {
@@ -158,14 +154,15 @@ fn place(key: Key) -> u8
     }
 }
 
-// Whether a value has not the form that its key wants.
+// Whether a value does not have the form that its key wants.
 fn is_misformed(key: Key, value: &[u8]) -> bool
     ensures { result ≡ is_misformed (setting_for key value.now) }
 {
     matches!(read_value(key, value), Err(ScriptKind::Form))
 }
 
-// A scheme with the settings of words.
+// A scheme with the settings of words. Of several faults a bad number comes before a ninth filter, so
+// a refused scheme is carried on to the last word.
 fn read_settings(scheme: Scheme, keys: Words) -> Result<Scheme, ScriptKind>
     ensures { result ≡ with_settings scheme (words_in keys.entry) }
 {
@@ -291,7 +288,7 @@ fn read_answer(name: &[u8]) -> Result<bool, ScriptKind>
     }
 }
 
-// A name, and whether it is without `not-` in front.
+// Whether a name has no `not-` before it, and the name without it.
 fn plain_name(name: &[u8]) -> (bool, &[u8])
     ensures { view_name result ≡ plain_name name.now }
 {
@@ -329,7 +326,7 @@ fn read_addr(value: &[u8]) -> Result<FilterKind, ScriptKind>
     })
 }
 
-// A scheme of which nothing is said but its action.
+// The scheme of an action with each key at its default.
 fn default_scheme(action: Action) -> Scheme
     ensures { result ≡ default_scheme action }
 {

@@ -1,5 +1,5 @@
-// Laws of the definitions that the contracts cite: what is accepted is spelled so. No function here
-// does anything.
+// Laws of the definitions that the contracts cite: a line that is read says what was read, and a line
+// that says something is read as that. These functions do nothing.
 ghost use Rattle.std.specs.Prelude.{ℕ, List};
 ghost use Rattle.damon_types.specs.declared.range.RangeSpec.{RangeSpec};
 ghost use Rattle.damon_types.specs.declared.space.Target.{Target};
@@ -22,7 +22,7 @@ use line_text::{
 use live_commit::slots_are_checked_in_turn;
 use target_ranges::{fault_stays, made_in_order, next_decides};
 
-// What is known of words, and of the numbers and addresses that they spell.
+// The laws of `line_text` on words, numbers and addresses, in one record.
 fn words_have_laws()
     ensures laws { WordLaws }
 {
@@ -37,8 +37,8 @@ fn words_have_laws()
     stripped_front_was_first();
 }
 
-/// The words behind `attrs` and `range` that are accepted, in a setup and in a commit alike, spell
-/// what is read from them.
+/// The words after `attrs` and `range` that are accepted, in a setup and in a commit, are the
+/// spelling of what is read from them.
 pub fn fields_are_spelled()
     ensures attrs { ReadsOnly attrs_in attrs_words }
     ensures range { ReadsOnly range_in range_words }
@@ -53,14 +53,15 @@ pub fn setup_lines_are_spelled()
     ensures cap { ReadsOnly cap_line spelled_cap }
     ensures attrs { (cap : ℕ) → ReadsOnly (attrs_line cap) spelled_attrs }
     ensures target { ReadsOnly one_target spelled_target }
-    ensures range { (f : Frame) (targets : List Target) (before : List RangeSpec) → ReadsOnly (range_line f targets before) spelled_range }
+    ensures range { (f : Frame) (targets : List Target) (before : List RangeSpec)
+        → ReadsOnly (range_line f targets before) spelled_range }
 {
     words_have_laws();
 }
 
-/// A line of a setup that gives a slot a scheme is the spelling of it: the slot, the name of an
-/// action and settings, each in its one spelling, which make the scheme of the action's default. A
-/// word that names an action or sets something is the spelling of it.
+/// A line of a setup that gives a slot a scheme is the spelling of a slot, an action and settings in
+/// order, which turn the action's default into that scheme. A word that is read as an action or a
+/// setting is its spelling.
 pub fn schemes_are_spelled()
     ensures actions { NamesActions }
     ensures settings { ReadsOnly setting_of spelled_setting }
@@ -69,8 +70,8 @@ pub fn schemes_are_spelled()
     words_have_laws();
 }
 
-/// A line of a body or of a commit that is accepted is the spelling of what it says: a command of
-/// one line, or a part of a commit, where it may come.
+/// A line of a body that is accepted says the command that is read from it. A line of a commit that
+/// is accepted says the part that is read from it, and that part may come there.
 pub fn body_lines_are_spelled()
     ensures commands { ReadsOnlyCommands }
     ensures parts { ReadsOnlyParts }
@@ -78,8 +79,9 @@ pub fn body_lines_are_spelled()
     words_have_laws();
 }
 
-/// A line that says something, each number of it within its field and its limits, is read as what
-/// it says.
+/// Each line of a script that says something, with each number within its field and its limits, is
+/// read as what it says. With `body_lines_are_spelled`, a line of a body is read as a command exactly
+/// where it says that command, and a line of a commit likewise.
 pub fn spelled_lines_are_read()
     ensures lines { LinesReadBack }
 {
@@ -88,7 +90,7 @@ pub fn spelled_lines_are_read()
 
 /// A text is read as a script exactly where it says it, line by line, each within its limits: the
 /// header, the lines of the setup, one for each scheme, `begin`, those of each command in order, and
-/// `end`, each with its LF and nothing behind the last.
+/// `end`, each with its LF and nothing after the last.
 pub fn texts_are_exactly_read()
     ensures texts { TextsAreRead }
 {

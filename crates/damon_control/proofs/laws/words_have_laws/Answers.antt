@@ -11,6 +11,6 @@ returns c = record {
     addresses = c.address_is_spelled.ensures.only;
     spelled_addresses = c.spelled_address_is_read.ensures.read_back;
     hex_digits = c.spelled_address_has_digits.ensures.digits;
-    fronts = c.stripped_front_was_first.ensures.only;
+    prefixes = c.stripped_front_was_first.ensures.only;
   };
 }
