@@ -78,14 +78,14 @@ frame_leads back f lines small sound =
     let most : f.attrs.max ≤ 4096 = omega (arith, limits.max_cap, limits.cap_most) in
     let least : f.attrs.min ≤ 4096 = omega (arith, limits.attrs.max, most) in
     let fits : FitsAttrs f.attrs = (omega (arith, least), omega (arith, most), omega (arith, limits.attrs.aggr_most)) in
-    let behind_cap = spelled_attrs f.attrs ∷ lines in
-    let behind_unit = spelled_cap f.cap ∷ behind_cap in
-    let behind_seed = spelled_unit f.unit ∷ behind_unit in
-    leads-line AtHeader AtSeed (codes "damon script 1") (spelled_seed f.seed ∷ behind_seed) refl
-    ∙ leads-line AtSeed (AtUnit f.seed) (spelled_seed f.seed) behind_seed (lead_to (seed_line (spelled_seed f.seed)) f.seed (λ n. AtUnit n) (back.seed f.seed small))
-    ∙ leads-line (AtUnit f.seed) (AtCap f.seed f.unit) (spelled_unit f.unit) behind_unit
+    let after_cap = spelled_attrs f.attrs ∷ lines in
+    let after_unit = spelled_cap f.cap ∷ after_cap in
+    let after_seed = spelled_unit f.unit ∷ after_unit in
+    leads-line AtHeader AtSeed (codes "damon script 1") (spelled_seed f.seed ∷ after_seed) refl
+    ∙ leads-line AtSeed (AtUnit f.seed) (spelled_seed f.seed) after_seed (lead_to (seed_line (spelled_seed f.seed)) f.seed (λ n. AtUnit n) (back.seed f.seed small))
+    ∙ leads-line (AtUnit f.seed) (AtCap f.seed f.unit) (spelled_unit f.unit) after_unit
     (lead_to (unit_line (spelled_unit f.unit)) f.unit (λ n. AtCap f.seed n) (back.unit f.unit limits.unit_some limits.unit_most))
-    ∙ leads-line (AtCap f.seed f.unit) (AtAttrs f.seed f.unit f.cap) (spelled_cap f.cap) behind_cap
+    ∙ leads-line (AtCap f.seed f.unit) (AtAttrs f.seed f.unit f.cap) (spelled_cap f.cap) after_cap
     (lead_to (cap_line (spelled_cap f.cap)) f.cap (λ n. AtAttrs f.seed f.unit n) (back.cap f.cap limits.cap_some limits.cap_most))
     ∙ leads-line (AtAttrs f.seed f.unit f.cap) (AtTargets f []) (spelled_attrs f.attrs) lines
     (lead_to (attrs_line f.cap (spelled_attrs f.attrs)) f.attrs (λ a. AtTargets (record { seed = f.seed; unit = f.unit; cap = f.cap; attrs = a }) [])
@@ -163,7 +163,7 @@ ranges_lead laws f targets before (r ∷ more) lines space sound few =
 some_is : {A : Type 0} (xs : List A) → 1 ≤ length xs → (length xs == 0) ≡ false
 some_is xs some = grind (arith, nat_tests)
 
--- behind some targets a line that is of none is the first of the ranges
+-- after some targets a line that is of no target is the first of the ranges
 past_targets : (f : Frame) (targets : List Target) (line : List ℕ) (lines : List (List ℕ)) → 1 ≤ length targets → begins_with (codes "target") line ≡ false
     → leads (AtTargets f targets) (line ∷ lines) ≡ leads (AtRanges f targets []) (line ∷ lines)
 past_targets f targets line lines some other = ap (λ r. r >>= λ next. leads next lines) same
@@ -171,7 +171,7 @@ past_targets f targets line lines some other = ap (λ r. r >>= λ next. leads ne
     same : place_after (AtTargets f targets) line ≡ place_after (AtRanges f targets []) line
     same = else_way (begins_with (codes "target") line || (length targets == 0)) _ _ (neither_true (begins_with (codes "target") line) (length targets == 0) other (some_is targets some))
 
--- behind some ranges a line that is of none is the first of the schemes
+-- after some ranges a line that is of no range is the first of the schemes
 past_ranges : (f : Frame) (targets : List Target) (specs : List RangeSpec) (line : List ℕ) (lines : List (List ℕ)) → 1 ≤ length specs → begins_with (codes "range") line ≡ false
     → leads (AtRanges f targets specs) (line ∷ lines) ≡ leads (AtSchemes f targets specs []) (line ∷ lines)
 past_ranges f targets specs line lines some other = ap (λ r. r >>= λ next. leads next lines) same
@@ -363,17 +363,17 @@ setup_leads : LeadLaws → (seed : ℕ) (setup : SetupValue) (lines back : List 
 setup_leads laws seed setup lines back says =
     let f : Frame = record { seed = seed; unit = setup.unit; cap = setup.cap; attrs = setup.attrs } in
     let space = setup.space in
-    let behind_ranges = says.schemes ++ codes "begin" ∷ back in
-    let behind_targets = map spelled_range says.specs ++ behind_ranges in
+    let after_ranges = says.schemes ++ codes "begin" ∷ back in
+    let after_targets = map spelled_range says.specs ++ after_ranges in
     let frame_lines = λ (ls : List (List ℕ)). codes "damon script 1" ∷ spelled_seed seed ∷ spelled_unit setup.unit ∷ spelled_cap setup.cap ∷ spelled_attrs setup.attrs ∷ ls in
-    let lines_are : lines ++ codes "begin" ∷ back ≡ frame_lines (map spelled_target space ++ behind_targets) =
+    let lines_are : lines ++ codes "begin" ∷ back ≡ frame_lines (map spelled_target space ++ after_targets) =
     ap (λ ls. ls ++ codes "begin" ∷ back) says.spelled
     ∙ ap frame_lines (regroup (map spelled_target space) (map spelled_range says.specs) says.schemes (codes "begin" ∷ back))
     in
     ap (leads AtHeader) lines_are
-    ∙ frame_leads laws.lines f (map spelled_target space ++ behind_targets) says.seed_fits says.limits
-    ∙ targets_lead laws.lines f [] space behind_targets says.targets
-    ∙ targets_ranges_lead laws f space says.specs behind_ranges says.targets says.ranges says.some_range says.few_ranges
+    ∙ frame_leads laws.lines f (map spelled_target space ++ after_targets) says.seed_fits says.limits
+    ∙ targets_lead laws.lines f [] space after_targets says.targets
+    ∙ targets_ranges_lead laws f space says.specs after_ranges says.targets says.ranges says.some_range says.few_ranges
     ∙ ranges_schemes_lead laws f space says.specs says.schemes setup.slots back says.some_range says.give says.slots
     ∙ schemes_lead laws.lines f space says.specs [] says.schemes setup.slots (codes "begin" ∷ back) tt says.give says.slots
     ∙ leads-line (AtSchemes f space says.specs setup.slots) (InBody (opened f space says.specs setup.slots)) (codes "begin") back refl

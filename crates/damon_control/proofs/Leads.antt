@@ -32,7 +32,7 @@ at-Ok : {A : Type 0} (n : ℕ) (r : Result A ScriptKind) (x : A) → at n r ≡ 
 at-Ok n (Ok y) x e = cc
 at-Ok n (Err kind) x e = absurd cc
 
--- a text ends behind its last line
+-- a text ends after its last line
 text_ends : (n : ℕ) (place : Place) (bytes : List ℕ) (s : ScriptValue) → at_text_end n place bytes ≡ Ok s → (place ≡ AtEnd s) × (bytes ≡ [])
 text_ends n (AtEnd said) [] s e = let is : said ≡ s = cc in (ap (λ x. AtEnd x) is, refl)
 text_ends n (AtEnd said) (b ∷ bs) s e = absurd cc
@@ -60,12 +60,12 @@ read-Lead n place (bytes ∷ []) s e =
     let end = text_ends n place bytes s e in
     record { lines = []; whole = end.1; lead = ap (λ p. Ok p) end.0 }
 read-Lead n place (line ∷ next ∷ more) s e =
-    let behind = bind-Ok (at n (place_after place line)) _ s e in
-    let others = read-Lead (n + 1) behind.0 (next ∷ more) s behind.2 in
+    let reached = bind-Ok (at n (place_after place line)) _ s e in
+    let others = read-Lead (n + 1) reached.0 (next ∷ more) s reached.2 in
     record {
       lines = line ∷ others.lines;
       whole = ap (λ text. line ++ 10 ∷ text) others.whole;
-      lead = leads-line place behind.0 line others.lines (at-Ok n (place_after place line) behind.0 behind.1) ∙ others.lead;
+      lead = leads-line place reached.0 line others.lines (at-Ok n (place_after place line) reached.0 reached.1) ∙ others.lead;
     }
 
 -- lines that lead to the end of a script are read as it, where nothing follows them
@@ -75,7 +75,7 @@ leads-read n place (line ∷ lines) s e =
     let next = bind-Ok (place_after place line) (λ p. leads p lines) (AtEnd s) e in
     let some : 0 < length (lines ++ [] ∷ []) = omega (arith, length-append lines ([] ∷ [])) in
     reads_more n place line (lines ++ [] ∷ []) some
-    ∙ ap (λ r. at n r >>= λ behind. reads (n + 1) behind (lines ++ [] ∷ [])) next.1
+    ∙ ap (λ r. at n r >>= λ reached. reads (n + 1) reached (lines ++ [] ∷ [])) next.1
     ∙ leads-read (n + 1) next.0 lines s next.2
 
 -- the text of lines, as pieces between LFs
@@ -88,7 +88,7 @@ apart : TakesApartPieces → (pieces : List (List ℕ)) → 0 < length pieces �
 apart takes [] some each = absurd (omega arith)
 apart takes (first ∷ others) some each = takes 10 first others each
 
--- lines without an LF are taken apart again, and nothing is left behind the last
+-- lines without an LF are taken apart again, and nothing is left after the last
 pub lines_apart : TakesApartPieces → (lines : List (List ℕ)) → All (IsPiece 10) lines → parts 10 (lines_text lines) ≡ lines ++ [] ∷ []
 lines_apart takes lines each =
     let last : All (IsPiece 10) ([] ∷ []) = All-from_recursion (IsPiece 10) ([] ∷ []) (All-nil (λ c. c ≡ 10 → ⊥), tt) in

@@ -71,7 +71,7 @@ target_sound before line t e =
     let passes = only_if-Ok (is_ok (checked (before ++ one.0 ∷ []))) Limit one.0 t one.2 in
     subst (λ (u : Target). checked (before ++ u ∷ []) ≡ Ok tt) passes.1 (is_ok_Ok (checked (before ++ one.0 ∷ [])) passes.0)
 
--- a range that is accepted behind others, of which there are fewer than the most
+-- a range that is accepted after others, which are fewer than the most
 pub record FollowsRanges (f : Frame) (targets : List Target) (before : List RangeSpec) (r : RangeSpec) : Type 0 where
   pub sound : checked_next targets f.unit f.cap before r ≡ Ok tt
   pub few : length before < f.attrs.max

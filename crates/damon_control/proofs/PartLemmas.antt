@@ -20,7 +20,7 @@ no_word_parts bytes = by (parts 32 bytes) (parts-some 32 bytes)
     by [] some = absurd (omega arith)
     by (word ∷ words) some = refl
 
--- a word and the parts behind it are more than one
+-- a word and the parts after it are more than one
 pub one_of_parts : (word bytes : List ℕ) → one_of (word ∷ parts 32 bytes) ≡ None
 one_of_parts word bytes = by (parts 32 bytes) (parts-some 32 bytes)
   where
@@ -28,18 +28,18 @@ one_of_parts word bytes = by (parts 32 bytes) (parts-some 32 bytes)
     by [] some = absurd (omega arith)
     by (next ∷ words) some = refl
 
--- a line with lines behind it is read, and then these
+-- a line with lines after it is read, and then these
 pub reads_more : (n : ℕ) (place : Place) (line : List ℕ) (lines : List (List ℕ)) → 0 < length lines
-    → reads n place (line ∷ lines) ≡ (at n (place_after place line) >>= λ behind. reads (n + 1) behind lines)
+    → reads n place (line ∷ lines) ≡ (at n (place_after place line) >>= λ next. reads (n + 1) next lines)
 reads_more n place line [] some = absurd (omega arith)
 reads_more n place line (next ∷ more) some = refl
 
--- a line with bytes behind it is read, and then these
+-- a line with bytes after it is read, and then these
 pub reads_line : (n : ℕ) (place : Place) (line bytes : List ℕ)
-    → reads n place (line ∷ parts 10 bytes) ≡ (at n (place_after place line) >>= λ behind. reads (n + 1) behind (parts 10 bytes))
+    → reads n place (line ∷ parts 10 bytes) ≡ (at n (place_after place line) >>= λ next. reads (n + 1) next (parts 10 bytes))
 reads_line n place line bytes = reads_more n place line (parts 10 bytes) (parts-some 10 bytes)
 
--- a line with lines behind it is the first
+-- a line with lines after it is the first
 pub begins_lines_parts : (word line bytes : List ℕ) → begins_lines word (line ∷ parts 10 bytes) ≡ begins_with word line
 begins_lines_parts word line bytes = by (parts 10 bytes) (parts-some 10 bytes)
   where
@@ -47,7 +47,7 @@ begins_lines_parts word line bytes = by (parts 10 bytes) (parts-some 10 bytes)
     by [] some = absurd (omega arith)
     by (next ∷ more) some = refl
 
--- bytes behind the end are text after it
+-- bytes after the end are a fault
 pub reads_after : (n : ℕ) (s : ScriptValue) (bytes : List ℕ) → bytes ≢ [] → reads n (AtEnd s) (parts 10 bytes) ≡ Err (record { line = n; kind = After })
 reads_after n s bytes some = by (parts 10 bytes) (parts-some 10 bytes) (join_with_byte-slice_split 10 bytes)
   where

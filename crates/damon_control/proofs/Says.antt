@@ -46,7 +46,7 @@ pub record TextLaws : Type 0 where
   pub ranges : ChecksOneMore
   pub slots : ChecksInTurn
 
--- the lines of a frame, and others behind them
+-- the lines of a frame, and others after them
 abbrev frame_lines : Frame → List (List ℕ) → List (List ℕ)
 frame_lines f lines =
     codes "damon script 1" ∷ spelled_seed f.seed ∷ spelled_unit f.unit ∷ spelled_cap f.cap ∷ spelled_attrs f.attrs ∷ lines
@@ -70,7 +70,7 @@ record SayRanges (lines : List (List ℕ)) (f : Frame) (targets : List Target) (
   sound : checked_ranges targets f.unit f.cap specs ≡ Ok tt
   few : length specs ≤ f.attrs.max
 
--- lines of a setup, and of commands behind `begin`
+-- lines of a setup, and of commands after `begin`
 pub record SayBody (lines : List (List ℕ)) (b : Body) : Type 0 where
   setup : List (List ℕ)
   commands : List (List (List ℕ))
@@ -270,7 +270,7 @@ at_schemes laws lines f targets specs slots line next before e = either_way (beg
       work = omega arith;
     })
 
--- behind its ranges a setup has no scheme yet
+-- after its ranges a setup has no scheme yet
 ranges-SaySetup : (lines : List (List ℕ)) (f : Frame) (targets : List Target) (specs : List RangeSpec) → SayRanges lines f targets specs → 1 ≤ length specs → SaySetup lines f.seed (setup_said f targets specs [])
 ranges-SaySetup lines f targets specs before some = record {
   specs = specs;

@@ -65,7 +65,7 @@ command_line space line =
     else if begins_with (codes "finish") line then word_line (codes "finish") Finish line
     else word_line (codes "show") Show line
 
--- a commit of which nothing is said yet
+-- a commit with no part yet
 abbrev pub no_commit : CommitValue
 no_commit = record { attrs = None; ranges = None; slot = None; metric = None }
 
@@ -75,7 +75,7 @@ drop_line line = do
   slot ← arguments (codes "drop") line >>= one_word >>= number_8
   Ok (record { slot = slot; scheme = None })
 
--- `scheme SLOT ACTION KEYS`, of which the form alone is looked at
+-- `scheme SLOT ACTION KEYS`, of which only the form is checked
 abbrev pub change_line : List ℕ → Result SlotChange ScriptKind
 change_line line = do
   said ← arguments (codes "scheme") line >>= scheme_in

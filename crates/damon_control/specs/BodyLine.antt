@@ -22,7 +22,7 @@ body_said b (Ok Commit) = Ok (InCommit b no_commit)
 body_said b (Ok (Say command)) = with_command b (command_value command)
 body_said b (Err kind) = Err kind
 
--- the command of a line, if it says one, has its pages among so many
+-- the command of a line, if it says one, is within its limits
 abbrev pub LineIsWithin : ℕ → BodyLine → Type 0
 LineIsWithin pages End = Unit {0}
 LineIsWithin pages Commit = Unit {0}

@@ -57,13 +57,13 @@ target_in words = do
 abbrev pub one_target : List ℕ → Result Target ScriptKind
 one_target line = arguments (codes "target") line >>= target_in
 
--- `target BASE PAGES` behind other targets, with which it makes a space
+-- `target BASE PAGES` after other targets, with which it is a space
 abbrev pub target_line : List Target → List ℕ → Result Target ScriptKind
 target_line before line = do
   target ← one_target line
   only_if (is_ok (checked (before ++ target ∷ []))) Limit target
 
--- `range TARGET FROM TO CLASS` behind other ranges, with which it is accepted, and not more than max
+-- `range TARGET FROM TO CLASS` after other ranges: it is accepted after them, and they are fewer than max
 abbrev pub range_line : Frame → List Target → List RangeSpec → List ℕ → Result RangeSpec ScriptKind
 range_line f targets before line = do
   words ← arguments (codes "range") line
@@ -75,7 +75,7 @@ range_line f targets before line = do
 abbrev pub is_changed : ℕ → List SlotChange → Bool
 is_changed slot changes = list_any (λ c. c.slot == slot) changes
 
--- `scheme SLOT ACTION KEYS` behind other schemes, each for a slot of its own
+-- `scheme SLOT ACTION KEYS` after other schemes, each for a slot of its own
 abbrev pub scheme_line : List SlotChange → List ℕ → Result SlotChange ScriptKind
 scheme_line before line = do
   words ← arguments (codes "scheme") line

@@ -24,8 +24,8 @@ abbrev pub MovesTo : Place → Lines → Place → Lines → Type 0
 MovesTo place old next new = reads_left place old ≡ reads_left next new
 
 -- what is said from a place on by a line and those that are left after it
-abbrev pub reads_behind : Place → List ℕ → Lines → Result ScriptValue ScriptFault
-reads_behind place line lines = at lines.taken (place_after place line) >>= λ next. reads_left next lines
+abbrev pub reads_on : Place → List ℕ → Lines → Result ScriptValue ScriptFault
+reads_on place line lines = at lines.taken (place_after place line) >>= λ next. reads_left next lines
 
 -- a place that wants a line
 abbrev pub IsOpen : Place → Type 0

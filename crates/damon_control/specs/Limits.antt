@@ -11,7 +11,7 @@ use Rattle.damon_control.specs.Command.{CommandValue, command_value, Touch, Swee
 abbrev pub AreLimits : Frame → Type 0
 AreLimits f = checked_limits f.unit f.cap f.attrs ≡ Ok tt
 
--- the pages of a command are among so many, a sweep has at least one, and steps are from 1 to MAX_STEPS
+-- a command within its limits: its pages are below `pages`, a sweep has at least one, and steps are from 1 to MAX_STEPS
 abbrev pub IsCommandWithin : ℕ → CommandValue → Type 0
 IsCommandWithin pages (Touch page) = page < pages
 IsCommandWithin pages (Sweep from to) = (from < to) × (to ≤ pages)

@@ -10,7 +10,7 @@ use Rattle.damon_control.specs.declared.fault.ScriptKind.{ScriptKind}
 use Rattle.damon_control.specs.declared.fault.ScriptKind.TheVariants.{Word, Form, Number}
 use Rattle.damon_control.specs.Refusal.{◌>>=◌}
 
--- the words that a text shows, none where there is no text
+-- the words of a text, or no words if there is no text
 abbrev pub words_in : Option (Bor (List ℕ)) → List (List ℕ)
 words_in text = parts_left 32 (option_copied text)
 
@@ -26,7 +26,7 @@ begins_with word line = first_is (parts 32 line)
     first_is [] = same_word [] word
     first_is (first ∷ rest) = same_word first word
 
--- the words behind the first, of a well-formed line that begins with this one
+-- the words after the first, of a well-formed line that begins with this one
 abbrev pub arguments : List ℕ → List ℕ → Result (List (List ℕ)) ScriptKind
 arguments word line =
     if not (begins_with word line) then Err Word

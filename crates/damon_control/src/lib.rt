@@ -1,5 +1,5 @@
-//! Scripts: what a text spells, and the reader of such texts, which finds the first fault of any
-//! other text.
+//! Scripts: what a text says, and the reader of such texts, which finds the first fault of any other
+//! text.
 #![tactic(auto)]
 
 /// The lines of a body: its commands.
@@ -8,13 +8,13 @@ mod body;
 mod commit;
 /// What is wrong with a text.
 mod fault;
-/// Fields that stand in a setup and in a commit alike.
+/// Fields that are written alike in a setup and in a commit.
 mod fields;
 /// The lines of a setup.
 mod head;
 /// The words of a scheme.
 mod keys;
-/// Texts that are accepted are spelled so.
+/// Laws: a text is read exactly where it says a script.
 mod laws;
 /// A text, line by line.
 mod lines;
@@ -22,9 +22,9 @@ mod lines;
 mod reader;
 /// What a script is.
 mod script;
-/// The words of a line.
 #[cfg(test)]
 mod tests;
+/// The words of a line.
 mod words;
 
 pub use fault::{ReadFail, ScriptFault, ScriptKind};

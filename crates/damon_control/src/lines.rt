@@ -1,5 +1,5 @@
 ghost use Rattle.std.specs.Prelude.{ℕ, List, ◌≡◌, ◌+◌, ◌<◌, ◌≤◌, length, IfOk, IfErr, OnOk, Ok, Err};
-ghost use Rattle.damon_control.specs.Left.{IsOpen, IsShort, first_begins, reads_behind, reads_left};
+ghost use Rattle.damon_control.specs.Left.{IsOpen, IsShort, first_begins, reads_on, reads_left};
 ghost use Rattle.damon_control.specs.Script.{AtEnd, Place, ScriptValue, at};
 ghost use Rattle.damon_control.specs.Words.{begins_with};
 
@@ -33,7 +33,7 @@ impl<'a> Lines<'a> {
     pub fn take_line(&mut self) -> Result<&'a [u8], ScriptFault>
         requires { IsShort self.old }
         ensures line { IfOk result (λ line. (place : Place) →
-            reads_left place self.old ≡ reads_behind place line.now self.new) }
+            reads_left place self.old ≡ reads_on place line.now self.new) }
         ensures cut { IfErr result (λ fault. (place : Place) → IsOpen place
             → reads_left place self.old ≡ Err fault) }
         ensures first { IfOk result (λ line. (word : List ℕ) →

@@ -11,7 +11,7 @@ use line_text::{
     three_parts, two_parts,
 };
 
-// The words behind the first of a line, as text; None where there are none.
+// The words after the first of a line, as text. None if there are none.
 pub type Words<'a> = Option<&'a [u8]>;
 
 // Whether two words are the same.
@@ -29,7 +29,7 @@ pub fn first_word(line: &[u8]) -> &[u8]
     first
 }
 
-// The words behind the first, of a well-formed line that begins with this one.
+// The words after the first, of a well-formed line that begins with this one.
 pub fn arguments<'a>(word: &[u8], line: &'a [u8]) -> Result<Words<'a>, ScriptKind>
     ensures { shown_words result ≡ arguments word.now line.now }
 {
