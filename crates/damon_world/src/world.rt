@@ -108,7 +108,7 @@ impl<R: Rng + Drop> World<R> {
         self.words.sweep(from, to);
     }
 
-    /// Carries out the monitor's next step, and tells what it did. No aggregation is due, since none is
+    /// Carries out the monitor's next step, and returns what it did. No aggregation is due, since none is
     /// carried out yet. The passes in all are below 2^40.
     pub fn step(&mut self) -> Stepped
         requires not_due { self.old.monitor.core.phase ≢ Phase.Due }

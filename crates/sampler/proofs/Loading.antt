@@ -1,7 +1,7 @@
 -- The checks of one pick more.
-use Rattle.std.proofs.Common.{◌≡◌, ℕ, zero, suc, ◌+◌, ◌-◌, ◌<◌, Bool, List, [], ◌∷◌, ◌++◌, cond, length, set, take, drop, get_or, refl, sym, ap, ◌∙◌, subst, arith}
+use Rattle.std.proofs.Common.{◌≡◌, ℕ, zero, suc, ◌+◌, ◌<◌, Bool, List, [], ◌∷◌, ◌++◌, cond, length, set, take, drop, refl, ap, ◌∙◌, arith}
 use Rattle.std.specs.Prelude.{count_by, map, slice_index}
-use Rattle.std.proofs.lemmas.List.{append-nil, take_more, get_or-drop, length-drop}
+use Rattle.std.proofs.lemmas.List.{take_more, get_or-drop, length-drop}
 use Rattle.std.proofs.lemmas.List.Sums.{sum_by_push}
 use Rattle.sampler.specs.Loaded.{loaded_bits, loaded_hits, mark_of, next_picks}
 
