@@ -21,7 +21,7 @@ use Rattle.live_commit.specs.declared.fault.SetupFault.{SetupFault}
 use Rattle.live_commit.specs.Checked.{checked_limits}
 use Rattle.live_commit.specs.Commit.{CommitValue}
 use Rattle.live_commit.specs.Setup.{SetupValue}
-use Rattle.live_commit.specs.Slots.{checked_behind, checked_free, checked_set, checked_slot, checked_slots, has_scheme, scheme_fault, sets}
+use Rattle.live_commit.specs.Slots.{checked_after, checked_free, checked_set, checked_slot, checked_slots, has_scheme, scheme_fault, sets}
 use Rattle.target_ranges.specs.declared.fault.RangeFault.{RangeFault}
 use Rattle.target_ranges.specs.declared.fault.RangeWhy.{RangeWhy}
 use Rattle.target_ranges.specs.Checked.{checked_next, checked_ranges, fault_at}
@@ -225,11 +225,11 @@ scheme_read back before line c each gives ok =
     (none_sets c.slot before each (free_accepted (length before) (list_any (sets c.slot) before) both.1))
 
 schemes_lead : LinesReadBack → (f : Frame) (targets : List Target) (specs : List RangeSpec) (before : List SlotChange) (schemes : List (List ℕ)) (more : List SlotChange) (lines : List (List ℕ))
-    → AllByRecursion (λ c. has_scheme c ≡ true) before → EachSays GivesScheme schemes more → checked_behind before more ≡ Ok tt
+    → AllByRecursion (λ c. has_scheme c ≡ true) before → EachSays GivesScheme schemes more → checked_after before more ≡ Ok tt
     → leads (AtSchemes f targets specs before) (schemes ++ lines) ≡ leads (AtSchemes f targets specs (before ++ more)) lines
 schemes_lead back f targets specs before [] [] lines each gives ok = ap (λ cs. leads (AtSchemes f targets specs cs) lines) (sym (append-nil before))
 schemes_lead back f targets specs before (line ∷ schemes) (c ∷ more) lines each gives ok =
-    let both = both_ok (checked_slot (length before) before c) (checked_behind (before ++ c ∷ []) more) ok in
+    let both = both_ok (checked_slot (length before) before c) (checked_after (before ++ c ∷ []) more) ok in
     let set : has_scheme c ≡ true = rw gives.0.1 refl in
     leads-line (AtSchemes f targets specs before) (AtSchemes f targets specs (before ++ c ∷ [])) line (schemes ++ lines)
     (scheme_leads f targets specs before line c (scheme_read back before line c each gives.0 both.0))
@@ -348,7 +348,7 @@ ranges_schemes_lead : LeadLaws → (f : Frame) (targets : List Target) (specs : 
     → leads (AtRanges f targets specs) (schemes ++ codes "begin" ∷ lines) ≡ leads (AtSchemes f targets specs []) (schemes ++ codes "begin" ∷ lines)
 ranges_schemes_lead laws f targets specs [] [] lines some give sound = past_ranges f targets specs (codes "begin") lines some refl
 ranges_schemes_lead laws f targets specs (line ∷ schemes) (c ∷ slots) lines some give sound =
-    let first = both_ok (checked_slot 0 [] c) (checked_behind (c ∷ []) slots) sound in
+    let first = both_ok (checked_slot 0 [] c) (checked_after (c ∷ []) slots) sound in
     let begins = scheme_begins [] line c (scheme_read laws.lines [] line c tt give.0 first.0) in
     past_ranges f targets specs line (schemes ++ codes "begin" ∷ lines) some (begins_other (codes "scheme") (codes "range") line begins.begins refl)
 ranges_schemes_lead laws f targets specs [] (c ∷ slots) lines some give sound = absurd give

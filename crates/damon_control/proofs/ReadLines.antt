@@ -12,7 +12,8 @@ use Rattle.damon_types.specs.declared.space.SpaceFault.{SpaceFault}
 use Rattle.damon_types.specs.declared.space.Target.{Target}
 use Rattle.damon_types.specs.Attrs.{checked_attrs}
 use Rattle.damon_types.specs.Scheme.{checked_scheme}
-use Rattle.damon_types.specs.Space.{and_next, checked, checked_from, checked_target}
+use Rattle.std.specs.Result.{result_and}
+use Rattle.damon_types.specs.Space.{checked, checked_targets_from, checked_target}
 use Rattle.line_text.specs.Address.{spelled_address}
 use Rattle.line_text.specs.Parts.{joined}
 use Rattle.target_ranges.specs.Checked.{checked_next}
@@ -96,17 +97,17 @@ target_small i t e =
     (λ none. absurd cc))
     (λ none. absurd cc) e
 
-first_check : (a b : Result (Unit {0}) SpaceFault) → and_next a b ≡ Ok tt → a ≡ Ok tt
+first_check : (a b : Result (Unit {0}) SpaceFault) → result_and a b ≡ Ok tt → a ≡ Ok tt
 first_check (Ok t) b e = refl
 first_check (Err why) b e = absurd cc
 
-second_check : (a b : Result (Unit {0}) SpaceFault) → and_next a b ≡ Ok tt → b ≡ Ok tt
+second_check : (a b : Result (Unit {0}) SpaceFault) → result_and a b ≡ Ok tt → b ≡ Ok tt
 second_check (Ok t) b e = e
 second_check (Err why) b e = absurd cc
 
-last_small : (i : ℕ) (before : List Target) (t : Target) → checked_from i (before ++ t ∷ []) ≡ Ok tt → (t.base < 2 ^ 64) × (t.pages < 2 ^ 32)
+last_small : (i : ℕ) (before : List Target) (t : Target) → checked_targets_from i (before ++ t ∷ []) ≡ Ok tt → (t.base < 2 ^ 64) × (t.pages < 2 ^ 32)
 last_small i [] t e = target_small i t (first_check (checked_target i t) (Ok tt) e)
-last_small i (u ∷ before) t e = last_small (i + 1) before t (second_check (checked_target i u) (checked_from (i + 1) (before ++ t ∷ [])) e)
+last_small i (u ∷ before) t e = last_small (i + 1) before t (second_check (checked_target i u) (checked_targets_from (i + 1) (before ++ t ∷ [])) e)
 
 -- the last target of a space is within its fields
 pub target_fits : (before : List Target) (t : Target) → checked (before ++ t ∷ []) ≡ Ok tt → (t.base < 2 ^ 64) × (t.pages < 2 ^ 32)
@@ -114,7 +115,7 @@ target_fits before t e =
     let targets = before ++ t ∷ [] in
     tested_way (length targets == 0) _ _ _ (λ _ none. absurd cc)
     (tested_way (nat_lt 64 (length targets)) _ _ _ (λ _ none. absurd cc)
-    (λ both. last_small 0 before t (first_check (checked_from 0 targets) _ both))) e
+    (λ both. last_small 0 before t (first_check (checked_targets_from 0 targets) _ both))) e
 
 pub target_line-spelled : (laws : WordLaws) (before : List Target) (t : Target) → checked (before ++ t ∷ []) ≡ Ok tt → target_line before (spelled_target t) ≡ Ok t
 target_line-spelled laws before t sound =
