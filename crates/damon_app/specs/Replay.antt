@@ -39,7 +39,8 @@ SpellsNotBuilt bytes same old new = (s : ScriptValue) × (script_of bytes ≡ Ok
 -- the bytes spell a script without later parts, and the sink gained a prefix of what its run writes
 abbrev pub WritesPrefix : List ℕ → Option (List ℕ) → Option (List ℕ) → Type 0
 WritesPrefix bytes old new =
-    (s : ScriptValue) × (script_of bytes ≡ Ok s) × (has_later_parts s ≡ false) × WritesPart old new (written_text Text s)
+    (s : ScriptValue) × (script_of bytes ≡ Ok s) × (has_later_parts s ≡ false)
+    × WritesPart old new (written_text Text s)
 
 -- the run of the script that the bytes spell is bound
 abbrev pub RunIsBound : List ℕ → Type 0

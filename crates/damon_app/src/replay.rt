@@ -20,8 +20,8 @@ use script_run::{Filled, has_later_parts, open_player, scripts_are_bound_along};
 use snapshot_print::Form;
 use std::alloc::Global;
 
-/// Does all of the program `damon`: where the words are `replay`, reads a script to its end and writes
-/// the report of its run. It takes no lock and always returns.
+/// Does all of the program `damon`: where the words are `replay`, reads a script to its end and
+/// writes the report of its run. It takes no lock and always returns.
 pub fn replay_main<S: Source, K: Sink>(
     alloc: Global,
     words: &[String],
@@ -39,7 +39,9 @@ pub fn replay_main<S: Source, K: Sink>(
     // The status is the one of the input, or a failure.
     ensures complete { AsksReplay words.now → IfSome (S.left source.old) (λ bytes.
         (result ≡ status_of_input INPUT_LIMIT bytes)
-        ⊎ IsFailure result (Rose (S.faults source.old) (S.faults source.new)) (Rose (K.faults sink.old) (K.faults sink.new))) }
+        ⊎ IsFailure result
+        (Rose (S.faults source.old) (S.faults source.new))
+        (Rose (K.faults sink.old) (K.faults sink.new))) }
 
     // When each other status comes; memory may run out at any time.
     ensures usage { (result ≡ Status.Usage) ↔ (AsksReplay words.now → ⊥) }
@@ -104,15 +106,18 @@ fn write_report<K: Sink>(alloc: Global, script: Script, sink: &mut K) -> Result<
 
     // The script came to its end, and the sink gained its report.
     ensures whole { OnOk result (comes_to_aggregation (said_by script) ≡ false) }
-    ensures all { OnOk result (Appends (K.taken sink.old) (K.taken sink.new) (report Form.Text (said_by script))) }
+    ensures all { OnOk result
+        (Appends (K.taken sink.old) (K.taken sink.new) (report Form.Text (said_by script))) }
 
     // Each failure.
     ensures answers { IfErr result EndsRun }
     ensures due { IsErrOf result Status.NotYet → comes_to_aggregation (said_by script) ≡ true }
     ensures up_to { IsErrOf result Status.NotYet →
         Appends (K.taken sink.old) (K.taken sink.new) (written_text Form.Text (said_by script)) }
-    ensures cause { IsErrOf result Status.WriteFault → Rose (K.faults sink.old) (K.faults sink.new) }
-    ensures part { WritesPart (K.taken sink.old) (K.taken sink.new) (written_text Form.Text (said_by script)) }
+    ensures cause { IsErrOf result Status.WriteFault →
+        Rose (K.faults sink.old) (K.faults sink.new) }
+    ensures part { WritesPart (K.taken sink.old) (K.taken sink.new)
+        (written_text Form.Text (said_by script)) }
 {
     let mut player = open_player(alloc, script, Form::Text)?;
     let mut piece = Vec::new(alloc);

@@ -8,7 +8,7 @@ use Rattle.damon_core.specs.State.{State, row_count}
 use Rattle.damon_core.specs.Event.{Event, load, next_hit, observe}
 use Rattle.damon_core.specs.Reached.{AllFit, Reached}
 use Rattle.damon_world.specs.Draws.{drawn, drawn_rest}
-use Rattle.damon_world.specs.Moment.{Moment, along, draws, draws_in, drawn_by, event_in, events_of_steps, moved, next_event, stepped, stepped_times}
+use Rattle.damon_world.specs.Moment.{Moment, along, draws_in, drawn_by, event_in, events_of_steps, moved, next_event, stepped, stepped_times}
 use Rattle.damon_world.specs.Advance.{Advances, IsAmid}
 use Rattle.damon_world.specs.Plays.{Plays, along-append}
 use Rattle.damon_world.specs.Stands.{StandsAt, WorldView}

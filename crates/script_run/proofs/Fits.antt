@@ -1,5 +1,5 @@
 -- The events of parts fit as far as they are built.
-use Rattle.std.proofs.Common.{◌≡◌, ℕ, zero, suc, ◌+◌, ◌*◌, ◌<◌, ◌≤◌, Bool, true, false, List, [], ◌∷◌, ◌++◌, length, refl, sym, ap, ◌∙◌, subst, cond, append-nil, arith}
+use Rattle.std.proofs.Common.{◌≡◌, ℕ, zero, suc, ◌+◌, ◌<◌, ◌≤◌, Bool, true, false, List, [], ◌∷◌, ◌++◌, refl, sym, ap, ◌∙◌, subst, cond, arith}
 use Rattle.std.specs.Prelude.{◌==◌, not}
 use Rattle.std.proofs.lemmas.Bool.Decides.{nat_tests}
 use Rattle.std.proofs.lemmas.List.Sums.{take_while-cons}
@@ -7,27 +7,26 @@ use Rattle.rand_core.specs.Stream.{Stream}
 use Rattle.damon_types.specs.Space.{pages_of}
 use Rattle.live_commit.specs.declared.phase.Phase.{Phase}
 use Rattle.live_commit.specs.declared.phase.Phase.TheVariants.{Idle, Clearing, Armed, Checking, Void, Due}
-use Rattle.damon_core.specs.State.{Core, State, opening, row_count}
+use Rattle.damon_core.specs.State.{State, opening, row_count}
 use Rattle.damon_core.specs.Event.{Event, Fits, IsClearing, IsLoading, IsObserving, touch, prepare, clear, load, observe, aggregate, show, next_hit}
 use Rattle.damon_core.specs.After.{after, by_clear, by_load, by_observe}
 use Rattle.damon_core.specs.Bound.{Bound}
 use Rattle.damon_core.specs.InPhase.{IsInPhase}
 use Rattle.damon_core.specs.Kept.{IsWithin}
-use Rattle.damon_core.specs.Makes.{AllFit-append, Reached-run}
+use Rattle.damon_core.specs.Makes.{Reached-run}
 use Rattle.damon_core.specs.Reached.{AllByHit, AllFit, CanOpen, Reached, ReachedByHit, run}
 use Rattle.damon_world.specs.Moment.{Moment, along, event_in, moved, next_event}
 use Rattle.damon_world.specs.Plays.{Reached-along, along-state}
 use Rattle.damon_world.specs.Touches.{touches}
 use Rattle.damon_control.specs.Command.{CommandValue, Touch, Sweep, Step, Arm, Finish, Show, Commit}
-use Rattle.damon_control.specs.Script.{ScriptValue}
 use Rattle.script_run.specs.declared.part.Part.{Part}
 use Rattle.script_run.specs.declared.part.Part.TheVariants as part
 use Rattle.script_run.specs.declared.part.Until.{Until}
-use Rattle.script_run.specs.BoundAlong.{ScriptsAreBoundAlong, IsBoundAlong}
+use Rattle.script_run.specs.BoundAlong.{ScriptsAreBoundAlong}
 use Rattle.script_run.specs.Kept.{ArePartsWithin, IsPartWithin}
 use Rattle.script_run.specs.NotBuilt.{before_aggregation, built_events, is_aggregation}
 use Rattle.script_run.specs.Parts.{part_of, parts_of, stops_at}
-use Rattle.script_run.specs.Sound.{AreCommandsWithin, IsCommandWithin, IsSound}
+use Rattle.script_run.specs.Sound.{AreCommandsWithin, IsCommandWithin}
 use Rattle.script_run.specs.Unfold.{part_events, parts_events, start, steps_until, unfold_script}
 use Rattle.script_run.specs.Way.{Reached-start}
 use Rattle.script_run.proofs.Advancing.{length-drawn}

@@ -2,19 +2,16 @@
 use Rattle.std.proofs.Common.{◌≡◌, ℕ, zero, suc, ◌+◌, ◌-◌, ◌*◌, ◌≤◌, Bool, true, false, List, [], ◌∷◌, ◌++◌, refl, sym, ap, ◌∙◌, subst, cond, append_assoc, append-nil, arith}
 use Rattle.std.specs.Prelude.{◌==◌, ◌||◌}
 use Rattle.rand_core.specs.Stream.{Stream}
-use Rattle.live_commit.specs.declared.phase.Phase.{Phase}
 use Rattle.live_commit.specs.declared.phase.Phase.TheVariants.{Due}
-use Rattle.damon_core.specs.State.{Core, State}
+use Rattle.damon_core.specs.State.{Core}
 use Rattle.damon_core.specs.Event.{Event, aggregate, show}
-use Rattle.damon_core.specs.Makes.{Reached-run}
-use Rattle.damon_core.specs.Reached.{AllFit, Reached, run}
+use Rattle.damon_core.specs.Reached.{Reached, run}
 use Rattle.damon_world.specs.Draws.{drawn}
 use Rattle.damon_world.specs.Moment.{Moment, along, event_in, moved, next_event}
-use Rattle.damon_world.specs.Plays.{Plays, Plays-append, Reached-along, along-append, along-state}
-use Rattle.damon_world.specs.Stands.{AreEvents, StandsAt, StandsFor, WorldView}
+use Rattle.damon_world.specs.Plays.{Plays-append, Reached-along, along-append, along-state}
+use Rattle.damon_world.specs.Stands.{AreEvents, StandsAt, StandsFor}
 use Rattle.damon_world.specs.Touches.{touches}
 use Rattle.snapshot_print.specs.Lines.{show_text}
-use Rattle.script_run.specs.declared.part.Part.{Part}
 use Rattle.script_run.specs.declared.part.Part.TheVariants as part
 use Rattle.script_run.specs.declared.part.Until.{Until}
 use Rattle.script_run.specs.declared.part.Until.TheVariants as until

@@ -8,7 +8,8 @@ use Rattle.damon_control.specs.Script.{ScriptValue, script_of}
 use Rattle.script_run.specs.NotBuilt.{built_events}
 use Rattle.script_run.specs.Sound.{ScriptsAreSound}
 
--- The events of the script fit from the opening of its setup, and each state to which a prefix of them leads is bound.
+-- The built events of the script fit from the opening of its setup, and each state to which a prefix of them leads is
+-- bound.
 pub record IsBoundAlong (s : ScriptValue) : Type 0 where
   pub fit : AllFit (opening s.setup) (built_events s)
   pub bound : (events rest : List Event) → built_events s ≡ events ++ rest → Bound (run (opening s.setup) events)

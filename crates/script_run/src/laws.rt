@@ -11,9 +11,9 @@ pub fn scripts_are_bound_along()
     damon_core::reached_states_are_in_phase();
 }
 
-/// From each state to which fitting events lead, the steps of `arm` lead to where each pick of a pass
-/// is cleared, and those of `finish` to where no pass is under way, or an aggregation is among them:
-/// `2 × cap + 3` steps are enough.
+/// From each state to which fitting events lead, the steps of `arm` lead to where each pick of a
+/// pass is cleared, and those of `finish` to where no pass is under way, or an aggregation is among
+/// them: `2 × cap + 3` steps are enough.
 pub fn passes_reach_their_phase()
     ensures { ReachTheirPhase }
 {

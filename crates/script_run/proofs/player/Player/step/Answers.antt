@@ -1,4 +1,4 @@
-use Rattle.std.proofs.Common.{refl, sym, ap, subst, ◌∙◌, arith}
+use Rattle.std.proofs.Common.{refl, ap, subst, arith}
 use Rattle.damon_world.specs.Advance.{Advances}
 use Rattle.script_run.proofs.Advancing.{advance_plays}
 use Rattle.script_run.proofs.Moves.{steps_made}
