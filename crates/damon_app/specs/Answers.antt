@@ -29,10 +29,14 @@ pub record Ends : Type 0 where
 pub record IsAnswer (limit : ℕ) (source source' sink sink' : Ends) (same : Type 0) (status : Status) : Type 0 where
   pub ok : status ≡ statuses.Ok → IfSome source.bytes (λ bytes. Replays bytes sink.bytes sink'.bytes)
   pub end : IsRead status → IsAtEnd source'.bytes
-  pub complete : IfSome source.bytes (λ bytes. (status ≡ status_of_input limit bytes) ⊎ IsFailure status (Rose source.faults source'.faults) (Rose sink.faults sink'.faults))
-  pub too_long : status ≢ statuses.Memory → IsSome source.bytes → (status ≡ statuses.TooLong) ↔ GaveOver limit source.bytes source'.bytes
+  pub complete : IfSome source.bytes (λ bytes.
+      (status ≡ status_of_input limit bytes)
+      ⊎ IsFailure status (Rose source.faults source'.faults) (Rose sink.faults sink'.faults))
+  pub too_long : status ≢ statuses.Memory → IsSome source.bytes
+      → (status ≡ statuses.TooLong) ↔ GaveOver limit source.bytes source'.bytes
   pub script : IsRead status → IfSome source.bytes (TellsFault status)
-  pub not_yet : status ≡ statuses.NotYet → IfSome source.bytes (λ bytes. SpellsNotBuilt bytes same sink.bytes sink'.bytes)
+  pub not_yet : status ≡ statuses.NotYet
+      → IfSome source.bytes (λ bytes. SpellsNotBuilt bytes same sink.bytes sink'.bytes)
   pub later : IsRead status → IfSome source.bytes (TellsLater status)
   pub read : status ≡ statuses.ReadFault → Rose source.faults source'.faults
   pub write : status ≡ statuses.WriteFault → Rose sink.faults sink'.faults

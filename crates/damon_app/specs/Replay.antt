@@ -5,10 +5,8 @@ use Rattle.std.specs.Io.KnownBytes.{Appends}
 use Rattle.damon_control.specs.Script.{ScriptValue, script_of}
 use Rattle.damon_control.specs.declared.fault.ScriptFault.{ScriptFault}
 use Rattle.snapshot_print.specs.declared.form.Form.TheVariants.{Text}
-use Rattle.script_run.specs.BoundAlong.{IsBoundAlong}
 use Rattle.script_run.specs.NotBuilt.{comes_to_aggregation, has_later_parts}
 use Rattle.script_run.specs.Report.{report, written_text}
-use Rattle.script_run.specs.Sound.{ScriptsAreSound}
 use Rattle.damon_app.specs.Taken.{WritesPart}
 use Rattle.damon_app.specs.declared.status.Status.{Status}
 use Rattle.damon_app.specs.declared.status.Status.TheVariants as statuses
@@ -39,11 +37,8 @@ SpellsNotBuilt bytes same old new = (s : ScriptValue) × (script_of bytes ≡ Ok
 -- the bytes spell a script without later parts, and the sink gained a prefix of what its run writes
 abbrev pub WritesPrefix : List ℕ → Option (List ℕ) → Option (List ℕ) → Type 0
 WritesPrefix bytes old new =
-    (s : ScriptValue) × (script_of bytes ≡ Ok s) × (has_later_parts s ≡ false) × WritesPart old new (written_text Text s)
-
--- the run of the script that the bytes spell is bound
-abbrev pub RunIsBound : List ℕ → Type 0
-RunIsBound bytes = ScriptsAreSound → (s : ScriptValue) → script_of bytes ≡ Ok s → IsBoundAlong s
+    (s : ScriptValue) × (script_of bytes ≡ Ok s) × (has_later_parts s ≡ false)
+    × WritesPart old new (written_text Text s)
 
 -- the status is a fault of the text exactly where the bytes have it
 abbrev pub TellsFault : Status → List ℕ → Type 0

@@ -51,9 +51,12 @@ pub fn read_all<S: Source>(alloc: Global, source: &mut S) -> Result<Vec<u8>, Inp
     ensures most { GaveUpTo (INPUT_LIMIT + 1) (S.left source.old) (S.left source.new) }
 
     // When each refusal comes.
-    ensures too_long { IsErrOf result InputFault.TooLong → GaveOver INPUT_LIMIT (S.left source.old) (S.left source.new) }
-    ensures within { IsErrOf result InputFault.Fault → GaveUpTo INPUT_LIMIT (S.left source.old) (S.left source.new) }
-    ensures cause { IsErrOf result InputFault.Fault → Rose (S.faults source.old) (S.faults source.new) }
+    ensures too_long { IsErrOf result InputFault.TooLong →
+        GaveOver INPUT_LIMIT (S.left source.old) (S.left source.new) }
+    ensures within { IsErrOf result InputFault.Fault →
+        GaveUpTo INPUT_LIMIT (S.left source.old) (S.left source.new) }
+    ensures cause { IsErrOf result InputFault.Fault →
+        Rose (S.faults source.old) (S.faults source.new) }
     ensures later { S.faults source.old ≤ S.faults source.new }
 {
     let mut piece = empty_piece(alloc)?;

@@ -3,25 +3,26 @@ ghost use Rattle.std.specs.Io.KnownBytes.{Appends, IsAtEnd};
 ghost use Rattle.damon_types.specs.Causes.{Rose};
 ghost use Rattle.damon_types.specs.Space.{pages_of};
 ghost use Rattle.damon_control.specs.Command.{command_value, work_of};
-ghost use Rattle.damon_control.specs.Limits.{IsWithin};
+ghost use Rattle.damon_control.specs.Limits.{EachIsWithin};
 ghost use Rattle.damon_control.specs.ScriptView.{said_by};
+ghost use Rattle.script_run.specs.BoundAlong.{EachScriptIsBound};
 ghost use Rattle.script_run.specs.NotBuilt.{comes_to_aggregation, has_later_parts};
 ghost use Rattle.script_run.specs.Report.{report, written_text};
 ghost use Rattle.damon_app.specs.Given.{GaveOver};
 ghost use Rattle.damon_app.specs.Taken.{WritesPart};
 ghost use Rattle.damon_app.specs.StatusOf.{IsFailure, status_of_input};
-ghost use Rattle.damon_app.specs.Replay.{AsksReplay, IsRead, IsUnwritten, Replays, RunIsBound, SpellsNotBuilt, TellsFault, TellsLater, WritesPrefix};
+ghost use Rattle.damon_app.specs.Replay.{AsksReplay, IsRead, IsUnwritten, Replays, SpellsNotBuilt, TellsFault, TellsLater, WritesPrefix};
 ghost use Rattle.damon_app.specs.Answers.{EndsRun, IsAnswer, status_of};
 
 use crate::{INPUT_LIMIT, Status, read_all, write_all};
-use damon_control::{Script, read_script};
+use damon_control::{MAX_WORK, Script, read_script};
 use damon_types::{Sink, Source};
-use script_run::{Filled, has_later_parts, open_player, scripts_are_bound_along};
+use script_run::{Filled, each_script_is_bound, has_later_parts, open_player};
 use snapshot_print::Form;
 use std::alloc::Global;
 
-/// Does all of the program `damon`: where the words are `replay`, reads a script to its end and writes
-/// the report of its run. It takes no lock and always returns.
+/// Does all of the program `damon`: where the words are `replay`, reads a script to its end and
+/// writes the report of its run. It takes no lock and always returns.
 pub fn replay_main<S: Source, K: Sink>(
     alloc: Global,
     words: &[String],
@@ -33,13 +34,15 @@ pub fn replay_main<S: Source, K: Sink>(
         IfSome (S.left source.old) (λ bytes. Replays bytes (K.taken sink.old) (K.taken sink.new)) }
     ensures end { IsRead result → IsAtEnd (S.left source.new) }
 
-    // Whatever the status, each state of the run of the script is bound.
-    ensures bound { IfSome (S.left source.old) RunIsBound }
+    // Whatever the status, the states along the run of every script are bound.
+    ensures bound { EachScriptIsBound }
 
     // The status is the one of the input, or a failure.
     ensures complete { AsksReplay words.now → IfSome (S.left source.old) (λ bytes.
         (result ≡ status_of_input INPUT_LIMIT bytes)
-        ⊎ IsFailure result (Rose (S.faults source.old) (S.faults source.new)) (Rose (K.faults sink.old) (K.faults sink.new))) }
+        ⊎ IsFailure result
+        (Rose (S.faults source.old) (S.faults source.new))
+        (Rose (K.faults sink.old) (K.faults sink.new))) }
 
     // When each other status comes; memory may run out at any time.
     ensures usage { (result ≡ Status.Usage) ↔ (AsksReplay words.now → ⊥) }
@@ -58,7 +61,7 @@ pub fn replay_main<S: Source, K: Sink>(
     ensures prefix { IfSome (S.left source.old) (λ bytes.
         (sink.new ≡ sink.old) ⊎ WritesPrefix bytes (K.taken sink.old) (K.taken sink.new)) }
 {
-    scripts_are_bound_along();
+    each_script_is_bound();
     if !asks_replay(words) {
         return Status::Usage;
     }
@@ -98,21 +101,24 @@ fn replay<S: Source, K: Sink>(alloc: Global, source: &mut S, sink: &mut K) -> Re
 
 // Plays a script, and hands its report to the sink a piece at a time.
 fn write_report<K: Sink>(alloc: Global, script: Script, sink: &mut K) -> Result<(), Status>
-    requires within { All (IsWithin (pages_of script.setup.space)) script.commands.list }
-    requires work { work_of script.setup.cap (map command_value script.commands.list) ≤ 16777216 }
+    requires within { EachIsWithin (pages_of script.setup.space) script.commands.list }
+    requires work { work_of script.setup.cap (map command_value script.commands.list) ≤ MAX_WORK }
     requires built { has_later_parts (said_by script) ≡ false }
 
     // The script came to its end, and the sink gained its report.
     ensures whole { OnOk result (comes_to_aggregation (said_by script) ≡ false) }
-    ensures all { OnOk result (Appends (K.taken sink.old) (K.taken sink.new) (report Form.Text (said_by script))) }
+    ensures all { OnOk result
+        (Appends (K.taken sink.old) (K.taken sink.new) (report Form.Text (said_by script))) }
 
     // Each failure.
     ensures answers { IfErr result EndsRun }
     ensures due { IsErrOf result Status.NotYet → comes_to_aggregation (said_by script) ≡ true }
     ensures up_to { IsErrOf result Status.NotYet →
         Appends (K.taken sink.old) (K.taken sink.new) (written_text Form.Text (said_by script)) }
-    ensures cause { IsErrOf result Status.WriteFault → Rose (K.faults sink.old) (K.faults sink.new) }
-    ensures part { WritesPart (K.taken sink.old) (K.taken sink.new) (written_text Form.Text (said_by script)) }
+    ensures cause { IsErrOf result Status.WriteFault →
+        Rose (K.faults sink.old) (K.faults sink.new) }
+    ensures part { WritesPart (K.taken sink.old) (K.taken sink.new)
+        (written_text Form.Text (said_by script)) }
 {
     let mut player = open_player(alloc, script, Form::Text)?;
     let mut piece = Vec::new(alloc);

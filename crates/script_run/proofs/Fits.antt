@@ -1,5 +1,5 @@
 -- The events of parts fit as far as they are built.
-use Rattle.std.proofs.Common.{◌≡◌, ℕ, zero, suc, ◌+◌, ◌*◌, ◌<◌, ◌≤◌, Bool, true, false, List, [], ◌∷◌, ◌++◌, length, refl, sym, ap, ◌∙◌, subst, cond, append-nil, arith}
+use Rattle.std.proofs.Common.{◌≡◌, ℕ, zero, suc, ◌+◌, ◌<◌, ◌≤◌, Bool, true, false, List, [], ◌∷◌, ◌++◌, refl, sym, ap, ◌∙◌, subst, cond, arith}
 use Rattle.std.specs.Prelude.{◌==◌, not}
 use Rattle.std.proofs.lemmas.Bool.Decides.{nat_tests}
 use Rattle.std.proofs.lemmas.List.Sums.{take_while-cons}
@@ -7,7 +7,7 @@ use Rattle.rand_core.specs.Stream.{Stream, next_u32}
 use Rattle.damon_types.specs.Space.{pages_of}
 use Rattle.live_commit.specs.declared.phase.Phase.{Phase}
 use Rattle.live_commit.specs.declared.phase.Phase.TheVariants.{Idle, Clearing, Armed, Checking, Void, Due}
-use Rattle.damon_core.specs.State.{Core, State, opening, row_count}
+use Rattle.damon_core.specs.State.{State, opening, row_count}
 use Rattle.damon_core.specs.Event.{Event, Fits, IsClearing, IsLoading, IsObserving, touch, prepare, clear, load, observe, aggregate, show, next_hit}
 use Rattle.damon_core.specs.After.{after, by_clear, by_load, by_observe}
 use Rattle.damon_core.specs.Bound.{Bound}
@@ -20,11 +20,10 @@ use Rattle.damon_world.specs.Moment.{Moment, along, event_in, moved, next_event}
 use Rattle.damon_world.specs.Plays.{Reached-along, along-state}
 use Rattle.damon_world.specs.Touches.{touches}
 use Rattle.damon_control.specs.Command.{CommandValue, Touch, Sweep, Step, Arm, Finish, Show, Commit}
-use Rattle.damon_control.specs.Script.{ScriptValue}
 use Rattle.script_run.specs.declared.part.Part.{Part}
 use Rattle.script_run.specs.declared.part.Part.TheVariants as part
 use Rattle.script_run.specs.declared.part.Until.{Until}
-use Rattle.script_run.specs.BoundAlong.{ScriptsAreBoundAlong, IsBoundAlong}
+use Rattle.script_run.specs.BoundAlong.{EachScriptIsBound}
 use Rattle.script_run.specs.Kept.{ArePartsWithin, IsPartWithin}
 use Rattle.script_run.specs.NotBuilt.{before_aggregation, built_events, is_aggregation}
 use Rattle.script_run.specs.Parts.{part_of, parts_of, stops_at}
@@ -187,7 +186,7 @@ by_hit-before s (e ∷ es) hit = subst (AllByHit s) (sym (before-cons e es)) (by
     by false hit = hit
 
 -- The built events of the script of a text fit, and each state to which a prefix of them leads is bound.
-pub bound_along : ((s : State) → Reached s → IsInPhase s) → ((s : State) → ReachedByHit s → Bound s) → ScriptsAreSound → ScriptsAreBoundAlong
+pub bound_along : ((s : State) → Reached s → IsInPhase s) → ((s : State) → ReachedByHit s → Bound s) → ScriptsAreSound → EachScriptIsBound
 bound_along in_phase bound each text s spells =
     let sound = each text s spells in
     let can : CanOpen s.setup = record { sound = sound.setup; order = sound.order } in

@@ -2,9 +2,8 @@
 use Rattle.std.proofs.Common.{◌≡◌, ℕ, zero, suc, ◌+◌, ◌-◌, ◌*◌, ◌≤◌, Bool, true, false, List, [], ◌∷◌, ◌++◌, refl, sym, ap, ◌∙◌, subst, cond, append_assoc, append-nil, arith}
 use Rattle.std.specs.Prelude.{◌==◌, ◌||◌}
 use Rattle.rand_core.specs.Stream.{Stream}
-use Rattle.live_commit.specs.declared.phase.Phase.{Phase}
 use Rattle.live_commit.specs.declared.phase.Phase.TheVariants.{Due}
-use Rattle.damon_core.specs.State.{Core, State}
+use Rattle.damon_core.specs.State.{Core}
 use Rattle.damon_core.specs.Event.{Event, aggregate, show}
 use Rattle.damon_core.specs.Makes.{Makes, Reached-run}
 use Rattle.damon_core.specs.Reached.{AllFit, Reached, run}
@@ -15,7 +14,6 @@ use Rattle.damon_world.specs.Plays.{Plays, Plays-append, Reached-along, along-ap
 use Rattle.damon_world.specs.Stands.{StandsAt, StandsFor, WorldView}
 use Rattle.damon_world.specs.Touches.{touches}
 use Rattle.snapshot_print.specs.Lines.{show_text}
-use Rattle.script_run.specs.declared.part.Part.{Part}
 use Rattle.script_run.specs.declared.part.Part.TheVariants as part
 use Rattle.script_run.specs.declared.part.Until.{Until}
 use Rattle.script_run.specs.declared.part.Until.TheVariants as until

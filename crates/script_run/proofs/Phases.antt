@@ -7,7 +7,7 @@ use Rattle.rand_core.specs.Stream.{Stream}
 use Rattle.damon_types.specs.declared.row.Row.{Row}
 use Rattle.live_commit.specs.declared.phase.Phase.{Phase}
 use Rattle.live_commit.specs.declared.phase.Phase.TheVariants.{Idle, Clearing, Armed, Checking, Void, Due}
-use Rattle.damon_core.specs.After.{after, by_clear, by_load, by_observe, counted_from, phase_after_clear, phase_after_pass}
+use Rattle.damon_core.specs.After.{after, by_clear, by_load, by_observe, counted_from, phase_cleared, phase_after_pass}
 use Rattle.damon_core.specs.Event.{Event, load, next_hit, observe}
 use Rattle.damon_core.specs.InPhase.{IsInPhase}
 use Rattle.damon_core.specs.Pass.{IsPickWithin}
@@ -57,7 +57,7 @@ distance until.Idle Due rows = 1
 -- the phase after a step, by the phase, the rows, the passes since the last aggregation, and those between two
 abbrev phase_then : Phase → ℕ → ℕ → ℕ → Phase
 phase_then Idle rows since aggr = Clearing 0
-phase_then (Clearing k) rows since aggr = phase_after_clear k rows
+phase_then (Clearing k) rows since aggr = phase_cleared (k + 1) rows
 phase_then Armed rows since aggr = Checking 1
 phase_then (Checking k) rows since aggr = if k == rows then phase_after_pass (since + 1) aggr else Checking (k + 1)
 phase_then Void rows since aggr = phase_after_pass (since + 1) aggr

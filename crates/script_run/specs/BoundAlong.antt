@@ -7,11 +7,12 @@ use Rattle.damon_core.specs.Bound.{Bound}
 use Rattle.damon_control.specs.Script.{ScriptValue, script_of}
 use Rattle.script_run.specs.NotBuilt.{built_events}
 
--- The events of the script fit from the opening of its setup, and each state to which a prefix of them leads is bound.
+-- The built events of the script fit from the opening of its setup, and each state to which a prefix of them leads is
+-- bound.
 pub record IsBoundAlong (s : ScriptValue) : Type 0 where
   pub fit : AllFit (opening s.setup) (built_events s)
   pub bound : (events rest : List Event) → built_events s ≡ events ++ rest → Bound (run (opening s.setup) events)
 
 -- the same for the script of each text
-abbrev pub ScriptsAreBoundAlong : Type 0
-ScriptsAreBoundAlong = (text : List ℕ) (s : ScriptValue) → script_of text ≡ Ok s → IsBoundAlong s
+abbrev pub EachScriptIsBound : Type 0
+EachScriptIsBound = (text : List ℕ) (s : ScriptValue) → script_of text ≡ Ok s → IsBoundAlong s

@@ -32,8 +32,10 @@ left_text p m = text_from p.form m.state (before_aggregation (left_events p m))
 pub record GoesOn {R : Type 0} (stream : R → Stream) (old new : PlayerView R) (before after : List ℕ) : Type 0 where
   pub events : Moment → List Event
   pub plays : Plays stream old.world new.world events
-  pub left : (m : Moment) → Reached m.state → StandsAt stream old.world m → left_events old m ≡ events m ++ left_events new (along m (events m))
-  pub text : (m : Moment) → Reached m.state → StandsAt stream old.world m → after ≡ before ++ text_from old.form m.state (events m)
+  pub left : (m : Moment) → Reached m.state → StandsAt stream old.world m
+      → left_events old m ≡ events m ++ left_events new (along m (events m))
+  pub text : (m : Moment) → Reached m.state → StandsAt stream old.world m
+      → after ≡ before ++ text_from old.form m.state (events m)
   pub form : new.form ≡ old.form
 
 -- no event is left
@@ -42,7 +44,8 @@ IsOver stream p = (m : Moment) → StandsAt stream p.world m → left_events p m
 
 -- the next event that is left is an aggregation
 abbrev pub IsAtAggregation : {R : Type 0} → (R → Stream) → PlayerView R → Type 0
-IsAtAggregation stream p = (m : Moment) → StandsAt stream p.world m → (words : List ℕ) × (later : List Event) × (left_events p m ≡ aggregate words ∷ later)
+IsAtAggregation stream p = (m : Moment) → StandsAt stream p.world m
+    → (words : List ℕ) × (later : List Event) × (left_events p m ≡ aggregate words ∷ later)
 
 -- the text grew by a prefix of a whole
 pub record GrowsWithin (whole before after : List ℕ) : Type 0 where
@@ -53,11 +56,13 @@ pub record GrowsWithin (whole before after : List ℕ) : Type 0 where
 
 -- the text grew by a prefix of what was left to write
 abbrev pub WritesSome : {R : Type 0} → (R → Stream) → PlayerView R → List ℕ → List ℕ → Type 0
-WritesSome stream old before after = (m : Moment) → Reached m.state → StandsAt stream old.world m → GrowsWithin (left_text old m) before after
+WritesSome stream old before after = (m : Moment) → Reached m.state → StandsAt stream old.world m
+    → GrowsWithin (left_text old m) before after
 
 -- the text grew by the last line of the state at which the player stands
 abbrev pub WritesLast : {R : Type 0} → (R → Stream) → PlayerView R → List ℕ → List ℕ → Type 0
-WritesLast stream p before after = (m : Moment) → StandsAt stream p.world m → after ≡ before ++ last_text p.form m.state
+WritesLast stream p before after = (m : Moment) → StandsAt stream p.world m
+    → after ≡ before ++ last_text p.form m.state
 
 -- how much of a part is left at most: its touches, its steps, or one show
 abbrev pub left_of : Part → ℕ

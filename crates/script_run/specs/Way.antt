@@ -1,5 +1,5 @@
 -- A player on its way through a script, and what was written where it stops.
-use Rattle.std.specs.Prelude.{◌≡◌, ◌||◌, Bool, true, false, ℕ, List, [], ◌∷◌, ◌++◌, cond, refl}
+use Rattle.std.specs.Prelude.{◌≡◌, Bool, true, false, ℕ, List, [], ◌∷◌, ◌++◌, cond, refl}
 use Rattle.std.specs.List.{list_any}
 use Rattle.std.proofs.Common.{◌∙◌, ap, sym, subst, append-nil, append_assoc}
 use Rattle.rand_core.specs.Stream.{Stream}
@@ -19,7 +19,8 @@ use Rattle.script_run.specs.Player.{GoesOn, IsAtAggregation, IsOver, PlayerView,
 
 -- The player made the first events of the script, which fit from its opening; it stands at the moment after them; the
 -- others are left; and this is the text of those that it made.
-pub record IsOnItsWay {R : Type 0} (stream : R → Stream) (s : ScriptValue) (f : Form) (p : PlayerView R) (text : List ℕ) : Type 0 where
+pub record IsOnItsWay {R : Type 0} (stream : R → Stream) (s : ScriptValue) (f : Form)
+    (p : PlayerView R) (text : List ℕ) : Type 0 where
   pub can_open : CanOpen s.setup
   pub made : List Event
   pub fit : AllFit (opening s.setup) made
@@ -38,7 +39,8 @@ module _ {R : Type 0} (stream : R → Stream) (s : ScriptValue) (f : Form) where
   moment_of p text way = along (start s) way.made
 
   -- a player that goes on is on its way
-  pub way-on : (a b : PlayerView R) (text added : List ℕ) → IsOnItsWay stream s f a text → GoesOn stream a b [] added → IsOnItsWay stream s f b (text ++ added)
+  pub way-on : (a b : PlayerView R) (text added : List ℕ) → IsOnItsWay stream s f a text → GoesOn stream a b [] added
+      → IsOnItsWay stream s f b (text ++ added)
   way-on a b text added way on =
       let m = along (start s) way.made in
       let reached : Reached m.state = Reached-along (start s) way.made (Reached-start s way.can_open) way.fit in
@@ -66,7 +68,8 @@ module _ {R : Type 0} (stream : R → Stream) (s : ScriptValue) (f : Form) where
       }
 
   -- what was written is a prefix of what the run writes
-  pub way-prefix : (p : PlayerView R) (text : List ℕ) → IsOnItsWay stream s f p text → (rest : List ℕ) × (written_text f s ≡ text ++ rest)
+  pub way-prefix : (p : PlayerView R) (text : List ℕ) → IsOnItsWay stream s f p text
+      → (rest : List ℕ) × (written_text f s ≡ text ++ rest)
   way-prefix p text way = by (comes_to_aggregation s) refl
     where
       left : List Event
@@ -77,7 +80,9 @@ module _ {R : Type 0} (stream : R → Stream) (s : ScriptValue) (f : Form) where
 
       -- the text of what was made and then of others
       joined : (es : List Event) → text_from f (opening s.setup) (way.made ++ es) ≡ text ++ text_from f there es
-      joined es = text_from-append f (opening s.setup) way.made es ∙ ap (λ t. t ++ text_from f there es) (sym way.written)
+      joined es =
+          text_from-append f (opening s.setup) way.made es
+          ∙ ap (λ t. t ++ text_from f there es) (sym way.written)
 
       by : (b : Bool) → comes_to_aggregation s ≡ b → (rest : List ℕ) × (written_text f s ≡ text ++ rest)
       by true is = (
@@ -97,26 +102,36 @@ module _ {R : Type 0} (stream : R → Stream) (s : ScriptValue) (f : Form) where
           )
 
   -- where no event is left, the script comes to no aggregation
-  pub way-over : (p : PlayerView R) (text : List ℕ) → IsOnItsWay stream s f p text → IsOver stream p → comes_to_aggregation s ≡ false
+  pub way-over : (p : PlayerView R) (text : List ℕ) → IsOnItsWay stream s f p text → IsOver stream p
+      → comes_to_aggregation s ≡ false
   way-over p text way over =
       ap (list_any is_aggregation) (way.left ∙ ap (λ es. way.made ++ es) (over (along (start s) way.made) way.stands))
       ∙ any_aggregation-fit (opening s.setup) way.made [] way.fit
 
   -- and what was written with the last line is its report
-  pub way-report : (p : PlayerView R) (text : List ℕ) (way : IsOnItsWay stream s f p text) → IsOver stream p → text ++ last_text p.form (along (start s) way.made).state ≡ report f s
+  pub way-report : (p : PlayerView R) (text : List ℕ) (way : IsOnItsWay stream s f p text) → IsOver stream p
+      → text ++ last_text p.form (along (start s) way.made).state ≡ report f s
   way-report p text way over =
-      let all : unfold_script s ≡ way.made = way.left ∙ ap (λ es. way.made ++ es) (over (along (start s) way.made) way.stands) ∙ append-nil way.made in
+      let all : unfold_script s ≡ way.made =
+      way.left
+      ∙ ap (λ es. way.made ++ es) (over (along (start s) way.made) way.stands)
+      ∙ append-nil way.made in
       ap (λ t. t ++ last_text p.form (along (start s) way.made).state) way.written
       ∙ ap (λ g. text_from f (opening s.setup) way.made ++ last_text g (along (start s) way.made).state) way.form
       ∙ ap (λ t. text_from f (opening s.setup) way.made ++ last_text f t) (along-state (start s) way.made)
       ∙ ap (λ es. text_from f (opening s.setup) es ++ last_text f (run (opening s.setup) es)) (sym all)
 
   -- where the next event is an aggregation, the script comes to one, and the text of the events before it was written
-  pub way-due : (p : PlayerView R) (text : List ℕ) → IsOnItsWay stream s f p text → IsAtAggregation stream p → (comes_to_aggregation s ≡ true) × (text ≡ text_from f (opening s.setup) (built_events s))
+  pub way-due : (p : PlayerView R) (text : List ℕ) → IsOnItsWay stream s f p text → IsAtAggregation stream p
+      → (comes_to_aggregation s ≡ true) × (text ≡ text_from f (opening s.setup) (built_events s))
   way-due p text way at =
       let next = at (along (start s) way.made) way.stands in
-      let all : unfold_script s ≡ way.made ++ aggregate next.0 ∷ next.1 = way.left ∙ ap (λ es. way.made ++ es) next.2 in
-      let built : built_events s ≡ way.made = ap before_aggregation all ∙ before_aggregation-fit (opening s.setup) way.made (aggregate next.0 ∷ next.1) way.fit ∙ append-nil way.made in (
-        ap (list_any is_aggregation) all ∙ any_aggregation-fit (opening s.setup) way.made (aggregate next.0 ∷ next.1) way.fit,
+      let later = aggregate next.0 ∷ next.1 in
+      let all : unfold_script s ≡ way.made ++ later = way.left ∙ ap (λ es. way.made ++ es) next.2 in
+      let built : built_events s ≡ way.made =
+      ap before_aggregation all
+      ∙ before_aggregation-fit (opening s.setup) way.made later way.fit
+      ∙ append-nil way.made in (
+        ap (list_any is_aggregation) all ∙ any_aggregation-fit (opening s.setup) way.made later way.fit,
         way.written ∙ ap (text_from f (opening s.setup)) (sym built),
       )

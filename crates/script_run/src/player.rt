@@ -67,13 +67,15 @@ impl<R: Rng> Model for Player<R> {
     } };
 
     ghost invariant = { λ p.
-        IsPlayer p.space p.world (p.part ∷ parts_of p.cap (map command_value (drop p.begun p.commands.list))) };
+        IsPlayer p.space p.world
+        (p.part ∷ parts_of p.cap (map command_value (drop p.begun p.commands.list))) };
 }
 
 impl<R: Rng + Drop> Player<R> {
-    /// Makes the next events and appends exactly their text to `out`, until `out` has [`PIECE`] bytes
-    /// or more, no event is left, or the next one is an aggregation. Takes memory for the text; where
-    /// it runs out, a prefix of the text that was left was appended.
+    /// Makes the next events and appends exactly their text to `out`, until `out` has [`PIECE`]
+    /// bytes or more, no event is left, or the next one is an aggregation. Takes memory for the
+    /// text. Where it runs out, a prefix of the text that was left was appended, and no more is
+    /// known of the player.
     pub fn fill(&mut self, alloc: Global, out: &mut Vec<u8>) -> Result<Filled, AllocError>
         ensures on { OnOk result (GoesOn R.stream self.old self.new out.old.items out.new.items) }
         ensures piece { result ≡ Ok Filled.Piece → PIECE ≤ vec_len out.new }
@@ -82,7 +84,8 @@ impl<R: Rng + Drop> Player<R> {
         ensures err { OnErr result (WritesSome R.stream self.old out.old.items out.new.items) }
 
         // It comes nearer to the end of the script.
-        ensures less { result ≡ Ok Filled.Piece → vec_len out.old < PIECE → left_moves self.new < left_moves self.old }
+        ensures less { result ≡ Ok Filled.Piece → vec_len out.old < PIECE →
+            left_moves self.new < left_moves self.old }
     {
         'moves: while out.len() < PIECE {
             if let Some(stop) = self.go_on(alloc, out)? {
@@ -92,7 +95,7 @@ impl<R: Rng + Drop> Player<R> {
         Ok(Filled::Piece)
     }
 
-    // Makes the next events of a kind, or begins the next command. Where neither can be, it says why.
+    // Makes the next events of a kind or begins the next command, or says why it cannot.
     fn go_on(&mut self, alloc: Global, out: &mut Vec<u8>) -> Result<Option<Filled>, AllocError>
         ensures on { OnOk result (GoesOn R.stream self.old self.new out.old.items out.new.items) }
         ensures less { result ≡ Ok None → left_moves self.new < left_moves self.old }
@@ -179,8 +182,8 @@ impl<R: Rng + Drop> Player<R> {
 }
 
 /// A player before the first event of a script without schemes and commits, whose random words are
-/// those of the script's seed. The pages of its commands are of its space, and their work is at most
-/// [`MAX_WORK`]. Allocates.
+/// those of the script's seed. The pages of the commands are pages of the script's space, and their
+/// work is at most [`MAX_WORK`]. Takes memory.
 pub fn open_player(
     alloc: Global,
     script: Script,
@@ -189,7 +192,8 @@ pub fn open_player(
     requires within { EachIsWithin (pages_of script.setup.space) script.commands.list }
     requires work { work_of script.setup.cap (map command_value script.commands.list) ≤ MAX_WORK }
     requires built { has_later_parts (said_by script) ≡ false }
-    ensures { IfOk result (λ p. IsOnItsWay (stream_of (steps_u32 pcg32)) (said_by script) form p []) }
+    ensures { IfOk result (λ p.
+        IsOnItsWay (stream_of (steps_u32 pcg32)) (said_by script) form p []) }
 {
     // For its clauses alone: the ranges are in order.
     let _ranges = script.setup.ranges.len();

@@ -1,4 +1,4 @@
-use Rattle.std.proofs.Common.{◌≡◌, ◌++◌, false, rules, refl, sym, ap, ◌∙◌, subst}
+use Rattle.std.proofs.Common.{◌≡◌, ◌++◌, false, rules, refl, sym, ap, ◌∙◌}
 use Rattle.live_commit.specs.declared.phase.Phase.TheVariants.{Due}
 use Rattle.snapshot_print.specs.Lines.{show_text}
 use Rattle.script_run.specs.Kept.{is_done}

@@ -1,5 +1,5 @@
 use Rattle.script_run.proofs.Fits.{bound_along}
-use Rattle.script_run.proofs.laws.scripts_are_bound_along.Goals as goal
+use Rattle.script_run.proofs.laws.each_script_is_bound.Goals as goal
 
 pub returns : goal.returns
 returns c = bound_along c.reached_states_are_in_phase.ensures c.reached_states_are_bound.ensures c.scripts_are_sound.ensures.sound
