@@ -3,6 +3,7 @@ use Rattle.std.specs.Prelude.{ℕ, ◌+◌, ◌-◌, ◌%◌, Bool, ◌&&◌, �
 use Rattle.std.specs.Option.{ok_or}
 use Rattle.damon_types.specs.declared.range.RangeSpec.{RangeSpec}
 use Rattle.damon_types.specs.declared.scheme.SlotChange.{SlotChange}
+use Rattle.damon_types.specs.declared.space.TheConstants.{PAGE_SIZE}
 use Rattle.damon_types.specs.declared.space.Target.{Target}
 use Rattle.damon_types.specs.Space.{page_of}
 use Rattle.line_text.specs.Parts.{two_of, three_of}
@@ -30,7 +31,7 @@ touch_line space line = do
 
 -- whether two addresses are those of a sweep: whole pages, the first below the second
 abbrev pub are_swept : ℕ → ℕ → Bool
-are_swept from to = (from % 4096 == 0) && ((to % 4096 == 0) && nat_lt from to)
+are_swept from to = (from % PAGE_SIZE == 0) && ((to % PAGE_SIZE == 0) && nat_lt from to)
 
 -- `sweep TARGET FROM TO`: the pages of the target from the first address to before the second
 abbrev pub sweep_line : List Target → List ℕ → Result CommandValue ScriptKind
@@ -42,7 +43,7 @@ sweep_line space line = do
   to ← byte_address fields.2
   whole ← only_if (are_swept from to) Limit (tt {0})
   first ← ok_or (page_of space target from) Outside
-  last ← ok_or (page_of space target (to - 4096)) Outside
+  last ← ok_or (page_of space target (to - PAGE_SIZE)) Outside
   Ok (Sweep first (last + 1))
 
 -- `step TIMES`

@@ -10,6 +10,7 @@ use Rattle.damon_types.specs.Attrs.{checked_attrs}
 use Rattle.damon_types.specs.Scheme.{checked_scheme}
 use Rattle.damon_types.specs.Space.{checked}
 use Rattle.line_text.specs.Parts.{two_of}
+use Rattle.live_commit.specs.declared.setup.TheConstants.{MAX_CAP, MAX_UNIT, MIN_CAP}
 use Rattle.live_commit.specs.Setup.{SetupValue}
 use Rattle.target_ranges.specs.Checked.{checked_next}
 use Rattle.target_ranges.specs.Made.{ranges_of}
@@ -31,11 +32,11 @@ seed_line line = arguments (codes "seed") line >>= one_word >>= number_64
 
 -- `unit PAGES`
 abbrev pub unit_line : List ℕ → Result ℕ ScriptKind
-unit_line line = arguments (codes "unit") line >>= one_word >>= number_32 >>= limited 1 1048576
+unit_line line = arguments (codes "unit") line >>= one_word >>= number_32 >>= limited 1 MAX_UNIT
 
 -- `cap REGIONS`
 abbrev pub cap_line : List ℕ → Result ℕ ScriptKind
-cap_line line = arguments (codes "cap") line >>= one_word >>= number_32 >>= limited 3 4096
+cap_line line = arguments (codes "cap") line >>= one_word >>= number_32 >>= limited MIN_CAP MAX_CAP
 
 -- `attrs MIN MAX AGGR`, where max is at most cap
 abbrev pub attrs_line : ℕ → List ℕ → Result Attrs ScriptKind

@@ -3,6 +3,7 @@ use Rattle.std.specs.Prelude.{◌≡◌, ◌⊎◌, ℕ, ◌+◌, ◌-◌, ◌^�
 use Rattle.damon_types.specs.declared.scheme.Action.{Action}
 use Rattle.damon_types.specs.declared.scheme.Scheme.{Scheme}
 use Rattle.damon_types.specs.declared.scheme.SlotChange.{SlotChange}
+use Rattle.damon_types.specs.declared.space.TheConstants.{PAGE_SIZE}
 use Rattle.damon_types.specs.declared.space.Target.{Target}
 use Rattle.damon_types.specs.Space.{page_of}
 use Rattle.line_text.specs.Laws.{PutsPartsTogether, ReadsDecimal, ReadsOnlyDecimal, ReadsOnlySpelledAddress, ReadsSpelledAddress, SpellsDigits, SpellsHexDigits, StripsOnlyFront, TakesApartPieces}
@@ -94,7 +95,7 @@ pub record IsSweep (space : List Target) (line : List ℕ) (first end : ℕ) : T
   pub to_fits : to < 2 ^ 64
   pub whole : are_swept from to ≡ true
   pub begins : page_of space target from ≡ Some first
-  pub ends : option_map (λ last. last + 1) (page_of space target (to - 4096)) ≡ Some end
+  pub ends : option_map (λ last. last + 1) (page_of space target (to - PAGE_SIZE)) ≡ Some end
 
 -- a line says a command; a commit has lines of its own
 abbrev pub IsCommand : List Target → List ℕ → CommandValue → Type 0

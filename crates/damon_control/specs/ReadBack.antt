@@ -8,6 +8,7 @@ use Rattle.damon_types.specs.declared.space.Target.{Target}
 use Rattle.damon_types.specs.Attrs.{checked_attrs}
 use Rattle.damon_types.specs.Scheme.{checked_scheme}
 use Rattle.damon_types.specs.Space.{checked}
+use Rattle.live_commit.specs.declared.setup.TheConstants.{MAX_CAP, MAX_UNIT, MIN_CAP}
 use Rattle.live_commit.specs.Commit.{CommitValue}
 use Rattle.target_ranges.specs.Checked.{checked_next}
 use Rattle.damon_control.specs.declared.commit.Part.{Part}
@@ -22,8 +23,8 @@ use Rattle.damon_control.specs.Spelling.{spelled_attrs, spelled_cap, spelled_ran
 -- Each line of a script, where what it says is within its limits, is read as what it says.
 pub record LinesReadBack : Type 0 where
   pub seed : (n : ℕ) → n < 2 ^ 64 → seed_line (spelled_seed n) ≡ Ok n
-  pub unit : (n : ℕ) → 1 ≤ n → n ≤ 1048576 → unit_line (spelled_unit n) ≡ Ok n
-  pub cap : (n : ℕ) → 3 ≤ n → n ≤ 4096 → cap_line (spelled_cap n) ≡ Ok n
+  pub unit : (n : ℕ) → 1 ≤ n → n ≤ MAX_UNIT → unit_line (spelled_unit n) ≡ Ok n
+  pub cap : (n : ℕ) → MIN_CAP ≤ n → n ≤ MAX_CAP → cap_line (spelled_cap n) ≡ Ok n
   pub attrs :
       (cap : ℕ) (a : Attrs) → FitsAttrs a → checked_attrs a ≡ Ok tt → a.max ≤ cap
       → attrs_line cap (spelled_attrs a) ≡ Ok a

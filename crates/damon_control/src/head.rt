@@ -21,15 +21,9 @@ use crate::words::{
 };
 use crate::{MAX_BYTES, ReadFail, ScriptFault, ScriptKind};
 use damon_types::{Attrs, RangeSpec, RangeSpecs, SlotChange, SlotChanges, Space, Target};
-use live_commit::slots_are_checked_in_turn;
+use live_commit::{MAX_CAP, MAX_UNIT, MIN_CAP, slots_are_checked_in_turn};
 use std::alloc::Global;
 use target_ranges::{accepted_has_room, check_next, next_decides};
-
-const MOST_UNIT: u32 = 1_048_576;
-
-const LEAST_CAP: u32 = 3;
-
-const MOST_CAP: u32 = 4_096;
 
 // What the lines of a setup say before its targets.
 #[derive(Clone, Copy)]
@@ -52,7 +46,7 @@ fn read_unit(line: &[u8]) -> Result<u32, ScriptKind>
     ensures { result ≡ unit_line line.now }
 {
     let unit = read_32(one_word(arguments(b"unit", line)?)?)?;
-    limited(1, MOST_UNIT, unit)
+    limited(1, MAX_UNIT, unit)
 }
 
 // Reads `cap REGIONS`.
@@ -60,7 +54,7 @@ fn read_cap(line: &[u8]) -> Result<u32, ScriptKind>
     ensures { result ≡ cap_line line.now }
 {
     let cap = read_32(one_word(arguments(b"cap", line)?)?)?;
-    limited(LEAST_CAP, MOST_CAP, cap)
+    limited(MIN_CAP, MAX_CAP, cap)
 }
 
 // The number, where it is within these limits.
@@ -255,7 +249,7 @@ pub fn read_ranges(
     space: &Space,
 ) -> Result<RangeSpecs, ReadFail>
     requires small { IsShort lines.old }
-    requires cap { frame.now.cap ≤ 4096 }
+    requires cap { frame.now.cap ≤ MAX_CAP }
     ensures ok { IfOk result (λ specs.
         MovesTo (AtRanges frame.now space.now []) lines.old
             (AtSchemes frame.now space.now specs.list []) lines.new) }
@@ -283,7 +277,7 @@ fn take_range(
 ) -> Result<(), ReadFail>
     requires wanted { IsWanted (codes "range") (length specs.old.list) lines.old }
     requires small { IsShort lines.old }
-    requires cap { frame.now.cap ≤ 4096 }
+    requires cap { frame.now.cap ≤ MAX_CAP }
     requires sound { checked_ranges space.now frame.now.unit frame.now.cap specs.old.list ≡ Ok tt }
     ensures ok { OnOk result (
         MovesTo (AtRanges frame.now space.now specs.old.list) lines.old

@@ -109,9 +109,9 @@ fn make_setup(
         value_of s ≡ setup_said frame.now space specs.now.list slots.now.list) }
     ensures memory { IfErr result (λ fail. fail ≡ Memory) }
 {
-    // Both lists have fewer than 2^32 items.
-    let (_ranges, _changes) = (specs.len(), slots.len());
-    let made = Setup::new(
+    // For its clause alone: there are fewer than 2^32 slot changes.
+    let _changes = slots.len();
+    let setup = Setup::of_checked(
         alloc,
         space,
         frame.unit,
@@ -119,10 +119,6 @@ fn make_setup(
         frame.attrs,
         specs.as_slice(),
         slots.as_slice(),
-    );
-    match made {
-        Ok(setup) => Ok(setup),
-        // The lines are accepted, so memory ran out.
-        Err(_) => Err(ReadFail::Memory),
-    }
+    )?;
+    Ok(setup)
 }
