@@ -1,7 +1,6 @@
 -- Steps of one kind.
-use Rattle.std.proofs.Common.{◌≡◌, ℕ, zero, suc, ◌+◌, ◌-◌, ◌*◌, ◌≤◌, ◌<◌, Bool, false, cond, List, [], ◌∷◌, ◌++◌, drop, length, refl, sym, ap, ◌∙◌, subst, arith}
-use Rattle.std.specs.Prelude.{◌==◌, map, slice_index}
-use Rattle.std.proofs.lemmas.Bool.Decides.{nat_tests}
+use Rattle.std.proofs.Common.{◌≡◌, ℕ, zero, suc, ◌+◌, ◌*◌, ◌≤◌, ◌<◌, Bool, cond, List, [], ◌∷◌, ◌++◌, drop, length, refl, sym, ap, ◌∙◌, subst, arith}
+use Rattle.std.specs.Prelude.{slice_index}
 use Rattle.std.proofs.lemmas.List.{get_or-drop, length-drop, length-set, map-append, take_more}
 use Rattle.rand_core.specs.Stream.{Stream}
 use Rattle.damon_types.specs.Space.{pages_of}
@@ -20,8 +19,8 @@ use Rattle.damon_core.specs.Stands.{MonitorView, Stands}
 use Rattle.damon_world.specs.Words.{cleared_words}
 use Rattle.damon_world.specs.Moment.{Moment, drawn_by, event_in, events_of_steps, moved, next_event, stepped, stepped_times}
 use Rattle.damon_world.specs.Draws.{drawn_rest}
-use Rattle.damon_world.specs.Stands.{StandsAt, StandsFor}
-use Rattle.damon_world.specs.Advance.{IsAmid, steps_of_kind}
+use Rattle.damon_world.specs.Stands.{StandsAt}
+use Rattle.damon_world.specs.Advance.{IsAmid}
 use Rattle.damon_world.specs.Kept.{IsAdvance}
 use Rattle.damon_world.proofs.Words.{set_words, word_of-cleared_same, word_of-cleared_other}
 use Rattle.damon_world.specs.Steps.{events_more, stepped_more}

@@ -8,7 +8,7 @@ use Rattle.live_commit.specs.declared.phase.Phase.TheVariants.{Idle, Clearing, A
 use Rattle.damon_core.specs.State.{Core, State, row_count}
 use Rattle.damon_core.specs.Event.{IsLoading, observe, load, load_index, next_hit}
 use Rattle.damon_core.specs.Several.{clears}
-use Rattle.damon_core.specs.After.{after, by_load, phase_cleared, phase_after_pass}
+use Rattle.damon_core.specs.After.{by_load, phase_cleared, phase_after_pass}
 use Rattle.damon_world.specs.Moment.{Moment, event_in, events_of_steps, moved, next_event, stepped, stepped_times}
 use Rattle.damon_world.specs.Draws.{drawn}
 use Rattle.damon_world.specs.Pass.{IsBetween, IsPass, core_after, pass_steps, TakesItsSteps}

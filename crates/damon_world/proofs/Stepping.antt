@@ -1,26 +1,22 @@
 -- Each kind of step of a world is its next event.
-use Rattle.std.proofs.Common.{◌≡◌, ℕ, suc, ◌+◌, ◌%◌, ◌≤◌, ◌<◌, Bool, true, false, cond, List, [], ◌∷◌, length, Some, refl, sym, ap, ◌∙◌, subst, arith}
-use Rattle.std.specs.Prelude.{◌==◌, slice_get, slice_index}
+use Rattle.std.proofs.Common.{◌≡◌, ℕ, ◌+◌, ◌≤◌, ◌<◌, Bool, true, false, cond, List, [], ◌∷◌, length, refl, sym, ap, ◌∙◌, subst, arith}
+use Rattle.std.specs.Prelude.{◌==◌}
 use Rattle.std.proofs.lemmas.Bool.Decides.{nat_tests}
-use Rattle.std.proofs.lemmas.Option.{get_or_from_slice_get}
 use Rattle.rand_core.specs.Stream.{Stream}
 use Rattle.damon_types.specs.Space.{pages_of}
 use Rattle.live_commit.specs.declared.phase.Phase.{Phase}
 use Rattle.live_commit.specs.declared.phase.Phase.TheVariants.{Idle, Clearing, Armed, Checking, Void, Due}
-use Rattle.damon_core.specs.Note.{word_of, is_cleared, hit}
+use Rattle.damon_core.specs.Note.{word_of}
 use Rattle.damon_core.specs.State.{Core, State, row_count}
-use Rattle.damon_core.specs.Event.{Event, prepare, load, observe, IsLoading, IsObserving, load_index, load_page, next_hit}
-use Rattle.damon_core.specs.After.{after, by_load, by_observe, passed_core, prepared_core}
+use Rattle.damon_core.specs.Event.{Event, prepare, load, observe, IsLoading, IsObserving, load_index, next_hit}
+use Rattle.damon_core.specs.After.{by_load, by_observe, passed_core, prepared_core}
 use Rattle.damon_core.specs.Makes.{Makes}
-use Rattle.damon_core.specs.Pass.{cleared_so_far}
 use Rattle.damon_core.specs.Reached.{AllFit, Reached}
 use Rattle.damon_core.specs.Stands.{MonitorView, Stands}
 use Rattle.damon_world.specs.Draws.{drawn, drawn_rest}
-use Rattle.damon_world.specs.Stands.{StandsAt, StandsFor, WorldView}
-use Rattle.damon_world.specs.Moment.{Moment, along, event_in, events_of_steps, moved, next_event, Tells}
+use Rattle.damon_world.specs.Stands.{StandsAt, WorldView}
+use Rattle.damon_world.specs.Moment.{Moment, event_in, moved, next_event}
 use Rattle.damon_world.specs.Kept.{IsAdvance}
-use Rattle.damon_world.specs.declared.world.Stepped.TheVariants.{Prepared, Cleared, Loaded, Observed}
-use Rattle.damon_world.proofs.Words.{lowest_is_hit}
 
 -- the phase of the state is that of the monitor
 phase_of : (m : MonitorView) (s : State) → Stands m s → s.core.phase ≡ m.core.phase

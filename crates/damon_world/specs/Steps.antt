@@ -1,6 +1,5 @@
 -- How the events of steps follow each other.
-use Rattle.std.proofs.Common.{◌≡◌, ℕ, zero, suc, ◌+◌, List, [], ◌∷◌, ◌++◌, refl, sym, ap, ◌∙◌, arith}
-use Rattle.damon_core.specs.Event.{Event}
+use Rattle.std.proofs.Common.{◌≡◌, ℕ, zero, suc, ◌+◌, [], ◌∷◌, ◌++◌, refl, ap, ◌∙◌, arith}
 use Rattle.damon_world.specs.Moment.{Moment, along, events_of_steps, moved, next_event, stepped, stepped_times}
 use Rattle.damon_world.specs.Plays.{along-append}
 

@@ -6,7 +6,7 @@ use Rattle.region_list.specs.Regions.{RegionList}
 use Rattle.sampler.specs.Counted.{raised}
 use Rattle.live_commit.specs.declared.phase.Phase.{Phase}
 use Rattle.live_commit.specs.declared.phase.Phase.TheVariants.{Checking}
-use Rattle.damon_core.specs.State.{Core, row_count}
+use Rattle.damon_core.specs.State.{row_count}
 use Rattle.damon_core.specs.Event.{IsObserving, observe}
 use Rattle.damon_core.specs.After.{passed_core, phase_after_pass}
 use Rattle.damon_core.specs.Makes.{Makes}

@@ -9,7 +9,7 @@ use Rattle.damon_core.specs.State.{row_count}
 use Rattle.damon_core.specs.Stands.{MonitorView, Stands}
 use Rattle.damon_core.specs.Event.{IsLoading, load, load_index}
 use Rattle.damon_core.specs.Makes.{Makes}
-use Rattle.damon_core.specs.Kept.{CountsHits, SinceFew}
+use Rattle.damon_core.specs.Kept.{CountsHits}
 use Rattle.damon_core.proofs.Shown.{after_load}
 use Rattle.damon_core.proofs.Standing.{load_has_pick}
 use Rattle.damon_core.proofs.Running.{bits_of_rows, load_since, one_load}

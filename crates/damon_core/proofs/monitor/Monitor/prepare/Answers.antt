@@ -1,4 +1,4 @@
-use Rattle.std.proofs.Common.{Bool, false, ◌≡◌, ◌<◌, ℕ, [], ◌∷◌, length, refl, ap, sym, subst, ◌∙◌, arith}
+use Rattle.std.proofs.Common.{Bool, false, ◌≡◌, ◌<◌, ℕ, length, refl, ap, sym, subst, ◌∙◌, arith}
 use Rattle.std.specs.List.{AllByRecursion}
 use Rattle.std.proofs.lemmas.List.{length-replicate}
 use Rattle.damon_types.specs.Space.{pages_of}

@@ -1,6 +1,4 @@
-use Rattle.std.proofs.Common.{◌≡◌, inl, ℕ, [], ◌∷◌, ◌+◌, ◌≤◌, length, ap, sym, subst, ◌∙◌, arith}
-use Rattle.std.specs.List.{AllByRecursion}
-use Rattle.damon_types.specs.declared.row.Row.{Row}
+use Rattle.std.proofs.Common.{◌≡◌, inl, [], ◌∷◌, ◌+◌, length, ap, sym, subst, ◌∙◌, arith}
 use Rattle.live_commit.specs.declared.phase.Phase.{Phase}
 use Rattle.live_commit.specs.declared.phase.Phase.TheVariants.{Void}
 use Rattle.damon_core.specs.State.{row_count}

@@ -1,4 +1,4 @@
-use Rattle.std.proofs.Common.{◌≡◌, sym, subst}
+use Rattle.std.proofs.Common.{sym, subst}
 use Rattle.damon_core.specs.Event.{IsObserving}
 use Rattle.damon_core.specs.State.{row_count}
 use Rattle.damon_world.specs.Stands.{WorldView}
