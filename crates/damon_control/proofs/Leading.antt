@@ -1,15 +1,13 @@
 -- Lines that say a script lead from its header to its end.
-use Rattle.std.proofs.Common.{◌≡◌, ◌⊎◌, inl, inr, ◌∷◌, [], ◌==◌, ◌||◌, ◌&&◌, ◌+◌, ◌^◌, ◌<◌, ◌≤◌, ℕ, Bool, true, false, nat_le, List, ◌++◌, length, map, codes, Some, Ok, Err, refl, sym, ap, subst, ◌∙◌, append_assoc, arith}
+use Rattle.std.proofs.Common.{◌≡◌, inl, inr, ◌∷◌, [], ◌==◌, ◌||◌, ◌+◌, ◌^◌, ◌<◌, ◌≤◌, ℕ, Bool, true, false, nat_le, List, ◌++◌, length, map, codes, Ok, Err, refl, sym, ap, subst, ◌∙◌, append_assoc, arith}
 use Rattle.std.proofs.lemmas.Bool.Decides.{nat_tests}
 use Rattle.std.proofs.lemmas.List.{append-nil, length-append}
 use Rattle.std.proofs.lemmas.List.Sums.{sum_by-cons}
-use Rattle.std.specs.Prelude.{Option, Result, if◌then◌else◌}
+use Rattle.std.specs.Prelude.{Result, if◌then◌else◌}
 use Rattle.std.specs.List.{AllByRecursion, list_any}
 use Rattle.std.specs.Result.{result_and}
-use Rattle.damon_types.specs.declared.attrs.Attrs.{Attrs}
 use Rattle.damon_types.specs.declared.range.Range.{Range}
 use Rattle.damon_types.specs.declared.range.RangeSpec.{RangeSpec}
-use Rattle.damon_types.specs.declared.scheme.Scheme.{Scheme}
 use Rattle.damon_types.specs.declared.scheme.SchemeFault.{SchemeFault}
 use Rattle.damon_types.specs.declared.scheme.SlotChange.{SlotChange}
 use Rattle.damon_types.specs.declared.space.Target.{Target}
@@ -21,29 +19,27 @@ use Rattle.live_commit.specs.declared.fault.SetupFault.{SetupFault}
 use Rattle.live_commit.specs.Checked.{checked_limits}
 use Rattle.live_commit.specs.Commit.{CommitValue}
 use Rattle.live_commit.specs.Setup.{SetupValue}
-use Rattle.live_commit.specs.Slots.{checked_after, checked_free, checked_set, checked_slot, checked_slots, has_scheme, scheme_fault, sets}
+use Rattle.live_commit.specs.Slots.{checked_after, checked_free, checked_slot, checked_slots, has_scheme, scheme_fault, sets}
 use Rattle.target_ranges.specs.declared.fault.RangeFault.{RangeFault}
 use Rattle.target_ranges.specs.declared.fault.RangeWhy.{RangeWhy}
 use Rattle.target_ranges.specs.Checked.{checked_next, checked_ranges, fault_at}
 use Rattle.target_ranges.specs.Laws.{ChecksOneMore, KeepsFault}
-use Rattle.target_ranges.specs.Made.{ranges_of}
 use Rattle.damon_control.specs.declared.commit.Part.{Part}
 use Rattle.damon_control.specs.declared.fault.ScriptKind.{ScriptKind}
-use Rattle.damon_control.specs.declared.fault.ScriptKind.TheVariants.{TooMuch}
 use Rattle.damon_control.specs.declared.head.Frame.{Frame}
 use Rattle.damon_control.specs.declared.script.TheConstants.{MAX_WORK}
-use Rattle.damon_control.specs.Body.{command_line, no_commit, part_line, with_part}
+use Rattle.damon_control.specs.Body.{no_commit, part_line, with_part}
 use Rattle.damon_control.specs.Command.{CommandValue, Commit, weight, work_of}
 use Rattle.damon_control.specs.Fits.{FitsAttrs}
-use Rattle.damon_control.specs.Head.{attrs_line, cap_line, is_changed, range_line, scheme_line, seed_line, setup_said, target_line, unit_line}
+use Rattle.damon_control.specs.Head.{attrs_line, cap_line, is_changed, range_line, scheme_line, seed_line, target_line, unit_line}
 use Rattle.damon_control.specs.Laws.{GivesScheme, IsCommand, IsPart, may_come}
 use Rattle.damon_control.specs.ReadBack.{LinesReadBack}
 use Rattle.damon_control.specs.Refusal.{◌>>=◌}
 use Rattle.damon_control.specs.Script.{AtAttrs, AtCap, AtEnd, AtHeader, AtRanges, AtSchemes, AtSeed, AtTargets, AtUnit, Body, InBody, InCommit, Place, ScriptValue, begun, opened, place_after, reads, script_of, with_command}
 use Rattle.damon_control.specs.Spelling.{spelled_attrs, spelled_cap, spelled_range, spelled_seed, spelled_target, spelled_unit}
-use Rattle.damon_control.specs.Text.{AreCommit, EachSays, IsText, SayCommand, SaySetup, all_lines, come_in_order, lines_text, with_parts}
-use Rattle.damon_control.specs.Words.{alone, begins_with}
-use Rattle.damon_control.proofs.Leads.{leads, leads-append, leads-line, leads-read, lines_apart}
+use Rattle.damon_control.specs.Text.{AreCommit, EachSays, IsText, SayCommand, SaySetup, all_lines, come_in_order, with_parts}
+use Rattle.damon_control.specs.Words.{begins_with}
+use Rattle.damon_control.proofs.Leads.{leads, leads-line, leads-read, lines_apart}
 use Rattle.damon_control.proofs.LineWords.{begins_other, both_true, command_begins, leads-IsPiece, part_begins, range_begins, scheme_begins, target_begins}
 use Rattle.damon_control.proofs.SetupLimits.{checked-Limits}
 use Rattle.damon_control.proofs.SpaceLimits.{accepted-FitsRange, checked-IsSpace, checked_before}

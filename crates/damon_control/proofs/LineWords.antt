@@ -1,5 +1,5 @@
 -- A line that is accepted begins with its word, and no byte of it is an LF.
-use Rattle.std.proofs.Common.{◌≡◌, ◌≢◌, ◌∷◌, [], ◌&&◌, ◌||◌, ◌==◌, ℕ, Bool, true, false, not, nat_le, List, drop, length, codes, Ok, Err, refl, sym, ap, ◌∙◌}
+use Rattle.std.proofs.Common.{◌≡◌, ◌≢◌, ◌∷◌, [], ◌&&◌, ◌||◌, ◌==◌, ℕ, Bool, true, false, not, List, drop, length, codes, Ok, Err, refl, sym, ap, ◌∙◌}
 use Rattle.std.specs.Prelude.{All, Result, if◌then◌else◌, is_none}
 use Rattle.std.specs.Cmp.Lexicographic.{same_text}
 use Rattle.std.specs.List.{AllByRecursion, list_all}
@@ -14,13 +14,13 @@ use Rattle.damon_control.specs.declared.commit.Part.TheVariants.{Attrs, Range, S
 use Rattle.damon_control.specs.declared.fault.ScriptKind.{ScriptKind}
 use Rattle.damon_control.specs.declared.fault.ScriptKind.TheVariants.{Form, Header, Word}
 use Rattle.damon_control.specs.declared.head.Frame.{Frame}
-use Rattle.damon_control.specs.Body.{change_line, command_line, drop_line, no_commit, part_line, step_line, sweep_line, touch_line, wants_attrs, wants_slot, with_part, word_line}
-use Rattle.damon_control.specs.Command.{Arm, CommandValue, Commit, Finish, Show}
+use Rattle.damon_control.specs.Body.{change_line, command_line, drop_line, part_line, step_line, wants_attrs, wants_slot, word_line}
+use Rattle.damon_control.specs.Command.{Arm, CommandValue, Finish, Show}
 use Rattle.damon_control.specs.Fields.{attrs_in, range_in}
 use Rattle.damon_control.specs.Head.{attrs_line, cap_line, limited, one_target, range_line, scheme_line, seed_line, target_line, unit_line}
 use Rattle.damon_control.specs.Keys.{scheme_in}
 use Rattle.damon_control.specs.Refusal.{◌>>=◌}
-use Rattle.damon_control.specs.Script.{AtAttrs, AtCap, AtEnd, AtHeader, AtRanges, AtSchemes, AtSeed, AtTargets, AtUnit, Body, InBody, InCommit, Place, after_body, after_commit, after_ranges, after_schemes, after_targets, opened, place_after, with_command}
+use Rattle.damon_control.specs.Script.{AtAttrs, AtCap, AtEnd, AtHeader, AtRanges, AtSchemes, AtSeed, AtTargets, AtUnit, Body, InBody, InCommit, Place, after_body, after_commit, after_ranges, after_schemes, after_targets, place_after}
 use Rattle.damon_control.specs.Words.{alone, arguments, begins_with, no_word, number_8, number_32, number_64, one_word, same_word}
 use Rattle.damon_control.proofs.Leads.{leads}
 use Rattle.damon_control.proofs.SpellSteps.{bind-Ok, either_way, only_if-Ok}

@@ -1,6 +1,6 @@
 -- What lines say is a setup within its limits.
 use Rattle.std.proofs.Common.{◌≡◌, ℕ, ◌≤◌, List, [], ◌∷◌, length, Ok, Err, refl, ap, subst, ◌∙◌, sym, arith}
-use Rattle.std.specs.Prelude.{All, IsSome, Result}
+use Rattle.std.specs.Prelude.{IsSome, Result}
 use Rattle.std.specs.List.{AllByRecursion}
 use Rattle.std.specs.Result.{result_and}
 use Rattle.std.proofs.lemmas.Bool.Decides.{nat_tests}
@@ -15,7 +15,6 @@ use Rattle.live_commit.specs.declared.fault.SetupFault.{SetupFault}
 use Rattle.live_commit.specs.Checked.{attrs_fault, checked_cap, checked_limits, checked_max, checked_unit}
 use Rattle.live_commit.specs.Setup.{IsSetup, SetupValue}
 use Rattle.target_ranges.specs.Laws.{MakesEach, MakesInOrder}
-use Rattle.target_ranges.specs.Made.{ranges_of}
 use Rattle.damon_control.specs.Laws.{GivesScheme}
 use Rattle.damon_control.specs.Text.{EachSays, SaySetup}
 use Rattle.damon_control.proofs.SpaceLimits.{AreMade, accepted-AreMade, checked-IsSpace}

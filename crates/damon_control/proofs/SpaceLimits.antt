@@ -1,7 +1,7 @@
 -- Targets that are accepted, and ranges that are accepted in them, keep the limits of a space and of a setup.
-use Rattle.std.proofs.Common.{◌≡◌, inl, inr, ℕ, zero, suc, ◌+◌, ◌-◌, ◌*◌, ◌/◌, ◌%◌, ◌^◌, ◌≤◌, ◌<◌, ◌==◌, Bool, true, false, not, nat_le, nat_lt, List, [], ◌∷◌, ◌++◌, length, take, Ok, Err, Some, None, refl, ap, ◌∙◌, subst, arith, add-one}
+use Rattle.std.proofs.Common.{◌≡◌, ℕ, zero, suc, ◌+◌, ◌-◌, ◌/◌, ◌%◌, ◌^◌, ◌≤◌, ◌<◌, ◌==◌, Bool, true, false, not, nat_le, nat_lt, List, [], ◌∷◌, ◌++◌, length, take, Ok, Err, Some, None, refl, ap, subst, arith, add-one}
 use Rattle.std.specs.Prelude.{All, Option, Result, slice_get, if◌then◌else◌}
-use Rattle.std.specs.List.{AllByRecursion, last_or}
+use Rattle.std.specs.List.{AllByRecursion}
 use Rattle.std.specs.Result.{result_and}
 use Rattle.std.proofs.lemmas.Bool.Decides.{nat_tests}
 use Rattle.std.proofs.lemmas.List.{length-append}
@@ -13,13 +13,12 @@ use Rattle.damon_types.specs.declared.range.RangeSpec.{RangeSpec}
 use Rattle.damon_types.specs.declared.space.SpaceFault.{SpaceFault}
 use Rattle.damon_types.specs.declared.space.SpaceFault.TheVariants.{NoTarget, TooManyTargets, TooManyPages}
 use Rattle.damon_types.specs.declared.space.Target.{Target}
-use Rattle.damon_types.specs.Ranges.{end_of}
 use Rattle.damon_types.specs.Space.{IsSpace, IsTarget, checked, checked_targets_from, checked_target, offset, pages_of}
 use Rattle.damon_types.specs.Within.{LiesInTarget}
 use Rattle.target_ranges.specs.declared.fault.RangeFault.{RangeFault}
 use Rattle.target_ranges.specs.declared.fault.RangeWhy.{RangeWhy}
-use Rattle.target_ranges.specs.declared.fault.RangeWhy.TheVariants.{TooMany, Unaligned, Reversed, OutsideSpan, TooSmall, BadClass, Overlap}
-use Rattle.target_ranges.specs.Checked.{checked_from as checked_ranges_from, checked_range, checked_ranges, checked_within, fault_at, is_aligned, lies_in, overlaps}
+use Rattle.target_ranges.specs.declared.fault.RangeWhy.TheVariants.{TooMany, Unaligned, Reversed, OutsideSpan, TooSmall, BadClass}
+use Rattle.target_ranges.specs.Checked.{checked_from as checked_ranges_from, checked_range, checked_ranges, checked_within, fault_at, is_aligned, lies_in}
 use Rattle.target_ranges.specs.Made.{IsPlaced, base_of, page_count, range_of, ranges_of}
 use Rattle.damon_control.specs.Fits.{FitsRange}
 

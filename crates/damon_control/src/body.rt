@@ -40,7 +40,7 @@ pub fn read_body(alloc: Global, lines: &mut Lines, setup: &Setup) -> Result<Comm
     requires { IsShort lines.old }
     ensures ok { IfOk result (λ commands. (seed : ℕ) →
         MovesTo (InBody (begun seed (value_of setup.now))) lines.old
-            (AtEnd (script_at seed (value_of setup.now) commands.list)) lines.new) }
+        (AtEnd (script_at seed (value_of setup.now) commands.list)) lines.new) }
     ensures fault { (seed : ℕ) →
         FaultOf result (reads_left (InBody (begun seed (value_of setup.now))) lines.old) }
     ensures within { IfOk result (λ commands.
@@ -71,16 +71,16 @@ fn take_command(
     requires most { work ≤ MAX_WORK }
     ensures more { IfOk result (λ answer. IfSome answer (λ sum. (seed : ℕ) →
         MovesTo (InBody (body_at seed (value_of setup.now) commands.old.list work)) lines.old
-            (InBody (body_at seed (value_of setup.now) commands.new.list sum)) lines.new)) }
+        (InBody (body_at seed (value_of setup.now) commands.new.list sum)) lines.new)) }
     ensures end { IfOk result (λ answer. answer ≡ None → (seed : ℕ) →
         MovesTo (InBody (body_at seed (value_of setup.now) commands.old.list work)) lines.old
-            (AtEnd (script_at seed (value_of setup.now) commands.new.list)) lines.new) }
+        (AtEnd (script_at seed (value_of setup.now) commands.new.list)) lines.new) }
     ensures fault { (seed : ℕ) →
         let place = InBody (body_at seed (value_of setup.now) commands.old.list work) in
         FaultOf result (reads_left place lines.old) }
     ensures sum { IfOk result (λ answer. IfSome answer (λ sum.
         sum + work_of setup.now.cap (map command_value commands.old.list)
-            ≡ work + work_of setup.now.cap (map command_value commands.new.list))) }
+        ≡ work + work_of setup.now.cap (map command_value commands.new.list))) }
     ensures same { IfOk result (λ answer.
         answer ≡ None → commands.new.list ≡ commands.old.list) }
     ensures within { OnOk result (EachIsWithin (pages_of setup.now.space) commands.old.list

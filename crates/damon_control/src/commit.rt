@@ -20,7 +20,7 @@ pub fn read_commit(alloc: Global, lines: &mut Lines) -> Result<Commit, ReadFail>
     requires { IsShort lines.old }
     ensures ok { IfOk result (λ c. (b : Body) →
         reads_left (InCommit b no_commit) lines.old
-            ≡ reads_command b (CommitCommand (commit_value c)) lines.new) }
+        ≡ reads_command b (CommitCommand (commit_value c)) lines.new) }
     ensures fault { (b : Body) → FaultOf result (reads_left (InCommit b no_commit) lines.old) }
     ensures later { OnOk result (lines.old.taken ≤ lines.new.taken) }
     ensures shorter { OnOk result (length lines.new.rest.now < length lines.old.rest.now) }

@@ -214,7 +214,7 @@ fn take_target(lines: &mut Lines, targets: &mut Vec<Target>) -> Result<(), ReadF
     requires few { length targets.old.items < 2 ^ 32 - 1 }
     ensures ok { OnOk result ((f : frame) →
         MovesTo (AtTargets f targets.old.items) lines.old
-            (AtTargets f targets.new.items) lines.new) }
+        (AtTargets f targets.new.items) lines.new) }
     ensures fault { (f : frame) →
         FaultOf result (reads_left (AtTargets f targets.old.items) lines.old) }
     ensures sound { OnOk result (checked targets.new.items ≡ Ok tt) }
@@ -252,7 +252,7 @@ pub fn read_ranges(
     requires cap { frame.now.cap ≤ MAX_CAP }
     ensures ok { IfOk result (λ specs.
         MovesTo (AtRanges frame.now space.now []) lines.old
-            (AtSchemes frame.now space.now specs.list []) lines.new) }
+        (AtSchemes frame.now space.now specs.list []) lines.new) }
     ensures fault { FaultOf result (reads_left (AtRanges frame.now space.now []) lines.old) }
     ensures sound { IfOk result (λ specs.
         checked_ranges space.now frame.now.unit frame.now.cap specs.list ≡ Ok tt) }
@@ -281,9 +281,8 @@ fn take_range(
     requires sound { checked_ranges space.now frame.now.unit frame.now.cap specs.old.list ≡ Ok tt }
     ensures ok { OnOk result (
         MovesTo (AtRanges frame.now space.now specs.old.list) lines.old
-            (AtRanges frame.now space.now specs.new.list) lines.new) }
-    ensures fault {
-        FaultOf result (reads_left (AtRanges frame.now space.now specs.old.list) lines.old) }
+        (AtRanges frame.now space.now specs.new.list) lines.new) }
+    ensures fault { FaultOf result (reads_left (AtRanges frame.now space.now specs.old.list) lines.old) }
     ensures sound { OnOk result (
         checked_ranges space.now frame.now.unit frame.now.cap specs.new.list ≡ Ok tt) }
     ensures some { OnOk result (1 ≤ length specs.new.list) }
@@ -310,9 +309,8 @@ pub fn read_slots(
     requires small { IsShort lines.old }
     ensures ok { IfOk result (λ slots.
         MovesTo (AtSchemes frame.now space.now specs.now.list []) lines.old
-            (InBody (opened frame.now space.now specs.now.list slots.list)) lines.new) }
-    ensures fault {
-        FaultOf result (reads_left (AtSchemes frame.now space.now specs.now.list []) lines.old) }
+        (InBody (opened frame.now space.now specs.now.list slots.list)) lines.new) }
+    ensures fault { FaultOf result (reads_left (AtSchemes frame.now space.now specs.now.list []) lines.old) }
     ensures sound { IfOk result (λ slots. checked_slots slots.list ≡ Ok tt) }
     ensures set { IfOk result (λ slots. kept_slots slots.list ≡ slots.list) }
     ensures few { IfOk result (λ slots. length slots.list ≤ MAX_BYTES) }

@@ -1,4 +1,4 @@
-use Rattle.std.proofs.Common.{◌≡◌, ◌≤◌, ◌+◌, IfSome, length}
+use Rattle.std.proofs.Common.{◌≡◌, ◌≤◌, IfSome, length}
 use Rattle.live_commit.specs.Commit.{commit_value}
 use Rattle.damon_control.specs.Body.{no_commit}
 use Rattle.damon_control.specs.Left.{IsShort, reads_left}

@@ -1,4 +1,4 @@
-use Rattle.std.proofs.Common.{◌≡◌, ◌≤◌, ◌+◌, Ok, [], length}
+use Rattle.std.proofs.Common.{◌≡◌, ◌≤◌, Ok, [], length}
 use Rattle.target_ranges.specs.Checked.{checked_ranges}
 use Rattle.damon_control.specs.Left.{IsShort, reads_left}
 use Rattle.damon_control.specs.Script.{AtRanges}

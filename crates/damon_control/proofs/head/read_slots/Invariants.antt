@@ -1,4 +1,4 @@
-use Rattle.std.proofs.Common.{◌≡◌, ◌≤◌, ◌+◌, Ok, [], length}
+use Rattle.std.proofs.Common.{◌≡◌, ◌≤◌, Ok, [], length}
 use Rattle.live_commit.specs.Slots.{checked_slots, kept_slots}
 use Rattle.damon_control.specs.Left.{IsShort, reads_left}
 use Rattle.damon_control.specs.Script.{AtSchemes}
