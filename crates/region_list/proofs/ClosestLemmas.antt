@@ -16,7 +16,7 @@ use Rattle.region_list.specs.Walk.{TilesFrom, BeginsIn}
 use Rattle.region_list.specs.Shrink.{in_one_range, difference, closest}
 use Rattle.region_list.proofs.TilingLemmas.{end_at}
 use Rattle.region_list.proofs.PairLemmas.{IsPair, pair_within, closest_is}
-use Rattle.region_list.proofs.WalkLemmas.{Next, Step, step, tiling_rest, drop_tail, ordered_behind, next_in, next_out, some_pair}
+use Rattle.region_list.proofs.WalkLemmas.{Next, Step, step, tiling_rest, drop_tail, ordered_after, next_in, next_out, some_pair}
 
 -- the rows from index i on begin in range k, which has this end
 abbrev pub At : List Range → List Row → ℕ → ℕ → ℕ → Type 0
@@ -71,12 +71,12 @@ here_within [] (suc k) g gs is = absurd (cc)
 here_within (h ∷ all) zero g gs is = let head : h ≡ g = cc in (omega arith, ap (λ x. Some x) head)
 here_within (h ∷ all) (suc k) g gs is = let rest = here_within all k g gs is in (omega (arith, rest.0), rest.1)
 
--- the rows behind one
-rows_behind : (rows : List Row) (i : ℕ) (a : Row) (more : List Row) → drop i rows ≡ a ∷ more → drop (suc i) rows ≡ more
-rows_behind [] zero a more is = absurd (cc)
-rows_behind [] (suc i) a more is = absurd (cc)
-rows_behind (r ∷ rows) zero a more is = cc
-rows_behind (r ∷ rows) (suc i) a more is = rows_behind rows i a more is
+-- the rows after one
+rows_after : (rows : List Row) (i : ℕ) (a : Row) (more : List Row) → drop i rows ≡ a ∷ more → drop (suc i) rows ≡ more
+rows_after [] zero a more is = absurd (cc)
+rows_after [] (suc i) a more is = absurd (cc)
+rows_after (r ∷ rows) zero a more is = cc
+rows_after (r ∷ rows) (suc i) a more is = rows_after rows i a more is
 
 -- the step from one row to the next
 pub at_step : (all : List Range) (rows : List Row) (k i end : ℕ) (a b : Row) (more : List Row) → drop i rows ≡ a ∷ b ∷ more → (at : At all rows k i end) → Step at.from at.range at.others a (b ∷ more)
@@ -95,7 +95,7 @@ at_on all rows k i end a b more ordered is at on =
   where
     by : Step at.from at.range at.others a (b ∷ more) → Next (at.from + a.pages) at.range at.others (spans (b ∷ more)) → At all rows k (suc i) end × (in_one_range all a b ≡ true)
     by s (inl rest) = (
-      record { from = at.from + a.pages; range = at.range; others = at.others; ranges = at.ranges; end_is = at.end_is; rest = subst (λ rs. TilesFrom (at.from + a.pages) (at.range ∷ at.others) (spans rs)) (sym (rows_behind rows i a (b ∷ more) is)) rest },
+      record { from = at.from + a.pages; range = at.range; others = at.others; ranges = at.ranges; end_is = at.end_is; rest = subst (λ rs. TilesFrom (at.from + a.pages) (at.range ∷ at.others) (spans rs)) (sym (rows_after rows i a (b ∷ more) is)) rest },
       next_in 0 0 all k at.from at.range at.others a b more ordered at.ranges s rest,
     )
     by s (inr over) = absurd (on (omega (arith, over.0, s.start, at.end_is)))
@@ -107,9 +107,9 @@ at_over all rows k i end a b more ordered is at over = let s = at_step all rows 
     by : Step at.from at.range at.others a (b ∷ more) → Next (at.from + a.pages) at.range at.others (spans (b ∷ more)) → (k + 1 < length all) × ((next_end : ℕ) → option_map end_of (slice_get all (k + 1)) ≡ Some next_end → At all rows (k + 1) (suc i) next_end) × (in_one_range all a b ≡ false)
     by s (inl rest) = absurd (omega (arith, rest.4, s.start, at.end_is))
     by s (inr passed) =
-        let begun = tiling_rest at.range.target (end_of at.range) at.others (spans (b ∷ more)) (ordered_behind 0 0 all k at.range at.others ordered at.ranges) passed.1 (omega arith) in
+        let begun = tiling_rest at.range.target (end_of at.range) at.others (spans (b ∷ more)) (ordered_after 0 0 all k at.range at.others ordered at.ranges) passed.1 (omega arith) in
         let tail : drop (k + 1) all ≡ begun.0 ∷ begun.1 = ap (λ n. drop n all) (add-one k) ∙ drop_tail all k at.range at.others at.ranges ∙ begun.2 in
-        let rest : TilesFrom begun.0.first (begun.0 ∷ begun.1) (spans (drop (suc i) rows)) = subst (λ rs. TilesFrom begun.0.first (begun.0 ∷ begun.1) (spans rs)) (sym (rows_behind rows i a (b ∷ more) is)) begun.4 in (
+        let rest : TilesFrom begun.0.first (begun.0 ∷ begun.1) (spans (drop (suc i) rows)) = subst (λ rs. TilesFrom begun.0.first (begun.0 ∷ begun.1) (spans rs)) (sym (rows_after rows i a (b ∷ more) is)) begun.4 in (
           (here_within all (k + 1) begun.0 begun.1 tail).0,
           λ next_end end_is. record { from = begun.0.first; range = begun.0; others = begun.1; ranges = tail; end_is = end_read all (k + 1) begun.0 begun.1 next_end tail end_is; rest = rest },
           next_out 0 0 all k at.from at.range at.others a b more ordered at.ranges s passed.1,

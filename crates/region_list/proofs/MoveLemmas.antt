@@ -158,7 +158,7 @@ back_same gs level to rows top kept index chain k end right ordered tiling enoug
         let is = known (omega (arith, length-drop index rows)) (ap (λ n. in_one_range gs top (row_at rows n)) (sym same) ∙ one) (top.start + top.pages == end) refl in
         omega (arith, less, is, ap (λ r. difference top r) first)
 
--- the differences with the top behind, where it differs by so much from the row before it
+-- the differences of the finished rows and the top, where the top differs by at least m from the row before it
 pushed : (gs : List Range) (level to m : ℕ) (rows : List Row) (top : Row) (kept : ℕ) (back : List Row) (chain k end left : ℕ) → kept ≤ length rows → IsSweep gs level to (take kept rows) top back chain k end → DifferBy gs m (take kept rows) → left ≡ (if chain == 0 then 2 ^ 32 else difference (row_at rows (kept - 1)) top) → m ≤ left → DifferBy gs m (take kept rows ++ top ∷ [])
 pushed gs level to m rows top kept back chain k end left within s differ left_is far = differ_push gs m (take kept rows) top differ border
   where
@@ -209,60 +209,60 @@ settled gs level to rows top kept index chain k end left right within s left_is 
             either (inl less) = omega arith
             either (inr low) = near low
 
--- a write behind the rows in front
+-- a write after the finished rows
 written_front : (rows : List Row) (kept : ℕ) (top : Row) → kept < length rows → take (kept + 1) (set rows kept top) ≡ take kept rows ++ top ∷ []
 written_front rows kept top within = ap (λ n. take n (set rows kept top)) (add-one kept) ∙ take-suc-set rows kept top within
 
 written_next : (rows : List Row) (kept index : ℕ) (top : Row) → kept < index → row_at (set rows kept top) index ≡ row_at rows index
-written_next rows kept index top behind = get_or-set_other rows kept index top no_row (λ same. absurd (omega arith))
+written_next rows kept index top ahead = get_or-set_other rows kept index top no_row (λ same. absurd (omega arith))
 
 written_back : (rows : List Row) (kept index : ℕ) (top : Row) → kept < index → drop (index + 1) (set rows kept top) ≡ drop (index + 1) rows
-written_back rows kept index top behind = drop-set-lt (index + 1) rows kept top (omega arith)
+written_back rows kept index top ahead = drop-set-lt (index + 1) rows kept top (omega arith)
 
 -- the same of the rows with the top written
 written : (gs : List Range) (level to : ℕ) (rows : List Row) (top : Row) (kept index chain k end : ℕ) → kept < index → index < length rows → IsSweep gs level to (take kept rows ++ top ∷ []) (row_at rows index) (drop (index + 1) rows) chain k end → IsSweep gs level to (take (kept + 1) (set rows kept top)) (row_at (set rows kept top) index) (drop (index + 1) (set rows kept top)) chain k end
-written gs level to rows top kept index chain k end behind here s =
+written gs level to rows top kept index chain k end ahead here s =
     subst (λ rs. IsSweep gs level to rs (row_at (set rows kept top) index) (drop (index + 1) (set rows kept top)) chain k end) (sym (written_front rows kept top (omega arith)))
-    (subst (λ r. IsSweep gs level to (take kept rows ++ top ∷ []) r (drop (index + 1) (set rows kept top)) chain k end) (sym (written_next rows kept index top behind))
-    (subst (λ rs. IsSweep gs level to (take kept rows ++ top ∷ []) (row_at rows index) rs chain k end) (sym (written_back rows kept index top behind)) s))
+    (subst (λ r. IsSweep gs level to (take kept rows ++ top ∷ []) r (drop (index + 1) (set rows kept top)) chain k end) (sym (written_next rows kept index top ahead))
+    (subst (λ rs. IsSweep gs level to (take kept rows ++ top ∷ []) (row_at rows index) rs chain k end) (sym (written_back rows kept index top ahead)) s))
 
 room_for : (gs : List Range) (level to : ℕ) (rows : List Row) (top : Row) (kept index : ℕ) → kept < index → index < length rows → (kept + 1 + (length rows - index) ≤ to) ⊎ DifferBy gs (level + 1) (take kept rows ++ top ∷ []) → (length (take kept rows) + 1 + length (row_at rows index ∷ drop (index + 1) rows) ≤ to) ⊎ DifferBy gs (level + 1) (take kept rows ++ top ∷ [])
-room_for gs level to rows top kept index behind here (inl few) = inl (omega (arith, length-take kept rows, length-drop (index + 1) rows))
-room_for gs level to rows top kept index behind here (inr differ) = inr differ
+room_for gs level to rows top kept index ahead here (inl few) = inl (omega (arith, length-take kept rows, length-drop (index + 1) rows))
+room_for gs level to rows top kept index ahead here (inr differ) = inr differ
 
--- the top goes to those in front
+-- the top is finished
 pub move_on : (gs : List Range) (level to : ℕ) (rows : List Row) (top : Row) (kept index chain k end : ℕ) → kept < index → index < length rows → IsSweep gs level to (take kept rows) top (drop index rows) chain k end → (top.start + top.pages ≡ end → ⊥) → (kept + 1 + (length rows - index) ≤ to) ⊎ DifferBy gs (level + 1) (take kept rows ++ top ∷ []) → IsSweep gs level to (take (kept + 1) (set rows kept top)) (row_at (set rows kept top) index) (drop (index + 1) (set rows kept top)) (chain + 1) k end
-move_on gs level to rows top kept index chain k end behind here s on pushed =
-    written gs level to rows top kept index (chain + 1) k end behind here
-    (sweep_on gs level to (take kept rows) top (row_at rows index) (drop (index + 1) rows) chain k end (subst (λ rs. IsSweep gs level to (take kept rows) top rs chain k end) (drop_first rows index here) s) on (room_for gs level to rows top kept index behind here pushed))
+move_on gs level to rows top kept index chain k end ahead here s on pushed =
+    written gs level to rows top kept index (chain + 1) k end ahead here
+    (sweep_on gs level to (take kept rows) top (row_at rows index) (drop (index + 1) rows) chain k end (subst (λ rs. IsSweep gs level to (take kept rows) top rs chain k end) (drop_first rows index here) s) on (room_for gs level to rows top kept index ahead here pushed))
 
 pub move_over : (gs : List Range) (level to : ℕ) (rows : List Row) (top : Row) (kept index chain k end next_end : ℕ) → InOrder gs → kept < index → index < length rows → IsSweep gs level to (take kept rows) top (drop index rows) chain k end → top.start + top.pages ≡ end → option_map end_of (slice_get gs (k + 1)) ≡ Some next_end → (kept + 1 + (length rows - index) ≤ to) ⊎ DifferBy gs (level + 1) (take kept rows ++ top ∷ []) → IsSweep gs level to (take (kept + 1) (set rows kept top)) (row_at (set rows kept top) index) (drop (index + 1) (set rows kept top)) 0 (k + 1) next_end
-move_over gs level to rows top kept index chain k end next_end ordered behind here s over end_is pushed =
+move_over gs level to rows top kept index chain k end next_end ordered ahead here s over end_is pushed =
     let b = row_at rows index in
     let back = drop (index + 1) rows in
     let moved = at_over gs (top ∷ b ∷ back) k 0 end top b back ordered refl (subst (λ rs. BeginsIn gs (top ∷ rs) k end) (drop_first rows index here) s.here) over in
-    written gs level to rows top kept index 0 (k + 1) next_end behind here
-    (sweep_over gs level to (take kept rows) top b back chain k end next_end (subst (λ rs. IsSweep gs level to (take kept rows) top rs chain k end) (drop_first rows index here) s) (moved.1 next_end end_is) moved.2 (room_for gs level to rows top kept index behind here pushed))
+    written gs level to rows top kept index 0 (k + 1) next_end ahead here
+    (sweep_over gs level to (take kept rows) top b back chain k end next_end (subst (λ rs. IsSweep gs level to (take kept rows) top rs chain k end) (drop_first rows index here) s) (moved.1 next_end end_is) moved.2 (room_for gs level to rows top kept index ahead here pushed))
 
-pub more_behind : (gs : List Range) (level to : ℕ) (rows : List Row) (top : Row) (kept index chain k end : ℕ) → InOrder gs → index < length rows → IsSweep gs level to (take kept rows) top (drop index rows) chain k end → top.start + top.pages ≡ end → k + 1 < length gs
-more_behind gs level to rows top kept index chain k end ordered here s over =
+pub more_after : (gs : List Range) (level to : ℕ) (rows : List Row) (top : Row) (kept index chain k end : ℕ) → InOrder gs → index < length rows → IsSweep gs level to (take kept rows) top (drop index rows) chain k end → top.start + top.pages ≡ end → k + 1 < length gs
+more_after gs level to rows top kept index chain k end ordered here s over =
     let b = row_at rows index in
     let back = drop (index + 1) rows in
     (at_over gs (top ∷ b ∷ back) k 0 end top b back ordered refl (subst (λ rs. BeginsIn gs (top ∷ rs) k end) (drop_first rows index here) s.here) over).0
 
 -- the rows are the same
 pub on_same : (rows : List Row) (top : Row) (kept index : ℕ) → kept < index → index < length rows → take (kept + 1) (set rows kept top) ++ row_at (set rows kept top) index ∷ drop (index + 1) (set rows kept top) ≡ take kept rows ++ top ∷ drop index rows
-on_same rows top kept index behind here =
+on_same rows top kept index ahead here =
     ap (λ rs. rs ++ row_at (set rows kept top) index ∷ drop (index + 1) (set rows kept top)) (written_front rows kept top (omega arith))
-    ∙ ap (λ r. (take kept rows ++ top ∷ []) ++ r ∷ drop (index + 1) (set rows kept top)) (written_next rows kept index top behind)
-    ∙ ap (λ rs. (take kept rows ++ top ∷ []) ++ row_at rows index ∷ rs) (written_back rows kept index top behind)
+    ∙ ap (λ r. (take kept rows ++ top ∷ []) ++ r ∷ drop (index + 1) (set rows kept top)) (written_next rows kept index top ahead)
+    ∙ ap (λ rs. (take kept rows ++ top ∷ []) ++ row_at rows index ∷ rs) (written_back rows kept index top ahead)
     ∙ append_assoc (take kept rows) (top ∷ []) (row_at rows index ∷ drop (index + 1) rows)
     ∙ ap (λ rs. take kept rows ++ top ∷ rs) (sym (drop_first rows index here))
 
 pub on_tiles : (gs : List Range) (rows : List Row) (top : Row) (kept index : ℕ) → kept < index → index < length rows → (unit : ℕ) → Tiling unit gs (spans (take kept rows ++ top ∷ drop index rows)) → Tiling unit gs (spans (take (kept + 1) (set rows kept top) ++ row_at (set rows kept top) index ∷ drop (index + 1) (set rows kept top)))
-on_tiles gs rows top kept index behind here unit before = subst (λ rs. Tiling unit gs (spans rs)) (sym (on_same rows top kept index behind here)) before
+on_tiles gs rows top kept index ahead here unit before = subst (λ rs. Tiling unit gs (spans rs)) (sym (on_same rows top kept index ahead here)) before
 
--- the first row on top, and none in front
+-- the first row is the top, and no row is finished
 pub sweep_begin : (gs : List Range) (level to : ℕ) (rows : List Row) (end : ℕ) → InOrder gs → Tiling 1 gs (spans rows) → 0 < length rows → option_map end_of (slice_get gs 0) ≡ Some end → DifferBy gs level rows → IsSweep gs level to [] (row_at rows 0) (drop 1 rows) 0 0 end
 sweep_begin gs level to [] end ordered tiling some end_is differ = absurd (omega arith)
 sweep_begin gs level to (a ∷ rows) end ordered tiling some end_is differ =

@@ -1,4 +1,4 @@
--- Moves of a sweep.
+-- What the steps of a sweep keep.
 use Rattle.std.proofs.Common.{◌≡◌, ◌⊎◌, inl, inr, ℕ, zero, suc, ◌+◌, ◌-◌, ◌^◌, ◌≤◌, ◌<◌, Bool, true, false, List, [], ◌∷◌, ◌++◌, length, length-append, append_assoc, refl, sym, ap, ◌∙◌, subst, add-one, arith}
 use Rattle.std.specs.Prelude.{nat_lt, ◌&&◌, ◌||◌, if◌then◌else◌}
 use Rattle.std.proofs.lemmas.Bool.Decides.{nat_tests}
@@ -42,7 +42,7 @@ pub differ_first : (gs : List Range) (m : ℕ) (a : Row) (rows : List Row) → D
 differ_first gs m a [] differ border = tt
 differ_first gs m a (b ∷ rows) differ border = (λ one. border one (omega arith), differ)
 
--- one row more, behind the last one
+-- one more row at the end
 pub differ_push : (gs : List Range) (m : ℕ) (front : List Row) (top : Row) → DifferBy gs m front → ((xs : List Row) (a : Row) → front ≡ xs ++ a ∷ [] → in_one_range gs a top ≡ true → m ≤ difference a top) → DifferBy gs m (front ++ top ∷ [])
 differ_push gs m [] top differ border = tt
 differ_push gs m (a ∷ []) top differ border = (border [] a refl, tt)
@@ -76,7 +76,7 @@ pub record IsStep (gs : List Range) (to : ℕ) (rows new : List Row) : Type 0 wh
   pub same : shrunk gs to new ≡ shrunk gs to rows
   pub tiles : (unit : ℕ) → Tiling unit gs (spans rows) → Tiling unit gs (spans new)
 
--- rows that differ less than those before them, and no more than those behind, are joined
+-- a pair that differs by less than each pair before it, and by no more than each pair after it, is joined
 pub shrunk_here : (gs : List Range) (to : ℕ) (xs : List Row) (a b : Row) (ys : List Row) → InOrder gs → Tiling 1 gs (spans (xs ++ a ∷ b ∷ ys)) → length gs ≤ to → to < length xs + 2 + length ys → in_one_range gs a b ≡ true → DifferBy gs (difference a b + 1) (xs ++ a ∷ []) → DifferBy gs (difference a b) (b ∷ ys) → IsStep gs to (xs ++ a ∷ b ∷ ys) (xs ++ join a b ∷ ys)
 shrunk_here gs to xs a b ys ordered tiling enough more one front later =
     let rows = xs ++ a ∷ b ∷ ys in
@@ -143,7 +143,7 @@ chain_last t from to (u ∷ ss) s chain =
     let rest = chain_last t (from + u.pages) to ss s chain.3 in
     record { target = rest.target; end = rest.end; some = rest.some; low = omega (arith, rest.low); chain = (chain.0, chain.1, chain.2, rest.chain) }
 
--- the next row joined to the one on top
+-- the top joined with the next row
 pub sweep_join : (gs : List Range) (level to : ℕ) (front : List Row) (top b : Row) (back : List Row) (chain k end : ℕ) → IsSweep gs level to front top (b ∷ back) chain k end → (top.start + top.pages ≡ end → ⊥) → IsSweep gs level to front (join top b) back chain k end
 sweep_join gs level to front top b back chain k end s on =
     let h = s.here in
@@ -176,13 +176,13 @@ sweep_join gs level to front top b back chain k end s on =
     fewer (inl few) = inl (omega arith)
     fewer (inr differ) = inr (differ.0, differ_tail gs level b back differ.1)
 
--- few enough rows stay few enough, and the differences behind stay
+-- few enough rows stay few enough, and the differences of the rows to come stay
 over_on : (gs : List Range) (level to : ℕ) (front : List Row) (top b : Row) (back : List Row) → (length front + 1 + length (b ∷ back) ≤ to) ⊎ (DifferBy gs (level + 1) front × DifferBy gs level (b ∷ back)) → (length front + 1 + length (b ∷ back) ≤ to) ⊎ DifferBy gs (level + 1) (front ++ top ∷ []) → (length (front ++ top ∷ []) + 1 + length back ≤ to) ⊎ (DifferBy gs (level + 1) (front ++ top ∷ []) × DifferBy gs level back)
 over_on gs level to front top b back (inl few) pushed = inl (omega (arith, length-append front (top ∷ [])))
 over_on gs level to front top b back (inr differ) (inl few) = inl (omega (arith, length-append front (top ∷ [])))
 over_on gs level to front top b back (inr differ) (inr pushed) = inr (pushed, differ_tail gs level b back differ.1)
 
--- the row on top goes to those in front, where the next one is of its range
+-- the top is finished, where the next row is of its range
 pub sweep_on : (gs : List Range) (level to : ℕ) (front : List Row) (top b : Row) (back : List Row) (chain k end : ℕ) → IsSweep gs level to front top (b ∷ back) chain k end → (top.start + top.pages ≡ end → ⊥) → (length front + 1 + length (b ∷ back) ≤ to) ⊎ DifferBy gs (level + 1) (front ++ top ∷ []) → IsSweep gs level to (front ++ top ∷ []) b back (chain + 1) k end
 sweep_on gs level to front top b back chain k end s on pushed =
     let h = s.here in
@@ -227,7 +227,7 @@ sweep_over gs level to front top b back chain k end next_end s h two pushed =
     append_none [] = refl
     append_none (x ∷ xs) = ap (λ rs. x ∷ rs) (append_none xs)
 
--- the last of the rows in front, where it is of the later part
+-- the last of the finished rows, where it is in the second part
 snoc_split : (xs : List Row) (a : Row) (earlier last : List Row) → xs ++ a ∷ [] ≡ earlier ++ last → 1 ≤ length last → (front : List Row) × (last ≡ front ++ a ∷ []) × (xs ≡ earlier ++ front)
 snoc_split xs a [] last is some = (xs, sym is, refl)
 snoc_split [] a (e ∷ earlier) last is some = absurd (omega (arith, ap length is, length-append earlier last))
@@ -237,7 +237,7 @@ snoc_split (x ∷ xs) a (e ∷ earlier) last is some =
     let rest = snoc_split xs a earlier last tail some in
     (rest.0, rest.1, ap (λ y. y ∷ xs) head ∙ ap (λ rs. e ∷ rs) rest.2)
 
--- the row in front of the one on top, which is of its range
+-- the finished row before the top, which is of its range
 before : (gs : List Range) (level to : ℕ) (xs : List Row) (a top : Row) (back : List Row) (chain k end : ℕ) → (s : IsSweep gs level to (xs ++ a ∷ []) top back chain k end) → 1 ≤ chain → (front : List Row) × (s.last ≡ front ++ a ∷ []) × (xs ≡ s.earlier ++ front) × Last s.here.range.target s.from top.start (spans front) (span_of a)
 before gs level to xs a top back chain k end s some =
     let split = snoc_split xs a s.earlier s.last s.parts (omega (arith, s.count)) in
@@ -287,7 +287,7 @@ before_one gs level to xs a top back chain k end ordered s some =
     held : (g : Range) (r : Row) → r.target ≡ g.target → g.first ≤ r.start → r.start + r.pages ≤ end_of g → holds_row g r ≡ true
     held g r target low high = grind (arith, nat_tests)
 
--- and where there is none of its range, it lies in none with it
+-- where no finished row is of the range of the top, no range holds the row before the top and the top
 pub before_none : (gs : List Range) (level to : ℕ) (xs : List Row) (a top : Row) (back : List Row) (k end : ℕ) → IsSweep gs level to (xs ++ a ∷ []) top back 0 k end → in_one_range gs a top ≡ false
 before_none gs level to xs a top back k end s = by s.last s.parts s.count s.apart
   where

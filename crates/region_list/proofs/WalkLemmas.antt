@@ -60,7 +60,7 @@ step from g gs a rows rest = by rest.0 rest.2 rest.5
             let only = chain_none g.target (from + a.pages) (end_of g) front onward here in
             inr (here, subst (λ ss. Tiling 1 gs ss) (sym (tail ∙ ap (λ ss. ss ++ rest.1) only)) rest.6)
 
--- a row in front of what follows it
+-- a row and what follows it, put together
 pub prepend : (from : ℕ) (g : Range) (gs : List Range) (a : Row) (ss : List Span) → a.target ≡ g.target → a.start ≡ from → 1 ≤ a.pages → g.first ≤ from → Next (from + a.pages) g gs ss → TilesFrom from (g ∷ gs) (span_of a ∷ ss)
 prepend from g gs a ss target start some low (inl rest) =
     (span_of a ∷ rest.0, rest.1, ap (λ us. span_of a ∷ us) rest.2, low, omega (arith, rest.4), (target, start, some, rest.5), rest.6)
@@ -77,22 +77,22 @@ tiling_rest t p (g ∷ gs) ss ordered tiling some =
 pub rest_tiling : (g : Range) (gs : List Range) (ss : List Span) → TilesFrom g.first (g ∷ gs) ss → Tiling 1 (g ∷ gs) ss
 rest_tiling g gs ss rest = (rest.0, rest.1, rest.2, rest.5, rest.6)
 
--- the ranges behind one
+-- the ranges after one
 pub drop_tail : (all : List Range) (k : ℕ) (g : Range) (gs : List Range) → drop k all ≡ g ∷ gs → drop (suc k) all ≡ gs
 drop_tail [] zero g gs is = absurd (cc)
 drop_tail [] (suc k) g gs is = absurd (cc)
 drop_tail (h ∷ all) zero g gs is = cc
 drop_tail (h ∷ all) (suc k) g gs is = drop_tail all k g gs is
 
--- the ranges behind one come after it
-pub ordered_behind : (t p : ℕ) (all : List Range) (k : ℕ) (g : Range) (gs : List Range) → OrderedFrom t p all → drop k all ≡ g ∷ gs → OrderedFrom g.target (end_of g) gs
-ordered_behind t p [] zero g gs ordered is = absurd (cc)
-ordered_behind t p [] (suc k) g gs ordered is = absurd (cc)
-ordered_behind t p (h ∷ all) zero g gs ordered is =
+-- the ranges after one begin after it ends
+pub ordered_after : (t p : ℕ) (all : List Range) (k : ℕ) (g : Range) (gs : List Range) → OrderedFrom t p all → drop k all ≡ g ∷ gs → OrderedFrom g.target (end_of g) gs
+ordered_after t p [] zero g gs ordered is = absurd (cc)
+ordered_after t p [] (suc k) g gs ordered is = absurd (cc)
+ordered_after t p (h ∷ all) zero g gs ordered is =
     let head : h ≡ g = cc in
     let tail : all ≡ gs = cc in
     subst (λ hs. OrderedFrom g.target (end_of g) hs) tail (subst (λ (x : Range). OrderedFrom x.target (end_of x) all) head ordered.3)
-ordered_behind t p (h ∷ all) (suc k) g gs ordered is = ordered_behind h.target (end_of h) all k g gs ordered.3 is
+ordered_after t p (h ∷ all) (suc k) g gs ordered is = ordered_after h.target (end_of h) all k g gs ordered.3 is
 
 -- no range from a page on holds a row that begins before
 none_later : (t p : ℕ) (gs : List Range) (a b : Row) → OrderedFrom t p gs → a.start < p → in_one_range gs a b ≡ false
@@ -122,17 +122,17 @@ only_range t p (h ∷ all) zero g gs a b ordered is held some =
     either true = refl
     either false = refl
 only_range t p (h ∷ all) (suc k) g gs a b ordered is held some =
-    let not_here : holds_row h a ≡ false = behind h g a (first_behind h.target (end_of h) all k g gs ordered.3 is) held some in
+    let not_here : holds_row h a ≡ false = later h g a (first_after h.target (end_of h) all k g gs ordered.3 is) held some in
     rw not_here (only_range h.target (end_of h) all k g gs a b ordered.3 is held some)
   where
-    first_behind : (t p : ℕ) (all : List Range) (k : ℕ) (g : Range) (gs : List Range) → OrderedFrom t p all → drop k all ≡ g ∷ gs → p ≤ g.first
-    first_behind t p [] zero g gs ordered is = absurd (cc)
-    first_behind t p [] (suc k) g gs ordered is = absurd (cc)
-    first_behind t p (h ∷ all) zero g gs ordered is = let head : h ≡ g = cc in omega (arith, ordered.1, ap (λ (x : Range). x.first) head)
-    first_behind t p (h ∷ all) (suc k) g gs ordered is = omega (arith, first_behind h.target (end_of h) all k g gs ordered.3 is, ordered.1)
+    first_after : (t p : ℕ) (all : List Range) (k : ℕ) (g : Range) (gs : List Range) → OrderedFrom t p all → drop k all ≡ g ∷ gs → p ≤ g.first
+    first_after t p [] zero g gs ordered is = absurd (cc)
+    first_after t p [] (suc k) g gs ordered is = absurd (cc)
+    first_after t p (h ∷ all) zero g gs ordered is = let head : h ≡ g = cc in omega (arith, ordered.1, ap (λ (x : Range). x.first) head)
+    first_after t p (h ∷ all) (suc k) g gs ordered is = omega (arith, first_after h.target (end_of h) all k g gs ordered.3 is, ordered.1)
 
-    behind : (h g : Range) (a : Row) → end_of h ≤ g.first → holds_row g a ≡ true → 1 ≤ a.pages → holds_row h a ≡ false
-    behind h g a after held some = grind (arith, nat_tests)
+    later : (h g : Range) (a : Row) → end_of h ≤ g.first → holds_row g a ≡ true → 1 ≤ a.pages → holds_row h a ≡ false
+    later h g a after held some = grind (arith, nat_tests)
 
 -- the row lies in the range
 pub step_held : (from : ℕ) (g : Range) (gs : List Range) (a : Row) (rows : List Row) → Step from g gs a rows → holds_row g a ≡ true
@@ -150,12 +150,12 @@ next_in t p all k from g gs a b rows ordered is s rest =
 -- the next row lies in a later range
 pub next_out : (t p : ℕ) (all : List Range) (k from : ℕ) (g : Range) (gs : List Range) (a b : Row) (rows : List Row) → OrderedFrom t p all → drop k all ≡ g ∷ gs → Step from g gs a (b ∷ rows) → Tiling 1 gs (spans (b ∷ rows)) → in_one_range all a b ≡ false
 next_out t p all k from g gs a b rows ordered is s tiling =
-    let rest = tiling_rest g.target (end_of g) gs (spans (b ∷ rows)) (ordered_behind t p all k g gs ordered is) tiling (omega arith) in
+    let rest = tiling_rest g.target (end_of g) gs (spans (b ∷ rows)) (ordered_after t p all k g gs ordered is) tiling (omega arith) in
     let next = step rest.0.first rest.0 rest.1 b rows rest.4 in
     only_range t p all k g gs a b ordered is (step_held from g gs a (b ∷ rows) s) s.some ∙ passed g b (omega (arith, next.start, rest.3)) next.some
   where
     passed : (g : Range) (b : Row) → end_of g ≤ b.start → 1 ≤ b.pages → holds_row g b ≡ false
-    passed g b behind some = grind (arith, nat_tests)
+    passed g b after some = grind (arith, nat_tests)
 
 -- a pair joined within the rest
 rest_joined : (t p : ℕ) (all : List Range) (rows : List Row) (i d k from : ℕ) (g : Range) (gs : List Range) → OrderedFrom t p all → drop k all ≡ g ∷ gs → TilesFrom from (g ∷ gs) (spans rows) → IsPair all rows i d → TilesFrom from (g ∷ gs) (spans (joined_at i rows))
@@ -177,7 +177,7 @@ rest_joined t p all (a ∷ b ∷ rows) (suc i) d k from g gs ordered is rest pai
     by : ((k from : ℕ) (g : Range) (gs : List Range) → drop k all ≡ g ∷ gs → TilesFrom from (g ∷ gs) (spans (b ∷ rows)) → TilesFrom from (g ∷ gs) (spans (joined_at i (b ∷ rows)))) → Step from g gs a (b ∷ rows) → Next (from + a.pages) g gs (spans (b ∷ rows)) → TilesFrom from (g ∷ gs) (span_of a ∷ spans (joined_at i (b ∷ rows)))
     by later s (inl rest) = prepend from g gs a (spans (joined_at i (b ∷ rows))) s.target s.start s.some s.low (inl (later k (from + a.pages) g gs is rest))
     by later s (inr over) =
-        let begun = tiling_rest g.target (end_of g) gs (spans (b ∷ rows)) (ordered_behind t p all k g gs ordered is) over.1 (omega arith) in
+        let begun = tiling_rest g.target (end_of g) gs (spans (b ∷ rows)) (ordered_after t p all k g gs ordered is) over.1 (omega arith) in
         let joined = later (suc k) begun.0.first begun.0 begun.1 (drop_tail all k g gs is ∙ begun.2) begun.4 in
         let tiling = rest_tiling begun.0 begun.1 (spans (joined_at i (b ∷ rows))) joined in
         prepend from g gs a (spans (joined_at i (b ∷ rows))) s.target s.start s.some s.low (inr (over.0, subst (λ hs. Tiling 1 hs (spans (joined_at i (b ∷ rows)))) (sym begun.2) tiling))
@@ -200,7 +200,7 @@ rest_pair t p all (a ∷ b ∷ rows) k from g gs ordered is rest more =
     by : ((k from : ℕ) (g : Range) (gs : List Range) → drop k all ≡ g ∷ gs → TilesFrom from (g ∷ gs) (spans (b ∷ rows)) → length (g ∷ gs) < length (b ∷ rows) → (i : ℕ) × (d : ℕ) × IsPair all (b ∷ rows) i d) → Step from g gs a (b ∷ rows) → Next (from + a.pages) g gs (spans (b ∷ rows)) → (i : ℕ) × (d : ℕ) × IsPair all (a ∷ b ∷ rows) i d
     by later s (inl rest) = (0, difference a b, (next_in t p all k from g gs a b rows ordered is s rest, refl))
     by later s (inr over) =
-        let begun = tiling_rest g.target (end_of g) gs (spans (b ∷ rows)) (ordered_behind t p all k g gs ordered is) over.1 (omega arith) in
+        let begun = tiling_rest g.target (end_of g) gs (spans (b ∷ rows)) (ordered_after t p all k g gs ordered is) over.1 (omega arith) in
         let found = later (suc k) begun.0.first begun.0 begun.1 (drop_tail all k g gs is ∙ begun.2) begun.4 (omega (arith, ap length begun.2)) in
         (suc found.0, found.1, found.2)
 

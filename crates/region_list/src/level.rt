@@ -57,12 +57,12 @@ pub(crate) fn join_level(rows: &mut [Row], ranges: &Ranges, level: u32, to: usiz
 // finished and the next row becomes the top. False where the top is the last row and stays.
 fn advance(sweep: &mut Sweep, rows: &mut [Row], ranges: &Ranges, level: u32, to: usize) -> bool
     requires sweep { IsSweep ranges.now.list level to (take sweep.old.kept rows.old) sweep.old.top (drop sweep.old.index rows.old) sweep.old.chain sweep.old.range sweep.old.end }
-    requires behind { sweep.old.kept < sweep.old.index }
+    requires ahead { sweep.old.kept < sweep.old.index }
     requires within { sweep.old.index ≤ length rows.old }
     requires tiling { Tiling 1 ranges.now.list (spans (take sweep.old.kept rows.old ++ sweep.old.top ∷ drop sweep.old.index rows.old)) }
     requires enough { length ranges.now.list ≤ to }
     ensures sweep { IsSweep ranges.now.list level to (take sweep.new.kept rows.new) sweep.new.top (drop sweep.new.index rows.new) sweep.new.chain sweep.new.range sweep.new.end }
-    ensures behind { sweep.new.kept < sweep.new.index }
+    ensures ahead { sweep.new.kept < sweep.new.index }
     ensures within { sweep.new.index ≤ length rows.new }
     ensures same { shrunk ranges.now.list to (take sweep.new.kept rows.new ++ sweep.new.top ∷ drop sweep.new.index rows.new) ≡ shrunk ranges.now.list to (take sweep.old.kept rows.old ++ sweep.old.top ∷ drop sweep.old.index rows.old) }
     ensures tiles { (unit : ℕ) → Tiling unit ranges.now.list (spans (take sweep.old.kept rows.old ++ sweep.old.top ∷ drop sweep.old.index rows.old)) → Tiling unit ranges.now.list (spans (take sweep.new.kept rows.new ++ sweep.new.top ∷ drop sweep.new.index rows.new)) }

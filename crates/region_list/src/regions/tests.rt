@@ -1,5 +1,3 @@
-ghost use Rattle.std.specs.Prelude.{Unit};
-
 use super::*;
 use crate::{divide, range_end};
 use damon_types::Range;

@@ -11,7 +11,7 @@ counted b = cond b 1 0
 pub moves-init : goal.moves-init
 moves-init c = record {
   sweep = sweep_begin _ _ _ _ _ c.len-count.ensures.order c.requires.tiling c.requires.some c.range_end.ensures c.requires.low;
-  behind = omega arith;
+  ahead = omega arith;
   within = omega (arith, c.requires.some);
   same = ap (λ rs. shrunk c.args.ranges.now.list c.args.to rs) (rows_whole c.args.rows.now c.requires.some);
   tiles = λ unit before. subst (λ rs. Tiling unit c.args.ranges.now.list (spans rs)) (sym (rows_whole c.args.rows.now c.requires.some)) before;
