@@ -1,5 +1,5 @@
 -- A report that is handed over piece by piece.
-use Rattle.std.proofs.Common.{◌≡◌, ℕ, true, false, List, [], ◌++◌, Option, sym, ap, ◌∙◌, subst, cond, append_assoc}
+use Rattle.std.proofs.Common.{◌≡◌, ℕ, false, List, [], ◌++◌, Option, sym, ap, ◌∙◌, subst, cond, append_assoc}
 use Rattle.rand_core.specs.Stream.{Stream}
 use Rattle.damon_core.specs.State.{opening}
 use Rattle.damon_world.specs.Moment.{along}
@@ -9,7 +9,7 @@ use Rattle.script_run.specs.NotBuilt.{built_events, comes_to_aggregation}
 use Rattle.script_run.specs.Player.{GoesOn, IsAtAggregation, IsOver, PlayerView, WritesLast}
 use Rattle.script_run.specs.Report.{last_text, report, text_from, written_text}
 use Rattle.script_run.specs.Unfold.{start}
-use Rattle.script_run.specs.Way.{IsOnItsWay, way-due, way-on, way-over, way-prefix, way-report}
+use Rattle.script_run.specs.Way.{IsOnItsWay, way-due, way-on, way-prefix, way-report}
 use Rattle.damon_app.specs.Taken.{WritesPart}
 use Rattle.damon_app.proofs.Known.{WritesPart-longer}
 

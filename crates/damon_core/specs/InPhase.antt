@@ -1,5 +1,5 @@
 -- Where a state is among its rows.
-use Rattle.std.specs.Prelude.{ℕ, ◌≤◌, ◌<◌}
+use Rattle.std.specs.Prelude.{◌≤◌, ◌<◌}
 use Rattle.damon_core.specs.State.{State, row_count}
 use Rattle.damon_core.specs.Pass.{IsPickWithin}
 
