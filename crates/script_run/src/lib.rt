@@ -12,6 +12,6 @@ mod random;
 /// What of a script is not built yet.
 mod script;
 
-pub use laws::{passes_reach_their_phase, each_script_is_bound};
+pub use laws::{each_script_is_bound, passes_reach_their_phase};
 pub use player::{Filled, PIECE, Player, open_player};
 pub use script::has_later_parts;
