@@ -1,6 +1,7 @@
 use Rattle.std.proofs.Common.{◌++◌, Ok, refl, sym, ap, ◌∙◌, subst, arith}
 use Rattle.std.specs.Io.KnownBytes.{Appends}
 use Rattle.std.proofs.KnownBytes.{Appends-trans}
+use Rattle.std.proofs.lemmas.Result.{err_from_is_err_and}
 use Rattle.rand_core.specs.Steps.{stream_of, steps_u32}
 use Rattle.rand_pcg.specs.Pcg.{pcg32}
 use Rattle.damon_control.specs.ScriptView.{said_by}
@@ -131,3 +132,13 @@ pub returns-in-Due-clause-part : goal.returns-in-Due-clause-part
 returns-in-Due-clause-part g c =
     let taken = g.K.Sink.taken in
     WritesPart-whole (taken c.args.sink.now) (taken c.write_all-in-Due.new.sink) _ (returns-in-Due-clause-up_to g c refl)
+
+pub returns-in_err-write_all-in-Piece-clause-answers : goal.returns-in_err-write_all-in-Piece-clause-answers
+returns-in_err-write_all-in-Piece-clause-answers g c =
+    let p = err_from_is_err_and c.from_residual-in_err-write_all-in-Piece.result c.from_residual-in_err-write_all-in-Piece.ensures.1 in
+    rw (p.1, p.2) tt
+
+pub returns-in_err-write_all-in-Due-clause-answers : goal.returns-in_err-write_all-in-Due-clause-answers
+returns-in_err-write_all-in-Due-clause-answers g c =
+    let p = err_from_is_err_and c.from_residual-in_err-write_all-in-Due.result c.from_residual-in_err-write_all-in-Due.ensures.1 in
+    rw (p.1, p.2) tt
