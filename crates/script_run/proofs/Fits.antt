@@ -13,7 +13,7 @@ use Rattle.damon_core.specs.After.{after, by_clear, by_load, by_observe}
 use Rattle.damon_core.specs.Bound.{Bound}
 use Rattle.damon_core.specs.InPhase.{IsInPhase}
 use Rattle.damon_core.specs.Pass.{IsPickWithin}
-use Rattle.damon_core.specs.Makes.{AllFit-append, Reached-run}
+use Rattle.damon_core.specs.Makes.{Reached-run}
 use Rattle.damon_core.specs.Reached.{AllByHit, AllFit, CanOpen, Reached, ReachedByHit, run}
 use Rattle.damon_world.specs.Draws.{drawn}
 use Rattle.damon_world.specs.Moment.{Moment, along, event_in, moved, next_event}
@@ -28,7 +28,7 @@ use Rattle.script_run.specs.Kept.{ArePartsWithin, IsPartWithin}
 use Rattle.script_run.specs.NotBuilt.{before_aggregation, built_events, is_aggregation}
 use Rattle.script_run.specs.Parts.{part_of, parts_of, stops_at}
 use Rattle.damon_control.specs.Limits.{AreCommandsWithin, IsCommandWithin}
-use Rattle.damon_control.specs.Sound.{IsSound, ScriptsAreSound}
+use Rattle.damon_control.specs.Sound.{ScriptsAreSound}
 use Rattle.script_run.specs.Unfold.{part_events, parts_events, start, steps_until, unfold_script}
 use Rattle.script_run.specs.Way.{Reached-start}
 use Rattle.script_run.proofs.Hits.{AllByHit-prefix, by_hit-parts}

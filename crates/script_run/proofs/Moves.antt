@@ -5,15 +5,16 @@ use Rattle.rand_core.specs.Stream.{Stream}
 use Rattle.live_commit.specs.declared.phase.Phase.TheVariants.{Due}
 use Rattle.damon_core.specs.State.{Core}
 use Rattle.damon_core.specs.Event.{Event, aggregate, show}
-use Rattle.damon_core.specs.Makes.{Makes, Reached-run}
-use Rattle.damon_core.specs.Reached.{AllFit, Reached, run}
+use Rattle.damon_core.specs.Makes.{Makes}
+use Rattle.damon_core.specs.Reached.{Reached, run}
 use Rattle.damon_world.specs.Draws.{drawn}
 use Rattle.damon_world.specs.Advance.{AreAmid}
 use Rattle.damon_world.specs.Moment.{Moment, along, event_in, events_of_steps, moved, next_event, stepped_times}
 use Rattle.damon_world.specs.Plays.{Plays, Plays-append, Reached-along, along-append, along-state}
-use Rattle.damon_world.specs.Stands.{StandsAt, StandsFor, WorldView}
+use Rattle.damon_world.specs.Stands.{StandsAt, StandsFor}
 use Rattle.damon_world.specs.Touches.{touches}
 use Rattle.snapshot_print.specs.Lines.{show_text}
+use Rattle.snapshot_print.specs.Printed.{printed_monitor, printed_monitor-stands, printed_state}
 use Rattle.script_run.specs.declared.part.Part.TheVariants as part
 use Rattle.script_run.specs.declared.part.Until.{Until}
 use Rattle.script_run.specs.declared.part.Until.TheVariants as until
@@ -174,7 +175,7 @@ module _ {R : Type 0} (stream : R → Stream) where
           parts_events-made m es a.part b.part a.later all ∙ ap (λ ps. es ++ parts_events (along m es) (b.part ∷ ps)) (sym later)
 
   -- a show
-  pub show_made : (a b : PlayerView R) (x y : List ℕ) → a.part ≡ part.Show → b.part ≡ part.Touches 0 0 → b.later ≡ a.later → b.form ≡ a.form → b.world ≡ a.world → y ≡ x ++ show_text a.form a.world.monitor.core → GoesOn stream a b x y
+  pub show_made : (a b : PlayerView R) (x y : List ℕ) → a.part ≡ part.Show → b.part ≡ part.Touches 0 0 → b.later ≡ a.later → b.form ≡ a.form → b.world ≡ a.world → y ≡ x ++ show_text a.form (printed_monitor a.world.monitor) → GoesOn stream a b x y
   show_made a b x y old new later form world grew = record {
     events = λ m. es;
     plays = λ m reached stands. ((tt, tt), subst (λ w. StandsAt stream w m) (sym world) stands);
@@ -183,8 +184,8 @@ module _ {R : Type 0} (stream : R → Stream) where
         parts_events-made m es a.part b.part a.later all ∙ ap (λ ps. es ++ parts_events m (b.part ∷ ps)) (sym later));
     text = λ m reached stands.
         grew
-        ∙ ap (λ (c : Core). x ++ show_text a.form c) stands.state.monitor.same
-        ∙ ap (λ t. x ++ t) (sym (append-nil (show_text a.form m.state.core)));
+        ∙ ap (λ p. x ++ show_text a.form p) (printed_monitor-stands a.world.monitor m.state stands.state.monitor)
+        ∙ ap (λ t. x ++ t) (sym (append-nil (show_text a.form (printed_state m.state))));
     form = form;
   }
     where

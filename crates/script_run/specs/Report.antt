@@ -1,20 +1,20 @@
 -- The report of a script.
 use Rattle.std.specs.Prelude.{◌≡◌, ℕ, List, [], ◌∷◌, ◌++◌, if◌then◌else◌, refl}
 use Rattle.std.proofs.Common.{◌∙◌, ap, sym, append_assoc}
-use Rattle.damon_core.specs.Totals.{checks_made, hits_made}
 use Rattle.damon_core.specs.State.{State, opening}
 use Rattle.damon_core.specs.Event.{Event, show}
 use Rattle.damon_core.specs.After.{after}
 use Rattle.damon_core.specs.Reached.{run}
 use Rattle.snapshot_print.specs.declared.form.Form.{Form}
 use Rattle.snapshot_print.specs.Lines.{show_text, end_text}
+use Rattle.snapshot_print.specs.Printed.{printed_state}
 use Rattle.damon_control.specs.Script.{ScriptValue}
 use Rattle.script_run.specs.Unfold.{unfold_script}
 use Rattle.script_run.specs.NotBuilt.{built_events, comes_to_aggregation}
 
 -- what an event writes; the others write nothing
 abbrev pub event_text : Form → State → Event → List ℕ
-event_text form s show = show_text form s.core
+event_text form s show = show_text form (printed_state s)
 event_text form s _ = []
 
 -- what events write from a state on
@@ -24,7 +24,7 @@ text_from form s (e ∷ es) = event_text form s e ++ text_from form (after s e) 
 
 -- the last line of a report, at the end of a state
 abbrev pub last_text : Form → State → List ℕ
-last_text form s = end_text form s.core (checks_made s.notes) (hits_made s.notes)
+last_text form s = end_text form (printed_state s)
 
 -- the report of a script: what its events write, and the last line
 abbrev pub report : Form → ScriptValue → List ℕ

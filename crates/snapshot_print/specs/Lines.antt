@@ -11,6 +11,7 @@ use Rattle.line_text.specs.Address.{spelled_address}
 use Rattle.damon_core.specs.State.{Core, row_count}
 use Rattle.snapshot_print.specs.declared.form.Form.{Form}
 use Rattle.snapshot_print.specs.declared.form.Form.TheVariants.{Text}
+use Rattle.snapshot_print.specs.Printed.{Printed}
 
 infixr 20 ◌then◌
 -- one text and then another
@@ -61,11 +62,11 @@ abbrev pub state_text : Core → List ℕ
 state_text c = show_line c ++ row_lines c.space c.regions.rows
 
 -- what a show writes, in each form
-abbrev pub show_text : Form → Core → List ℕ
-show_text Text c = state_text c
+abbrev pub show_text : Form → Printed → List ℕ
+show_text Text p = state_text p.core
 
 -- the last line of a report, with the checks and hits of all finished passes
-abbrev pub end_text : Form → Core → ℕ → ℕ → List ℕ
-end_text Text c checks hits =
-    codes "end ticks=" then decimal c.ticks then codes " rows=" then decimal (row_count c)
-    then codes " checks=" then decimal checks then codes " hits=" then decimal hits then codes "\n"
+abbrev pub end_text : Form → Printed → List ℕ
+end_text Text p =
+    codes "end ticks=" then decimal p.core.ticks then codes " rows=" then decimal (row_count p.core)
+    then codes " checks=" then decimal p.checks then codes " hits=" then decimal p.hits then codes "\n"

@@ -4,6 +4,7 @@ ghost use Rattle.std.specs.List.{AllByRecursion};
 ghost use Rattle.damon_types.specs.Space.{pages_of};
 ghost use Rattle.snapshot_print.specs.Lines.{end_text, phase_name, row_line, row_lines, show_line, show_text, state_text};
 ghost use Rattle.snapshot_print.specs.Kept.{KeepsFront};
+ghost use Rattle.snapshot_print.specs.Printed.{printed_monitor};
 
 use crate::Form;
 use crate::row_text::row_before;
@@ -27,7 +28,8 @@ pub fn print_show(
     space: &Space,
 ) -> Result<(), AllocError>
     requires { space.now ≡ monitor.now.core.space }
-    ensures ok { OnOk result (out.new.items ≡ out.old.items ++ show_text form monitor.now.core) }
+    ensures ok { OnOk result (out.new.items ≡ out.old.items
+        ++ show_text form (printed_monitor monitor.now)) }
     ensures err { OnErr result (out.new.items ≡ out.old.items) }
 {
     let before = out.len();
@@ -48,7 +50,7 @@ pub fn print_end(
 ) -> Result<(), AllocError>
     requires { space.now ≡ monitor.now.core.space }
     ensures ok { OnOk result (out.new.items ≡ out.old.items
-        ++ end_text form monitor.now.core monitor.now.checks monitor.now.hits) }
+        ++ end_text form (printed_monitor monitor.now)) }
     ensures err { OnErr result (out.new.items ≡ out.old.items) }
 {
     let before = out.len();
@@ -102,7 +104,7 @@ fn print_first_line(out: &mut Vec<u8>, monitor: &Monitor) -> Result<(), AllocErr
 #[tactic(auto, using(crate::proofs::Appending::keeping))]
 fn print_totals(out: &mut Vec<u8>, monitor: &Monitor) -> Result<(), AllocError>
     ensures ok { OnOk result (out.new.items ≡ out.old.items
-        ++ end_text Form.Text monitor.now.core monitor.now.checks monitor.now.hits) }
+        ++ end_text Form.Text (printed_monitor monitor.now)) }
     ensures kept { KeepsFront out.old.items out.new.items }
 {
     print_field(out, b"end ticks=", monitor.ticks())?;

@@ -9,7 +9,6 @@ use Rattle.damon_types.specs.Space.{pages_of}
 use Rattle.damon_control.specs.declared.script.Command.{Command}
 use Rattle.damon_control.specs.Command.{CommandValue, Touch, Sweep, Step, Arm, Finish, Show, Commit, command_value, weight, work_of}
 use Rattle.damon_control.specs.Limits.{IsCommandWithin}
-use Rattle.damon_control.specs.ScriptView.{said_by}
 use Rattle.script_run.specs.declared.part.Part.TheVariants as part
 use Rattle.script_run.specs.Kept.{ArePartsWithin, IsPartWithin}
 use Rattle.script_run.specs.Player.{left_in, left_of}

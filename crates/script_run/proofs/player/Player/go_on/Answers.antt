@@ -1,6 +1,7 @@
 use Rattle.std.proofs.Common.{◌≡◌, ◌++◌, false, rules, refl, sym, ap, ◌∙◌}
 use Rattle.live_commit.specs.declared.phase.Phase.TheVariants.{Due}
 use Rattle.snapshot_print.specs.Lines.{show_text}
+use Rattle.snapshot_print.specs.Printed.{printed_monitor}
 use Rattle.script_run.specs.Kept.{is_done}
 use Rattle.script_run.proofs.Moves.{is_at_aggregation, on-none, show_made}
 use Rattle.script_run.proofs.player.Player.go_on.Goals as goal
@@ -23,7 +24,7 @@ pub returns-in_ok-print_show-in-Show-clause-on : goal.returns-in_ok-print_show-i
 returns-in_ok-print_show-in-Show-clause-on g c =
     let is = c.self.view_is in
     let grew = c.in_ok-print_show-in-Show.ensures.ok
-    ∙ ap (λ v. c.args.out.now.items ++ show_text c.self.inside.form v.core) c.monitor-in-Show.ensures
-    ∙ ap (λ v. c.args.out.now.items ++ show_text v.form v.world.monitor.core) is in
+    ∙ ap (λ v. c.args.out.now.items ++ show_text c.self.inside.form (printed_monitor v)) c.monitor-in-Show.ensures
+    ∙ ap (λ v. c.args.out.now.items ++ show_text v.form (printed_monitor v.world.monitor)) is in
     show_made g.R.Rng.stream c.args.self.now _ _ _ (sym (ap (λ v. v.part) is) ∙ c.in-Show.is) refl
     (ap (λ v. v.later) is) (ap (λ v. v.form) is) (ap (λ v. v.world) is) grew

@@ -1,4 +1,4 @@
-use Rattle.std.proofs.Common.{refl, sym, ap, subst, ◌∙◌, arith}
+use Rattle.std.proofs.Common.{refl, ap, subst, arith}
 use Rattle.damon_core.specs.Reached.{Reached}
 use Rattle.damon_world.specs.Advance.{AreAmid}
 use Rattle.damon_world.specs.Moment.{Moment, events_of_steps}
