@@ -1,4 +1,4 @@
-ghost use Rattle.std.specs.Prelude.{◌≡◌, length, IfOk};
+ghost use Rattle.std.specs.Prelude.{◌≡◌, [], length, IfOk};
 
 use super::*;
 use damon_core::Monitor;
@@ -22,7 +22,8 @@ const AFTER_A_PASS: &[u8] = b"show tick=1 phase=idle rows=3\n\
 
 // Three pages in one target, each a row.
 fn three_pages(alloc: Global) -> Result<Setup, Fail>
-    ensures { IfOk result (λ s. length s.ranges.list ≡ 1) }
+    ensures one_range { IfOk result (λ s. length s.ranges.list ≡ 1) }
+    ensures no_slots { IfOk result (λ s. s.slots.list ≡ []) }
 {
     let space = Space::new(
         alloc,
@@ -42,7 +43,8 @@ fn three_pages(alloc: Global) -> Result<Setup, Fail>
         to: 0x13000,
         class: 0,
     };
-    Ok(Setup::new(alloc, space, 1, 8, attrs, &[range], &[])?)
+    let setup = Setup::new(alloc, space, 1, 8, attrs, &[range], &[])?;
+    Ok(setup)
 }
 
 // Begins a pass.
@@ -123,7 +125,8 @@ fn first_pass(monitor: &mut Monitor) -> Result<(), &'static str>
 
 // A monitor of the setup before its first pass.
 fn started(alloc: Global, setup: &Setup) -> Result<Monitor, AllocError>
-    requires { length setup.now.ranges.list ≡ 1 }
+    requires one_range { length setup.now.ranges.list ≡ 1 }
+    requires no_slots { setup.now.slots.list ≡ [] }
     ensures { IfOk result (λ m. m.core.space ≡ setup.now.space) }
 {
     Monitor::new(alloc, setup)
