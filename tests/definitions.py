@@ -48,8 +48,9 @@ FUNCTION = re.compile(r"^(\s*)(pub )?fn (\w+)")
 OWNER = re.compile(r"(?:impl(?:<[^>]*>)?|pub trait) (?:.* for )?(\w+)")
 CLAUSE = re.compile(r"^\s*(?:requires|ensures)\b\s*(\w*)", re.M)
 WORD = re.compile(r"[^\s()\[\]{},;]+")
-# Names that a text binds: `(x y : T)`, `λ x y.`, `let x =`, `x ←`, and a record's `pub x :`.
-BINDERS = re.compile(r"\(([^():]+) :|λ ([^.(]+)\.|let (\w+) =|^\s*(\w+) ←|^\s+pub ([^:]+) :", re.M)
+# Names that a text binds: `(x y : T)`, `λ x y.`, `let x =`, and `x ←`.
+BINDERS = re.compile(r"\(([^():]+) :|λ ([^.(]+)\.|let (\w+) =|^\s*(\w+) ←", re.M)
+FIELD = re.compile(r"^\s+pub ([^:]+) :", re.M)
 
 
 class Definition(NamedTuple):
@@ -163,6 +164,8 @@ def scope_of(text, exports):
 
 def names_in(definition, scope):
     """The definitions that the text of a definition names."""
+    if " record " in f" {definition.lines[0]}":
+        return [it for it in names_in_record(definition.lines, scope) if it != definition]
     groups = []
     for line in definition.lines:
         if line[0].isspace() and groups:
@@ -170,6 +173,18 @@ def names_in(definition, scope):
         else:
             groups.append(line)
     return [it for group in groups for it in names_in_group(group, scope) if it != definition]
+
+
+def names_in_record(lines, scope):
+    """The same for a record: a field is known to the fields after it, and not in its own type."""
+    head, *fields = FIELD.split("\n".join(lines))
+    known = {word for names in BINDERS.findall(head) for name in names for word in name.split()}
+    found = [*names_in_text(head, scope, known)]
+    for names, text in zip(fields[::2], fields[1::2]):
+        bound = {word for names in BINDERS.findall(text) for name in names for word in name.split()}
+        found += names_in_text(text, scope, known | bound)
+        known |= set(names.split())
+    return found
 
 
 def names_in_group(group, scope):

@@ -7,6 +7,7 @@ Each PROGRAM is run with the word `replay` on each workload, TURNS times, in tur
 its best wall time in milliseconds is printed. The workloads keep the limits of a script; they are made
 here, and need no file.
 """
+import random
 import subprocess
 import sys
 import tempfile
@@ -23,6 +24,22 @@ def script(cap, attrs, pages, commands):
     return "\n".join(lines).encode()
 
 
+def aggregations():
+    """An aggregation after each pass, over 64 ranges and some 3,700 rows, with two sweeps in each pass."""
+    choose = random.Random(3)
+    lines = ["damon script 1", "seed 3", "unit 4", "cap 4096", "attrs 2800 4096 1", f"target 0x0 {MILLION}"]
+    for number in range(64):
+        lines.append(f"range 0 {number * 16384 * PAGE:#x} {(number + 1) * 16384 * PAGE:#x} {number % 16}")
+    lines.append("begin")
+    for _ in range(366):
+        lines.append("arm")
+        for _ in range(2):
+            first = choose.randrange(MILLION - 8192)
+            lines.append(f"sweep 0 {first * PAGE:#x} {(first + 8192) * PAGE:#x}")
+        lines.append("finish")
+    return "\n".join([*lines, "end", ""]).encode()
+
+
 def workloads():
     # The weight of a script is at most 16,777,216: sixteen sweeps of a million pages.
     yield "sweeps", script(100, "10 100 5", MILLION, [f"sweep 0 0x0 {MILLION * PAGE:#x}"] * 16)
@@ -30,6 +47,9 @@ def workloads():
     for name, pages in (("passes", MILLION), ("small passes", 4000)):
         yield name, script(4000, "4000 4000 1000", pages, ["step 8002"] * 1000)
     yield "reading", script(4, "3 4 10", MILLION, [f"touch 0 {page * PAGE:#x}" for page in range(800_000)])
+    yield "aggregating", aggregations()
+    # A pass over three rows with its aggregation takes nine steps.
+    yield "small rows", script(3, "3 3 1", 3, ["step 1000000"])
     yield "showing", script(4096, "4096 4096 10", MILLION, ["show"] * 1000)
 
 

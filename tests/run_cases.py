@@ -28,14 +28,8 @@ Exactly one field says what is to become of standard output:
     stdout_sha256  the program is to write bytes with this checksum; `stdout_bytes` is their number
     stdout_to      standard output is the file at this path, and what is written there is not looked at
 
-In a case with `not_yet` the other fields say what the finished program does. Today the program is to
-end with status 11 and the line `not built yet` instead. What it is to write before depends on what is
-missing:
-
-    aggregation       the text of the events before the first aggregation, which is `stdout` up to its
-                      first line that begins with `aggregate `
-    scheme, commit    nothing
-
+In a case with `not_yet`, which is `scheme` or `commit`, the other fields say what the finished program
+does. Today the program is to write nothing and to end with status 11 and the line `not built yet`.
 Whoever builds the missing part removes the field: a case that has it fails from then on.
 
 Each failed case is printed with what was wanted and what was given. The last line counts the cases
@@ -60,7 +54,7 @@ OPTIONAL = {"memory": int, "not_yet": str, "stdout_bytes": int}
 INPUTS = {"input": str, "input_parts": list, "stdin_from": str}
 OUTPUTS = {"stdout": str, "stdout_sha256": str, "stdout_to": str}
 FIELDS = {**ALWAYS, **OPTIONAL, **INPUTS, **OUTPUTS}
-MISSING = ("aggregation", "scheme", "commit")
+MISSING = ("scheme", "commit")
 SECONDS = 60
 # A line with its LF, which the last one may lack.
 LINE = re.compile(rb"[^\n]*\n|[^\n]+")
@@ -145,7 +139,6 @@ def lines_of(places):
 def case_of(place, fields):
     check_fields(fields)
     finished = Ended(stdout_of(fields), to_bytes(fields["stderr"]), fields["status"])
-    missing = fields.get("not_yet")
     return Case(
         place,
         fields["name"],
@@ -153,7 +146,7 @@ def case_of(place, fields):
         stdin_of(fields),
         fields.get("stdout_to"),
         fields.get("memory"),
-        Ended(written_before(missing, finished), b"not built yet\n", 11) if missing else finished,
+        Ended(b"", b"not built yet\n", 11) if "not_yet" in fields else finished,
         finished,
     )
 
@@ -193,18 +186,6 @@ def stdout_of(fields):
     if "stdout_sha256" in fields:
         return Digest(fields["stdout_sha256"], fields["stdout_bytes"])
     return to_bytes(fields["stdout"])
-
-
-def written_before(missing, finished):
-    """Gives what is written before the program comes to the part that is missing."""
-    if missing != "aggregation":
-        return b""
-    if not isinstance(finished.stdout, bytes):
-        raise ValueError("not_yet is aggregation, and there is no text stdout")
-    before, found, _ = (b"\n" + finished.stdout).partition(b"\naggregate ")
-    if not found:
-        raise ValueError("not_yet is aggregation, and stdout has no line of one")
-    return (before + b"\n")[1:]
 
 
 # Trying cases.

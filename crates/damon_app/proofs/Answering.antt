@@ -1,7 +1,7 @@
 -- What the status of a replay says, failure by failure.
 use Rattle.std.proofs.Common.{◌≡◌, ◌⊎◌, inl, inr, ℕ, ◌≤◌, true, false, List, ◌++◌, length, Option, Some, None, Result, Ok, Err, refl, sym, ap, ◌∙◌, subst, append-nil}
 use Rattle.std.specs.Prelude.{IsSome, IfSome}
-use Rattle.std.specs.Io.KnownBytes.{Appends, Consumes, IsAtEnd}
+use Rattle.std.specs.Io.KnownBytes.{Consumes, IsAtEnd}
 use Rattle.damon_types.specs.Causes.{Rose}
 use Rattle.damon_control.specs.Script.{ScriptValue, script_of}
 use Rattle.damon_control.specs.declared.fault.ReadFail.{ReadFail}
@@ -9,8 +9,8 @@ use Rattle.damon_control.specs.declared.fault.ReadFail.TheVariants as reads
 use Rattle.damon_control.specs.declared.fault.ScriptFault.{ScriptFault}
 use Rattle.damon_control.specs.declared.fault.ScriptKind.{ScriptKind}
 use Rattle.snapshot_print.specs.declared.form.Form.TheVariants.{Text}
-use Rattle.script_run.specs.NotBuilt.{comes_to_aggregation, has_later_parts}
-use Rattle.script_run.specs.Report.{written_text}
+use Rattle.script_run.specs.NotBuilt.{has_later_parts}
+use Rattle.script_run.specs.Report.{report}
 use Rattle.damon_app.specs.declared.input.InputFault.{InputFault}
 use Rattle.damon_app.specs.declared.input.InputFault.TheVariants as inputs
 use Rattle.damon_app.specs.declared.status.Status.{Status}
@@ -18,11 +18,11 @@ use Rattle.damon_app.specs.declared.status.Status.TheVariants as statuses
 use Rattle.damon_app.specs.Given.{GaveOver, GaveUpTo}
 use Rattle.damon_app.specs.Taken.{WritesPart}
 use Rattle.damon_app.specs.Causes.{input_status, read_status}
-use Rattle.damon_app.specs.Replay.{Replays, SpellsNotBuilt, TellsFault, TellsLater, WritesPrefix}
+use Rattle.damon_app.specs.Replay.{Replays, SpellsLater, TellsFault, TellsLater, WritesPrefix}
 use Rattle.damon_app.specs.StatusOf.{IsFailure, status_of_input, status_of_spelled}
 use Rattle.damon_app.specs.Answers.{Ends, EndsRun, IsAnswer}
 use Rattle.damon_app.proofs.Known.{GaveUpTo-not_over}
-use Rattle.damon_app.proofs.Statuses.{had_over, status_of_input-long, status_of_input-short, status_of_script-built, status_of_script-not_built}
+use Rattle.damon_app.proofs.Statuses.{had_over, status_of_input-long, status_of_input-short, status_of_script-built, status_of_script-later}
 
 -- what holds of no bytes in particular
 untold : (P : List ℕ → Type 0) (told : Option (List ℕ)) → ((bytes : List ℕ) → P bytes) → IfSome told P
@@ -157,39 +157,25 @@ module _ (limit : ℕ) (source source' sink sink' : Ends) (same : Type 0) where
       not_built is has = record {
         ok = λ e. absurd (cc e);
         end = λ yes. end;
-        complete = has_status (Ok s) statuses.NotYet spells (status_of_script-not_built s same sink.bytes sink'.bytes (inl (has, is)));
+        complete = has_status (Ok s) statuses.NotYet spells (status_of_script-later s has);
         too_long = λ not known. ((λ e. absurd (cc e)), (λ gave. absurd (not_over known gave)));
         script = λ yes. of_bytes (TellsFault statuses.NotYet) (no_fault statuses.NotYet (λ fault e. cc e));
-        not_yet = λ e. of_bytes (λ bs. SpellsNotBuilt bs same sink.bytes sink'.bytes) (s, spells, inl (has, is));
+        not_yet = λ e. of_bytes SpellsLater (s, spells, has);
         later = λ yes. of_bytes (TellsLater statuses.NotYet) (λ t spelt has. refl);
         read = λ e. absurd (cc e);
         write = λ e. absurd (cc e);
         asked = λ e. absurd (cc e);
-        unwritten = λ no. absurd no;
+        unwritten = λ yes. is;
         prefix = alone source.bytes sink.bytes sink'.bytes same is;
       }
 
       -- what the sink took of the report
-      prefix_of : has_later_parts s ≡ false → WritesPart sink.bytes sink'.bytes (written_text Text s) → IfSome source.bytes (λ bs. same ⊎ WritesPrefix bs sink.bytes sink'.bytes)
+      prefix_of : has_later_parts s ≡ false → WritesPart sink.bytes sink'.bytes (report Text s) → IfSome source.bytes (λ bs. same ⊎ WritesPrefix bs sink.bytes sink'.bytes)
       prefix_of built part = of_bytes (λ bs. same ⊎ WritesPrefix bs sink.bytes sink'.bytes) (inr (s, spells, built, part))
 
       -- the run of the script did not end
-      pub not_run : (status : Status) → has_later_parts s ≡ false → EndsRun status → (status ≡ statuses.NotYet → comes_to_aggregation s ≡ true) → (status ≡ statuses.NotYet → Appends sink.bytes sink'.bytes (written_text Text s)) → (status ≡ statuses.WriteFault → Rose sink.faults sink'.faults) → WritesPart sink.bytes sink'.bytes (written_text Text s) → IsAnswer limit source source' sink sink' same status
-      not_run statuses.NotYet built ends due up_to cause part = record {
-        ok = λ e. absurd (cc e);
-        end = λ yes. end;
-        complete = has_status (Ok s) statuses.NotYet spells (status_of_script-not_built s same sink.bytes sink'.bytes (inr (built, due refl, up_to refl)));
-        too_long = λ not known. ((λ e. absurd (cc e)), (λ gave. absurd (not_over known gave)));
-        script = λ yes. of_bytes (TellsFault statuses.NotYet) (no_fault statuses.NotYet (λ fault e. cc e));
-        not_yet = λ e. of_bytes (λ bs. SpellsNotBuilt bs same sink.bytes sink'.bytes) (s, spells, inr (built, due refl, up_to refl));
-        later = λ yes. of_bytes (TellsLater statuses.NotYet) (λ t spelt has. refl);
-        read = λ e. absurd (cc e);
-        write = λ e. absurd (cc e);
-        asked = λ e. absurd (cc e);
-        unwritten = λ no. absurd no;
-        prefix = prefix_of built part;
-      }
-      not_run statuses.WriteFault built ends due up_to cause part = record {
+      pub not_run : (status : Status) → has_later_parts s ≡ false → EndsRun status → (status ≡ statuses.WriteFault → Rose sink.faults sink'.faults) → WritesPart sink.bytes sink'.bytes (report Text s) → IsAnswer limit source source' sink sink' same status
+      not_run statuses.WriteFault built ends cause part = record {
         ok = λ e. absurd (cc e);
         end = λ yes. end;
         complete = failed statuses.WriteFault (cause refl);
@@ -203,19 +189,20 @@ module _ (limit : ℕ) (source source' sink sink' : Ends) (same : Type 0) where
         unwritten = λ no. absurd no;
         prefix = prefix_of built part;
       }
-      not_run statuses.Memory built ends due up_to cause part = no_memory (prefix_of built part)
-      not_run statuses.Ok built ends due up_to cause part = absurd ends
-      not_run statuses.Usage built ends due up_to cause part = absurd ends
-      not_run (statuses.Script line kind) built ends due up_to cause part = absurd ends
-      not_run statuses.TooLong built ends due up_to cause part = absurd ends
-      not_run statuses.ReadFault built ends due up_to cause part = absurd ends
+      not_run statuses.Memory built ends cause part = no_memory (prefix_of built part)
+      not_run statuses.Ok built ends cause part = absurd ends
+      not_run statuses.NotYet built ends cause part = absurd ends
+      not_run statuses.Usage built ends cause part = absurd ends
+      not_run (statuses.Script line kind) built ends cause part = absurd ends
+      not_run statuses.TooLong built ends cause part = absurd ends
+      not_run statuses.ReadFault built ends cause part = absurd ends
 
       -- the whole report was written
-      pub replayed : has_later_parts s ≡ false → Replays bytes sink.bytes sink'.bytes → WritesPart sink.bytes sink'.bytes (written_text Text s) → IsAnswer limit source source' sink sink' same statuses.Ok
+      pub replayed : has_later_parts s ≡ false → Replays bytes sink.bytes sink'.bytes → WritesPart sink.bytes sink'.bytes (report Text s) → IsAnswer limit source source' sink sink' same statuses.Ok
       replayed built replays part = record {
         ok = λ e. of_bytes (λ bs. Replays bs sink.bytes sink'.bytes) replays;
         end = λ yes. end;
-        complete = has_status (Ok replays.script) statuses.Ok replays.spells (status_of_script-built replays.script replays.built replays.whole);
+        complete = has_status (Ok replays.script) statuses.Ok replays.spells (status_of_script-built replays.script replays.built);
         too_long = λ not known. ((λ e. absurd (cc e)), (λ gave. absurd (not_over known gave)));
         script = λ yes. of_bytes (TellsFault statuses.Ok) (no_fault statuses.Ok (λ fault e. cc e));
         not_yet = λ e. absurd (cc e);

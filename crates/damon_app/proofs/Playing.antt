@@ -1,29 +1,23 @@
 -- A report that is handed over piece by piece.
-use Rattle.std.proofs.Common.{◌≡◌, ℕ, false, List, [], ◌++◌, Option, sym, ap, ◌∙◌, subst, cond, append_assoc}
+use Rattle.std.proofs.Common.{◌≡◌, ℕ, List, [], ◌++◌, Option, sym, ap, ◌∙◌, subst, append_assoc}
 use Rattle.rand_core.specs.Stream.{Stream}
-use Rattle.damon_core.specs.State.{opening}
 use Rattle.damon_world.specs.Moment.{along}
 use Rattle.damon_control.specs.Script.{ScriptValue}
 use Rattle.snapshot_print.specs.declared.form.Form.TheVariants.{Text}
-use Rattle.script_run.specs.NotBuilt.{built_events, comes_to_aggregation}
-use Rattle.script_run.specs.Player.{GoesOn, IsAtAggregation, IsOver, PlayerView, WritesLast}
-use Rattle.script_run.specs.Report.{last_text, report, text_from, written_text}
+use Rattle.script_run.specs.Player.{GoesOn, IsOver, PlayerView, WritesLast}
+use Rattle.script_run.specs.Report.{last_text, report}
 use Rattle.script_run.specs.Unfold.{start}
-use Rattle.script_run.specs.Way.{IsOnItsWay, way-due, way-on, way-prefix, way-report}
+use Rattle.script_run.specs.Way.{IsOnItsWay, way-on, way-prefix, way-report}
 use Rattle.damon_app.specs.Taken.{WritesPart}
 use Rattle.damon_app.proofs.Known.{WritesPart-longer}
-
--- a script that comes to no aggregation writes its report
-pub written-report : (s : ScriptValue) → comes_to_aggregation s ≡ false → written_text Text s ≡ report Text s
-written-report s whole = ap (λ b. cond b (text_from Text (opening s.setup) (built_events s)) (report Text s)) whole
 
 module _ {R : Type 0} (stream : R → Stream) (s : ScriptValue) where
   -- an empty piece is filled
   pub way-filled : (a b : PlayerView R) (written piece filled : List ℕ) → piece ≡ [] → IsOnItsWay stream s Text a written → GoesOn stream a b piece filled → IsOnItsWay stream s Text b (written ++ filled)
   way-filled a b written piece filled empty way on = way-on stream s Text a b written filled way (subst (λ before. GoesOn stream a b before filled) empty on)
 
-  -- a part of what was made is a part of what the run writes
-  pub way-part : (p : PlayerView R) (text : List ℕ) (old new : Option (List ℕ)) → IsOnItsWay stream s Text p text → WritesPart old new text → WritesPart old new (written_text Text s)
+  -- a part of what was made is a part of the report
+  pub way-part : (p : PlayerView R) (text : List ℕ) (old new : Option (List ℕ)) → IsOnItsWay stream s Text p text → WritesPart old new text → WritesPart old new (report Text s)
   way-part p text old new way part =
       let more = way-prefix stream s Text p text way in
       subst (WritesPart old new) (sym more.1) (WritesPart-longer old new text more.0 part)
@@ -35,9 +29,3 @@ module _ {R : Type 0} (stream : R → Stream) (s : ScriptValue) where
       ap (λ t. written ++ t) (ends m way.stands)
       ∙ sym (append_assoc written filled (last_text p.form m.state))
       ∙ way-report stream s Text p (written ++ filled) way over
-
-  -- what was made before an aggregation is all that the run writes
-  pub way-stopped : (p : PlayerView R) (text : List ℕ) → IsOnItsWay stream s Text p text → IsAtAggregation stream p → text ≡ written_text Text s
-  way-stopped p text way at =
-      let due = way-due stream s Text p text way at in
-      due.1 ∙ sym (ap (λ b. cond b (text_from Text (opening s.setup) (built_events s)) (report Text s)) due.0)

@@ -6,16 +6,15 @@ use Rattle.damon_app.specs.declared.status.Status.{Status}
 use Rattle.damon_app.specs.declared.status.Status.TheVariants as statuses
 use Rattle.damon_app.specs.Given.{GaveOver}
 use Rattle.damon_app.specs.StatusOf.{IsFailure, status_of_input}
-use Rattle.damon_app.specs.Replay.{IsRead, IsUnwritten, Replays, SpellsNotBuilt, TellsFault, TellsLater, WritesPrefix}
+use Rattle.damon_app.specs.Replay.{IsRead, IsUnwritten, Replays, SpellsLater, TellsFault, TellsLater, WritesPrefix}
 
 -- the status that a result becomes
 abbrev pub status_of : Result (Unit {0}) Status → Status
 status_of (Ok done) = statuses.Ok
 status_of (Err status) = status
 
--- a status with which the run of a script ends early
+-- a failure with which the run of a script ends early
 abbrev pub EndsRun : Status → Type 0
-EndsRun statuses.NotYet = Unit {0}
 EndsRun statuses.WriteFault = Unit {0}
 EndsRun statuses.Memory = Unit {0}
 EndsRun _ = ⊥
@@ -35,8 +34,7 @@ pub record IsAnswer (limit : ℕ) (source source' sink sink' : Ends) (same : Typ
   pub too_long : status ≢ statuses.Memory → IsSome source.bytes
       → (status ≡ statuses.TooLong) ↔ GaveOver limit source.bytes source'.bytes
   pub script : IsRead status → IfSome source.bytes (TellsFault status)
-  pub not_yet : status ≡ statuses.NotYet
-      → IfSome source.bytes (λ bytes. SpellsNotBuilt bytes same sink.bytes sink'.bytes)
+  pub not_yet : status ≡ statuses.NotYet → IfSome source.bytes SpellsLater
   pub later : IsRead status → IfSome source.bytes (TellsLater status)
   pub read : status ≡ statuses.ReadFault → Rose source.faults source'.faults
   pub write : status ≡ statuses.WriteFault → Rose sink.faults sink'.faults

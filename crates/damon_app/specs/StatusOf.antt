@@ -1,14 +1,14 @@
 -- The status that an input has, and the failures that may come in its place.
-use Rattle.std.specs.Prelude.{ℕ, ◌||◌, nat_lt, if◌then◌else◌, List, length, Result, Ok, Err}
+use Rattle.std.specs.Prelude.{ℕ, nat_lt, if◌then◌else◌, List, length, Result, Ok, Err}
 use Rattle.damon_control.specs.Script.{ScriptValue, script_of}
 use Rattle.damon_control.specs.declared.fault.ScriptFault.{ScriptFault}
-use Rattle.script_run.specs.NotBuilt.{comes_to_aggregation, has_later_parts}
+use Rattle.script_run.specs.NotBuilt.{has_later_parts}
 use Rattle.damon_app.specs.declared.status.Status.{Status}
 use Rattle.damon_app.specs.declared.status.Status.TheVariants as statuses
 
--- the status of a script: `NotYet` where it has parts that are not built or its run comes to an aggregation, else `Ok`
+-- the status of a script: `NotYet` where it has a scheme or a commit, else `Ok`
 abbrev pub status_of_script : ScriptValue → Status
-status_of_script s = if has_later_parts s || comes_to_aggregation s then statuses.NotYet else statuses.Ok
+status_of_script s = if has_later_parts s then statuses.NotYet else statuses.Ok
 
 -- the status of what a text spells: a script, or its first fault
 abbrev pub status_of_spelled : Result ScriptValue ScriptFault → Status

@@ -6,12 +6,12 @@ ghost use Rattle.damon_control.specs.Command.{command_value, work_of};
 ghost use Rattle.damon_control.specs.Limits.{EachIsWithin};
 ghost use Rattle.damon_control.specs.ScriptView.{said_by};
 ghost use Rattle.script_run.specs.BoundAlong.{EachScriptIsBound};
-ghost use Rattle.script_run.specs.NotBuilt.{comes_to_aggregation, has_later_parts};
-ghost use Rattle.script_run.specs.Report.{report, written_text};
+ghost use Rattle.script_run.specs.NotBuilt.{has_later_parts};
+ghost use Rattle.script_run.specs.Report.{report};
 ghost use Rattle.damon_app.specs.Given.{GaveOver};
 ghost use Rattle.damon_app.specs.Taken.{WritesPart};
 ghost use Rattle.damon_app.specs.StatusOf.{IsFailure, status_of_input};
-ghost use Rattle.damon_app.specs.Replay.{AsksReplay, IsRead, IsUnwritten, Replays, SpellsNotBuilt, TellsFault, TellsLater, WritesPrefix};
+ghost use Rattle.damon_app.specs.Replay.{AsksReplay, IsRead, IsUnwritten, Replays, SpellsLater, TellsFault, TellsLater, WritesPrefix};
 ghost use Rattle.damon_app.specs.Answers.{EndsRun, IsAnswer, status_of};
 
 use crate::{INPUT_LIMIT, Status, read_all, write_all};
@@ -49,13 +49,12 @@ pub fn replay_main<S: Source, K: Sink>(
     ensures too_long { result ≢ Status.Memory → IsSome (S.left source.old) →
         (result ≡ Status.TooLong) ↔ GaveOver INPUT_LIMIT (S.left source.old) (S.left source.new) }
     ensures script { IsRead result → IfSome (S.left source.old) (TellsFault result) }
-    ensures not_yet { result ≡ Status.NotYet → IfSome (S.left source.old) (λ bytes.
-        SpellsNotBuilt bytes (sink.new ≡ sink.old) (K.taken sink.old) (K.taken sink.new)) }
+    ensures not_yet { result ≡ Status.NotYet → IfSome (S.left source.old) SpellsLater }
     ensures later { IsRead result → IfSome (S.left source.old) (TellsLater result) }
     ensures read { result ≡ Status.ReadFault → Rose (S.faults source.old) (S.faults source.new) }
     ensures write { result ≡ Status.WriteFault → Rose (K.faults sink.old) (K.faults sink.new) }
 
-    // What was read and written in any case: nothing, or a prefix of what the run writes.
+    // What was read and written in any case: nothing, or a prefix of the report.
     ensures unread { result ≡ Status.Usage → source.new ≡ source.old }
     ensures unwritten { IsUnwritten result → sink.new ≡ sink.old }
     ensures prefix { IfSome (S.left source.old) (λ bytes.
@@ -105,20 +104,16 @@ fn write_report<K: Sink>(alloc: Global, script: Script, sink: &mut K) -> Result<
     requires work { work_of script.setup.cap (map command_value script.commands.list) ≤ MAX_WORK }
     requires built { has_later_parts (said_by script) ≡ false }
 
-    // The script came to its end, and the sink gained its report.
-    ensures whole { OnOk result (comes_to_aggregation (said_by script) ≡ false) }
+    // The sink gained the report of the script.
     ensures all { OnOk result
         (Appends (K.taken sink.old) (K.taken sink.new) (report Form.Text (said_by script))) }
 
     // Each failure.
     ensures answers { IfErr result EndsRun }
-    ensures due { IsErrOf result Status.NotYet → comes_to_aggregation (said_by script) ≡ true }
-    ensures up_to { IsErrOf result Status.NotYet →
-        Appends (K.taken sink.old) (K.taken sink.new) (written_text Form.Text (said_by script)) }
     ensures cause { IsErrOf result Status.WriteFault →
         Rose (K.faults sink.old) (K.faults sink.new) }
     ensures part { WritesPart (K.taken sink.old) (K.taken sink.new)
-        (written_text Form.Text (said_by script)) }
+        (report Form.Text (said_by script)) }
 {
     let mut player = open_player(alloc, script, Form::Text)?;
     let mut piece = Vec::new(alloc);
@@ -132,10 +127,6 @@ fn write_report<K: Sink>(alloc: Global, script: Script, sink: &mut K) -> Result<
                 player.finish(alloc, &mut piece)?;
                 write_all(sink, &piece)?;
                 return Ok(());
-            }
-            Filled::Due => {
-                write_all(sink, &piece)?;
-                return Err(Status::NotYet);
             }
         }
     }

@@ -64,12 +64,40 @@ row 1 0x1000-0x2000 count=1 last=0 age=0
 end ticks=1 rows=3 checks=3 hits=1
 ";
 
-// What is written by a show after two passes and a half.
-const HALFWAY: &str = "\
+// What is written after five passes, before the aggregation.
+const FIVE_PASSES: &str = "\
+end ticks=5 rows=3 checks=15 hits=0
+";
+
+// What is written after five passes and the aggregation.
+const AGGREGATED: &str = "\
+aggregate tick=5 threshold=0 rows=3
+row 0 0x10000-0x11000 count=0 last=0 age=1
+row 0 0x11000-0x12000 count=0 last=0 age=1
+row 0 0x12000-0x13000 count=0 last=0 age=1
+end ticks=5 rows=3 checks=15 hits=0
+";
+
+// The same with a show after two passes and a half.
+const HALFWAY_AND_AGGREGATED: &str = "\
 show tick=2 phase=armed rows=3
 row 0 0x10000-0x11000 count=0 last=0 age=0
 row 0 0x11000-0x12000 count=0 last=0 age=0
 row 0 0x12000-0x13000 count=0 last=0 age=0
+aggregate tick=5 threshold=0 rows=3
+row 0 0x10000-0x11000 count=0 last=0 age=1
+row 0 0x11000-0x12000 count=0 last=0 age=1
+row 0 0x12000-0x13000 count=0 last=0 age=1
+end ticks=5 rows=3 checks=15 hits=0
+";
+
+// What is written after one pass with a hit, and the aggregation that follows it.
+const ONE_AGGREGATION: &str = "\
+aggregate tick=1 threshold=0 rows=3
+row 0 0x10000-0x11000 count=0 last=0 age=1
+row 0 0x11000-0x12000 count=1 last=0 age=0
+row 0 0x12000-0x13000 count=0 last=0 age=1
+end ticks=1 rows=3 checks=3 hits=1
 ";
 
 // What is written where no touch is counted.
@@ -217,35 +245,36 @@ fn the_first_fault_is_told(rt: HostRuntime) -> Result<(), Fail> {
     Ok(())
 }
 
-// Five passes of eight steps come to where an aggregation is due.
+// Five passes of eight steps, and the aggregation after them.
 #[test]
-fn a_script_runs_up_to_an_aggregation(rt: HostRuntime) -> Result<(), Fail> {
-    for (commands, status, report) in [
-        (
-            "step 40\n",
-            Status::Ok,
-            "end ticks=5 rows=3 checks=15 hits=0\n",
-        ),
-        ("step 41\n", Status::NotYet, ""),
-        ("step 20\nshow\nstep 21\nshow\n", Status::NotYet, HALFWAY),
+fn an_aggregation_is_one_step(rt: HostRuntime) -> Result<(), Fail> {
+    for (commands, report) in [
+        ("step 40\n", FIVE_PASSES),
+        ("step 41\n", AGGREGATED),
+        ("step 20\nshow\nstep 21\n", HALFWAY_AND_AGGREGATED),
     ] {
         let script = three_pages(rt.alloc(), commands, "end\n")?;
-        expect_replay(&rt, &script, status, report)?;
+        expect_replay(&rt, &script, Status::Ok, report)?;
     }
+    Ok(())
+}
+
+// An aggregation after each pass: a row of one page is never cut.
+#[test]
+fn a_pass_with_its_aggregation(rt: HostRuntime) -> Result<(), Fail> {
+    let commands = "arm\ntouch 0 0x11000\nfinish\n";
+    let parts = [FRONT, ONE, THREE_PAGES, "begin\n", commands, "end\n"];
+    let script = script_of(rt.alloc(), &parts)?;
+    expect_replay(&rt, &script, Status::Ok, ONE_AGGREGATION)?;
     Ok(())
 }
 
 #[test]
 fn what_is_not_built_writes_nothing(rt: HostRuntime) -> Result<(), Fail> {
-    for (attrs, scheme, commands) in [
-        (FIVE, "scheme 0 stat\n", TOUCHED),
-        (FIVE, "", "show\ncommit\napply\n"),
-        (ONE, "", "step 4\ntouch 0 0x11000\nstep 5\nshow\n"),
-        (ONE, "", "step 8\narm\nshow\n"),
-    ] {
+    for (scheme, commands) in [("scheme 0 stat\n", TOUCHED), ("", "show\ncommit\napply\n")] {
         let parts = [
             FRONT,
-            attrs,
+            FIVE,
             THREE_PAGES,
             scheme,
             "begin\n",

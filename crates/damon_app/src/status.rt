@@ -22,8 +22,7 @@ pub enum Status {
     WriteFault,
     /// Memory ran out.
     Memory,
-    /// The script has a scheme or a commit, or its run comes to an aggregation: these are not built
-    /// yet.
+    /// The script has a scheme or a commit, which are not built yet.
     NotYet,
 }
 

@@ -1,17 +1,21 @@
 -- The hits of each state that is reached rest on touches.
-use Rattle.std.proofs.Common.{◌≡◌, ℕ, ◌+◌, ◌≤◌, ◌<◌, Bool, true, false, cond, List, [], ◌∷◌, refl, sym, ◌∙◌, subst, inl, inr, arith}
+use Rattle.std.proofs.Common.{◌≡◌, ℕ, ◌+◌, ◌≤◌, ◌<◌, Bool, true, false, cond, List, [], ◌∷◌, length, Ok, refl, sym, ◌∙◌, subst, inl, inr, arith}
 use Rattle.std.specs.Prelude.{◌==◌, ◌&&◌, nat_le, slice_index}
 use Rattle.std.proofs.lemmas.Bool.{cases_eq, or_cases, or_left, or_right, and_parts, and_from, both_ways, false≢true}
 use Rattle.std.proofs.lemmas.Bool.Decides.{nat_tests}
+use Rattle.damon_types.specs.declared.row.Row.{Row}
 use Rattle.live_commit.specs.declared.phase.Phase.{Phase}
 use Rattle.live_commit.specs.declared.phase.Phase.TheVariants.{Idle, Clearing, Armed, Checking, Void, Due}
+use Rattle.live_commit.specs.Commit.{CommitValue}
 use Rattle.damon_core.specs.Note.{Note, touched, cleared, checked, finished, voided, set, dropped, metric, turned, is_cleared, is_touched, has_clear, touched_after_clear, hit}
 use Rattle.damon_core.specs.State.{State, row_count}
 use Rattle.damon_core.specs.Event.{IsLoading, load_index, next_hit}
 use Rattle.damon_core.specs.After.{phase_cleared, phase_after_pass, cleared_at, loaded_at}
+use Rattle.damon_core.specs.Commit.{check_of, committed, committed_core, committed_notes}
 use Rattle.damon_core.specs.Reached.{Reached}
 use Rattle.damon_core.specs.Pass.{cleared_so_far}
 use Rattle.damon_core.specs.Bound.{EachHitRests}
+use Rattle.damon_core.proofs.Committing.{allows_commit, by_phase_after, committed_notes_hold, same_length}
 use Rattle.damon_core.proofs.Keeping.{Keeps, any_result, true_result, reached_keeps}
 use Rattle.damon_core.proofs.Opening.{opening_holds}
 use Rattle.damon_core.proofs.Rows.{RowLaws, HasRows, rows_kept}
@@ -53,6 +57,23 @@ clears_after_clear s i is h = record { each = λ k below. later k (cleared_so_fa
       | inr other ↦ or_right _ _ (h.each k (subst (λ (ph : Phase). k < cleared_so_far ph (row_count s.core)) (sym is) (omega arith)))
     ]
 
+clears_after_commit : (s : State) (c : CommitValue) → check_of c s.core ≡ Ok tt → HasClears s → HasClears (committed c s)
+clears_after_commit s c ok h = record {
+  each = by_phase_after Each s.core.phase s.core.regions.rows new (allows_commit c s.core ok)
+  (λ is lies k below. noted k (h.each k (subst (λ (ph : Phase). k < cleared_so_far ph (row_count s.core)) (sym is) (omega (arith, below, same_length s.core.regions.rows new lies)))))
+  (λ is k below. absurd (omega arith))
+  (λ is k below. absurd (omega arith))
+  (λ is k below. absurd (omega arith))
+  (λ is k below. absurd (omega arith));
+}
+  where
+    new : List Row
+    new = (committed_core c s.core).regions.rows
+    Each : Phase → Type 0
+    Each ph = (k : ℕ) → k < cleared_so_far ph (length new) → has_clear (committed_notes c s.notes) (s.core.ticks + 1) k (slice_index s.core.picks k) ≡ true
+    noted : (k : ℕ) → has_clear s.notes (s.core.ticks + 1) k (slice_index s.core.picks k) ≡ true → has_clear (committed_notes c s.notes) (s.core.ticks + 1) k (slice_index s.core.picks k) ≡ true
+    noted k here = committed_notes_hold (λ notes. has_clear notes (s.core.ticks + 1) k (slice_index s.core.picks k) ≡ true) (λ slot scheme notes has. has) (λ slot notes has. has) (λ value notes has. has) c s.notes here
+
 -- each step keeps the clears
 pub clears_kept : (Q : State → Bool → Type 0) → Keeps Q HasClears
 clears_kept Q = record {
@@ -63,6 +84,8 @@ clears_kept Q = record {
   loading = λ s i hit fits is known h. record { each = λ k below. h.each k (omega (arith, below, cleared_so_far-loading s.core.phase i (row_count s.core) fits)) };
   finishing = λ s is h. record { each = λ k below. absurd (cleared_so_far-after_pass (s.core.since + 1) s.core.attrs.aggr _ k below) };
   voiding = λ s is h. record { each = λ k below. absurd (cleared_so_far-after_pass (s.core.since + 1) s.core.attrs.aggr _ k below) };
+  aggregating = λ s ws is h. record { each = λ k below. absurd (omega arith) };
+  committing = clears_after_commit;
 }
 
 last_of_three : (a b c : Bool) → (a && (b && c)) ≡ true → c ≡ true
@@ -154,4 +177,10 @@ hits_kept laws = let rows = rows_kept true_result laws in let clears = clears_ke
   loading = λ s k hit fits is known h. record { rows = rows.loading s k hit fits is known h.rows; clears = clears.loading s k hit fits is known h.clears; rests = load_rests s k hit fits is known h };
   finishing = λ s is h. record { rows = rows.finishing s is h.rows; clears = clears.finishing s is h.clears; rests = h.rests };
   voiding = λ s is h. record { rows = rows.voiding s is h.rows; clears = clears.voiding s is h.clears; rests = h.rests };
+  aggregating = λ s ws is h. record { rows = rows.aggregating s ws is h.rows; clears = clears.aggregating s ws is h.clears; rests = h.rests };
+  committing = λ s c ok h. record {
+    rows = rows.committing s c ok h.rows;
+    clears = clears.committing s c ok h.clears;
+    rests = committed_notes_hold EachHitRests (λ slot scheme notes rests. rests) (λ slot notes rests. rests) (λ value notes rests. rests) c s.notes h.rests;
+  };
 }

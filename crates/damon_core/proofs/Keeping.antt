@@ -1,11 +1,16 @@
 -- What each step of the machine keeps holds of each state that is reached.
-use Rattle.std.proofs.Common.{◌≡◌, ℕ, Bool, List, [], ◌∷◌, length, refl, sym, ap, ◌∙◌, subst}
+use Rattle.std.proofs.Common.{◌≡◌, ℕ, Bool, List, [], ◌∷◌, length, Ok, Err, refl, sym, ap, ◌∙◌, subst}
+use Rattle.std.specs.Prelude.{Result}
 use Rattle.live_commit.specs.declared.phase.Phase.{Phase}
 use Rattle.live_commit.specs.declared.phase.Phase.TheVariants.{Idle, Clearing, Armed, Checking, Void, Due}
+use Rattle.live_commit.specs.declared.fault.CommitFault.{CommitFault}
+use Rattle.live_commit.specs.Commit.{CommitValue}
 use Rattle.live_commit.specs.Setup.{SetupValue}
 use Rattle.damon_core.specs.Note.{touched}
 use Rattle.damon_core.specs.State.{State, row_count, opening}
-use Rattle.damon_core.specs.Event.{Event, touch, prepare, clear, load, observe, aggregate, show, Fits, ByHit, IsClearing, IsLoading, IsObserving, load_index, next_hit}
+use Rattle.damon_core.specs.Event.{Event, touch, prepare, clear, load, observe, aggregate, commit, show, Fits, ByHit, IsClearing, IsLoading, IsObserving, load_index, next_hit}
+use Rattle.damon_core.specs.Aggregate.{aggregated_core}
+use Rattle.damon_core.specs.Commit.{check_of, committed, if_accepted}
 use Rattle.damon_core.specs.After.{after, prepared_core, cleared_at, loaded_at, finished_pass, voided_pass, by_clear, by_load, by_observe}
 use Rattle.damon_core.specs.Reached.{run, AllFit, AllByHit, CanOpen, Reached, ReachedByHit}
 
@@ -18,6 +23,8 @@ pub record Keeps (Q : State → Bool → Type 0) (P : State → Type 0) : Type 0
   pub loading : (s : State) (k : ℕ) (hit : Bool) → IsLoading s.core.phase (row_count s.core) → load_index s.core.phase ≡ k → Q s hit → P s → P (loaded_at k hit s)
   pub finishing : (s : State) → s.core.phase ≡ Checking (row_count s.core) → P s → P (finished_pass s)
   pub voiding : (s : State) → s.core.phase ≡ Void → P s → P (voided_pass s)
+  pub aggregating : (s : State) (ws : List ℕ) → s.core.phase ≡ Due → P s → P (record s { core = aggregated_core ws s.core })
+  pub committing : (s : State) (c : CommitValue) → check_of c s.core ≡ Ok tt → P s → P (committed c s)
 
 -- what is known of the result of a load
 abbrev pub Known : (State → Bool → Type 0) → State → Event → Type 0
@@ -48,13 +55,18 @@ keeps_observe Q P keeps (Clearing k) s is fits p = absurd fits
 keeps_observe Q P keeps Armed s is fits p = absurd fits
 keeps_observe Q P keeps Due s is fits p = absurd fits
 
+keeps_commit : (Q : State → Bool → Type 0) (P : State → Type 0) → Keeps Q P → (checked : Result (Unit {0}) CommitFault) (s : State) (c : CommitValue) → check_of c s.core ≡ checked → P s → P (if_accepted checked (committed c s) s)
+keeps_commit Q P keeps (Ok t) s c is p = keeps.committing s c is p
+keeps_commit Q P keeps (Err fault) s c is p = p
+
 keeps_after : (Q : State → Bool → Type 0) (P : State → Type 0) → Keeps Q P → (s : State) (e : Event) → Fits s e → Known Q s e → P s → P (after s e)
 keeps_after Q P keeps s (touch p) fits known holds = keeps.touching s p holds
 keeps_after Q P keeps s (prepare ws) fits known holds = keeps.preparing s ws fits.0 fits.1 holds
 keeps_after Q P keeps s clear fits known holds = keeps_clear Q P keeps s.core.phase s refl fits holds
 keeps_after Q P keeps s (load hit) fits known holds = keeps_load Q P keeps s.core.phase s hit refl fits known holds
 keeps_after Q P keeps s observe fits known holds = keeps_observe Q P keeps s.core.phase s refl fits holds
-keeps_after Q P keeps s (aggregate ws) fits known holds = absurd fits
+keeps_after Q P keeps s (aggregate ws) fits known holds = keeps.aggregating s ws fits.0 holds
+keeps_after Q P keeps s (commit c) fits known holds = keeps_commit Q P keeps (check_of c s.core) s c refl holds
 keeps_after Q P keeps s show fits known holds = holds
 
 -- nothing is known
@@ -72,6 +84,7 @@ any_known s clear = tt
 any_known s (load hit) = tt
 any_known s observe = tt
 any_known s (aggregate ws) = tt
+any_known s (commit c) = tt
 any_known s show = tt
 
 true_known : (s : State) (e : Event) → ByHit s e → Known true_result s e
@@ -81,6 +94,7 @@ true_known s clear by_hit = tt
 true_known s (load hit) by_hit = by_hit
 true_known s observe by_hit = tt
 true_known s (aggregate ws) by_hit = tt
+true_known s (commit c) by_hit = tt
 true_known s show by_hit = tt
 
 run_keeps : (P : State → Type 0) → Keeps any_result P → (s : State) (es : List Event) → AllFit s es → P s → P (run s es)

@@ -7,7 +7,10 @@ pub mod Running
 pub mod Counting
 pub mod RowFacts
 pub mod Between
+pub mod Adapting
+pub mod Committing
 pub mod Rows
 pub mod Hits
 pub mod Passes
 pub mod Bounding
+pub mod CommitStanding

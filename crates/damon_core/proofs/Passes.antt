@@ -1,5 +1,5 @@
 -- The passes of each state that is reached check one page of each row.
-use Rattle.std.proofs.Common.{◌≡◌, ℕ, zero, suc, ◌+◌, ◌≤◌, ◌<◌, Bool, true, false, List, [], ◌∷◌, ◌++◌, length, take, refl, sym, ap, ◌∙◌, subst, add-one, arith}
+use Rattle.std.proofs.Common.{◌≡◌, ℕ, zero, suc, ◌+◌, ◌≤◌, ◌<◌, Bool, true, false, List, [], ◌∷◌, ◌++◌, length, take, Ok, refl, sym, ap, ◌∙◌, subst, add-one, arith}
 use Rattle.std.specs.Prelude.{◌==◌, nat_le, slice_index}
 use Rattle.std.specs.List.{enumerate_from, AllByRecursion}
 use Rattle.std.proofs.lemmas.Bool.Decides.{nat_tests}
@@ -9,14 +9,18 @@ use Rattle.damon_types.specs.Span.{Span, span_of, spans}
 use Rattle.sampler.specs.Pick.{picks_of}
 use Rattle.live_commit.specs.declared.phase.Phase.{Phase}
 use Rattle.live_commit.specs.declared.phase.Phase.TheVariants.{Idle, Clearing, Armed, Checking, Void, Due}
+use Rattle.live_commit.specs.Commit.{CommitValue}
 use Rattle.live_commit.specs.Setup.{SetupValue}
 use Rattle.damon_core.specs.Note.{Note, touched, cleared, checked, finished, voided, set, dropped, metric, turned, clears_of, checks_of}
 use Rattle.damon_core.specs.State.{State, row_count, opening, opening_notes}
 use Rattle.damon_core.specs.Event.{IsLoading, load_index}
+use Rattle.damon_core.specs.Aggregate.{aggregated_core}
+use Rattle.damon_core.specs.Commit.{check_of, committed, committed_core, committed_notes}
 use Rattle.damon_core.specs.After.{phase_cleared, phase_after_pass, prepared_core, cleared_at, loaded_at, finished_pass, voided_pass}
 use Rattle.damon_core.specs.Kept.{loaded_so_far}
 use Rattle.damon_core.specs.Pass.{IsPickWithin}
 use Rattle.damon_core.specs.Bound.{OneInEach, EachPassChecks}
+use Rattle.damon_core.proofs.Committing.{allows_commit, by_phase_after, committed_notes_hold, none_loaded, none_loaded_after}
 use Rattle.damon_core.proofs.Keeping.{Keeps}
 use Rattle.damon_core.proofs.Opening.{opening_holds}
 use Rattle.damon_core.proofs.Rows.{RowLaws, HasRows, rows_kept}
@@ -295,6 +299,47 @@ passes_void s is rows h =
       );
     }
 
+passes_aggregate : (s : State) (ws : List ℕ) → s.core.phase ≡ Due → HasRows (record s { core = aggregated_core ws s.core }) → HasPasses s → HasPasses (record s { core = aggregated_core ws s.core })
+passes_aggregate s ws is rows h = record {
+  rows = rows;
+  picks = tt;
+  clears = subst (λ (ph : Phase). ClearsAre ph s.core.picks (clears_of s.notes (s.core.ticks + 1))) is h.clears;
+  checks = h.checks ∙ ap (λ (ph : Phase). enumerate_from 0 (take (loaded_so_far ph) s.core.picks)) is;
+  no_later_clears = h.no_later_clears;
+  no_later_checks = h.no_later_checks;
+  ends = h.ends;
+  passes = h.passes;
+}
+
+-- the notes of a commit say nothing of clears and checks
+clears_of-commit : (c : CommitValue) (notes : List Note) (n : ℕ) → clears_of (committed_notes c notes) n ≡ clears_of notes n
+clears_of-commit c notes n = committed_notes_hold (λ ns. clears_of ns n ≡ clears_of notes n) (λ slot scheme ns same. same) (λ slot ns same. same) (λ value ns same. same) c notes refl
+
+checks_of-commit : (c : CommitValue) (notes : List Note) (n : ℕ) → checks_of (committed_notes c notes) n ≡ checks_of notes n
+checks_of-commit c notes n = committed_notes_hold (λ ns. checks_of ns n ≡ checks_of notes n) (λ slot scheme ns same. same) (λ slot ns same. same) (λ value ns same. same) c notes refl
+
+passes_commit : (s : State) (c : CommitValue) → check_of c s.core ≡ Ok tt → HasRows (committed c s) → HasPasses s → HasPasses (committed c s)
+passes_commit s c ok rows h =
+    let pass : ℕ = s.core.ticks + 1 in
+    let ph = s.core.phase in
+    let old = s.core.regions.rows in
+    let new = (committed_core c s.core).regions.rows in
+    let notes = committed_notes c s.notes in
+    let allows = allows_commit c s.core ok in
+    let same = clears_of-commit c s.notes pass in
+    let clears_at : (p : Phase) → ph ≡ p → ClearsAre p s.core.picks (clears_of s.notes pass) = λ p is. subst (λ (q : Phase). ClearsAre q s.core.picks (clears_of s.notes pass)) is h.clears in
+    let still : EachPassChecks notes s.notes = passes_same s.core.ticks s.notes notes s.notes (record { clears = λ n low. sym (clears_of-commit c s.notes n); checks = λ n low. sym (checks_of-commit c s.notes n) }) h.ends h.passes in
+    record {
+      rows = rows;
+      picks = by_phase_after (λ p. PicksLie p s.core.picks (spans new)) ph old new allows (λ is lies. subst (OneInEach s.core.picks) lies (subst (λ (q : Phase). PicksLie q s.core.picks (spans old)) is h.picks)) (λ is. tt) (λ is. tt) (λ is. tt) (λ is. tt);
+      clears = by_phase_after (λ p. ClearsAre p s.core.picks (clears_of notes pass)) ph old new allows (λ is lies. same ∙ clears_at Armed is) (λ is. tt) (λ is. tt) (λ is. same ∙ clears_at Idle is) (λ is. same ∙ clears_at Due is);
+      checks = checks_of-commit c s.notes pass ∙ h.checks ∙ ap (λ (n : ℕ). enumerate_from 0 (take n s.core.picks)) (none_loaded ph allows ∙ sym (none_loaded_after ph old new allows));
+      no_later_clears = λ n later. clears_of-commit c s.notes n ∙ h.no_later_clears n later;
+      no_later_checks = λ n later. checks_of-commit c s.notes n ∙ h.no_later_checks n later;
+      ends = committed_notes_hold (EndsBy s.core.ticks) (λ slot scheme ns ends. ends) (λ slot ns ends. ends) (λ value ns ends. ends) c s.notes h.ends;
+      passes = committed_notes_hold (EachPassChecks notes) (λ slot scheme ns passes. passes) (λ slot ns passes. passes) (λ value ns passes. passes) c s.notes still;
+    }
+
 -- each step keeps the passes
 pub passes_kept : (Q : State → Bool → Type 0) → RowLaws → Keeps Q HasPasses
 passes_kept Q laws = let rows = rows_kept Q laws in record {
@@ -305,4 +350,6 @@ passes_kept Q laws = let rows = rows_kept Q laws in record {
   loading = λ s k hit fits is known h. passes_load s k hit fits is (rows.loading s k hit fits is known h.rows) h;
   finishing = λ s is h. passes_finish s is (rows.finishing s is h.rows) h;
   voiding = λ s is h. passes_void s is (rows.voiding s is h.rows) h;
+  aggregating = λ s ws is h. passes_aggregate s ws is (rows.aggregating s ws is h.rows) h;
+  committing = λ s c ok h. passes_commit s c ok (rows.committing s c ok h.rows) h;
 }

@@ -1,13 +1,16 @@
 -- The rows of each state that is reached: they tile their ranges within the limits.
-use Rattle.std.proofs.Common.{◌≡◌, ℕ, suc, ◌+◌, ◌≤◌, ◌<◌, Bool, true, false, List, [], ◌∷◌, length, refl, sym, ap, subst, length-append, arith}
+use Rattle.std.proofs.Common.{◌≡◌, ℕ, suc, ◌+◌, ◌≤◌, ◌<◌, Bool, true, false, List, [], ◌∷◌, length, Ok, refl, sym, ap, ◌∙◌, subst, length-append, arith}
 use Rattle.std.specs.Prelude.{◌==◌, nat_le}
 use Rattle.std.specs.List.{AllByRecursion}
+use Rattle.std.specs.Option.{unwrap_or}
 use Rattle.std.proofs.lemmas.Bool.Decides.{nat_tests}
 use Rattle.std.proofs.lemmas.List.{length-map}
 use Rattle.std.proofs.lemmas.List.Elements.{recursion_from_All}
 use Rattle.damon_types.specs.declared.range.Range.{Range}
 use Rattle.damon_types.specs.declared.row.Row.{Row}
+use Rattle.damon_types.specs.Attrs.{IsAttrs}
 use Rattle.damon_types.specs.Ranges.{InOrder, end_of}
+use Rattle.damon_types.specs.Space.{IsSpace}
 use Rattle.damon_types.specs.Span.{Span, span_of, spans}
 use Rattle.region_list.specs.Tiles.{Tiles}
 use Rattle.region_list.specs.Tiling.{Chain, Tiling}
@@ -15,6 +18,7 @@ use Rattle.region_list.specs.Division.{divided}
 use Rattle.region_list.specs.Shrink.{shrunk}
 use Rattle.live_commit.specs.declared.phase.Phase.{Phase}
 use Rattle.live_commit.specs.declared.phase.Phase.TheVariants.{Idle, Clearing, Armed, Checking, Void, Due}
+use Rattle.live_commit.specs.Commit.{CommitValue}
 use Rattle.live_commit.specs.Setup.{SetupValue}
 use Rattle.damon_core.specs.Note.{Note}
 use Rattle.damon_core.specs.State.{State, row_count, opening, opening_rows}
@@ -23,17 +27,25 @@ use Rattle.damon_core.specs.After.{counted_from, phase_cleared, phase_after_pass
 use Rattle.damon_core.specs.Reached.{CanOpen}
 use Rattle.damon_core.specs.Pass.{IsPickWithin}
 use Rattle.damon_core.proofs.Keeping.{Keeps}
+use Rattle.damon_core.specs.Aggregate.{aggregated_core}
+use Rattle.damon_core.specs.Commit.{check_of, committed, regions_after}
+use Rattle.damon_core.proofs.Adapting.{AdaptLaws, AreRowsOf, aggregated_kept}
+use Rattle.damon_core.proofs.Committing.{CommitLaws, by_phase_after, commit_facts, regions_kept}
 use Rattle.damon_core.proofs.RowFacts.{tiling_of_pages}
 
--- what the laws of region_list say of a tiling, of the division, and of rows that are shrunk
+-- what the laws of the crates below say of a tiling, of the division, of an aggregation, and of a commit
 pub record RowLaws : Type 0 where
   pub per_page : (unit : ℕ) (gs : List Range) (rows : List Span) → 1 ≤ unit → InOrder gs → Tiling unit gs rows → Tiles gs rows unit
   pub division : (unit min : ℕ) (gs : List Range) → 1 ≤ unit → AllByRecursion (λ g. unit ≤ g.pages) gs → Tiling unit gs (spans (divided unit min gs))
-  pub shrunk_few : (to : ℕ) (gs : List Range) (rows : List Row) → InOrder gs → Tiling 1 gs (spans rows) → length gs ≤ to → length (shrunk gs to rows) ≤ to
-  pub shrunk_tiling : (unit to : ℕ) (gs : List Range) (rows : List Row) → InOrder gs → Tiling 1 gs (spans rows) → length gs ≤ to → Tiling unit gs (spans rows) → Tiling unit gs (spans (shrunk gs to rows))
+  pub adapt : AdaptLaws
+  pub commit : CommitLaws
 
 -- what is kept of the rows
 pub record HasRows (s : State) : Type 0 where
+  pub space : IsSpace s.core.space
+  pub attrs : IsAttrs s.core.attrs
+  pub order : InOrder s.core.regions.ranges
+  pub tiling : Tiling s.core.regions.unit s.core.regions.ranges (spans s.core.regions.rows)
   pub tiles : Tiles s.core.regions.ranges (spans s.core.regions.rows) s.core.regions.unit
   pub wide : 1 ≤ s.core.regions.unit
   pub some : 0 < row_count s.core
@@ -84,30 +96,78 @@ rows_open laws v can =
     let divides : Tiling v.unit v.ranges (spans parts) = laws.division v.unit v.attrs.min v.ranges can.sound.unit_some wide in
     let pages : Tiling 1 v.ranges (spans parts) = tiling_of_pages v.unit v.ranges (spans parts) can.sound.unit_some divides in
     let rows = opening_rows v in
-    let tiling : Tiling v.unit v.ranges (spans rows) = laws.shrunk_tiling v.unit v.attrs.max v.ranges parts can.order pages can.sound.ranges_most divides in
+    let tiling : Tiling v.unit v.ranges (spans rows) = laws.commit.shrunk_tiling v.unit v.attrs.max v.ranges parts can.order pages can.sound.ranges_most divides in
     let some : 0 < length (spans rows) = tiling_some v.unit v.ranges (spans rows) can.sound.unit_some can.sound.ranges_some wide tiling in
     record {
+      space = can.space;
+      attrs = can.sound.attrs;
+      order = can.order;
+      tiling = tiling;
       tiles = laws.per_page v.unit v.ranges (spans rows) can.sound.unit_some can.order tiling;
       wide = can.sound.unit_some;
       some = omega (arith, some, length-map rows span_of);
-      few = laws.shrunk_few v.attrs.max v.ranges parts can.order pages can.sound.ranges_most;
+      few = laws.commit.shrunk_few v.attrs.max v.ranges parts can.order pages can.sound.ranges_most;
       max = refl;
       most = can.sound.max_cap;
       within = tt;
+    }
+
+rows_aggregate : RowLaws → (s : State) (ws : List ℕ) → HasRows s → HasRows (record s { core = aggregated_core ws s.core })
+rows_aggregate laws s ws h =
+    let now : AreRowsOf s.core s.core.regions.rows = record { tiling = h.tiling; some = h.some; few = omega (arith, h.few, h.max) } in
+    let kept = aggregated_kept laws.adapt ws s.core h.wide h.order now in
+    record {
+      space = h.space;
+      attrs = h.attrs;
+      order = h.order;
+      tiling = kept.tiling;
+      tiles = laws.per_page s.core.regions.unit s.core.regions.ranges _ h.wide h.order kept.tiling;
+      wide = h.wide;
+      some = kept.some;
+      few = omega (arith, kept.few, h.max);
+      max = h.max;
+      most = h.most;
+      within = tt;
+    }
+
+rows_commit : RowLaws → (s : State) (c : CommitValue) → check_of c s.core ≡ Ok tt → HasRows s → HasRows (committed c s)
+rows_commit laws s c ok h =
+    let facts = commit_facts laws.commit.accepted s.core c ok h.attrs h.most in
+    let now = unwrap_or c.attrs s.core.attrs in
+    let kept = regions_kept laws.commit s.core.space c.ranges now.max s.core.regions h.space h.wide h.order h.tiling h.some facts.can in
+    let new = regions_after s.core.space c.ranges now.max s.core.regions in
+    let tiling = subst (λ unit. Tiling unit new.ranges (spans new.rows)) (sym kept.unit_is) kept.tiling in
+    let wide = subst (λ unit. 1 ≤ unit) (sym kept.unit_is) h.wide in
+    record {
+      space = h.space;
+      attrs = facts.attrs;
+      order = kept.order;
+      tiling = tiling;
+      tiles = laws.per_page new.unit new.ranges (spans new.rows) wide kept.order tiling;
+      wide = wide;
+      some = kept.some;
+      few = kept.few;
+      max = kept.max_is;
+      most = subst (λ cap. now.max ≤ cap) (sym kept.cap_is) facts.can.within;
+      within = by_phase_after (λ ph. IsPickWithin ph (length new.rows)) s.core.phase s.core.regions.rows new.rows facts.allows (λ is lies. tt) (λ is. tt) (λ is. tt) (λ is. tt) (λ is. tt);
     }
 
 -- each step keeps the rows
 pub rows_kept : (Q : State → Bool → Type 0) → RowLaws → Keeps Q HasRows
 rows_kept Q laws = record {
   opens = rows_open laws;
-  touching = λ s p h. record { tiles = h.tiles; wide = h.wide; some = h.some; few = h.few; max = h.max; most = h.most; within = h.within };
-  preparing = λ s ws idle count h. record { tiles = h.tiles; wide = h.wide; some = h.some; few = h.few; max = h.max; most = h.most; within = h.some };
-  clearing = λ s k is h. record { tiles = h.tiles; wide = h.wide; some = h.some; few = h.few; max = h.max; most = h.most; within = within_after_clear k (row_count s.core) (subst (λ (ph : Phase). IsPickWithin ph (row_count s.core)) is h.within) };
-  loading = λ s k hit fits is known h. record { tiles = h.tiles; wide = h.wide; some = h.some; few = h.few; max = h.max; most = h.most; within = within_after_load s.core.phase k (row_count s.core) h.some fits is };
+  touching = λ s p h. record { space = h.space; attrs = h.attrs; order = h.order; tiling = h.tiling; tiles = h.tiles; wide = h.wide; some = h.some; few = h.few; max = h.max; most = h.most; within = h.within };
+  preparing = λ s ws idle count h. record { space = h.space; attrs = h.attrs; order = h.order; tiling = h.tiling; tiles = h.tiles; wide = h.wide; some = h.some; few = h.few; max = h.max; most = h.most; within = h.some };
+  clearing = λ s k is h. record { space = h.space; attrs = h.attrs; order = h.order; tiling = h.tiling; tiles = h.tiles; wide = h.wide; some = h.some; few = h.few; max = h.max; most = h.most; within = within_after_clear k (row_count s.core) (subst (λ (ph : Phase). IsPickWithin ph (row_count s.core)) is h.within) };
+  loading = λ s k hit fits is known h. record { space = h.space; attrs = h.attrs; order = h.order; tiling = h.tiling; tiles = h.tiles; wide = h.wide; some = h.some; few = h.few; max = h.max; most = h.most; within = within_after_load s.core.phase k (row_count s.core) h.some fits is };
   finishing = λ s is h.
       (let same = length-counted_from 0 s.notes (s.core.ticks + 1) s.core.regions.rows in
       let places = spans-counted_from 0 s.notes (s.core.ticks + 1) s.core.regions.rows in
       record {
+        space = h.space;
+        attrs = h.attrs;
+        order = h.order;
+        tiling = subst (Tiling s.core.regions.unit s.core.regions.ranges) (sym places) h.tiling;
         tiles = subst (λ (ss : List Span). Tiles s.core.regions.ranges ss s.core.regions.unit) (sym places) h.tiles;
         wide = h.wide;
         some = omega (arith, h.some, same);
@@ -116,5 +176,7 @@ rows_kept Q laws = record {
         most = h.most;
         within = within_after_pass (s.core.since + 1) s.core.attrs.aggr (length (counted_from 0 s.notes (s.core.ticks + 1) s.core.regions.rows));
       });
-  voiding = λ s is h. record { tiles = h.tiles; wide = h.wide; some = h.some; few = h.few; max = h.max; most = h.most; within = within_after_pass (s.core.since + 1) s.core.attrs.aggr (row_count s.core) };
+  voiding = λ s is h. record { space = h.space; attrs = h.attrs; order = h.order; tiling = h.tiling; tiles = h.tiles; wide = h.wide; some = h.some; few = h.few; max = h.max; most = h.most; within = within_after_pass (s.core.since + 1) s.core.attrs.aggr (row_count s.core) };
+  aggregating = λ s ws is h. rows_aggregate laws s ws h;
+  committing = rows_commit laws;
 }

@@ -1,13 +1,41 @@
 -- What a monitor shows after each call that changes it.
 use Rattle.std.specs.Prelude.{ℕ, ◌+◌, Bool, false, List, count_by, replicate, slice_set}
+use Rattle.damon_types.specs.declared.attrs.Attrs.{Attrs}
+use Rattle.damon_types.specs.declared.space.Target.{Target}
+use Rattle.live_commit.specs.Commit.{CommitValue}
 use Rattle.live_commit.specs.declared.phase.Phase.{Phase}
 use Rattle.live_commit.specs.declared.phase.Phase.TheVariants.{Void}
 use Rattle.sampler.specs.Counted.{raised}
 use Rattle.sampler.specs.Loaded.{loaded_bits}
+use Rattle.damon_core.specs.declared.clock.Clock.{Clock}
+use Rattle.damon_core.specs.declared.totals.Totals.{Totals}
+use Rattle.damon_core.specs.Kept.{SamplingView}
+use Rattle.damon_core.specs.Report.{ReportValue}
 use Rattle.damon_core.specs.State.{row_count}
 use Rattle.damon_core.specs.Event.{load_index}
+use Rattle.damon_core.specs.Aggregate.{aggregated_core}
+use Rattle.damon_core.specs.Commit.{committed_core, core_after_commit}
 use Rattle.damon_core.specs.After.{prepared_core, cleared_core, loaded_core, passed_core}
 use Rattle.damon_core.specs.Stands.{MonitorView}
+
+-- what a monitor shows by its parts
+abbrev pub shown : List Target → Attrs → SamplingView → Clock → Totals → ReportValue → MonitorView
+shown space attrs sampling clock totals report = record {
+  core = record {
+    space = space;
+    attrs = attrs;
+    regions = sampling.regions;
+    phase = sampling.phase;
+    picks = sampling.picks;
+    ticks = clock.ticks;
+    since = clock.since;
+    before = sampling.before;
+    report = report;
+  };
+  bits = sampling.bits;
+  checks = totals.checks;
+  hits = totals.hits;
+}
 
 -- new picks, none of them loaded
 abbrev pub after_prepare : List ℕ → MonitorView → MonitorView
@@ -47,3 +75,15 @@ ended phase m = let counted = with_counts m in record counted { core = passed_co
 -- the pass under way has ended
 abbrev pub after_observe : MonitorView → MonitorView
 after_observe m = ended m.core.phase m
+
+-- the aggregation that was due is carried out
+abbrev pub after_aggregate : List ℕ → MonitorView → MonitorView
+after_aggregate words m = record m { core = aggregated_core words m.core }
+
+-- a commit is made, or refused
+abbrev pub after_asked : CommitValue → MonitorView → MonitorView
+after_asked c m = record m { core = core_after_commit c m.core }
+
+-- a commit that is accepted is made
+abbrev pub after_accepted : CommitValue → MonitorView → MonitorView
+after_accepted c m = record m { core = committed_core c m.core }

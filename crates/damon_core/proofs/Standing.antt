@@ -1,5 +1,5 @@
 -- A monitor that stands for a state stands for the one after each event.
-use Rattle.std.proofs.Common.{◌≡◌, ◌≢◌, ◌⊎◌, inl, inr, ℕ, zero, suc, ◌+◌, ◌≤◌, ◌<◌, Bool, true, false, cond, List, [], ◌∷◌, length, take, get_or, set, get_or-set_same, get_or-set_other, refl, sym, ap, ◌∙◌, subst, arith}
+use Rattle.std.proofs.Common.{◌≡◌, ◌≢◌, ◌⊎◌, inl, inr, ℕ, zero, suc, ◌+◌, ◌*◌, ◌≤◌, ◌<◌, Bool, true, false, cond, List, [], ◌∷◌, length, take, get_or, set, get_or-set_same, get_or-set_other, refl, sym, ap, ◌∙◌, subst, arith}
 use Rattle.std.specs.Prelude.{◌==◌, ◌&&◌, ◌||◌, count_by, replicate}
 use Rattle.std.proofs.lemmas.Bool.{cases_eq}
 use Rattle.std.proofs.lemmas.Bool.Decides.{nat_tests}
@@ -12,13 +12,14 @@ use Rattle.sampler.specs.Counted.{raised}
 use Rattle.damon_core.specs.Note.{Note, was_hit}
 use Rattle.damon_core.specs.Totals.{pass_checks, pass_hits}
 use Rattle.damon_core.specs.State.{State, Core, row_count}
-use Rattle.damon_core.specs.Event.{IsClearing, IsLoading, IsObserving, clear_index, load_index, prepare, clear, load, observe}
+use Rattle.damon_core.specs.Event.{IsClearing, IsLoading, IsObserving, clear_index, load_index, prepare, clear, load, observe, aggregate}
+use Rattle.damon_core.specs.Aggregate.{aggregated_core}
 use Rattle.damon_core.specs.After.{after, prepared_core, passed_core, phase_cleared, phase_after_pass, by_clear, by_load, by_observe, loaded_at, counted, counted_from}
 use Rattle.damon_core.specs.Reached.{Reached}
 use Rattle.damon_core.specs.Makes.{Makes}
 use Rattle.damon_core.specs.Stands.{MonitorView, Stands, bit_at, last_pass}
 use Rattle.damon_core.specs.Kept.{loaded_so_far, HasPicks}
-use Rattle.damon_core.proofs.Shown.{after_prepare, after_clears, after_load, after_observe, ended}
+use Rattle.damon_core.proofs.Shown.{after_prepare, after_clears, after_load, after_observe, ended, after_aggregate}
 use Rattle.damon_core.proofs.Tallying.{hits_below, reached_counted, reached_early, loading_pass, last_pass-phase_after_clear, last_pass-phase_after_pass}
 
 bit_at-replicate : (n k : ℕ) → bit_at (replicate n false) k ≡ false
@@ -186,6 +187,21 @@ observe_fits m s stands fits = subst (λ (c : Core). IsObserving c.phase (row_co
 -- the end of a pass is an event; one that is not void has a bit for each row
 pub observe_makes : (m : MonitorView) → IsObserving m.core.phase (row_count m.core) → (m.core.phase ≡ Void) ⊎ (length m.bits ≡ row_count m.core) → Makes Stands m (after_observe m) (observe ∷ [])
 observe_makes m fits bits s reached stands = ((observe_fits m s stands fits, tt), observe_stands m s reached stands fits bits)
+
+-- an aggregation is an event
+pub aggregate_makes : (m : MonitorView) (ws : List ℕ) → m.core.phase ≡ Due → length ws ≡ 2 * m.core.attrs.max → Makes Stands m (after_aggregate ws m) (aggregate ws ∷ [])
+aggregate_makes m ws due count s reached stands =
+    let phase = ap (λ (c : Core). c.phase) (sym stands.same) ∙ due in
+    let words = count ∙ ap (λ (c : Core). 2 * c.attrs.max) stands.same in
+    let over = at_pass m s m.core.ticks stands (ap (λ ph. last_pass ph m.core.ticks) due) in (
+      ((phase, words), tt),
+      record {
+        same = ap (aggregated_core ws) stands.same;
+        results = over;
+        checks = stands.checks;
+        hits = stands.hits;
+      },
+    )
 
 -- where an event fits of what the monitor shows it fits of the state
 pub load_fits : (m : MonitorView) (s : State) (hit : Bool) → Stands m s → IsLoading m.core.phase (row_count m.core) → IsLoading s.core.phase (row_count s.core)

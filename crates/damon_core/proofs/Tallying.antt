@@ -1,18 +1,21 @@
 -- What the notes say of the checks of the pass under way.
-use Rattle.std.proofs.Common.{◌≡◌, inl, inr, ℕ, zero, suc, subst, ◌+◌, ◌≤◌, ◌<◌, Bool, true, false, cond, List, [], ◌∷◌, refl, sym, ap, ◌∙◌, arith}
+use Rattle.std.proofs.Common.{◌≡◌, inl, inr, ℕ, zero, suc, subst, ◌+◌, ◌≤◌, ◌<◌, Bool, true, false, cond, List, [], ◌∷◌, Ok, refl, sym, ap, ◌∙◌, arith}
 use Rattle.std.specs.Prelude.{◌==◌, ◌&&◌, ◌||◌, nat_le, slice_index}
 use Rattle.std.proofs.lemmas.Bool.{cases_eq}
 use Rattle.std.proofs.lemmas.Bool.Decides.{nat_tests}
 use Rattle.live_commit.specs.declared.phase.Phase.{Phase}
 use Rattle.live_commit.specs.declared.phase.Phase.TheVariants.{Idle, Clearing, Armed, Checking, Void, Due}
+use Rattle.live_commit.specs.Commit.{CommitValue}
 use Rattle.damon_core.specs.Note.{Note, touched, cleared, checked, finished, voided, set, dropped, metric, turned, was_hit}
 use Rattle.damon_core.specs.Totals.{pass_checks, pass_hits}
 use Rattle.damon_core.specs.State.{State, row_count, opening_notes}
 use Rattle.damon_core.specs.Event.{IsLoading, load_index}
 use Rattle.damon_core.specs.After.{phase_cleared, phase_after_pass, cleared_at, loaded_at, finished_pass, voided_pass}
+use Rattle.damon_core.specs.Commit.{check_of, committed, committed_core, committed_notes}
 use Rattle.damon_core.specs.Reached.{Reached}
 use Rattle.damon_core.specs.Stands.{last_pass}
 use Rattle.damon_core.specs.Kept.{loaded_so_far}
+use Rattle.damon_core.proofs.Committing.{allows_commit, committed_notes_hold, none_loaded, none_loaded_after}
 use Rattle.damon_core.proofs.Keeping.{Keeps, any_result, reached_keeps}
 use Rattle.damon_core.proofs.Opening.{opening_holds}
 
@@ -53,6 +56,22 @@ early_load s i hit is early = record {
   later = λ n k above. (let before : was_hit s.notes n k ≡ false = early.later n k above in let other : (s.core.ticks + 1 == n) ≡ false = grind (arith, nat_tests) in rw (other, before) refl);
 }
 
+-- the notes of a commit say nothing of checks
+pub was_hit-commit : (c : CommitValue) (notes : List Note) (n k : ℕ) → was_hit (committed_notes c notes) n k ≡ was_hit notes n k
+was_hit-commit c notes n k = committed_notes_hold (λ ns. was_hit ns n k ≡ was_hit notes n k) (λ slot scheme ns same. same) (λ slot ns same. same) (λ value ns same. same) c notes refl
+
+pass_checks-commit : (c : CommitValue) (notes : List Note) (n : ℕ) → pass_checks (committed_notes c notes) n ≡ pass_checks notes n
+pass_checks-commit c notes n = committed_notes_hold (λ ns. pass_checks ns n ≡ pass_checks notes n) (λ slot scheme ns same. same) (λ slot ns same. same) (λ value ns same. same) c notes refl
+
+pass_hits-commit : (c : CommitValue) (notes : List Note) (n : ℕ) → pass_hits (committed_notes c notes) n ≡ pass_hits notes n
+pass_hits-commit c notes n = committed_notes_hold (λ ns. pass_hits ns n ≡ pass_hits notes n) (λ slot scheme ns same. same) (λ slot ns same. same) (λ value ns same. same) c notes refl
+
+early_commit : (s : State) (c : CommitValue) → check_of c s.core ≡ Ok tt → HasNoEarly s → HasNoEarly (committed c s)
+early_commit s c ok early = record {
+  this_pass = λ k beyond. was_hit-commit c s.notes (s.core.ticks + 1) k ∙ early.this_pass k (omega (arith, none_loaded s.core.phase (allows_commit c s.core ok)));
+  later = λ n k above. was_hit-commit c s.notes n k ∙ early.later n k above;
+}
+
 keeps_early : Keeps any_result HasNoEarly
 keeps_early = record {
   opens = λ v can.
@@ -64,6 +83,8 @@ keeps_early = record {
   loading = λ s k hit fits index known early. early_load s k hit ((loading_pass s.core.phase (row_count s.core) s.core.ticks fits).1 ∙ index) early;
   finishing = λ s is early. record { this_pass = λ k beyond. early.later (s.core.ticks + 1 + 1) k (omega arith); later = λ n k above. early.later n k (omega arith) };
   voiding = λ s is early. record { this_pass = λ k beyond. early.later (s.core.ticks + 1 + 1) k (omega arith); later = λ n k above. early.later n k (omega arith) };
+  aggregating = λ s ws is early. record { this_pass = λ k beyond. early.this_pass k (let none : loaded_so_far s.core.phase ≡ 0 = ap loaded_so_far is in omega arith); later = early.later };
+  committing = early_commit;
 }
 
 pub reached_early : (s : State) → Reached s → HasNoEarly s
@@ -83,6 +104,14 @@ tallied_load s i hit is tallied = record {
   later = λ n above. (let before : pass_checks s.notes n ≡ 0 = tallied.later n above in let other : (s.core.ticks + 1 == n) ≡ false = grind (arith, nat_tests) in rw (other, before) refl);
 }
 
+tallied_commit : (s : State) (c : CommitValue) → check_of c s.core ≡ Ok tt → IsTallied s → IsTallied (committed c s)
+tallied_commit s c ok tallied =
+    let allows = allows_commit c s.core ok in
+    record {
+      this_pass = pass_checks-commit c s.notes (s.core.ticks + 1) ∙ tallied.this_pass ∙ none_loaded s.core.phase allows ∙ sym (none_loaded_after s.core.phase s.core.regions.rows (committed_core c s.core).regions.rows allows);
+      later = λ n above. pass_checks-commit c s.notes n ∙ tallied.later n above;
+    }
+
 keeps_tally : Keeps any_result IsTallied
 keeps_tally = record {
   opens = λ v can.
@@ -94,6 +123,8 @@ keeps_tally = record {
   loading = λ s k hit fits index known tallied. tallied_load s k hit ((loading_pass s.core.phase (row_count s.core) s.core.ticks fits).1 ∙ index) tallied;
   finishing = λ s is tallied. record { this_pass = tallied.later (s.core.ticks + 1 + 1) (omega arith) ∙ sym (loaded_so_far-phase_after_pass (s.core.since + 1) s.core.attrs.aggr); later = λ n above. tallied.later n (omega arith) };
   voiding = λ s is tallied. record { this_pass = tallied.later (s.core.ticks + 1 + 1) (omega arith) ∙ sym (loaded_so_far-phase_after_pass (s.core.since + 1) s.core.attrs.aggr); later = λ n above. tallied.later n (omega arith) };
+  aggregating = λ s ws is tallied. record { this_pass = tallied.this_pass ∙ ap loaded_so_far is; later = tallied.later };
+  committing = tallied_commit;
 }
 
 one_more : (b hit : Bool) (x y : ℕ) → x ≤ y → cond (b && hit) 1 0 + x ≤ cond b 1 0 + y
@@ -173,6 +204,16 @@ counted_load s i hit is counted k above =
     let one : ◌≡◌ {A = ℕ} (cond ((n == n) && hit) 1 0) (cond hit 1 0) = rw same refl in
     omega (arith, hits_after s.notes n i (slice_index s.core.picks i) k hit (counted.early.this_pass i (omega (arith, is))) (omega arith), counted.hits k (omega (arith, is, above)), one)
 
+counted_commit : (s : State) (c : CommitValue) → check_of c s.core ≡ Ok tt → IsCounted s → IsCounted (committed c s)
+counted_commit s c ok counted = record {
+  early = early_commit s c ok counted.early;
+  tallied = tallied_commit s c ok counted.tallied;
+  hits = λ k beyond.
+      same_hits (committed_notes c s.notes) s.notes (s.core.ticks + 1) k (λ j. was_hit-commit c s.notes (s.core.ticks + 1) j)
+      ∙ counted.hits k (omega (arith, none_loaded s.core.phase (allows_commit c s.core ok)))
+      ∙ sym (pass_hits-commit c s.notes (s.core.ticks + 1));
+}
+
 ended_hits : (s : State) → IsCounted s → (k : ℕ) → hits_below s.notes (s.core.ticks + 1 + 1) k ≡ pass_hits s.notes (s.core.ticks + 1 + 1)
 ended_hits s counted k = no_hits_below s.notes (s.core.ticks + 1 + 1) k (λ j. counted.early.later (s.core.ticks + 1 + 1) j (omega arith)) ∙ sym (no_pass_hits s.notes (s.core.ticks + 1 + 1) (counted.tallied.later (s.core.ticks + 1 + 1) (omega arith)))
 
@@ -190,6 +231,8 @@ keeps_count = record {
       record { early = early_load s k hit is c.early; tallied = tallied_load s k hit is c.tallied; hits = counted_load s k hit is c });
   finishing = λ s is c. record { early = keeps_early.finishing s is c.early; tallied = keeps_tally.finishing s is c.tallied; hits = λ k beyond. same_hits (finished_pass s).notes s.notes (s.core.ticks + 1 + 1) k (λ j. refl) ∙ ended_hits s c k };
   voiding = λ s is c. record { early = keeps_early.voiding s is c.early; tallied = keeps_tally.voiding s is c.tallied; hits = λ k beyond. same_hits (voided_pass s).notes s.notes (s.core.ticks + 1 + 1) k (λ j. refl) ∙ ended_hits s c k };
+  aggregating = λ s ws is c. record { early = keeps_early.aggregating s ws is c.early; tallied = keeps_tally.aggregating s ws is c.tallied; hits = λ k beyond. c.hits k (let none : loaded_so_far s.core.phase ≡ 0 = ap loaded_so_far is in omega arith) };
+  committing = counted_commit;
 }
 
 pub reached_counted : (s : State) → Reached s → IsCounted s

@@ -1,13 +1,15 @@
 -- The events of a monitor with its pages, and where each fits.
-use Rattle.std.specs.Prelude.{◌≡◌, ℕ, ◌<◌, Bool, List, length, slice_index}
+use Rattle.std.specs.Prelude.{◌≡◌, ℕ, ◌*◌, ◌<◌, Bool, List, length, slice_index}
 use Rattle.damon_types.specs.Space.{pages_of}
 use Rattle.live_commit.specs.declared.phase.Phase.{Phase}
-use Rattle.live_commit.specs.declared.phase.Phase.TheVariants.{Idle, Clearing, Armed, Checking, Void}
+use Rattle.live_commit.specs.declared.phase.Phase.TheVariants.{Idle, Clearing, Armed, Checking, Void, Due}
+use Rattle.live_commit.specs.Commit.{CommitValue}
 use Rattle.damon_core.specs.Note.{hit}
 use Rattle.damon_core.specs.State.{State, row_count}
 
 -- A page is touched; random words prepare a pass; the next pick is cleared, or loaded with this result; a
--- pass is observed; random words aggregate; the state is shown.
+-- pass is observed; an aggregation is carried out, with random words for its splits; a commit is asked for; the state
+-- is shown.
 pub data Event : Type 0 where
   touch : (page : ℕ) → Event
   prepare : (words : List ℕ) → Event
@@ -15,6 +17,7 @@ pub data Event : Type 0 where
   load : (hit : Bool) → Event
   observe : Event
   aggregate : (words : List ℕ) → Event
+  commit : (parts : CommitValue) → Event
   show : Event
 
 -- a clear comes next
@@ -52,14 +55,15 @@ load_page s = slice_index s.core.picks (load_index s.core.phase)
 abbrev pub next_hit : State → Bool
 next_hit s = hit s.notes (load_page s)
 
--- where an event fits, whatever the result of a load; no aggregation is carried out yet
+-- where an event fits, whatever the result of a load
 abbrev pub Fits : State → Event → Type 0
 Fits s (touch page) = page < pages_of s.core.space
 Fits s (prepare words) = (s.core.phase ≡ Idle) × (length words ≡ row_count s.core)
 Fits s clear = IsClearing s.core.phase
 Fits s (load hit) = IsLoading s.core.phase (row_count s.core)
 Fits s observe = IsObserving s.core.phase (row_count s.core)
-Fits s (aggregate words) = ⊥
+Fits s (aggregate words) = (s.core.phase ≡ Due) × (length words ≡ 2 * s.core.attrs.max)
+Fits s (commit parts) = Unit {0}
 Fits s show = Unit {0}
 
 -- the result of a load is that of its page

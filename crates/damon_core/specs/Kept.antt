@@ -1,16 +1,23 @@
 -- What a monitor keeps, for the proofs of its calls. No public contract rests on this file.
-use Rattle.std.specs.Prelude.{◌≡◌, ℕ, ◌*◌, ◌≤◌, ◌<◌, Bool, List, count_by, length, take}
+use Rattle.std.specs.Prelude.{◌≡◌, ℕ, ◌+◌, ◌*◌, ◌≤◌, ◌<◌, Bool, List, count_by, length, take, Option, Some, Ok}
 use Rattle.std.specs.List.{AllByRecursion}
 use Rattle.damon_types.specs.declared.space.Target.{Target}
 use Rattle.damon_types.specs.declared.attrs.Attrs.{Attrs}
+use Rattle.damon_types.specs.declared.range.RangeSpec.{RangeSpec}
+use Rattle.damon_types.specs.declared.row.Row.{Row}
 use Rattle.damon_types.specs.Attrs.{IsAttrs}
 use Rattle.damon_types.specs.Space.{pages_of}
 use Rattle.damon_types.specs.Within.{AreWithin}
+use Rattle.target_ranges.specs.Checked.{checked_ranges}
 use Rattle.region_list.specs.Regions.{RegionList}
 use Rattle.sampler.specs.Pick.{PickList}
+use Rattle.live_commit.specs.Accepts.{ranges_after}
 use Rattle.live_commit.specs.declared.phase.Phase.{Phase}
 use Rattle.live_commit.specs.declared.phase.Phase.TheVariants.{Clearing, Armed, Checking, Due}
 use Rattle.damon_core.specs.Pass.{IsPickWithin}
+use Rattle.damon_core.specs.Report.{ReportBuf}
+use Rattle.damon_core.specs.declared.clock.Clock.{Clock}
+use Rattle.damon_core.specs.declared.totals.Totals.{Totals}
 
 -- how many picks of the pass are loaded
 abbrev pub loaded_so_far : Phase → ℕ
@@ -31,25 +38,52 @@ CountsHits Armed bits found = found ≡ 0
 CountsHits (Checking k) bits found = found ≡ count_by (λ hit. hit) (take k bits)
 CountsHits _ bits found = Unit {0}
 
+-- What is sampled: the regions, the phase, the picks of the pass that was prepared last with the results of their
+-- checks, and the number of rows at the start of the last split.
+pub record SamplingView : Type 0 where
+  pub regions : RegionList
+  pub phase : Phase
+  pub picks : List ℕ
+  pub bits : List Bool
+  pub before : ℕ
+
+-- What a commit that is accepted asks of regions: the new ranges, if there are any, and the most rows allowed.
+pub record CanCommit (space : List Target) (r : RegionList) (new : Option (List RangeSpec)) (most : ℕ) : Type 0 where
+  pub least : 1 ≤ most
+  pub within : most ≤ r.cap
+  pub few : ranges_after new (length r.ranges) ≤ most
+  pub specs : (l : List RangeSpec) → new ≡ Some l → (0 < length l) × (checked_ranges space r.unit r.cap l ≡ Ok tt)
+
+-- What holds of what is sampled, at all times. A commit has room for all rows, and for new ranges with their rows.
+pub record IsSampling (regions : RegionList) (phase : Phase) (picks : PickList) (hits_so_far row_room range_room : ℕ) : Type 0 where
+  pub some : 0 < length regions.rows
+  pub room : regions.cap ≤ picks.cap
+  pub within : IsPickWithin phase (length regions.rows)
+  pub bits_each : length picks.bits ≡ length picks.pages
+  pub has_picks : HasPicks phase (length regions.rows) (length picks.pages)
+  pub found : CountsHits phase picks.bits hits_so_far
+  pub earlier : regions.cap ≤ row_room
+  pub commits : range_room ≡ regions.cap
+
 -- fewer than 1,000 passes since the last aggregation, or up to 1,000 where one is due
 abbrev pub SinceFew : Phase → ℕ → Type 0
 SinceFew Due since = since ≤ 1000
 SinceFew _ since = since < 1000
 
+-- each row has a page, and its pages are pages of the space
+abbrev pub RowsLieIn : List Target → List Row → Type 0
+RowsLieIn space rows = AllByRecursion (λ r. (1 ≤ r.pages) × (r.start + r.pages ≤ pages_of space)) rows
+
 -- what a monitor keeps at all times
-pub record IsMonitor (space : List Target) (attrs : Attrs) (regions : RegionList) (phase : Phase) (picks : PickList) (ticks since hits_so_far checks hits : ℕ) : Type 0 where
+pub record IsMonitor (space : List Target) (attrs : Attrs) (sampling : SamplingView) (clock : Clock) (totals : Totals) (report : ReportBuf) : Type 0 where
   pub attrs_sound : IsAttrs attrs
-  pub some : 0 < length regions.rows
-  pub few : length regions.rows ≤ regions.cap
-  pub cap_few : regions.cap ≤ 4096
-  pub ranges_in : AreWithin space regions.ranges
-  pub counts : AllByRecursion (λ r. r.count ≤ since) regions.rows
-  pub room : regions.cap ≤ picks.cap
-  pub within : IsPickWithin phase (length regions.rows)
-  pub bits_each : length picks.bits ≡ length picks.pages
-  pub has_picks : HasPicks phase (length regions.rows) (length picks.pages)
-  pub picks_in : AllByRecursion (λ p. p < pages_of space) picks.pages
-  pub since_few : SinceFew phase since
-  pub found : CountsHits phase picks.bits hits_so_far
-  pub checks_few : checks ≤ 4096 * ticks
-  pub hits_few : hits ≤ 4096 * ticks
+  pub max : sampling.regions.max ≡ attrs.max
+  pub cap_few : sampling.regions.cap ≤ 4096
+  pub ranges_in : AreWithin space sampling.regions.ranges
+  pub picks_in : AllByRecursion (λ p. p < pages_of space) sampling.picks
+  pub counts : AllByRecursion (λ r. r.count ≤ clock.since) sampling.regions.rows
+  pub since_few : SinceFew sampling.phase clock.since
+  pub checks_few : totals.checks ≤ 4096 * clock.ticks
+  pub hits_few : totals.hits ≤ 4096 * clock.ticks
+  pub report_room : sampling.regions.cap ≤ report.cap
+  pub report_in : RowsLieIn space report.value.rows

@@ -1,9 +1,12 @@
 pub mod Note
 pub mod Totals
+pub mod Report
 pub mod State
 pub mod Event
 pub mod Several
 pub mod Pass
+pub mod Aggregate
+pub mod Commit
 pub mod After
 pub mod Reached
 pub mod Makes

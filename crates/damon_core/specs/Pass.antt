@@ -1,7 +1,7 @@
 -- How far the pass under way has come.
 use Rattle.std.specs.Prelude.{ℕ, ◌≤◌, ◌<◌}
 use Rattle.live_commit.specs.declared.phase.Phase.{Phase}
-use Rattle.live_commit.specs.declared.phase.Phase.TheVariants.{Clearing, Armed, Checking}
+use Rattle.live_commit.specs.declared.phase.Phase.TheVariants.{Idle, Clearing, Armed, Checking, Due}
 
 -- a pass is under way that is not void: its picks are those of the rows
 abbrev pub IsInPass : Phase → Type 0
@@ -22,3 +22,9 @@ abbrev pub IsPickWithin : Phase → ℕ → Type 0
 IsPickWithin (Clearing k) rows = k < rows
 IsPickWithin (Checking k) rows = k ≤ rows
 IsPickWithin _ rows = Unit {0}
+
+-- no pass is under way
+abbrev pub IsBetween : Phase → Type 0
+IsBetween Idle = Unit {0}
+IsBetween Due = Unit {0}
+IsBetween _ = ⊥

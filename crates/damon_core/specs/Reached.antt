@@ -1,6 +1,7 @@
 -- The states to which events lead.
 use Rattle.std.specs.Prelude.{◌≡◌, List, [], ◌∷◌}
 use Rattle.damon_types.specs.Ranges.{InOrder}
+use Rattle.damon_types.specs.Space.{IsSpace}
 use Rattle.live_commit.specs.Setup.{SetupValue, IsSetup}
 use Rattle.damon_core.specs.State.{State, opening}
 use Rattle.damon_core.specs.Event.{Event, Fits, ByHit}
@@ -21,8 +22,9 @@ abbrev pub AllByHit : State → List Event → Type 0
 AllByHit s [] = Unit {0}
 AllByHit s (e ∷ es) = ByHit s e × AllByHit (after s e) es
 
--- a setup within its limits, its ranges in order
+-- a setup within its limits, its space too, its ranges in order
 pub record CanOpen (v : SetupValue) : Type 0 where
+  pub space : IsSpace v.space
   pub sound : IsSetup v
   pub order : InOrder v.ranges
 

@@ -12,9 +12,11 @@ use Rattle.live_commit.specs.declared.phase.Phase.{Phase}
 use Rattle.live_commit.specs.declared.phase.Phase.TheVariants.{Idle}
 use Rattle.live_commit.specs.Setup.{SetupValue}
 use Rattle.damon_core.specs.Note.{Note, set}
+use Rattle.damon_core.specs.Report.{ReportValue, no_report}
 
 -- What a monitor shows of itself: its targets, attributes, regions and phase, the picks of the pass that
--- was prepared last, the passes in all, and those since the last aggregation.
+-- was prepared last, the passes in all, those since the last aggregation, the number of rows at the start of
+-- the last split (0 before the first), and what the last aggregation reported.
 pub record Core : Type 0 where
   pub space : List Target
   pub attrs : Attrs
@@ -23,6 +25,8 @@ pub record Core : Type 0 where
   pub picks : List ℕ
   pub ticks : ℕ
   pub since : ℕ
+  pub before : ℕ
+  pub report : ReportValue
 
 -- a state: what a monitor shows, and all that has happened, the newest first
 pub record State : Type 0 where
@@ -47,6 +51,8 @@ opening_core v = record {
   picks = [];
   ticks = 0;
   since = 0;
+  before = 0;
+  report = no_report;
 }
 
 -- the note that a change sets its slot, where the change has a scheme

@@ -4,23 +4,24 @@ ghost use Rattle.damon_core.specs.Reached.{Reached, ReachedByHit};
 ghost use Rattle.damon_core.specs.Bound.{Bound};
 ghost use Rattle.damon_core.specs.InPhase.{IsInPhase};
 
-/// In each state to which fitting events lead, where the result of each load is that of its page, the
-/// rows tile their ranges within the limits, each finished pass checked one page of each row, and each
-/// hit rests on a touch of its page since the pass cleared it.
-pub fn reached_states_are_bound()
-    ensures { (s : State) → ReachedByHit s → Bound s }
-{
-    region_list::tiling_is_per_page();
-    region_list::division_tiles();
-    region_list::shrunk_rows_tile();
-}
-
 /// In each state to which fitting events lead, whatever the results of the loads, there is at least
-/// one row and there are at most `cap`, and the next pick of a pass under way is that of a row.
-pub fn reached_states_are_in_phase()
-    ensures { (s : State) → Reached s → IsInPhase s }
+/// one row and there are at most `cap`, and the next pick of a pass under way is that of a row. Where
+/// the result of each load is that of its page, also the rows tile their ranges within the limits, each
+/// finished pass checked one page of each row, and each hit rests on a touch of its page since the pass
+/// cleared it.
+pub fn reached_states_are_bound()
+    ensures in_phase { (s : State) → Reached s → IsInPhase s }
+    ensures bound { (s : State) → ReachedByHit s → Bound s }
 {
     region_list::tiling_is_per_page();
     region_list::division_tiles();
     region_list::shrunk_rows_tile();
+    region_list::shrunk_rows_are_kept();
+    aggregator::aged_rows_are_kept();
+    aggregator::cleared_rows_are_kept();
+    region_merge::merged_rows_are_kept();
+    region_split::split_rows_are_kept();
+    range_update::updated_rows_are_kept();
+    target_ranges::made_in_order();
+    live_commit::accepted_commits_are_within();
 }

@@ -1,13 +1,27 @@
 //! The monitor: its state machine, and the object that stands for a state of it.
 #![tactic(auto)]
 
+/// The answer of a commit.
+mod changed;
+/// The passes that have ended.
+mod clock;
 /// What holds of every state to which events lead.
 mod laws;
 /// The object that stands for a state.
 mod monitor;
+/// What an aggregation reports.
+mod report;
+/// The room that commits need.
+mod room;
+/// What is sampled: rows, picks, and the pass under way.
+mod sampling;
+/// The checks and hits of all passes.
+mod totals;
 
-pub use laws::{reached_states_are_bound, reached_states_are_in_phase};
+pub use changed::Changed;
+pub use laws::reached_states_are_bound;
 pub use monitor::Monitor;
+pub use report::Report;
 
 #[cfg(test)]
 mod tests;

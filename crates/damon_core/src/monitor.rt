@@ -1,12 +1,17 @@
 ghost use Rattle.std.specs.List.{AllByRecursion};
-ghost use Rattle.std.specs.Prelude.{◌≡◌, ◌+◌, ◌^◌, ◌≤◌, ◌<◌, ℕ, true, [], ◌∷◌, length, slice_get, slice_index, IfOk};
+ghost use Rattle.std.specs.Prelude.{◌≡◌, ◌+◌, ◌*◌, ◌^◌, ◌≤◌, ◌<◌, ℕ, true, max, ◌/◌, [], ◌∷◌, length, slice_get, slice_index, IfOk, None, Ok};
+ghost use Rattle.damon_types.specs.Ranges.{page_total};
 ghost use Rattle.damon_types.specs.Space.{pages_of};
 ghost use Rattle.damon_types.specs.Span.{spans};
 ghost use Rattle.region_list.specs.Tiling.{Tiling};
+ghost use Rattle.live_commit.specs.Accepts.{steps_made};
+ghost use Rattle.live_commit.specs.Commit.{commit_value};
 ghost use Rattle.live_commit.specs.SetupView.{value_of};
 ghost use Rattle.damon_core.specs.Note.{is_cleared};
 ghost use Rattle.damon_core.specs.State.{State, opening, opening_core, opening_rows, row_count};
-ghost use Rattle.damon_core.specs.Event.{IsClearing, IsLoading, IsObserving, clear_index, load_index, prepare as prepare_event, clear as clear_event, load as load_event, observe as observe_event};
+ghost use Rattle.damon_core.specs.Event.{IsClearing, IsLoading, IsObserving, clear_index, load_index, prepare as prepare_event, clear as clear_event, load as load_event, observe as observe_event, aggregate as aggregate_event, commit as commit_event};
+ghost use Rattle.damon_core.specs.Aggregate.{aggregated_core, merge_limit};
+ghost use Rattle.damon_core.specs.Commit.{changed_by, check_of, commit_answer, committed_core, core_after_commit, view_of};
 ghost use Rattle.damon_core.specs.Several.{clears, loads};
 ghost use Rattle.damon_core.specs.After.{prepared_core, cleared_core, loaded_core, passed_core, phase_cleared, phase_after_pass};
 ghost use Rattle.damon_core.specs.Reached.{Reached};
@@ -15,10 +20,14 @@ ghost use Rattle.damon_core.specs.Makes.{Makes};
 ghost use Rattle.damon_core.specs.Stands.{Stands};
 ghost use Rattle.sampler.specs.Loaded.{next_picks};
 
+use crate::{Changed, Report};
+use crate::clock::Clock;
+use crate::sampling::Sampling;
+use crate::totals::Totals;
 use damon_types::{Attrs, Space};
-use live_commit::{Phase, Setup};
+use live_commit::{Commit, CommitFault, Phase, Setup, View, validate};
 use region_list::{Regions, RowBuf, divide, shrink_rows};
-use sampler::{Picks, set_picks};
+use sampler::{Marks, Picks};
 use std::alloc::{AllocError, Global};
 use std::marker::Model;
 
@@ -29,15 +38,10 @@ use std::marker::Model;
 pub struct Monitor {
     space: Space,
     attrs: Attrs,
-    regions: Regions,
-    phase: Phase,
-    picks: Picks,
-    ticks: u64,
-    since: u32,
-    // The hits of the pass so far, counted as they come, so that no second look at the picks is needed.
-    hits_so_far: u32,
-    checks: u64,
-    hits: u64,
+    sampling: Sampling,
+    clock: Clock,
+    totals: Totals,
+    report: Report,
 }
 
 impl Model for Monitor {
@@ -51,19 +55,20 @@ impl Model for Monitor {
       core = record {
         space = m.space;
         attrs = m.attrs;
-        regions = m.regions;
-        phase = m.phase;
-        picks = m.picks.pages;
-        ticks = m.ticks;
-        since = m.since;
+        regions = m.sampling.regions;
+        phase = m.sampling.phase;
+        picks = m.sampling.picks;
+        ticks = m.clock.ticks;
+        since = m.clock.since;
+        before = m.sampling.before;
+        report = m.report.value;
       };
-      bits = m.picks.bits;
-      checks = m.checks;
-      hits = m.hits;
+      bits = m.sampling.bits;
+      checks = m.totals.checks;
+      hits = m.totals.hits;
     } };
 
-    ghost invariant = { λ m. IsMonitor m.space m.attrs m.regions m.phase m.picks
-        m.ticks m.since m.hits_so_far m.checks m.hits };
+    ghost invariant = { λ m. IsMonitor m.space m.attrs m.sampling m.clock m.totals m.report };
 }
 
 impl Monitor {
@@ -76,21 +81,18 @@ impl Monitor {
         ensures opening { IfOk result (λ m. Stands m (opening (value_of setup.now))) }
     {
         let regions = first_regions(alloc, setup)?;
-        let picks = Picks::new(alloc, setup.cap)?;
-        let space = setup.space.clone()?;
         // For its clauses alone: the rows tile their ranges and are within their limits.
         let _rows = regions.len();
+        let sampling = Sampling::new(alloc, regions)?;
+        let space = setup.space.clone()?;
+        let report = Report::new(alloc, setup.cap)?;
         Ok(Monitor {
             space,
             attrs: setup.attrs,
-            regions,
-            phase: Phase::Idle,
-            picks,
-            ticks: 0,
-            since: 0,
-            hits_so_far: 0,
-            checks: 0,
-            hits: 0,
+            sampling,
+            clock: Clock { ticks: 0, since: 0 },
+            totals: Totals { checks: 0, hits: 0 },
+            report,
         })
     }
 
@@ -99,20 +101,30 @@ impl Monitor {
         ensures phase { result ≡ self.now.core.phase }
         ensures within { IsPickWithin self.now.core.phase (row_count self.now.core) }
     {
-        self.phase
+        self.sampling.phase()
     }
 
     /// The passes that have ended, void ones among them.
     pub fn ticks(&self) -> u64
         ensures { result ≡ self.now.core.ticks }
     {
-        self.ticks
+        self.clock.ticks
     }
 
-    /// The attributes in force.
-    pub fn attrs(&self) -> Attrs
-        ensures { result ≡ self.now.core.attrs }
+    /// The address spaces that are watched.
+    pub fn space(&self) -> &Space
+        ensures { result.now ≡ self.now.core.space }
     {
+        &self.space
+    }
+
+    /// The attributes in force, whose `max` is at most the `cap` of the regions.
+    pub fn attrs(&self) -> Attrs
+        ensures attrs { result ≡ self.now.core.attrs }
+        ensures max { self.now.core.attrs.max ≤ self.now.core.regions.cap }
+    {
+        // For its clauses alone: at most `cap` rows are allowed.
+        let _rows = self.sampling.regions().len();
         self.attrs
     }
 
@@ -124,23 +136,35 @@ impl Monitor {
             self.now.core.regions.rows }
         ensures some { 0 < row_count self.now.core }
     {
+        let regions = self.sampling.regions();
         // For its clauses alone: the rows tile their ranges and are within their limits.
-        let _rows = self.regions.len();
-        &self.regions
+        let _rows = regions.len();
+        regions
+    }
+
+    /// What the last aggregation reported. Each of its rows has a page, and its pages are pages of the
+    /// space.
+    pub fn report(&self) -> &Report
+        ensures report { result.now.value ≡ self.now.core.report }
+        ensures in_space { AllByRecursion
+            (λ r. (1 ≤ r.pages) × (r.start + r.pages ≤ pages_of self.now.core.space))
+            self.now.core.report.rows }
+    {
+        &self.report
     }
 
     /// The loads of all finished passes.
     pub fn checks(&self) -> u64
         ensures { result ≡ self.now.checks }
     {
-        self.checks
+        self.totals.checks
     }
 
     /// The loads of all finished passes that were hits, each of which raised a count by 1.
     pub fn hits(&self) -> u64
         ensures { result ≡ self.now.hits }
     {
-        self.hits
+        self.totals.hits
     }
 
     /// The picks of the pass that was prepared last, with the results of their loads so far; empty before
@@ -159,7 +183,7 @@ impl Monitor {
             → (k : ℕ) → k < cleared_so_far self.now.core.phase (row_count self.now.core)
             → is_cleared s.notes (slice_index self.now.core.picks k) ≡ true }
     {
-        &self.picks
+        self.sampling.picks()
     }
 
     /// Prepares a pass: picks a page of each row, that of row i by word i. No pass is under way and no
@@ -171,10 +195,8 @@ impl Monitor {
         ensures event { Makes Stands self.old self.new (prepare_event words.now ∷ []) }
     {
         // For its clauses alone: the rows tile their ranges and are within their limits.
-        let _rows = self.regions.len();
-        set_picks(&self.regions, words, &mut self.picks);
-        self.hits_so_far = 0;
-        self.phase = Phase::Clearing { next: 0 };
+        let _rows = self.sampling.regions().len();
+        self.sampling.prepare(words);
     }
 
     /// The page of pick `k`, one for each row, of the pass under way.
@@ -187,7 +209,7 @@ impl Monitor {
             → k < cleared_so_far self.now.core.phase (row_count self.now.core)
             → is_cleared s.notes result ≡ true }
     {
-        self.picks.page(k)
+        self.sampling.picks().page(k)
     }
 
     /// Records that the page of the next pick was cleared. The phase is Clearing.
@@ -196,9 +218,9 @@ impl Monitor {
         ensures core { self.new.core ≡ cleared_core 1 self.old.core }
         ensures event { Makes Stands self.old self.new (clear_event ∷ []) }
     {
-        if let Phase::Clearing { next } = self.phase {
-            self.phase = phase_cleared(next + 1, self.regions.len());
-        }
+        // For its clauses alone: the next pick is that of a row.
+        let _phase = self.sampling.phase();
+        self.sampling.clear(1);
     }
 
     /// Records that the pages of the next `count` picks were cleared. The phase is Clearing, and at
@@ -209,9 +231,7 @@ impl Monitor {
         ensures core { self.new.core ≡ cleared_core count self.old.core }
         ensures events { Makes Stands self.old self.new (clears count) }
     {
-        if let Phase::Clearing { next } = self.phase {
-            self.phase = phase_cleared(next + count, self.regions.len());
-        }
+        self.sampling.clear(count);
     }
 
     /// Records that the page of the next pick was loaded, with this result. The phase is Armed, or
@@ -221,28 +241,23 @@ impl Monitor {
         ensures core { self.new.core ≡ loaded_core 1 self.old.core }
         ensures event { Makes Stands self.old self.new (load_event hit ∷ []) }
     {
-        let index = next_load(self.phase);
-        self.picks.set(index, hit);
-        self.hits_so_far += u32::from(hit);
-        self.phase = Phase::Checking { next: index + 1 };
+        self.sampling.load(hit);
     }
 
     /// Records that the pages of the next `count` picks (at least 1) were loaded, each with the mark
     /// of its page as its result. At least `count` picks are left to load, and there is a mark for each
     /// page of the space.
-    pub fn loaded_next(&mut self, count: u32, marks: &[bool])
+    pub fn loaded_next<M: Marks>(&mut self, count: u32, marks: &M)
         requires phase { IsLoading self.old.core.phase (row_count self.old.core) }
         requires some { 1 ≤ count }
         requires within { load_index self.old.core.phase + count ≤ row_count self.old.core }
-        requires marks { length marks.now ≡ pages_of self.old.core.space }
+        requires marks { length (M.marks_of marks.now) ≡ pages_of self.old.core.space }
         ensures core { self.new.core ≡ loaded_core count self.old.core }
         ensures events { Makes Stands self.old self.new
-            (loads marks.now
+            (loads (M.marks_of marks.now)
             (next_picks self.old.core.picks (load_index self.old.core.phase) count)) }
     {
-        let from = next_load(self.phase);
-        self.hits_so_far += self.picks.load(from, count, marks);
-        self.phase = Phase::Checking { next: from + count };
+        self.sampling.load_next(count, marks);
     }
 
     /// Ends the pass, of which each pick is loaded, or which is void. One that is not void raises the
@@ -255,10 +270,87 @@ impl Monitor {
         ensures cap { self.new.core.regions.cap ≡ self.old.core.regions.cap }
         ensures event { Makes Stands self.old self.new (observe_event ∷ []) }
     {
-        match self.phase {
+        match self.sampling.phase() {
             Phase::Checking { .. } => self.finish_pass(),
             _ => self.void_pass(),
         }
+    }
+
+    /// Carries out the aggregation that is due: ages the rows, merges those that are about the same,
+    /// keeps the report, clears the counts, and splits the rows at random places, row i by the words 2i
+    /// and 2i + 1. There are `2 × max` words.
+    pub fn aggregate(&mut self, words: &[u32])
+        requires due { self.old.core.phase ≡ Phase.Due }
+        requires words { length words.now ≡ 2 * self.old.core.attrs.max }
+        ensures core { self.new.core ≡ aggregated_core words.now self.old.core }
+        ensures event { Makes Stands self.old self.new (aggregate_event words.now ∷ []) }
+    {
+        let limit = merge_limit(self.sampling.regions(), self.attrs.min);
+        let threshold = self.sampling.merge(limit);
+        let rows = self.sampling.regions();
+        // For its clauses alone: the rows tile their ranges and are within their limits.
+        let _rows = rows.len();
+        self.report.set(self.clock.ticks, threshold, rows.rows());
+        self.sampling.split(words);
+        self.clock.since = 0;
+    }
+
+    /// Commits new attributes and new ranges. Returns the number of rows and whether the pass under way
+    /// became void, or the first check that failed ([`validate`]); then nothing has changed.
+    ///
+    /// The attributes take effect first. New ranges replace those that are watched, and the rows become
+    /// those of a range update; without new ranges, adjacent rows of one range are joined until there are
+    /// at most `max`. A pass whose picks are cleared becomes void where the rows lie elsewhere
+    /// afterwards: it is observed next, without a load, and counts nothing. Schemes and metrics are not
+    /// built yet, so the commit has neither. Takes no memory.
+    pub fn commit(&mut self, commit: &Commit) -> Result<Changed, CommitFault>
+        requires slot { commit.now.slot ≡ None }
+        requires metric { commit.now.metric ≡ None }
+        ensures answer { result ≡ commit_answer (commit_value commit.now) self.old.core }
+        ensures core { self.new.core ≡ core_after_commit (commit_value commit.now) self.old.core }
+        ensures event { Makes Stands self.old self.new (commit_event (commit_value commit.now) ∷ []) }
+
+        // What no commit changes.
+        ensures space { self.new.core.space ≡ self.old.core.space }
+        ensures cap { self.new.core.regions.cap ≡ self.old.core.regions.cap }
+        ensures ticks { self.new.core.ticks ≡ self.old.core.ticks }
+    {
+        validate(commit, &self.space, &self.view())?;
+        Ok(self.accept(commit))
+    }
+
+    // What a commit is checked against.
+    fn view(&self) -> View
+        ensures view { result ≡ view_of self.now.core }
+        ensures few { steps_made self.now.core.phase (row_count self.now.core) < 2 ^ 32 }
+    {
+        let regions = self.sampling.regions();
+        View {
+            phase: self.sampling.phase(),
+            rows: regions.len(),
+            ranges: regions.ranges().len(),
+            unit: regions.unit(),
+            cap: regions.cap(),
+            max: self.attrs.max,
+        }
+    }
+
+    // Makes a commit that is accepted.
+    fn accept(&mut self, commit: &Commit) -> Changed
+        requires { check_of (commit_value commit.now) self.old.core ≡ Ok tt }
+        ensures changed { result ≡ changed_by (commit_value commit.now) self.old.core }
+        ensures committed { self.new ≡ record self.old {
+          core = committed_core (commit_value commit.now) self.old.core;
+        } }
+    {
+        live_commit::accepted_commits_are_within();
+        range_update::updated_rows_are_kept();
+        region_list::shrunk_rows_are_kept();
+        let attrs = commit.attrs.unwrap_or(self.attrs());
+        let void = self.sampling.commit(&self.space, &commit.ranges, attrs.max);
+        self.attrs = attrs;
+        let rows = self.sampling.regions().len();
+        Changed { rows, void }
     }
 
     // Ends a pass whose picks are all loaded.
@@ -270,12 +362,10 @@ impl Monitor {
         ensures cap { self.new.core.regions.cap ≡ self.old.core.regions.cap }
         ensures event { Makes Stands self.old self.new (observe_event ∷ []) }
     {
-        sampler::observe(&mut self.regions, &self.picks);
-        self.checks += u64::from(self.regions.len());
-        self.hits += u64::from(self.hits_so_far);
-        self.ticks += 1;
-        self.since += 1;
-        self.phase = phase_between(self.since, self.attrs.aggr);
+        self.clock.tick();
+        let next = self.clock.next_phase(self.attrs.aggr);
+        let hits = self.sampling.finish(next);
+        self.totals.add(self.sampling.regions().len(), hits);
     }
 
     // Ends a void pass.
@@ -285,10 +375,17 @@ impl Monitor {
         ensures core { self.new.core ≡ passed_core self.old.core }
         ensures event { Makes Stands self.old self.new (observe_event ∷ []) }
     {
-        self.ticks += 1;
-        self.since += 1;
-        self.phase = phase_between(self.since, self.attrs.aggr);
+        self.clock.tick();
+        self.sampling.leave(self.clock.next_phase(self.attrs.aggr));
     }
+}
+
+// The most pages of a merged row.
+fn merge_limit(regions: &Regions, min: u32) -> u32
+    requires { 1 ≤ min }
+    ensures { result ≡ max regions.now.unit (page_total regions.now.ranges / min) }
+{
+    (regions.ranges().total() / min).max(regions.unit())
 }
 
 // The regions of a monitor before its first pass.
@@ -312,36 +409,4 @@ fn first_rows(alloc: Global, setup: &Setup) -> Result<RowBuf, AllocError>
     divide(&setup.ranges, setup.unit, setup.attrs.min, &mut rows);
     shrink_rows(&mut rows, &setup.ranges, setup.attrs.max);
     Ok(rows)
-}
-
-// The phase once this many of the picks are cleared.
-fn phase_cleared(cleared: u32, rows: u32) -> Phase
-    ensures { result ≡ phase_cleared cleared rows }
-{
-    if cleared == rows {
-        Phase::Armed
-    } else {
-        Phase::Clearing { next: cleared }
-    }
-}
-
-// The phase between two passes, with `since` passes since the last aggregation.
-fn phase_between(since: u32, aggr: u32) -> Phase
-    ensures { result ≡ phase_after_pass since aggr }
-{
-    if since >= aggr {
-        Phase::Due
-    } else {
-        Phase::Idle
-    }
-}
-
-// The pick that is loaded next.
-fn next_load(phase: Phase) -> u32
-    ensures { result ≡ load_index phase }
-{
-    match phase {
-        Phase::Checking { next } => next,
-        _ => 0,
-    }
 }

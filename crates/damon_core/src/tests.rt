@@ -1,4 +1,4 @@
-// The opening, and passes over three pages; the expected values were reckoned by hand.
+// The opening, passes over three pages, and an aggregation; the expected values were reckoned by hand.
 ghost use Rattle.std.specs.Prelude.{◌≡◌, [], IfOk};
 
 use crate::Monitor;
@@ -175,5 +175,51 @@ fn an_aggregation_is_due_after_its_passes(rt: HostRuntime) -> Result<(), Fail> {
     end_pass(&rt, &mut monitor);
     assert_eq!(rt; monitor.phase(), Phase::Due);
     assert_eq!(rt; counts(&rt, &monitor), [1, 1, 1]);
+    Ok(())
+}
+
+// The last counts and ages of three rows.
+fn histories(rt: &impl Abort, monitor: &Monitor) -> [(u32, u32); 3] {
+    let rows = monitor.rows();
+    assert_eq!(rt; rows.len(), 3);
+    let (first, second, third) = (rows.row(0), rows.row(1), rows.row(2));
+    [
+        (first.last, first.age),
+        (second.last, second.age),
+        (third.last, third.age),
+    ]
+}
+
+// Carries out an aggregation that is due, with 16 random words.
+fn aggregate(rt: &impl Abort, monitor: &mut Monitor) {
+    let Phase::Due = monitor.phase() else {
+        panic!(rt; "no aggregation is due");
+    };
+    assert_eq!(rt; monitor.attrs().max, 8);
+    monitor.aggregate(&[0; 16]);
+}
+
+#[test]
+fn an_aggregation_reports_and_clears(rt: HostRuntime) -> Result<(), Fail> {
+    let setup = three_pages(rt.alloc(), 1)?;
+    let mut monitor = Monitor::new(rt.alloc(), &setup)?;
+    begin_pass(&rt, &mut monitor);
+    for hit in [false, true, false] {
+        load(&rt, &mut monitor, hit);
+    }
+    end_pass(&rt, &mut monitor);
+    aggregate(&rt, &mut monitor);
+
+    let report = monitor.report();
+    assert_eq!(rt; (report.tick(), report.threshold()), (1, 0));
+    let reported = report.rows();
+    assert_eq!(rt; reported.len(), 3);
+    assert_eq!(rt; (reported[0].count, reported[0].age), (0, 1));
+    assert_eq!(rt; (reported[1].count, reported[1].age), (1, 0));
+    assert_eq!(rt; (reported[2].count, reported[2].age), (0, 1));
+
+    assert_eq!(rt; monitor.phase(), Phase::Idle);
+    assert_eq!(rt; counts(&rt, &monitor), [0, 0, 0]);
+    assert_eq!(rt; histories(&rt, &monitor), [(0, 1), (1, 0), (0, 1)]);
     Ok(())
 }

@@ -226,6 +226,7 @@ clears_advance {R} stream m new words source k n clearing some within shown even
       subst (λ (y : Moment). IsAmid y.state.core.phase) (sym part.state) (subst IsAmid (sym phase) tt));
   passes = omega (arith, ap (λ (c : Core). c.ticks) shown);
   space = space;
+  cap = ap (λ (c : Core). c.regions.cap) shown;
 }
   where
     space : new.core.space ≡ m.core.space
@@ -258,6 +259,7 @@ loads_advance {R} stream m new words source marks from n loading index within ea
       subst (λ (y : Moment). IsAmid y.state.core.phase) (sym part.state) (subst (λ (c : Core). IsAmid c.phase) (sym part.core) (amid_by_loads from j x.state.core.phase least)));
   passes = omega (arith, ap (λ (c : Core). c.ticks) shown);
   space = space;
+  cap = ap (λ (c : Core). c.regions.cap) shown;
 }
   where
     space : new.core.space ≡ m.core.space

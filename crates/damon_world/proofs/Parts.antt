@@ -1,5 +1,5 @@
 -- The words of pages, part by part.
-use Rattle.std.proofs.Common.{◌≡◌, ℕ, zero, suc, ◌+◌, ◌-◌, ◌*◌, ◌/◌, ◌%◌, ◌^◌, ◌≤◌, ◌<◌, Bool, true, false, List, [], ◌∷◌, ◌++◌, drop, length, map, set, get_or-set_same, get_or-set_other, inl, inr, refl, sym, ap, ◌∙◌, subst, arith}
+use Rattle.std.proofs.Common.{◌≡◌, ℕ, zero, suc, ◌-◌, ◌/◌, ◌%◌, ◌≤◌, ◌<◌, true, false, List, [], ◌∷◌, ◌++◌, drop, length, map, set, get_or-set_same, get_or-set_other, inl, inr, refl, sym, ap, ◌∙◌, subst, arith}
 use Rattle.std.specs.Prelude.{◌==◌, replicate, slice_index, slice_index_or, if◌then◌else◌}
 use Rattle.std.proofs.lemmas.Bool.{cases_eq}
 use Rattle.std.proofs.lemmas.Bool.Decides.{nat_tests}
@@ -11,37 +11,33 @@ index_of_rest : (xs : List ℕ) (p : ℕ) → slice_index (drop 1 xs) p ≡ slic
 index_of_rest [] p = refl
 index_of_rest (x ∷ xs) p = refl
 
-pub length-words_of : (ls hs : List ℕ) (ts : List Bool) → length (words_of ls hs ts) ≡ length ts
-length-words_of ls hs [] = refl
-length-words_of ls hs (t ∷ ts) = ap suc (length-words_of (drop 1 ls) (drop 1 hs) ts)
+pub length-words_of : (ls hs : List ℕ) → length (words_of ls hs) ≡ length ls
+length-words_of [] hs = refl
+length-words_of (l ∷ ls) hs = ap suc (length-words_of ls (drop 1 hs))
 
 -- the word of one page
-pub words_of-at : (ls hs : List ℕ) (ts : List Bool) (p : ℕ) → p < length ts → slice_index (words_of ls hs ts) p ≡ word (slice_index ls p) (slice_index hs p) (slice_index_or ts p false)
-words_of-at ls hs [] p here = absurd (omega arith)
-words_of-at ls hs (t ∷ ts) zero here = refl
-words_of-at ls hs (t ∷ ts) (suc p) here =
-    words_of-at (drop 1 ls) (drop 1 hs) ts p (omega arith)
-    ∙ ap (λ l. word l (slice_index (drop 1 hs) p) (slice_index_or ts p false)) (index_of_rest ls p)
-    ∙ ap (λ h. word (slice_index ls (suc p)) h (slice_index_or ts p false)) (index_of_rest hs p)
+pub words_of-at : (ls hs : List ℕ) (p : ℕ) → p < length ls → slice_index (words_of ls hs) p ≡ word (slice_index ls p) (slice_index hs p)
+words_of-at [] hs p here = absurd (omega arith)
+words_of-at (l ∷ ls) hs zero here = refl
+words_of-at (l ∷ ls) hs (suc p) here =
+    words_of-at ls (drop 1 hs) p (omega arith) ∙ ap (λ h. word (slice_index ls p) h) (index_of_rest hs p)
 
--- a page gets another mark
-pub words_of-marked : (ls hs : List ℕ) (ts : List Bool) (p : ℕ) (t : Bool) → words_of ls hs (set ts p t) ≡ set (words_of ls hs ts) p (word (slice_index ls p) (slice_index hs p) t)
-words_of-marked ls hs [] p t = refl
-words_of-marked ls hs (u ∷ ts) zero t = refl
-words_of-marked ls hs (u ∷ ts) (suc p) t =
-    let first = word (slice_index ls 0) (slice_index hs 0) u in
-    let rest = words_of (drop 1 ls) (drop 1 hs) ts in
-    ap (λ ws. first ∷ ws) (words_of-marked (drop 1 ls) (drop 1 hs) ts p t)
-    ∙ ap (λ l. first ∷ set rest p (word l (slice_index (drop 1 hs) p) t)) (index_of_rest ls p)
-    ∙ ap (λ h. first ∷ set rest p (word (slice_index ls (suc p)) h t)) (index_of_rest hs p)
+-- a page gets another low part
+pub words_of-low : (ls hs : List ℕ) (p l : ℕ) → words_of (set ls p l) hs ≡ set (words_of ls hs) p (word l (slice_index hs p))
+words_of-low [] hs p l = refl
+words_of-low (m ∷ ls) hs zero l = refl
+words_of-low (m ∷ ls) hs (suc p) l =
+    let first = word m (slice_index hs 0) in
+    let rest = words_of ls (drop 1 hs) in
+    ap (λ ws. first ∷ ws) (words_of-low ls (drop 1 hs) p l)
+    ∙ ap (λ h. first ∷ set rest p (word l h)) (index_of_rest hs p)
 
--- lists with the same numbers
-words_of-same : (ls ms hs is : List ℕ) (ts : List Bool) → ((q : ℕ) → slice_index ms q ≡ slice_index ls q) → ((q : ℕ) → slice_index is q ≡ slice_index hs q) → words_of ms is ts ≡ words_of ls hs ts
-words_of-same ls ms hs is [] low high = refl
-words_of-same ls ms hs is (t ∷ ts) low high =
-    ap (λ l. word l (slice_index is 0) t ∷ words_of (drop 1 ms) (drop 1 is) ts) (low 0)
-    ∙ ap (λ h. word (slice_index ls 0) h t ∷ words_of (drop 1 ms) (drop 1 is) ts) (high 0)
-    ∙ ap (λ ws. word (slice_index ls 0) (slice_index hs 0) t ∷ ws) (words_of-same (drop 1 ls) (drop 1 ms) (drop 1 hs) (drop 1 is) ts (λ q. index_of_rest ms q ∙ low (suc q) ∙ sym (index_of_rest ls q)) (λ q. index_of_rest is q ∙ high (suc q) ∙ sym (index_of_rest hs q)))
+-- high parts that are the same numbers
+words_of-same : (ls hs is : List ℕ) → ((q : ℕ) → slice_index is q ≡ slice_index hs q) → words_of ls is ≡ words_of ls hs
+words_of-same [] hs is high = refl
+words_of-same (l ∷ ls) hs is high =
+    ap (λ h. word l h ∷ words_of ls (drop 1 is)) (high 0)
+    ∙ ap (λ ws. word l (slice_index hs 0) ∷ ws) (words_of-same ls (drop 1 hs) (drop 1 is) (λ q. index_of_rest is q ∙ high (suc q) ∙ sym (index_of_rest hs q)))
 
 -- what a number that is put leaves of the rest
 puts_rest : (xs ys : List ℕ) (p x : ℕ) → Puts xs ys (suc p) x → Puts (drop 1 xs) (drop 1 ys) p x
@@ -58,18 +54,14 @@ puts_behind : (xs ys : List ℕ) (p x : ℕ) → Puts xs ys (suc p) x → slice_
 puts_behind xs ys p x puts = let test : (0 == suc p) ≡ false = grind (arith, nat_tests) in puts 0 ∙ ap (λ b. if b then x else slice_index xs 0) test
 
 -- a page gets other parts
-pub words_of-put : (ls ms hs is : List ℕ) (ts : List Bool) (p l h : ℕ) (t : Bool) → Puts ls ms p l → Puts hs is p h → words_of ms is (set ts p t) ≡ set (words_of ls hs ts) p (word l h t)
-words_of-put ls ms hs is [] p l h t low high = refl
-words_of-put ls ms hs is (u ∷ ts) zero l h t low high =
-    let rest = words_of (drop 1 ms) (drop 1 is) ts in
-    ap (λ x. word x (slice_index is 0) t ∷ rest) (low 0)
-    ∙ ap (λ x. word l x t ∷ rest) (high 0)
-    ∙ ap (λ ws. word l h t ∷ ws) (words_of-same (drop 1 ls) (drop 1 ms) (drop 1 hs) (drop 1 is) ts (puts_first ls ms l low) (puts_first hs is h high))
-words_of-put ls ms hs is (u ∷ ts) (suc p) l h t low high =
-    let rest = words_of (drop 1 ms) (drop 1 is) (set ts p t) in
-    ap (λ x. word x (slice_index is 0) u ∷ rest) (puts_behind ls ms p l low)
-    ∙ ap (λ x. word (slice_index ls 0) x u ∷ rest) (puts_behind hs is p h high)
-    ∙ ap (λ ws. word (slice_index ls 0) (slice_index hs 0) u ∷ ws) (words_of-put (drop 1 ls) (drop 1 ms) (drop 1 hs) (drop 1 is) ts p l h t (puts_rest ls ms p l low) (puts_rest hs is p h high))
+pub words_of-put : (ls hs is : List ℕ) (p l h : ℕ) → Puts hs is p h → words_of (set ls p l) is ≡ set (words_of ls hs) p (word l h)
+words_of-put [] hs is p l h high = refl
+words_of-put (m ∷ ls) hs is zero l h high =
+    ap (λ x. word l x ∷ words_of ls (drop 1 is)) (high 0)
+    ∙ ap (λ ws. word l h ∷ ws) (words_of-same ls (drop 1 hs) (drop 1 is) (puts_first hs is h high))
+words_of-put (m ∷ ls) hs is (suc p) l h high =
+    ap (λ x. word m x ∷ words_of (set ls p l) (drop 1 is)) (puts_behind hs is p h high)
+    ∙ ap (λ ws. word m (slice_index hs 0) ∷ ws) (words_of-put ls (drop 1 hs) (drop 1 is) p l h (puts_rest hs is p h high))
 
 index_of_zeros : (n q : ℕ) → slice_index (replicate n 0) q ≡ 0
 index_of_zeros zero q = refl
@@ -99,29 +91,21 @@ pub filled_up : (xs : List ℕ) (n : ℕ) → n ≤ length (xs ++ replicate (n -
 filled_up xs n = omega (arith, length-append xs (replicate (n - length xs) 0), length-replicate {A = ℕ} (n - length xs) 0)
 
 -- words of pages that were neither cleared nor touched
-pub zeros_of_none : (n : ℕ) → words_of [] [] (replicate n false) ≡ replicate n 0
+pub zeros_of_none : (n : ℕ) → words_of (replicate n 0) [] ≡ replicate n 0
 zeros_of_none zero = refl
 zeros_of_none (suc n) = ap (λ ws. 0 ∷ ws) (zeros_of_none n)
 
--- what a word tells
-pub pass_of_word : (l h : ℕ) (t : Bool) → word l h t / 2 ≡ 2 ^ 16 * h + l
-pass_of_word l h true = omega arith
-pass_of_word l h false = omega arith
+-- a touch changes the low part alone
+pub touch_of_word : (l h : ℕ) → touched_word (word l h) ≡ word (touched_word l) h
+touch_of_word l h = omega arith
 
-pub touch_of_word : (l h : ℕ) (t : Bool) → touched_word (word l h t) ≡ word l h true
-touch_of_word l h t = ap (λ c. 2 * c + 1) (pass_of_word l h t)
+-- the low part has the mark
+pub mark_of_word : (l h : ℕ) → is_touched_word (word l h) ≡ is_touched_word l
+mark_of_word l h = let rest : word l h % 2 ≡ l % 2 = omega arith in ap (λ n. n == 1) rest
 
-mark_of_word : (l h : ℕ) (t : Bool) → is_touched_word (word l h t) ≡ t
-mark_of_word l h true = (let e : word l h true % 2 ≡ 1 = omega arith in grind (arith, nat_tests))
-mark_of_word l h false = (let e : word l h false % 2 ≡ 0 = omega arith in grind (arith, nat_tests))
-
--- a pass is its lowest bits and those above
-pub word_of_pass : (pass : ℕ) → word (pass % 65536) (pass / 65536) false ≡ 2 * pass
-word_of_pass pass = omega arith
-
-pub marks_of_words : (ls hs : List ℕ) (ts : List Bool) → map is_touched_word (words_of ls hs ts) ≡ ts
-marks_of_words ls hs [] = refl
-marks_of_words ls hs (t ∷ ts) = ap (λ b. b ∷ map is_touched_word (words_of (drop 1 ls) (drop 1 hs) ts)) (mark_of_word (slice_index ls 0) (slice_index hs 0) t) ∙ ap (λ bs. t ∷ bs) (marks_of_words (drop 1 ls) (drop 1 hs) ts)
+-- a word is its lowest bits and those above
+pub word_of_parts : (w : ℕ) → word (w % 65536) (w / 65536) ≡ w
+word_of_parts w = omega arith
 
 -- the mark of one page
 pub mark_of_page : (words : List ℕ) (p : ℕ) → p < length words → slice_index_or (map is_touched_word words) p false ≡ is_touched_word (slice_index words p)

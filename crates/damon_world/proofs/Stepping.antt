@@ -1,5 +1,5 @@
 -- Each kind of step of a world is its next event.
-use Rattle.std.proofs.Common.{◌≡◌, ℕ, ◌+◌, ◌≤◌, ◌<◌, Bool, true, false, cond, List, [], ◌∷◌, length, refl, sym, ap, ◌∙◌, subst, arith}
+use Rattle.std.proofs.Common.{◌≡◌, ℕ, ◌+◌, ◌*◌, ◌≤◌, ◌<◌, Bool, true, false, cond, List, [], ◌∷◌, length, refl, sym, ap, ◌∙◌, subst, arith}
 use Rattle.std.specs.Prelude.{◌==◌}
 use Rattle.std.proofs.lemmas.Bool.Decides.{nat_tests}
 use Rattle.rand_core.specs.Stream.{Stream}
@@ -8,19 +8,16 @@ use Rattle.live_commit.specs.declared.phase.Phase.{Phase}
 use Rattle.live_commit.specs.declared.phase.Phase.TheVariants.{Idle, Clearing, Armed, Checking, Void, Due}
 use Rattle.damon_core.specs.Note.{word_of}
 use Rattle.damon_core.specs.State.{Core, State, row_count}
-use Rattle.damon_core.specs.Event.{Event, prepare, load, observe, IsLoading, IsObserving, load_index, next_hit}
-use Rattle.damon_core.specs.After.{by_load, by_observe, passed_core, prepared_core}
+use Rattle.damon_core.specs.Event.{Event, prepare, load, observe, aggregate, IsLoading, IsObserving, load_index, next_hit}
+use Rattle.damon_core.specs.After.{after, by_load, by_observe, passed_core, prepared_core}
+use Rattle.damon_core.specs.Aggregate.{aggregated_core}
 use Rattle.damon_core.specs.Makes.{Makes}
 use Rattle.damon_core.specs.Reached.{AllFit, Reached}
 use Rattle.damon_core.specs.Stands.{MonitorView, Stands}
 use Rattle.damon_world.specs.Draws.{drawn, drawn_rest}
 use Rattle.damon_world.specs.Stands.{StandsAt, WorldView}
-use Rattle.damon_world.specs.Moment.{Moment, event_in, moved, next_event}
+use Rattle.damon_world.specs.Moment.{Moment, drawn_by, event_in, moved, next_event}
 use Rattle.damon_world.specs.Kept.{IsAdvance}
-
--- the phase of the state is that of the monitor
-phase_of : (m : MonitorView) (s : State) → Stands m s → s.core.phase ≡ m.core.phase
-phase_of m s stands = ap (λ (c : Core). c.phase) (sym stands.same)
 
 pub not_last : (k rows : ℕ) → k < rows → (k == rows) ≡ false
 not_last k rows below = grind (arith, nat_tests)
@@ -63,36 +60,69 @@ event_in-observe Idle s stream fits = absurd fits
 event_in-observe Due s stream fits = absurd fits
 
 -- one step, from the event that comes next at each moment
-one_step : {R : Type 0} (stream : R → Stream) (old new : WorldView R) → ((x : Moment) → Reached x.state → StandsAt stream old x → (e : Event) × (next_event x.state x.stream ≡ e) × (AllFit x.state (e ∷ []) × StandsAt stream new (moved x e))) → new.monitor.core.ticks ≤ old.monitor.core.ticks + 1 → new.monitor.core.space ≡ old.monitor.core.space → IsAdvance stream old new 1
-one_step stream old new step passes space = record {
+one_step : {R : Type 0} (stream : R → Stream) (old new : WorldView R) → ((x : Moment) → Reached x.state → StandsAt stream old x → (e : Event) × (next_event x.state x.stream ≡ e) × (AllFit x.state (e ∷ []) × StandsAt stream new (moved x e))) → new.monitor.core.ticks ≤ old.monitor.core.ticks + 1 → new.monitor.core.space ≡ old.monitor.core.space → new.monitor.core.regions.cap ≡ old.monitor.core.regions.cap → IsAdvance stream old new 1
+one_step stream old new step passes space cap = record {
   plays = λ x reached stands.
       (let made = step x reached stands in
       subst (λ e. AllFit x.state (e ∷ []) × StandsAt stream new (moved x e)) (sym made.1) made.2);
   amid = λ x reached stands k least below. absurd (omega arith);
   passes = passes;
   space = space;
+  cap = cap;
 }
 
-pub prepare_advances : {R : Type 0} (stream : R → Stream) (m new : MonitorView) (words : List ℕ) (old_source new_source : R) (ws : List ℕ) → m.core.phase ≡ Idle → length ws ≡ row_count m.core → ws ≡ drawn (row_count m.core) (stream old_source) → stream new_source ≡ drawn_rest (row_count m.core) (stream old_source) → new.core ≡ prepared_core ws m.core → Makes Stands m new (prepare ws ∷ []) → IsAdvance stream (record { monitor = m; words = words; source = old_source }) (record { monitor = new; words = words; source = new_source }) 1
-prepare_advances {R} stream m new words old_source new_source ws idle count drew rest shown event =
-    let space : new.core.space ≡ m.core.space = ap (λ (c : Core). c.space) shown in
+-- the event of a step that takes the next n random words, and leaves the notes
+record DrawsNext (m : MonitorView) (e : Event) (n : ℕ) (words : List ℕ) : Type 0 where
+  next : (s : State) (stream : Stream) → m.core ≡ s.core → words ≡ drawn n stream → next_event s stream ≡ e
+  taken : drawn_by e ≡ n
+  notes : (s : State) → (after s e).notes ≡ s.notes
+
+-- one step that takes random words
+draws_advance : {R : Type 0} (stream : R → Stream) (m new : MonitorView) (words : List ℕ) (old_source new_source : R) (e : Event) (n : ℕ) (ws : List ℕ) → DrawsNext m e n ws → ws ≡ drawn n (stream old_source) → stream new_source ≡ drawn_rest n (stream old_source) → Makes Stands m new (e ∷ []) → new.core.ticks ≡ m.core.ticks → new.core.space ≡ m.core.space → new.core.regions.cap ≡ m.core.regions.cap → IsAdvance stream (record { monitor = m; words = words; source = old_source }) (record { monitor = new; words = words; source = new_source }) 1
+draws_advance {R} stream m new words old_source new_source e n ws draws drew rest event ticks space cap =
     one_step stream (record { monitor = m; words = words; source = old_source }) (record { monitor = new; words = words; source = new_source })
     (λ x reached stands.
     (let s = x.state in
-    let ph : s.core.phase ≡ Idle = phase_of m s stands.state.monitor ∙ idle in
-    let rows : row_count m.core ≡ row_count s.core = ap row_count stands.state.monitor.same in
-    let next : next_event s x.stream ≡ prepare ws = ap (λ p. event_in p s x.stream) ph ∙ ap prepare (ap (λ n. drawn n x.stream) (sym rows) ∙ ap (drawn (row_count m.core)) (sym stands.words) ∙ sym drew) in
+    let same = stands.state.monitor.same in
+    let next : next_event s x.stream ≡ e = draws.next s x.stream same (drew ∙ ap (drawn n) stands.words) in
     let made = event s reached stands.state.monitor in
-    let left : stream new_source ≡ drawn_rest (length ws) x.stream = rest ∙ ap (drawn_rest (row_count m.core)) stands.words ∙ ap (λ n. drawn_rest n x.stream) (sym count) in
-    let here : StandsAt stream (record { monitor = new; words = words; source = new_source }) (moved x (prepare ws)) = record {
-      state = record { monitor = made.1; words = λ p below. stands.state.words p (subst (λ ts. p < pages_of ts) space below) };
+    let left : stream new_source ≡ drawn_rest (drawn_by e) x.stream = rest ∙ ap (drawn_rest n) stands.words ∙ ap (λ k. drawn_rest k x.stream) (sym draws.taken) in
+    let here : StandsAt stream (record { monitor = new; words = words; source = new_source }) (moved x e) = record {
+      state = record {
+        monitor = made.1;
+        words = λ p below. stands.state.words p (subst (λ ts. p < pages_of ts) space below) ∙ ap (λ notes. word_of notes p) (sym (draws.notes s));
+      };
       words = left;
     } in
-    (prepare ws, next, (made.0, here))))
-    (omega (arith, ap (λ (c : Core). c.ticks) shown)) space
+    (e, next, (made.0, here))))
+    (omega (arith, ticks)) space cap
 
-pub observe_advances : {R : Type 0} (stream : R → Stream) (m new : MonitorView) (words : List ℕ) (source : R) → IsObserving m.core.phase (row_count m.core) → new.core ≡ passed_core (record m.core { regions = new.core.regions }) → Makes Stands m new (observe ∷ []) → IsAdvance stream (record { monitor = m; words = words; source = source }) (record { monitor = new; words = words; source = source }) 1
-observe_advances {R} stream m new words source fits shown event =
+pub prepare_advances : {R : Type 0} (stream : R → Stream) (m new : MonitorView) (words : List ℕ) (old_source new_source : R) (ws : List ℕ) → m.core.phase ≡ Idle → length ws ≡ row_count m.core → ws ≡ drawn (row_count m.core) (stream old_source) → stream new_source ≡ drawn_rest (row_count m.core) (stream old_source) → new.core ≡ prepared_core ws m.core → Makes Stands m new (prepare ws ∷ []) → IsAdvance stream (record { monitor = m; words = words; source = old_source }) (record { monitor = new; words = words; source = new_source }) 1
+prepare_advances stream m new words old_source new_source ws idle count drew rest shown event =
+    draws_advance stream m new words old_source new_source (prepare ws) (row_count m.core) ws
+    (record {
+      next = λ s t same is.
+          (ap (λ p. event_in p s t) (ap (λ (c : Core). c.phase) (sym same) ∙ idle)
+          ∙ ap prepare (ap (λ n. drawn n t) (ap row_count (sym same)) ∙ sym is));
+      taken = count;
+      notes = λ s. refl;
+    })
+    drew rest event (ap (λ (c : Core). c.ticks) shown) (ap (λ (c : Core). c.space) shown) (ap (λ (c : Core). c.regions.cap) shown)
+
+pub aggregate_advances : {R : Type 0} (stream : R → Stream) (m new : MonitorView) (words : List ℕ) (old_source new_source : R) (ws : List ℕ) → m.core.phase ≡ Due → length ws ≡ 2 * m.core.attrs.max → ws ≡ drawn (2 * m.core.attrs.max) (stream old_source) → stream new_source ≡ drawn_rest (2 * m.core.attrs.max) (stream old_source) → new.core ≡ aggregated_core ws m.core → Makes Stands m new (aggregate ws ∷ []) → IsAdvance stream (record { monitor = m; words = words; source = old_source }) (record { monitor = new; words = words; source = new_source }) 1
+aggregate_advances stream m new words old_source new_source ws due count drew rest shown event =
+    draws_advance stream m new words old_source new_source (aggregate ws) (2 * m.core.attrs.max) ws
+    (record {
+      next = λ s t same is.
+          (ap (λ p. event_in p s t) (ap (λ (c : Core). c.phase) (sym same) ∙ due)
+          ∙ ap aggregate (ap (λ n. drawn (2 * n) t) (ap (λ (c : Core). c.attrs.max) (sym same)) ∙ sym is));
+      taken = count;
+      notes = λ s. refl;
+    })
+    drew rest event (ap (λ (c : Core). c.ticks) shown) (ap (λ (c : Core). c.space) shown) (ap (λ (c : Core). c.regions.cap) shown)
+
+pub observe_advances : {R : Type 0} (stream : R → Stream) (m new : MonitorView) (words : List ℕ) (source : R) → IsObserving m.core.phase (row_count m.core) → new.core ≡ passed_core (record m.core { regions = new.core.regions }) → new.core.regions.cap ≡ m.core.regions.cap → Makes Stands m new (observe ∷ []) → IsAdvance stream (record { monitor = m; words = words; source = source }) (record { monitor = new; words = words; source = source }) 1
+observe_advances {R} stream m new words source fits shown cap event =
     let space : new.core.space ≡ m.core.space = ap (λ (c : Core). c.space) shown in
     one_step stream (record { monitor = m; words = words; source = source }) (record { monitor = new; words = words; source = source })
     (λ x reached stands.
@@ -104,7 +134,7 @@ observe_advances {R} stream m new words source fits shown event =
       words = stands.words;
     } in
     (observe, event_in-observe s.core.phase s x.stream observing, (made.0, here))))
-    (omega (arith, ap (λ (c : Core). c.ticks) shown)) space
+    (omega (arith, ap (λ (c : Core). c.ticks) shown)) space cap
 
 pub load_below : (ph : Phase) (rows : ℕ) → IsLoading ph rows → 0 < rows → load_index ph < rows
 load_below Armed rows fits some = some

@@ -8,7 +8,7 @@ use Rattle.damon_core.specs.Event.{Event, prepare, clear, load, observe, aggrega
 use Rattle.damon_core.specs.After.{after}
 use Rattle.damon_world.specs.Draws.{drawn, drawn_rest}
 use Rattle.damon_world.specs.declared.world.Stepped.{Stepped}
-use Rattle.damon_world.specs.declared.world.Stepped.TheVariants.{Prepared, Cleared, Loaded, Observed}
+use Rattle.damon_world.specs.declared.world.Stepped.TheVariants.{Prepared, Cleared, Loaded, Observed, Aggregated}
 
 -- a state, and the random words from there on
 pub record Moment : Type 0 where
@@ -35,7 +35,7 @@ Tells (Clearing k) s told = told ≡ Cleared (slice_index s.core.picks k)
 Tells Armed s told = told ≡ Loaded (load_page s) (next_hit s)
 Tells (Checking k) s told = told ≡ (if k == row_count s.core then Observed false else Loaded (load_page s) (next_hit s))
 Tells Void s told = told ≡ Observed true
-Tells Due s told = ⊥
+Tells Due s told = told ≡ Aggregated
 
 -- how many random words an event takes
 abbrev pub drawn_by : Event → ℕ

@@ -1,21 +1,15 @@
 -- A pass, by its steps.
 use Rattle.std.specs.Prelude.{◌≡◌, ℕ, ◌+◌, ◌*◌, ◌≤◌, ◌<◌, Bool, List, [], ◌∷◌, ◌++◌, length, map}
-use Rattle.live_commit.specs.declared.phase.Phase.{Phase}
-use Rattle.live_commit.specs.declared.phase.Phase.TheVariants.{Idle, Due}
+use Rattle.live_commit.specs.declared.phase.Phase.TheVariants.{Idle}
 use Rattle.damon_core.specs.State.{Core, row_count}
 use Rattle.damon_core.specs.Event.{Event, prepare, load, observe}
+use Rattle.damon_core.specs.Pass.{IsBetween}
 use Rattle.damon_core.specs.Several.{clears}
 use Rattle.damon_world.specs.Moment.{Moment, events_of_steps, stepped_times}
 
 -- the steps of a pass over this many rows
 abbrev pub pass_steps : ℕ → ℕ
 pass_steps rows = 2 * rows + 2
-
--- no pass is under way
-abbrev pub IsBetween : Phase → Type 0
-IsBetween Idle = Unit {0}
-IsBetween Due = Unit {0}
-IsBetween _ = ⊥
 
 -- The events are those of a pass: it is prepared, the pick of each row is cleared, each is loaded, and the pass is
 -- observed.

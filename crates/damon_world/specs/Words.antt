@@ -1,20 +1,14 @@
 -- The words of pages.
-use Rattle.std.specs.Prelude.{◌≡◌, ℕ, zero, suc, ◌+◌, ◌*◌, ◌/◌, ◌%◌, ◌^◌, ◌≤◌, Bool, ◌==◌, List, [], ◌∷◌, drop, slice_index, slice_set, if◌then◌else◌, cond}
+use Rattle.std.specs.Prelude.{◌≡◌, ℕ, zero, suc, ◌+◌, ◌*◌, ◌/◌, ◌%◌, ◌^◌, Bool, ◌==◌, List, [], ◌∷◌, drop, slice_index, slice_set, if◌then◌else◌}
 
--- the word of a page: twice the pass that cleared it last, plus 1 where the page was touched since; the pass is
--- given by its lowest 16 bits and the bits above them
-abbrev pub word : ℕ → ℕ → Bool → ℕ
-word low high touched = 2 * (2 ^ 16 * high + low) + cond touched 1 0
+-- the word of a page by its lowest 16 bits and the bits above them
+abbrev pub word : ℕ → ℕ → ℕ
+word low high = 2 ^ 16 * high + low
 
--- the words of pages by their marks and the parts of their passes; a part that is not stored is 0
-abbrev pub words_of : List ℕ → List ℕ → List Bool → List ℕ
-words_of lows highs [] = []
-words_of lows highs (t ∷ touched) = word (slice_index lows 0) (slice_index highs 0) t ∷ words_of (drop 1 lows) (drop 1 highs) touched
-
--- there is room for the parts of each page's pass
-pub record IsPlainWords (pages low_room high_room : ℕ) : Type 0 where
-  pub lows : pages ≤ low_room
-  pub highs : pages ≤ high_room
+-- the words of pages by these parts; a high part that is not stored is 0
+abbrev pub words_of : List ℕ → List ℕ → List ℕ
+words_of [] highs = []
+words_of (low ∷ lows) highs = word low (slice_index highs 0) ∷ words_of lows (drop 1 highs)
 
 -- the new list has this number at this place and is the old list elsewhere; a place past the end counts as 0
 abbrev pub Puts : List ℕ → List ℕ → ℕ → ℕ → Type 0

@@ -1,37 +1,36 @@
-ghost use Rattle.std.specs.Prelude.{◌≡◌, ◌+◌, ◌-◌, ◌*◌, ◌/◌, ◌^◌, ◌≤◌, ◌<◌, ◌++◌, ◌&&◌, ◌||◌, ℕ, false, nat_le, nat_lt, length, map, replicate, slice_index, slice_index_or, slice_set, if◌then◌else◌, IfOk, vec_capacity};
-ghost use Rattle.damon_world.specs.Words.{Puts, is_touched_word, touched_word};
+ghost use Rattle.std.specs.Prelude.{◌≡◌, ◌-◌, ◌*◌, ◌/◌, ◌^◌, ◌≤◌, ◌<◌, ◌++◌, ◌&&◌, ℕ, nat_le, nat_lt, length, replicate, slice_index, slice_set, if◌then◌else◌, IfOk, vec_capacity};
+ghost use Rattle.damon_world.specs.Words.{Puts, touched_word};
 
+use sampler::Marks;
 use std::alloc::{AllocError, Global};
 use std::marker::Model;
 
-// How many passes the lowest bits tell apart.
+// How many numbers the lowest 16 bits of a word tell apart.
 const LOWS: u64 = 0x1_0000;
 
 /// The words of the pages of one thread. A page's word is `2 × c + t`, where c is the pass that
 /// cleared it last, 0 if none did, and t is 1 where it was touched since, or ever where none did.
 ///
-/// A million words of 64 bits are more than the processor's translation buffers reach, and each clear
-/// would wait for memory. So the parts of a word are kept apart, and those of c only from the first
-/// pass on that has any.
+/// The lowest 16 bits of each word, with the mark t, are kept apart from the bits above them, which
+/// are kept only from the first pass on that has any. For a million pages these are 2 MB, which stay
+/// within the nearest caches. Words of 64 bits are 8 MB, and each clear would wait for memory.
 #[derive(Drop)]
 pub struct PlainWords {
-    // The lowest 16 bits of each c; empty until a page is cleared. The room is taken once.
+    // The lowest 16 bits of each word.
     lows: Vec<u16>,
     // The bits above them; empty until one of them is not 0. The room is taken once.
     highs: Vec<u32>,
-    touched: Vec<bool>,
 }
 
 impl Model for PlainWords {
-    ghost use Rattle.std.specs.Prelude.{ℕ, List, length, vec_capacity};
-    ghost use Rattle.damon_world.specs.Words.{IsPlainWords, words_of};
+    ghost use Rattle.std.specs.Prelude.{ℕ, ◌≤◌, List, length, vec_capacity};
+    ghost use Rattle.damon_world.specs.Words.{words_of};
 
     ghost Value = { List ℕ };
 
-    ghost view = { λ w. words_of w.lows.items w.highs.items w.touched.items };
+    ghost view = { λ w. words_of w.lows.items w.highs.items };
 
-    ghost invariant = { λ w. IsPlainWords (length w.touched.items)
-        (vec_capacity w.lows) (vec_capacity w.highs) };
+    ghost invariant = { λ w. length w.lows.items ≤ vec_capacity w.highs };
 }
 
 impl PlainWords {
@@ -41,14 +40,9 @@ impl PlainWords {
     pub fn new(alloc: Global, pages: u32) -> Result<PlainWords, AllocError>
         ensures { IfOk result (λ w. w ≡ replicate pages 0) }
     {
-        let lows = Vec::with_capacity(alloc, pages as usize)?;
+        let lows = vec![in alloc; 0; pages as usize]?;
         let highs = Vec::with_capacity(alloc, pages as usize)?;
-        let touched = vec![in alloc; false; pages as usize]?;
-        Ok(PlainWords {
-            lows,
-            highs,
-            touched,
-        })
+        Ok(PlainWords { lows, highs })
     }
 
     /// Touches a page, and returns the pass that cleared it last, 0 if none did.
@@ -58,8 +52,9 @@ impl PlainWords {
         ensures word { self.new
             ≡ slice_set self.old page (touched_word (slice_index self.old page)) }
     {
-        self.touched[page as usize] = true;
-        LOWS * u64::from(high_at(&self.highs, page)) + u64::from(low_at(&self.lows, page))
+        let low = self.lows[page as usize];
+        self.lows[page as usize] = touched(low);
+        (LOWS * u64::from(high_at(&self.highs, page)) + u64::from(low)) / 2
     }
 
     /// Touches the pages from `from` to before `to`.
@@ -72,60 +67,52 @@ impl PlainWords {
             ≡ (if nat_le from p && nat_lt p to
             then touched_word (slice_index self.old p) else slice_index self.old p) }
     {
-        mark(&mut self.touched, from, to);
+        touch_all(&mut self.lows, from, to);
     }
 
-    /// Clears a page in this pass, which is below 2^48.
+    /// Clears a page in this pass, which is below 2^47.
     pub fn clear(&mut self, page: u32, pass: u64)
         requires page { page < length self.old }
-        requires pass { pass < 2 ^ 48 }
+        requires pass { pass < 2 ^ 47 }
         ensures { self.new ≡ slice_set self.old page (2 * pass) }
     {
-        let pages = self.touched.len();
-        put_low(&mut self.lows, pages, page, (pass % LOWS) as u16);
-        put_high(&mut self.highs, pages, page, (pass / LOWS) as u32);
-        unmark(&mut self.touched, page);
-    }
-
-    /// Whether each page was touched since it was cleared last, or ever where it was not.
-    pub fn marks(&self) -> &[bool]
-        ensures { result.now ≡ map is_touched_word self.now }
-    {
-        &self.touched
+        let pages = self.lows.len();
+        let word = 2 * pass;
+        self.lows[page as usize] = (word % LOWS) as u16;
+        put_high(&mut self.highs, pages, page, (word / LOWS) as u32);
     }
 }
 
-// Sets the marks from page `from` to before page `to`.
-fn mark(touched: &mut [bool], from: u32, to: u32)
+impl Marks for PlainWords {
+    ghost use Rattle.std.specs.Prelude.{map};
+    ghost use Rattle.damon_world.specs.Words.{is_touched_word};
+
+    ghost marks_of = { λ words. map is_touched_word words };
+
+    fn is_marked(&self, page: u32) -> bool {
+        self.lows[page as usize] % 2 == 1
+    }
+}
+
+// The lowest bits of a page's word after a touch: the last one is 1.
+fn touched(low: u16) -> u16
+    ensures { result ≡ touched_word low }
+{
+    2 * (low / 2) + 1
+}
+
+// Touches the pages from `from` to before `to` by the lowest bits of their words.
+fn touch_all(lows: &mut [u16], from: u32, to: u32)
     requires order { from ≤ to }
-    requires within { to ≤ length touched.old }
-    ensures len { length touched.new ≡ length touched.old }
-    ensures marks { (p : ℕ)
-        → slice_index_or touched.new p false
-        ≡ ((nat_le from p && nat_lt p to) || slice_index_or touched.old p false) }
+    requires within { to ≤ length lows.old }
+    ensures len { length lows.new ≡ length lows.old }
+    ensures lows { (p : ℕ)
+        → slice_index lows.new p
+        ≡ (if nat_le from p && nat_lt p to
+        then touched_word (slice_index lows.old p) else slice_index lows.old p) }
 {
     for page in from..to {
-        touched[page as usize] = true;
-    }
-}
-
-// Clears a page's mark. Most pages have none, and a read is faster than a write.
-fn unmark(touched: &mut Vec<bool>, page: u32)
-    requires { page < length touched.old.items }
-    ensures { touched.new.items ≡ slice_set touched.old.items page false }
-{
-    if touched[page as usize] {
-        touched[page as usize] = false;
-    }
-}
-
-// The lowest bits of a page's pass, 0 if none are stored.
-fn low_at(lows: &[u16], page: u32) -> u16
-    ensures { result ≡ slice_index lows.now page }
-{
-    match lows.get(page as usize) {
-        Some(low) => *low,
-        None => 0,
+        lows[page as usize] = touched(lows[page as usize]);
     }
 }
 
@@ -137,17 +124,6 @@ fn high_at(highs: &[u32], page: u32) -> u32
         Some(high) => *high,
         None => 0,
     }
-}
-
-// Stores the lowest bits of a page's pass, with zeros for the pages that had none.
-fn put_low(lows: &mut Vec<u16>, pages: usize, page: u32, low: u16)
-    requires page { page < pages }
-    requires room { pages ≤ vec_capacity lows.old }
-    ensures puts { Puts lows.old.items lows.new.items page low }
-    ensures capacity { vec_capacity lows.new ≡ vec_capacity lows.old }
-{
-    fill_up(lows, pages, 0);
-    lows[page as usize] = low;
 }
 
 // Stores the bits above the lowest, unless none are stored and these are 0.

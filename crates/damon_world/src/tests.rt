@@ -1,4 +1,5 @@
-// One pass over three pages with touches in it; the expected values were reckoned by hand.
+// A pass over three pages with touches in it, and an aggregation; the expected values were reckoned by
+// hand.
 ghost use Rattle.std.specs.Prelude.{◌≡◌, [], IfOk};
 
 use crate::{Stepped, World};
@@ -10,7 +11,7 @@ use std::process::Abort;
 use std::test::Fail;
 
 // The setup of one target of three pages that is watched whole, without a slot.
-fn three_pages(alloc: Global) -> Result<Setup, Fail>
+fn three_pages(alloc: Global, aggr: u32) -> Result<Setup, Fail>
     ensures { IfOk result (λ s. s.slots.list ≡ []) }
 {
     let space = Space::new(
@@ -23,7 +24,7 @@ fn three_pages(alloc: Global) -> Result<Setup, Fail>
     let attrs = Attrs {
         min: 3,
         max: 8,
-        aggr: 5,
+        aggr,
     };
     let range = RangeSpec {
         target: 0,
@@ -35,29 +36,23 @@ fn three_pages(alloc: Global) -> Result<Setup, Fail>
     Ok(setup)
 }
 
-// A world of three pages.
-fn new_world(alloc: Global) -> Result<World<Lcg64Xsh32>, Fail> {
-    let setup = three_pages(alloc)?;
+// A world of three pages that aggregates after this many passes.
+fn new_world(alloc: Global, aggr: u32) -> Result<World<Lcg64Xsh32>, Fail> {
+    let setup = three_pages(alloc, aggr)?;
     Ok(World::new(alloc, &setup, Lcg64Xsh32::new(42, 54))?)
 }
 
 // Makes the next step.
 fn step(rt: &impl Abort, world: &mut World<Lcg64Xsh32>) -> Stepped {
-    assert_eq!(rt; world.monitor().ticks(), 0);
-    match world.monitor().phase() {
-        Phase::Due => panic!(rt; "an aggregation is due"),
-        _ => world.step(),
-    }
+    assert!(rt; world.monitor().ticks() < 2);
+    world.step()
 }
 
 // Makes the next steps of one kind, at most `most`.
 fn advance(rt: &impl Abort, world: &mut World<Lcg64Xsh32>, most: u64) -> u64 {
     assert_eq!(rt; world.monitor().ticks(), 0);
     assert!(rt; most > 0);
-    match world.monitor().phase() {
-        Phase::Due => panic!(rt; "an aggregation is due"),
-        _ => world.advance(most),
-    }
+    world.advance(most)
 }
 
 // Touches a page of the three.
@@ -102,10 +97,29 @@ fn counts(rt: &impl Abort, world: &World<Lcg64Xsh32>) -> [u32; 3] {
     [rows.row(0).count, rows.row(1).count, rows.row(2).count]
 }
 
+// The last counts of three rows, and their ages.
+fn lasts_and_ages(rt: &impl Abort, world: &World<Lcg64Xsh32>) -> [(u32, u32); 3] {
+    let rows = world.monitor().rows();
+    assert_eq!(rt; rows.len(), 3);
+    let (first, second, third) = (rows.row(0), rows.row(1), rows.row(2));
+    [
+        (first.last, first.age),
+        (second.last, second.age),
+        (third.last, third.age),
+    ]
+}
+
+// The counts that the last aggregation reported of three rows.
+fn reported(rt: &impl Abort, world: &World<Lcg64Xsh32>) -> [u32; 3] {
+    let rows = world.monitor().report().rows();
+    assert_eq!(rt; rows.len(), 3);
+    [rows[0].count, rows[1].count, rows[2].count]
+}
+
 #[test]
 fn a_touch_between_clear_and_load_is_counted_once(rt: HostRuntime) -> Result<(), Fail> {
     for times in 1..3 {
-        let mut world = new_world(rt.alloc())?;
+        let mut world = new_world(rt.alloc(), 5)?;
         assert_eq!(rt; touch(&rt, &mut world, 0), 0);
         clear(&rt, &mut world);
         for _ in 0..times {
@@ -120,7 +134,7 @@ fn a_touch_between_clear_and_load_is_counted_once(rt: HostRuntime) -> Result<(),
 
 #[test]
 fn a_touch_before_the_clear_is_no_hit(rt: HostRuntime) -> Result<(), Fail> {
-    let mut world = new_world(rt.alloc())?;
+    let mut world = new_world(rt.alloc(), 5)?;
     assert_eq!(rt; touch(&rt, &mut world, 1), 0);
     clear(&rt, &mut world);
     check(&rt, &mut world, [false, false, false]);
@@ -130,7 +144,7 @@ fn a_touch_before_the_clear_is_no_hit(rt: HostRuntime) -> Result<(), Fail> {
 
 #[test]
 fn steps_of_one_kind_are_made_at_once(rt: HostRuntime) -> Result<(), Fail> {
-    let mut world = new_world(rt.alloc())?;
+    let mut world = new_world(rt.alloc(), 5)?;
     for (most, made) in [(9, 1), (2, 2), (9, 1)] {
         assert_eq!(rt; advance(&rt, &mut world, most), made);
     }
@@ -141,5 +155,22 @@ fn steps_of_one_kind_are_made_at_once(rt: HostRuntime) -> Result<(), Fail> {
     }
     assert_eq!(rt; counts(&rt, &world), [0, 1, 1]);
     assert_eq!(rt; (world.monitor().ticks(), world.monitor().hits()), (1, 2));
+    Ok(())
+}
+
+#[test]
+fn an_aggregation_is_a_step(rt: HostRuntime) -> Result<(), Fail> {
+    let mut world = new_world(rt.alloc(), 1)?;
+    clear(&rt, &mut world);
+    assert_eq!(rt; touch(&rt, &mut world, 1), 1);
+    check(&rt, &mut world, [false, true, false]);
+    assert_eq!(rt; world.monitor().phase(), Phase::Due);
+    assert_eq!(rt; step(&rt, &mut world), Stepped::Aggregated);
+    assert_eq!(rt; world.monitor().phase(), Phase::Idle);
+    assert_eq!(rt; counts(&rt, &world), [0, 0, 0]);
+    assert_eq!(rt; lasts_and_ages(&rt, &world), [(0, 1), (1, 0), (0, 1)]);
+    let report = world.monitor().report();
+    assert_eq!(rt; (report.tick(), report.threshold()), (1, 0));
+    assert_eq!(rt; reported(&rt, &world), [0, 1, 0]);
     Ok(())
 }

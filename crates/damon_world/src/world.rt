@@ -1,8 +1,10 @@
-ghost use Rattle.std.specs.Prelude.{◌≡◌, ◌≢◌, ◌+◌, ◌-◌, ◌*◌, ◌/◌, ◌^◌, ◌≤◌, ◌<◌, [], ◌∷◌, min, length, IfOk, slice_index, vec_capacity};
+ghost use Rattle.std.specs.Prelude.{◌≡◌, ◌+◌, ◌-◌, ◌*◌, ◌/◌, ◌^◌, ◌≤◌, ◌<◌, [], ◌∷◌, min, length, IfOk, None, slice_index, vec_capacity};
 ghost use Rattle.damon_types.specs.Space.{pages_of};
+ghost use Rattle.live_commit.specs.Commit.{commit_value};
 ghost use Rattle.live_commit.specs.SetupView.{value_of};
+ghost use Rattle.damon_core.specs.Commit.{commit_answer, core_after_commit};
 ghost use Rattle.damon_core.specs.State.{State, opening, opening_core, row_count};
-ghost use Rattle.damon_core.specs.Event.{IsLoading, IsObserving, load_index, touch as touch_event};
+ghost use Rattle.damon_core.specs.Event.{IsLoading, IsObserving, load_index, commit as commit_event, touch as touch_event};
 ghost use Rattle.damon_core.specs.Makes.{Makes};
 ghost use Rattle.damon_core.specs.Pass.{IsInPass};
 ghost use Rattle.damon_core.specs.Reached.{Reached};
@@ -16,9 +18,10 @@ ghost use Rattle.damon_world.specs.Plays.{Plays};
 ghost use Rattle.damon_world.specs.Kept.{IsAdvance};
 
 use crate::PlainWords;
-use damon_core::Monitor;
-use live_commit::{Phase, Setup};
+use damon_core::{Changed, Monitor};
+use live_commit::{Commit, CommitFault, Phase, Setup};
 use rand_core::Rng;
+use sampler::Marks;
 use std::alloc::{AllocError, Global};
 use std::marker::Model;
 
@@ -33,6 +36,8 @@ pub enum Stepped {
     Loaded { page: u32, hit: bool },
     /// The pass was observed, as a void one or not.
     Observed { void: bool },
+    /// An aggregation was carried out.
+    Aggregated,
 }
 
 /// A monitor with the words of the pages of one thread.
@@ -69,7 +74,7 @@ impl<R: Rng + Drop> World<R> {
     {
         let monitor = Monitor::new(alloc, setup)?;
         let words = PlainWords::new(alloc, setup.space.pages())?;
-        let drawn = Vec::with_capacity(alloc, setup.cap as usize)?;
+        let drawn = Vec::with_capacity(alloc, 2 * setup.cap as usize)?;
         Ok(World {
             monitor,
             words,
@@ -108,11 +113,29 @@ impl<R: Rng + Drop> World<R> {
         self.words.sweep(from, to);
     }
 
-    /// Carries out the monitor's next step, and returns what it did. No aggregation is due, since none is
-    /// carried out yet. The passes in all are below 2^40.
+    /// Commits new attributes and new ranges, as [`Monitor::commit`] does: returns what that did, or the
+    /// first check that failed; then nothing has changed. The commit has neither a slot change nor a
+    /// metric, which are not built yet.
+    pub fn commit(&mut self, commit: &Commit) -> Result<Changed, CommitFault>
+        requires slot { commit.now.slot ≡ None }
+        requires metric { commit.now.metric ≡ None }
+        ensures answer { result ≡ commit_answer (commit_value commit.now) self.old.monitor.core }
+        ensures core { self.new.monitor.core
+            ≡ core_after_commit (commit_value commit.now) self.old.monitor.core }
+        ensures source { self.new.source ≡ self.old.source }
+        ensures event { Makes StandsFor self.old self.new (commit_event (commit_value commit.now) ∷ []) }
+
+        // What no commit changes.
+        ensures space { self.new.monitor.core.space ≡ self.old.monitor.core.space }
+        ensures cap { self.new.monitor.core.regions.cap ≡ self.old.monitor.core.regions.cap }
+        ensures ticks { self.new.monitor.core.ticks ≡ self.old.monitor.core.ticks }
+    {
+        self.monitor.commit(commit)
+    }
+
+    /// Carries out the monitor's next step, and returns what it did. The passes in all are below 2^40.
     pub fn step(&mut self) -> Stepped
-        requires not_due { self.old.monitor.core.phase ≢ Phase.Due }
-        requires ticks { self.old.monitor.core.ticks < 2 ^ 40 }
+        requires { self.old.monitor.core.ticks < 2 ^ 40 }
         ensures plays { Plays R.stream self.old self.new (λ m. next_event m.state m.stream ∷ []) }
         ensures told { (s : State) → Reached s → StandsFor self.old s
             → Tells s.core.phase s result }
@@ -120,6 +143,7 @@ impl<R: Rng + Drop> World<R> {
         // What a caller needs for the next step.
         ensures passes { self.new.monitor.core.ticks ≤ self.old.monitor.core.ticks + 1 }
         ensures space { self.new.monitor.core.space ≡ self.old.monitor.core.space }
+        ensures cap { self.new.monitor.core.regions.cap ≡ self.old.monitor.core.regions.cap }
     {
         let stepped = self.next_step();
         self.advance(1);
@@ -127,11 +151,9 @@ impl<R: Rng + Drop> World<R> {
     }
 
     /// Carries out up to `most` (at least 1) of the monitor's next steps, as long as they are of one
-    /// kind, and returns how many. No aggregation is due, since none is carried out yet. The passes in
-    /// all are below 2^40.
+    /// kind, and returns how many. The passes in all are below 2^40.
     pub fn advance(&mut self, most: u64) -> u64
         requires some { 1 ≤ most }
-        requires not_due { self.old.monitor.core.phase ≢ Phase.Due }
         requires ticks { self.old.monitor.core.ticks < 2 ^ 40 }
         ensures count { result
             ≡ min most
@@ -144,6 +166,7 @@ impl<R: Rng + Drop> World<R> {
         // What a caller needs for the next steps.
         ensures passes { self.new.monitor.core.ticks ≤ self.old.monitor.core.ticks + 1 }
         ensures space { self.new.monitor.core.space ≡ self.old.monitor.core.space }
+        ensures cap { self.new.monitor.core.regions.cap ≡ self.old.monitor.core.regions.cap }
     {
         match self.monitor.phase() {
             Phase::Idle => self.prepare(),
@@ -152,14 +175,13 @@ impl<R: Rng + Drop> World<R> {
             Phase::Checking { next } if next < self.monitor.rows().len() => self.load_picks(
                 next, most,
             ),
-            Phase::Due => unreachable!(),
+            Phase::Due => self.aggregate(),
             _ => self.observe(),
         }
     }
 
     // What the next step does.
     fn next_step(&self) -> Stepped
-        requires { self.now.monitor.core.phase ≢ Phase.Due }
         ensures { (s : State) → Reached s → StandsFor self.now s → Tells s.core.phase s result }
     {
         let rows = self.monitor.rows().len();
@@ -172,7 +194,7 @@ impl<R: Rng + Drop> World<R> {
             Phase::Checking { next } if next < rows => self.next_load(next),
             Phase::Checking { .. } => Stepped::Observed { void: false },
             Phase::Void => Stepped::Observed { void: true },
-            Phase::Due => unreachable!(),
+            Phase::Due => Stepped::Aggregated,
         }
     }
 
@@ -184,7 +206,7 @@ impl<R: Rng + Drop> World<R> {
         ensures { (s : State) → Reached s → StandsFor self.now s → Tells s.core.phase s result }
     {
         let page = self.monitor.pick(next);
-        let hit = self.words.marks()[page as usize];
+        let hit = self.words.is_marked(page);
         Stepped::Loaded { page, hit }
     }
 
@@ -195,8 +217,20 @@ impl<R: Rng + Drop> World<R> {
         ensures advance { IsAdvance R.stream self.old self.new 1 }
     {
         let rows = self.monitor.rows().len();
-        draw(&mut self.source, rows, &mut self.drawn);
+        draw(&mut self.source, rows as usize, &mut self.drawn);
         self.monitor.prepare(&self.drawn);
+        1
+    }
+
+    // Carries out an aggregation with the next random words, which is one step.
+    fn aggregate(&mut self) -> u64
+        requires { self.old.monitor.core.phase ≡ Phase.Due }
+        ensures one { result ≡ 1 }
+        ensures advance { IsAdvance R.stream self.old self.new 1 }
+    {
+        let attrs = self.monitor.attrs();
+        draw(&mut self.source, 2 * attrs.max as usize, &mut self.drawn);
+        self.monitor.aggregate(&self.drawn);
         1
     }
 
@@ -229,7 +263,7 @@ impl<R: Rng + Drop> World<R> {
         // For its clauses alone: each pick is a page of the space, and those to be loaded are cleared.
         let _picks = self.monitor.picks();
         let count = at_most(self.monitor.rows().len() - next, most);
-        self.monitor.loaded_next(count, self.words.marks());
+        self.monitor.loaded_next(count, &self.words);
         u64::from(count)
     }
 
@@ -270,7 +304,7 @@ fn clear_words(monitor: &Monitor, from: u32, to: u32, words: &mut PlainWords)
 }
 
 // Replaces the words by `count` random ones.
-fn draw<R: Rng>(source: &mut R, count: u32, words: &mut Vec<u32>)
+fn draw<R: Rng>(source: &mut R, count: usize, words: &mut Vec<u32>)
     requires { count ≤ vec_capacity words.old }
     ensures words { words.new.items ≡ drawn count (R.stream source.old) }
     ensures capacity { vec_capacity words.new ≡ vec_capacity words.old }

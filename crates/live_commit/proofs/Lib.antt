@@ -1,3 +1,5 @@
 pub mod Changes
 pub mod Limits
+pub mod Accepting
 mod Examples
+mod CommitExamples

@@ -31,7 +31,7 @@ attrs_checked : (r : Result (Unit {0}) AttrsFault) → attrs_fault r ≡ Ok tt �
 attrs_checked (Ok t) ok = refl
 attrs_checked (Err why) ok = absurd (cc)
 
-attrs_kept : (a : Attrs) → checked_attrs a ≡ Ok tt → IsAttrs a
+pub attrs_kept : (a : Attrs) → checked_attrs a ≡ Ok tt → IsAttrs a
 attrs_kept a ok = record {
   min = grind (arith, nat_tests);
   max = grind (arith, nat_tests);

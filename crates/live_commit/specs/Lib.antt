@@ -4,3 +4,5 @@ pub mod Checked
 pub mod SetupView
 pub mod Commit
 pub mod Laws
+pub mod Accepts
+pub mod Accepted

@@ -51,3 +51,23 @@ impl From<AllocError> for SetupFault {
         SetupFault::Memory
     }
 }
+
+/// The first check of a commit that failed, in the order of the variants.
+#[derive(Clone, Copy, Debug, PartialEq, Eq)]
+pub enum CommitFault {
+    /// A pass is clearing or loading its picks; `next` is the number of clears and loads that it has
+    /// made.
+    Busy { next: u32 },
+    /// The commit has new ranges, but there is no range among them.
+    NoRange,
+    /// The new range with this index is the first that is rejected.
+    BadRange { index: u32, why: RangeWhy },
+    /// There would be more ranges than regions are allowed.
+    RangesOverMax { ranges: u32, max: u32 },
+    /// The new attributes break one of their limits.
+    BadAttrs { why: AttrsFault },
+    /// The new attributes allow more regions than `cap`.
+    OverCap { max: u32, cap: u32 },
+    /// The scheme of the slot change breaks a limit, or there is no such slot.
+    BadScheme { why: SchemeFault },
+}

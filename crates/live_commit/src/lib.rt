@@ -3,9 +3,9 @@
 
 /// Changes of a running monitor.
 mod commit;
-/// Why the parts of a setup are rejected.
+/// Why the parts of a setup, or a commit, are rejected.
 mod fault;
-/// How checking relates to longer lists of slot changes.
+/// How checking relates to longer lists of slot changes, and what holds of accepted commits.
 mod laws;
 /// How a setup is made of its parts.
 mod make;
@@ -17,10 +17,16 @@ mod setup;
 mod slots;
 #[cfg(test)]
 mod tests;
+/// The check of a commit.
+mod validation;
+/// What a commit is checked against.
+mod view;
 
 pub use commit::Commit;
-pub use fault::SetupFault;
-pub use laws::slots_are_checked_in_turn;
+pub use fault::{CommitFault, SetupFault};
+pub use laws::{accepted_commits_are_within, slots_are_checked_in_turn};
 pub use phase::Phase;
 pub use setup::{MAX_CAP, MAX_UNIT, MIN_CAP, Setup};
 pub use slots::is_set;
+pub use validation::validate;
+pub use view::View;

@@ -1,8 +1,12 @@
-// Parts of setups with the first check that fails, and setups that are made, worked out by hand.
-use crate::{Setup, SetupFault};
+// Parts of setups and commits with the first check that fails, and those that are accepted, worked
+// out by hand.
+ghost use Rattle.std.specs.Prelude.{◌<◌, ◌^◌};
+ghost use Rattle.live_commit.specs.Accepts.{steps_made};
+
+use crate::{Commit, CommitFault, Phase, Setup, SetupFault, View, validate};
 use damon_types::{
-    Action, Attrs, AttrsFault, Filters, Pattern, Prefer, Range, RangeSpec, Scheme, SchemeFault,
-    SlotChange, Space, Span, Target, Weights,
+    Action, Attrs, AttrsFault, Filters, Pattern, Prefer, Range, RangeSpec, RangeSpecs, Scheme,
+    SchemeFault, SlotChange, Space, Span, Target, Weights,
 };
 use std::process::Abort;
 use std::test::Fail;
@@ -237,5 +241,136 @@ fn a_setup_is_made(rt: HostRuntime) -> Result<(), Fail> {
     assert_eq!(rt; setup.ranges.get(0), range);
     assert_eq!(rt; setup.slots.as_slice(), [slots[0], slots[2]].as_slice());
     assert_eq!(rt; (setup.space.pages(), setup.unit, setup.cap), (16, 2, 8));
+    Ok(())
+}
+
+// A list of up to four range specs.
+fn listed(rt: &(impl Abort + AllocGlobal), specs: &[RangeSpec]) -> Result<RangeSpecs, Fail> {
+    let mut list = RangeSpecs::new(rt.alloc());
+    for spec in specs {
+        assert!(rt; list.len() < 4);
+        list.push(*spec)?;
+    }
+    Ok(list)
+}
+
+// Checks the answer to a commit of these parts where the monitor has four rows in three ranges, a
+// unit of 2 pages, a cap of 8, and at most 6 regions.
+fn expect_check(
+    rt: &(impl Abort + AllocGlobal),
+    phase: Phase,
+    attrs: Option<Attrs>,
+    specs: Option<&[RangeSpec]>,
+    slot: Option<SlotChange>,
+    fault: Option<CommitFault>,
+) -> Result<(), Fail>
+    requires { steps_made phase 4 < 2 ^ 32 }
+{
+    let space = Space::new(rt.alloc(), &[TARGET])?;
+    let ranges = match specs {
+        Some(specs) => Some(listed(rt, specs)?),
+        None => None,
+    };
+    let commit = Commit {
+        attrs,
+        ranges,
+        slot,
+        metric: Some(1),
+    };
+    let view = View {
+        phase,
+        rows: 4,
+        ranges: 3,
+        unit: 2,
+        cap: 8,
+        max: 6,
+    };
+    assert_eq!(rt; validate(&commit, &space, &view).err(), fault);
+    Ok(())
+}
+
+// Checks the answer to a commit that changes only the metric.
+fn expect_in(
+    rt: &(impl Abort + AllocGlobal),
+    phase: Phase,
+    fault: Option<CommitFault>,
+) -> Result<(), Fail>
+    requires { steps_made phase 4 < 2 ^ 32 }
+{
+    expect_check(rt, phase, None, None, None, fault)
+}
+
+#[test]
+fn commits_wait_for_clears_and_loads(rt: HostRuntime) -> Result<(), Fail> {
+    let third_clear = CommitFault::Busy { next: 3 };
+    let third_load = CommitFault::Busy { next: 7 };
+    expect_in(&rt, Phase::Idle, None)?;
+    expect_in(&rt, Phase::Clearing { next: 3 }, Some(third_clear))?;
+    expect_in(&rt, Phase::Armed, None)?;
+    expect_in(&rt, Phase::Checking { next: 3 }, Some(third_load))?;
+    expect_in(&rt, Phase::Void, None)?;
+    expect_in(&rt, Phase::Due, None)
+}
+
+const fn attrs(min: u32, max: u32) -> Option<Attrs> {
+    Some(Attrs { min, max, aggr: 5 })
+}
+
+// The fault of the first limit that the parts of a commit break, where each commit repairs what the
+// one before it broke first.
+#[test]
+fn parts_of_commits_have_limits(rt: HostRuntime) -> Result<(), Fail> {
+    let four = [
+        spec(0x10000, 0x12000),
+        spec(0x12000, 0x14000),
+        spec(0x14000, 0x16000),
+        spec(0x16000, 0x18000),
+    ];
+    let [first, ..] = four;
+    let overlap = CommitFault::BadRange {
+        index: 1,
+        why: RangeWhy::Overlap,
+    };
+    let over_max = CommitFault::RangesOverMax { ranges: 4, max: 3 };
+    let too_small = CommitFault::BadAttrs {
+        why: AttrsFault::MinTooSmall { min: 2 },
+    };
+    let over_cap = CommitFault::OverCap { max: 9, cap: 8 };
+    let reversed = CommitFault::BadScheme {
+        why: SchemeFault::PatternReversed { part: 0 },
+    };
+    let [bad, good] = [span(2, 1), span(1, 2)];
+    let cases: [(Option<Attrs>, &[RangeSpec], Span, Option<CommitFault>); 7] = [
+        (attrs(2, 3), &[], bad, Some(CommitFault::NoRange)),
+        (attrs(2, 3), &[first, first], bad, Some(overlap)),
+        (attrs(2, 3), &four, bad, Some(over_max)),
+        (attrs(2, 9), &four, bad, Some(too_small)),
+        (attrs(3, 9), &four, bad, Some(over_cap)),
+        (attrs(3, 8), &four, bad, Some(reversed)),
+        (attrs(3, 8), &four, good, None),
+    ];
+    for (attrs, specs, size, fault) in cases {
+        let slot = Some(set(15, size));
+        expect_check(&rt, Phase::Idle, attrs, Some(specs), slot, fault)?;
+    }
+    Ok(())
+}
+
+#[test]
+fn commits_without_ranges_have_limits(rt: HostRuntime) -> Result<(), Fail> {
+    let over_max = CommitFault::RangesOverMax { ranges: 3, max: 2 };
+    let no_slot = CommitFault::BadScheme {
+        why: SchemeFault::SlotOutOfRange { slot: 16 },
+    };
+    let cases = [
+        (attrs(2, 2), 15, Some(over_max)),
+        (attrs(3, 3), 16, Some(no_slot)),
+        (attrs(3, 3), 15, None),
+        (None, 16, Some(no_slot)),
+        (None, 15, None),
+    ];
+    for (attrs, slot, fault) in cases {
+        expect_check(&rt, Phase::Idle, attrs, None, Some(emptied(slot)), fault)?;
+    }
     Ok(())
 }

@@ -8,3 +8,5 @@ pub mod Regions
 pub mod Walk
 pub mod Refined
 pub mod Sweep
+pub mod Same
+pub mod Find

@@ -1,5 +1,5 @@
 -- Shrinking level by level: a sweep that joins the pairs of one level. For proofs alone; `Shrink` says what shrinking means.
-use Rattle.std.specs.Prelude.{◌≡◌, ◌⊎◌, ℕ, ◌+◌, ◌≤◌, true, false, List, [], ◌∷◌, ◌++◌, length}
+use Rattle.std.specs.Prelude.{◌≡◌, ◌⊎◌, ℕ, ◌+◌, ◌≤◌, true, false, List, [], ◌∷◌, ◌++◌, length, take, drop}
 use Rattle.damon_types.specs.declared.range.Range.{Range}
 use Rattle.damon_types.specs.declared.row.Row.{Row}
 use Rattle.damon_types.specs.Span.{spans}
@@ -23,6 +23,10 @@ IsApart ranges (a ∷ b ∷ rows) c = IsApart ranges (b ∷ rows) c
 abbrev pub first_or : List Row → Row → Row
 first_or [] r = r
 first_or (c ∷ rows) r = c
+
+-- the rows as they stand in a sweep: those that are finished, the row in hand, and those to come
+abbrev pub in_sweep : List Row → ℕ → Row → ℕ → List Row
+in_sweep rows kept top index = take kept rows ++ top ∷ drop index rows
 
 -- A sweep in progress: `front` are the finished rows, `top` is the row in hand, and `back` are the rows to come. Range
 -- number k holds the top and the last `chain` finished rows, and ends at page `end`. Either few enough rows are left, or

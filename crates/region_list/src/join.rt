@@ -27,6 +27,10 @@ fn average(x: u32, x_pages: u32, y: u32, y_pages: u32) -> u32
     requires few { x_pages + y_pages < 2 ^ 32 }
     ensures { result ≡ average_of x x_pages y y_pages }
 {
+    // Rows that are joined are alike, so this is common, and a division takes longer than the rest.
+    if x == y {
+        return x;
+    }
     let sum = u64::from(x) * u64::from(x_pages) + u64::from(y) * u64::from(y_pages);
     (sum / u64::from(x_pages + y_pages)) as u32
 }

@@ -13,6 +13,7 @@ ghost use Rattle.region_list.specs.Shrink.{in_one_range, shrunk};
 ghost use Rattle.region_list.specs.Join.{join};
 ghost use Rattle.region_list.specs.Refined.{IsRefined};
 ghost use Rattle.region_list.specs.Walk.{BeginsIn};
+ghost use Rattle.region_list.specs.Same.{same_spans};
 
 /// Rows that tile ranges range by range (`Tiling`) tile them page by page (`Tiles`), where the minimum
 /// size is at least one page and the ranges are in order.
@@ -37,6 +38,18 @@ pub fn shrunk_rows_tile()
     ensures tiling { (unit to : ℕ) (gs : List range) (rows : List row)
         → InOrder gs → Tiling 1 gs (spans rows) → length gs ≤ to
         → Tiling unit gs (spans rows) → Tiling unit gs (spans (shrunk gs to rows)) }
+{}
+
+/// What shrinking keeps: a bound of the counts, that there is a row, and all rows where there are few
+/// enough.
+pub fn shrunk_rows_are_kept()
+    ensures counts { (to most : ℕ) (gs : List range) (rows : List row)
+        → AllByRecursion (λ r. r.count ≤ most) rows
+        → AllByRecursion (λ r. r.count ≤ most) (shrunk gs to rows) }
+    ensures some { (to : ℕ) (gs : List range) (rows : List row)
+        → 0 < length rows → 0 < length (shrunk gs to rows) }
+    ensures same { (to : ℕ) (gs : List range) (rows : List row)
+        → length rows ≤ to → shrunk gs to rows ≡ rows }
 {}
 
 /// Rows in which two adjacent rows of one range are joined still tile their ranges.
@@ -83,4 +96,10 @@ pub fn rows_follow_ranges()
         → (in_one_range gs a b ≡ false) × (k + 1 < length gs)
         × ((next : ℕ) → option_map end_of (slice_get gs (k + 1)) ≡ Some next
         → BeginsIn gs (b ∷ rows) (k + 1) next) }
+{}
+
+/// Two lists of spans are equal exactly where `same_spans` says so.
+pub fn same_spans_are_equal()
+    ensures yes { (a b : List Span) → same_spans a b ≡ true → a ≡ b }
+    ensures no { (a b : List Span) → same_spans a b ≡ false → a ≡ b → ⊥ }
 {}

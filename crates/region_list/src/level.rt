@@ -3,7 +3,7 @@ ghost use Rattle.damon_types.specs.Span.{spans};
 ghost use Rattle.region_list.specs.Rows.{row_at};
 ghost use Rattle.region_list.specs.Tiling.{Tiling};
 ghost use Rattle.region_list.specs.Shrink.{difference, shrunk};
-ghost use Rattle.region_list.specs.Sweep.{DifferBy, IsSweep};
+ghost use Rattle.region_list.specs.Sweep.{DifferBy, IsSweep, in_sweep};
 
 use crate::{join_rows, range_end};
 use damon_types::{Ranges, Row};
@@ -31,8 +31,11 @@ pub(crate) fn join_level(rows: &mut [Row], ranges: &Ranges, level: u32, to: usiz
     requires enough { length ranges.now.list ≤ to }
     requires low { DifferBy ranges.now.list level rows.old }
     ensures within { result ≤ length rows.new }
-    ensures same { shrunk ranges.now.list to (take result rows.new) ≡ shrunk ranges.now.list to rows.old }
-    ensures tiles { (unit : ℕ) → Tiling unit ranges.now.list (spans rows.old) → Tiling unit ranges.now.list (spans (take result rows.new)) }
+    ensures same { shrunk ranges.now.list to (take result rows.new)
+        ≡ shrunk ranges.now.list to rows.old }
+    ensures tiles { (unit : ℕ)
+        → Tiling unit ranges.now.list (spans rows.old)
+        → Tiling unit ranges.now.list (spans (take result rows.new)) }
     ensures done { (result ≤ to) ⊎ DifferBy ranges.now.list (level + 1) (take result rows.new) }
 {
     // For its clauses alone: the ranges are in order.
@@ -56,19 +59,26 @@ pub(crate) fn join_level(rows: &mut [Row], ranges: &Ranges, level: u32, to: usiz
 // Takes one step of a sweep: the top is joined with the row before it or with the next one, or it is
 // finished and the next row becomes the top. False where the top is the last row and stays.
 fn advance(sweep: &mut Sweep, rows: &mut [Row], ranges: &Ranges, level: u32, to: usize) -> bool
-    requires sweep { IsSweep ranges.now.list level to (take sweep.old.kept rows.old) sweep.old.top (drop sweep.old.index rows.old) sweep.old.chain sweep.old.range sweep.old.end }
+    requires sweep { IsSweep ranges.now.list level to (take sweep.old.kept rows.old) sweep.old.top
+        (drop sweep.old.index rows.old) sweep.old.chain sweep.old.range sweep.old.end }
     requires ahead { sweep.old.kept < sweep.old.index }
     requires within { sweep.old.index ≤ length rows.old }
-    requires tiling { Tiling 1 ranges.now.list (spans (take sweep.old.kept rows.old ++ sweep.old.top ∷ drop sweep.old.index rows.old)) }
+    requires tiling { Tiling 1 ranges.now.list (spans (in_sweep rows.old sweep.old.kept sweep.old.top sweep.old.index)) }
     requires enough { length ranges.now.list ≤ to }
-    ensures sweep { IsSweep ranges.now.list level to (take sweep.new.kept rows.new) sweep.new.top (drop sweep.new.index rows.new) sweep.new.chain sweep.new.range sweep.new.end }
+    ensures sweep { IsSweep ranges.now.list level to (take sweep.new.kept rows.new) sweep.new.top
+        (drop sweep.new.index rows.new) sweep.new.chain sweep.new.range sweep.new.end }
     ensures ahead { sweep.new.kept < sweep.new.index }
     ensures within { sweep.new.index ≤ length rows.new }
-    ensures same { shrunk ranges.now.list to (take sweep.new.kept rows.new ++ sweep.new.top ∷ drop sweep.new.index rows.new) ≡ shrunk ranges.now.list to (take sweep.old.kept rows.old ++ sweep.old.top ∷ drop sweep.old.index rows.old) }
-    ensures tiles { (unit : ℕ) → Tiling unit ranges.now.list (spans (take sweep.old.kept rows.old ++ sweep.old.top ∷ drop sweep.old.index rows.old)) → Tiling unit ranges.now.list (spans (take sweep.new.kept rows.new ++ sweep.new.top ∷ drop sweep.new.index rows.new)) }
-    ensures less { 2 * (length rows.new - sweep.new.index) + sweep.new.kept + cond result 1 0 ≤ 2 * (length rows.old - sweep.old.index) + sweep.old.kept }
+    ensures same { shrunk ranges.now.list to (in_sweep rows.new sweep.new.kept sweep.new.top sweep.new.index)
+        ≡ shrunk ranges.now.list to (in_sweep rows.old sweep.old.kept sweep.old.top sweep.old.index) }
+    ensures tiles { (unit : ℕ)
+        → Tiling unit ranges.now.list (spans (in_sweep rows.old sweep.old.kept sweep.old.top sweep.old.index))
+        → Tiling unit ranges.now.list (spans (in_sweep rows.new sweep.new.kept sweep.new.top sweep.new.index)) }
+    ensures less { 2 * (length rows.new - sweep.new.index) + sweep.new.kept + cond result 1 0
+        ≤ 2 * (length rows.old - sweep.old.index) + sweep.old.kept }
     ensures last { result ≡ false → sweep.new.index ≡ length rows.new }
-    ensures done { result ≡ false → (sweep.new.kept + 1 ≤ to) ⊎ DifferBy ranges.now.list (level + 1) (take sweep.new.kept rows.new ++ sweep.new.top ∷ []) }
+    ensures done { result ≡ false → (sweep.new.kept + 1 ≤ to)
+        ⊎ DifferBy ranges.now.list (level + 1) (take sweep.new.kept rows.new ++ sweep.new.top ∷ []) }
 {
     // For its clauses alone: the ranges are in order, and their number is a u32.
     let _count = ranges.len();
@@ -111,7 +121,8 @@ const NO_ROW: u64 = 1 << 32;
 fn left_difference(sweep: &Sweep, rows: &[Row]) -> u64
     requires kept { sweep.now.kept ≤ length rows.now }
     requires chain { sweep.now.chain ≤ sweep.now.kept }
-    ensures { result ≡ (if sweep.now.chain == 0 then 2 ^ 32 else difference (row_at rows.now (sweep.now.kept - 1)) sweep.now.top) }
+    ensures { result ≡ (if sweep.now.chain == 0 then 2 ^ 32
+        else difference (row_at rows.now (sweep.now.kept - 1)) sweep.now.top) }
 {
     if sweep.chain == 0 {
         NO_ROW
@@ -123,7 +134,8 @@ fn left_difference(sweep: &Sweep, rows: &[Row]) -> u64
 // By how much the counts of the top and of the next row differ, where one range holds both. `over` says
 // that the range ends with the top.
 fn right_difference(sweep: &Sweep, rows: &[Row], over: bool) -> u64
-    ensures { result ≡ (if nat_lt sweep.now.index (length rows.now) && not over then difference sweep.now.top (row_at rows.now sweep.now.index) else 2 ^ 32) }
+    ensures { result ≡ (if nat_lt sweep.now.index (length rows.now) && not over
+        then difference sweep.now.top (row_at rows.now sweep.now.index) else 2 ^ 32) }
 {
     if sweep.index < rows.len() && !over {
         u64::from(sweep.top.count.abs_diff(rows[sweep.index].count))

@@ -1,12 +1,14 @@
 //! The rows of a monitor (its regions): lists of rows, the initial division of ranges, rows that tile
-//! their ranges, and shrinking.
+//! their ranges, shrinking, comparing where rows lie, and finding the row that holds a page.
 #![tactic(auto)]
 
 /// The initial division of ranges.
 mod division;
+/// Finding the row that holds a page.
+mod find;
 /// Joining two rows.
 mod join;
-/// Laws of tiling, division, joining, cutting and shrinking.
+/// Laws of tiling, division, joining, cutting, shrinking and comparing.
 mod laws;
 /// Joining the pairs of one level, for shrinking.
 mod level;
@@ -16,6 +18,8 @@ mod pass;
 mod regions;
 /// A list of rows with a fixed capacity.
 mod row_buf;
+/// Comparing where rows lie.
+mod same;
 /// Shrinking a list of rows.
 mod shrink;
 /// Walking the rows range by range.
@@ -24,11 +28,12 @@ mod walk;
 pub use division::divide;
 pub use join::join_rows;
 pub use laws::{
-    division_tiles, joined_rows_tile, refined_rows_tile, rows_follow_ranges, shrunk_rows_tile,
-    tiled_rows_fit, tiling_is_per_page,
+    division_tiles, joined_rows_tile, refined_rows_tile, rows_follow_ranges, same_spans_are_equal,
+    shrunk_rows_are_kept, shrunk_rows_tile, tiled_rows_fit, tiling_is_per_page,
 };
 pub use pass::RowPass;
 pub use regions::Regions;
 pub use row_buf::RowBuf;
+pub use same::same_spans;
 pub use shrink::shrink_rows;
 pub use walk::range_end;

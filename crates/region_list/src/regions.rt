@@ -4,7 +4,11 @@ ghost use Rattle.damon_types.specs.Span.{spans};
 ghost use Rattle.region_list.specs.Rows.{with_values};
 ghost use Rattle.region_list.specs.Tiles.{Tiles};
 ghost use Rattle.region_list.specs.Tiling.{Tiling};
+ghost use Rattle.region_list.specs.Shrink.{shrunk};
+ghost use Rattle.region_list.specs.Find.{row_index};
 
+use crate::find::find_row;
+use crate::shrink::shrink_vec;
 use crate::{RowBuf, RowPass};
 use damon_types::{Ranges, Row, append_reserved};
 use std::alloc::{AllocError, Global};
@@ -78,6 +82,21 @@ impl Regions {
         self.ranges.copy_from(ranges);
         self.rows.clear();
         append_reserved(&mut self.rows, rows.as_slice());
+        self.max = max;
+    }
+
+    /// Joins adjacent rows of one range, as `shrink_rows` does, until there are at most `max`, and makes
+    /// `max` the most rows allowed. It is 1 to `cap`, and there are at most `max` ranges.
+    pub fn shrink_to(&mut self, max: u32)
+        requires least { 1 ≤ max }
+        requires most { max ≤ self.old.cap }
+        requires enough { length self.old.ranges ≤ max }
+        ensures { self.new ≡ record self.old {
+          rows = shrunk self.old.ranges max self.old.rows;
+          max = max;
+        } }
+    {
+        shrink_vec(&mut self.rows, &self.ranges, max);
         self.max = max;
     }
 
@@ -164,6 +183,13 @@ impl Regions {
         ensures end { result.start + result.pages < 2 ^ 32 }
     {
         self.rows[index as usize]
+    }
+
+    /// The index of the row that holds the page, or `None` where no row holds it. The search is binary.
+    pub fn find(&self, page: u32) -> Option<u32>
+        ensures { result ≡ row_index self.now.rows page }
+    {
+        find_row(&self.rows, page)
     }
 
     /// Sets the count, last count and age of the row with this index, which is below the number of

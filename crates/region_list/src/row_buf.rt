@@ -1,11 +1,10 @@
-ghost use Rattle.std.specs.Prelude.{◌≡◌, ◌⊎◌, ℕ, ◌+◌, ◌^◌, ◌≤◌, ◌<◌, [], ◌∷◌, ◌++◌, length, slice_get, IfOk};
+ghost use Rattle.std.specs.Prelude.{◌≡◌, ℕ, ◌≤◌, ◌<◌, [], ◌∷◌, ◌++◌, length, slice_get, IfOk};
 ghost use Rattle.damon_types.specs.Span.{spans};
 ghost use Rattle.region_list.specs.Tiling.{Tiling};
 ghost use Rattle.region_list.specs.Shrink.{shrunk};
-ghost use Rattle.region_list.specs.Sweep.{DifferBy};
 
-use crate::level::join_level;
-use damon_types::{Ranges, Row};
+use crate::shrink::shrink_vec;
+use damon_types::{Ranges, Row, append_reserved};
 use std::alloc::{AllocError, Global};
 use std::marker::Model;
 
@@ -74,22 +73,28 @@ impl RowBuf {
         self.rows.push_reserved(row);
     }
 
-    // Joins closest pairs, in the order that shrinking takes them, until the counts of each adjacent
-    // pair of one range differ by more than `level`, or at most `to` rows are left.
-    pub(crate) fn join_level(&mut self, ranges: &Ranges, level: u32, to: u32)
+    /// Replaces all rows by these, for which there is room.
+    pub fn copy_from(&mut self, rows: &[Row])
+        requires { length rows.now ≤ self.old.cap }
+        ensures { self.new ≡ record self.old { rows = rows.now } }
+    {
+        self.rows.clear();
+        append_reserved(&mut self.rows, rows);
+    }
+
+    // Shrinks the list, as `shrink_rows` says.
+    pub(crate) fn shrink(&mut self, ranges: &Ranges, to: u32)
         requires tiling { Tiling 1 ranges.now.list (spans self.old.rows) }
-        requires some { 0 < length self.old.rows }
         requires enough { length ranges.now.list ≤ to }
-        requires low { DifferBy ranges.now.list level self.old.rows }
-        ensures cap { self.new.cap ≡ self.old.cap }
-        ensures same { shrunk ranges.now.list to self.new.rows ≡ shrunk ranges.now.list to self.old.rows }
-        ensures tiles { (unit : ℕ)
+        ensures rows { self.new ≡ record self.old {
+          rows = shrunk ranges.now.list to self.old.rows;
+        } }
+        ensures few { length self.new.rows ≤ to }
+        ensures tiling { (unit : ℕ)
             → Tiling unit ranges.now.list (spans self.old.rows)
             → Tiling unit ranges.now.list (spans self.new.rows) }
-        ensures done { (length self.new.rows ≤ to) ⊎ DifferBy ranges.now.list (level + 1) self.new.rows }
     {
-        let kept = join_level(&mut self.rows, ranges, level, to as usize);
-        self.rows.truncate(kept);
+        shrink_vec(&mut self.rows, ranges, to);
     }
 
     /// Empties the list. The capacity stays.

@@ -1,9 +1,11 @@
-ghost use Rattle.std.specs.Prelude.{◌≡◌, ℕ, ◌+◌, ◌^◌, ◌≤◌, ◌<◌, length, slice_get, nat_le, IfNone, IfSome, if◌then◌else◌};
+ghost use Rattle.std.specs.Prelude.{◌≡◌, ◌⊎◌, ℕ, ◌+◌, ◌^◌, ◌≤◌, ◌<◌, length, slice_get, vec_capacity, nat_le, IfNone, IfSome, if◌then◌else◌};
 ghost use Rattle.damon_types.specs.Ranges.{InOrder};
 ghost use Rattle.damon_types.specs.Span.{spans};
 ghost use Rattle.region_list.specs.Tiling.{Tiling};
+ghost use Rattle.region_list.specs.Sweep.{DifferBy};
 ghost use Rattle.region_list.specs.Shrink.{closest as closest_of, differences, least, shrunk};
 
+use crate::level::join_level;
 use crate::{RowBuf, range_end};
 use damon_types::{Ranges, Row};
 
@@ -16,15 +18,51 @@ pub fn shrink_rows(rows: &mut RowBuf, ranges: &Ranges, to: u32)
     requires enough { length ranges.now.list ≤ to }
     ensures rows { rows.new ≡ record rows.old { rows = shrunk ranges.now.list to rows.old.rows } }
     ensures few { length rows.new.rows ≤ to }
-    ensures tiling { (unit : ℕ) → Tiling unit ranges.now.list (spans rows.old.rows) → Tiling unit ranges.now.list (spans rows.new.rows) }
+    ensures tiling { (unit : ℕ)
+        → Tiling unit ranges.now.list (spans rows.old.rows)
+        → Tiling unit ranges.now.list (spans rows.new.rows) }
+{
+    rows.shrink(ranges, to);
+}
+
+// Shrinks a vector of rows, as `shrink_rows` says. Its capacity stays.
+pub(crate) fn shrink_vec(rows: &mut Vec<Row>, ranges: &Ranges, to: u32)
+    requires tiling { Tiling 1 ranges.now.list (spans rows.old.items) }
+    requires enough { length ranges.now.list ≤ to }
+    ensures rows { rows.new.items ≡ shrunk ranges.now.list to rows.old.items }
+    ensures few { length rows.new.items ≤ to }
+    ensures tiling { (unit : ℕ)
+        → Tiling unit ranges.now.list (spans rows.old.items)
+        → Tiling unit ranges.now.list (spans rows.new.items) }
+    ensures capacity { vec_capacity rows.new ≡ vec_capacity rows.old }
 {
     // For its clauses alone: the ranges are in order.
     let _count = ranges.len();
     // Each round joins all pairs that differ least, and those that come to differ as little by a join.
-    'levels: while rows.len() > to {
-        let level = least_difference(rows.as_slice(), ranges);
-        rows.join_level(ranges, level, to);
+    'levels: while rows.len() > to as usize {
+        let level = least_difference(rows, ranges);
+        join_pairs(rows, ranges, level, to);
     }
+}
+
+// Joins closest pairs, in the order that shrinking takes them, until the counts of each adjacent pair
+// of one range differ by more than `level`, or at most `to` rows are left.
+fn join_pairs(rows: &mut Vec<Row>, ranges: &Ranges, level: u32, to: u32)
+    requires tiling { Tiling 1 ranges.now.list (spans rows.old.items) }
+    requires some { 0 < length rows.old.items }
+    requires enough { length ranges.now.list ≤ to }
+    requires low { DifferBy ranges.now.list level rows.old.items }
+    ensures capacity { vec_capacity rows.new ≡ vec_capacity rows.old }
+    ensures same { shrunk ranges.now.list to rows.new.items
+        ≡ shrunk ranges.now.list to rows.old.items }
+    ensures tiles { (unit : ℕ)
+        → Tiling unit ranges.now.list (spans rows.old.items)
+        → Tiling unit ranges.now.list (spans rows.new.items) }
+    ensures done { (length rows.new.items ≤ to)
+        ⊎ DifferBy ranges.now.list (level + 1) rows.new.items }
+{
+    let kept = join_level(rows, ranges, level, to as usize);
+    rows.truncate(kept);
 }
 
 // The least difference of the counts of an adjacent pair of one range.

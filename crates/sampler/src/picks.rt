@@ -3,6 +3,7 @@ ghost use Rattle.std.specs.List.{AllByRecursion};
 ghost use Rattle.sampler.specs.Pick.{PickList, picks_of};
 ghost use Rattle.sampler.specs.Loaded.{loaded_bits, loaded_hits};
 
+use crate::Marks;
 use region_list::Regions;
 use std::alloc::{AllocError, Global};
 use std::marker::Model;
@@ -82,14 +83,14 @@ impl Picks {
     /// Records the checks of the `count` picks that begin with pick `from`, each with the mark of its page
     /// as its result, and returns how many are hits. There are at least `from + count` picks, and each of
     /// their pages has a mark.
-    pub fn load(&mut self, from: u32, count: u32, marks: &[bool]) -> u32
+    pub fn load<M: Marks>(&mut self, from: u32, count: u32, marks: &M) -> u32
         requires within { from + count ≤ length self.old.pages }
-        requires marks { AllByRecursion (λ p. p < length marks.now) self.old.pages }
+        requires marks { AllByRecursion (λ p. p < length (M.marks_of marks.now)) self.old.pages }
         ensures bits { self.new
             ≡ record self.old {
-              bits = loaded_bits marks.now self.old.pages from count self.old.bits;
+              bits = loaded_bits (M.marks_of marks.now) self.old.pages from count self.old.bits;
             } }
-        ensures hits { result ≡ loaded_hits marks.now self.old.pages from count }
+        ensures hits { result ≡ loaded_hits (M.marks_of marks.now) self.old.pages from count }
         ensures few { result ≤ count }
     {
         load_bits(&self.pages, &mut self.bits, from, count, marks)
@@ -98,19 +99,19 @@ impl Picks {
 
 // Sets the bits of the `count` picks that begin with pick `from` to the marks of their pages, and returns
 // how many are true.
-fn load_bits(pages: &[u32], bits: &mut [bool], from: u32, count: u32, marks: &[bool]) -> u32
+fn load_bits<M: Marks>(pages: &[u32], bits: &mut [bool], from: u32, count: u32, marks: &M) -> u32
     requires within { from + count ≤ length pages.now }
     requires small { length pages.now < 2 ^ 32 }
     requires each { length bits.old ≡ length pages.now }
-    requires marks { AllByRecursion (λ p. p < length marks.now) pages.now }
+    requires marks { AllByRecursion (λ p. p < length (M.marks_of marks.now)) pages.now }
     ensures len { length bits.new ≡ length bits.old }
-    ensures bits { bits.new ≡ loaded_bits marks.now pages.now from count bits.old }
-    ensures hits { result ≡ loaded_hits marks.now pages.now from count }
+    ensures bits { bits.new ≡ loaded_bits (M.marks_of marks.now) pages.now from count bits.old }
+    ensures hits { result ≡ loaded_hits (M.marks_of marks.now) pages.now from count }
     ensures few { result ≤ count }
 {
     let mut hits = 0;
     for index in from..from + count {
-        let hit = marks[pages[index as usize] as usize];
+        let hit = marks.is_marked(pages[index as usize]);
         bits[index as usize] = hit;
         hits += u32::from(hit);
     }

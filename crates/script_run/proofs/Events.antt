@@ -13,8 +13,8 @@ use Rattle.damon_world.specs.Advance.{IsAmid}
 use Rattle.damon_world.specs.Plays.{along-append}
 use Rattle.damon_world.specs.Touches.{touches}
 use Rattle.snapshot_print.specs.declared.form.Form.{Form}
-use Rattle.script_run.specs.declared.part.Part.{Part}
-use Rattle.script_run.specs.declared.part.Part.TheVariants as part
+use Rattle.script_run.specs.Part.{Part}
+use Rattle.script_run.specs.Part as part
 use Rattle.script_run.specs.declared.part.Until.{Until}
 use Rattle.script_run.specs.declared.part.Until.TheVariants as until
 use Rattle.script_run.specs.Kept.{is_done}
@@ -28,21 +28,42 @@ silent_choice : (form : Form) (b : Bool) (s : State) → event_text form s (cond
 silent_choice form true s = refl
 silent_choice form false s = refl
 
-silent_in : (form : Form) (ph : Phase) (s : State) (t : Stream) → event_text form s (event_in ph s t) ≡ []
-silent_in form Idle s t = refl
-silent_in form (Clearing k) s t = refl
-silent_in form Armed s t = refl
-silent_in form (Checking k) s t = silent_choice form (k == row_count s.core) s
-silent_in form Void s t = refl
-silent_in form Due s t = refl
+silent_in : (form : Form) (ph : Phase) (s : State) (t : Stream) → (ph ≡ Due → ⊥) → event_text form s (event_in ph s t) ≡ []
+silent_in form Idle s t early = refl
+silent_in form (Clearing k) s t early = refl
+silent_in form Armed s t early = refl
+silent_in form (Checking k) s t early = silent_choice form (k == row_count s.core) s
+silent_in form Void s t early = refl
+silent_in form Due s t early = absurd (early refl)
 
--- steps write nothing
-pub text_from-steps : (form : Form) (n : ℕ) (m : Moment) → text_from form m.state (events_of_steps n m) ≡ []
-text_from-steps form zero m = refl
-text_from-steps form (suc n) m =
+-- no aggregation is due amid a pass
+amid_is_early : (ph : Phase) → IsAmid ph → ph ≡ Due → ⊥
+amid_is_early (Clearing k) amid due = absurd (cc due)
+amid_is_early (Checking k) amid due = absurd (cc due)
+amid_is_early Idle amid due = absurd amid
+amid_is_early Armed amid due = absurd amid
+amid_is_early Void amid due = absurd amid
+amid_is_early Due amid due = absurd amid
+
+-- the phase of each of the next n moments satisfies P
+abbrev Each : (Phase → Type 0) → ℕ → Moment → Type 0
+Each P n m = (k : ℕ) → k < n → P (stepped_times k m).state.core.phase
+
+early_steps : (form : Form) (n : ℕ) (m : Moment) → Each (λ ph. ph ≡ Due → ⊥) n m → text_from form m.state (events_of_steps n m) ≡ []
+early_steps form zero m early = refl
+early_steps form (suc n) m early =
     let e = next_event m.state m.stream in
-    ap (λ t. t ++ text_from form (moved m e).state (events_of_steps n (moved m e))) (silent_in form m.state.core.phase m.state m.stream)
-    ∙ text_from-steps form n (moved m e)
+    ap (λ t. t ++ text_from form (moved m e).state (events_of_steps n (moved m e))) (silent_in form m.state.core.phase m.state m.stream (early 0 (omega arith)))
+    ∙ early_steps form n (moved m e) (λ k below. early (suc k) (omega (arith, below)))
+
+-- steps of a kind write nothing, where no aggregation is due
+pub text_from-steps : (form : Form) (n : ℕ) (m : Moment) → (m.state.core.phase ≡ Due → ⊥) → ((k : ℕ) → 1 ≤ k → k < n → IsAmid (stepped_times k m).state.core.phase)
+    → text_from form m.state (events_of_steps n m) ≡ []
+text_from-steps form n m early amid = early_steps form n m each
+  where
+    each : Each (λ ph. ph ≡ Due → ⊥) n m
+    each zero below = early
+    each (suc k) below = amid_is_early (stepped_times (suc k) m).state.core.phase (amid (suc k) (omega arith) below)
 
 -- touches write nothing
 pub text_from-touches : (form : Form) (s : State) (page n : ℕ) → text_from form s (touches page n) ≡ []
@@ -112,6 +133,7 @@ done_is_none : (m : Moment) (p : Part) → is_done p m.state.core.phase ≡ true
 done_is_none m (part.Touches page count) done = none_touched page count done
 done_is_none m (part.Steps until most) done = none_stepped until most m done
 done_is_none m part.Show done = absurd (cc done)
+done_is_none m (part.Commit parts) done = absurd (cc done)
 
 -- a part of which nothing is left is left out
 pub parts_events-done : (m : Moment) (p : Part) (ps : List Part) → is_done p m.state.core.phase ≡ true → parts_events m (p ∷ ps) ≡ parts_events m ps

@@ -11,8 +11,8 @@ use Rattle.damon_core.specs.Reached.{AllByHit, run}
 use Rattle.damon_world.specs.Moment.{Moment, along, event_in, moved, next_event}
 use Rattle.damon_world.specs.Plays.{along-state}
 use Rattle.damon_world.specs.Touches.{touches}
-use Rattle.script_run.specs.declared.part.Part.{Part}
-use Rattle.script_run.specs.declared.part.Part.TheVariants as part
+use Rattle.script_run.specs.Part.{Part}
+use Rattle.script_run.specs.Part as part
 use Rattle.script_run.specs.declared.part.Until.{Until}
 use Rattle.script_run.specs.Parts.{stops_at}
 use Rattle.script_run.specs.Unfold.{part_events, parts_events, steps_until}
@@ -56,6 +56,7 @@ by_hit-part : (m : Moment) (p : Part) → AllByHit m.state (part_events m p)
 by_hit-part m (part.Touches page count) = by_hit-touches m.state page count
 by_hit-part m (part.Steps until most) = by_hit-steps until most m
 by_hit-part m part.Show = (tt, tt)
+by_hit-part m (part.Commit parts) = (tt, tt)
 
 pub by_hit-parts : (m : Moment) (ps : List Part) → AllByHit m.state (parts_events m ps)
 by_hit-parts m [] = tt

@@ -5,13 +5,12 @@ use Rattle.damon_core.specs.Event.{Event}
 use Rattle.damon_core.specs.Reached.{AllFit, run}
 use Rattle.damon_core.specs.Bound.{Bound}
 use Rattle.damon_control.specs.Script.{ScriptValue, script_of}
-use Rattle.script_run.specs.NotBuilt.{built_events}
+use Rattle.script_run.specs.Unfold.{unfold_script}
 
--- The built events of the script fit from the opening of its setup, and each state to which a prefix of them leads is
--- bound.
+-- The events of the script fit from the opening of its setup, and each state to which a prefix of them leads is bound.
 pub record IsBoundAlong (s : ScriptValue) : Type 0 where
-  pub fit : AllFit (opening s.setup) (built_events s)
-  pub bound : (events rest : List Event) → built_events s ≡ events ++ rest → Bound (run (opening s.setup) events)
+  pub fit : AllFit (opening s.setup) (unfold_script s)
+  pub bound : (events rest : List Event) → unfold_script s ≡ events ++ rest → Bound (run (opening s.setup) events)
 
 -- the same for the script of each text
 abbrev pub EachScriptIsBound : Type 0

@@ -1,11 +1,11 @@
 -- What a player keeps: none of it is promised to callers.
-use Rattle.std.specs.Prelude.{◌≡◌, ℕ, ◌+◌, ◌≤◌, ◌^◌, Bool, false, ◌||◌, ◌==◌, List, [], ◌∷◌}
-use Rattle.damon_types.specs.declared.space.Target.{Target}
+use Rattle.std.specs.Prelude.{◌≡◌, ℕ, ◌+◌, ◌≤◌, ◌^◌, Bool, false, ◌||◌, ◌==◌, List, [], ◌∷◌, None}
+use Rattle.std.specs.List.{AllByRecursion}
 use Rattle.damon_types.specs.Space.{pages_of}
 use Rattle.live_commit.specs.declared.phase.Phase.{Phase}
 use Rattle.damon_world.specs.Stands.{WorldView}
-use Rattle.script_run.specs.declared.part.Part.{Part}
-use Rattle.script_run.specs.declared.part.Part.TheVariants as part
+use Rattle.script_run.specs.Part.{Part}
+use Rattle.script_run.specs.Part as part
 use Rattle.script_run.specs.Parts.{stops_at}
 use Rattle.script_run.specs.Player.{left_in}
 
@@ -14,8 +14,9 @@ abbrev pub is_done : Part → Phase → Bool
 is_done (part.Touches page count) phase = count == 0
 is_done (part.Steps until most) phase = (most == 0) || stops_at until phase
 is_done part.Show phase = false
+is_done (part.Commit parts) phase = false
 
--- the pages of a part are among so many
+-- the pages of a part are below this number
 abbrev pub IsPartWithin : ℕ → Part → Type 0
 IsPartWithin pages (part.Touches page count) = page + count ≤ pages
 IsPartWithin pages _ = Unit {0}
@@ -25,8 +26,13 @@ abbrev pub ArePartsWithin : ℕ → List Part → Type 0
 ArePartsWithin pages [] = Unit {0}
 ArePartsWithin pages (p ∷ ps) = IsPartWithin pages p × ArePartsWithin pages ps
 
--- the space is the world's, its pages are those of the parts, and what is left keeps the passes below 2^40
-pub record IsPlayer {R : Type 0} (space : List Target) (w : WorldView R) (parts : List Part) : Type 0 where
-  pub space_is : space ≡ w.monitor.core.space
+-- a part is no commit of a slot or a metric, which are not built yet
+abbrev pub IsBuilt : Part → Type 0
+IsBuilt (part.Commit parts) = (parts.slot ≡ None) × (parts.metric ≡ None)
+IsBuilt _ = Unit {0}
+
+-- the pages of the parts are pages of the world's space, what is left keeps the passes below 2^40, and it is built
+pub record IsPlayer {R : Type 0} (w : WorldView R) (parts : List Part) : Type 0 where
   pub within : ArePartsWithin (pages_of w.monitor.core.space) parts
   pub work : w.monitor.core.ticks + left_in parts ≤ 2 ^ 40
+  pub built : AllByRecursion IsBuilt parts

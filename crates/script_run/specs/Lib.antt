@@ -1,3 +1,4 @@
+pub mod Part
 pub mod Parts
 pub mod Unfold
 pub mod NotBuilt

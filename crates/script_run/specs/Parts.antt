@@ -3,8 +3,8 @@ use Rattle.std.specs.Prelude.{ℕ, ◌+◌, ◌-◌, ◌*◌, Bool, true, false,
 use Rattle.live_commit.specs.declared.phase.Phase.{Phase}
 use Rattle.live_commit.specs.declared.phase.Phase.TheVariants.{Idle, Armed}
 use Rattle.damon_control.specs.Command.{CommandValue, Touch, Sweep, Step, Arm, Finish, Show, Commit}
-use Rattle.script_run.specs.declared.part.Part.{Part}
-use Rattle.script_run.specs.declared.part.Part.TheVariants as part
+use Rattle.script_run.specs.Part.{Part}
+use Rattle.script_run.specs.Part as part
 use Rattle.script_run.specs.declared.part.Until.{Until}
 use Rattle.script_run.specs.declared.part.Until.TheVariants as until
 
@@ -28,7 +28,7 @@ stops_at until.Idle phase = is_idle phase
 abbrev pub pass_limit : ℕ → ℕ
 pass_limit cap = 2 * cap + 3
 
--- a command before its first event, under a cap; commits are not built yet and have no event
+-- a command before its first event, under a cap
 abbrev pub part_of : ℕ → CommandValue → Part
 part_of cap (Touch page) = part.Touches page 1
 part_of cap (Sweep from to) = part.Touches from (to - from)
@@ -36,7 +36,7 @@ part_of cap (Step times) = part.Steps until.Count times
 part_of cap Arm = part.Steps until.Armed (pass_limit cap)
 part_of cap Finish = part.Steps until.Idle (pass_limit cap)
 part_of cap Show = part.Show
-part_of cap (Commit commit) = part.Touches 0 0
+part_of cap (Commit parts) = part.Commit parts
 
 -- commands before their first event
 abbrev pub parts_of : ℕ → List CommandValue → List Part

@@ -1,16 +1,15 @@
 -- What a player shows, and what its calls promise.
 use Rattle.std.specs.Prelude.{◌≡◌, ℕ, ◌+◌, List, [], ◌∷◌, ◌++◌, sum_by}
 use Rattle.rand_core.specs.Stream.{Stream}
-use Rattle.damon_core.specs.Event.{Event, aggregate}
+use Rattle.damon_core.specs.Event.{Event}
 use Rattle.damon_core.specs.Reached.{Reached}
 use Rattle.damon_world.specs.Stands.{WorldView, StandsAt}
 use Rattle.damon_world.specs.Moment.{Moment, along}
 use Rattle.damon_world.specs.Plays.{Plays}
 use Rattle.snapshot_print.specs.declared.form.Form.{Form}
-use Rattle.script_run.specs.declared.part.Part.{Part}
-use Rattle.script_run.specs.declared.part.Part.TheVariants as part
+use Rattle.script_run.specs.Part.{Part}
+use Rattle.script_run.specs.Part as part
 use Rattle.script_run.specs.Unfold.{parts_events}
-use Rattle.script_run.specs.NotBuilt.{before_aggregation}
 use Rattle.script_run.specs.Report.{last_text, text_from}
 
 -- A player: its world, the form of its text, what is left of the command under way, and the commands after it.
@@ -24,9 +23,9 @@ pub record PlayerView (R : Type 0) : Type 0 where
 abbrev pub left_events : {R : Type 0} → PlayerView R → Moment → List Event
 left_events p m = parts_events m (p.part ∷ p.later)
 
--- the text of those that are built
+-- the text of the events that are left
 abbrev pub left_text : {R : Type 0} → PlayerView R → Moment → List ℕ
-left_text p m = text_from p.form m.state (before_aggregation (left_events p m))
+left_text p m = text_from p.form m.state (left_events p m)
 
 -- The player made the first of the events that were left, the others are left, and the text grew by what was made.
 pub record GoesOn {R : Type 0} (stream : R → Stream) (old new : PlayerView R) (before after : List ℕ) : Type 0 where
@@ -41,11 +40,6 @@ pub record GoesOn {R : Type 0} (stream : R → Stream) (old new : PlayerView R) 
 -- no event is left
 abbrev pub IsOver : {R : Type 0} → (R → Stream) → PlayerView R → Type 0
 IsOver stream p = (m : Moment) → StandsAt stream p.world m → left_events p m ≡ []
-
--- the next event that is left is an aggregation
-abbrev pub IsAtAggregation : {R : Type 0} → (R → Stream) → PlayerView R → Type 0
-IsAtAggregation stream p = (m : Moment) → StandsAt stream p.world m
-    → (words : List ℕ) × (later : List Event) × (left_events p m ≡ aggregate words ∷ later)
 
 -- the text grew by a prefix of a whole
 pub record GrowsWithin (whole before after : List ℕ) : Type 0 where
@@ -64,16 +58,17 @@ abbrev pub WritesLast : {R : Type 0} → (R → Stream) → PlayerView R → Lis
 WritesLast stream p before after = (m : Moment) → StandsAt stream p.world m
     → after ≡ before ++ last_text p.form m.state
 
--- how much of a part is left at most: its touches, its steps, or one show
+-- how much of a part is left at most: its touches, its steps, or one show or commit
 abbrev pub left_of : Part → ℕ
 left_of (part.Touches page count) = count
 left_of (part.Steps until most) = most
 left_of part.Show = 1
+left_of (part.Commit parts) = 1
 
 -- how much of parts is left at most, where each counts one more
 abbrev pub left_in : List Part → ℕ
 left_in parts = sum_by (λ p. 1 + left_of p) parts
 
--- how much a player has left to do at most: touches, steps, shows and parts
+-- how much a player has left to do at most: touches, steps, shows, commits and parts
 abbrev pub left_moves : {R : Type 0} → PlayerView R → ℕ
 left_moves p = left_in (p.part ∷ p.later)

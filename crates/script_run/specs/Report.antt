@@ -1,20 +1,23 @@
 -- The report of a script.
-use Rattle.std.specs.Prelude.{◌≡◌, ℕ, List, [], ◌∷◌, ◌++◌, if◌then◌else◌, refl}
+use Rattle.std.specs.Prelude.{◌≡◌, ℕ, List, [], ◌∷◌, ◌++◌, refl}
 use Rattle.std.proofs.Common.{◌∙◌, ap, sym, append_assoc}
 use Rattle.damon_core.specs.State.{State, opening}
-use Rattle.damon_core.specs.Event.{Event, show}
+use Rattle.damon_core.specs.Commit.{commit_answer}
+use Rattle.damon_core.specs.Event.{Event, aggregate, commit, show}
 use Rattle.damon_core.specs.After.{after}
 use Rattle.damon_core.specs.Reached.{run}
+use Rattle.snapshot_print.specs.Commit.{commit_text}
 use Rattle.snapshot_print.specs.declared.form.Form.{Form}
-use Rattle.snapshot_print.specs.Lines.{show_text, end_text}
+use Rattle.snapshot_print.specs.Lines.{aggregate_text, show_text, end_text}
 use Rattle.snapshot_print.specs.Printed.{printed_state}
 use Rattle.damon_control.specs.Script.{ScriptValue}
 use Rattle.script_run.specs.Unfold.{unfold_script}
-use Rattle.script_run.specs.NotBuilt.{built_events, comes_to_aggregation}
 
--- what an event writes; the others write nothing
+-- What an event writes: a show the state, an aggregation what it reports, a commit its answer; the others write nothing.
 abbrev pub event_text : Form → State → Event → List ℕ
 event_text form s show = show_text form (printed_state s)
+event_text form s (aggregate words) = aggregate_text form (printed_state (after s (aggregate words)))
+event_text form s (commit parts) = commit_text form s.core.ticks (commit_answer parts s.core)
 event_text form s _ = []
 
 -- what events write from a state on
@@ -30,11 +33,6 @@ last_text form s = end_text form (printed_state s)
 abbrev pub report : Form → ScriptValue → List ℕ
 report form s =
     text_from form (opening s.setup) (unfold_script s) ++ last_text form (run (opening s.setup) (unfold_script s))
-
--- What the run of a script writes: its report, or where it comes to an aggregation the text of the events before.
-abbrev pub written_text : Form → ScriptValue → List ℕ
-written_text form s =
-    if comes_to_aggregation s then text_from form (opening s.setup) (built_events s) else report form s
 
 -- the text of events and then others
 pub text_from-append : (form : Form) (s : State) (es fs : List Event)

@@ -5,12 +5,12 @@ use Rattle.rand_core.specs.Steps.{stream_of, steps_u32}
 use Rattle.rand_pcg.specs.Lcg.{started, increment_of}
 use Rattle.rand_pcg.specs.Pcg.{multiplier_64, pcg32}
 use Rattle.damon_core.specs.State.{opening}
-use Rattle.damon_core.specs.Event.{Event, show}
+use Rattle.damon_core.specs.Event.{Event, commit, show}
 use Rattle.damon_world.specs.Moment.{Moment, along, moved, next_event}
 use Rattle.damon_world.specs.Touches.{touches}
 use Rattle.damon_control.specs.Script.{ScriptValue}
-use Rattle.script_run.specs.declared.part.Part.{Part}
-use Rattle.script_run.specs.declared.part.Part.TheVariants as part
+use Rattle.script_run.specs.Part.{Part}
+use Rattle.script_run.specs.Part as part
 use Rattle.script_run.specs.declared.part.Until.{Until}
 use Rattle.script_run.specs.Parts.{parts_of, stops_at}
 
@@ -26,6 +26,7 @@ abbrev pub part_events : Moment → Part → List Event
 part_events m (part.Touches page count) = touches page count
 part_events m (part.Steps until most) = steps_until until most m
 part_events m part.Show = show ∷ []
+part_events m (part.Commit parts) = commit parts ∷ []
 
 -- the events of parts one after another
 abbrev pub parts_events : Moment → List Part → List Event

@@ -1,10 +1,9 @@
 -- A player on its way through a script, and what was written where it stops.
-use Rattle.std.specs.Prelude.{◌≡◌, Bool, true, false, ℕ, List, [], ◌∷◌, ◌++◌, cond, refl}
-use Rattle.std.specs.List.{list_any}
+use Rattle.std.specs.Prelude.{◌≡◌, ℕ, List, [], ◌++◌, refl}
 use Rattle.std.proofs.Common.{◌∙◌, ap, sym, subst, append-nil, append_assoc}
 use Rattle.rand_core.specs.Stream.{Stream}
 use Rattle.damon_core.specs.State.{State, opening}
-use Rattle.damon_core.specs.Event.{Event, aggregate}
+use Rattle.damon_core.specs.Event.{Event}
 use Rattle.damon_core.specs.Reached.{AllFit, CanOpen, Reached, run}
 use Rattle.damon_core.specs.Makes.{AllFit-append}
 use Rattle.damon_world.specs.Moment.{Moment, along}
@@ -13,9 +12,8 @@ use Rattle.damon_world.specs.Stands.{StandsAt}
 use Rattle.damon_control.specs.Script.{ScriptValue}
 use Rattle.snapshot_print.specs.declared.form.Form.{Form}
 use Rattle.script_run.specs.Unfold.{start, unfold_script}
-use Rattle.script_run.specs.NotBuilt.{any_aggregation-fit, before_aggregation, before_aggregation-fit, built_events, comes_to_aggregation, is_aggregation}
-use Rattle.script_run.specs.Report.{last_text, report, text_from, text_from-append, written_text}
-use Rattle.script_run.specs.Player.{GoesOn, IsAtAggregation, IsOver, PlayerView, left_events}
+use Rattle.script_run.specs.Report.{last_text, report, text_from, text_from-append}
+use Rattle.script_run.specs.Player.{GoesOn, IsOver, PlayerView, left_events}
 
 -- The player made the first events of the script, which fit from its opening; it stands at the moment after them; the
 -- others are left; and this is the text of those that it made.
@@ -67,48 +65,20 @@ module _ {R : Type 0} (stream : R → Stream) (s : ScriptValue) (f : Form) where
         form = on.form ∙ way.form;
       }
 
-  -- what was written is a prefix of what the run writes
+  -- what was written is a prefix of the report
   pub way-prefix : (p : PlayerView R) (text : List ℕ) → IsOnItsWay stream s f p text
-      → (rest : List ℕ) × (written_text f s ≡ text ++ rest)
-  way-prefix p text way = by (comes_to_aggregation s) refl
-    where
-      left : List Event
-      left = left_events p (along (start s) way.made)
+      → (rest : List ℕ) × (report f s ≡ text ++ rest)
+  way-prefix p text way =
+      let left = left_events p (along (start s) way.made) in
+      let there = run (opening s.setup) way.made in
+      let last = last_text f (run (opening s.setup) (unfold_script s)) in
+      let joined : text_from f (opening s.setup) (unfold_script s) ≡ text ++ text_from f there left =
+      ap (text_from f (opening s.setup)) way.left
+      ∙ text_from-append f (opening s.setup) way.made left
+      ∙ ap (λ t. t ++ text_from f there left) (sym way.written) in
+      (text_from f there left ++ last, ap (λ t. t ++ last) joined ∙ append_assoc text (text_from f there left) last)
 
-      there : State
-      there = run (opening s.setup) way.made
-
-      -- the text of what was made and then of others
-      joined : (es : List Event) → text_from f (opening s.setup) (way.made ++ es) ≡ text ++ text_from f there es
-      joined es =
-          text_from-append f (opening s.setup) way.made es
-          ∙ ap (λ t. t ++ text_from f there es) (sym way.written)
-
-      by : (b : Bool) → comes_to_aggregation s ≡ b → (rest : List ℕ) × (written_text f s ≡ text ++ rest)
-      by true is = (
-        text_from f there (before_aggregation left),
-        ap (λ b. cond b (text_from f (opening s.setup) (built_events s)) (report f s)) is
-            ∙ ap (λ es. text_from f (opening s.setup) (before_aggregation es)) way.left
-            ∙ ap (text_from f (opening s.setup)) (before_aggregation-fit (opening s.setup) way.made left way.fit)
-            ∙ joined (before_aggregation left),
-      )
-      by false is =
-          let last = last_text f (run (opening s.setup) (unfold_script s)) in (
-            text_from f there left ++ last,
-            ap (λ b. cond b (text_from f (opening s.setup) (built_events s)) (report f s)) is
-                ∙ ap (λ es. text_from f (opening s.setup) es ++ last) way.left
-                ∙ ap (λ t. t ++ last) (joined left)
-                ∙ append_assoc text (text_from f there left) last,
-          )
-
-  -- where no event is left, the script comes to no aggregation
-  pub way-over : (p : PlayerView R) (text : List ℕ) → IsOnItsWay stream s f p text → IsOver stream p
-      → comes_to_aggregation s ≡ false
-  way-over p text way over =
-      ap (list_any is_aggregation) (way.left ∙ ap (λ es. way.made ++ es) (over (along (start s) way.made) way.stands))
-      ∙ any_aggregation-fit (opening s.setup) way.made [] way.fit
-
-  -- and what was written with the last line is its report
+  -- where no event is left, what was written is the report with its last line
   pub way-report : (p : PlayerView R) (text : List ℕ) (way : IsOnItsWay stream s f p text) → IsOver stream p
       → text ++ last_text p.form (along (start s) way.made).state ≡ report f s
   way-report p text way over =
@@ -120,18 +90,3 @@ module _ {R : Type 0} (stream : R → Stream) (s : ScriptValue) (f : Form) where
       ∙ ap (λ g. text_from f (opening s.setup) way.made ++ last_text g (along (start s) way.made).state) way.form
       ∙ ap (λ t. text_from f (opening s.setup) way.made ++ last_text f t) (along-state (start s) way.made)
       ∙ ap (λ es. text_from f (opening s.setup) es ++ last_text f (run (opening s.setup) es)) (sym all)
-
-  -- where the next event is an aggregation, the script comes to one, and the text of the events before it was written
-  pub way-due : (p : PlayerView R) (text : List ℕ) → IsOnItsWay stream s f p text → IsAtAggregation stream p
-      → (comes_to_aggregation s ≡ true) × (text ≡ text_from f (opening s.setup) (built_events s))
-  way-due p text way at =
-      let next = at (along (start s) way.made) way.stands in
-      let later = aggregate next.0 ∷ next.1 in
-      let all : unfold_script s ≡ way.made ++ later = way.left ∙ ap (λ es. way.made ++ es) next.2 in
-      let built : built_events s ≡ way.made =
-      ap before_aggregation all
-      ∙ before_aggregation-fit (opening s.setup) way.made later way.fit
-      ∙ append-nil way.made in (
-        ap (list_any is_aggregation) all ∙ any_aggregation-fit (opening s.setup) way.made later way.fit,
-        way.written ∙ ap (text_from f (opening s.setup)) (sym built),
-      )

@@ -2,21 +2,20 @@
 ghost use Rattle.script_run.specs.BoundAlong.{EachScriptIsBound};
 ghost use Rattle.script_run.specs.Reaching.{ReachTheirPhase};
 
-/// The events of the script of each text fit from the opening of its setup, up to its first
-/// aggregation, and each state to which a prefix of them leads is bound. No code is run for it.
+/// The events of the script of each text fit from the opening of its setup, and each state to which a
+/// prefix of them leads is bound. No code is run for it.
 pub fn each_script_is_bound()
     ensures { EachScriptIsBound }
 {
     damon_control::scripts_are_sound();
     damon_core::reached_states_are_bound();
-    damon_core::reached_states_are_in_phase();
 }
 
 /// From each state to which fitting events lead, the steps of `arm` lead to where each pick of a
-/// pass is cleared, and those of `finish` to where no pass is under way, or an aggregation is among
-/// them: `2 × cap + 3` steps are enough.
+/// pass is cleared, and those of `finish` to where no pass is under way and no aggregation is due:
+/// `2 × cap + 3` steps are enough.
 pub fn passes_reach_their_phase()
     ensures { ReachTheirPhase }
 {
-    damon_core::reached_states_are_in_phase();
+    damon_core::reached_states_are_bound();
 }

@@ -1,10 +1,11 @@
 ghost use Rattle.std.specs.Prelude.{◌≡◌};
 ghost use Rattle.damon_control.specs.Command.{command_value};
 ghost use Rattle.script_run.specs.Kept.{is_done};
+ghost use Rattle.script_run.specs.Part.{part_value, start_value};
 ghost use Rattle.script_run.specs.Parts.{part_of, stops_at};
 
 use damon_control::Command;
-use live_commit::Phase;
+use live_commit::{Commit, Phase};
 
 /// Where steps stop before all of them are made.
 #[derive(Clone, Copy, Debug, PartialEq, Eq)]
@@ -17,7 +18,7 @@ pub enum Until {
     Idle,
 }
 
-/// What is left of a command.
+/// What is left of a command under way, which is no commit: a commit is one event.
 #[derive(Clone, Copy, Debug, PartialEq, Eq)]
 pub enum Part {
     /// One touch of each of `count` pages, ascending, the first of which is `page`.
@@ -33,13 +34,21 @@ impl Part {
     pub const NOTHING: Part = Part::Touches { page: 0, count: 0 };
 }
 
-// A command before its first event, under a cap.
-pub fn part_of(cap: u32, command: &Command) -> Part
-    ensures { result ≡ part_of cap (command_value command.now) }
+/// What a command begins with.
+pub enum Start<'a> {
+    /// Events that are made in pieces.
+    Part(Part),
+    /// A commit, which is one event.
+    Commit(&'a Commit),
+}
+
+// What a command begins with, under a cap.
+pub fn start_of(cap: u32, command: &Command) -> Start<'_>
+    ensures { start_value result ≡ part_of cap (command_value command.now) }
 {
     // The most steps that the arming or the finishing of a pass takes.
     let pass_limit = 2 * u64::from(cap) + 3;
-    match command {
+    let part = match command {
         Command::Touch { page } => Part::Touches {
             page: *page,
             count: 1,
@@ -61,14 +70,14 @@ pub fn part_of(cap: u32, command: &Command) -> Part
             most: pass_limit,
         },
         Command::Show => Part::Show,
-        // Commits are not built yet.
-        Command::Commit { .. } => Part::NOTHING,
-    }
+        Command::Commit { commit } => return Start::Commit(commit),
+    };
+    Start::Part(part)
 }
 
 // Whether no event of a part is left.
 pub fn is_done(part: Part, phase: Phase) -> bool
-    ensures { result ≡ is_done part phase }
+    ensures { result ≡ is_done (part_value part) phase }
 {
     match part {
         Part::Touches { count, .. } => count == 0,

@@ -1,4 +1,4 @@
-ghost use Rattle.std.specs.Prelude.{◌≡◌, ◌≢◌, ◌+◌, ◌<◌, ◌≤◌, ◌^◌, ◌∷◌, [], All, Ok, Some, None, IfOk, OnErr, OnOk, true, false, length, map, ℕ, List, vec_len};
+ghost use Rattle.std.specs.Prelude.{◌≡◌, ◌≢◌, ◌+◌, ◌<◌, ◌≤◌, ◌^◌, ◌∷◌, ◌++◌, [], All, None, Ok, IfOk, OnErr, OnOk, true, false, length, map, ℕ, List, vec_len};
 ghost use Rattle.rand_core.specs.Steps.{stream_of, steps_u32};
 ghost use Rattle.rand_pcg.specs.Pcg.{pcg32};
 ghost use Rattle.damon_types.specs.Space.{pages_of};
@@ -6,19 +6,25 @@ ghost use Rattle.damon_control.specs.Command.{command_value, work_of};
 ghost use Rattle.damon_control.specs.Limits.{EachIsWithin};
 ghost use Rattle.damon_control.specs.ScriptView.{said_by};
 ghost use Rattle.script_run.specs.NotBuilt.{has_later_parts};
+ghost use Rattle.damon_core.specs.Commit.{commit_answer};
+ghost use Rattle.damon_core.specs.Event.{commit as commit_event};
+ghost use Rattle.damon_core.specs.Makes.{Makes};
+ghost use Rattle.damon_world.specs.Stands.{StandsFor};
+ghost use Rattle.live_commit.specs.Commit.{commit_value};
+ghost use Rattle.snapshot_print.specs.Commit.{commit_text};
 ghost use Rattle.script_run.specs.Kept.{is_done};
-ghost use Rattle.script_run.specs.Player.{GoesOn, IsAtAggregation, IsOver, WritesLast, WritesSome, left_moves};
+ghost use Rattle.script_run.specs.Part as left;
+ghost use Rattle.script_run.specs.Player.{GoesOn, IsOver, WritesLast, WritesSome, left_moves};
 ghost use Rattle.script_run.specs.Way.{IsOnItsWay};
 
-use crate::part::{Part, Until, is_done, part_of};
+use crate::part::{Part, Start, Until, is_done, start_of};
 use crate::random::random_words;
 use damon_control::{Commands, MAX_WORK, Script};
-use damon_types::Space;
 use damon_world::World;
-use live_commit::{Phase, Setup};
+use live_commit::{Commit, Phase};
 use rand_core::Rng;
 use rand_pcg::Lcg64Xsh32;
-use snapshot_print::{Form, print_end, print_show};
+use snapshot_print::{Form, print_aggregate, print_commit, print_end, print_show};
 use std::alloc::{AllocError, Global};
 use std::marker::Model;
 
@@ -32,15 +38,12 @@ pub enum Filled {
     Piece,
     /// No event is left.
     End,
-    /// The next event is an aggregation, which is not built yet.
-    Due,
 }
 
 /// A script that is played piece by piece.
 #[derive(Drop)]
 pub struct Player<R: Rng> {
     world: World<R>,
-    space: Space,
     cap: u32,
     commands: Commands,
     form: Form,
@@ -54,6 +57,7 @@ impl<R: Rng> Model for Player<R> {
     ghost use Rattle.std.specs.Prelude.{◌∷◌, drop, map};
     ghost use Rattle.damon_control.specs.Command.{command_value};
     ghost use Rattle.script_run.specs.Kept.{IsPlayer};
+    ghost use Rattle.script_run.specs.Part.{part_value};
     ghost use Rattle.script_run.specs.Parts.{parts_of};
     ghost use Rattle.script_run.specs.Player.{PlayerView};
 
@@ -62,25 +66,23 @@ impl<R: Rng> Model for Player<R> {
     ghost view = { λ p. record {
       world = p.world;
       form = p.form;
-      part = p.part;
+      part = part_value p.part;
       later = parts_of p.cap (map command_value (drop p.begun p.commands.list));
     } };
 
     ghost invariant = { λ p.
-        IsPlayer p.space p.world
-        (p.part ∷ parts_of p.cap (map command_value (drop p.begun p.commands.list))) };
+        IsPlayer p.world
+        (part_value p.part ∷ parts_of p.cap (map command_value (drop p.begun p.commands.list))) };
 }
 
 impl<R: Rng + Drop> Player<R> {
     /// Makes the next events and appends exactly their text to `out`, until `out` has [`PIECE`]
-    /// bytes or more, no event is left, or the next one is an aggregation. Takes memory for the
-    /// text. Where it runs out, a prefix of the text that was left was appended, and no more is
-    /// known of the player.
+    /// bytes or more, or no event is left. Takes memory for the text. Where it runs out, a prefix of the
+    /// text that was left was appended, and no more is known of the player.
     pub fn fill(&mut self, alloc: Global, out: &mut Vec<u8>) -> Result<Filled, AllocError>
         ensures on { OnOk result (GoesOn R.stream self.old self.new out.old.items out.new.items) }
         ensures piece { result ≡ Ok Filled.Piece → PIECE ≤ vec_len out.new }
         ensures end { result ≡ Ok Filled.End → IsOver R.stream self.new }
-        ensures due { result ≡ Ok Filled.Due → IsAtAggregation R.stream self.new }
         ensures err { OnErr result (WritesSome R.stream self.old out.old.items out.new.items) }
 
         // It comes nearer to the end of the script.
@@ -88,80 +90,98 @@ impl<R: Rng + Drop> Player<R> {
             left_moves self.new < left_moves self.old }
     {
         'moves: while out.len() < PIECE {
-            if let Some(stop) = self.go_on(alloc, out)? {
-                return Ok(stop);
+            if !self.go_on(alloc, out)? {
+                return Ok(Filled::End);
             }
         }
         Ok(Filled::Piece)
     }
 
-    // Makes the next events of a kind or begins the next command, or says why it cannot.
-    fn go_on(&mut self, alloc: Global, out: &mut Vec<u8>) -> Result<Option<Filled>, AllocError>
+    // Makes the next events of a kind or begins the next command. False where no event is left.
+    fn go_on(&mut self, alloc: Global, out: &mut Vec<u8>) -> Result<bool, AllocError>
         ensures on { OnOk result (GoesOn R.stream self.old self.new out.old.items out.new.items) }
-        ensures less { result ≡ Ok None → left_moves self.new < left_moves self.old }
-        ensures end { result ≡ Ok (Some Filled.End) → IsOver R.stream self.new }
-        ensures due { result ≡ Ok (Some Filled.Due) → IsAtAggregation R.stream self.new }
-        ensures stop { result ≢ Ok (Some Filled.Piece) }
+        ensures less { result ≡ Ok true → left_moves self.new < left_moves self.old }
+        ensures end { result ≡ Ok false → IsOver R.stream self.new }
         ensures err { OnErr result (out.new.items ≡ out.old.items) }
     {
         let phase = self.world.monitor().phase();
         if is_done(self.part, phase) {
-            return Ok(self.begin_next());
+            return self.begin_next(alloc, out);
         }
+        self.play(alloc, out, phase)?;
+        Ok(true)
+    }
+
+    // Makes the next events of the command under way, of which some are left. The phase is the monitor's.
+    fn play(&mut self, alloc: Global, out: &mut Vec<u8>, phase: Phase) -> Result<(), AllocError>
+        requires phase { phase ≡ self.old.world.monitor.core.phase }
+        requires some { is_done self.old.part self.old.world.monitor.core.phase ≡ false }
+        ensures on { OnOk result (GoesOn R.stream self.old self.new out.old.items out.new.items) }
+        ensures less { OnOk result (left_moves self.new < left_moves self.old) }
+        ensures err { OnErr result (out.new.items ≡ out.old.items) }
+    {
         match self.part {
             Part::Touches { page, count } => {
                 self.touch(page, count);
-                Ok(None)
+                Ok(())
             }
-            Part::Steps { .. } if phase == Phase::Due => Ok(Some(Filled::Due)),
+            Part::Steps { until, most } if phase == Phase::Due => {
+                self.aggregate(alloc, out, until, most)
+            }
             Part::Steps { until, most } => {
                 self.step(until, most);
-                Ok(None)
+                Ok(())
             }
-            Part::Show => {
-                print_show(alloc, out, self.form, self.world.monitor(), &self.space)?;
-                self.part = Part::NOTHING;
-                Ok(None)
-            }
+            Part::Show => self.show(alloc, out),
         }
     }
 
-    // Begins the next command, or says that there is none.
-    fn begin_next(&mut self) -> Option<Filled>
+    // Begins the next command; a commit is made at once. False where there is none.
+    fn begin_next(&mut self, alloc: Global, out: &mut Vec<u8>) -> Result<bool, AllocError>
         requires { is_done self.old.part self.old.world.monitor.core.phase ≡ true }
-        ensures on { (text : List ℕ) → GoesOn R.stream self.old self.new text text }
-        ensures less { result ≡ None → left_moves self.new < left_moves self.old }
-        ensures end { result ≢ None → (result ≡ Some Filled.End) × IsOver R.stream self.new }
+        ensures on { OnOk result (GoesOn R.stream self.old self.new out.old.items out.new.items) }
+        ensures less { result ≡ Ok true → left_moves self.new < left_moves self.old }
+        ensures end { result ≡ Ok false → IsOver R.stream self.new }
+        ensures err { OnErr result (out.new.items ≡ out.old.items) }
     {
-        if self.begun < self.commands.len() {
-            self.part = part_of(self.cap, self.commands.get(self.begun));
-            self.begun += 1;
-            None
-        } else {
-            Some(Filled::End)
+        if self.begun >= self.commands.len() {
+            return Ok(false);
+        }
+        let start = start_of(self.cap, self.commands.get(self.begun));
+        self.begun += 1;
+        match start {
+            Start::Part(part) => {
+                self.part = part;
+                Ok(true)
+            }
+            Start::Commit(commit) => {
+                self.part = Part::NOTHING;
+                make_commit(alloc, out, self.form, &mut self.world, commit)?;
+                Ok(true)
+            }
         }
     }
 
     // Makes all touches of a part.
     fn touch(&mut self, page: u32, count: u32)
-        requires part { self.old.part ≡ Part.Touches page count }
+        requires part { self.old.part ≡ left.Touches page count }
         requires some { 0 < count }
         ensures on { (text : List ℕ) → GoesOn R.stream self.old self.new text text }
         ensures less { left_moves self.new < left_moves self.old }
     {
         // For its clauses alone: the pages are a u32.
-        let _pages = self.space.pages();
+        let _pages = self.world.monitor().space().pages();
         self.world.sweep(page, page + count);
         self.part = Part::NOTHING;
     }
 
-    // Makes the next steps of a kind. It is kept apart from `fill`: inlined there, the loops over picks
-    // run a seventh slower.
+    // Makes the next steps of a kind, where no aggregation is due. It is kept apart from `fill`: inlined
+    // there, the loops over picks run a seventh slower.
     #[inline(never)]
     fn step(&mut self, until: Until, most: u64)
-        requires part { self.old.part ≡ Part.Steps until most }
+        requires part { self.old.part ≡ left.Steps until most }
         requires some { is_done self.old.part self.old.world.monitor.core.phase ≡ false }
-        requires built { self.old.world.monitor.core.phase ≢ Phase.Due }
+        requires between { self.old.world.monitor.core.phase ≢ Phase.Due }
         ensures on { (text : List ℕ) → GoesOn R.stream self.old self.new text text }
         ensures less { left_moves self.new < left_moves self.old }
     {
@@ -172,6 +192,40 @@ impl<R: Rng + Drop> Player<R> {
         };
     }
 
+    // Makes the aggregation that is due, which is one step, and appends what it reports.
+    fn aggregate(
+        &mut self,
+        alloc: Global,
+        out: &mut Vec<u8>,
+        until: Until,
+        most: u64,
+    ) -> Result<(), AllocError>
+        requires part { self.old.part ≡ left.Steps until most }
+        requires some { is_done self.old.part self.old.world.monitor.core.phase ≡ false }
+        requires due { self.old.world.monitor.core.phase ≡ Phase.Due }
+        ensures on { OnOk result (GoesOn R.stream self.old self.new out.old.items out.new.items) }
+        ensures less { OnOk result (left_moves self.new < left_moves self.old) }
+        ensures err { OnErr result (out.new.items ≡ out.old.items) }
+    {
+        self.world.advance(1);
+        self.part = Part::Steps {
+            until,
+            most: most - 1,
+        };
+        print_aggregate(alloc, out, self.form, self.world.monitor())
+    }
+
+    // Appends the text of a show.
+    fn show(&mut self, alloc: Global, out: &mut Vec<u8>) -> Result<(), AllocError>
+        requires { self.old.part ≡ left.Show }
+        ensures on { OnOk result (GoesOn R.stream self.old self.new out.old.items out.new.items) }
+        ensures less { left_moves self.new < left_moves self.old }
+        ensures err { OnErr result (out.new.items ≡ out.old.items) }
+    {
+        self.part = Part::NOTHING;
+        print_show(alloc, out, self.form, self.world.monitor())
+    }
+
     /// Appends the last line of the report, after the last event. Where memory runs out, nothing is
     /// appended.
     pub fn finish(self, alloc: Global, out: &mut Vec<u8>) -> Result<(), AllocError>
@@ -179,11 +233,34 @@ impl<R: Rng + Drop> Player<R> {
         ensures last { OnOk result (WritesLast R.stream self out.old.items out.new.items) }
         ensures err { OnErr result (out.new.items ≡ out.old.items) }
     {
-        print_end(alloc, out, self.form, self.world.monitor(), &self.space)
+        print_end(alloc, out, self.form, self.world.monitor())
     }
 }
 
-/// A player before the first event of a script without schemes and commits, whose random words are
+// Makes a commit of a world, and appends its line.
+fn make_commit<R: Rng + Drop>(
+    alloc: Global,
+    out: &mut Vec<u8>,
+    form: Form,
+    world: &mut World<R>,
+    commit: &Commit,
+) -> Result<(), AllocError>
+    requires slot { commit.now.slot ≡ None }
+    requires metric { commit.now.metric ≡ None }
+    ensures ok { OnOk result (out.new.items ≡ out.old.items
+        ++ commit_text form world.old.monitor.core.ticks
+        (commit_answer (commit_value commit.now) world.old.monitor.core)) }
+    ensures err { OnErr result (out.new.items ≡ out.old.items) }
+    ensures event { Makes StandsFor world.old world.new (commit_event (commit_value commit.now) ∷ []) }
+    ensures source { world.new.source ≡ world.old.source }
+    ensures space { world.new.monitor.core.space ≡ world.old.monitor.core.space }
+    ensures ticks { world.new.monitor.core.ticks ≡ world.old.monitor.core.ticks }
+{
+    let answer = world.commit(commit);
+    print_commit(alloc, out, form, world.monitor().ticks(), &answer)
+}
+
+/// A player before the first event of a script without schemes and metrics, whose random words are
 /// those of the script's seed. The pages of the commands are pages of the script's space, and their
 /// work is at most [`MAX_WORK`]. Takes memory.
 pub fn open_player(
@@ -201,18 +278,13 @@ pub fn open_player(
     let _ranges = script.setup.ranges.len();
     // For its clauses alone: the commands are fewer than 2^32.
     let _commands = script.commands.len();
+    // For its clauses alone: the targets are within their limits.
+    let _targets = script.setup.space.targets();
     let world = World::new(alloc, &script.setup, random_words(script.seed))?;
-    let Script {
-        setup,
-        commands,
-        ..
-    } = script;
-    let Setup { space, cap, .. } = setup;
     Ok(Player {
         world,
-        space,
-        cap,
-        commands,
+        cap: script.setup.cap,
+        commands: script.commands,
         form,
         part: Part::NOTHING,
         begun: 0,

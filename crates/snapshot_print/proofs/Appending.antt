@@ -1,7 +1,8 @@
 -- What appending keeps of a text.
 use Rattle.std.proofs.Common.{◌≡◌, ℕ, List, ◌++◌, length, take, drop, ap, subst, sym, ◌∙◌, arith, ◌≤◌}
 use Rattle.std.proofs.Math.Seq.{take-append_seam, take-length}
-use Rattle.std.proofs.lemmas.List.{take-append-le, take-append-drop, length-append}
+use Rattle.std.proofs.lemmas.List.{append_assoc, take-append-le, take-append-drop, length-append}
+use Rattle.std.proofs.lemmas.Result.{IfOk-equal}
 use Rattle.snapshot_print.specs.Kept.{KeepsFront}
 
 -- a text keeps itself
@@ -25,8 +26,5 @@ keeps_through a b c first second =
           ∙ first.front;
     }
 
--- the same where something was appended first
-pub keeps_before : (a p b c : List ℕ) → b ≡ a ++ p → KeepsFront b c → KeepsFront a c
-keeps_before a p b c is second = keeps_through a b c (subst (λ t. KeepsFront a t) (sym is) (keeps-append a p)) second
-
-pub ruleset keeping = (keeps_self, keeps-append, keeps_through)
+-- what several appends keep and what they append
+pub ruleset appends = (keeps_self, keeps-append, keeps_through, IfOk-equal, append_assoc)

@@ -1,5 +1,5 @@
 -- The lines of a report.
-use Rattle.std.specs.Prelude.{ℕ, ◌+◌, ◌*◌, List, ◌++◌, codes}
+use Rattle.std.specs.Prelude.{ℕ, ◌+◌, ◌*◌, List, ◌++◌, codes, length}
 use Rattle.std.specs.List.{flat_map}
 use Rattle.std.specs.Fmt.{decimal}
 use Rattle.damon_types.specs.declared.space.Target.{Target}
@@ -8,6 +8,7 @@ use Rattle.damon_types.specs.Space.{place_of}
 use Rattle.live_commit.specs.declared.phase.Phase.{Phase}
 use Rattle.live_commit.specs.declared.phase.Phase.TheVariants.{Idle, Clearing, Armed, Checking, Void, Due}
 use Rattle.line_text.specs.Address.{spelled_address}
+use Rattle.damon_core.specs.Report.{ReportValue}
 use Rattle.damon_core.specs.State.{Core, row_count}
 use Rattle.snapshot_print.specs.declared.form.Form.{Form}
 use Rattle.snapshot_print.specs.declared.form.Form.TheVariants.{Text}
@@ -64,6 +65,16 @@ state_text c = show_line c ++ row_lines c.space c.regions.rows
 -- what a show writes, in each form
 abbrev pub show_text : Form → Printed → List ℕ
 show_text Text p = state_text p.core
+
+-- the first line of an aggregation: its tick, its threshold and the number of rows that it reported
+abbrev pub aggregate_line : ReportValue → List ℕ
+aggregate_line r =
+    codes "aggregate tick=" then decimal r.tick then codes " threshold=" then decimal r.threshold
+    then codes " rows=" then decimal (length r.rows) then codes "\n"
+
+-- what is printed of the last aggregation, in each form: its first line and the lines of the rows that it reported
+abbrev pub aggregate_text : Form → Printed → List ℕ
+aggregate_text Text p = aggregate_line p.core.report ++ row_lines p.core.space p.core.report.rows
 
 -- the last line of a report, with the checks and hits of all finished passes
 abbrev pub end_text : Form → Printed → List ℕ

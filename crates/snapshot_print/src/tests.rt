@@ -1,4 +1,5 @@
-ghost use Rattle.std.specs.Prelude.{◌≡◌, [], length, IfOk};
+// The texts of three pages that are watched whole; the expected texts were worked out by hand.
+ghost use Rattle.std.specs.Prelude.{◌≡◌, [], IfOk};
 
 use super::*;
 use damon_core::Monitor;
@@ -6,6 +7,7 @@ use damon_types::{Attrs, RangeSpec, Space, Target};
 use line_text::{same_text, strip};
 use live_commit::{Phase, Setup};
 use std::alloc::{AllocError, Global};
+use std::process::Abort;
 use std::test::Fail;
 
 const OPENING: &[u8] = b"show tick=0 phase=idle rows=3\n\
@@ -14,181 +16,177 @@ const OPENING: &[u8] = b"show tick=0 phase=idle rows=3\n\
     row 0 0x12000-0x13000 count=0 last=0 age=0\n\
     end ticks=0 rows=3 checks=0 hits=0\n";
 
-const AFTER_A_PASS: &[u8] = b"show tick=1 phase=idle rows=3\n\
+const AFTER_A_PASS: &[u8] = b"show tick=1 phase=due rows=3\n\
     row 0 0x10000-0x11000 count=0 last=0 age=0\n\
     row 0 0x11000-0x12000 count=1 last=0 age=0\n\
     row 0 0x12000-0x13000 count=0 last=0 age=0\n\
     end ticks=1 rows=3 checks=3 hits=1\n";
 
-// Three pages in one target, each a row.
+const AGGREGATION: &[u8] = b"aggregate tick=1 threshold=0 rows=3\n\
+    row 0 0x10000-0x11000 count=0 last=0 age=1\n\
+    row 0 0x11000-0x12000 count=1 last=0 age=0\n\
+    row 0 0x12000-0x13000 count=0 last=0 age=1\n";
+
+const AFTER_AN_AGGREGATION: &[u8] = b"show tick=1 phase=idle rows=3\n\
+    row 0 0x10000-0x11000 count=0 last=0 age=1\n\
+    row 0 0x11000-0x12000 count=0 last=1 age=0\n\
+    row 0 0x12000-0x13000 count=0 last=0 age=1\n\
+    end ticks=1 rows=3 checks=3 hits=1\n";
+
+// The setup of three pages in one target, each a row, with an aggregation after each pass.
 fn three_pages(alloc: Global) -> Result<Setup, Fail>
-    ensures one_range { IfOk result (λ s. length s.ranges.list ≡ 1) }
-    ensures no_slots { IfOk result (λ s. s.slots.list ≡ []) }
+    ensures { IfOk result (λ s. s.slots.list ≡ []) }
 {
-    let space = Space::new(
-        alloc,
-        &[Target {
-            base: 0x10000,
-            pages: 3,
-        }],
-    )?;
+    let target = Target {
+        base: 0x1_0000,
+        pages: 3,
+    };
     let attrs = Attrs {
         min: 3,
         max: 8,
-        aggr: 5,
+        aggr: 1,
     };
     let range = RangeSpec {
         target: 0,
-        from: 0x10000,
-        to: 0x13000,
+        from: 0x1_0000,
+        to: 0x1_3000,
         class: 0,
     };
+    let space = Space::new(alloc, &[target])?;
     let setup = Setup::new(alloc, space, 1, 8, attrs, &[range], &[])?;
     Ok(setup)
 }
 
-// Begins a pass.
-fn prepare(monitor: &mut Monitor) -> Result<(), &'static str>
-    ensures { monitor.new.core.space ≡ monitor.old.core.space }
-{
-    if monitor.phase() != Phase::Idle || monitor.rows().len() != 3 {
-        return Err("no pass of three rows can be prepared");
-    }
+// A monitor before its first pass.
+fn started(alloc: Global) -> Result<Monitor, Fail> {
+    let setup = three_pages(alloc)?;
+    let monitor = Monitor::new(alloc, &setup)?;
+    Ok(monitor)
+}
+
+// Prepares a pass of three rows.
+fn prepare(rt: &impl Abort, monitor: &mut Monitor) {
+    let Phase::Idle = monitor.phase() else {
+        panic!(rt; "no pass comes next");
+    };
+    assert_eq!(rt; monitor.rows().len(), 3);
     monitor.prepare(&[0, 0, 0]);
-    Ok(())
 }
 
-// Clears the next page.
-fn clear(monitor: &mut Monitor) -> Result<(), &'static str>
-    ensures { monitor.new.core.space ≡ monitor.old.core.space }
-{
-    match monitor.phase() {
-        Phase::Clearing { .. } => monitor.cleared(),
-        _ => return Err("no clear comes next"),
+// Clears the picks of a pass of three rows.
+fn clear(rt: &impl Abort, monitor: &mut Monitor) {
+    for _ in 0..3 {
+        let Phase::Clearing { .. } = monitor.phase() else {
+            panic!(rt; "no clear comes next");
+        };
+        monitor.cleared();
     }
-    Ok(())
 }
 
-// Loads the next page.
-fn load(monitor: &mut Monitor, hit: bool) -> Result<(), &'static str>
-    ensures { monitor.new.core.space ≡ monitor.old.core.space }
-{
-    let rows = monitor.rows().len();
+// Loads the next pick, with this result.
+fn load(rt: &impl Abort, monitor: &mut Monitor, hit: bool) {
     match monitor.phase() {
         Phase::Armed => monitor.loaded(hit),
-        Phase::Checking { next } if next < rows => monitor.loaded(hit),
-        _ => return Err("no load comes next"),
+        Phase::Checking { next } => {
+            assert!(rt; next < monitor.rows().len());
+            monitor.loaded(hit);
+        }
+        _ => panic!(rt; "no load comes next"),
     }
-    Ok(())
 }
 
-// Ends the pass.
-fn observe(monitor: &mut Monitor) -> Result<(), &'static str>
-    ensures { monitor.new.core.space ≡ monitor.old.core.space }
-{
-    let rows = monitor.rows().len();
-    let early = monitor.ticks() < 1 << 40;
-    match monitor.phase() {
-        Phase::Checking { next } if next == rows && early => monitor.observe(),
-        _ => return Err("the pass does not end next"),
+// Loads the picks of a pass of three rows, of which the second was touched.
+fn load_all(rt: &impl Abort, monitor: &mut Monitor) {
+    for hit in [false, true, false] {
+        load(rt, monitor, hit);
     }
-    Ok(())
 }
 
-// Clears the three pages of a pass.
-fn clear_all(monitor: &mut Monitor) -> Result<(), &'static str>
-    ensures { monitor.new.core.space ≡ monitor.old.core.space }
-{
-    clear(monitor)?;
-    clear(monitor)?;
-    clear(monitor)
+// Ends the first pass, whose picks are all loaded.
+fn end_pass(rt: &impl Abort, monitor: &mut Monitor) {
+    let Phase::Checking { next } = monitor.phase() else {
+        panic!(rt; "no end comes next");
+    };
+    assert_eq!(rt; (next, monitor.rows().len()), (3, 3));
+    assert_eq!(rt; monitor.ticks(), 0);
+    monitor.observe();
 }
 
-// Loads the three pages of a pass, of which the second was touched.
-fn load_all(monitor: &mut Monitor) -> Result<(), &'static str>
-    ensures { monitor.new.core.space ≡ monitor.old.core.space }
-{
-    load(monitor, false)?;
-    load(monitor, true)?;
-    load(monitor, false)
+// Takes the steps of the first pass.
+fn first_pass(rt: &impl Abort, monitor: &mut Monitor) {
+    prepare(rt, monitor);
+    clear(rt, monitor);
+    load_all(rt, monitor);
+    end_pass(rt, monitor);
 }
 
-// Takes the steps of a whole pass.
-fn first_pass(monitor: &mut Monitor) -> Result<(), &'static str>
-    ensures { monitor.new.core.space ≡ monitor.old.core.space }
-{
-    prepare(monitor)?;
-    clear_all(monitor)?;
-    load_all(monitor)?;
-    observe(monitor)
+// Carries out the aggregation that is due.
+fn aggregate(rt: &impl Abort, monitor: &mut Monitor) {
+    let Phase::Due = monitor.phase() else {
+        panic!(rt; "no aggregation is due");
+    };
+    assert_eq!(rt; monitor.attrs().max, 8);
+    monitor.aggregate(&[0; 16]);
 }
 
-// A monitor of the setup before its first pass.
-fn started(alloc: Global, setup: &Setup) -> Result<Monitor, AllocError>
-    requires one_range { length setup.now.ranges.list ≡ 1 }
-    requires no_slots { setup.now.slots.list ≡ [] }
-    ensures { IfOk result (λ m. m.core.space ≡ setup.now.space) }
-{
-    Monitor::new(alloc, setup)
-}
-
-// What a show and an end write of a monitor.
-fn report(alloc: Global, monitor: &Monitor, space: &Space) -> Result<Vec<u8>, AllocError>
-    requires { space.now ≡ monitor.now.core.space }
-{
+// The text of a show, with the last line.
+fn shown(alloc: Global, monitor: &Monitor) -> Result<Vec<u8>, AllocError> {
     let mut out = Vec::new(alloc);
-    print_show(alloc, &mut out, Form::Text, monitor, space)?;
-    print_end(alloc, &mut out, Form::Text, monitor, space)?;
+    print_show(alloc, &mut out, Form::Text, monitor)?;
+    print_end(alloc, &mut out, Form::Text, monitor)?;
     Ok(out)
 }
 
-// Whether a report begins with this line.
-fn begins(alloc: Global, monitor: &Monitor, space: &Space, line: &[u8]) -> Result<bool, AllocError>
-    requires { space.now ≡ monitor.now.core.space }
-{
-    let text = report(alloc, monitor, space)?;
+// The text of the last aggregation.
+fn aggregated(alloc: Global, monitor: &Monitor) -> Result<Vec<u8>, AllocError> {
+    let mut out = Vec::new(alloc);
+    print_aggregate(alloc, &mut out, Form::Text, monitor)?;
+    Ok(out)
+}
+
+// Whether the text of a show begins with this line.
+fn begins(alloc: Global, monitor: &Monitor, line: &[u8]) -> Result<bool, AllocError> {
+    let text = shown(alloc, monitor)?;
     Ok(strip(&text, line).is_some())
 }
 
-// Whether a report names each phase of a pass.
-fn names_phases(alloc: Global, monitor: &mut Monitor, space: &Space) -> Result<bool, Fail>
-    requires { space.now ≡ monitor.old.core.space }
-{
-    prepare(monitor)?;
-    let clearing = begins(alloc, monitor, space, b"show tick=0 phase=clearing ")?;
-    clear_all(monitor)?;
-    let armed = begins(alloc, monitor, space, b"show tick=0 phase=armed ")?;
-    load_all(monitor)?;
-    let checking = begins(alloc, monitor, space, b"show tick=0 phase=checking ")?;
-    Ok(clearing && armed && checking)
-}
-
 #[test]
-fn reports_the_opening(rt: HostRuntime) -> Result<(), Fail> {
+fn a_show_has_the_opening(rt: HostRuntime) -> Result<(), Fail> {
     let alloc = rt.alloc();
-    let setup = three_pages(alloc)?;
-    let monitor = started(alloc, &setup)?;
-    let text = report(alloc, &monitor, &setup.space)?;
-    assert!(rt; same_text(&text, OPENING));
+    let monitor = started(alloc)?;
+    assert!(rt; same_text(&shown(alloc, &monitor)?, OPENING));
     Ok(())
 }
 
 #[test]
-fn reports_a_pass(rt: HostRuntime) -> Result<(), Fail> {
+fn a_show_has_the_counts_of_a_pass(rt: HostRuntime) -> Result<(), Fail> {
     let alloc = rt.alloc();
-    let setup = three_pages(alloc)?;
-    let mut monitor = started(alloc, &setup)?;
-    first_pass(&mut monitor)?;
-    let text = report(alloc, &monitor, &setup.space)?;
-    assert!(rt; same_text(&text, AFTER_A_PASS));
+    let mut monitor = started(alloc)?;
+    first_pass(&rt, &mut monitor);
+    assert!(rt; same_text(&shown(alloc, &monitor)?, AFTER_A_PASS));
     Ok(())
 }
 
 #[test]
-fn shows_the_phases(rt: HostRuntime) -> Result<(), Fail> {
+fn a_show_names_the_phase(rt: HostRuntime) -> Result<(), Fail> {
     let alloc = rt.alloc();
-    let setup = three_pages(alloc)?;
-    let mut monitor = started(alloc, &setup)?;
-    assert!(rt; names_phases(alloc, &mut monitor, &setup.space)?);
+    let mut monitor = started(alloc)?;
+    prepare(&rt, &mut monitor);
+    assert!(rt; begins(alloc, &monitor, b"show tick=0 phase=clearing ")?);
+    clear(&rt, &mut monitor);
+    assert!(rt; begins(alloc, &monitor, b"show tick=0 phase=armed ")?);
+    load_all(&rt, &mut monitor);
+    assert!(rt; begins(alloc, &monitor, b"show tick=0 phase=checking ")?);
+    Ok(())
+}
+
+#[test]
+fn an_aggregation_has_the_rows_that_it_reported(rt: HostRuntime) -> Result<(), Fail> {
+    let alloc = rt.alloc();
+    let mut monitor = started(alloc)?;
+    first_pass(&rt, &mut monitor);
+    aggregate(&rt, &mut monitor);
+    assert!(rt; same_text(&aggregated(alloc, &monitor)?, AGGREGATION));
+    assert!(rt; same_text(&shown(alloc, &monitor)?, AFTER_AN_AGGREGATION));
     Ok(())
 }

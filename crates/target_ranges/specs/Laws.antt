@@ -1,5 +1,5 @@
 -- How the check of a list relates to that of longer lists, and to the ranges that are made.
-use Rattle.std.specs.Prelude.{◌≡◌, ℕ, ◌≤◌, List, [], ◌∷◌, ◌++◌, length, Ok, Err}
+use Rattle.std.specs.Prelude.{◌≡◌, ℕ, ◌≤◌, List, [], ◌∷◌, ◌++◌, length, All, Ok, Err}
 use Rattle.damon_types.specs.declared.space.Target.{Target}
 use Rattle.damon_types.specs.declared.range.RangeSpec.{RangeSpec}
 use Rattle.damon_types.specs.Ranges.{InOrder}
@@ -35,3 +35,9 @@ MakesInOrder =
 -- there are as many ranges as specs
 abbrev pub MakesEach : Type 0
 MakesEach = (ts : List Target) (specs : List RangeSpec) → length (ranges_of ts specs) ≡ length specs
+
+-- each range of specs that are accepted has at least `unit` pages
+abbrev pub MakesWide : Type 0
+MakesWide =
+    (ts : List Target) (unit cap : ℕ) (specs : List RangeSpec) → checked_ranges ts unit cap specs ≡ Ok tt
+    → All (λ g. unit ≤ g.pages) (ranges_of ts specs)

@@ -57,7 +57,30 @@ fn rows_of_a_division_are_kept(rt: HostRuntime) -> Result<(), Fail> {
     };
     assert_eq!(rt; regions.row(0), first);
     assert_eq!(rt; regions.row(1), second);
+    // The rows hold pages 3 and 4, and 5 to 7.
+    assert_eq!(rt;
+        (regions.find(2), regions.find(3), regions.find(4)),
+        (None, Some(0), Some(0))
+    );
+    assert_eq!(rt;
+        (regions.find(5), regions.find(7), regions.find(8)),
+        (Some(1), Some(1), None)
+    );
+
     regions.remake(&KeepAll);
     assert_eq!(rt; regions.rows(), [first, second].as_slice());
+
+    // 3 × 9 of 5 pages is 5, 3 × 8 is 4 and 3 × 7 is 4.
+    let joined = Row {
+        target: 1,
+        start: 3,
+        pages: 5,
+        count: 5,
+        last: 4,
+        age: 4,
+    };
+    regions.shrink_to(1);
+    assert_eq!(rt; regions.rows(), [joined].as_slice());
+    assert_eq!(rt; (regions.len(), regions.max(), regions.cap()), (1, 1, 8));
     Ok(())
 }

@@ -54,7 +54,7 @@ returns-in_err-write_report g c =
     (record { bytes = g.K.Sink.taken c.write_report.new.sink; faults = g.K.Sink.faults c.write_report.new.sink })
     (c.write_report.new.sink ≡ c.args.sink.now) c.in_ok-bytes.bytes.items read.all read.end read.limit (said_by c.in_ok-script.script) spells c.in_err-write_report.field-0.0
     (sym c.has_later_parts.ensures ∙ c.if-has_later_parts.false) failed.answers
-    (λ e. failed.due (ap (λ x. Err x) e)) (λ e. failed.up_to (ap (λ x. Err x) e)) (λ e. failed.cause (ap (λ x. Err x) e)) failed.part)
+    (λ e. failed.cause (ap (λ x. Err x) e)) failed.part)
 
 pub returns : goal.returns
 returns g c =
@@ -69,5 +69,5 @@ returns g c =
     (record { bytes = g.K.Sink.taken c.args.sink.now; faults = g.K.Sink.faults c.args.sink.now })
     (record { bytes = g.K.Sink.taken c.write_report.new.sink; faults = g.K.Sink.faults c.write_report.new.sink })
     (c.write_report.new.sink ≡ c.args.sink.now) c.in_ok-bytes.bytes.items read.all read.end read.limit script spells built
-    (record { script = script; spells = spells; built = built; whole = ran.whole; report = ran.all })
+    (record { script = script; spells = spells; built = built; report = ran.all })
     ran.part

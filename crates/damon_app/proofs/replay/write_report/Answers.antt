@@ -1,15 +1,13 @@
-use Rattle.std.proofs.Common.{◌++◌, Ok, refl, sym, ap, ◌∙◌, subst, arith}
+use Rattle.std.proofs.Common.{◌++◌, Ok, ap, subst, arith}
 use Rattle.std.specs.Io.KnownBytes.{Appends}
 use Rattle.std.proofs.KnownBytes.{Appends-trans}
 use Rattle.std.proofs.lemmas.Result.{err_from_is_err_and}
 use Rattle.rand_core.specs.Steps.{stream_of, steps_u32}
 use Rattle.rand_pcg.specs.Pcg.{pcg32}
 use Rattle.damon_control.specs.ScriptView.{said_by}
-use Rattle.snapshot_print.specs.declared.form.Form.TheVariants.{Text}
-use Rattle.script_run.specs.Way.{way-due, way-over}
 use Rattle.damon_app.specs.Taken.{WritesPart}
 use Rattle.damon_app.proofs.Known.{WritesPart-after, WritesPart-whole}
-use Rattle.damon_app.proofs.Playing.{way-ended, way-filled, way-part, way-stopped, written-report}
+use Rattle.damon_app.proofs.Playing.{way-ended, way-filled, way-part}
 use Rattle.damon_app.proofs.replay.write_report.Goals as goal
 
 pub returns-in_err-fill-clause-part : goal.returns-in_err-fill-clause-part
@@ -62,18 +60,9 @@ returns-in_err-write_all-in-End-clause-part g c =
     let way = way-filled stream s c.pieces.player c.fill.new.self said.0 _ text c.pieces.invariant.empty said.1 c.in_ok-fill.ensures.on in
     let over = c.in_ok-fill.ensures.end (ap (λ f. Ok f) c.in-End.is) in
     let ended = way-ended stream s c.fill.new.self said.0 text last way over c.in_ok-finish-in-End.ensures.last in
-    subst (WritesPart (taken c.args.sink.now) (taken c.write_all-in-End.new.sink)) (ended ∙ sym (written-report s (way-over stream s Text c.fill.new.self (said.0 ++ text) way over)))
+    subst (WritesPart (taken c.args.sink.now) (taken c.write_all-in-End.new.sink)) ended
     (WritesPart-after (taken c.args.sink.now) (taken c.pieces.sink) (taken c.write_all-in-End.new.sink) said.0 last said.2
     (subst (WritesPart (taken c.pieces.sink) (taken c.write_all-in-End.new.sink)) c.deref-in-End.ensures.value c.in_err-write_all-in-End.ensures.part))
-
-pub returns-in-End-clause-whole : goal.returns-in-End-clause-whole
-returns-in-End-clause-whole g c =
-    let stream = stream_of (steps_u32 pcg32) in
-    let s = said_by c.args.script in
-    let said = c.pieces.invariant.said in
-    let text = c.fill.new.out.items in
-    let way = way-filled stream s c.pieces.player c.fill.new.self said.0 _ text c.pieces.invariant.empty said.1 c.in_ok-fill.ensures.on in
-    way-over stream s Text c.fill.new.self (said.0 ++ text) way (c.in_ok-fill.ensures.end (ap (λ f. Ok f) c.in-End.is))
 
 pub returns-in-End-clause-all : goal.returns-in-End-clause-all
 returns-in-End-clause-all g c =
@@ -91,54 +80,9 @@ returns-in-End-clause-all g c =
     (subst (Appends (taken c.pieces.sink) (taken c.write_all-in-End.new.sink)) c.deref-in-End.ensures.value c.in_ok-write_all-in-End.ensures.all))
 
 pub returns-in-End-clause-part : goal.returns-in-End-clause-part
-returns-in-End-clause-part g c =
-    let taken = g.K.Sink.taken in
-    WritesPart-whole (taken c.args.sink.now) (taken c.write_all-in-End.new.sink) _
-    (subst (Appends (taken c.args.sink.now) (taken c.write_all-in-End.new.sink)) (sym (written-report (said_by c.args.script) (returns-in-End-clause-whole g c))) (returns-in-End-clause-all g c))
-
-pub returns-in_err-write_all-in-Due-clause-part : goal.returns-in_err-write_all-in-Due-clause-part
-returns-in_err-write_all-in-Due-clause-part g c =
-    let stream = stream_of (steps_u32 pcg32) in
-    let taken = g.K.Sink.taken in
-    let said = c.pieces.invariant.said in
-    let text = c.fill.new.out.items in
-    let way = way-filled stream (said_by c.args.script) c.pieces.player c.fill.new.self said.0 _ text c.pieces.invariant.empty said.1 c.in_ok-fill.ensures.on in
-    way-part stream (said_by c.args.script) c.fill.new.self (said.0 ++ text) _ _ way
-    (WritesPart-after (taken c.args.sink.now) (taken c.pieces.sink) (taken c.write_all-in-Due.new.sink) said.0 text said.2
-    (subst (WritesPart (taken c.pieces.sink) (taken c.write_all-in-Due.new.sink)) c.deref-in-Due.ensures.value c.in_err-write_all-in-Due.ensures.part))
-
-pub returns-in-Due-clause-due : goal.returns-in-Due-clause-due
-returns-in-Due-clause-due g c same =
-    let stream = stream_of (steps_u32 pcg32) in
-    let s = said_by c.args.script in
-    let said = c.pieces.invariant.said in
-    let text = c.fill.new.out.items in
-    let way = way-filled stream s c.pieces.player c.fill.new.self said.0 _ text c.pieces.invariant.empty said.1 c.in_ok-fill.ensures.on in
-    (way-due stream s Text c.fill.new.self (said.0 ++ text) way (c.in_ok-fill.ensures.due (ap (λ f. Ok f) c.in-Due.is))).0
-
-pub returns-in-Due-clause-up_to : goal.returns-in-Due-clause-up_to
-returns-in-Due-clause-up_to g c same =
-    let stream = stream_of (steps_u32 pcg32) in
-    let s = said_by c.args.script in
-    let taken = g.K.Sink.taken in
-    let said = c.pieces.invariant.said in
-    let text = c.fill.new.out.items in
-    let way = way-filled stream s c.pieces.player c.fill.new.self said.0 _ text c.pieces.invariant.empty said.1 c.in_ok-fill.ensures.on in
-    subst (Appends (taken c.args.sink.now) (taken c.write_all-in-Due.new.sink)) (way-stopped stream s c.fill.new.self (said.0 ++ text) way (c.in_ok-fill.ensures.due (ap (λ f. Ok f) c.in-Due.is)))
-    (Appends-trans (taken c.args.sink.now) (taken c.pieces.sink) (taken c.write_all-in-Due.new.sink) said.0 text said.2
-    (subst (Appends (taken c.pieces.sink) (taken c.write_all-in-Due.new.sink)) c.deref-in-Due.ensures.value c.in_ok-write_all-in-Due.ensures.all))
-
-pub returns-in-Due-clause-part : goal.returns-in-Due-clause-part
-returns-in-Due-clause-part g c =
-    let taken = g.K.Sink.taken in
-    WritesPart-whole (taken c.args.sink.now) (taken c.write_all-in-Due.new.sink) _ (returns-in-Due-clause-up_to g c refl)
+returns-in-End-clause-part g c = WritesPart-whole (g.K.Sink.taken c.args.sink.now) (g.K.Sink.taken c.write_all-in-End.new.sink) _ (returns-in-End-clause-all g c)
 
 pub returns-in_err-write_all-in-Piece-clause-answers : goal.returns-in_err-write_all-in-Piece-clause-answers
 returns-in_err-write_all-in-Piece-clause-answers g c =
     let p = err_from_is_err_and c.from_residual-in_err-write_all-in-Piece.result c.from_residual-in_err-write_all-in-Piece.ensures.1 in
-    rw (p.1, p.2) tt
-
-pub returns-in_err-write_all-in-Due-clause-answers : goal.returns-in_err-write_all-in-Due-clause-answers
-returns-in_err-write_all-in-Due-clause-answers g c =
-    let p = err_from_is_err_and c.from_residual-in_err-write_all-in-Due.result c.from_residual-in_err-write_all-in-Due.ensures.1 in
     rw (p.1, p.2) tt

@@ -1,10 +1,43 @@
+use Rattle.std.proofs.Common.{arith}
 use Rattle.damon_core.proofs.Bounding.{reached_bound}
+use Rattle.damon_core.proofs.Keeping.{any_result, reached_keeps}
+use Rattle.damon_core.proofs.Rows.{HasRows, RowLaws, rows_kept}
 use Rattle.damon_core.proofs.laws.reached_states_are_bound.Goals as goal
 
 pub returns : goal.returns
-returns c = reached_bound (record {
-  per_page = c.tiling_is_per_page.ensures;
-  division = c.division_tiles.ensures;
-  shrunk_few = c.shrunk_rows_tile.ensures.few;
-  shrunk_tiling = c.shrunk_rows_tile.ensures.tiling;
-})
+returns c =
+    let laws : RowLaws = record {
+      per_page = c.tiling_is_per_page.ensures;
+      division = c.division_tiles.ensures;
+      adapt = record {
+        aged_spans = c.aged_rows_are_kept.ensures.spans;
+        aged_len = c.aged_rows_are_kept.ensures.len;
+        aged_counts = c.aged_rows_are_kept.ensures.counts;
+        merged_tiling = c.merged_rows_are_kept.ensures.tiles;
+        merged_fewer = c.merged_rows_are_kept.ensures.fewer;
+        merged_some = c.merged_rows_are_kept.ensures.some_rows;
+        cleared_spans = c.cleared_rows_are_kept.ensures.spans;
+        cleared_len = c.cleared_rows_are_kept.ensures.len;
+        cleared_counts = c.cleared_rows_are_kept.ensures.counts;
+        split_tiling = c.split_rows_are_kept.ensures.tiles;
+        split_few = c.split_rows_are_kept.ensures.few;
+        split_some = c.split_rows_are_kept.ensures.some;
+        split_counts = c.split_rows_are_kept.ensures.counts;
+      };
+      commit = record {
+        accepted = c.accepted_commits_are_within.ensures.accepted;
+        ranges_order = c.made_in_order.ensures.order;
+        ranges_each = c.made_in_order.ensures.count;
+        ranges_wide = c.made_in_order.ensures.wide;
+        shrunk_few = c.shrunk_rows_tile.ensures.few;
+        shrunk_tiling = c.shrunk_rows_tile.ensures.tiling;
+        shrunk_some = c.shrunk_rows_are_kept.ensures.some;
+        updated_tiling = c.updated_rows_are_kept.ensures.tiles;
+        updated_few = c.updated_rows_are_kept.ensures.few;
+        updated_some = c.updated_rows_are_kept.ensures.some;
+      };
+    } in
+    record {
+      in_phase = λ s reached. (let rows = reached_keeps HasRows (rows_kept any_result laws) s reached in record { some = rows.some; few = omega (arith, rows.few, rows.most); pick = rows.within });
+      bound = reached_bound laws;
+    }

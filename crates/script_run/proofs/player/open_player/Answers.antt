@@ -9,10 +9,11 @@ use Rattle.damon_types.specs.Space.{pages_of}
 use Rattle.damon_control.specs.declared.script.Command.{Command}
 use Rattle.damon_control.specs.Command.{CommandValue, Touch, Sweep, Step, Arm, Finish, Show, Commit, command_value, weight, work_of}
 use Rattle.damon_control.specs.Limits.{IsCommandWithin}
-use Rattle.script_run.specs.declared.part.Part.TheVariants as part
+use Rattle.script_run.specs.Part as part
 use Rattle.script_run.specs.Kept.{ArePartsWithin, IsPartWithin}
 use Rattle.script_run.specs.Player.{left_in, left_of}
 use Rattle.script_run.specs.Parts.{part_of, parts_of}
+use Rattle.script_run.proofs.Fits.{part_within}
 use Rattle.script_run.proofs.player.open_player.Goals as goal
 
 left_of-part : (cap : ℕ) (c : CommandValue) → left_of (part_of cap c) ≤ weight cap c
@@ -29,15 +30,6 @@ left_in-parts cap [] = omega arith
 left_in-parts cap (c ∷ cs) =
     omega (arith, left_of-part cap c, left_in-parts cap cs, sum_by-cons (λ q. 1 + left_of q) (part_of cap c) (parts_of cap cs), sum_by-cons (weight cap) c cs)
 
-part_within : (cap pages : ℕ) (c : CommandValue) → IsCommandWithin pages c → IsPartWithin pages (part_of cap c)
-part_within cap pages (Touch page) within = omega (arith, within)
-part_within cap pages (Sweep from to) within = omega (arith, within.0, within.1)
-part_within cap pages (Step times) within = tt
-part_within cap pages Arm within = tt
-part_within cap pages Finish within = tt
-part_within cap pages Show within = tt
-part_within cap pages (Commit commit) within = omega arith
-
 parts_within : (cap pages : ℕ) (cs : List Command) → AllByRecursion (λ c. IsCommandWithin pages (command_value c)) cs → ArePartsWithin pages (parts_of cap (map command_value cs))
 parts_within cap pages [] within = tt
 parts_within cap pages (c ∷ cs) within = (part_within cap pages (command_value c) within.0, parts_within cap pages cs within.1)
@@ -48,7 +40,6 @@ invariant_of-result c =
     let cs = map command_value s.commands.list in
     let space : s.setup.space ≡ c.in_ok-world.world.monitor.core.space = ap (λ x. x.space) (sym c.in_ok-world.ensures.core) in
     record {
-      space_is = space;
       within = (
         omega arith,
         subst (λ sp. ArePartsWithin (pages_of sp) (parts_of s.setup.cap cs)) space

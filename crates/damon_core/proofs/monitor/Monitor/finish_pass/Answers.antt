@@ -1,95 +1,89 @@
-use Rattle.std.proofs.Common.{◌≡◌, inr, ℕ, [], ◌∷◌, ◌+◌, ◌≤◌, length, refl, ap, sym, subst, ◌∙◌, arith}
+use Rattle.std.proofs.Common.{◌≡◌, inr, [], ◌∷◌, ◌+◌, Bool, length, refl, ap, sym, subst, ◌∙◌, arith}
 use Rattle.std.specs.Prelude.{count_by}
-use Rattle.std.specs.List.{AllByRecursion}
-use Rattle.damon_types.specs.Within.{AreWithin}
-use Rattle.region_list.specs.Regions.{RegionList}
-use Rattle.sampler.specs.Counted.{raised}
+use Rattle.std.proofs.lemmas.List.Sums.{count_by-le-length}
 use Rattle.live_commit.specs.declared.phase.Phase.{Phase}
 use Rattle.live_commit.specs.declared.phase.Phase.TheVariants.{Checking}
+use Rattle.region_list.specs.Regions.{RegionList}
+use Rattle.sampler.specs.Counted.{raised}
 use Rattle.damon_core.specs.State.{row_count}
 use Rattle.damon_core.specs.Event.{IsObserving, observe}
-use Rattle.damon_core.specs.After.{passed_core, phase_after_pass}
+use Rattle.damon_core.specs.After.{phase_after_pass}
 use Rattle.damon_core.specs.Makes.{Makes}
-use Rattle.damon_core.specs.Kept.{CountsHits, HasPicks, SinceFew}
-use Rattle.damon_core.specs.Pass.{IsPickWithin}
+use Rattle.damon_core.specs.Kept.{IsMonitor, SamplingView, SinceFew}
 use Rattle.damon_core.specs.Stands.{MonitorView, Stands}
-use Rattle.damon_core.proofs.Shown.{ended}
+use Rattle.damon_core.specs.declared.clock.Clock.{Clock}
+use Rattle.damon_core.proofs.Shown.{ended, shown}
 use Rattle.damon_core.proofs.RowFacts.{length-raised, counts-raised}
-use Rattle.damon_core.proofs.Between.{within-phase_after_pass, has_picks-phase_after_pass, since-phase_after_pass, hits-phase_after_pass}
-use Rattle.damon_core.proofs.Counting.{counts_all, counts_few}
+use Rattle.damon_core.proofs.Between.{since-phase_after_pass}
 use Rattle.damon_core.proofs.Standing.{observe_makes}
 use Rattle.damon_core.proofs.monitor.Monitor.finish_pass.Goals as goal
 
-checking : (c : goal.After-self-5-1) → c.self.inside.phase ≡ Checking (length c.self.inside.regions.rows)
-checking c = ap (λ (m : MonitorView). m.core.phase) c.self.view_is ∙ c.requires.phase ∙ ap (λ (m : MonitorView). Checking (row_count m.core)) (sym c.self.view_is)
+abbrev clock_then : Clock → Clock
+clock_then k = record { ticks = k.ticks + 1; since = k.since + 1 }
 
-all_picks : (c : goal.After-self-5-1) → length c.self.inside.picks.pages ≡ length c.self.inside.regions.rows
-all_picks c = let m = c.self.inside in subst (λ (ph : Phase). HasPicks ph (length m.regions.rows) (length m.picks.pages)) (checking c) c.self.invariant.has_picks
+-- what is sampled after the pass
+abbrev sampled_then : SamplingView → Phase → SamplingView
+sampled_then s next = record s { regions = record s.regions { rows = raised s.bits s.regions.rows }; phase = next }
 
-counts : (c : goal.After-self-5-1) → CountsHits (Checking (length c.self.inside.regions.rows)) c.self.inside.picks.bits c.self.inside.hits_so_far
-counts c = let m = c.self.inside in subst (λ (ph : Phase). CountsHits ph m.picks.bits m.hits_so_far) (checking c) c.self.invariant.found
+next : (c : goal.After-add) → c.next_phase-next.result ≡ phase_after_pass (c.self.inside.clock.since + 1) c.self.inside.attrs.aggr
+next c = c.next_phase-next.ensures.phase ∙ ap (λ (k : Clock). phase_after_pass k.since c.self.inside.attrs.aggr) c.tick.ensures
+
+sampled : (c : goal.After-add) → c.finish-hits.new.self ≡ sampled_then c.self.inside.sampling (phase_after_pass (c.self.inside.clock.since + 1) c.self.inside.attrs.aggr)
+sampled c = c.finish-hits.ensures.counted ∙ ap (sampled_then c.self.inside.sampling) (next c)
+
+rows_same : (c : goal.After-add) → c.len.result ≡ length c.self.inside.sampling.regions.rows
+rows_same c =
+    let s = c.self.inside.sampling in
+    c.len.ensures.len
+    ∙ ap (λ (r : RegionList). length r.rows) c.regions.ensures.regions
+    ∙ ap (λ (x : SamplingView). length x.regions.rows) c.finish-hits.ensures.counted
+    ∙ length-raised s.bits s.regions.rows
+
+totals : (c : goal.After-add) → c.add.new.self ≡ record { checks = c.self.inside.totals.checks + length c.self.inside.sampling.regions.rows; hits = c.self.inside.totals.hits + count_by (λ hit. hit) c.self.inside.sampling.bits }
+totals c =
+    let t = c.self.inside.totals in
+    c.add.ensures
+    ∙ ap (λ n. record { checks = t.checks + n; hits = t.hits + c.finish-hits.result }) (rows_same c)
+    ∙ ap (λ n. record { checks = t.checks + length c.self.inside.sampling.regions.rows; hits = t.hits + n }) c.finish-hits.ensures.hits
 
 pub invariant_of-self : goal.invariant_of-self
 invariant_of-self c =
     let v = c.self.invariant in
-    let m = c.self.inside in
-    let bits = m.picks.bits in
-    let rows = m.regions.rows in
-    let raised_len : length c.observe.new.regions.rows ≡ length rows = ap (λ (r : RegionList). length r.rows) c.observe.ensures ∙ length-raised bits rows in
-    let found = counts_few (length rows) bits m.hits_so_far (counts c) in
-    let since = subst (λ (ph : Phase). SinceFew ph m.since) (checking c) v.since_few in
-    let phase = sym c.phase_between-self-inside.ensures in
-    record {
+    let i = c.self.inside in
+    let s = i.sampling in
+    let checking : s.phase ≡ Checking (length s.regions.rows) =
+    ap (λ (m : MonitorView). m.core.phase) c.self.view_is ∙ c.requires.phase ∙ ap (λ (m : MonitorView). Checking (row_count m.core)) (sym c.self.view_is) in
+    let since = subst (λ (ph : Phase). SinceFew ph i.clock.since) checking v.since_few in
+    let same = rows_same c in
+    let cap = ap (λ (r : RegionList). r.cap) c.regions.ensures.regions ∙ ap (λ (x : SamplingView). x.regions.cap) c.finish-hits.ensures.counted in
+    let hits = count_by-le-length (λ (hit : Bool). hit) s.bits in
+    let then = sampled_then s (phase_after_pass (i.clock.since + 1) i.attrs.aggr) in
+    subst (λ x. IsMonitor i.space i.attrs x c.tick.new.self c.add.new.self i.report) (sym (sampled c))
+    (subst (λ x. IsMonitor i.space i.attrs then x c.add.new.self i.report) (sym c.tick.ensures)
+    (subst (λ x. IsMonitor i.space i.attrs then (clock_then i.clock) x i.report) (sym (totals c)) (record {
       attrs_sound = v.attrs_sound;
-      some = omega (arith, v.some, raised_len);
-      few = omega (arith, v.few, raised_len, ap (λ (r : RegionList). r.cap) c.observe.ensures);
-      cap_few = omega (arith, v.cap_few, ap (λ (r : RegionList). r.cap) c.observe.ensures);
-      ranges_in = subst (λ (r : RegionList). AreWithin m.space r.ranges) (sym c.observe.ensures) v.ranges_in;
-      counts = subst (λ (r : RegionList). AllByRecursion (λ q. q.count ≤ m.since + 1) r.rows) (sym c.observe.ensures) (counts-raised m.since bits rows v.counts);
-      room = omega (arith, v.room, ap (λ (r : RegionList). r.cap) c.observe.ensures);
-      within = subst (λ (ph : Phase). IsPickWithin ph (length c.observe.new.regions.rows)) phase (within-phase_after_pass (m.since + 1) m.attrs.aggr _);
-      bits_each = v.bits_each;
-      has_picks = subst (λ (ph : Phase). HasPicks ph (length c.observe.new.regions.rows) (length m.picks.pages)) phase (has_picks-phase_after_pass (m.since + 1) m.attrs.aggr _ _);
+      max = v.max;
+      cap_few = v.cap_few;
+      ranges_in = v.ranges_in;
       picks_in = v.picks_in;
-      since_few = subst (λ (ph : Phase). SinceFew ph (m.since + 1)) phase (since-phase_after_pass (m.since + 1) m.attrs.aggr v.attrs_sound.aggr_most (omega arith));
-      found = subst (λ (ph : Phase). CountsHits ph bits m.hits_so_far) phase (hits-phase_after_pass (m.since + 1) m.attrs.aggr m.hits_so_far bits);
-      checks_few = omega (arith, v.checks_few, c.from.ensures, c.len.ensures.len, raised_len, v.few, v.cap_few);
-      hits_few = omega (arith, v.hits_few, c.from-2.ensures, found, v.few, v.cap_few);
-    }
-
-abbrev with_regions : goal.After-self-5-1 → RegionList → Phase → ℕ → ℕ → MonitorView
-with_regions c r ph n h = let m = c.self.inside in record {
-  core = record { space = m.space; attrs = m.attrs; regions = r; phase = ph; picks = m.picks.pages; ticks = m.ticks + 1; since = m.since + 1 };
-  bits = m.picks.bits;
-  checks = m.checks + n;
-  hits = m.hits + h;
-}
-
-shown : (c : goal.After-self-5-1) → with_regions c c.observe.new.regions c.phase_between-self-inside.result c.from.result c.from-2.result ≡ ended c.args.self.now.core.phase c.args.self.now
-shown c =
-    let m = c.self.inside in
-    let bits = m.picks.bits in
-    let rows = m.regions.rows in
-    let r = record m.regions { rows = raised bits rows } in
-    let phase = phase_after_pass (m.since + 1) m.attrs.aggr in
-    let count : c.from.result ≡ length rows = c.from.ensures ∙ c.len.ensures.len ∙ ap (λ (x : RegionList). length x.rows) c.observe.ensures ∙ length-raised bits rows in
-    let hits : c.from-2.result ≡ count_by (λ hit. hit) bits = c.from-2.ensures ∙ counts_all (length rows) bits m.hits_so_far (c.self.invariant.bits_each ∙ all_picks c) (counts c) in
-    ap (λ x. with_regions c x c.phase_between-self-inside.result c.from.result c.from-2.result) c.observe.ensures
-    ∙ ap (λ ph. with_regions c r ph c.from.result c.from-2.result) c.phase_between-self-inside.ensures
-    ∙ ap (λ n. with_regions c r phase n c.from-2.result) count
-    ∙ ap (with_regions c r phase (length rows)) hits
-    ∙ ap (λ (x : MonitorView). ended (Checking (row_count x.core)) x) c.self.view_is
-    ∙ ap (λ (ph : Phase). ended ph c.args.self.now) (sym c.requires.phase)
-
-pub returns-clause-core : goal.returns-clause-core
-returns-clause-core c =
-    let m = c.self.inside in
-    ap (λ (ph : Phase). record { space = m.space; attrs = m.attrs; regions = c.observe.new.regions; phase = ph; picks = m.picks.pages; ticks = m.ticks + 1; since = m.since + 1 }) c.phase_between-self-inside.ensures
-    ∙ ap (λ (x : MonitorView). passed_core (record x.core { regions = c.observe.new.regions })) c.self.view_is
+      counts = counts-raised i.clock.since s.bits s.regions.rows v.counts;
+      since_few = since-phase_after_pass (i.clock.since + 1) i.attrs.aggr v.attrs_sound.aggr_most (omega arith);
+      checks_few = omega (arith, v.checks_few, same, c.len.ensures.few, c.len.ensures.most, cap, v.cap_few);
+      hits_few = omega (arith, v.hits_few, hits, c.finish-hits.ensures.each, same, c.len.ensures.few, c.len.ensures.most, cap, v.cap_few);
+      report_room = v.report_room;
+      report_in = v.report_in;
+    })))
 
 pub returns-clause-event : goal.returns-clause-event
 returns-clause-event c =
+    let i = c.self.inside in
     let m = c.args.self.now in
+    let is : shown i.space i.attrs c.finish-hits.new.self c.tick.new.self c.add.new.self i.report.value ≡ ended m.core.phase m =
+    ap (λ x. shown i.space i.attrs x c.tick.new.self c.add.new.self i.report.value) (sampled c)
+    ∙ ap (λ x. shown i.space i.attrs (sampled_then i.sampling (phase_after_pass (i.clock.since + 1) i.attrs.aggr)) x c.add.new.self i.report.value) c.tick.ensures
+    ∙ ap (λ x. shown i.space i.attrs (sampled_then i.sampling (phase_after_pass (i.clock.since + 1) i.attrs.aggr)) (clock_then i.clock) x i.report.value) (totals c)
+    ∙ ap (λ (x : MonitorView). ended (Checking (row_count x.core)) x) c.self.view_is
+    ∙ ap (λ (ph : Phase). ended ph m) (sym c.requires.phase) in
     let fits : IsObserving m.core.phase (row_count m.core) = subst (λ (ph : Phase). IsObserving ph (row_count m.core)) (sym c.requires.phase) refl in
-    let bits = subst (λ (x : MonitorView). length x.bits ≡ row_count x.core) c.self.view_is (c.self.invariant.bits_each ∙ all_picks c) in
-    subst (λ x. Makes Stands m x (observe ∷ [])) (sym (shown c)) (observe_makes m fits (inr bits))
+    let bits = subst (λ (x : MonitorView). length x.bits ≡ row_count x.core) c.self.view_is c.finish-hits.ensures.each in
+    subst (λ x. Makes Stands m x (observe ∷ [])) (sym is) (observe_makes m fits (inr bits))

@@ -1,64 +1,48 @@
-use Rattle.std.proofs.Common.{Bool, false, ◌≡◌, ◌<◌, ℕ, length, refl, ap, sym, subst, ◌∙◌, arith}
-use Rattle.std.specs.List.{AllByRecursion}
-use Rattle.std.proofs.lemmas.List.{length-replicate}
+use Rattle.std.proofs.Common.{◌≡◌, ◌≤◌, ap, sym, subst, ◌∙◌}
 use Rattle.damon_types.specs.Space.{pages_of}
+use Rattle.damon_types.specs.Span.{spans}
+use Rattle.region_list.specs.Regions.{RegionList}
+use Rattle.region_list.specs.Tiles.{Tiles}
 use Rattle.live_commit.specs.declared.phase.Phase.{Phase}
-use Rattle.live_commit.specs.declared.phase.Phase.TheVariants.{Idle, Clearing}
-use Rattle.sampler.specs.Pick.{PickList}
+use Rattle.live_commit.specs.declared.phase.Phase.TheVariants.{Idle}
 use Rattle.damon_core.specs.Event.{prepare}
 use Rattle.damon_core.specs.After.{after}
-use Rattle.damon_core.specs.Kept.{SinceFew}
+use Rattle.damon_core.specs.Kept.{IsMonitor, SinceFew}
 use Rattle.damon_core.specs.Stands.{MonitorView, Stands}
-use Rattle.damon_core.proofs.Shown.{after_prepare}
-use Rattle.damon_core.proofs.RowFacts.{length-picks_of, picks_in, rows_in}
+use Rattle.damon_core.proofs.Shown.{after_prepare, shown}
+use Rattle.damon_core.proofs.RowFacts.{picks_in, rows_in}
 use Rattle.damon_core.proofs.Standing.{prepare_stands, prepare_fits}
 use Rattle.damon_core.proofs.monitor.Monitor.prepare.Goals as goal
 
 pub invariant_of-self : goal.invariant_of-self
 invariant_of-self c =
     let v = c.self.invariant in
-    let inside = c.self.inside in
-    let ws = c.args.words.now in
-    let made = c.set_picks.ensures in
-    let idle : inside.phase ≡ Idle = ap (λ (m : MonitorView). m.core.phase) c.self.view_is ∙ c.requires.idle in
-    let rows = rows_in inside.space inside.regions.ranges inside.regions.unit inside.regions.rows c.len-rows.ensures.unit v.ranges_in c.len-rows.ensures.tiles in
-    let count : length ws ≡ length inside.regions.rows = c.requires.words ∙ ap (λ (m : MonitorView). length m.core.regions.rows) (sym c.self.view_is) in
-    let picks = ap (λ (p : PickList). length p.pages) made ∙ length-picks_of inside.regions.rows ws count in
-    let bits = ap (λ (p : PickList). length p.bits) made ∙ length-replicate {A = Bool} (length inside.regions.rows) false in
-    record {
+    let i = c.self.inside in
+    let r = i.sampling.regions in
+    let idle : i.sampling.phase ≡ Idle = ap (λ (m : MonitorView). m.core.phase) c.self.view_is ∙ c.requires.idle in
+    let same = c.regions.ensures.regions in
+    let rows = rows_in i.space r.ranges r.unit r.rows (subst (λ (x : RegionList). 1 ≤ x.unit) same c.len-rows.ensures.unit) v.ranges_in (subst (λ (x : RegionList). Tiles x.ranges (spans x.rows) x.unit) same c.len-rows.ensures.tiles) in
+    subst (λ x. IsMonitor i.space i.attrs x i.clock i.totals i.report) (sym c.prepare.ensures) (record {
       attrs_sound = v.attrs_sound;
-      some = v.some;
-      few = v.few;
+      max = v.max;
       cap_few = v.cap_few;
       ranges_in = v.ranges_in;
+      picks_in = picks_in (pages_of i.space) r.rows c.args.words.now rows;
       counts = v.counts;
-      room = omega (arith, v.room, ap (λ (p : PickList). p.cap) made);
-      within = v.some;
-      bits_each = bits ∙ sym picks;
-      has_picks = picks;
-      picks_in = subst (λ (p : PickList). AllByRecursion (λ (q : ℕ). q < pages_of inside.space) p.pages) (sym made) (picks_in (pages_of inside.space) inside.regions.rows ws rows);
-      since_few = subst (λ (ph : Phase). SinceFew ph inside.since) idle v.since_few;
-      found = refl;
+      since_few = subst (λ (ph : Phase). SinceFew ph i.clock.since) idle v.since_few;
       checks_few = v.checks_few;
       hits_few = v.hits_few;
-    }
-
-abbrev with_picks : goal.After-self-2-1 → PickList → MonitorView
-with_picks c p = let inside = c.self.inside in record {
-  core = record { space = inside.space; attrs = inside.attrs; regions = inside.regions; phase = Clearing 0; picks = p.pages; ticks = inside.ticks; since = inside.since };
-  bits = p.bits;
-  checks = inside.checks;
-  hits = inside.hits;
-}
-
-shown : (c : goal.After-self-2-1) → with_picks c c.set_picks.new.picks ≡ after_prepare c.args.words.now c.args.self.now
-shown c = ap (with_picks c) c.set_picks.ensures ∙ ap (λ (m : MonitorView). after_prepare c.args.words.now m) c.self.view_is
-
-pub returns-clause-core : goal.returns-clause-core
-returns-clause-core c = ap (λ (m : MonitorView). m.core) (shown c)
+      report_room = v.report_room;
+      report_in = v.report_in;
+    })
 
 pub returns-clause-event : goal.returns-clause-event
-returns-clause-event c s reached stands = (
-  (prepare_fits c.args.self.now s c.args.words.now stands c.requires.idle c.requires.words, tt),
-  subst (λ (m : MonitorView). Stands m (after s (prepare c.args.words.now))) (sym (shown c)) (prepare_stands c.args.self.now s c.args.words.now reached stands c.requires.idle),
-)
+returns-clause-event c s reached stands =
+    let i = c.self.inside in
+    let m = c.args.self.now in
+    let ws = c.args.words.now in
+    let is : shown i.space i.attrs c.prepare.new.self i.clock i.totals i.report.value ≡ after_prepare ws m =
+    ap (λ x. shown i.space i.attrs x i.clock i.totals i.report.value) c.prepare.ensures ∙ ap (after_prepare ws) c.self.view_is in (
+      (prepare_fits m s ws stands c.requires.idle c.requires.words, tt),
+      subst (λ (x : MonitorView). Stands x (after s (prepare ws))) (sym is) (prepare_stands m s ws reached stands c.requires.idle),
+    )

@@ -1,11 +1,11 @@
-use Rattle.std.proofs.Common.{◌≡◌, ◌+◌, ◌≤◌, ◌<◌, Bool, List, length, refl, ap, sym, subst, ◌∙◌, arith}
+use Rattle.std.proofs.Common.{◌≡◌, ◌+◌, ◌≤◌, ◌<◌, length, map, refl, ap, sym, subst, ◌∙◌, arith}
 use Rattle.std.specs.Prelude.{slice_index}
 use Rattle.region_list.specs.Regions.{RegionList}
 use Rattle.damon_core.specs.Event.{IsLoading, load_index}
-use Rattle.sampler.specs.Loaded.{mark_of}
 use Rattle.damon_core.specs.State.{row_count}
 use Rattle.damon_world.specs.Stands.{WorldView}
 use Rattle.damon_world.specs.Kept.{IsAdvance}
+use Rattle.damon_world.specs.Words.{is_touched_word}
 use Rattle.damon_world.proofs.Words.{lowest_is_hit}
 use Rattle.damon_world.proofs.Parts.{mark_of_page}
 use Rattle.damon_world.proofs.Stepping.{load_below}
@@ -27,7 +27,7 @@ returns-clause-advance g c =
     let stream = g.R.Rng.stream in
     let from = load_index m.core.phase in
     let n = c.at_most-count.result in
-    let marks = c.marks.result.now in
+    let marks = map is_touched_word inside.words in
     let rows : c.len.result ≡ row_count m.core = c.len.ensures.len ∙ ap (λ (r : RegionList). length r.rows) c.rows.ensures.rows in
     let loading : IsLoading m.core.phase (row_count m.core) = subst (λ w. IsLoading w.monitor.core.phase (row_count w.monitor.core)) (sym c.self.view_is) c.requires.phase in
     let index : c.args.next ≡ from = c.requires.index ∙ sym (ap (λ w. load_index w.monitor.core.phase) c.self.view_is) in
@@ -38,8 +38,7 @@ returns-clause-advance g c =
     (let page = slice_index m.core.picks j in
     let in_space = c.picks-picks.ensures.inside ready.0 j here in
     let done = c.picks-picks.ensures.cleared s reached stands j (omega (arith, here, ready.1)) in
-    ap (λ (bs : List Bool). mark_of bs page) c.marks.ensures
-    ∙ mark_of_page inside.words page (omega (arith, in_space, c.self.invariant.each))
+    mark_of_page inside.words page (omega (arith, in_space, c.self.invariant.each))
     ∙ lowest_is_hit s.notes page (slice_index inside.words page) (words page in_space) done) in
     let made = loads_advance stream m c.loaded_next.new.self inside.words inside.source marks from n loading refl within (c.picks-picks.ensures.each ready.0) c.loaded_next.ensures.core c.loaded_next.ensures.events true_marks in
     let old : WorldView g.row.R.Denot = record { monitor = m; words = inside.words; source = inside.source } in

@@ -11,7 +11,7 @@ use Rattle.damon_world.proofs.world.World.prepare.Goals as goal
 
 pub prepare-requires-clause-words : goal.prepare-requires-clause-words
 prepare-requires-clause-words g c =
-    ap length c.deref.ensures.value ∙ ap length c.draw.ensures.words ∙ length-drawn c.len-rows.result (g.R.Rng.stream c.self.inside.source)
+    ap length c.deref.ensures.value ∙ ap length c.draw.ensures.words ∙ length-drawn c.len-rows.result _
     ∙ c.len-rows.ensures.len ∙ ap (λ (r : RegionList). length r.rows) c.rows.ensures.rows
 
 pub returns-clause-advance : goal.returns-clause-advance

@@ -7,7 +7,7 @@ use Rattle.std.proofs.lemmas.List.Sums.{sum_by-cons}
 use Rattle.damon_types.specs.Space.{pages_of}
 use Rattle.damon_control.specs.declared.script.Command.{Command}
 use Rattle.damon_control.specs.Command.{command_value}
-use Rattle.script_run.specs.declared.part.Part.{Part}
+use Rattle.script_run.specs.Part.{Part}
 use Rattle.script_run.specs.Kept.{ArePartsWithin}
 use Rattle.script_run.specs.Player.{left_in, left_of}
 use Rattle.script_run.specs.Parts.{part_of, parts_of}
@@ -45,11 +45,11 @@ pub returns-else-self-len-clause-on : goal.returns-else-self-len-clause-on
 returns-else-self-len-clause-on g c text = on-none g.R.Rng.stream c.args.self.now text
 
 pub returns-else-self-len-clause-end : goal.returns-else-self-len-clause-end
-returns-else-self-len-clause-end g c some =
+returns-else-self-len-clause-end g c false =
     let p = c.self.inside in
     let over : length p.commands.list ≤ p.begun = omega (arith, c.if-self-len.false, c.len.ensures) in
     let none = ap (λ cs. parts_of p.cap (map command_value cs)) (drop_all p.begun p.commands.list over) in
-    (refl, is_over g.R.Rng.stream c.args.self.now (sym (ap (λ v. v.later) c.self.view_is) ∙ none) c.requires)
+    is_over g.R.Rng.stream c.args.self.now (sym (ap (λ v. v.later) c.self.view_is) ∙ none) c.requires
 
 pub invariant_of-self : goal.invariant_of-self
 invariant_of-self g c =
@@ -58,7 +58,6 @@ invariant_of-self g c =
     let rest = parts_of p.cap (map command_value (drop (p.begun + 1) p.commands.list)) in
     let later = next_part p.cap p.begun p.commands.list c.get.result.now here c.get.ensures ∙ ap (λ q. q ∷ rest) (sym c.part_of-self-inside.ensures) in
     record {
-      space_is = c.self.invariant.space_is;
       within = subst (ArePartsWithin (pages_of p.world.monitor.core.space)) later c.self.invariant.within.1;
       work = omega (arith, c.self.invariant.work, less_left p.part (parts_of p.cap (map command_value (drop p.begun p.commands.list))), ap left_in later);
     }

@@ -11,18 +11,18 @@ moves-init g c = record {
   less = λ few many. absurd (omega (arith, few, many));
 }
 
-pub returns-in_err-stop-clause-err : goal.returns-in_err-stop-clause-err
-returns-in_err-stop-clause-err g c =
+pub returns-in_err-go_on-clause-err : goal.returns-in_err-go_on-clause-err
+returns-in_err-go_on-clause-err g c =
     let p = err_from_is_err_and c.from_residual.result c.from_residual.ensures.1 in
-    rw p.1 (subst (λ t. WritesSome g.R.Rng.stream c.args.self.now c.args.out.now.items t) (sym c.in_err-stop.ensures.err) (on-writes g.R.Rng.stream c.args.self.now c.moves.self _ _ c.moves.invariant.on))
+    rw p.1 (subst (λ t. WritesSome g.R.Rng.stream c.args.self.now c.args.out.now.items t) (sym c.in_err-go_on.ensures.err) (on-writes g.R.Rng.stream c.args.self.now c.moves.self _ _ c.moves.invariant.on))
 
-pub returns-in-Some-clause-on : goal.returns-in-Some-clause-on
-returns-in-Some-clause-on g c = on-then g.R.Rng.stream c.args.self.now c.moves.self c.go_on.new.self _ _ _ c.moves.invariant.on c.in_ok-stop.ensures.on
+pub returns-then-not-branch-clause-on : goal.returns-then-not-branch-clause-on
+returns-then-not-branch-clause-on g c = on-then g.R.Rng.stream c.args.self.now c.moves.self c.go_on.new.self _ _ _ c.moves.invariant.on c.in_ok-go_on.ensures.on
 
 pub moves-preserved : goal.moves-preserved
 moves-preserved g c =
-    let more = c.in_ok-stop.ensures in
-    let some = more.less (ap (λ o. Ok o) c.in_default.is) in
+    let more = c.in_ok-go_on.ensures in
+    let some = more.less (ap (λ b. Ok b) c.if-not-branch.false) in
     record {
       on = on-then g.R.Rng.stream c.args.self.now c.moves.self c.go_on.new.self _ _ _ c.moves.invariant.on more.on;
       most = omega (arith, some, c.moves.invariant.most);

@@ -12,6 +12,6 @@ returns-clause-on g c text =
     let is = c.self.view_is in
     let n = c.advance-made.result in
     steps_made g.R.Rng.stream c.args.self.now _ text c.args.until c.args.most n c.requires.part refl
-    (ap (λ v. v.later) is) (ap (λ v. v.form) is) (omega (arith, c.advance-made.ensures.count)) c.requires.some
+    (ap (λ v. v.later) is) (ap (λ v. v.form) is) (omega (arith, c.advance-made.ensures.count)) c.requires.some c.requires.between
     (subst (λ w. Plays g.R.Rng.stream w c.advance-made.new.self (λ m. events_of_steps n m)) (ap (λ v. v.world) is) c.advance-made.ensures.plays)
     (subst (λ w. (m : Moment) → Reached m.state → StandsAt g.R.Rng.stream w m → AreAmid n m) (ap (λ v. v.world) is) c.advance-made.ensures.amid)

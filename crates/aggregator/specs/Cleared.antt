@@ -1,0 +1,11 @@
+-- The clearing of counts at the end of an aggregation.
+use Rattle.std.specs.Prelude.{List, map}
+use Rattle.damon_types.specs.declared.row.Row.{Row}
+
+-- the count of a row becomes its last count, and its count 0
+abbrev pub cleared_row : Row → Row
+cleared_row r = record r { last = r.count; count = 0 }
+
+-- each row is cleared
+abbrev pub cleared : List Row → List Row
+cleared rows = map cleared_row rows

@@ -1,0 +1,57 @@
+use Rattle.std.proofs.Common.{◌≡◌, ◌≤◌, ◌<◌, ℕ, List, length, Ok, ap, option_map, subst, sym, ◌∙◌, arith}
+use Rattle.std.specs.List.{AllByRecursion}
+use Rattle.std.specs.Option.{unwrap_or}
+use Rattle.damon_types.specs.declared.attrs.Attrs.{Attrs}
+use Rattle.damon_types.specs.Attrs.{IsAttrs}
+use Rattle.damon_types.specs.Space.{pages_of}
+use Rattle.damon_types.specs.Within.{AreWithin}
+use Rattle.region_list.specs.Regions.{RegionList}
+use Rattle.live_commit.specs.Commit.{CommitValue, commit_value}
+use Rattle.damon_core.specs.Commit.{check_of, phase_after_commit, regions_after}
+use Rattle.damon_core.specs.Kept.{CanCommit, IsMonitor, SamplingView, SinceFew}
+use Rattle.damon_core.specs.State.{Core}
+use Rattle.damon_core.specs.Stands.{MonitorView}
+use Rattle.damon_core.proofs.Committing.{commit_facts, new_cap, new_counts, new_max, since_kept}
+use Rattle.damon_core.proofs.Shown.{shown}
+use Rattle.damon_core.proofs.monitor.Monitor.accept.Goals as goal
+
+pub commit-void-requires-clause-can : goal.commit-void-requires-clause-can
+commit-void-requires-clause-can c =
+    let i = c.self.inside in
+    let core : Core = (shown i.space i.attrs i.sampling i.clock i.totals i.report.value).core in
+    let v : CommitValue = commit_value c.args.commit.now in
+    let ok = subst (λ (m : MonitorView). check_of v m.core ≡ Ok tt) (sym c.self.view_is) c.requires in
+    let most = subst (λ (m : MonitorView). m.core.attrs.max ≤ m.core.regions.cap) (sym c.self.view_is) c.attrs.ensures.max in
+    let facts = commit_facts c.accepted_commits_are_within.ensures.accepted core v ok c.self.invariant.attrs_sound most in
+    let new : c.unwrap_or-attrs.result ≡ unwrap_or v.attrs i.attrs = c.unwrap_or-attrs.ensures ∙ ap (unwrap_or v.attrs) (c.attrs.ensures.attrs ∙ ap (λ (m : MonitorView). m.core.attrs) (sym c.self.view_is)) in
+    subst (λ (a : Attrs). CanCommit i.space i.sampling.regions v.ranges a.max) (sym new) facts.can
+
+pub invariant_of-self : goal.invariant_of-self
+invariant_of-self c =
+    let i = c.self.inside in
+    let inv = c.self.invariant in
+    let core : Core = (shown i.space i.attrs i.sampling i.clock i.totals i.report.value).core in
+    let v : CommitValue = commit_value c.args.commit.now in
+    let ok = subst (λ (m : MonitorView). check_of v m.core ≡ Ok tt) (sym c.self.view_is) c.requires in
+    let most = subst (λ (m : MonitorView). m.core.attrs.max ≤ m.core.regions.cap) (sym c.self.view_is) c.attrs.ensures.max in
+    let facts = commit_facts c.accepted_commits_are_within.ensures.accepted core v ok inv.attrs_sound most in
+    let new : c.unwrap_or-attrs.result ≡ unwrap_or v.attrs i.attrs = c.unwrap_or-attrs.ensures ∙ ap (unwrap_or v.attrs) (c.attrs.ensures.attrs ∙ ap (λ (m : MonitorView). m.core.attrs) (sym c.self.view_is)) in
+    let old = i.sampling.regions in
+    let now = c.unwrap_or-attrs.result.max in
+    let regions = regions_after i.space v.ranges now old in
+    let made : c.commit-void.new.self ≡ record i.sampling { regions = regions; phase = phase_after_commit i.sampling.phase old.rows regions.rows } = c.commit-void.ensures.committed in
+    let same = ap (λ (s : SamplingView). s.regions) made in
+    let cap = ap (λ (r : RegionList). r.cap) same ∙ new_cap i.space v.ranges now old in
+    record {
+      attrs_sound = subst IsAttrs (sym new) facts.attrs;
+      max = ap (λ (r : RegionList). r.max) same ∙ new_max i.space v.ranges now old;
+      cap_few = omega (arith, inv.cap_few, cap);
+      ranges_in = c.commit-void.ensures.within inv.ranges_in;
+      picks_in = subst (λ (s : SamplingView). AllByRecursion (λ p. p < pages_of i.space) s.picks) (sym made) inv.picks_in;
+      counts = subst (λ (r : RegionList). AllByRecursion (λ q. q.count ≤ i.clock.since) r.rows) (sym same) (new_counts c.updated_rows_are_kept.ensures.counts c.shrunk_rows_are_kept.ensures.counts i.space v.ranges now i.clock.since old inv.counts);
+      since_few = subst (λ (s : SamplingView). SinceFew s.phase i.clock.since) (sym made) (since_kept i.sampling.phase old.rows regions.rows i.clock.since facts.allows inv.since_few);
+      checks_few = inv.checks_few;
+      hits_few = inv.hits_few;
+      report_room = omega (arith, inv.report_room, cap);
+      report_in = inv.report_in;
+    }

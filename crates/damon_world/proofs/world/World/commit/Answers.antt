@@ -1,0 +1,20 @@
+use Rattle.std.proofs.Common.{◌≡◌, ◌<◌, ℕ, List, sym, ◌∙◌, subst}
+use Rattle.std.specs.Prelude.{slice_index}
+use Rattle.damon_types.specs.declared.space.Target.{Target}
+use Rattle.damon_types.specs.Space.{pages_of}
+use Rattle.live_commit.specs.Commit.{CommitValue, commit_value}
+use Rattle.damon_world.specs.Stands.{StandsFor}
+use Rattle.damon_world.proofs.Committing.{word_of-commit}
+use Rattle.damon_world.proofs.world.World.commit.Goals as goal
+
+pub returns-clause-event : goal.returns-clause-event
+returns-clause-event g c s reached stands =
+    let inner = subst (λ w. StandsFor w s) (sym c.self.view_is) stands in
+    let made = c.commit.ensures.event s reached inner.monitor in
+    let parts : CommitValue = commit_value c.args.commit.now in (
+      made.0,
+      record {
+        monitor = made.1;
+        words = λ p below. inner.words p (subst (λ (ts : List Target). p < pages_of ts) c.commit.ensures.space below) ∙ sym (word_of-commit parts s p);
+      },
+    )

@@ -1,0 +1,69 @@
+-- What the checks of a commit say of its parts.
+use Rattle.std.proofs.Common.{◌≡◌, ℕ, ◌<◌, ◌≤◌, List, length, Ok, Err, Some, refl, subst, arith}
+use Rattle.std.specs.Prelude.{Option, Result}
+use Rattle.std.proofs.lemmas.Bool.Decides.{nat_tests}
+use Rattle.damon_types.specs.declared.attrs.Attrs.{Attrs}
+use Rattle.damon_types.specs.declared.range.RangeSpec.{RangeSpec}
+use Rattle.damon_types.specs.declared.space.Target.{Target}
+use Rattle.damon_types.specs.Attrs.{IsAttrs, checked_attrs}
+use Rattle.target_ranges.specs.declared.fault.RangeFault.{RangeFault}
+use Rattle.target_ranges.specs.Checked.{checked_ranges}
+use Rattle.live_commit.specs.declared.fault.CommitFault.{CommitFault}
+use Rattle.live_commit.specs.declared.fault.CommitFault.TheVariants.{BadAttrs, BadRange}
+use Rattle.live_commit.specs.declared.phase.Phase.{Phase}
+use Rattle.live_commit.specs.declared.phase.Phase.TheVariants.{Idle, Clearing, Armed, Checking, Void, Due}
+use Rattle.live_commit.specs.declared.view.View.{View}
+use Rattle.live_commit.specs.Accepted.{AllowsCommit, IsAccepted}
+use Rattle.live_commit.specs.Accepts.{checked_commit, checked_new_attrs, checked_new_max, checked_new_ranges, checked_new_slot, checked_number, checked_phase, fault_as, max_after, ranges_after}
+use Rattle.live_commit.specs.Commit.{CommitValue}
+use Rattle.live_commit.proofs.Changes.{both_ok}
+use Rattle.live_commit.proofs.Limits.{attrs_kept}
+
+-- a check that gives the commit no fault succeeded
+fault_as_ok : {E : Type 0} (fault : E → CommitFault) (r : Result (Unit {0}) E) → fault_as fault r ≡ Ok tt → r ≡ Ok tt
+fault_as_ok fault (Ok t) ok = refl
+fault_as_ok fault (Err why) ok = absurd (cc)
+
+phase_allows : (phase : Phase) (rows : ℕ) → checked_phase phase rows ≡ Ok tt → AllowsCommit phase
+phase_allows Idle rows ok = tt
+phase_allows (Clearing next) rows ok = absurd (cc)
+phase_allows Armed rows ok = tt
+phase_allows (Checking next) rows ok = absurd (cc)
+phase_allows Void rows ok = tt
+phase_allows Due rows ok = tt
+
+ranges_accepted :
+    (space : List Target) (unit cap : ℕ) (specs : List RangeSpec) → checked_new_ranges space unit cap (Some specs) ≡ Ok tt
+    → (0 < length specs) × (checked_ranges space unit cap specs ≡ Ok tt)
+ranges_accepted space unit cap specs ok =
+    let fault : RangeFault → CommitFault = λ f. BadRange f.index f.why in
+    let some : 0 < length specs = grind (arith, nat_tests) in
+    let each : fault_as fault (checked_ranges space unit cap specs) ≡ Ok tt = grind (arith, nat_tests) in
+    (some, fault_as_ok fault (checked_ranges space unit cap specs) each)
+
+number_fits : (ranges max : ℕ) → checked_number ranges max ≡ Ok tt → ranges ≤ max
+number_fits ranges max ok = grind (arith, nat_tests)
+
+max_fits : (max cap : ℕ) → checked_new_max max cap ≡ Ok tt → max ≤ cap
+max_fits max cap ok = grind (arith, nat_tests)
+
+attrs_accepted : (cap : ℕ) (a : Attrs) → checked_new_attrs cap (Some a) ≡ Ok tt → IsAttrs a × (a.max ≤ cap)
+attrs_accepted cap a ok =
+    let both = both_ok (fault_as BadAttrs (checked_attrs a)) (checked_new_max a.max cap) ok in
+    (attrs_kept a (fault_as_ok BadAttrs (checked_attrs a) both.0), max_fits a.max cap both.1)
+
+pub commit_accepted :
+    (space : List Target) (v : View) (c : CommitValue) → checked_commit space v c ≡ Ok tt → IsAccepted space v c
+commit_accepted space v c ok =
+    let phase = both_ok (checked_phase v.phase v.rows) _ ok in
+    let ranges = both_ok (checked_new_ranges space v.unit v.cap c.ranges) _ phase.1 in
+    let number = both_ok (checked_number (ranges_after c.ranges v.ranges) (max_after c.attrs v.max)) _ ranges.1 in
+    let attrs = both_ok (checked_new_attrs v.cap c.attrs) (checked_new_slot c.slot) number.1 in
+    let Ranges : Option (List RangeSpec) → Type 0 = λ o. checked_new_ranges space v.unit v.cap o ≡ Ok tt in
+    let Given : Option Attrs → Type 0 = λ o. checked_new_attrs v.cap o ≡ Ok tt in
+    record {
+      phase = phase_allows v.phase v.rows phase.0;
+      attrs = λ a given. attrs_accepted v.cap a (subst Given given attrs.0);
+      ranges = λ specs given. ranges_accepted space v.unit v.cap specs (subst Ranges given ranges.0);
+      few = number_fits (ranges_after c.ranges v.ranges) (max_after c.attrs v.max) number.0;
+    }

@@ -1,0 +1,85 @@
+-- Which commits are accepted, and the first check of the others that fails.
+use Rattle.std.specs.Prelude.{ℕ, ◌+◌, ◌==◌, nat_lt, List, length, Option, Some, None, Result, Ok, Err, if◌then◌else◌}
+use Rattle.std.specs.Result.{result_and}
+use Rattle.damon_types.specs.declared.attrs.Attrs.{Attrs}
+use Rattle.damon_types.specs.declared.range.RangeSpec.{RangeSpec}
+use Rattle.damon_types.specs.declared.scheme.TheConstants.{MAX_SLOT}
+use Rattle.damon_types.specs.declared.scheme.Scheme.{Scheme}
+use Rattle.damon_types.specs.declared.scheme.SchemeFault.{SchemeFault}
+use Rattle.damon_types.specs.declared.scheme.SchemeFault.TheVariants.{SlotOutOfRange}
+use Rattle.damon_types.specs.declared.scheme.SlotChange.{SlotChange}
+use Rattle.damon_types.specs.declared.space.Target.{Target}
+use Rattle.damon_types.specs.Attrs.{checked_attrs}
+use Rattle.damon_types.specs.Scheme.{checked_scheme}
+use Rattle.target_ranges.specs.Checked.{checked_ranges}
+use Rattle.live_commit.specs.declared.phase.Phase.{Phase}
+use Rattle.live_commit.specs.declared.phase.Phase.TheVariants.{Clearing, Checking}
+use Rattle.live_commit.specs.declared.fault.CommitFault.{CommitFault}
+use Rattle.live_commit.specs.declared.fault.CommitFault.TheVariants.{Busy, NoRange, BadRange, RangesOverMax, BadAttrs, OverCap, BadScheme}
+use Rattle.live_commit.specs.declared.view.View.{View}
+use Rattle.live_commit.specs.Commit.{CommitValue}
+
+-- the number of clears and loads that the pass under way has made, with this number of rows
+abbrev pub steps_made : Phase → ℕ → ℕ
+steps_made (Clearing next) rows = next
+steps_made (Checking next) rows = rows + next
+steps_made _ rows = 0
+
+-- a commit is refused in Clearing and Checking, with the clears and loads that the pass has made
+abbrev pub checked_phase : Phase → ℕ → Result (Unit {0}) CommitFault
+checked_phase (Clearing next) rows = Err (Busy next)
+checked_phase (Checking next) rows = Err (Busy (rows + next))
+checked_phase _ rows = Ok tt
+
+-- the error of a check as a fault of the commit
+abbrev pub fault_as : {E : Type 0} → (E → CommitFault) → Result (Unit {0}) E → Result (Unit {0}) CommitFault
+fault_as fault (Ok t) = Ok t
+fault_as fault (Err why) = Err (fault why)
+
+-- new ranges are at least one, and each is accepted
+abbrev pub checked_new_ranges : List Target → ℕ → ℕ → Option (List RangeSpec) → Result (Unit {0}) CommitFault
+checked_new_ranges space unit cap None = Ok tt
+checked_new_ranges space unit cap (Some specs) =
+    if length specs == 0 then Err NoRange
+    else fault_as (λ f. BadRange f.index f.why) (checked_ranges space unit cap specs)
+
+-- the number of ranges after a commit, where there are `now` before it
+abbrev pub ranges_after : Option (List RangeSpec) → ℕ → ℕ
+ranges_after None now = now
+ranges_after (Some specs) now = length specs
+
+-- the most regions that are allowed after a commit, where at most `now` are allowed before it
+abbrev pub max_after : Option Attrs → ℕ → ℕ
+max_after None now = now
+max_after (Some a) now = a.max
+
+-- the ranges are no more than the regions that are allowed
+abbrev pub checked_number : ℕ → ℕ → Result (Unit {0}) CommitFault
+checked_number ranges max = if nat_lt max ranges then Err (RangesOverMax ranges max) else Ok tt
+
+-- new attributes allow at most `cap` regions
+abbrev pub checked_new_max : ℕ → ℕ → Result (Unit {0}) CommitFault
+checked_new_max max cap = if nat_lt cap max then Err (OverCap max cap) else Ok tt
+
+-- new attributes are within their limits, and allow at most `cap` regions
+abbrev pub checked_new_attrs : ℕ → Option Attrs → Result (Unit {0}) CommitFault
+checked_new_attrs cap None = Ok tt
+checked_new_attrs cap (Some a) = result_and (fault_as BadAttrs (checked_attrs a)) (checked_new_max a.max cap)
+
+-- the slot exists, and its new scheme, if it gets one, is within its limits
+abbrev pub checked_for_slot : ℕ → Option Scheme → Result (Unit {0}) SchemeFault
+checked_for_slot slot None = if nat_lt MAX_SLOT slot then Err (SlotOutOfRange slot) else Ok tt
+checked_for_slot slot (Some s) = checked_scheme slot s
+
+-- the first limit that a slot change breaks, as a fault of the commit
+abbrev pub checked_new_slot : Option SlotChange → Result (Unit {0}) CommitFault
+checked_new_slot None = Ok tt
+checked_new_slot (Some c) = fault_as BadScheme (checked_for_slot c.slot c.scheme)
+
+-- the first check of a commit that fails: of the phase, the ranges, their number, the attributes, and the slot
+abbrev pub checked_commit : List Target → View → CommitValue → Result (Unit {0}) CommitFault
+checked_commit space v c =
+    result_and (checked_phase v.phase v.rows)
+    (result_and (checked_new_ranges space v.unit v.cap c.ranges)
+    (result_and (checked_number (ranges_after c.ranges v.ranges) (max_after c.attrs v.max))
+    (result_and (checked_new_attrs v.cap c.attrs) (checked_new_slot c.slot))))

@@ -1,0 +1,4 @@
+pub mod Order
+pub mod Updated
+pub mod Kept
+pub mod OpenPiece

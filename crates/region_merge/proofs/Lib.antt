@@ -1,0 +1,4 @@
+pub mod GroupingLemmas
+pub mod MergedLemmas
+pub mod StepLemmas
+mod Examples

@@ -1,0 +1,128 @@
+ghost use Rattle.std.specs.Prelude.{◌≡◌, ◌+◌, ◌≤◌, ◌<◌, ◌^◌, ◌≢◌, ◌&&◌, ◌==◌, Some, not, length, slice_get};
+ghost use Rattle.std.specs.Option.{option_map};
+ghost use Rattle.damon_types.specs.Ranges.{end_of};
+ghost use Rattle.region_merge.specs.Merged.{row_end, is_within, merged};
+ghost use Rattle.region_merge.specs.Grouping.{IsMerged};
+
+use crate::{merged_rows_are_kept, merged_rows_are_the_grouping};
+use damon_types::{Ranges, Row};
+use region_list::{Regions, RowPass, join_rows, range_end, rows_follow_ranges};
+
+/// Merges the rows of a monitor from left to right. Within one range each row is joined to the row
+/// merged so far where their counts differ by at most `threshold` (passes) and they have at most
+/// `limit` pages together; otherwise it begins the next merged row. Count, last count and age of a
+/// join are averages weighted by pages and rounded down, taken anew at each join. Only the rows
+/// change. Makes one pass over them and takes no memory. The threshold, the size limit and the
+/// averages are this project's own rule.
+pub fn merge_all(regions: &mut Regions, threshold: u32, limit: u32)
+    ensures rows { regions.new ≡ record regions.old {
+      rows = merged regions.old.ranges threshold limit regions.old.rows;
+    } }
+    ensures grouping { IsMerged regions.old.ranges threshold limit
+        regions.old.rows regions.new.rows }
+{
+    // For their clauses alone: merging finds the grouping, and merged rows tile and have room.
+    merged_rows_are_the_grouping();
+    merged_rows_are_kept();
+    let _count = regions.len();
+    regions.remake(&MergePass { threshold, limit });
+}
+
+// The pass of a merge: by how much counts may differ, and how many pages joined rows may have.
+#[derive(Clone, Copy)]
+struct MergePass {
+    threshold: u32,
+    limit: u32,
+}
+
+impl RowPass for MergePass {
+    ghost rows_of = { λ pass gs rows. merged gs pass.threshold pass.limit rows };
+
+    ghost can_run = { λ pass rows. Unit {0} };
+
+    fn run(&self, ranges: &Ranges, rows: &[Row], made: &mut Vec<Row>) {
+        // For their clauses alone: the ranges are in order, and the rows follow them.
+        let _count = ranges.len();
+        rows_follow_ranges();
+        let Some((first, others)) = rows.split_first() else {
+            return;
+        };
+        let mut group = OpenGroup {
+            row: *first,
+            range: 0,
+            end: range_end(ranges, 0),
+        };
+        for row in others {
+            if self.joins(&group, row) {
+                group.row = join_rows(&group.row, row);
+            } else {
+                made.push_reserved(group.row);
+                group = group.next_group(ranges, row);
+            }
+        }
+        made.push_reserved(group.row);
+    }
+}
+
+impl MergePass {
+    // Whether the next row is joined to the group.
+    fn joins(&self, group: &OpenGroup, row: &Row) -> bool
+        requires end { row_end group.now.row < 2 ^ 32 }
+        requires pages { row_end group.now.row ≢ group.now.end
+            → group.now.row.pages + row.now.pages < 2 ^ 32 }
+        ensures { result ≡ (not (row_end group.now.row == group.now.end)
+            && is_within self.now.threshold self.now.limit group.now.row row.now) }
+    {
+        !group.ends_range()
+            && group.row.count.abs_diff(row.count) <= self.threshold
+            && group.row.pages + row.pages <= self.limit
+    }
+}
+
+// The group of rows that is being joined: the row that they became so far, and the range that holds
+// it, with its index and its end.
+#[derive(Clone, Copy)]
+struct OpenGroup {
+    row: Row,
+    range: u32,
+    end: u32,
+}
+
+impl OpenGroup {
+    // Whether the group ends with its range, so that the next row lies in the next range.
+    fn ends_range(&self) -> bool
+        requires { row_end self.now.row < 2 ^ 32 }
+        ensures { result ≡ (row_end self.now.row == self.now.end) }
+    {
+        self.row.start + self.row.pages == self.end
+    }
+
+    // The group that begins with the next row.
+    fn next_group(&self, ranges: &Ranges, row: &Row) -> OpenGroup
+        requires end { row_end self.now.row < 2 ^ 32 }
+        requires next { row_end self.now.row ≡ self.now.end
+            → self.now.range + 1 < length ranges.now.list }
+        ensures row { result.row ≡ row.now }
+        ensures same { row_end self.now.row ≢ self.now.end
+            → (result.range ≡ self.now.range) × (result.end ≡ self.now.end) }
+        ensures next { row_end self.now.row ≡ self.now.end
+            → (result.range ≡ self.now.range + 1)
+            × (option_map end_of (slice_get ranges.now.list (self.now.range + 1))
+            ≡ Some result.end) }
+    {
+        // For its clauses alone: the ranges are in order, and their number is a u32.
+        let _count = ranges.len();
+        if !self.ends_range() {
+            return OpenGroup { row: *row, ..*self };
+        }
+        let range = self.range + 1;
+        OpenGroup {
+            row: *row,
+            range,
+            end: range_end(ranges, range),
+        }
+    }
+}
+
+#[cfg(test)]
+mod tests;

@@ -1,0 +1,87 @@
+ghost use Rattle.std.specs.Prelude.{◌≡◌, ◌+◌, ◌≤◌, ◌++◌, length, drop, OnErr, OnOk};
+ghost use Rattle.std.specs.List.{AllByRecursion};
+ghost use Rattle.damon_types.specs.Space.{pages_of};
+ghost use Rattle.snapshot_print.specs.Lines.{aggregate_line, aggregate_text, row_lines};
+ghost use Rattle.snapshot_print.specs.Kept.{KeepsFront};
+ghost use Rattle.snapshot_print.specs.Printed.{printed_monitor};
+
+use crate::Form;
+use crate::fields::{field_before, text_before, whole_or_nothing};
+use crate::row_text::{ROW_ROOM, lines_before, print_rows};
+use damon_core::{Monitor, Report};
+use damon_types::{Row, Space};
+use std::alloc::{AllocError, Global};
+
+/// Appends the text of the last aggregation: a line with its tick, its threshold and the number of
+/// rows, then a line for each row that it reported, in order. When out of memory, nothing is appended.
+pub fn print_aggregate(
+    alloc: Global,
+    out: &mut Vec<u8>,
+    form: Form,
+    monitor: &Monitor,
+) -> Result<(), AllocError>
+    ensures ok { OnOk result (out.new.items ≡ out.old.items
+        ++ aggregate_text form (printed_monitor monitor.now)) }
+    ensures err { OnErr result (out.new.items ≡ out.old.items) }
+{
+    let before = out.len();
+    let printed = match form {
+        Form::Text => print_report(out, monitor),
+    };
+    whole_or_nothing(out, before, printed)
+}
+
+// The most rows whose lines are appended together with the first line.
+const FIRST_ROWS: usize = 4;
+
+// Bytes enough for the first line, which has at most 93, and the lines of these rows.
+const FIRST_ROOM: usize = 96 + ROW_ROOM * FIRST_ROWS;
+
+// Appends the first line of an aggregation and the lines of the rows that it reported.
+#[tactic(auto, using(crate::proofs::Appending::appends))]
+fn print_report(out: &mut Vec<u8>, monitor: &Monitor) -> Result<(), AllocError>
+    ensures ok { OnOk result (out.new.items ≡ out.old.items
+        ++ aggregate_text Form.Text (printed_monitor monitor.now)) }
+    ensures kept { KeepsFront out.old.items out.new.items }
+{
+    let report = monitor.report();
+    let (rows, space) = (report.rows(), monitor.space());
+    let (first, rest) = rows.split_at(rows.len().min(FIRST_ROWS));
+    print_first_rows(out, report, first, space)?;
+    print_rows(out, rest, space)
+}
+
+// Appends the first line of an aggregation and the lines of the first of its rows.
+#[tactic(auto, using(crate::proofs::Appending::appends))]
+fn print_first_rows(
+    out: &mut Vec<u8>,
+    report: &Report,
+    first: &[Row],
+    space: &Space,
+) -> Result<(), AllocError>
+    requires rows { AllByRecursion
+        (λ r. (1 ≤ r.pages) × (r.start + r.pages ≤ pages_of space.now)) first.now }
+    requires few { length first.now ≤ FIRST_ROWS }
+    ensures ok { OnOk result (out.new.items ≡ out.old.items
+        ++ (aggregate_line report.now.value ++ row_lines space.now first.now)) }
+    ensures kept { KeepsFront out.old.items out.new.items }
+{
+    let mut text = [0; FIRST_ROOM];
+    let rows = lines_before(&mut text, first, space);
+    let start = first_line_before(&mut text, rows, report);
+    out.extend_from_slice(&text[start..])
+}
+
+// Writes the first line of an aggregation, at most 93 bytes, so that it ends right before index `end`,
+// and returns the index where it begins.
+fn first_line_before(bytes: &mut [u8], end: usize, report: &Report) -> usize
+    requires room { 93 ≤ end }
+    requires within { end ≤ length bytes.old }
+    ensures start { result ≤ end }
+    ensures written { drop result bytes.new ≡ aggregate_line report.now.value ++ drop end bytes.old }
+{
+    let line_end = text_before(bytes, end, b"\n");
+    let rows = field_before(bytes, line_end, b" rows=", report.rows().len() as u64);
+    let threshold = field_before(bytes, rows, b" threshold=", u64::from(report.threshold()));
+    field_before(bytes, threshold, b"aggregate tick=", report.tick())
+}

@@ -1,0 +1,78 @@
+ghost use Rattle.std.specs.Prelude.{◌≡◌, ◌+◌, ◌≤◌, ◌++◌, length, take, drop, codes, OnErr, OnOk};
+ghost use Rattle.std.specs.Fmt.{decimal};
+ghost use Rattle.snapshot_print.specs.Kept.{KeepsFront};
+
+use line_text::{number_before, write_number};
+use std::alloc::AllocError;
+
+// Appends a field's name and a number in decimal.
+#[tactic(auto, using(crate::proofs::Appending::appends))]
+pub(crate) fn print_field(out: &mut Vec<u8>, name: &[u8], value: u64) -> Result<(), AllocError>
+    ensures ok { OnOk result (out.new.items ≡ out.old.items ++ name.now ++ decimal value) }
+    ensures kept { KeepsFront out.old.items out.new.items }
+{
+    out.extend_from_slice(name)?;
+    write_number(out, value)
+}
+
+// Appends a field's name and a word.
+#[tactic(auto, using(crate::proofs::Appending::appends))]
+pub(crate) fn print_word(out: &mut Vec<u8>, name: &[u8], word: &[u8]) -> Result<(), AllocError>
+    ensures ok { OnOk result (out.new.items ≡ out.old.items ++ (name.now ++ word.now)) }
+    ensures kept { KeepsFront out.old.items out.new.items }
+{
+    out.extend_from_slice(name)?;
+    out.extend_from_slice(word)
+}
+
+// Ends a line.
+#[tactic(auto, using(crate::proofs::Appending::appends))]
+pub(crate) fn end_line(out: &mut Vec<u8>) -> Result<(), AllocError>
+    ensures ok { OnOk result (out.new.items ≡ out.old.items ++ codes "\n") }
+    ensures kept { KeepsFront out.old.items out.new.items }
+{
+    out.extend_from_slice(b"\n")
+}
+
+// Writes a field's name and a number in decimal so that they end right before index `end`, and returns
+// the index where they begin.
+#[inline(always)]
+pub(crate) fn field_before(bytes: &mut [u8], end: usize, name: &[u8], value: u64) -> usize
+    requires room { length name.now + 20 ≤ end }
+    requires within { end ≤ length bytes.old }
+    ensures start { result ≤ end }
+    ensures most { end ≤ result + (length name.now + 20) }
+    ensures written { drop result bytes.new ≡ name.now ++ (decimal value ++ drop end bytes.old) }
+{
+    let digits = number_before(bytes, end, value);
+    text_before(bytes, digits, name)
+}
+
+// Writes a text in the same way.
+#[inline(always)]
+pub(crate) fn text_before(bytes: &mut [u8], end: usize, text: &[u8]) -> usize
+    requires room { length text.now ≤ end }
+    requires within { end ≤ length bytes.old }
+    ensures start { result + length text.now ≡ end }
+    ensures written { drop result bytes.new ≡ text.now ++ drop end bytes.old }
+{
+    let start = end - text.len();
+    bytes[start..end].copy_from_slice(text);
+    start
+}
+
+// Removes what was appended after the first `before` bytes if printing failed.
+pub(crate) fn whole_or_nothing(
+    out: &mut Vec<u8>,
+    before: usize,
+    printed: Result<(), AllocError>,
+) -> Result<(), AllocError>
+    ensures same { result ≡ printed }
+    ensures ok { OnOk result (out.new.items ≡ out.old.items) }
+    ensures err { OnErr result (out.new.items ≡ take before out.old.items) }
+{
+    if printed.is_err() {
+        out.truncate(before);
+    }
+    printed
+}
