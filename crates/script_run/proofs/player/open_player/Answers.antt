@@ -12,7 +12,7 @@ use Rattle.damon_control.specs.declared.script.Command.{Command}
 use Rattle.damon_control.specs.Command.{CommandValue, Touch, Sweep, Step, Arm, Finish, Show, Commit, command_value, weight, work_of}
 use Rattle.damon_control.specs.Limits.{IsCommandWithin}
 use Rattle.script_run.specs.Part as part
-use Rattle.script_run.specs.Kept.{ArePartsWithin, IsBuilt, IsPartWithin}
+use Rattle.script_run.specs.Kept.{ArePartsWithin, IsBuilt}
 use Rattle.script_run.specs.NotBuilt.{is_later}
 use Rattle.script_run.specs.Player.{left_in, left_of}
 use Rattle.script_run.specs.Parts.{part_of, parts_of}
@@ -80,7 +80,7 @@ invariant_of-result c =
 
 pub returns : goal.returns
 returns c = record {
-  can_open = record { space = c.targets.ensures.sound; sound = c.args.script.setup.sound; order = c.len-ranges.ensures.order };
+  can_open = record { space = c.targets-targets.ensures.sound; sound = c.args.script.setup.sound; order = c.len-ranges.ensures.order };
   made = [];
   fit = tt;
   stands = record { state = c.in_ok-world.ensures.opening; words = ap (stream_of (steps_u32 pcg32)) c.in_ok-world.ensures.source ∙ c.random_words.ensures };
