@@ -14,7 +14,7 @@ use Rattle.live_commit.specs.SetupView.{value_of}
 use Rattle.damon_core.specs.State.{opening_core}
 use Rattle.damon_core.specs.Kept.{IsMonitor, RowsLieIn}
 use Rattle.damon_core.specs.Report.{ReportBuf}
-use Rattle.damon_core.proofs.RowFacts.{some_row, counts-divided, counts-shrunk}
+use Rattle.damon_core.proofs.RowFacts.{some_row, counts-divided}
 use Rattle.damon_core.proofs.monitor.Monitor.new.Goals as goal
 
 some_rows : (v : SetupValue) (gs : List Range) (rows : List Row) (unit : ℕ) → gs ≡ v.ranges → IsSetup v → Tiles gs (spans rows) unit → 0 < length rows
@@ -43,7 +43,7 @@ invariant_of-result c =
       cap_few = omega (arith, sound.cap_most, ap (λ (x : RegionList). x.cap) made);
       ranges_in = subst (AreWithin c.in_ok-space.space) (sym (ap (λ (x : RegionList). x.ranges) made)) (subst (λ ts. AreWithin ts v.ranges) (sym c.in_ok-space.ensures.cases) sound.within);
       picks_in = tt;
-      counts = subst (λ (x : RegionList). AllByRecursion (λ q. q.count ≤ 0) x.rows) (sym made) (counts-shrunk 0 v.attrs.max v.ranges (divided v.unit v.attrs.min v.ranges) (counts-divided v.unit v.attrs.min v.ranges));
+      counts = subst (λ (x : RegionList). AllByRecursion (λ q. q.count ≤ 0) x.rows) (sym made) (c.shrunk_rows_are_kept.ensures.counts v.attrs.max 0 v.ranges (divided v.unit v.attrs.min v.ranges) (counts-divided v.unit v.attrs.min v.ranges));
       since_few = omega arith;
       checks_few = omega arith;
       hits_few = omega arith;
