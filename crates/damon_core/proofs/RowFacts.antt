@@ -60,16 +60,6 @@ length-picks_of [] ws same = refl
 length-picks_of (r ∷ rows) [] same = absurd (omega arith)
 length-picks_of (r ∷ rows) (w ∷ ws) same = ap suc (length-picks_of rows ws (omega arith))
 
-zero_is_one : (n : ℕ) → n ≡ 0 → n ≡ 1 → ⊥
-zero_is_one n none one = omega arith
-
--- a range has a row
-pub some_row : (unit : ℕ) (g : Range) (gs : List Range) (rows : List Row) → 1 ≤ g.pages → Tiles (g ∷ gs) (spans rows) unit → 0 < length rows
-some_row unit g gs [] page tiles =
-    let held : list_any (range_holds g.target g.first) (g ∷ gs) ≡ true = (let here : range_holds g.target g.first g ≡ true = grind (arith, nat_tests) in rw here refl) in
-    absurd (zero_is_one (count_by (span_holds g.target g.first) []) refl (tiles.once g.target g.first ∙ rw held refl))
-some_row unit g gs (r ∷ rows) page tiles = omega arith
-
 all_append : (P : Row → Type 0) (xs ys : List Row) → AllByRecursion P xs → AllByRecursion P ys → AllByRecursion P (xs ++ ys)
 all_append P [] ys all more = more
 all_append P (x ∷ xs) ys all more = (all.0, all_append P xs ys all.1 more)
