@@ -80,6 +80,7 @@ impl Monitor {
         ensures core { IfOk result (λ m. m.core ≡ opening_core (value_of setup.now)) }
         ensures opening { IfOk result (λ m. Stands m (opening (value_of setup.now))) }
     {
+        region_list::shrunk_rows_are_kept();
         let regions = first_regions(alloc, setup)?;
         // For its clauses alone: the rows tile their ranges and are within their limits.
         let _rows = regions.len();
