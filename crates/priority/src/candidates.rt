@@ -138,3 +138,6 @@ impl Candidates {
         choose_among(&mut self.items, left)
     }
 }
+
+#[cfg(test)]
+mod tests;

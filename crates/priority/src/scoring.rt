@@ -61,3 +61,6 @@ fn weighted_mean(weights: Weights, size: u32, count: u32, age: u32) -> u32
     }
     (by_size * size + by_count * count + by_age * age) / sum
 }
+
+#[cfg(test)]
+mod tests;
