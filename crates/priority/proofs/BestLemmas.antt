@@ -1,6 +1,6 @@
 -- Shares have a certificate, and a choice with a certificate is the best.
 use Rattle.std.proofs.Common.{◌≡◌, ◌⊎◌, inl, inr, ℕ, ◌+◌, ◌-◌, ◌*◌, ◌<◌, ◌≤◌, Bool, true, false, cond, List, [], ◌∷◌, Option, Some, None, length, take, drop, refl, sym, ap, ◌∙◌, subst, arith}
-use Rattle.std.specs.Prelude.{slice_index_or, nat_lt, sum, sum_by, zip, All, min, IfSome}
+use Rattle.std.specs.Prelude.{slice_index_or, sum, sum_by, zip, All, IfSome}
 use Rattle.std.specs.List.{AllZip}
 use Rattle.std.proofs.Math.Nat.{mul-le-mul_left, mul-le-mul_right, add-mul}
 use Rattle.std.proofs.lemmas.Bool.{cases_lt}
@@ -8,7 +8,7 @@ use Rattle.std.proofs.lemmas.Bool.Decides.{nat_tests}
 use Rattle.std.proofs.lemmas.List.Elements.{All-head, All-tail, All-map, All-weaker}
 use Rattle.std.proofs.lemmas.List.Sums.{sum_by-cons, sum-map, sum_by-take-drop, sum_by-drop_more, sum_by-le-sum_by}
 use Rattle.priority.specs.declared.candidates.Candidate.{Candidate}
-use Rattle.priority.specs.Candidates.{StartApart}
+use Rattle.priority.specs.Candidates.{DistinctStarts}
 use Rattle.priority.specs.Order.{is_before}
 use Rattle.priority.specs.Share.{passing_before, with_share, with_shares}
 use Rattle.priority.specs.Chosen.{taken_of, lowest_of}
@@ -59,9 +59,9 @@ left_out_low n cs k j d e within inside short some = by (cases_lt (slice_index_o
     by (inr more) = more
 
 -- shares have a certificate
-pub certified : (left : Option ℕ) (cs : List Candidate) → StartApart cs → IsCertified left (with_shares left cs)
-certified None cs apart = All-map (λ (c : Candidate). c.share ≡ c.passing) (with_share None cs) cs (λ k d within. refl)
-certified (Some n) cs apart = by (cases_lt n (sum_by passing_of cs))
+pub certified : (left : Option ℕ) (cs : List Candidate) → DistinctStarts cs → IsCertified left (with_shares left cs)
+certified None cs distinct = All-map (λ (c : Candidate). c.share ≡ c.passing) (with_share None cs) cs (λ k d within. refl)
+certified (Some n) cs distinct = by (cases_lt n (sum_by passing_of cs))
   where
     shares : List Candidate
     shares = with_shares (Some n) cs
@@ -71,7 +71,7 @@ certified (Some n) cs apart = by (cases_lt n (sum_by passing_of cs))
         (λ k d within short. lowest_bound shares (slice_index_or cs k d).score (All-map (λ (c : Candidate). 0 < c.share → (slice_index_or cs k d).score ≤ c.score) (with_share (Some n) cs) cs (λ j e inside some. left_out_low n cs k j d e within inside short some)))
 
     by : (n < sum_by passing_of cs) ⊎ (sum_by passing_of cs ≤ n) → TakesAll shares ⊎ TakesHighest n shares
-    by (inl less) = inr (record { taken = omega (arith, less, taken_is n cs apart); low = low })
+    by (inl less) = inr (record { taken = omega (arith, less, taken_is n cs distinct); low = low })
     by (inr more) = inl (All-map (λ (c : Candidate). c.share ≡ c.passing) (with_share (Some n) cs) cs (λ k d within. omega (arith, more, all_before cs k d within)))
 
 -- shares are a choice
@@ -79,10 +79,10 @@ numbers_fit : (cs : List Candidate) → All (λ c. c.share ≤ c.passing) cs →
 numbers_fit [] all = tt
 numbers_fit (c ∷ cs) all = let Fits : Candidate → Type 0 = λ x. x.share ≤ x.passing in (All-head Fits c cs all, numbers_fit cs (All-tail Fits c cs all))
 
-pub is_choice : (left : Option ℕ) (cs : List Candidate) → StartApart cs → IsChoice left (with_shares left cs) (shares_of (with_shares left cs))
-is_choice left cs apart = record {
+pub is_choice : (left : Option ℕ) (cs : List Candidate) → DistinctStarts cs → IsChoice left (with_shares left cs) (shares_of (with_shares left cs))
+is_choice left cs distinct = record {
   each = numbers_fit (with_shares left cs) (shares_fit left cs);
-  within = subst (λ n. IfSome left (λ most. n ≤ most)) (sym (sum-map (λ (c : Candidate). c.share) (with_shares left cs))) (taken_within left cs apart);
+  within = subst (λ n. IfSome left (λ most. n ≤ most)) (sym (sum-map (λ (c : Candidate). c.share) (with_shares left cs))) (taken_within left cs distinct);
 }
 
 -- more pages at a score above a threshold, or fewer below it
@@ -154,5 +154,5 @@ best left cs choice certificate = record { choice = choice; most = most left cer
     most (Some n) (inl whole) numbers other = all whole numbers other.each
     most (Some n) (inr takes) numbers other = some n takes (lowest_of cs) refl (lowest_is cs) numbers other.each other.within
 
-pub shares_best : (left : Option ℕ) (cs : List Candidate) → StartApart cs → IsBest left (with_shares left cs)
-shares_best left cs apart = best left (with_shares left cs) (is_choice left cs apart) (certified left cs apart)
+pub shares_best : (left : Option ℕ) (cs : List Candidate) → DistinctStarts cs → IsBest left (with_shares left cs)
+shares_best left cs distinct = best left (with_shares left cs) (is_choice left cs distinct) (certified left cs distinct)

@@ -1,8 +1,7 @@
 -- Worked examples of scores and choices, computed by hand.
-use Rattle.std.proofs.Common.{◌≡◌, ℕ, true, false, [], ◌∷◌, Option, Some, None, refl, arith}
-use Rattle.std.specs.Prelude.{List, map}
+use Rattle.std.proofs.Common.{◌≡◌, ℕ, true, false, [], ◌∷◌, Some, None, refl, arith}
+use Rattle.std.specs.Prelude.{List}
 use Rattle.damon_types.specs.declared.row.Row.{Row}
-use Rattle.damon_types.specs.declared.scheme.Weights.{Weights}
 use Rattle.damon_types.specs.declared.scheme.Prefer.{Prefer}
 use Rattle.damon_types.specs.declared.scheme.Prefer.TheVariants.{Hot, Cold}
 use Rattle.damon_types.specs.declared.scheme.Action.TheVariants.{Stat}

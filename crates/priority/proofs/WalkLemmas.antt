@@ -1,5 +1,5 @@
 -- The walk over candidates in priority order, which gives each its share.
-use Rattle.std.proofs.Common.{◌≡◌, ℕ, ◌+◌, ◌<◌, ◌≤◌, true, List, [], ◌∷◌, Option, Some, ◌++◌, length, map, take, drop, sym, ap, ◌∙◌, append_assoc, arith}
+use Rattle.std.proofs.Common.{◌≡◌, ℕ, ◌+◌, ◌<◌, ◌≤◌, true, List, [], ◌∷◌, Option, Some, ◌++◌, length, take, drop, sym, ap, ◌∙◌, append_assoc, arith}
 use Rattle.std.specs.Prelude.{nat_lt, slice_index_or, slice_set, sum_by, All, if◌then◌else◌}
 use Rattle.std.proofs.lemmas.Bool.Decides.{nat_tests}
 use Rattle.std.proofs.lemmas.List.{drop_more, take_more, get_or-take, get_or_default, length-map, length-take-le, get_or_at, set_at, get_or-map}
@@ -11,26 +11,26 @@ use Rattle.priority.specs.Chosen.{lowest_of}
 use Rattle.priority.proofs.ShareLemmas.{share_is, order_same}
 use Rattle.priority.proofs.LowestLemmas.{lowest_push}
 
--- what stands at an index past the end
+-- the candidate that stands for an index past the end
 abbrev pub no_candidate : Candidate
 no_candidate = record { target = 0; start = 0; score = 0; passing = 0; share = 0 }
 
--- the walk stands at an index: those in front of it have their shares, and the others are as they were
-abbrev pub Stands : Option ℕ → List Candidate → List Candidate → ℕ → Type 0
-Stands left cs items i = items ≡ take i (with_shares left cs) ++ drop i cs
+-- the first i candidates have their shares, and the others are as they were
+abbrev pub SharedUpTo : Option ℕ → List Candidate → List Candidate → ℕ → Type 0
+SharedUpTo left cs items i = items ≡ take i (with_shares left cs) ++ drop i cs
 
 abbrev pub passing_of : Candidate → ℕ
 passing_of c = c.passing
 
 -- the candidate at the index, as it was and with its share
-pub at_index : (left : Option ℕ) (cs items : List Candidate) (i : ℕ) → i < length cs → Stands left cs items i → slice_index_or items i no_candidate ≡ slice_index_or cs i no_candidate
+pub at_index : (left : Option ℕ) (cs items : List Candidate) (i : ℕ) → i < length cs → SharedUpTo left cs items i → slice_index_or items i no_candidate ≡ slice_index_or cs i no_candidate
 at_index left cs items i within is =
     let front = take i (with_shares left cs) in
     let size : length front ≡ i = length-take-le i (with_shares left cs) (omega (arith, within, length-map cs (with_share left cs))) in
     ap (λ l. slice_index_or l i no_candidate) (is ∙ ap (λ r. front ++ r) (drop_more cs i no_candidate within))
     ∙ get_or_at front (slice_index_or cs i no_candidate) (drop (i + 1) cs) no_candidate i size
 
-pub written : (left : Option ℕ) (cs items : List Candidate) (i before share : ℕ) → InPriority cs → i < length cs → before ≡ sum_by passing_of (take i cs) → Stands left cs items i → share ≡ share_after left before (slice_index_or items i no_candidate).passing → record (slice_index_or items i no_candidate) { share = share } ≡ slice_index_or (with_shares left cs) i no_candidate
+pub written : (left : Option ℕ) (cs items : List Candidate) (i before share : ℕ) → InPriority cs → i < length cs → before ≡ sum_by passing_of (take i cs) → SharedUpTo left cs items i → share ≡ share_after left before (slice_index_or items i no_candidate).passing → record (slice_index_or items i no_candidate) { share = share } ≡ slice_index_or (with_shares left cs) i no_candidate
 written left cs items i before share ordered within total is given =
     let x = slice_index_or cs i no_candidate in
     let at = at_index left cs items i within is in
@@ -40,12 +40,12 @@ written left cs items i before share ordered within total is given =
     ∙ sym (get_or-map (with_share left cs) cs i no_candidate no_candidate within)
 
 -- one step on
-pub passing_step : (left : Option ℕ) (cs items : List Candidate) (i before passing : ℕ) → i < length cs → before ≡ sum_by passing_of (take i cs) → Stands left cs items i → passing ≡ (slice_index_or items i no_candidate).passing → before + passing ≡ sum_by passing_of (take (i + 1) cs)
+pub passing_step : (left : Option ℕ) (cs items : List Candidate) (i before passing : ℕ) → i < length cs → before ≡ sum_by passing_of (take i cs) → SharedUpTo left cs items i → passing ≡ (slice_index_or items i no_candidate).passing → before + passing ≡ sum_by passing_of (take (i + 1) cs)
 passing_step left cs items i before passing within total is given =
     omega (arith, total, given, ap passing_of (at_index left cs items i within is), sum_by_more passing_of cs i no_candidate within)
 
-pub stands_step : (left : Option ℕ) (cs items : List Candidate) (i : ℕ) (y : Candidate) → i < length cs → Stands left cs items i → y ≡ slice_index_or (with_shares left cs) i no_candidate → Stands left cs (slice_set items i y) (i + 1)
-stands_step left cs items i y within is given =
+pub shared_step : (left : Option ℕ) (cs items : List Candidate) (i : ℕ) (y : Candidate) → i < length cs → SharedUpTo left cs items i → y ≡ slice_index_or (with_shares left cs) i no_candidate → SharedUpTo left cs (slice_set items i y) (i + 1)
+shared_step left cs items i y within is given =
     let shares = with_shares left cs in
     let front = take i shares in
     let rest = drop (i + 1) cs in
@@ -67,8 +67,8 @@ lowest_step left cs i y ordered within given =
     let last = slice_index_or shares i no_candidate in
     let inside : i < length shares = omega (arith, within, length-map cs (with_share left cs)) in
     let low : All (λ x. last.score ≤ x.score) (take i shares) = λ k d before.
-        let early : k < i = omega (arith, before, length-take-le i shares (omega (arith, inside))) in
-        let falls = score_falls (slice_index_or shares k d) (slice_index_or shares i d) (order_same left cs ordered k i d early inside) in
-        rw (get_or-take i shares k d early, get_or_default shares i no_candidate d inside) falls in
+    let early : k < i = omega (arith, before, length-take-le i shares (omega (arith, inside))) in
+    let falls = score_falls (slice_index_or shares k d) (slice_index_or shares i d) (order_same left cs ordered k i d early inside) in
+    rw (get_or-take i shares k d early, get_or_default shares i no_candidate d inside) falls in
     ap (λ (z : Candidate). if nat_lt 0 z.share then Some z.score else lowest_of (take i shares)) given
     ∙ sym (ap lowest_of (take_more shares i no_candidate inside) ∙ lowest_push (take i shares) last low)

@@ -31,7 +31,8 @@ pub record TakesHighest (left : ℕ) (cs : List Candidate) : Type 0 where
   pub taken : taken_of cs ≡ left
   pub low : All (λ c. c.share < c.passing → IfSome (lowest_of cs) (λ lowest. c.score ≤ lowest)) cs
 
--- what a reader of the shares can check to see that they are the best
+-- A certificate that the shares are the best choice. Without a quota every passing page is taken; with one, every passing page
+-- is, or the highest scores take all that is left.
 abbrev pub IsCertified : Option ℕ → List Candidate → Type 0
 IsCertified None cs = TakesAll cs
 IsCertified (Some left) cs = TakesAll cs ⊎ TakesHighest left cs

@@ -14,17 +14,17 @@ abbrev pub starts : List Candidate → List ℕ
 starts cs = map (λ c. c.start) cs
 
 -- no two candidates start at the same page
-abbrev pub StartApart : List Candidate → Type 0
-StartApart cs = IsDistinct nat_eq (starts cs)
+abbrev pub DistinctStarts : List Candidate → Type 0
+DistinctStarts cs = IsDistinct nat_eq (starts cs)
 
 -- a candidate has a score within its limit, and a page that passes
 pub record IsCandidate (c : Candidate) : Type 0 where
   pub score : c.score ≤ MAX_SCORE
   pub passing : 1 ≤ c.passing
 
--- candidates, no two of which start at the same page
+-- candidates within their limits, no two of which start at the same page
 pub record AreCandidates (cs : List Candidate) : Type 0 where
-  pub apart : StartApart cs
+  pub distinct : DistinctStarts cs
   pub each : All IsCandidate cs
 
 -- the candidates fit within the capacity, which is reserved

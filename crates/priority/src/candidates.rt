@@ -1,6 +1,6 @@
 ghost use Rattle.std.specs.Prelude.{◌≡◌, ◌≢◌, ◌≤◌, ◌<◌, [], ◌∷◌, ◌++◌, length, slice_get, All, IsPermutation, IfOk, IfSome};
 ghost use Rattle.priority.specs.declared.scoring.TheConstants.{MAX_SCORE};
-ghost use Rattle.priority.specs.Candidates.{IsCandidate, StartApart};
+ghost use Rattle.priority.specs.Candidates.{IsCandidate, DistinctStarts};
 ghost use Rattle.priority.specs.Order.{InPriority, in_order};
 ghost use Rattle.priority.specs.Share.{with_shares};
 ghost use Rattle.priority.specs.Chosen.{exceeds_of, lowest_of, taken_of};
@@ -64,7 +64,7 @@ impl Candidates {
     pub fn len(&self) -> u32
         ensures len { result ≡ length self.now.list }
         ensures room { result ≤ self.now.cap }
-        ensures apart { StartApart self.now.list }
+        ensures distinct { DistinctStarts self.now.list }
         ensures each { All IsCandidate self.now.list }
     {
         self.items.len() as u32
@@ -92,17 +92,21 @@ impl Candidates {
         self.items.clear();
     }
 
-    /// Appends a candidate, of which no page is taken yet. There is room for it, its score is at most
-    /// [`MAX_SCORE`](crate::MAX_SCORE), at least one of its pages passes, and no candidate starts at the
-    /// same page.
+    /// Appends a candidate, of which no page is taken yet. There is room for it, its score is at
+    /// most [`MAX_SCORE`](crate::MAX_SCORE), at least one of its pages passes, and no candidate
+    /// starts at the same page.
     pub fn push(&mut self, target: u32, start: u32, score: u32, passing: u32)
         requires room { length self.old.list < self.old.cap }
         requires score { score ≤ MAX_SCORE }
         requires passing { 1 ≤ passing }
-        requires apart { All (λ c. c.start ≢ start) self.old.list }
+        requires distinct { All (λ c. c.start ≢ start) self.old.list }
         ensures { self.new ≡ record self.old {
           list = self.old.list ++ record {
-            target = target; start = start; score = score; passing = passing; share = 0;
+            target = target;
+            start = start;
+            score = score;
+            passing = passing;
+            share = 0;
           } ∷ [];
         } }
     {
@@ -115,18 +119,19 @@ impl Candidates {
         });
     }
 
-    /// Chooses the pages that are taken, given the number of pages that is left of the quota, `None`
-    /// for no quota. Puts the candidates into priority order: the greater score first, then the smaller
-    /// target, then the smaller start. Each gets as its share as many of its passing pages as those
-    /// before it leave; shares of an earlier choice do not count. No other choice of passing pages has a
-    /// greater sum of scores. Takes no memory. The order is this project's own rule.
+    /// Chooses which passing pages are taken: at most `left` of them, which is what is left of the
+    /// quota, or all if there is no quota (`None`). Puts the candidates into priority order: the
+    /// greater score first, then the smaller target, then the smaller start. The share of each is
+    /// as many of its passing pages as those before it leave; shares of an earlier choice do not
+    /// count. No other choice has a greater sum of the scores of its pages. Takes no memory. The
+    /// order is this project's own rule.
     pub fn choose(&mut self, left: Option<u64>) -> Chosen
         ensures list { self.new.list ≡ in_order (with_shares left self.old.list) }
         ensures shares { IsPermutation (with_shares left self.old.list) self.new.list }
         ensures order { InPriority self.new.list }
         ensures best { IsBest left self.new.list }
         ensures certificate { IsCertified left self.new.list }
-        ensures apart { StartApart self.new.list }
+        ensures distinct { DistinctStarts self.new.list }
         ensures len { length self.new.list ≡ length self.old.list }
         ensures cap { self.new.cap ≡ self.old.cap }
         ensures each { All (λ c. c.share ≤ c.passing) self.new.list }

@@ -6,11 +6,12 @@ use damon_types::{Prefer, Row, Scheme, Weights};
 /// The greatest score.
 pub const MAX_SCORE: u32 = 99;
 
-/// The score of a row for a scheme, at most [`MAX_SCORE`]. It is a mean, by the weights of the scheme,
-/// of the row's pages as a part of `total`, the pages of all ranges (at least 1); its access count as a
-/// part of `aggr`, the passes of an aggregation (at least 1); and its age in aggregations. Each is a
-/// number from 0 to 99. Where the scheme prefers cold rows, 99 minus the access count's part is taken.
-/// With all weights 0 the score is 0. The rule is this project's own.
+/// The score of a row for a scheme, at most [`MAX_SCORE`]: the mean, by the weights of the scheme,
+/// of three numbers. They are 99 × pages / `total`, where `total` is the number of pages of all
+/// ranges (at least 1); 99 × count / `aggr`, where `aggr` is the number of passes of an aggregation
+/// (at least 1), or 99 minus that number if the scheme prefers cold rows; and the age. Each of them
+/// stops at 99. All quotients are rounded down. With all weights 0 the score is 0. The rule is this
+/// project's own.
 pub fn score(row: &Row, total: u32, aggr: u32, scheme: &Scheme) -> u32
     requires total { 1 ≤ total }
     requires aggr { 1 ≤ aggr }
@@ -23,7 +24,7 @@ pub fn score(row: &Row, total: u32, aggr: u32, scheme: &Scheme) -> u32
     weighted_mean(scheme.weights, size, count, age)
 }
 
-// A number as a part of a whole, on a scale from 0 to the greatest score.
+// A number as a part of a whole, on a scale from 0 to the greatest score, rounded down.
 fn scaled(number: u32, whole: u32) -> u32
     requires { 1 ≤ whole }
     ensures exact { result ≡ scaled number whole }
@@ -33,7 +34,8 @@ fn scaled(number: u32, whole: u32) -> u32
     (most * u64::from(number) / u64::from(whole)).min(most) as u32
 }
 
-// An access count on that scale, turned round where few accesses are preferred.
+// An access count on that scale, or its distance from the greatest score if cold rows are
+// preferred.
 fn preferred(prefer: Prefer, count: u32) -> u32
     requires { count ≤ MAX_SCORE }
     ensures exact { result ≡ preferred prefer count }
@@ -53,8 +55,7 @@ fn weighted_mean(weights: Weights, size: u32, count: u32, age: u32) -> u32
     ensures exact { result ≡ weighted_mean weights size count age }
     ensures most { result ≤ MAX_SCORE }
 {
-    let [by_size, by_count, by_age] =
-        [weights.size, weights.count, weights.age].map(u32::from);
+    let [by_size, by_count, by_age] = [weights.size, weights.count, weights.age].map(u32::from);
     let sum = by_size + by_count + by_age;
     if sum == 0 {
         return 0;

@@ -36,7 +36,12 @@ fn the_highest_scores_are_taken_first(rt: HostRuntime) -> Result<(), Fail> {
     );
     assert_eq!(rt;
         candidates.as_slice(),
-        [candidate(4, 90, 2), candidate(0, 50, 1), candidate(2, 50, 0)].as_slice()
+        [
+            candidate(4, 90, 2),
+            candidate(0, 50, 1),
+            candidate(2, 50, 0)
+        ]
+        .as_slice()
     );
     Ok(())
 }

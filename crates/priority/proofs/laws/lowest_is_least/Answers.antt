@@ -1,4 +1,4 @@
-use Rattle.std.proofs.Common.{None, Some, subst}
+use Rattle.std.proofs.Common.{None, subst}
 use Rattle.priority.proofs.LowestLemmas.{IsLowest, lowest_is, lowest_one, none_taken, taken_none}
 use Rattle.priority.specs.Chosen.{lowest_of}
 use Rattle.priority.proofs.laws.lowest_is_least.Goals as goal

@@ -16,7 +16,7 @@ invariant_of-self c =
     record {
       sound =
           subst (λ ds. AreCandidates ds) (sym more)
-          (sound_push cs new c.self.invariant.sound (record { score = c.requires.score; passing = c.requires.passing }) (subst (λ ds. All (λ d. d.start ≢ c.args.start) ds) (sym same) c.requires.apart));
+          (sound_push cs new c.self.invariant.sound (record { score = c.requires.score; passing = c.requires.passing }) (subst (λ ds. All (λ d. d.start ≢ c.args.start) ds) (sym same) c.requires.distinct));
       room = omega (arith, c.requires.room, ap length same, cap_same, ap length more, length_push cs new);
       small = c.self.invariant.small;
       reserved = omega (arith, c.push_reserved.ensures.capacity, c.self.invariant.reserved);
