@@ -12,6 +12,6 @@ effective_pages q = q.bytes / PAGE_SIZE
 abbrev pub left_of : Option Quota → ℕ → Option ℕ
 left_of quota charged = option_map (λ q. effective_pages q - charged) quota
 
--- whether a window that began at tick `start` ends at a tick: the quota's reset interval has passed since
+-- whether a window that began at tick `start` has ended at a tick: at least the quota's reset interval has passed
 abbrev pub has_ended : Quota → ℕ → ℕ → Bool
 has_ended q start tick = nat_le q.reset (tick - start)
