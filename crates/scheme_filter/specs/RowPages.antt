@@ -1,0 +1,47 @@
+-- The pages of a row, and where the answer of filters may change among them. Only proofs need this.
+use Rattle.std.specs.Prelude.{ℕ, ◌+◌, ◌-◌, ◌*◌, ◌≤◌, ◌<◌, ◌^◌, min, nat_lt, List, [], ◌∷◌, ◌++◌, if◌then◌else◌}
+use Rattle.std.specs.Int.{div_ceil}
+use Rattle.damon_types.specs.declared.filter.Filter.{Filter}
+use Rattle.damon_types.specs.declared.filter.FilterKind.{FilterKind}
+use Rattle.damon_types.specs.declared.filter.FilterKind.TheVariants.{Addr, Target, Class}
+use Rattle.damon_types.specs.declared.space.TheConstants.{ADDRESS_END, PAGE_SIZE}
+use Rattle.scheme_filter.specs.declared.decision.PageFacts.{PageFacts}
+use Rattle.scheme_filter.specs.declared.row_pages.RowPages.{RowPages}
+
+-- pages in order, the first of which has an address within the limit of targets
+pub record IsRowPages (row : RowPages) : Type 0 where
+  pub order : row.start ≤ row.end
+  pub addr : row.first.place.addr < ADDRESS_END
+
+-- what filters ask of a page of the row
+abbrev pub facts_at : RowPages → ℕ → PageFacts
+facts_at row page = record row.first { place = record row.first.place { addr = row.first.place.addr + PAGE_SIZE * (page - row.start) } }
+
+-- the first page of the row whose address is not below this one, or the end of the row
+abbrev pub page_from : RowPages → ℕ → ℕ
+page_from row addr = row.start + min (div_ceil (addr - row.first.place.addr) PAGE_SIZE) (row.end - row.start)
+
+-- the pages at which the answer of a filter of this kind may change
+abbrev pub kind_changes : RowPages → FilterKind → List ℕ
+kind_changes row (Addr from to) = page_from row from ∷ page_from row to ∷ []
+kind_changes row (Target target) = []
+kind_changes row (Class class) = []
+
+-- the pages at which the answer of filters may change
+abbrev pub changes : RowPages → List Filter → List ℕ
+changes row [] = []
+changes row (f ∷ fs) = kind_changes row f.kind ++ changes row fs
+
+-- the lesser of page `next` and a page after page `at`
+abbrev pub nearer : ℕ → ℕ → ℕ → ℕ
+nearer at page next = if nat_lt at page then min page next else next
+
+-- the first of these pages after page `at`, and at most page `end`
+abbrev pub first_after : ℕ → ℕ → List ℕ → ℕ
+first_after at end [] = end
+first_after at end (p ∷ ps) = first_after at (nearer at p end) ps
+
+-- how many of these pages are after page `at`
+abbrev pub count_after : ℕ → List ℕ → ℕ
+count_after at [] = 0
+count_after at (p ∷ ps) = (if nat_lt at p then 1 else 0) + count_after at ps

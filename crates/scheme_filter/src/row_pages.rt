@@ -1,0 +1,88 @@
+// The pages of a row, and where the answer of filters may change among them.
+ghost use Rattle.std.specs.Prelude.{◌≡◌, ℕ, ◌≤◌, ◌<◌, not};
+ghost use Rattle.scheme_filter.specs.Passes.{answer as answer_of};
+ghost use Rattle.scheme_filter.specs.RowPages.{IsRowPages, changes, count_after, facts_at as facts_of_page, first_after, nearer as nearer_of, page_from as page_from_addr};
+
+use crate::decision::{PageFacts, answer};
+use damon_types::{Filter, FilterKind, PAGE_SIZE, Place};
+
+/// The pages of a row. They follow each other in one target and one range, so what filters ask of a
+/// page follows from what they ask of the first.
+#[derive(Clone, Copy)]
+pub(crate) struct RowPages {
+    /// The first page.
+    pub(crate) start: u32,
+    /// The page after the last one.
+    pub(crate) end: u32,
+    /// What filters ask of the first page.
+    pub(crate) first: PageFacts,
+}
+
+impl RowPages {
+    /// The first page at or after `from` for which filters have this answer, or the end of the row.
+    pub(crate) fn first_with(&self, filters: &[Filter], wanted: bool, from: u32) -> u32
+        requires row { IsRowPages self.now }
+        requires start { self.now.start ≤ from }
+        requires end { from ≤ self.now.end }
+        ensures start { from ≤ result }
+        ensures end { result ≤ self.now.end }
+        ensures others { (p : ℕ) → from ≤ p → p < result
+            → answer_of filters.now (facts_of_page self.now p) ≡ not wanted }
+        ensures found { result < self.now.end
+            → answer_of filters.now (facts_of_page self.now result) ≡ wanted }
+        ensures fewer { from < result → result < self.now.end
+            → count_after result (changes self.now filters.now)
+            < count_after from (changes self.now filters.now) }
+    {
+        let mut page = from;
+        'pages: while page < self.end && answer(filters, &self.facts_at(page)) != wanted {
+            page = self.next_change(filters, page);
+        }
+        page
+    }
+
+    fn facts_at(&self, page: u32) -> PageFacts
+        requires row { IsRowPages self.now }
+        requires within { self.now.start ≤ page }
+        ensures { result ≡ facts_of_page self.now page }
+    {
+        let Place { target, addr } = self.first.place;
+        let addr = addr + PAGE_SIZE * u64::from(page - self.start);
+        PageFacts {
+            place: Place { target, addr },
+            ..self.first
+        }
+    }
+
+    // The first page after `after` at which the answer of a filter may change, or the end of the row.
+    fn next_change(&self, filters: &[Filter], after: u32) -> u32
+        requires { self.now.start ≤ self.now.end }
+        ensures { result ≡ first_after after self.now.end (changes self.now filters.now) }
+    {
+        let mut next = self.end;
+        for filter in filters {
+            if let FilterKind::Addr { from, to } = filter.kind {
+                next = nearer(after, self.page_from(from), next);
+                next = nearer(after, self.page_from(to), next);
+            }
+        }
+        next
+    }
+
+    // The first page of the row whose address is not below this one, or the end of the row.
+    fn page_from(&self, addr: u64) -> u32
+        requires { self.now.start ≤ self.now.end }
+        ensures { result ≡ page_from_addr self.now addr }
+    {
+        let pages = addr
+            .saturating_sub(self.first.place.addr)
+            .div_ceil(PAGE_SIZE);
+        self.start + pages.min(u64::from(self.end - self.start)) as u32
+    }
+}
+
+fn nearer(after: u32, page: u32, next: u32) -> u32
+    ensures { result ≡ nearer_of after page next }
+{
+    if after < page { page.min(next) } else { next }
+}
