@@ -149,3 +149,34 @@ kind_changes-few row at (Class class) = omega arith
 pub changes-few : (row : RowPages) (at : ℕ) (fs : List Filter) → count_after at (changes row fs) ≤ 2 * length fs
 changes-few row at [] = omega arith
 changes-few row at (f ∷ fs) = omega (arith, count_after-append at (kind_changes row f.kind) (changes row fs), kind_changes-few row at f.kind, changes-few row at fs)
+
+-- The pages of a row from `from` to before `page` do not have the wanted answer. Unless the search is over, a change was
+-- passed for each of its steps.
+pub record Searched (row : RowPages) (fs : List Filter) (wanted : Bool) (from page : ℕ) : Type 0 where
+  pub start : from ≤ page
+  pub end : page ≤ row.end
+  pub others : (p : ℕ) → from ≤ p → p < page → answer fs (facts_at row p) ≡ not wanted
+  pub fewer : from < page → page < row.end → count_after page (changes row fs) < count_after from (changes row fs)
+
+-- a page without the wanted answer, and so those up to the next change
+pub searched_on : (row : RowPages) (fs : List Filter) (wanted : Bool) (from page : ℕ) → row.start ≤ from → page < row.end → answer fs (facts_at row page) ≡ not wanted → Searched row fs wanted from page → Searched row fs wanted from (first_after page row.end (changes row fs))
+searched_on row fs wanted from page within before other searched = record {
+  start = omega (arith, searched.start, after);
+  end = first_after-below page row.end (changes row fs);
+  others = λ p low high. by p low high (cases_lt p page);
+  fewer = λ later inside. fewer inside (cases_lt from page);
+}
+  where
+    next : ℕ
+    next = first_after page row.end (changes row fs)
+
+    after : page < first_after page row.end (changes row fs)
+    after = first_after-above page row.end (changes row fs) before
+
+    by : (p : ℕ) → from ≤ p → p < next → (p < page) ⊎ (page ≤ p) → answer fs (facts_at row p) ≡ not wanted
+    by p low high (inl old) = searched.others p low old
+    by p low high (inr new) = answer_same row page p fs (omega (arith, within, searched.start)) new high ∙ other
+
+    fewer : next < row.end → (from < page) ⊎ (page ≤ from) → count_after next (changes row fs) < count_after from (changes row fs)
+    fewer inside (inl later) = omega (arith, searched.fewer later before, count_after-fewer page row.end (changes row fs) before inside)
+    fewer inside (inr first) = let same : page ≡ from = omega (arith, first, searched.start) in subst (λ n. count_after next (changes row fs) < count_after n (changes row fs)) same (count_after-fewer page row.end (changes row fs) before inside)
