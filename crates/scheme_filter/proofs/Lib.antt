@@ -1,2 +1,4 @@
 pub mod ChangeLemmas
 pub mod RunLemmas
+pub mod LongestLemmas
+pub mod RowLemmas

@@ -4,7 +4,7 @@ ghost use Rattle.damon_types.specs.Ranges.{class_of};
 ghost use Rattle.damon_types.specs.Within.{AreWithin};
 ghost use Rattle.scheme_filter.specs.Passes.{answer as answer_of, applies as applies_to, facts_of as facts_of_page, is_of as is_of_kind, passes};
 
-use damon_types::{Filter, FilterKind, Filters, Place, Ranges, Space};
+use damon_types::{ADDRESS_END, Filter, FilterKind, Filters, Place, Ranges, Space};
 
 /// Whether a page passes the filters of a scheme.
 ///
@@ -32,7 +32,8 @@ pub(crate) struct PageFacts {
 
 pub(crate) fn facts_of(space: &Space, ranges: &Ranges, page: u32) -> PageFacts
     requires { page < pages_of space.now }
-    ensures { result ≡ facts_of_page space.now ranges.now.list page }
+    ensures facts { result ≡ facts_of_page space.now ranges.now.list page }
+    ensures below { result.place.addr < ADDRESS_END }
 {
     PageFacts {
         place: space.addr_of(page),
