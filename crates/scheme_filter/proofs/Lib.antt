@@ -1,4 +1,6 @@
 pub mod ChangeLemmas
-pub mod RunLemmas
+pub mod FoundLemmas
 pub mod LongestLemmas
 pub mod RowLemmas
+pub mod RunsOfLemmas
+mod Examples

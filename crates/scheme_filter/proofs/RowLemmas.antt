@@ -1,10 +1,9 @@
 -- What filters ask of the pages of a row that lies in a range.
-use Rattle.std.proofs.Common.{◌≡◌, ℕ, zero, suc, ◌+◌, ◌-◌, ◌*◌, ◌^◌, ◌<◌, ◌≤◌, Bool, true, false, List, [], ◌∷◌, Some, length, take, refl, sym, ap, ◌∙◌, subst, add-one, arith}
-use Rattle.std.specs.Prelude.{slice_index_or, nat_lt, Any, All, IsSome, if◌then◌else◌}
+use Rattle.std.proofs.Common.{◌≡◌, ℕ, zero, suc, ◌+◌, ◌-◌, ◌*◌, ◌^◌, ◌<◌, ◌≤◌, Bool, true, false, List, [], ◌∷◌, Some, length, take, refl, ap, ◌∙◌, add-one, arith}
+use Rattle.std.specs.Prelude.{slice_index_or, nat_lt, Any, IsSome, if◌then◌else◌}
 use Rattle.std.proofs.lemmas.Bool.Decides.{nat_tests}
 use Rattle.std.proofs.lemmas.List.Sums.{sum_by-cons, sum_by-take-le}
 use Rattle.damon_types.specs.declared.space.Target.{Target}
-use Rattle.damon_types.specs.declared.space.Place.{Place}
 use Rattle.damon_types.specs.declared.range.Range.{Range}
 use Rattle.damon_types.specs.declared.row.Row.{Row}
 use Rattle.damon_types.specs.Space.{pages_of, offset, place_from, place_of}
@@ -12,7 +11,6 @@ use Rattle.damon_types.specs.Ranges.{OrderedFrom, InOrder, IsRange, end_of, hold
 use Rattle.damon_types.specs.Span.{span_of}
 use Rattle.damon_types.specs.Within.{LiesInTarget, AreWithin}
 use Rattle.region_list.specs.Tiles.{LiesIn}
-use Rattle.scheme_filter.specs.declared.row_pages.RowPages.{RowPages}
 use Rattle.scheme_filter.specs.Passes.{facts_of}
 use Rattle.scheme_filter.specs.RowPages.{facts_at}
 

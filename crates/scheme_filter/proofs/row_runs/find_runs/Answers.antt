@@ -1,9 +1,8 @@
-use Rattle.std.proofs.Common.{◌≡◌, ◌-◌, ◌*◌, ◌++◌, [], ◌∷◌, ℕ, Bool, List, length, sym, subst, arith}
-use Rattle.scheme_filter.specs.declared.runs.Run.{Run}
+use Rattle.std.proofs.Common.{sym, subst, arith}
 use Rattle.scheme_filter.specs.Passes.{answer}
 use Rattle.scheme_filter.specs.RowPages.{changes, facts_at}
 use Rattle.scheme_filter.proofs.ChangeLemmas.{changes-few}
-use Rattle.scheme_filter.proofs.RunLemmas.{Found, found_first, found_next}
+use Rattle.scheme_filter.proofs.FoundLemmas.{Found, found_first, found_next}
 use Rattle.scheme_filter.proofs.row_runs.find_runs.Goals as goal
 
 pub runs-init : goal.runs-init

@@ -1,7 +1,7 @@
 use Rattle.std.proofs.Common.{◌-◌}
 use Rattle.scheme_filter.specs.Passes.{answer}
 use Rattle.scheme_filter.specs.RowPages.{changes, facts_at}
-use Rattle.scheme_filter.proofs.RunLemmas.{Found}
+use Rattle.scheme_filter.proofs.FoundLemmas.{Found}
 use Rattle.scheme_filter.proofs.row_runs.find_runs.Given as goal
 
 abbrev pub invariant-runs : goal.invariant-runs

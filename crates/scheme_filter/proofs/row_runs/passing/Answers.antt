@@ -1,8 +1,9 @@
-use Rattle.std.proofs.Common.{◌≡◌, ◌+◌, ◌<◌, ℕ, sym, ap, ◌∙◌, arith}
+use Rattle.std.proofs.Common.{◌+◌, sym, ap, ◌∙◌, arith}
 use Rattle.scheme_filter.specs.declared.decision.PageFacts.{PageFacts}
 use Rattle.scheme_filter.specs.Passes.{answer, passes}
 use Rattle.scheme_filter.specs.RowPages.{facts_at}
-use Rattle.scheme_filter.proofs.LongestLemmas.{longest_is, longest_same}
+use Rattle.scheme_filter.proofs.LongestLemmas.{longest_same}
+use Rattle.scheme_filter.proofs.RunsOfLemmas.{longest_is}
 use Rattle.scheme_filter.proofs.RowLemmas.{row_facts, row_fits, row_within}
 use Rattle.scheme_filter.proofs.row_runs.passing.Goals as goal
 

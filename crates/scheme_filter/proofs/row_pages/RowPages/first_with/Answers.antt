@@ -1,7 +1,7 @@
-use Rattle.std.proofs.Common.{◌≡◌, ◌<◌, Bool, true, false, not, refl, sym, ap, ◌∙◌, subst, arith}
+use Rattle.std.proofs.Common.{◌≡◌, Bool, true, false, not, refl, sym, ap, ◌∙◌, subst, arith}
 use mathlib.Core.Bool.{beq}
 use Rattle.scheme_filter.specs.Passes.{answer as answer_of}
-use Rattle.scheme_filter.specs.RowPages.{changes, facts_at}
+use Rattle.scheme_filter.specs.RowPages.{changes}
 use Rattle.scheme_filter.proofs.ChangeLemmas.{Searched, first_after-above, searched_on}
 use Rattle.scheme_filter.proofs.row_pages.RowPages.first_with.Goals as goal
 
