@@ -105,7 +105,6 @@ find_same row at page end (f ∷ fs) within after before bound =
 pub answer_same : (row : RowPages) (at page : ℕ) (fs : List Filter) → row.start ≤ at → at ≤ page → page < first_after at row.end (changes row fs) → answer fs (facts_at row page) ≡ answer fs (facts_at row at)
 answer_same row at page fs within after before = ap (λ found. unwrap_or (option_map (λ f. f.allow) found) (default_answer (slice_get fs (length fs - 1)))) (find_same row at page row.end fs within after before (omega arith))
 
-
 one_falls : (at later p : ℕ) → at ≤ later → (if nat_lt later p then 1 else 0) ≤ (if nat_lt at p then 1 else 0)
 one_falls at later p more = grind (arith, nat_tests)
 
