@@ -7,8 +7,8 @@ use Rattle.damon_types.specs.declared.filter.Filter.{Filter}
 use Rattle.damon_types.specs.declared.filter.FilterKind.{FilterKind}
 use Rattle.damon_types.specs.declared.filter.FilterKind.TheVariants.{Addr, Target, Class}
 use Rattle.scheme_filter.specs.declared.row_pages.RowPages.{RowPages}
-use Rattle.scheme_filter.specs.Passes.{is_of, applies, default_answer, answer}
-use Rattle.scheme_filter.specs.RowPages.{facts_at, page_from, kind_changes, changes, nearer, first_after, count_after}
+use Rattle.scheme_filter.specs.Passes.{is_of, applies, default_answer}
+use Rattle.scheme_filter.specs.RowPages.{answer_at, place_at, page_from, kind_changes, changes, nearer, first_after, count_after}
 
 nearer_above : (at page next : ℕ) → at < next → at < nearer at page next
 nearer_above at page next less = grind (arith, nat_tests)
@@ -40,15 +40,15 @@ first_after-append at end [] qs = refl
 first_after-append at end (p ∷ ps) qs = first_after-append at (nearer at p end) ps qs
 
 -- a page of the row has at least this address exactly from `page_from` on
-page_from-is : (row : RowPages) (addr page : ℕ) → row.start ≤ page → page < row.end → nat_le addr (facts_at row page).place.addr ≡ nat_le (page_from row addr) page
+page_from-is : (row : RowPages) (addr page : ℕ) → row.start ≤ page → page < row.end → nat_le addr (place_at row page).addr ≡ nat_le (page_from row addr) page
 page_from-is row addr page after before = by (cases_lt page (page_from row addr))
   where
-    by : (page < page_from row addr) ⊎ (page_from row addr ≤ page) → nat_le addr (row.first.place.addr + 4096 * (page - row.start)) ≡ nat_le (page_from row addr) page
+    by : (page < page_from row addr) ⊎ (page_from row addr ≤ page) → nat_le addr (row.first.addr + 4096 * (page - row.start)) ≡ nat_le (page_from row addr) page
     by (inl lower) =
-        let low : row.first.place.addr + 4096 * (page - row.start) < addr = omega (arith, lower, after, before) in
+        let low : row.first.addr + 4096 * (page - row.start) < addr = omega (arith, lower, after, before) in
         grind (arith, nat_tests)
     by (inr higher) =
-        let high : addr ≤ row.first.place.addr + 4096 * (page - row.start) = omega (arith, higher, after, before) in
+        let high : addr ≤ row.first.addr + 4096 * (page - row.start) = omega (arith, higher, after, before) in
         grind (arith, nat_tests)
 
 -- no change lies between two pages
@@ -62,10 +62,10 @@ same_side change at page end after before apart = by (cases_lt at change)
 lt-le : (a b : ℕ) → nat_lt a b ≡ not (nat_le b a)
 lt-le a b = grind (arith, nat_tests)
 
-is_of_same : (row : RowPages) (at page end : ℕ) (kind : FilterKind) → row.start ≤ at → at ≤ page → page < first_after at end (kind_changes row kind) → end ≤ row.end → is_of kind (facts_at row page) ≡ is_of kind (facts_at row at)
+is_of_same : (row : RowPages) (at page end : ℕ) (kind : FilterKind) → row.start ≤ at → at ≤ page → page < first_after at end (kind_changes row kind) → end ≤ row.end → is_of kind (place_at row page) row.class ≡ is_of kind (place_at row at) row.class
 is_of_same row at page end (Addr from to) within after before bound =
-    ap (λ v. v && nat_lt (facts_at row page).place.addr to) (side from from_apart)
-    ∙ ap (λ v. nat_le from (facts_at row at).place.addr && v) (lt-le (facts_at row page).place.addr to ∙ ap not (side to to_apart) ∙ sym (lt-le (facts_at row at).place.addr to))
+    ap (λ v. v && nat_lt (place_at row page).addr to) (side from from_apart)
+    ∙ ap (λ v. nat_le from (place_at row at).addr && v) (lt-le (place_at row page).addr to ∙ ap not (side to to_apart) ∙ sym (lt-le (place_at row at).addr to))
   where
     next : ℕ
     next = first_after at end (kind_changes row (Addr from to))
@@ -82,7 +82,7 @@ is_of_same row at page end (Addr from to) within after before bound =
     inside : next ≤ row.end
     inside = omega (arith, bound, first_after-below at end (kind_changes row (Addr from to)))
 
-    side : (addr : ℕ) → (at < page_from row addr → next ≤ page_from row addr) → nat_le addr (facts_at row page).place.addr ≡ nat_le addr (facts_at row at).place.addr
+    side : (addr : ℕ) → (at < page_from row addr → next ≤ page_from row addr) → nat_le addr (place_at row page).addr ≡ nat_le addr (place_at row at).addr
     side addr apart =
         page_from-is row addr page (omega (arith, within, after)) (omega (arith, before, inside))
         ∙ same_side (page_from row addr) at page next after before apart
@@ -91,19 +91,19 @@ is_of_same row at page end (Target target) within after before bound = refl
 is_of_same row at page end (Class class) within after before bound = refl
 
 -- up to the next change the first filter that applies is the same
-find_same : (row : RowPages) (at page end : ℕ) (fs : List Filter) → row.start ≤ at → at ≤ page → page < first_after at end (changes row fs) → end ≤ row.end → find (λ f. applies f (facts_at row page)) fs ≡ find (λ f. applies f (facts_at row at)) fs
+find_same : (row : RowPages) (at page end : ℕ) (fs : List Filter) → row.start ≤ at → at ≤ page → page < first_after at end (changes row fs) → end ≤ row.end → find (λ f. applies f (place_at row page) row.class) fs ≡ find (λ f. applies f (place_at row at) row.class) fs
 find_same row at page end [] within after before bound = refl
 find_same row at page end (f ∷ fs) within after before bound =
     let here = first_after at end (kind_changes row f.kind) in
     let later : page < first_after at here (changes row fs) = subst (λ n. page < n) (first_after-append at end (kind_changes row f.kind) (changes row fs)) before in
     let one = is_of_same row at page end f.kind within after (omega (arith, later, first_after-below at here (changes row fs))) bound in
     let rest = find_same row at page here fs within after later (omega (arith, bound, first_after-below at end (kind_changes row f.kind))) in
-    ap (λ v. if (if f.matching then v else not v) then Some f else find (λ f. applies f (facts_at row page)) fs) one
-    ∙ ap (λ v. if applies f (facts_at row at) then Some f else v) rest
+    ap (λ v. if (if f.matching then v else not v) then Some f else find (λ f. applies f (place_at row page) row.class) fs) one
+    ∙ ap (λ v. if applies f (place_at row at) row.class then Some f else v) rest
 
 -- and so is the answer
-pub answer_same : (row : RowPages) (at page : ℕ) (fs : List Filter) → row.start ≤ at → at ≤ page → page < first_after at row.end (changes row fs) → answer fs (facts_at row page) ≡ answer fs (facts_at row at)
-answer_same row at page fs within after before = ap (λ found. unwrap_or (option_map (λ f. f.allow) found) (default_answer (slice_get fs (length fs - 1)))) (find_same row at page row.end fs within after before (omega arith))
+pub answer_same : (row : RowPages) (at page : ℕ) (fs : List Filter) → row.start ≤ at → at ≤ page → page < first_after at row.end (changes row fs) → answer_at fs row page ≡ answer_at fs row at
+answer_same row at page fs within after before = ap (λ found. unwrap_or (option_map (λ f. f.allow) found) (default_answer fs)) (find_same row at page row.end fs within after before (omega arith))
 
 one_falls : (at later p : ℕ) → at ≤ later → (if nat_lt later p then 1 else 0) ≤ (if nat_lt at p then 1 else 0)
 one_falls at later p more = grind (arith, nat_tests)
@@ -153,11 +153,11 @@ changes-few row at (f ∷ fs) = omega (arith, count_after-append at (kind_change
 pub record Searched (row : RowPages) (fs : List Filter) (wanted : Bool) (from page : ℕ) : Type 0 where
   pub start : from ≤ page
   pub end : page ≤ row.end
-  pub others : (p : ℕ) → from ≤ p → p < page → answer fs (facts_at row p) ≡ not wanted
+  pub others : (p : ℕ) → from ≤ p → p < page → answer_at fs row p ≡ not wanted
   pub fewer : from < page → page < row.end → count_after page (changes row fs) < count_after from (changes row fs)
 
 -- a page without the wanted answer, and so those up to the next change
-pub searched_on : (row : RowPages) (fs : List Filter) (wanted : Bool) (from page : ℕ) → row.start ≤ from → page < row.end → answer fs (facts_at row page) ≡ not wanted → Searched row fs wanted from page → Searched row fs wanted from (first_after page row.end (changes row fs))
+pub searched_on : (row : RowPages) (fs : List Filter) (wanted : Bool) (from page : ℕ) → row.start ≤ from → page < row.end → answer_at fs row page ≡ not wanted → Searched row fs wanted from page → Searched row fs wanted from (first_after page row.end (changes row fs))
 searched_on row fs wanted from page within before other searched = record {
   start = omega (arith, searched.start, after);
   end = first_after-below page row.end (changes row fs);
@@ -171,7 +171,7 @@ searched_on row fs wanted from page within before other searched = record {
     after : page < first_after page row.end (changes row fs)
     after = first_after-above page row.end (changes row fs) before
 
-    by : (p : ℕ) → from ≤ p → p < next → (p < page) ⊎ (page ≤ p) → answer fs (facts_at row p) ≡ not wanted
+    by : (p : ℕ) → from ≤ p → p < next → (p < page) ⊎ (page ≤ p) → answer_at fs row p ≡ not wanted
     by p low high (inl old) = searched.others p low old
     by p low high (inr new) = answer_same row page p fs (omega (arith, within, searched.start)) new high ∙ other
 

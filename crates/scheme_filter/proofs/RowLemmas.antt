@@ -1,8 +1,9 @@
--- What filters ask of the pages of a row that lies in a range.
+-- The place and the class of the pages of a row that lies in a range.
 use Rattle.std.proofs.Common.{◌≡◌, ℕ, zero, suc, ◌+◌, ◌-◌, ◌*◌, ◌^◌, ◌<◌, ◌≤◌, Bool, true, false, List, [], ◌∷◌, Some, length, take, refl, ap, ◌∙◌, add-one, arith}
 use Rattle.std.specs.Prelude.{slice_index_or, nat_lt, Any, IsSome, if◌then◌else◌}
 use Rattle.std.proofs.lemmas.Bool.Decides.{nat_tests}
 use Rattle.std.proofs.lemmas.List.Sums.{sum_by-cons, sum_by-take-le}
+use Rattle.damon_types.specs.declared.filter.Filter.{Filter}
 use Rattle.damon_types.specs.declared.space.Target.{Target}
 use Rattle.damon_types.specs.declared.range.Range.{Range}
 use Rattle.damon_types.specs.declared.row.Row.{Row}
@@ -11,8 +12,9 @@ use Rattle.damon_types.specs.Ranges.{OrderedFrom, InOrder, IsRange, end_of, hold
 use Rattle.damon_types.specs.Span.{span_of}
 use Rattle.damon_types.specs.Within.{LiesInTarget, AreWithin}
 use Rattle.region_list.specs.Tiles.{LiesIn}
-use Rattle.scheme_filter.specs.Passes.{facts_of}
-use Rattle.scheme_filter.specs.RowPages.{facts_at}
+use Rattle.scheme_filter.specs.declared.row_pages.RowPages.{RowPages}
+use Rattle.scheme_filter.specs.Passes.{answer, passes}
+use Rattle.scheme_filter.specs.RowPages.{answer_at}
 
 offset-suc : (t : Target) (ts : List Target) (k : ℕ) → offset (t ∷ ts) (suc k) ≡ t.pages + offset ts k
 offset-suc t ts k = sum_by-cons (λ (u : Target). u.pages) t (take k ts)
@@ -85,9 +87,9 @@ page_within ts (g ∷ gs) page within held = by (holds_page page g) refl held (p
     by true is some rest = let before : page < end_of g = grind (arith, nat_tests) in omega (arith, before, range_within ts g (within 0 g (omega arith)))
     by false is some rest = rest some
 
--- what filters ask of a page of the row follows from what they ask of the first
-pub row_facts : (ts : List Target) (gs : List Range) (r : Row) (end page : ℕ) → InOrder gs → AreWithin ts gs → Any (LiesIn (span_of r)) gs → r.start ≤ page → page < r.start + r.pages → facts_of ts gs page ≡ facts_at (record { start = r.start; end = end; first = facts_of ts gs r.start }) page
-row_facts ts gs r end page order within held low high = rw (place, class) refl
+-- the answer for a page of the row follows from the place and the class of the first
+pub row_answer : (fs : List Filter) (ts : List Target) (gs : List Range) (r : Row) (row : RowPages) (page : ℕ) → InOrder gs → AreWithin ts gs → Any (LiesIn (span_of r)) gs → row.start ≡ r.start → row.first ≡ place_of ts r.start → row.class ≡ class_of gs r.start → r.start ≤ page → page < r.start + r.pages → passes fs ts gs page ≡ answer_at fs row page
+row_answer fs ts gs r row page order within held start first class low high = rw (place, same, start, first, class) refl
   where
     g : Range
     g = slice_index_or gs held.0 held.1
@@ -101,5 +103,5 @@ row_facts ts gs r end page order within held low high = rw (place, class) refl
     place : place_of ts page ≡ record (place_of ts r.start) { addr = (place_of ts r.start).addr + 4096 * (page - r.start) }
     place = place_moves 0 g.target r.start page ts (omega (arith, target.from, row_start-ge gs r held)) low (omega (arith, before, target.to, ap (offset ts) (add-one g.target)))
 
-    class : class_of gs page ≡ class_of gs r.start
-    class = class_same 0 0 gs held.0 held.1 r.start page order held.2 (row_start-ge gs r held) low before
+    same : class_of gs page ≡ class_of gs r.start
+    same = class_same 0 0 gs held.0 held.1 r.start page order held.2 (row_start-ge gs r held) low before

@@ -1,25 +1,31 @@
--- The pages of a row, and where the answer of filters may change among them. Only proofs need this.
-use Rattle.std.specs.Prelude.{ℕ, ◌+◌, ◌-◌, ◌*◌, ◌≤◌, ◌<◌, min, nat_lt, List, [], ◌∷◌, ◌++◌, if◌then◌else◌}
+-- The pages of a row, and where the answer of filters may change among them. For proofs alone; `Passes` says
+-- which pages pass.
+use Rattle.std.specs.Prelude.{ℕ, Bool, ◌+◌, ◌-◌, ◌*◌, ◌≤◌, ◌<◌, min, nat_lt, List, [], ◌∷◌, ◌++◌, if◌then◌else◌}
 use Rattle.std.specs.Int.{div_ceil}
 use Rattle.damon_types.specs.declared.filter.Filter.{Filter}
 use Rattle.damon_types.specs.declared.filter.FilterKind.{FilterKind}
 use Rattle.damon_types.specs.declared.filter.FilterKind.TheVariants.{Addr, Target, Class}
 use Rattle.damon_types.specs.declared.space.TheConstants.{ADDRESS_END, PAGE_SIZE}
-use Rattle.scheme_filter.specs.declared.decision.PageFacts.{PageFacts}
+use Rattle.damon_types.specs.declared.space.Place.{Place}
 use Rattle.scheme_filter.specs.declared.row_pages.RowPages.{RowPages}
+use Rattle.scheme_filter.specs.Passes.{answer}
 
 -- pages in order, the first of which has an address within the limit of targets
 pub record IsRowPages (row : RowPages) : Type 0 where
   pub order : row.start ≤ row.end
-  pub addr : row.first.place.addr < ADDRESS_END
+  pub addr : row.first.addr < ADDRESS_END
 
--- what filters ask of a page of the row
-abbrev pub facts_at : RowPages → ℕ → PageFacts
-facts_at row page = record row.first { place = record row.first.place { addr = row.first.place.addr + PAGE_SIZE * (page - row.start) } }
+-- the place of a page of the row
+abbrev pub place_at : RowPages → ℕ → Place
+place_at row page = record row.first { addr = row.first.addr + PAGE_SIZE * (page - row.start) }
+
+-- the answer of filters for a page of the row
+abbrev pub answer_at : List Filter → RowPages → ℕ → Bool
+answer_at fs row page = answer fs (place_at row page) row.class
 
 -- the first page of the row whose address is not below this one, or the end of the row
 abbrev pub page_from : RowPages → ℕ → ℕ
-page_from row addr = row.start + min (div_ceil (addr - row.first.place.addr) PAGE_SIZE) (row.end - row.start)
+page_from row addr = row.start + min (div_ceil (addr - row.first.addr) PAGE_SIZE) (row.end - row.start)
 
 -- the pages at which the answer of a filter of this kind may change
 abbrev pub kind_changes : RowPages → FilterKind → List ℕ

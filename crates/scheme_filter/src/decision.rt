@@ -1,10 +1,9 @@
-ghost use Rattle.std.specs.Prelude.{◌≡◌, ◌<◌, IsSome};
-ghost use Rattle.damon_types.specs.Space.{pages_of};
+ghost use Rattle.std.specs.Prelude.{◌≡◌, IsSome};
 ghost use Rattle.damon_types.specs.Ranges.{class_of};
 ghost use Rattle.damon_types.specs.Within.{AreWithin};
-ghost use Rattle.scheme_filter.specs.Passes.{answer as answer_of, applies as applies_to, facts_of as facts_of_page, is_of as is_of_kind, passes};
+ghost use Rattle.scheme_filter.specs.Passes.{answer as answer_of, applies as applies_to, is_of as is_of_kind, passes};
 
-use damon_types::{ADDRESS_END, Filter, FilterKind, Filters, Place, Ranges, Space};
+use damon_types::{Filter, FilterKind, Filters, Place, Ranges, Space};
 
 /// Whether a page passes the filters of a scheme.
 ///
@@ -19,51 +18,36 @@ pub fn passes(filters: &Filters, space: &Space, ranges: &Ranges, page: u32) -> b
     requires held { IsSome (class_of ranges.now.list page) }
     ensures { result ≡ passes filters.now space.now ranges.now.list page }
 {
-    answer(filters.as_slice(), &facts_of(space, ranges, page))
+    answer(
+        filters.as_slice(),
+        space.addr_of(page),
+        ranges.class_of(page),
+    )
 }
 
-/// What filters ask of a page.
-#[derive(Clone, Copy)]
-pub(crate) struct PageFacts {
-    pub(crate) place: Place,
-    /// The class of the range that holds the page, if any.
-    pub(crate) class: Option<u8>,
-}
-
-pub(crate) fn facts_of(space: &Space, ranges: &Ranges, page: u32) -> PageFacts
-    requires { page < pages_of space.now }
-    ensures facts { result ≡ facts_of_page space.now ranges.now.list page }
-    ensures below { result.place.addr < ADDRESS_END }
+// Whether filters let a page pass that has this place, and whose range has this class.
+pub(crate) fn answer(filters: &[Filter], place: Place, class: Option<u8>) -> bool
+    ensures { result ≡ answer_of filters.now place class }
 {
-    PageFacts {
-        place: space.addr_of(page),
-        class: ranges.class_of(page),
-    }
-}
-
-// Whether filters let a page pass.
-pub(crate) fn answer(filters: &[Filter], page: &PageFacts) -> bool
-    ensures { result ≡ answer_of filters.now page.now }
-{
-    match filters.iter().find(|filter| applies(filter, page)) {
+    match filters.iter().find(|filter| applies(filter, place, class)) {
         Some(filter) => filter.allow,
-        None => filters.last().map_or(true, |last| !last.allow),
+        None => filters.last().is_none_or(|last| !last.allow),
     }
 }
 
-fn applies(filter: &Filter, page: &PageFacts) -> bool
-    ensures { result ≡ applies_to filter.now page.now }
+fn applies(filter: &Filter, place: Place, class: Option<u8>) -> bool
+    ensures { result ≡ applies_to filter.now place class }
 {
-    is_of(filter.kind, page) == filter.matching
+    is_of(filter.kind, place, class) == filter.matching
 }
 
 // Whether a page is of the kind.
-fn is_of(kind: FilterKind, page: &PageFacts) -> bool
-    ensures { result ≡ is_of_kind kind page.now }
+fn is_of(kind: FilterKind, place: Place, class: Option<u8>) -> bool
+    ensures { result ≡ is_of_kind kind place class }
 {
     match kind {
-        FilterKind::Addr { from, to } => from <= page.place.addr && page.place.addr < to,
-        FilterKind::Target { target } => page.place.target == target,
-        FilterKind::Class { class } => page.class == Some(class),
+        FilterKind::Addr { from, to } => from <= place.addr && place.addr < to,
+        FilterKind::Target { target } => place.target == target,
+        FilterKind::Class { class: of } => class == Some(of),
     }
 }

@@ -1,21 +1,21 @@
 // The pages of a row, and where the answer of filters may change among them.
 ghost use Rattle.std.specs.Prelude.{◌≡◌, ℕ, ◌≤◌, ◌<◌, not};
-ghost use Rattle.scheme_filter.specs.Passes.{answer as answer_of};
-ghost use Rattle.scheme_filter.specs.RowPages.{IsRowPages, changes, count_after, facts_at as facts_of_page, first_after, nearer as nearer_of, page_from as page_from_addr};
+ghost use Rattle.scheme_filter.specs.RowPages.{IsRowPages, answer_at, changes, count_after, first_after, nearer as nearer_of, page_from as page_from_addr, place_at as place_of_page};
 
-use crate::decision::{PageFacts, answer};
+use crate::decision::answer;
 use damon_types::{Filter, FilterKind, PAGE_SIZE, Place};
 
-/// The pages of a row. They follow each other in one target and one range, so what filters ask of a
-/// page follows from what they ask of the first.
+/// The pages of a row. They follow each other in one target and in one range.
 #[derive(Clone, Copy)]
 pub(crate) struct RowPages {
     /// The first page.
     pub(crate) start: u32,
     /// The page after the last one.
     pub(crate) end: u32,
-    /// What filters ask of the first page.
-    pub(crate) first: PageFacts,
+    /// The place of the first page.
+    pub(crate) first: Place,
+    /// The class of the range.
+    pub(crate) class: Option<u8>,
 }
 
 impl RowPages {
@@ -27,29 +27,29 @@ impl RowPages {
         ensures start { from ≤ result }
         ensures end { result ≤ self.now.end }
         ensures others { (p : ℕ) → from ≤ p → p < result
-            → answer_of filters.now (facts_of_page self.now p) ≡ not wanted }
+            → answer_at filters.now self.now p ≡ not wanted }
         ensures found { result < self.now.end
-            → answer_of filters.now (facts_of_page self.now result) ≡ wanted }
+            → answer_at filters.now self.now result ≡ wanted }
         ensures fewer { from < result → result < self.now.end
             → count_after result (changes self.now filters.now)
             < count_after from (changes self.now filters.now) }
     {
         let mut page = from;
-        'pages: while page < self.end && answer(filters, &self.facts_at(page)) != wanted {
+        'pages: while page < self.end
+            && answer(filters, self.place_at(page), self.class) != wanted
+        {
             page = self.next_change(filters, page);
         }
         page
     }
 
-    fn facts_at(&self, page: u32) -> PageFacts
+    fn place_at(&self, page: u32) -> Place
         requires row { IsRowPages self.now }
         requires within { self.now.start ≤ page }
-        ensures { result ≡ facts_of_page self.now page }
+        ensures { result ≡ place_of_page self.now page }
     {
-        let Place { target, addr } = self.first.place;
-        let addr = addr + PAGE_SIZE * u64::from(page - self.start);
-        PageFacts {
-            place: Place { target, addr },
+        Place {
+            addr: self.first.addr + PAGE_SIZE * u64::from(page - self.start),
             ..self.first
         }
     }
@@ -74,9 +74,7 @@ impl RowPages {
         requires { self.now.start ≤ self.now.end }
         ensures { result ≡ page_from_addr self.now addr }
     {
-        let pages = addr
-            .saturating_sub(self.first.place.addr)
-            .div_ceil(PAGE_SIZE);
+        let pages = addr.saturating_sub(self.first.addr).div_ceil(PAGE_SIZE);
         self.start + pages.min(u64::from(self.end - self.start)) as u32
     }
 }

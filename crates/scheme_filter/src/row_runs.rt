@@ -2,11 +2,10 @@ ghost use Rattle.std.specs.Prelude.{◌≡◌, ◌+◌, ◌≤◌, Any, length};
 ghost use Rattle.damon_types.specs.Span.{span_of};
 ghost use Rattle.damon_types.specs.Within.{AreWithin};
 ghost use Rattle.region_list.specs.Tiles.{LiesIn};
-ghost use Rattle.scheme_filter.specs.Passes.{answer, passes};
+ghost use Rattle.scheme_filter.specs.Passes.{passes};
 ghost use Rattle.scheme_filter.specs.Runs.{AreLongest, runs_of};
-ghost use Rattle.scheme_filter.specs.RowPages.{IsRowPages, facts_at};
+ghost use Rattle.scheme_filter.specs.RowPages.{IsRowPages, answer_at};
 
-use crate::decision::facts_of;
 use crate::row_pages::RowPages;
 use crate::{PassRuns, Run};
 use damon_types::{Filter, Filters, MAX_FILTERS, Ranges, Row, Space};
@@ -14,8 +13,8 @@ use damon_types::{Filter, Filters, MAX_FILTERS, Ranges, Row, Space};
 /// Finds the longest runs of pages of a row that pass the filters of a scheme (see
 /// [`passes`](crate::passes)), in order of their pages.
 ///
-/// The ranges lie in the space, and one of them holds the row. The answer is looked for only at those
-/// pages where it may change, at most `2 × MAX_FILTERS` after the first. Takes no memory.
+/// The ranges lie in the space, and one of them holds the row. Goes from one page at which the answer
+/// of a filter may change to the next, and not page by page. Takes no memory.
 pub fn passing(filters: &Filters, space: &Space, ranges: &Ranges, row: &Row, runs: &mut PassRuns)
     requires within { AreWithin space.now ranges.now.list }
     requires held { Any (LiesIn (span_of row.now)) ranges.now.list }
@@ -27,6 +26,7 @@ pub fn passing(filters: &Filters, space: &Space, ranges: &Ranges, row: &Row, run
     // For its clauses alone: the ranges are in order.
     let _count = ranges.len();
     let Row { start, pages, .. } = *row;
+    // A row without pages has no first page to look at.
     if pages == 0 {
         runs.clear();
         return;
@@ -34,7 +34,8 @@ pub fn passing(filters: &Filters, space: &Space, ranges: &Ranges, row: &Row, run
     let row = RowPages {
         start,
         end: start + pages,
-        first: facts_of(space, ranges, start),
+        first: space.addr_of(start),
+        class: ranges.class_of(start),
     };
     find_runs(filters.as_slice(), &row, runs);
 }
@@ -43,8 +44,7 @@ pub fn passing(filters: &Filters, space: &Space, ranges: &Ranges, row: &Row, run
 fn find_runs(filters: &[Filter], row: &RowPages, runs: &mut PassRuns)
     requires few { length filters.now ≤ MAX_FILTERS }
     requires row { IsRowPages row.now }
-    ensures { AreLongest (λ p. answer filters.now (facts_at row.now p))
-        row.now.start row.now.end runs.new }
+    ensures { AreLongest (answer_at filters.now row.now) row.now.start row.now.end runs.new }
 {
     runs.clear();
     let mut from = row.first_with(filters, true, row.start);

@@ -1,6 +1,6 @@
 use Rattle.std.proofs.Common.{◌≡◌, Bool, true, false, not, refl, sym, ap, ◌∙◌, subst, arith}
 use mathlib.Core.Bool.{beq}
-use Rattle.scheme_filter.specs.Passes.{answer as answer_of}
+use Rattle.scheme_filter.specs.Passes.{answer}
 use Rattle.scheme_filter.specs.RowPages.{changes}
 use Rattle.scheme_filter.proofs.ChangeLemmas.{Searched, first_after-above, searched_on}
 use Rattle.scheme_filter.proofs.row_pages.RowPages.first_with.Goals as goal
@@ -16,7 +16,7 @@ pages-smaller c = omega (arith, c.next_change-page.ensures, first_after-above c.
 
 pub pages-preserved : goal.pages-preserved
 pages-preserved c =
-    let answer_is = c.answer.ensures ∙ ap (answer_of c.args.filters.now) c.facts_at.ensures in
+    let answer_is = c.answer.ensures ∙ ap (λ place. answer c.args.filters.now place c.args.self.now.class) c.place_at.ensures in
     let other = sym answer_is ∙ differs c.answer.result c.args.wanted c.if-answer-wanted.true in
     subst (λ page. Searched c.args.self.now c.args.filters.now c.args.wanted c.args.from page) (sym c.next_change-page.ensures)
     (searched_on c.args.self.now c.args.filters.now c.args.wanted c.args.from c.pages.page c.requires.start c.pages-test.true other c.pages.invariant)
