@@ -40,6 +40,25 @@ def aggregations():
     return "\n".join([*lines, "end", ""]).encode()
 
 
+def commits():
+    """64 ranges over 4,096 rows with counts from 0 to 9, moved there and back by 1,000 commits."""
+    choose = random.Random(5)
+    lines = ["damon script 1", "seed 5", "unit 4", "cap 4096", "attrs 4096 4096 1000", f"target 0x0 {MILLION}"]
+    lines += [*moved(0), "begin"]
+    for _ in range(9):
+        first = choose.randrange(MILLION // 2)
+        lines += ["arm", f"sweep 0 {first * PAGE:#x} {(first + MILLION // 2) * PAGE:#x}", "finish"]
+    for _ in range(500):
+        lines += ["commit", *moved(300), "apply", "commit", *moved(0), "apply"]
+    return "\n".join([*lines, "end", ""]).encode()
+
+
+def moved(pages):
+    """The lines of 64 ranges of 16,000 pages each, moved by this number of pages."""
+    firsts = [number * 16384 + pages for number in range(64)]
+    return [f"range 0 {first * PAGE:#x} {(first + 16000) * PAGE:#x} 0" for first in firsts]
+
+
 def workloads():
     # The weight of a script is at most 16,777,216: sixteen sweeps of a million pages.
     yield "sweeps", script(100, "10 100 5", MILLION, [f"sweep 0 0x0 {MILLION * PAGE:#x}"] * 16)
@@ -48,6 +67,7 @@ def workloads():
         yield name, script(4000, "4000 4000 1000", pages, ["step 8002"] * 1000)
     yield "reading", script(4, "3 4 10", MILLION, [f"touch 0 {page * PAGE:#x}" for page in range(800_000)])
     yield "aggregating", aggregations()
+    yield "commits", commits()
     # A pass over three rows with its aggregation takes nine steps.
     yield "small rows", script(3, "3 3 1", 3, ["step 1000000"])
     yield "showing", script(4096, "4096 4096 10", MILLION, ["show"] * 1000)

@@ -28,7 +28,7 @@ Exactly one field says what is to become of standard output:
     stdout_sha256  the program is to write bytes with this checksum; `stdout_bytes` is their number
     stdout_to      standard output is the file at this path, and what is written there is not looked at
 
-In a case with `not_yet`, which is `scheme` or `commit`, the other fields say what the finished program
+In a case with `not_yet`, which is `scheme` or `metric`, the other fields say what the finished program
 does. Today the program is to write nothing and to end with status 11 and the line `not built yet`.
 Whoever builds the missing part removes the field: a case that has it fails from then on.
 
@@ -54,7 +54,7 @@ OPTIONAL = {"memory": int, "not_yet": str, "stdout_bytes": int}
 INPUTS = {"input": str, "input_parts": list, "stdin_from": str}
 OUTPUTS = {"stdout": str, "stdout_sha256": str, "stdout_to": str}
 FIELDS = {**ALWAYS, **OPTIONAL, **INPUTS, **OUTPUTS}
-MISSING = ("scheme", "commit")
+MISSING = ("scheme", "metric")
 SECONDS = 60
 # A line with its LF, which the last one may lack.
 LINE = re.compile(rb"[^\n]*\n|[^\n]+")

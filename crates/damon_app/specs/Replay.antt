@@ -22,7 +22,7 @@ pub record Replays (bytes : List ℕ) (old new : Option (List ℕ)) : Type 0 whe
   pub built : has_later_parts script ≡ false
   pub report : Appends old new (report Text script)
 
--- the bytes spell a script with a scheme or a commit, which are not built yet
+-- the bytes spell a script with a part that is not built yet: a scheme, or a commit with a slot change or a metric
 abbrev pub SpellsLater : List ℕ → Type 0
 SpellsLater bytes = (s : ScriptValue) × (script_of bytes ≡ Ok s) × (has_later_parts s ≡ true)
 
@@ -37,7 +37,7 @@ abbrev pub TellsFault : Status → List ℕ → Type 0
 TellsFault status bytes =
     (fault : ScriptFault) → (status ≡ statuses.Script fault.line fault.kind) ↔ (script_of bytes ≡ Err fault)
 
--- the status of a script with a scheme or a commit is `NotYet`
+-- the status of a script with a part that is not built yet is `NotYet`
 abbrev pub TellsLater : Status → List ℕ → Type 0
 TellsLater status bytes =
     (s : ScriptValue) → script_of bytes ≡ Ok s → has_later_parts s ≡ true → status ≡ statuses.NotYet

@@ -6,7 +6,7 @@ use Rattle.script_run.specs.NotBuilt.{has_later_parts}
 use Rattle.damon_app.specs.declared.status.Status.{Status}
 use Rattle.damon_app.specs.declared.status.Status.TheVariants as statuses
 
--- the status of a script: `NotYet` where it has a scheme or a commit, else `Ok`
+-- the status of a script: `NotYet` where it has a part that is not built yet, else `Ok`
 abbrev pub status_of_script : ScriptValue → Status
 status_of_script s = if has_later_parts s then statuses.NotYet else statuses.Ok
 

@@ -109,6 +109,17 @@ row 0 0x12000-0x13000 count=0 last=0 age=0
 end ticks=1 rows=3 checks=3 hits=0
 ";
 
+// What is written where the third page is left in the middle of a pass, and where a commit comes
+// in the middle of the next one.
+const COMMITTED: &str = "\
+commit tick=0 ok rows=2 void=yes
+show tick=0 phase=void rows=2
+row 0 0x10000-0x11000 count=0 last=0 age=0
+row 0 0x11000-0x12000 count=0 last=0 age=0
+commit tick=1 refused busy next=1
+end ticks=1 rows=2 checks=0 hits=0
+";
+
 // The words of a command line.
 fn words_of(alloc: Global, words: &[&str]) -> Result<Vec<String>, AllocError> {
     let mut list = Vec::new(alloc);
@@ -269,9 +280,24 @@ fn a_pass_with_its_aggregation(rt: HostRuntime) -> Result<(), Fail> {
     Ok(())
 }
 
+// A touch that a void pass does not count, and a refused commit.
+#[test]
+fn commits_change_the_ranges_or_nothing(rt: HostRuntime) -> Result<(), Fail> {
+    let moved = "arm\ntouch 0 0x11000\ncommit\nrange 0 0x10000 0x12000 0\napply\nshow\nstep 1\n";
+    let refused = "step 2\ncommit\nattrs 1 1 1\napply\n";
+    let parts = [FRONT, FIVE, THREE_PAGES, "begin\n", moved, refused, "end\n"];
+    let script = script_of(rt.alloc(), &parts)?;
+    expect_replay(&rt, &script, Status::Ok, COMMITTED)?;
+    Ok(())
+}
+
 #[test]
 fn what_is_not_built_writes_nothing(rt: HostRuntime) -> Result<(), Fail> {
-    for (scheme, commands) in [("scheme 0 stat\n", TOUCHED), ("", "show\ncommit\napply\n")] {
+    for (scheme, commands) in [
+        ("scheme 0 stat\n", TOUCHED),
+        ("", "show\ncommit\ndrop 0\napply\n"),
+        ("", "show\ncommit\nmetric 5\napply\n"),
+    ] {
         let parts = [
             FRONT,
             FIVE,

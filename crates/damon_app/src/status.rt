@@ -22,7 +22,7 @@ pub enum Status {
     WriteFault,
     /// Memory ran out.
     Memory,
-    /// The script has a scheme or a commit, which are not built yet.
+    /// The script has a scheme, or a commit with a slot change or a metric: these are not built yet.
     NotYet,
 }
 

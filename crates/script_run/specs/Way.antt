@@ -2,7 +2,7 @@
 use Rattle.std.specs.Prelude.{◌≡◌, ℕ, List, [], ◌++◌, refl}
 use Rattle.std.proofs.Common.{◌∙◌, ap, sym, subst, append-nil, append_assoc}
 use Rattle.rand_core.specs.Stream.{Stream}
-use Rattle.damon_core.specs.State.{State, opening}
+use Rattle.damon_core.specs.State.{opening}
 use Rattle.damon_core.specs.Event.{Event}
 use Rattle.damon_core.specs.Reached.{AllFit, CanOpen, Reached, run}
 use Rattle.damon_core.specs.Makes.{AllFit-append}

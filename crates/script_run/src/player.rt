@@ -260,9 +260,9 @@ fn make_commit<R: Rng + Drop>(
     print_commit(alloc, out, form, world.monitor().ticks(), &answer)
 }
 
-/// A player before the first event of a script without schemes and metrics, whose random words are
-/// those of the script's seed. The pages of the commands are pages of the script's space, and their
-/// work is at most [`MAX_WORK`]. Takes memory.
+/// A player before the first event of a script that has no scheme, and no commit with a slot change
+/// or a metric. Its random words are those of the script's seed. The pages of the commands are pages
+/// of the script's space, and their work is at most [`MAX_WORK`]. Takes memory.
 pub fn open_player(
     alloc: Global,
     script: Script,

@@ -86,3 +86,8 @@ pub returns-in_err-write_all-in-Piece-clause-answers : goal.returns-in_err-write
 returns-in_err-write_all-in-Piece-clause-answers g c =
     let p = err_from_is_err_and c.from_residual-in_err-write_all-in-Piece.result c.from_residual-in_err-write_all-in-Piece.ensures.1 in
     rw (p.1, p.2) tt
+
+pub returns-in_err-fill-clause-answers : goal.returns-in_err-fill-clause-answers
+returns-in_err-fill-clause-answers g c =
+    let p = err_from_is_err_and c.from_residual-in_err-fill.result c.from_residual-in_err-fill.ensures.1 in
+    rw (p.1, p.2) tt

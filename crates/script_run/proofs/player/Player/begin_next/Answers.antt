@@ -1,5 +1,6 @@
-use Rattle.std.proofs.Common.{◌≡◌, ℕ, ◌+◌, ◌<◌, ◌≤◌, suc, List, ◌∷◌, length, drop, map, Some, add-one, sym, ap, ◌∙◌, subst, refl, arith}
+use Rattle.std.proofs.Common.{◌≡◌, ℕ, ◌+◌, ◌<◌, ◌≤◌, suc, List, ◌∷◌, [], ◌++◌, length, drop, map, Some, add-one, refl, sym, ap, ◌∙◌, subst, arith}
 use Rattle.std.specs.Prelude.{slice_get}
+use Rattle.std.specs.List.{AllByRecursion}
 use Rattle.std.proofs.Math.Seq.{drop-cons}
 use Rattle.std.proofs.lemmas.List.{drop_all}
 use Rattle.std.proofs.lemmas.Option.{get_or_from_slice_get}
@@ -7,57 +8,131 @@ use Rattle.std.proofs.lemmas.List.Sums.{sum_by-cons}
 use Rattle.damon_types.specs.Space.{pages_of}
 use Rattle.damon_control.specs.declared.script.Command.{Command}
 use Rattle.damon_control.specs.Command.{command_value}
-use Rattle.script_run.specs.Part.{Part}
-use Rattle.script_run.specs.Kept.{ArePartsWithin}
+use Rattle.damon_core.specs.Commit.{commit_answer}
+use Rattle.damon_core.specs.Event.{commit}
+use Rattle.damon_core.specs.Makes.{Makes}
+use Rattle.damon_world.specs.Stands.{StandsFor, WorldView}
+use Rattle.live_commit.specs.Commit.{commit_value}
+use Rattle.snapshot_print.specs.Commit.{commit_text}
+use Rattle.script_run.specs.Part.{Part, part_value}
+use Rattle.script_run.specs.Part as part
+use Rattle.script_run.specs.Kept.{ArePartsWithin, IsBuilt, IsPlayer}
 use Rattle.script_run.specs.Player.{left_in, left_of}
 use Rattle.script_run.specs.Parts.{part_of, parts_of}
-use Rattle.script_run.proofs.Moves.{is_over, next_begins, on-none}
+use Rattle.script_run.proofs.Moves.{commit_made, is_over, next_begins, on-none}
 use Rattle.script_run.proofs.player.Player.begin_next.Goals as goal
 
--- the commands that are left begin with the next one
-next_part : (cap i : ℕ) (cs : List Command) (c : Command) → i < length cs → slice_get cs i ≡ Some c → parts_of cap (map command_value (drop i cs)) ≡ part_of cap (command_value c) ∷ parts_of cap (map command_value (drop (i + 1) cs))
-next_part cap i cs c here is =
+-- the commands that are left begin with the next one, as a part
+next_part : (cap i : ℕ) (cs : List Command) (c : Command) (q : Part) → i < length cs → slice_get cs i ≡ Some c → q ≡ part_of cap (command_value c) → parts_of cap (map command_value (drop i cs)) ≡ q ∷ parts_of cap (map command_value (drop (i + 1) cs))
+next_part cap i cs c q here is value =
     ap (λ ds. parts_of cap (map command_value ds)) (drop-cons cs i c here)
     ∙ ap (λ d. part_of cap (command_value d) ∷ parts_of cap (map command_value (drop (suc i) cs))) (get_or_from_slice_get cs i c c is)
     ∙ ap (λ n. part_of cap (command_value c) ∷ parts_of cap (map command_value (drop n cs))) (sym (add-one i))
+    ∙ ap (λ p. p ∷ parts_of cap (map command_value (drop (i + 1) cs))) (sym value)
 
 less_left : (p : Part) (ps : List Part) → left_in (p ∷ ps) ≡ 1 + left_of p + left_in ps
 less_left p ps = sum_by-cons (λ q. 1 + left_of q) p ps
 
+-- what a player keeps holds once the next command is the part under way
+player-next : {R : Type 0} (w : WorldView R) (p q : Part) (cap i : ℕ) (cs : List Command) (c : Command) → i < length cs → slice_get cs i ≡ Some c → q ≡ part_of cap (command_value c) → IsPlayer w (p ∷ parts_of cap (map command_value (drop i cs))) → IsPlayer w (q ∷ parts_of cap (map command_value (drop (i + 1) cs)))
+player-next w p q cap i cs c here get value kept =
+    let is = next_part cap i cs c q here get value in
+    record {
+      within = subst (ArePartsWithin (pages_of w.monitor.core.space)) is kept.within.1;
+      work = omega (arith, kept.work, less_left p (parts_of cap (map command_value (drop i cs))), ap left_in is);
+      built = subst (AllByRecursion IsBuilt) is kept.built.1;
+    }
+
+-- the same once the part under way is done, at one event that changes neither the space nor the ticks
+player-made : {R : Type 0} (w w' : WorldView R) (q : Part) (new : List Part) → 1 ≤ left_of q → w'.monitor.core.space ≡ w.monitor.core.space → w'.monitor.core.ticks ≡ w.monitor.core.ticks → IsPlayer w (q ∷ new) → IsPlayer w' (part.Touches 0 0 ∷ new)
+player-made w w' q new one space ticks kept = record {
+  within = (omega arith, subst (λ sp. ArePartsWithin (pages_of sp) new) (sym space) kept.within.1);
+  work = omega (arith, kept.work, ticks, less_left q new, less_left (part.Touches 0 0) new);
+  built = (tt, kept.built.1);
+}
+
 pub returns-then-self-len-clause-on : goal.returns-then-self-len-clause-on
-returns-then-self-len-clause-on g c text =
-    let p = c.self.inside in
-    let is = c.self.view_is in
-    let rest = parts_of p.cap (map command_value (drop (p.begun + 1) p.commands.list)) in
-    let here : p.begun < length p.commands.list = omega (arith, c.if-self-len.true, c.len.ensures) in
-    next_begins g.R.Rng.stream c.args.self.now _ text c.requires (ap (λ v. v.world) is) (ap (λ v. v.form) is)
-    (sym (ap (λ v. v.later) is) ∙ next_part p.cap p.begun p.commands.list c.get.result.now here c.get.ensures ∙ ap (λ q. q ∷ rest) (sym c.part_of-self-inside.ensures))
+returns-then-self-len-clause-on g c = on-none g.R.Rng.stream c.args.self.now c.args.out.now.items
 
-pub returns-then-self-len-clause-less : goal.returns-then-self-len-clause-less
-returns-then-self-len-clause-less g c is =
+pub returns-then-self-len-clause-end : goal.returns-then-self-len-clause-end
+returns-then-self-len-clause-end g c false =
     let p = c.self.inside in
-    let rest = parts_of p.cap (map command_value (drop (p.begun + 1) p.commands.list)) in
-    let here : p.begun < length p.commands.list = omega (arith, c.if-self-len.true, c.len.ensures) in
-    let later = sym (ap (λ v. v.later) c.self.view_is) ∙ next_part p.cap p.begun p.commands.list c.get.result.now here c.get.ensures ∙ ap (λ q. q ∷ rest) (sym c.part_of-self-inside.ensures) in
-    omega (arith, less_left c.args.self.now.part c.args.self.now.later, ap left_in later)
-
-pub returns-else-self-len-clause-on : goal.returns-else-self-len-clause-on
-returns-else-self-len-clause-on g c text = on-none g.R.Rng.stream c.args.self.now text
-
-pub returns-else-self-len-clause-end : goal.returns-else-self-len-clause-end
-returns-else-self-len-clause-end g c false =
-    let p = c.self.inside in
-    let over : length p.commands.list ≤ p.begun = omega (arith, c.if-self-len.false, c.len.ensures) in
+    let over : length p.commands.list ≤ p.begun = omega (arith, c.if-self-len.true, c.len.ensures) in
     let none = ap (λ cs. parts_of p.cap (map command_value cs)) (drop_all p.begun p.commands.list over) in
     is_over g.R.Rng.stream c.args.self.now (sym (ap (λ v. v.later) c.self.view_is) ∙ none) c.requires
 
 pub invariant_of-self : goal.invariant_of-self
 invariant_of-self g c =
     let p = c.self.inside in
-    let here : p.begun < length p.commands.list = omega (arith, c.if-self-len.true, c.len.ensures) in
-    let rest = parts_of p.cap (map command_value (drop (p.begun + 1) p.commands.list)) in
-    let later = next_part p.cap p.begun p.commands.list c.get.result.now here c.get.ensures ∙ ap (λ q. q ∷ rest) (sym c.part_of-self-inside.ensures) in
-    record {
-      within = subst (ArePartsWithin (pages_of p.world.monitor.core.space)) later c.self.invariant.within.1;
-      work = omega (arith, c.self.invariant.work, less_left p.part (parts_of p.cap (map command_value (drop p.begun p.commands.list))), ap left_in later);
-    }
+    let here : p.begun < length p.commands.list = omega (arith, c.if-self-len.false, c.len.ensures) in
+    player-next p.world (part_value p.part) (part_value c.in-Part.part) p.cap p.begun p.commands.list c.get.result.now here c.get.ensures c.in-Part.ensures c.self.invariant
+
+pub make_commit-requires-clause-slot : goal.make_commit-requires-clause-slot
+make_commit-requires-clause-slot g c =
+    let p = c.self.inside in
+    let here : p.begun < length p.commands.list = omega (arith, c.if-self-len.false, c.len.ensures) in
+    (player-next p.world (part_value p.part) (part.Commit (commit_value c.in-Commit.commit.now)) p.cap p.begun p.commands.list c.get.result.now here c.get.ensures c.in-Commit.ensures c.self.invariant).built.0.0
+
+pub make_commit-requires-clause-metric : goal.make_commit-requires-clause-metric
+make_commit-requires-clause-metric g c =
+    let p = c.self.inside in
+    let here : p.begun < length p.commands.list = omega (arith, c.if-self-len.false, c.len.ensures) in
+    (player-next p.world (part_value p.part) (part.Commit (commit_value c.in-Commit.commit.now)) p.cap p.begun p.commands.list c.get.result.now here c.get.ensures c.in-Commit.ensures c.self.invariant).built.0.1
+
+pub invariant_of-self-in_err-make_commit-in-Commit :
+    goal.invariant_of-self-in_err-make_commit-in-Commit
+invariant_of-self-in_err-make_commit-in-Commit g c =
+    let p = c.self.inside in
+    let here : p.begun < length p.commands.list = omega (arith, c.if-self-len.false, c.len.ensures) in
+    let q = part.Commit (commit_value c.in-Commit.commit.now) in
+    let new = parts_of p.cap (map command_value (drop (p.begun + 1) p.commands.list)) in
+    player-made p.world c.make_commit.new.world q new (omega arith) c.make_commit.ensures.space c.make_commit.ensures.ticks
+    (player-next p.world (part_value p.part) q p.cap p.begun p.commands.list c.get.result.now here c.get.ensures c.in-Commit.ensures c.self.invariant)
+
+pub invariant_of-self-in-Commit : goal.invariant_of-self-in-Commit
+invariant_of-self-in-Commit g c =
+    let p = c.self.inside in
+    let here : p.begun < length p.commands.list = omega (arith, c.if-self-len.false, c.len.ensures) in
+    let q = part.Commit (commit_value c.in-Commit.commit.now) in
+    let new = parts_of p.cap (map command_value (drop (p.begun + 1) p.commands.list)) in
+    player-made p.world c.make_commit.new.world q new (omega arith) c.make_commit.ensures.space c.make_commit.ensures.ticks
+    (player-next p.world (part_value p.part) q p.cap p.begun p.commands.list c.get.result.now here c.get.ensures c.in-Commit.ensures c.self.invariant)
+
+pub returns-in-Part-clause-on : goal.returns-in-Part-clause-on
+returns-in-Part-clause-on g c =
+    let p = c.self.inside in
+    let is = c.self.view_is in
+    let here : p.begun < length p.commands.list = omega (arith, c.if-self-len.false, c.len.ensures) in
+    next_begins g.R.Rng.stream c.args.self.now _ c.args.out.now.items c.requires (ap (λ v. v.world) is) (ap (λ v. v.form) is)
+    (sym (ap (λ v. v.later) is) ∙ next_part p.cap p.begun p.commands.list c.get.result.now (part_value c.in-Part.part) here c.get.ensures c.in-Part.ensures)
+
+pub returns-in-Part-clause-less : goal.returns-in-Part-clause-less
+returns-in-Part-clause-less g c true =
+    let p = c.self.inside in
+    let here : p.begun < length p.commands.list = omega (arith, c.if-self-len.false, c.len.ensures) in
+    let later = sym (ap (λ v. v.later) c.self.view_is) ∙ next_part p.cap p.begun p.commands.list c.get.result.now (part_value c.in-Part.part) here c.get.ensures c.in-Part.ensures in
+    omega (arith, less_left c.args.self.now.part c.args.self.now.later, ap left_in later)
+
+pub returns-in_ok-make_commit-in-Commit-clause-on :
+    goal.returns-in_ok-make_commit-in-Commit-clause-on
+returns-in_ok-make_commit-in-Commit-clause-on g c =
+    let p = c.self.inside in
+    let is = c.self.view_is in
+    let k = commit_value c.in-Commit.commit.now in
+    let new = c.make_commit.new.world in
+    let here : p.begun < length p.commands.list = omega (arith, c.if-self-len.false, c.len.ensures) in
+    commit_made g.R.Rng.stream c.args.self.now _ c.args.out.now.items _ k c.requires
+    (sym (ap (λ v. v.later) is) ∙ next_part p.cap p.begun p.commands.list c.get.result.now (part.Commit k) here c.get.ensures c.in-Commit.ensures)
+    refl (ap (λ v. v.form) is) (c.make_commit.ensures.source ∙ ap (λ v. v.world.source) is)
+    (subst (λ w. Makes StandsFor w new (commit k ∷ [])) (ap (λ v. v.world) is) c.make_commit.ensures.event)
+    (c.in_ok-make_commit-in-Commit.ensures.ok ∙ ap (λ v. c.args.out.now.items ++ commit_text v.form v.world.monitor.core.ticks (commit_answer k v.world.monitor.core)) is)
+
+pub returns-in_ok-make_commit-in-Commit-clause-less :
+    goal.returns-in_ok-make_commit-in-Commit-clause-less
+returns-in_ok-make_commit-in-Commit-clause-less g c true =
+    let p = c.self.inside in
+    let q = part.Commit (commit_value c.in-Commit.commit.now) in
+    let new = parts_of p.cap (map command_value (drop (p.begun + 1) p.commands.list)) in
+    let here : p.begun < length p.commands.list = omega (arith, c.if-self-len.false, c.len.ensures) in
+    let later = sym (ap (λ v. v.later) c.self.view_is) ∙ next_part p.cap p.begun p.commands.list c.get.result.now q here c.get.ensures c.in-Commit.ensures in
+    omega (arith, less_left c.args.self.now.part c.args.self.now.later, ap left_in later, less_left q new, less_left (part.Touches 0 0) new)

@@ -1,4 +1,4 @@
-use Rattle.std.proofs.Common.{◌≡◌, ◌++◌, refl, ap, ◌∙◌}
+use Rattle.std.proofs.Common.{◌++◌, refl, ap, ◌∙◌}
 use Rattle.snapshot_print.specs.Lines.{show_text}
 use Rattle.snapshot_print.specs.Printed.{printed_monitor}
 use Rattle.script_run.proofs.Moves.{OnOk-map, show_made}

@@ -3,6 +3,7 @@ use Rattle.damon_types.specs.Space.{pages_of}
 use Rattle.damon_core.specs.Makes.{Makes}
 use Rattle.damon_world.specs.Stands.{StandsFor}
 use Rattle.damon_world.specs.Touches.{touches}
+use Rattle.script_run.specs.Part.{part_value}
 use Rattle.script_run.specs.Part as part
 use Rattle.script_run.specs.Kept.{IsPartWithin}
 use Rattle.script_run.proofs.Moves.{touches_made}
@@ -10,7 +11,7 @@ use Rattle.script_run.proofs.player.Player.touch.Goals as goal
 
 pub overflow_add-page : goal.overflow_add-page
 overflow_add-page g c =
-    let is : c.self.inside.part ≡ part.Touches c.args.page c.args.count = ap (λ v. v.part) c.self.view_is ∙ c.requires.part in
+    let is : part_value c.self.inside.part ≡ part.Touches c.args.page c.args.count = ap (λ v. v.part) c.self.view_is ∙ c.requires.part in
     let within = subst (IsPartWithin (pages_of c.self.inside.world.monitor.core.space)) is c.self.invariant.within.0 in
     let same = ap pages_of (c.space.ensures ∙ ap (λ m. m.core.space) c.monitor.ensures) in
     omega (arith, within, same, c.pages-pages.ensures, c.pages-pages.type_inv)
