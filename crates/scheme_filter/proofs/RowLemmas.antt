@@ -13,7 +13,7 @@ use Rattle.damon_types.specs.Span.{span_of}
 use Rattle.damon_types.specs.Within.{LiesInTarget, AreWithin}
 use Rattle.region_list.specs.Tiles.{LiesIn}
 use Rattle.scheme_filter.specs.declared.row_pages.RowPages.{RowPages}
-use Rattle.scheme_filter.specs.Passes.{answer, passes}
+use Rattle.scheme_filter.specs.Passes.{passes}
 use Rattle.scheme_filter.specs.RowPages.{answer_at}
 
 offset-suc : (t : Target) (ts : List Target) (k : ℕ) → offset (t ∷ ts) (suc k) ≡ t.pages + offset ts k

@@ -1,5 +1,5 @@
--- The pages of a row, and where the answer of filters may change among them. For proofs alone; `Passes` says
--- which pages pass.
+-- The pages of a row, and where filters may begin or cease to apply among them. For proofs alone; `Passes` says which pages
+-- pass.
 use Rattle.std.specs.Prelude.{ℕ, Bool, ◌+◌, ◌-◌, ◌*◌, ◌≤◌, ◌<◌, min, nat_lt, List, [], ◌∷◌, ◌++◌, if◌then◌else◌}
 use Rattle.std.specs.Int.{div_ceil}
 use Rattle.damon_types.specs.declared.filter.Filter.{Filter}
@@ -27,13 +27,13 @@ answer_at fs row page = answer fs (place_at row page) row.class
 abbrev pub page_from : RowPages → ℕ → ℕ
 page_from row addr = row.start + min (div_ceil (addr - row.first.addr) PAGE_SIZE) (row.end - row.start)
 
--- the pages at which the answer of a filter of this kind may change
+-- the pages at which a filter of this kind may begin or cease to apply
 abbrev pub kind_changes : RowPages → FilterKind → List ℕ
 kind_changes row (Addr from to) = page_from row from ∷ page_from row to ∷ []
 kind_changes row (Target target) = []
 kind_changes row (Class class) = []
 
--- the pages at which the answer of filters may change
+-- the same of filters
 abbrev pub changes : RowPages → List Filter → List ℕ
 changes row [] = []
 changes row (f ∷ fs) = kind_changes row f.kind ++ changes row fs

@@ -7,12 +7,12 @@ use damon_types::{Filter, FilterKind, Filters, Place, Ranges, Space};
 
 /// Whether a page passes the filters of a scheme.
 ///
-/// A filter that is matching applies to the pages of its kind, another filter to all other pages. The
-/// first filter that applies to the page decides: the page passes if the filter allows it. Where none
-/// applies, the page passes if the last filter does not allow. Without filters every page passes.
+/// A filter that is matching applies to the pages of its kind, any other filter to all other pages. The
+/// first filter that applies to the page decides: its `allow` is the answer. Where none applies, the
+/// answer is the opposite of the last filter's `allow`. Without filters every page passes.
 ///
-/// The ranges lie in the space, and one of them holds the page. Which filter decides, and the answer
-/// where none applies, are this project's own rule.
+/// The ranges lie in the space, and one of them holds the page. The kinds of filters and these rules
+/// are this project's own.
 pub fn passes(filters: &Filters, space: &Space, ranges: &Ranges, page: u32) -> bool
     requires within { AreWithin space.now ranges.now.list }
     requires held { IsSome (class_of ranges.now.list page) }
@@ -25,7 +25,7 @@ pub fn passes(filters: &Filters, space: &Space, ranges: &Ranges, page: u32) -> b
     )
 }
 
-// Whether filters let a page pass that has this place, and whose range has this class.
+// Whether filters let a page pass, which has this place and lies in a range of this class.
 pub(crate) fn answer(filters: &[Filter], place: Place, class: Option<u8>) -> bool
     ensures { result ≡ answer_of filters.now place class }
 {
@@ -48,6 +48,6 @@ fn is_of(kind: FilterKind, place: Place, class: Option<u8>) -> bool
     match kind {
         FilterKind::Addr { from, to } => from <= place.addr && place.addr < to,
         FilterKind::Target { target } => place.target == target,
-        FilterKind::Class { class: of } => class == Some(of),
+        FilterKind::Class { class: wanted } => class == Some(wanted),
     }
 }

@@ -5,7 +5,7 @@
 mod decision;
 /// What holds of runs.
 mod laws;
-/// The pages of a row, and where the answer of filters may change among them.
+/// The pages of a row, and where filters may begin or cease to apply among them.
 mod row_pages;
 /// The runs of a row.
 mod row_runs;

@@ -1,4 +1,4 @@
-// The pages of a row, and where the answer of filters may change among them.
+// The pages of a row, and where filters may begin or cease to apply among them.
 ghost use Rattle.std.specs.Prelude.{◌≡◌, ℕ, ◌≤◌, ◌<◌, not};
 ghost use Rattle.scheme_filter.specs.RowPages.{IsRowPages, answer_at, changes, count_after, first_after, nearer as nearer_of, page_from as page_from_addr, place_at as place_of_page};
 
@@ -14,7 +14,7 @@ pub(crate) struct RowPages {
     pub(crate) end: u32,
     /// The place of the first page.
     pub(crate) first: Place,
-    /// The class of the range.
+    /// The class of the range, as `Ranges::class_of` gives it.
     pub(crate) class: Option<u8>,
 }
 
@@ -54,7 +54,7 @@ impl RowPages {
         }
     }
 
-    // The first page after `after` at which the answer of a filter may change, or the end of the row.
+    // The first page after `after` at which a filter may begin or cease to apply, or the end of the row.
     fn next_change(&self, filters: &[Filter], after: u32) -> u32
         requires { self.now.start ≤ self.now.end }
         ensures { result ≡ first_after after self.now.end (changes self.now filters.now) }
@@ -79,6 +79,7 @@ impl RowPages {
     }
 }
 
+// The lesser of page `next` and a page after `after`.
 fn nearer(after: u32, page: u32, next: u32) -> u32
     ensures { result ≡ nearer_of after page next }
 {

@@ -10,11 +10,11 @@ use crate::row_pages::RowPages;
 use crate::{PassRuns, Run};
 use damon_types::{Filter, Filters, MAX_FILTERS, Ranges, Row, Space};
 
-/// Finds the longest runs of pages of a row that pass the filters of a scheme (see
-/// [`passes`](crate::passes)), in order of their pages.
+/// Makes the list the longest runs of pages of a row that pass the filters of a scheme (see
+/// [`passes`](crate::passes)), in the order of their pages.
 ///
-/// The ranges lie in the space, and one of them holds the row. Goes from one page at which the answer
-/// of a filter may change to the next, and not page by page. Takes no memory.
+/// The ranges lie in the space, and one of them holds the row. Goes from one page at which a filter
+/// begins or ceases to apply to the next, and not page by page. Takes no memory.
 pub fn passing(filters: &Filters, space: &Space, ranges: &Ranges, row: &Row, runs: &mut PassRuns)
     requires within { AreWithin space.now ranges.now.list }
     requires held { Any (LiesIn (span_of row.now)) ranges.now.list }
@@ -40,7 +40,8 @@ pub fn passing(filters: &Filters, space: &Space, ranges: &Ranges, row: &Row, run
     find_runs(filters.as_slice(), &row, runs);
 }
 
-// Makes the list the longest runs of pages of the row that pass.
+// Makes the list the longest runs of pages of the row that pass. The searches alternate: for a page
+// that passes, which begins a run, and for one that does not, which ends it.
 fn find_runs(filters: &[Filter], row: &RowPages, runs: &mut PassRuns)
     requires few { length filters.now ≤ MAX_FILTERS }
     requires row { IsRowPages row.now }

@@ -3,9 +3,9 @@ ghost use Rattle.std.specs.Prelude.{◌≡◌, ◌<◌, ◌≤◌, [], ◌∷◌
 use damon_types::MAX_FILTERS;
 use std::marker::Model;
 
-/// The most runs of passing pages in a row. Along the pages of a row each filter begins and ceases to
-/// apply at most once, so [`MAX_FILTERS`] filters part the row into at most `2 × MAX_FILTERS + 1` parts
-/// with one answer each, and of two adjacent parts at most one is a run.
+/// The most runs of passing pages in a row. Along the pages of a row each filter changes at most twice
+/// whether it applies, so the answer changes at most `2 × MAX_FILTERS` times, and of two changes one
+/// after the other only one can begin a run.
 pub const MAX_RUNS: usize = MAX_FILTERS + 1;
 
 /// Consecutive pages.

@@ -1,4 +1,4 @@
-use Rattle.std.proofs.Common.{◌≡◌, ◌+◌, ◌<◌, ℕ, refl, sym, ap, ◌∙◌, arith}
+use Rattle.std.proofs.Common.{◌+◌, refl, sym, ap, ◌∙◌, arith}
 use Rattle.scheme_filter.specs.declared.row_pages.RowPages.{RowPages}
 use Rattle.scheme_filter.specs.Passes.{passes}
 use Rattle.scheme_filter.specs.RowPages.{answer_at}
