@@ -8,7 +8,7 @@ use Rattle.damon_types.specs.declared.filter.FilterKind.{FilterKind}
 use Rattle.damon_types.specs.declared.filter.FilterKind.TheVariants.{Addr, Target, Class}
 use Rattle.scheme_filter.specs.declared.row_pages.RowPages.{RowPages}
 use Rattle.scheme_filter.specs.Passes.{is_of, applies, default_answer}
-use Rattle.scheme_filter.specs.RowPages.{answer_at, place_at, page_from, kind_changes, changes, nearer, first_after, count_after}
+use Rattle.scheme_filter.specs.RowPages.{PassesChange, answer_at, place_at, page_from, kind_changes, changes, nearer, first_after, count_after}
 
 nearer_above : (at page next : ℕ) → at < next → at < nearer at page next
 nearer_above at page next less = grind (arith, nat_tests)
@@ -148,21 +148,20 @@ pub changes-few : (row : RowPages) (at : ℕ) (fs : List Filter) → count_after
 changes-few row at [] = omega arith
 changes-few row at (f ∷ fs) = omega (arith, count_after-append at (kind_changes row f.kind) (changes row fs), kind_changes-few row at f.kind, changes-few row at fs)
 
--- The pages of a row from `from` to before `page` do not have the wanted answer. Unless the search is over, a change was
--- passed for each of its steps.
-pub record Searched (row : RowPages) (fs : List Filter) (wanted : Bool) (from page : ℕ) : Type 0 where
-  pub start : from ≤ page
-  pub end : page ≤ row.end
+-- a search that has come to a page: the pages before it do not have the wanted answer
+pub record Searched (fs : List Filter) (row : RowPages) (wanted : Bool) (from page : ℕ) : Type 0 where
+  pub low : from ≤ page
+  pub high : page ≤ row.end
   pub others : (p : ℕ) → from ≤ p → p < page → answer_at fs row p ≡ not wanted
-  pub fewer : from < page → page < row.end → count_after page (changes row fs) < count_after from (changes row fs)
+  pub change : PassesChange fs row from page
 
--- a page without the wanted answer, and so those up to the next change
-pub searched_on : (row : RowPages) (fs : List Filter) (wanted : Bool) (from page : ℕ) → row.start ≤ from → page < row.end → answer_at fs row page ≡ not wanted → Searched row fs wanted from page → Searched row fs wanted from (first_after page row.end (changes row fs))
-searched_on row fs wanted from page within before other searched = record {
-  start = omega (arith, searched.start, after);
-  end = first_after-below page row.end (changes row fs);
+-- nor do the pages up to the next change, if this one does not
+pub searched_on : (fs : List Filter) (row : RowPages) (wanted : Bool) (from page : ℕ) → row.start ≤ from → page < row.end → answer_at fs row page ≡ not wanted → Searched fs row wanted from page → Searched fs row wanted from (first_after page row.end (changes row fs))
+searched_on fs row wanted from page within before other searched = record {
+  low = omega (arith, searched.low, after);
+  high = first_after-below page row.end (changes row fs);
   others = λ p low high. by p low high (cases_lt p page);
-  fewer = λ later inside. fewer inside (cases_lt from page);
+  change = λ later inside. fewer inside (cases_lt from page);
 }
   where
     next : ℕ
@@ -173,8 +172,8 @@ searched_on row fs wanted from page within before other searched = record {
 
     by : (p : ℕ) → from ≤ p → p < next → (p < page) ⊎ (page ≤ p) → answer_at fs row p ≡ not wanted
     by p low high (inl old) = searched.others p low old
-    by p low high (inr new) = answer_same row page p fs (omega (arith, within, searched.start)) new high ∙ other
+    by p low high (inr new) = answer_same row page p fs (omega (arith, within, searched.low)) new high ∙ other
 
     fewer : next < row.end → (from < page) ⊎ (page ≤ from) → count_after next (changes row fs) < count_after from (changes row fs)
-    fewer inside (inl later) = omega (arith, searched.fewer later before, count_after-fewer page row.end (changes row fs) before inside)
-    fewer inside (inr first) = let same : page ≡ from = omega (arith, first, searched.start) in subst (λ n. count_after next (changes row fs) < count_after n (changes row fs)) same (count_after-fewer page row.end (changes row fs) before inside)
+    fewer inside (inl later) = omega (arith, searched.change later before, count_after-fewer page row.end (changes row fs) before inside)
+    fewer inside (inr first) = let same : page ≡ from = omega (arith, first, searched.low) in subst (λ n. count_after next (changes row fs) < count_after n (changes row fs)) same (count_after-fewer page row.end (changes row fs) before inside)

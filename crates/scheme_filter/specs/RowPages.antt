@@ -1,6 +1,6 @@
 -- The pages of a row, and where filters may begin or cease to apply among them. For proofs alone; `Passes` says which pages
 -- pass.
-use Rattle.std.specs.Prelude.{ℕ, Bool, ◌+◌, ◌-◌, ◌*◌, ◌≤◌, ◌<◌, min, nat_lt, List, [], ◌∷◌, ◌++◌, if◌then◌else◌}
+use Rattle.std.specs.Prelude.{◌≡◌, ℕ, Bool, not, ◌+◌, ◌-◌, ◌*◌, ◌≤◌, ◌<◌, min, nat_lt, List, [], ◌∷◌, ◌++◌, if◌then◌else◌}
 use Rattle.std.specs.Int.{div_ceil}
 use Rattle.damon_types.specs.declared.filter.Filter.{Filter}
 use Rattle.damon_types.specs.declared.filter.FilterKind.{FilterKind}
@@ -22,6 +22,13 @@ place_at row page = record row.first { addr = row.first.addr + PAGE_SIZE * (page
 -- the answer of filters for a page of the row
 abbrev pub answer_at : List Filter → RowPages → ℕ → Bool
 answer_at fs row page = answer fs (place_at row page) row.class
+
+-- page `to` is the first page at or after page `from` with the wanted answer, or the end of the row
+pub record IsFirstWith (fs : List Filter) (row : RowPages) (wanted : Bool) (from to : ℕ) : Type 0 where
+  pub low : from ≤ to
+  pub high : to ≤ row.end
+  pub others : (p : ℕ) → from ≤ p → p < to → answer_at fs row p ≡ not wanted
+  pub found : to < row.end → answer_at fs row to ≡ wanted
 
 -- the first page of the row whose address is not below this one, or the end of the row
 abbrev pub page_from : RowPages → ℕ → ℕ
@@ -51,3 +58,7 @@ first_after at end (p ∷ ps) = first_after at (nearer at p end) ps
 abbrev pub count_after : ℕ → List ℕ → ℕ
 count_after at [] = 0
 count_after at (p ∷ ps) = (if nat_lt at p then 1 else 0) + count_after at ps
+
+-- fewer changes are still to come after page `to`, unless it is page `from` or the end of the row
+abbrev pub PassesChange : List Filter → RowPages → ℕ → ℕ → Type 0
+PassesChange fs row from to = from < to → to < row.end → count_after to (changes row fs) < count_after from (changes row fs)

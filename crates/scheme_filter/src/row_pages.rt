@@ -1,6 +1,6 @@
 // The pages of a row, and where filters may begin or cease to apply among them.
-ghost use Rattle.std.specs.Prelude.{◌≡◌, ℕ, ◌≤◌, ◌<◌, not};
-ghost use Rattle.scheme_filter.specs.RowPages.{IsRowPages, answer_at, changes, count_after, first_after, nearer as nearer_of, page_from as page_from_addr, place_at as place_of_page};
+ghost use Rattle.std.specs.Prelude.{◌≡◌, ◌≤◌};
+ghost use Rattle.scheme_filter.specs.RowPages.{IsFirstWith, IsRowPages, PassesChange, changes, first_after, nearer as nearer_of, page_from as page_from_addr, place_at as place_of_page};
 
 use crate::decision::answer;
 use damon_types::{Filter, FilterKind, PAGE_SIZE, Place};
@@ -24,15 +24,8 @@ impl RowPages {
         requires row { IsRowPages self.now }
         requires start { self.now.start ≤ from }
         requires end { from ≤ self.now.end }
-        ensures start { from ≤ result }
-        ensures end { result ≤ self.now.end }
-        ensures others { (p : ℕ) → from ≤ p → p < result
-            → answer_at filters.now self.now p ≡ not wanted }
-        ensures found { result < self.now.end
-            → answer_at filters.now self.now result ≡ wanted }
-        ensures fewer { from < result → result < self.now.end
-            → count_after result (changes self.now filters.now)
-            < count_after from (changes self.now filters.now) }
+        ensures first { IsFirstWith filters.now self.now wanted from result }
+        ensures change { PassesChange filters.now self.now from result }
     {
         let mut page = from;
         'pages: while page < self.end

@@ -18,5 +18,5 @@ pub pages-preserved : goal.pages-preserved
 pages-preserved c =
     let answer_is = c.answer.ensures ∙ ap (λ place. answer c.args.filters.now place c.args.self.now.class) c.place_at.ensures in
     let other = sym answer_is ∙ differs c.answer.result c.args.wanted c.if-answer-wanted.true in
-    subst (λ page. Searched c.args.self.now c.args.filters.now c.args.wanted c.args.from page) (sym c.next_change-page.ensures)
-    (searched_on c.args.self.now c.args.filters.now c.args.wanted c.args.from c.pages.page c.requires.start c.pages-test.true other c.pages.invariant)
+    subst (λ page. Searched c.args.filters.now c.args.self.now c.args.wanted c.args.from page) (sym c.next_change-page.ensures)
+    (searched_on c.args.filters.now c.args.self.now c.args.wanted c.args.from c.pages.page c.requires.start c.pages-test.true other c.pages.invariant)
