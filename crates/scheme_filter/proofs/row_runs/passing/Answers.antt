@@ -1,0 +1,29 @@
+use Rattle.std.proofs.Common.{◌+◌, refl, sym, ap, ◌∙◌, arith}
+use Rattle.scheme_filter.specs.declared.row_pages.RowPages.{RowPages}
+use Rattle.scheme_filter.specs.Passes.{passes}
+use Rattle.scheme_filter.specs.RowPages.{answer_at}
+use Rattle.scheme_filter.proofs.LongestLemmas.{longest_same}
+use Rattle.scheme_filter.proofs.RowLemmas.{row_answer, row_fits, row_within}
+use Rattle.scheme_filter.proofs.RunsOfLemmas.{longest_is}
+use Rattle.scheme_filter.proofs.row_runs.passing.Goals as goal
+
+pub overflow_add-row : goal.overflow_add-row
+overflow_add-row c = omega (arith, row_fits c.args.ranges.now.list c.args.row.now c.len-count.ensures.order c.requires.held)
+
+pub addr_of-requires : goal.addr_of-requires
+addr_of-requires c = omega (arith, row_within c.args.space.now c.args.ranges.now.list c.args.row.now c.requires.within c.requires.held)
+
+pub returns-clause-longest : goal.returns-clause-longest
+returns-clause-longest c =
+    let fs = c.args.filters.now in
+    let space = c.args.space.now in
+    let ranges = c.args.ranges.now.list in
+    let row = c.args.row.now in
+    let pages : RowPages = record { start = row.start; end = row.start + row.pages; first = c.addr_of.result; class = c.class_of.result } in
+    longest_same (passes fs space ranges) (answer_at c.as_slice.result.now pages) pages.start pages.end c.find_runs.new.runs
+    (λ p low high. ap (λ fs. passes fs space ranges p) (sym c.as_slice.ensures.items)
+    ∙ row_answer c.as_slice.result.now space ranges row pages p c.len-count.ensures.order c.requires.within c.requires.held refl c.addr_of.ensures.place c.class_of.ensures low high)
+    c.find_runs.ensures
+
+pub returns-clause-exact : goal.returns-clause-exact
+returns-clause-exact c = longest_is (passes c.args.filters.now c.args.space.now c.args.ranges.now.list) c.args.row.now.pages c.args.row.now.start c.find_runs.new.runs (returns-clause-longest c)

@@ -1,0 +1,63 @@
+ghost use Rattle.std.specs.Prelude.{◌≡◌, ◌+◌, ◌≤◌, Any, length};
+ghost use Rattle.damon_types.specs.Span.{span_of};
+ghost use Rattle.damon_types.specs.Within.{AreWithin};
+ghost use Rattle.region_list.specs.Tiles.{LiesIn};
+ghost use Rattle.scheme_filter.specs.Passes.{passes};
+ghost use Rattle.scheme_filter.specs.Runs.{AreLongest, runs_of};
+ghost use Rattle.scheme_filter.specs.RowPages.{IsRowPages, answer_at};
+
+use crate::row_pages::RowPages;
+use crate::{PassRuns, Run};
+use damon_types::{Filter, Filters, MAX_FILTERS, Ranges, Row, Space};
+
+/// Makes the list the longest runs of pages of a row that pass the filters of a scheme (see
+/// [`passes`](crate::passes)), in the order of their pages.
+///
+/// The ranges lie in the space, and one of them holds the row. Goes from one page at which a filter
+/// begins or ceases to apply to the next, and not page by page. Takes no memory.
+pub fn passing(filters: &Filters, space: &Space, ranges: &Ranges, row: &Row, runs: &mut PassRuns)
+    requires within { AreWithin space.now ranges.now.list }
+    requires held { Any (LiesIn (span_of row.now)) ranges.now.list }
+    ensures longest { AreLongest (passes filters.now space.now ranges.now.list)
+        row.now.start (row.now.start + row.now.pages) runs.new }
+    ensures exact { runs.new
+        ≡ runs_of (passes filters.now space.now ranges.now.list) row.now.start row.now.pages }
+{
+    // For its clauses alone: the ranges are in order.
+    let _count = ranges.len();
+    let Row { start, pages, .. } = *row;
+    // A row without pages has no first page to look at.
+    if pages == 0 {
+        runs.clear();
+        return;
+    }
+    let row = RowPages {
+        start,
+        end: start + pages,
+        first: space.addr_of(start),
+        class: ranges.class_of(start),
+    };
+    find_runs(filters.as_slice(), &row, runs);
+}
+
+// Makes the list the longest runs of pages of the row that pass. The searches alternate: for a page
+// that passes, which begins a run, and for one that does not, which ends it.
+fn find_runs(filters: &[Filter], row: &RowPages, runs: &mut PassRuns)
+    requires few { length filters.now ≤ MAX_FILTERS }
+    requires row { IsRowPages row.now }
+    ensures { AreLongest (answer_at filters.now row.now) row.now.start row.now.end runs.new }
+{
+    runs.clear();
+    let mut from = row.first_with(filters, true, row.start);
+    'runs: while from < row.end {
+        let to = row.first_with(filters, false, from);
+        runs.push(Run {
+            start: from,
+            pages: to - from,
+        });
+        from = row.first_with(filters, true, to);
+    }
+}
+
+#[cfg(test)]
+mod tests;
