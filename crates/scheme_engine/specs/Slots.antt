@@ -1,0 +1,65 @@
+-- The slots that hold schemes.
+use Rattle.std.specs.Prelude.{ℕ, ◌≤◌, List, [], Option, Some, None, IsSome}
+use Rattle.std.specs.Option.{option_map, option_and_then}
+use Rattle.damon_types.specs.declared.scheme.Quota.{Quota}
+use Rattle.damon_types.specs.declared.scheme.Scheme.{Scheme}
+use Rattle.quota_charge.specs.declared.window.Window.{Window}
+use Rattle.quota_charge.specs.Window.{turned}
+use Rattle.watermarks.specs.Active.{after_metric, is_active}
+use Rattle.watermarks.specs.Gauge.{GaugeValue}
+use Rattle.scheme_engine.specs.declared.slot.SlotView.{SlotView}
+
+-- The scheme of a slot, whether it is active, and its statistics: over its runs, the rows that matched, the pages that it was
+-- applied to, and how often a passing page was not taken.
+pub record SetScheme : Type 0 where
+  pub scheme : Scheme
+  pub gauge : GaugeValue
+  pub tried : ℕ
+  pub applied : ℕ
+  pub exceeds : ℕ
+
+-- A slot: its scheme, if it is set, and its window, which stays when the slot is set or dropped.
+pub record SlotValue : Type 0 where
+  pub set : Option SetScheme
+  pub window : Window
+
+-- a slot that was never set
+abbrev pub empty_slot : SlotValue
+empty_slot = record { set = None; window = record { start = 0; charged = 0 } }
+
+-- a scheme as it is set: no metric was seen, and its statistics are 0
+abbrev pub set_scheme : Scheme → SetScheme
+set_scheme s = record { scheme = s; gauge = record { marks = s.marks; active = is_active s.marks [] }; tried = 0; applied = 0; exceeds = 0 }
+
+-- the slot once it is set to a scheme, or dropped
+abbrev pub changed : Option Scheme → SlotValue → SlotValue
+changed scheme s = record s { set = option_map set_scheme scheme }
+
+-- a set scheme after a metric
+abbrev pub scheme_metered : ℕ → SetScheme → SetScheme
+scheme_metered value h = record h { gauge = record h.gauge { active = after_metric h.gauge.marks h.gauge.active value } }
+
+-- the slot after a metric
+abbrev pub metered : ℕ → SlotValue → SlotValue
+metered value s = record s { set = option_map (scheme_metered value) s.set }
+
+-- the quota of the slot's scheme, if there is one
+abbrev pub quota_of : SlotValue → Option Quota
+quota_of s = option_and_then (λ h. h.scheme.quota) s.set
+
+-- a window at a tick, where the quota may begin a new one
+abbrev pub window_at : ℕ → Option Quota → Window → Window
+window_at tick None w = w
+window_at tick (Some q) w = turned q tick w
+
+-- the slot with its window at a tick
+abbrev pub turned_slot : ℕ → SlotValue → SlotValue
+turned_slot tick s = record s { window = window_at tick (quota_of s) s.window }
+
+-- what a set slot shows
+abbrev pub scheme_view : Window → SetScheme → SlotView
+scheme_view window h = record { action = h.scheme.action; active = h.gauge.active; window = window; tried = h.tried; applied = h.applied; exceeds = h.exceeds }
+
+-- what a slot shows
+abbrev pub view_of : SlotValue → Option SlotView
+view_of s = option_map (scheme_view s.window) s.set
