@@ -12,3 +12,10 @@ pub record EngineValue : Type 0 where
 -- no set slot has a window that begins after this tick
 abbrev pub BeginBy : ℕ → List SlotValue → Type 0
 BeginBy tick slots = AllByRecursion (λ s. IsSome s.set → s.window.start ≤ tick) slots
+
+-- the statistics of a set slot, and the pages charged to a slot, fit in 64 bits
+pub record FitsSlot (s : SlotValue) : Type 0 where
+  pub tried : IfSome s.set (λ h. h.tried < 2 ^ 64)
+  pub applied : IfSome s.set (λ h. h.applied < 2 ^ 64)
+  pub exceeds : IfSome s.set (λ h. h.exceeds < 2 ^ 64)
+  pub charged : s.window.charged < 2 ^ 64

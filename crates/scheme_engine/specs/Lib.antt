@@ -5,3 +5,4 @@ pub mod Slots
 pub mod Served
 pub mod Engine
 pub mod Applied
+pub mod Applying

@@ -1,13 +1,13 @@
 -- What one run of a scheme amounts to.
 use Rattle.std.specs.Prelude.{ℕ, ◌+◌, ◌-◌, Bool, true, false, ◌&&◌, ◌==◌, nat_lt, nat_le, List, [], ◌∷◌, length, find, Option, Some, None, if◌then◌else◌}
-use Rattle.std.specs.List.{flat_map}
+use Rattle.std.specs.List.{flat_map, last_or}
 use Rattle.std.specs.Option.{option_map_or}
-use Rattle.std.specs.List.{last_or}
 use Rattle.damon_types.specs.declared.row.Row.{Row}
 use Rattle.damon_types.specs.declared.scheme.Action.{Action}
 use Rattle.damon_types.specs.declared.scheme.Action.TheVariants.{Stat}
 use Rattle.damon_types.specs.declared.scheme.Scheme.{Scheme}
 use Rattle.damon_types.specs.declared.space.Target.{Target}
+use Rattle.damon_types.specs.Span.{Span, span_of, spans}
 use Rattle.region_list.specs.Regions.{RegionList}
 use Rattle.scheme_filter.specs.Passes.{passes}
 use Rattle.priority.specs.declared.candidates.Candidate.{Candidate}
@@ -28,9 +28,13 @@ abbrev pub changes_rows : Action → Bool
 changes_rows Stat = false
 changes_rows _ = true
 
--- how many pages of a row stand before the page after the last one of these pages of it
-abbrev pub pages_up_to : List ℕ → Row → ℕ
-pages_up_to pages r = option_map_or (λ p. p + 1 - r.start) (last_or None pages) 0
+-- the page after the last one of a list
+abbrev pub end_of_pages : List ℕ → ℕ
+end_of_pages pages = option_map_or (λ p. p + 1) (last_or None pages) 0
+
+-- after how many of its pages a row is cut, of which the first n passing pages are taken: after the last one taken
+abbrev pub cut_place : (ℕ → Bool) → ℕ → Span → ℕ
+cut_place passes n s = end_of_pages (taken_pages passes n s) - s.start
 
 -- Whether a row may be cut after `at` of its pages: there is room for one row more, and both sides have the minimum size.
 abbrev pub may_cut : RegionList → ℕ → Row → Bool
@@ -49,7 +53,7 @@ cut_in_two at r = record r { pages = at; age = 0 } ∷ record r { start = r.star
 -- it is cut after the last one taken, if it may be cut there.
 abbrev pub row_after : RegionList → (ℕ → Bool) → Row → Candidate → List Row
 row_after regions passes r c =
-    let at = pages_up_to (taken_pages passes c.share r) r in
+    let at = cut_place passes c.share (span_of r) in
     if c.share == c.passing then renewed r ∷ []
     else if nat_lt 0 c.share && may_cut regions at r then cut_in_two at r
     else r ∷ []
@@ -82,7 +86,7 @@ outcome_of slot space aggr scheme left regions =
     let passes = passes scheme.filters space regions.ranges in
     let cs = chosen_of space aggr scheme left regions in
     record {
-      runs = applied_runs slot passes regions.rows cs;
+      runs = applied_runs slot passes (spans regions.rows) cs;
       tried = tried_of scheme regions.rows;
       taken = taken_of cs;
       lowest = lowest_of cs;

@@ -1,14 +1,14 @@
 -- What serving slots changes.
-use Rattle.std.specs.Prelude.{ℕ, ◌+◌, true, false, List, [], ◌∷◌, ◌++◌, Option, Some, None, if◌then◌else◌}
+use Rattle.std.specs.Prelude.{ℕ, ◌+◌, Bool, true, false, List, [], ◌∷◌, ◌++◌, Option, Some, None, if◌then◌else◌}
+use Rattle.std.specs.Option.{option_map}
 use Rattle.damon_types.specs.declared.row.Row.{Row}
 use Rattle.damon_types.specs.declared.space.Target.{Target}
 use Rattle.region_list.specs.Regions.{RegionList}
-use Rattle.quota_charge.specs.declared.window.Window.{Window}
 use Rattle.quota_charge.specs.Quota.{left_of}
 use Rattle.scheme_engine.specs.declared.applied.AppliedRun.{AppliedRun}
 use Rattle.scheme_engine.specs.declared.applied.SlotChoice.{SlotChoice}
 use Rattle.scheme_engine.specs.Outcome.{Outcome, outcome_of}
-use Rattle.scheme_engine.specs.Slots.{SetScheme, SlotValue, turned_slot}
+use Rattle.scheme_engine.specs.Slots.{SetScheme, SlotValue, quota_of, turned_slot}
 
 -- a slot that was served, the rows after it, the runs that its scheme was applied to, and its choice if it is set
 pub record ServedSlot : Type 0 where
@@ -25,36 +25,36 @@ no_choice slot = record { slot = slot; active = false; left = None; taken = 0; l
 abbrev pub choice_of : ℕ → Option ℕ → Outcome → SlotChoice
 choice_of slot left o = record { slot = slot; active = true; left = left; taken = o.taken; lowest = o.lowest }
 
--- a scheme after a run, which is added to its statistics
-abbrev pub scheme_counted : Outcome → SetScheme → SetScheme
-scheme_counted o h = record h { tried = h.tried + o.tried; applied = h.applied + o.taken; exceeds = h.exceeds + (if o.exceeds then 1 else 0) }
+-- the statistics of a scheme after a run
+abbrev pub scheme_counted : ℕ → ℕ → Bool → SetScheme → SetScheme
+scheme_counted tried taken exceeds h = record h { tried = h.tried + tried; applied = h.applied + taken; exceeds = h.exceeds + (if exceeds then 1 else 0) }
 
--- the window after a run: the pages that are taken are charged
-abbrev pub charged_window : Outcome → Window → Window
-charged_window o w = record w { charged = w.charged + o.taken }
-
--- a slot after a run of its scheme
-abbrev pub slot_counted : Outcome → SetScheme → Window → SlotValue
-slot_counted o h w = record { set = Some (scheme_counted o h); window = charged_window o w }
+-- A slot after a run of its scheme, of which so many rows matched and so many pages were taken, and whether it would have taken
+-- more. The pages are charged to it.
+abbrev pub slot_counted : ℕ → ℕ → Bool → SlotValue → SlotValue
+slot_counted tried taken exceeds s = record {
+  set = option_map (scheme_counted tried taken exceeds) s.set;
+  window = record s.window { charged = s.window.charged + taken };
+}
 
 -- a slot whose scheme is run, where `left` is what is left of its quota
-abbrev pub slot_run : ℕ → Option ℕ → SetScheme → Window → Outcome → ServedSlot
-slot_run slot left h w o = record { slot = slot_counted o h w; rows = o.rows; runs = o.runs; choices = choice_of slot left o ∷ [] }
+abbrev pub slot_run : ℕ → Option ℕ → SlotValue → Outcome → ServedSlot
+slot_run slot left s o = record { slot = slot_counted o.tried o.taken o.exceeds s; rows = o.rows; runs = o.runs; choices = choice_of slot left o ∷ [] }
 
--- a set slot that is served at a tick at which its window is this one: its scheme is run if the slot is active
-abbrev pub scheme_served : ℕ → List Target → ℕ → RegionList → Window → SetScheme → ServedSlot
-scheme_served slot space aggr regions w h =
-    let left = left_of h.scheme.quota w.charged in
-    if h.gauge.active then slot_run slot left h w (outcome_of slot space aggr h.scheme left regions)
-    else record { slot = record { set = Some h; window = w }; rows = regions.rows; runs = []; choices = no_choice slot ∷ [] }
+-- what is left of the quota of a slot, if it has one
+abbrev pub left_in : SlotValue → Option ℕ
+left_in s = left_of (quota_of s) s.window.charged
 
--- a slot that is served: if it is set, its window may begin anew, and then its scheme is served
+-- a slot with this scheme, if any, that is served: an active one runs its scheme
+abbrev pub scheme_served : ℕ → List Target → ℕ → RegionList → SlotValue → Option SetScheme → ServedSlot
+scheme_served slot space aggr regions s None = record { slot = s; rows = regions.rows; runs = []; choices = [] }
+scheme_served slot space aggr regions s (Some h) =
+    if h.gauge.active then slot_run slot (left_in s) s (outcome_of slot space aggr h.scheme (left_in s) regions)
+    else record { slot = s; rows = regions.rows; runs = []; choices = no_choice slot ∷ [] }
+
+-- a slot that is served: its window may begin anew, and then its scheme is served
 abbrev pub slot_served : ℕ → List Target → ℕ → ℕ → RegionList → SlotValue → ServedSlot
-slot_served slot space aggr tick regions s = by_scheme s.set
-  where
-    by_scheme : Option SetScheme → ServedSlot
-    by_scheme None = record { slot = s; rows = regions.rows; runs = []; choices = [] }
-    by_scheme (Some h) = scheme_served slot space aggr regions (turned_slot tick s).window h
+slot_served slot space aggr tick regions s = scheme_served slot space aggr regions (turned_slot tick s) s.set
 
 -- slots that were served, the rows after them, the runs that were applied in order, and the choices of the set slots
 pub record Served : Type 0 where

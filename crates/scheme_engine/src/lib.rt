@@ -4,8 +4,21 @@
 
 /// What a run was applied to.
 mod applied;
+/// Applying a scheme to the rows of candidates.
+mod apply;
+/// The candidates of a scheme.
+mod candidates;
+/// Cutting the row that is taken in part.
+mod cut;
+/// All slots.
+mod engine;
+/// The pages of one row.
+mod pages;
+/// Serving one slot.
+mod serve;
 /// One slot.
 mod slot;
 
 pub use applied::{Applied, AppliedRun, RUNS_PER_ROW, SlotChoice};
+pub use engine::Engine;
 pub use slot::{SLOTS, SlotView};

@@ -1,7 +1,7 @@
-ghost use Rattle.std.specs.Prelude.{◌≡◌, ◌+◌, ◌≤◌, ◌<◌, ◌^◌, Some, IsSome, IfSome, if◌then◌else◌};
-ghost use Rattle.std.specs.Option.{option_map};
-ghost use Rattle.quota_charge.specs.Quota.{left_of};
-ghost use Rattle.scheme_engine.specs.Slots.{changed, empty_slot, metered, turned_slot, view_of};
+ghost use Rattle.std.specs.Prelude.{◌≡◌, ◌+◌, ◌≤◌, ◌<◌, ◌^◌, Some, IsSome, IfSome};
+ghost use Rattle.scheme_engine.specs.Engine.{FitsSlot};
+ghost use Rattle.scheme_engine.specs.Served.{left_in, slot_counted};
+ghost use Rattle.scheme_engine.specs.Slots.{changed, empty_slot, metered, quota_of, turned_slot, view_of};
 
 use damon_types::{Action, MAX_SLOT, Quota, Scheme};
 use quota_charge::Window;
@@ -30,9 +30,9 @@ pub struct SlotView {
 
 /// The scheme of a slot.
 #[derive(Clone, Copy)]
-struct SetScheme {
-    scheme: Scheme,
-    gauge: Gauge,
+pub(crate) struct SetScheme {
+    pub(crate) scheme: Scheme,
+    pub(crate) gauge: Gauge,
     tried: u64,
     applied: u64,
     exceeds: u64,
@@ -58,4 +58,118 @@ impl Model for SetScheme {
       applied = s.applied;
       exceeds = s.exceeds;
     } };
+}
+
+/// A slot: its scheme, if it is set, and its window.
+#[derive(Clone, Copy)]
+pub(crate) struct Slot {
+    set: Option<SetScheme>,
+    window: Window,
+}
+
+impl Model for Slot {
+    ghost use Rattle.scheme_engine.specs.Slots.{SlotValue};
+
+    ghost Value = { SlotValue };
+
+    ghost view = { λ s. record { set = s.set; window = s.window } };
+
+    ghost inverse = { λ s. record { set = s.set; window = s.window } };
+}
+
+impl Slot {
+    // A slot that was never set.
+    pub(crate) fn new() -> Slot
+        ensures { result ≡ empty_slot }
+    {
+        Slot {
+            set: None,
+            window: Window::new(),
+        }
+    }
+
+    // Sets the slot to a scheme, or drops it. The window stays.
+    pub(crate) fn change(&mut self, scheme: Option<Scheme>)
+        ensures { self.new ≡ changed scheme self.old }
+    {
+        self.set = scheme.map(|scheme| SetScheme {
+            scheme,
+            gauge: Gauge::new(scheme.marks),
+            tried: 0,
+            applied: 0,
+            exceeds: 0,
+        });
+    }
+
+    // Takes the next value of the metric.
+    pub(crate) fn metric(&mut self, value: u32)
+        ensures { self.new ≡ metered value self.old }
+    {
+        if let Some(set) = &mut self.set {
+            set.gauge.metric(value);
+        }
+    }
+
+    // What the slot shows, if it is set.
+    pub(crate) fn view(&self) -> Option<SlotView>
+        ensures { result ≡ view_of self.now }
+    {
+        let set = self.set?;
+        Some(SlotView {
+            action: set.scheme.action,
+            active: set.gauge.active(),
+            window: self.window,
+            tried: set.tried,
+            applied: set.applied,
+            exceeds: set.exceeds,
+        })
+    }
+
+    // Begins a new window if the quota's reset interval is over. A set slot's window does not begin after
+    // the tick.
+    pub(crate) fn turn(&mut self, tick: u64)
+        requires { IsSome self.old.set → self.old.window.start ≤ tick }
+        ensures { self.new ≡ turned_slot tick self.old }
+    {
+        if let Some(quota) = self.quota() {
+            self.window.turn(&quota, tick);
+        }
+    }
+
+    // What is left of the quota in pages, if there is one.
+    pub(crate) fn left(&self) -> Option<u64>
+        ensures { result ≡ left_in self.now }
+    {
+        self.window.left(self.quota().as_ref())
+    }
+
+    // Adds a run to the statistics of the scheme, and charges the pages that were taken: at most what is
+    // left of the quota.
+    pub(crate) fn count(&mut self, tried: u32, taken: u64, exceeds: bool)
+        requires left { IfSome (left_in self.old) (λ left. taken ≤ left) }
+        requires fits { FitsSlot (slot_counted tried taken exceeds self.old) }
+        ensures { self.new ≡ slot_counted tried taken exceeds self.old }
+    {
+        let quota = self.quota();
+        self.window.charge(quota.as_ref(), taken);
+        if let Some(set) = &mut self.set {
+            set.tried += u64::from(tried);
+            set.applied += taken;
+            set.exceeds += u64::from(exceeds);
+        }
+    }
+
+    // The quota of the slot's scheme, if there is one.
+    fn quota(&self) -> Option<Quota>
+        ensures { result ≡ quota_of self.now }
+    {
+        self.set?.scheme.quota
+    }
+
+    // The scheme of the slot, if it is set.
+    pub(crate) fn scheme(&self) -> Option<SetScheme>
+        ensures { result ≡ self.now.set }
+    {
+        self.set
+    }
 }

@@ -1,0 +1,119 @@
+// Applying a scheme to the rows of its candidates.
+ghost use Rattle.std.specs.Prelude.{◌≡◌, ◌+◌, ◌*◌, ◌≤◌, ◌++◌, length, fold, None, All};
+ghost use Rattle.damon_types.specs.Span.{spans};
+ghost use Rattle.damon_types.specs.Within.{AreWithin};
+ghost use Rattle.scheme_filter.specs.Passes.{passes};
+ghost use Rattle.scheme_engine.specs.Taken.{applied_runs, candidate_runs};
+ghost use Rattle.scheme_engine.specs.Outcome.{changes_rows as changes_rows_of};
+ghost use Rattle.scheme_engine.specs.Applying.{IsCandidateOf, next_part, part_of, rows_renewed};
+
+use crate::cut::Part;
+use crate::pages::{Context, take_pages};
+use crate::{Applied, RUNS_PER_ROW};
+use damon_types::{Action, Scheme};
+use priority::{Candidate, Candidates};
+use region_list::Regions;
+use scheme_filter::{MAX_RUNS, PassRuns, passing};
+
+// Applies a scheme to the pages that are taken of its candidates, in the order of the list. The rows of
+// which all passing pages are taken get age 0, unless the action leaves rows as they are. Returns the last
+// row of which some but not all are taken, if the action changes rows.
+pub(crate) fn apply(
+    slot: u8,
+    scheme: &Scheme,
+    context: &Context,
+    candidates: &Candidates,
+    regions: &mut Regions,
+    applied: &mut Applied,
+) -> Option<Part>
+    requires within { AreWithin context.now.space.now regions.old.ranges }
+    requires each { All (IsCandidateOf
+        (passes scheme.now.filters context.now.space.now regions.old.ranges)
+        (spans regions.old.rows)) candidates.now.list }
+    requires room { length applied.old.runs + MAX_RUNS * length candidates.now.list
+        ≤ RUNS_PER_ROW * applied.old.cap }
+    ensures runs { applied.new ≡ record applied.old {
+      runs = applied.old.runs ++ applied_runs slot
+          (passes scheme.now.filters context.now.space.now regions.old.ranges)
+          (spans regions.old.rows) candidates.now.list;
+    } }
+    ensures few { length applied.new.runs
+        ≤ length applied.old.runs + MAX_RUNS * length candidates.now.list }
+    ensures rows { regions.new ≡ record regions.old {
+      rows = fold (rows_renewed scheme.now.action) regions.old.rows candidates.now.list;
+    } }
+    ensures part { result ≡ fold (next_part scheme.now.action
+        (passes scheme.now.filters context.now.space.now regions.old.ranges)
+        (spans regions.old.rows)) None candidates.now.list }
+{
+    let mut part = None;
+    for candidate in candidates.as_slice() {
+        let next = apply_to(slot, scheme, context, candidate, regions, applied);
+        part = next.or(part);
+    }
+    part
+}
+
+// Applies a scheme to the pages that are taken of one candidate.
+fn apply_to(
+    slot: u8,
+    scheme: &Scheme,
+    context: &Context,
+    candidate: &Candidate,
+    regions: &mut Regions,
+    applied: &mut Applied,
+) -> Option<Part>
+    requires within { AreWithin context.now.space.now regions.old.ranges }
+    requires row { IsCandidateOf
+        (passes scheme.now.filters context.now.space.now regions.old.ranges)
+        (spans regions.old.rows) candidate.now }
+    requires room { length applied.old.runs + MAX_RUNS ≤ RUNS_PER_ROW * applied.old.cap }
+    ensures runs { applied.new ≡ record applied.old {
+      runs = applied.old.runs ++ candidate_runs slot
+          (passes scheme.now.filters context.now.space.now regions.old.ranges)
+          (spans regions.old.rows) candidate.now;
+    } }
+    ensures few { length applied.new.runs ≤ length applied.old.runs + MAX_RUNS }
+    ensures rows { regions.new ≡ record regions.old {
+      rows = rows_renewed scheme.now.action regions.old.rows candidate.now;
+    } }
+    ensures spans { spans regions.new.rows ≡ spans regions.old.rows }
+    ensures part { result ≡ part_of scheme.now.action
+        (passes scheme.now.filters context.now.space.now regions.old.ranges)
+        (spans regions.old.rows) candidate.now }
+{
+    // For its clauses alone: each row lies in a range.
+    let _count = regions.len();
+    if candidate.share == 0 {
+        return None;
+    }
+    let index = regions.find(candidate.start)?;
+    let row = regions.row(index);
+    let mut runs = PassRuns::new();
+    passing(
+        &scheme.filters,
+        context.space,
+        regions.ranges(),
+        &row,
+        &mut runs,
+    );
+    let end = take_pages(slot, candidate, runs.as_slice(), applied);
+    if !changes_rows(scheme.action) {
+        return None;
+    }
+    if candidate.share < candidate.passing {
+        return Some(Part {
+            index,
+            pages: end - row.start,
+        });
+    }
+    regions.set_values(index, row.count, row.last, 0);
+    None
+}
+
+// Whether an action changes rows.
+fn changes_rows(action: Action) -> bool
+    ensures { result ≡ changes_rows_of action }
+{
+    action != Action::Stat
+}

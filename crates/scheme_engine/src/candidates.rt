@@ -1,0 +1,45 @@
+// The candidates of a scheme.
+ghost use Rattle.std.specs.Prelude.{◌≡◌, ◌≤◌};
+ghost use Rattle.damon_types.specs.Within.{AreWithin};
+ghost use Rattle.scheme_engine.specs.Candidates.{candidates_of, tried_of};
+
+use crate::pages::{Context, count_passing};
+use damon_types::Scheme;
+use priority::{Candidates, score};
+use region_list::Regions;
+use scheme_match::matches;
+
+// Makes the list the candidates of a scheme among the rows, and returns how many rows match.
+pub(crate) fn gather(
+    scheme: &Scheme,
+    context: &Context,
+    regions: &Regions,
+    candidates: &mut Candidates,
+) -> u32
+    requires within { AreWithin context.now.space.now regions.now.ranges }
+    requires aggr { 1 ≤ context.now.aggr }
+    requires room { regions.now.cap ≤ candidates.old.cap }
+    ensures list { candidates.new ≡ record candidates.old {
+      list = candidates_of context.now.space.now regions.now.ranges context.now.aggr scheme.now
+          regions.now.rows;
+    } }
+    ensures tried { result ≡ tried_of scheme.now regions.now.rows }
+{
+    // For its clauses alone: each row lies in a range, and starts rise.
+    let _count = regions.len();
+    candidates.clear();
+    let ranges = regions.ranges();
+    let total = ranges.total();
+    let mut tried = 0;
+    for row in regions.rows() {
+        if matches(&scheme.pattern, row) {
+            tried += 1;
+            let passing = count_passing(&scheme.filters, context.space, ranges, row);
+            if passing > 0 {
+                let score = score(row, total, context.aggr, scheme);
+                candidates.push(row.target, row.start, score, passing);
+            }
+        }
+    }
+    tried
+}

@@ -1,0 +1,73 @@
+// The pages of one row: how many pass, and those that are taken.
+ghost use Rattle.std.specs.Prelude.{◌≡◌, ◌+◌, ◌*◌, ◌≤◌, ◌<◌, ◌^◌, ◌++◌, length, map, All, Any};
+ghost use Rattle.damon_types.specs.Span.{span_of};
+ghost use Rattle.damon_types.specs.Within.{AreWithin};
+ghost use Rattle.region_list.specs.Tiles.{LiesIn};
+ghost use Rattle.scheme_filter.specs.Passes.{passes};
+ghost use Rattle.scheme_filter.specs.Runs.{run_end};
+ghost use Rattle.scheme_engine.specs.Candidates.{passing_pages};
+ghost use Rattle.scheme_engine.specs.Taken.{applied_run};
+ghost use Rattle.scheme_engine.specs.Applying.{end_of_runs, first_pages};
+
+use crate::{Applied, AppliedRun, RUNS_PER_ROW};
+use damon_types::{Filters, Ranges, Row, Space};
+use priority::Candidate;
+use scheme_filter::{PassRuns, Run, passing, passing_pages_are_counted};
+
+/// What the schemes of a monitor have in common.
+#[derive(Clone, Copy)]
+pub(crate) struct Context<'a> {
+    /// The targets.
+    pub(crate) space: &'a Space,
+    /// The number of passes of an aggregation.
+    pub(crate) aggr: u32,
+}
+
+// How many pages of a row pass the filters.
+pub(crate) fn count_passing(filters: &Filters, space: &Space, ranges: &Ranges, row: &Row) -> u32
+    requires within { AreWithin space.now ranges.now.list }
+    requires held { Any (LiesIn (span_of row.now)) ranges.now.list }
+    ensures { result ≡ length
+        (passing_pages (passes filters.now space.now ranges.now.list) (span_of row.now)) }
+{
+    // For its clauses alone: the runs have no more pages than the row.
+    passing_pages_are_counted();
+    let mut runs = PassRuns::new();
+    passing(filters, space, ranges, row, &mut runs);
+    runs.as_slice().iter().map(|run| run.pages).sum()
+}
+
+// Appends the first pages of these runs, as many as the share of the candidate, and returns the page after
+// the last one of them. There is room for as many runs.
+pub(crate) fn take_pages(
+    slot: u8,
+    candidate: &Candidate,
+    runs: &[Run],
+    applied: &mut Applied,
+) -> u32
+    requires ends { All (λ r. run_end r < 2 ^ 32) runs.now }
+    requires room { length applied.old.runs + length runs.now ≤ RUNS_PER_ROW * applied.old.cap }
+    ensures runs { applied.new ≡ record applied.old {
+      runs = applied.old.runs
+          ++ map (applied_run slot candidate.now) (first_pages candidate.now.share runs.now);
+    } }
+    ensures end { result ≡ end_of_runs (first_pages candidate.now.share runs.now) }
+{
+    let mut wanted = candidate.share;
+    let mut end = 0;
+    for run in runs {
+        if wanted > 0 {
+            let pages = run.pages.min(wanted);
+            applied.push_run(AppliedRun {
+                slot,
+                target: candidate.target,
+                start: run.start,
+                pages,
+                score: candidate.score,
+            });
+            end = run.start + pages;
+            wanted -= pages;
+        }
+    }
+    end
+}
