@@ -1,1 +1,3 @@
+pub mod TakenLemmas
+pub mod PlaceLemmas
 mod Examples

@@ -30,8 +30,9 @@ pub(crate) fn count_passing(filters: &Filters, space: &Space, ranges: &Ranges, r
     ensures { result ≡ length
         (passing_pages (passes filters.now space.now ranges.now.list) (span_of row.now)) }
 {
-    // For its clauses alone: the runs have no more pages than the row.
+    // For their clauses alone: the runs have no more pages than the row, which ends below page 2^32.
     passing_pages_are_counted();
+    let _count = ranges.len();
     let mut runs = PassRuns::new();
     passing(filters, space, ranges, row, &mut runs);
     runs.as_slice().iter().map(|run| run.pages).sum()
