@@ -1,9 +1,10 @@
 -- Where rows lie: they do not overlap, and each is found by its first page.
 use Rattle.std.proofs.Common.{◌≡◌, ℕ, zero, suc, ◌+◌, ◌≤◌, ◌^◌, ◌<◌, Bool, true, false, List, [], ◌∷◌, ◌++◌, Some, length, get_or, refl, sym, ap, ◌∙◌, subst, arith}
 use Rattle.std.specs.Prelude.{◌==◌, Any, find, position, slice_get}
-use Rattle.std.specs.List.{position_or_len}
+use Rattle.std.specs.List.{AllByRecursion, position_or_len}
 use Rattle.std.proofs.lemmas.Bool.Decides.{nat_tests}
 use Rattle.std.proofs.lemmas.List.{get_or-map, length-map}
+use Rattle.std.proofs.lemmas.List.Elements.{All-from_recursion}
 use Rattle.std.proofs.lemmas.List.Sums.{position_or_len_is, get_or-le-sum_by}
 use Rattle.std.proofs.lemmas.Option.{get_or_from_slice_get, slice_get_read, slice_get_within}
 use Rattle.damon_types.specs.declared.range.Range.{Range}
@@ -145,3 +146,8 @@ some_pages gs s order any =
     let one = get_or-le-sum_by (λ (g : Range). g.pages) gs any.0 any.1 any.2 in
     let pages = end_at 0 0 gs any.0 any.1 order (slice_get_read gs (length gs) any.0 any.1 refl any.2 (sym any.3)) in
     omega (arith, one, pages.0, ap (λ (g : Range). g.pages) any.3)
+
+-- each row lies in a range
+pub row_held : (gs : List Range) (rows : List Row) (i : ℕ) → AllByRecursion (λ s. Any (LiesIn s) gs) (spans rows) → i < length rows → Any (LiesIn (span_of (row_at rows i))) gs
+row_held gs rows i all within =
+    subst (λ s. Any (LiesIn s) gs) (span_read rows i within) (All-from_recursion (λ s. Any (LiesIn s) gs) (spans rows) all i no_span (omega (arith, within, length-map rows span_of)))

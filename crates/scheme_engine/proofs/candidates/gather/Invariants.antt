@@ -1,0 +1,11 @@
+use Rattle.std.proofs.Common.{◌≡◌, ◌≤◌, take}
+use Rattle.scheme_engine.specs.Candidates.{candidates_of, tried_of}
+use Rattle.scheme_engine.proofs.candidates.gather.Given as goal
+
+abbrev pub invariant-loop-row : goal.invariant-loop-row
+invariant-loop-row l = record {
+  list : l.candidates.list ≡ candidates_of l.context.space.now l.regions.ranges l.context.aggr l.scheme (take l.row-index l.regions.rows);
+  cap : l.candidates.cap ≡ l.fn.candidates.cap;
+  tried : l.tried ≡ tried_of l.scheme (take l.row-index l.regions.rows);
+  few : l.tried ≤ l.row-index;
+}
