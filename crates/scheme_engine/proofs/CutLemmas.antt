@@ -17,7 +17,7 @@ cut_refined unit zero at (r ∷ rows) within left right low =
       span_of (record r { pages = at; age = 0 }) ∷ span_of (record r { start = r.start + at; pages = r.pages - at }) ∷ [],
       spans rows,
       refl,
-      λ wide. (refl, refl, left, refl, refl, right, end),
+      λ wide. (refl, refl, left, (refl, refl, right, end)),
       same unit rows,
     )
   where
@@ -28,7 +28,7 @@ cut_refined unit (suc i) at (r ∷ rows) within left right low =
     (span_of r ∷ [], spans (cut_rows i at rows), rest, λ wide. (refl, refl, wide, refl), cut_refined unit i at rows (omega arith) left right low)
   where
     rest : spans (cut_rows (suc i) at (r ∷ rows)) ≡ span_of r ∷ spans (cut_rows i at rows)
-    rest = let next : suc i + 1 ≡ suc (i + 1) = omega arith in ?
+    rest = let next : suc i + 1 ≡ suc (i + 1) = omega arith in rw next refl
 
 -- there is one row more
 pub length-cut_rows : (i at : ℕ) (rows : List Row) → i < length rows → length (cut_rows i at rows) ≡ length rows + 1
