@@ -31,6 +31,7 @@ pub record IsCandidateOf (passes : ℕ → Bool) (ss : List Span) (c : Candidate
   pub at : slice_get ss index ≡ Some span
   pub start : c.start ≡ span.start
   pub passing : c.passing ≡ length (passing_pages passes span)
+  pub some : 1 ≤ c.passing
   pub share : c.share ≤ c.passing
 
 -- whether an action makes a row new because all passing pages of this candidate are taken, and the row is its row

@@ -1,5 +1,6 @@
 // Applying a scheme to the rows of its candidates.
-ghost use Rattle.std.specs.Prelude.{◌≡◌, ◌+◌, ◌*◌, ◌≤◌, ◌++◌, length, fold, None, All};
+ghost use Rattle.std.specs.Prelude.{◌≡◌, ◌+◌, ◌*◌, ◌≤◌, ◌<◌, ◌&&◌, nat_lt, ◌++◌, length, fold, Some, None, All, if◌then◌else◌};
+ghost use Rattle.region_list.specs.Rows.{row_at};
 ghost use Rattle.damon_types.specs.Span.{spans};
 ghost use Rattle.damon_types.specs.Within.{AreWithin};
 ghost use Rattle.scheme_filter.specs.Passes.{passes};
@@ -8,12 +9,12 @@ ghost use Rattle.scheme_engine.specs.Outcome.{changes_rows as changes_rows_of};
 ghost use Rattle.scheme_engine.specs.Applying.{IsCandidateOf, next_part, part_of, rows_renewed};
 
 use crate::cut::Part;
-use crate::pages::{Context, take_pages};
+use crate::pages::{Context, take_row};
 use crate::{Applied, RUNS_PER_ROW};
 use damon_types::{Action, Scheme};
 use priority::{Candidate, Candidates};
 use region_list::Regions;
-use scheme_filter::{MAX_RUNS, PassRuns, passing};
+use scheme_filter::MAX_RUNS;
 
 // Applies a scheme to the pages that are taken of its candidates, in the order of the list. The rows of
 // which all passing pages are taken get age 0, unless the action leaves rows as they are. Returns the last
@@ -89,25 +90,46 @@ fn apply_to(
     }
     let index = regions.find(candidate.start)?;
     let row = regions.row(index);
-    let mut runs = PassRuns::new();
-    passing(
+    let pages = take_row(
+        slot,
         &scheme.filters,
         context.space,
         regions.ranges(),
         &row,
-        &mut runs,
+        candidate,
+        applied,
     );
-    let end = take_pages(slot, candidate, runs.as_slice(), applied);
-    if !changes_rows(scheme.action) {
+    renew(scheme.action, candidate, Part { index, pages }, regions)
+}
+
+// Gives the row of a candidate age 0 if all its passing pages are taken and the action changes rows. If
+// they are not all taken, returns the part of the row that ends with the last one.
+fn renew(
+    action: Action,
+    candidate: &Candidate,
+    part: Part,
+    regions: &mut Regions,
+) -> Option<Part>
+    requires within { part.index < length regions.old.rows }
+    requires start { candidate.now.start ≡ (row_at regions.old.rows part.index).start }
+    requires share { candidate.now.share ≤ candidate.now.passing }
+    ensures rows { regions.new ≡ record regions.old {
+      rows = rows_renewed action regions.old.rows candidate.now;
+    } }
+    ensures part { result
+        ≡ (if changes_rows_of action && nat_lt candidate.now.share candidate.now.passing
+        then Some part else None) }
+{
+    // For its clauses alone: no two rows start at the same page.
+    let _count = regions.len();
+    if !changes_rows(action) {
         return None;
     }
     if candidate.share < candidate.passing {
-        return Some(Part {
-            index,
-            pages: end - row.start,
-        });
+        return Some(part);
     }
-    regions.set_values(index, row.count, row.last, 0);
+    let row = regions.row(part.index);
+    regions.set_values(part.index, row.count, row.last, 0);
     None
 }
 

@@ -6,13 +6,14 @@ ghost use Rattle.region_list.specs.Tiles.{LiesIn};
 ghost use Rattle.scheme_filter.specs.Passes.{passes};
 ghost use Rattle.scheme_filter.specs.Runs.{run_end};
 ghost use Rattle.scheme_engine.specs.Candidates.{passing_pages};
-ghost use Rattle.scheme_engine.specs.Taken.{applied_run};
+ghost use Rattle.scheme_engine.specs.Taken.{applied_run, taken_runs};
+ghost use Rattle.scheme_engine.specs.Outcome.{cut_place};
 ghost use Rattle.scheme_engine.specs.Applying.{end_of_runs, first_pages};
 
 use crate::{Applied, AppliedRun, RUNS_PER_ROW};
 use damon_types::{Filters, Ranges, Row, Space};
 use priority::Candidate;
-use scheme_filter::{PassRuns, Run, passing, passing_pages_are_counted};
+use scheme_filter::{MAX_RUNS, PassRuns, Run, passing, passing_pages_are_counted};
 
 /// What the schemes of a monitor have in common.
 #[derive(Clone, Copy)]
@@ -38,9 +39,44 @@ pub(crate) fn count_passing(filters: &Filters, space: &Space, ranges: &Ranges, r
     runs.as_slice().iter().map(|run| run.pages).sum()
 }
 
+// Appends the runs of the first passing pages of a row, as many as the share of its candidate, which is at
+// least 1. Returns how many pages the row has up to the last one of them.
+pub(crate) fn take_row(
+    slot: u8,
+    filters: &Filters,
+    space: &Space,
+    ranges: &Ranges,
+    row: &Row,
+    candidate: &Candidate,
+    applied: &mut Applied,
+) -> u32
+    requires within { AreWithin space.now ranges.now.list }
+    requires held { Any (LiesIn (span_of row.now)) ranges.now.list }
+    requires some { 1 ≤ candidate.now.share }
+    requires share { candidate.now.share ≤ length
+        (passing_pages (passes filters.now space.now ranges.now.list) (span_of row.now)) }
+    requires room { length applied.old.runs + MAX_RUNS ≤ RUNS_PER_ROW * applied.old.cap }
+    ensures runs { applied.new ≡ record applied.old {
+      runs = applied.old.runs ++ map (applied_run slot candidate.now)
+          (taken_runs (passes filters.now space.now ranges.now.list) candidate.now.share
+          (span_of row.now));
+    } }
+    ensures few { length applied.new.runs ≤ length applied.old.runs + MAX_RUNS }
+    ensures pages { result ≡ cut_place (passes filters.now space.now ranges.now.list)
+        candidate.now.share (span_of row.now) }
+    ensures most { result ≤ row.now.pages }
+{
+    // For its clauses alone: the row ends below page 2^32.
+    let _count = ranges.len();
+    let mut runs = PassRuns::new();
+    passing(filters, space, ranges, row, &mut runs);
+    let end = take_pages(slot, candidate, runs.as_slice(), applied);
+    end - row.start
+}
+
 // Appends the first pages of these runs, as many as the share of the candidate, and returns the page after
 // the last one of them. There is room for as many runs.
-pub(crate) fn take_pages(
+fn take_pages(
     slot: u8,
     candidate: &Candidate,
     runs: &[Run],
