@@ -3,4 +3,6 @@ pub mod PlaceLemmas
 pub mod GatherLemmas
 pub mod CutLemmas
 pub mod ApplyLemmas
+pub mod ChoiceLemmas
+pub mod RowsLemmas
 mod Examples

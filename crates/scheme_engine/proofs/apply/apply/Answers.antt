@@ -1,7 +1,7 @@
-use Rattle.std.proofs.Common.{◌≡◌, ℕ, ◌+◌, ◌*◌, ◌≤◌, ◌<◌, Bool, ◌++◌, List, Option, Some, None, length, take, get_or, sym, ap, subst, ◌∙◌, arith}
+use Rattle.std.proofs.Common.{◌≡◌, ℕ, ◌+◌, ◌*◌, ◌≤◌, ◌<◌, Bool, ◌++◌, List, Option, Some, None, length, take, get_or, refl, sym, ap, subst, ◌∙◌, arith}
 use Rattle.std.specs.Prelude.{fold}
 use Rattle.std.specs.Option.{option_or}
-use Rattle.std.proofs.lemmas.List.{take_all}
+use Rattle.std.proofs.lemmas.List.{append-nil, take_all}
 use Rattle.std.proofs.lemmas.List.Sums.{fold_more}
 use Rattle.damon_types.specs.declared.range.Range.{Range}
 use Rattle.damon_types.specs.declared.row.Row.{Row}
@@ -41,7 +41,10 @@ apply_to-next-requires-clause-room c =
     omega (arith, c.loop-candidate.invariant.few, c.requires.room, ap (λ (a : AppliedList). a.cap) c.loop-candidate.invariant.runs, c.loop-candidate-test.true, ap length c.as_slice-candidate-items.ensures)
 
 pub loop-candidate-init : goal.loop-candidate-init
-loop-candidate-init c = ?
+loop-candidate-init c =
+    let before = c.args.applied.now in
+    let with : List AppliedRun → AppliedList = λ rs. record before { runs = rs } in
+    record { runs = ap with (sym (append-nil before.runs)); few = omega arith; rows = refl; places = refl; part = refl }
 
 pub loop-candidate-preserved : goal.loop-candidate-preserved
 loop-candidate-preserved c =
@@ -74,7 +77,7 @@ loop-candidate-preserved c =
       few = omega (arith, made.few, kept.few);
       rows = made.rows ∙ ap (renewed c.loop-candidate.regions) same ∙ ap (λ r. renewed r here) kept.rows ∙ ap put (sym (fold_more (rows_renewed action) old.rows list i no_candidate within));
       places = made.spans ∙ kept.places;
-      part = c.or.ensures ∙ ap (λ o. option_or o c.loop-candidate.part) (made.part ∙ parts) ∙ ap (λ o. option_or (part old.ranges (spans old.rows) here) o) kept.part ∙ sym (fold_more (next_part action (test old.ranges) (spans old.rows)) None list i no_candidate within);
+      part = c.or-part.ensures ∙ ap (λ o. option_or o c.loop-candidate.part) (made.part ∙ parts) ∙ ap (λ o. option_or (part old.ranges (spans old.rows) here) o) kept.part ∙ sym (fold_more (next_part action (test old.ranges) (spans old.rows)) None list i no_candidate within);
     }
 
 pub returns : goal.returns
