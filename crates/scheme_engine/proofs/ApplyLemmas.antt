@@ -97,7 +97,7 @@ set_is_map f (x ∷ xs) (suc i) y e within is others =
     ap (λ zs. x ∷ zs) rest ∙ ap (λ z. z ∷ map f xs) (sym (others 0 (omega arith) (omega arith)))
 
 -- no other row starts where one does
-other_start : (rows : List Row) (i k : ℕ) → Ascend 0 (spans rows) → i < length rows → k < length rows → k ≢ i → (row_at rows k).start ≢ (row_at rows i).start
+pub other_start : (rows : List Row) (i k : ℕ) → Ascend 0 (spans rows) → i < length rows → k < length rows → k ≢ i → (row_at rows k).start ≢ (row_at rows i).start
 other_start rows i k ascend inside within other = by (cases_order k i)
   where
     i_inside : i < length (spans rows)

@@ -1,12 +1,14 @@
 -- The rows after an action, as the code makes them: the rows taken whole are made new one after another, and then one is cut.
 use Rattle.std.proofs.Common.{◌≡◌, ◌≢◌, ℕ, zero, suc, ◌+◌, ◌-◌, ◌≤◌, ◌<◌, Bool, true, false, cond, List, [], ◌∷◌, ◌++◌, Option, Some, None, length, map, take, drop, get_or, refl, sym, ap, ◌∙◌, subst, inl, inr, arith}
-use Rattle.std.specs.Prelude.{◌&&◌, ◌||◌, ◌==◌, ◌⊎◌, All, fold, find, nat_lt, nat_eq}
+use Rattle.std.specs.Prelude.{◌&&◌, ◌||◌, ◌==◌, ◌⊎◌, All, fold, find, nat_lt, nat_le, nat_eq}
 use Rattle.std.specs.List.{AllByRecursion, IsDistinct, flat_map, list_any}
-use Rattle.std.specs.Option.{option_map, option_map_or, option_or}
-use Rattle.std.proofs.lemmas.Bool.{false≢true}
+use Rattle.std.specs.Option.{option_map, option_map_or, option_or, unwrap_or}
+use Rattle.std.proofs.lemmas.Bool.{cases_eq, cases_order, eq-eqb, eqb-true, lt-ltb, ltb-true}
 use Rattle.std.proofs.lemmas.Bool.Decides.{nat_tests}
-use Rattle.std.proofs.lemmas.List.{length-map}
+use Rattle.std.proofs.lemmas.List.{get_or-map, length-map}
+use Rattle.std.proofs.lemmas.List.Elements.{All-from_recursion}
 use Rattle.std.proofs.lemmas.Map.Keys.{IsDistinct-head, IsDistinct-tail}
+use Rattle.std.proofs.lemmas.Option.{get_or_from_slice_get, slice_get_within}
 use Rattle.damon_types.specs.declared.row.Row.{Row}
 use Rattle.damon_types.specs.declared.scheme.Action.{Action}
 use Rattle.damon_types.specs.Span.{Span, span_of, spans}
@@ -16,10 +18,12 @@ use Rattle.priority.specs.declared.candidates.Candidate.{Candidate}
 use Rattle.priority.specs.Candidates.{DistinctStarts, starts}
 use Rattle.scheme_engine.specs.declared.cut.Part.{Part}
 use Rattle.scheme_engine.specs.Outcome.{candidate_at, changed_rows, changes_rows, cut_in_two, cut_place, may_cut, renewed, row_after, rows_after}
-use Rattle.scheme_engine.specs.Applying.{cut_rows, index_of, next_part, part_of, row_renewed, rows_cut, rows_renewed}
-use Rattle.scheme_engine.specs.Taken.{span_at}
-use Rattle.scheme_engine.proofs.ApplyLemmas.{no_candidate, none_new, not_changed}
+use Rattle.scheme_engine.specs.Applying.{IsCandidateOf, IsPartOf, cut_rows, index_of, next_part, part_of, row_renewed, rows_cut, rows_renewed}
+use Rattle.scheme_engine.specs.Taken.{no_span, span_at}
+use Rattle.scheme_engine.specs.Candidates.{passing_pages}
+use Rattle.scheme_engine.proofs.ApplyLemmas.{cut_within, no_candidate, none_new, not_changed, other_start}
 use Rattle.scheme_engine.proofs.ChoiceLemmas.{IsInPart, OneInPart}
+use Rattle.scheme_engine.proofs.PlaceLemmas.{Ascend, found_by_start, place_by_start, span_read}
 
 -- whether all passing pages of a candidate that starts where a row does are taken
 abbrev whole_at : List Candidate → Row → Bool
@@ -38,16 +42,16 @@ map_same : {X : Type 0} (f : X → X) → ((x : X) → f x ≡ x) → (xs : List
 map_same f is [] = refl
 map_same f is (x ∷ xs) = ap (λ ys. x ∷ ys) (map_same f is xs) ∙ ap (λ y. y ∷ map f xs) (sym (is x))
 
+either : (v : Bool) (r : Row) → cond v r r ≡ r
+either true r = refl
+either false r = refl
+
 -- a row after one candidate and then others
 one_more : (action : Action) (c : Candidate) (cs : List Candidate) (r : Row) → changes_rows action ≡ true → row_new cs (row_renewed action c r) ≡ row_new (c ∷ cs) r
 one_more action c cs r changes = rw changes (by ((c.share == c.passing) && (c.start == r.start)) (whole_at cs r))
   where
     by : (v w : Bool) → cond (whole_at cs (cond v (renewed r) r)) (renewed (cond v (renewed r) r)) (cond v (renewed r) r) ≡ cond (v || whole_at cs r) (renewed r) r
-    by true w = new (whole_at cs r)
-      where
-        new : (u : Bool) → cond u (renewed r) (renewed r) ≡ renewed r
-        new true = refl
-        new false = refl
+    by true w = either (whole_at cs (renewed r)) (renewed r)
     by false w = refl
 
 -- all rows after all candidates, without cuts
@@ -82,14 +86,309 @@ part_from action passes ss (c ∷ cs) p q is = by (part_of action passes ss c) r
     by None here (inl before) = inl (ap (λ o. option_or o p) (sym here) ∙ before)
     by (Some x) here (inl before) = inr (record { place = 0; within = omega arith; part = here ∙ ap (λ o. option_or o p) (sym here) ∙ before })
 
+-- what holds of the first item and of the others
+at_each : (P : Candidate → Type 0) (c : Candidate) (cs : List Candidate) → P c → ((k : ℕ) → k < length cs → P (get_or cs k no_candidate)) → (k : ℕ) → k < length (c ∷ cs) → P (get_or (c ∷ cs) k no_candidate)
+at_each P c cs here rest zero within = here
+at_each P c cs here rest (suc k) within = rest k (omega arith)
+
 pub part_none : (action : Action) (passes : ℕ → Bool) (ss : List Span) (cs : List Candidate) (p : Option Part) → fold (next_part action passes ss) p cs ≡ None → (p ≡ None) × ((k : ℕ) → k < length cs → part_of action passes ss (get_or cs k no_candidate) ≡ None)
 part_none action passes ss [] p is = (is, λ k within. absurd (omega arith))
 part_none action passes ss (c ∷ cs) p is = by (part_of action passes ss c) refl (part_none action passes ss cs (next_part action passes ss p c) is)
   where
     by : (o : Option Part) → part_of action passes ss c ≡ o → (next_part action passes ss p c ≡ None) × ((k : ℕ) → k < length cs → part_of action passes ss (get_or cs k no_candidate) ≡ None) → (p ≡ None) × ((k : ℕ) → k < length (c ∷ cs) → part_of action passes ss (get_or (c ∷ cs) k no_candidate) ≡ None)
-    by None here rest = (ap (λ o. option_or o p) (sym here) ∙ rest.0, each)
-      where
-        each : (k : ℕ) → k < length (c ∷ cs) → part_of action passes ss (get_or (c ∷ cs) k no_candidate) ≡ None
-        each zero within = here
-        each (suc k) within = rest.1 k (omega arith)
+    by None here rest = (ap (λ o. option_or o p) (sym here) ∙ rest.0, at_each (λ d. part_of action passes ss d ≡ None) c cs here rest.1)
     by (Some x) here rest = absurd (cc (here, rest.0))
+
+and_false : (v : Bool) → (v && false) ≡ false
+and_false true = refl
+and_false false = refl
+
+or_and : (v : Bool) → ((v && true) || false) ≡ v
+or_and true = refl
+or_and false = refl
+
+-- the candidate that starts where a row does
+pub record IsAt (cs : List Candidate) (r : Row) (c : Candidate) : Type 0 where
+  pub place : ℕ
+  pub within : place < length cs
+  pub is : get_or cs place no_candidate ≡ c
+  pub start : c.start ≡ r.start
+
+at_some : (cs : List Candidate) (r : Row) (c : Candidate) → candidate_at cs r ≡ Some c → IsAt cs r c
+at_some [] r c is = absurd (cc is)
+at_some (d ∷ cs) r c is = by (d.start == r.start) refl (at_some cs r c)
+  where
+    by : (v : Bool) → (d.start == r.start) ≡ v → (candidate_at cs r ≡ Some c → IsAt cs r c) → IsAt (d ∷ cs) r c
+    by true here rest =
+        let found : Some d ≡ Some c = sym (rw here refl) ∙ is in
+        let same : d ≡ c = cc in
+        record { place = 0; within = omega arith; is = same; start = ap (λ (x : Candidate). x.start) (sym same) ∙ eqb-true d.start r.start here }
+    by false here rest =
+        let found : candidate_at cs r ≡ Some c = sym (rw here refl) ∙ is in
+        let has = rest found in
+        record { place = suc has.place; within = omega (arith, has.within); is = has.is; start = has.start }
+
+whole_none : (cs : List Candidate) (r : Row) → candidate_at cs r ≡ None → whole_at cs r ≡ false
+whole_none [] r is = refl
+whole_none (d ∷ cs) r is = by (d.start == r.start) refl (whole_none cs r)
+  where
+    by : (v : Bool) → (d.start == r.start) ≡ v → (candidate_at cs r ≡ None → whole_at cs r ≡ false) → whole_at (d ∷ cs) r ≡ false
+    by true here rest = let found : Some d ≡ None = sym (rw here refl) ∙ is in absurd (cc found)
+    by false here rest =
+        let none : candidate_at cs r ≡ None = sym (rw here refl) ∙ is in
+        rw (here, and_false (d.share == d.passing)) (rest none)
+
+-- no other candidate starts at the page
+none_starts : (cs : List Candidate) (r : Row) (page : ℕ) → page ≡ r.start → AllByRecursion (λ y. nat_eq page y ≡ false) (starts cs) → whole_at cs r ≡ false
+none_starts [] r page is all = refl
+none_starts (d ∷ cs) r page is all = rw (other, and_false (d.share == d.passing)) (none_starts cs r page is all.1)
+  where
+    apart : nat_eq page d.start ≡ false
+    apart = all.0
+
+    other : (d.start == r.start) ≡ false
+    other = grind (arith, nat_tests)
+
+whole_some : (cs : List Candidate) (r : Row) (c : Candidate) → DistinctStarts cs → candidate_at cs r ≡ Some c → whole_at cs r ≡ (c.share == c.passing)
+whole_some [] r c distinct is = absurd (cc is)
+whole_some (d ∷ cs) r c distinct is = by (d.start == r.start) refl (whole_some cs r c (IsDistinct-tail nat_eq d.start (starts cs) distinct))
+  where
+    by : (v : Bool) → (d.start == r.start) ≡ v → (candidate_at cs r ≡ Some c → whole_at cs r ≡ (c.share == c.passing)) → whole_at (d ∷ cs) r ≡ (c.share == c.passing)
+    by true here rest =
+        let found : Some d ≡ Some c = sym (rw here refl) ∙ is in
+        let same : d ≡ c = cc in
+        let others = none_starts cs r d.start (eqb-true d.start r.start here) (IsDistinct-head nat_eq d.start (starts cs) distinct) in
+        rw (here, others) (or_and (d.share == d.passing)) ∙ ap (λ (x : Candidate). x.share == x.passing) same
+    by false here rest =
+        let found : candidate_at cs r ≡ Some c = sym (rw here refl) ∙ is in
+        rw (here, and_false (d.share == d.passing)) (rest found)
+
+-- a candidate of the list is the one at its row
+at_found : (cs : List Candidate) (r : Row) (j : ℕ) → DistinctStarts cs → j < length cs → (get_or cs j no_candidate).start ≡ r.start → candidate_at cs r ≡ Some (get_or cs j no_candidate)
+at_found [] r j distinct within start = absurd (omega arith)
+at_found (d ∷ cs) r zero distinct within start = let here : (d.start == r.start) ≡ true = eq-eqb d.start r.start start in rw here refl
+at_found (d ∷ cs) r (suc j) distinct within start =
+    let here : j < length cs = omega arith in
+    let apart = All-from_recursion (λ y. nat_eq d.start y ≡ false) (starts cs) (IsDistinct-head nat_eq d.start (starts cs) distinct) j 0 (omega (arith, here, length-map cs (λ (c : Candidate). c.start))) in
+    let read = get_or-map (λ (c : Candidate). c.start) cs j no_candidate 0 here in
+    let other : (d.start == r.start) ≡ false = ap (λ n. nat_eq d.start n) (sym (read ∙ start)) ∙ apart in
+    rw other (at_found cs r j (IsDistinct-tail nat_eq d.start (starts cs) distinct) here start)
+
+-- what the definition makes of a row
+abbrev row_defined : RegionList → (ℕ → Bool) → List Candidate → Row → List Row
+row_defined regions passes cs r = option_map_or (row_after regions passes r) (candidate_at cs r) (r ∷ [])
+
+-- a row of which no candidate is taken in part
+row_not_cut : (regions : RegionList) (passes : ℕ → Bool) (cs : List Candidate) (r : Row) → DistinctStarts cs → ((c : Candidate) → IsAt cs r c → (c.share ≤ c.passing) × (IsInPart c → ⊥)) → row_defined regions passes cs r ≡ row_new cs r ∷ []
+row_not_cut regions passes cs r distinct none = by (candidate_at cs r) refl
+  where
+    one : (c : Candidate) → candidate_at cs r ≡ Some c → (v w : Bool) → (c.share == c.passing) ≡ v → nat_lt 0 c.share ≡ w → row_after regions passes r c ≡ cond (c.share == c.passing) (renewed r) r ∷ []
+    one c is true w whole some = rw whole refl
+    one c is false true whole some =
+        let facts = none c (at_some cs r c is) in
+        absurd (facts.1 (ltb-true 0 c.share some, grind (arith, nat_tests, facts.0)))
+    one c is false false whole some = rw (whole, some) refl
+
+    by : (o : Option Candidate) → candidate_at cs r ≡ o → row_defined regions passes cs r ≡ row_new cs r ∷ []
+    by None is = rw (is, whole_none cs r is) refl
+    by (Some c) is = rw (is, whole_some cs r c distinct is) (one c is (c.share == c.passing) (nat_lt 0 c.share) refl refl)
+
+-- a row of which a candidate is taken in part
+row_cut : (regions : RegionList) (passes : ℕ → Bool) (cs : List Candidate) (r : Row) (c : Candidate) → DistinctStarts cs → candidate_at cs r ≡ Some c → IsInPart c → (row_defined regions passes cs r ≡ cond (may_cut regions (cut_place passes c.share (span_of r)) r) (cut_in_two (cut_place passes c.share (span_of r)) r) (r ∷ [])) × (row_new cs r ≡ r)
+row_cut regions passes cs r c distinct is part =
+    let other : (c.share == c.passing) ≡ false = grind (arith, nat_tests, part.0, part.1) in
+    let some : nat_lt 0 c.share ≡ true = lt-ltb 0 c.share part.0 in
+    let here : row_after regions passes r c ≡ cond (may_cut regions (cut_place passes c.share (span_of r)) r) (cut_in_two (cut_place passes c.share (span_of r)) r) (r ∷ []) = rw (other, some) refl in
+    let old : whole_at cs r ≡ false = whole_some cs r c distinct is ∙ other in
+    (ap (λ o. option_map_or (row_after regions passes r) o (r ∷ [])) is ∙ here, rw old refl)
+
+-- all rows, of which none is cut, or one
+flat_map_new : (F : Row → List Row) (g : Row → Row) (rows : List Row) → ((k : ℕ) → k < length rows → F (row_at rows k) ≡ g (row_at rows k) ∷ []) → flat_map F rows ≡ map g rows
+flat_map_new F g [] each = refl
+flat_map_new F g (r ∷ rows) each =
+    ap (λ rs. rs ++ flat_map F rows) (each 0 (omega arith)) ∙ ap (λ rs. g r ∷ rs) (flat_map_new F g rows (λ k within. each (suc k) (omega arith)))
+
+flat_map_cut : (F : Row → List Row) (g : Row → Row) (i at : ℕ) (rows : List Row) → i < length rows → F (row_at rows i) ≡ cut_in_two at (g (row_at rows i)) → ((k : ℕ) → k < length rows → k ≢ i → F (row_at rows k) ≡ g (row_at rows k) ∷ []) → flat_map F rows ≡ cut_rows i at (map g rows)
+flat_map_cut F g i at [] within here others = absurd (omega arith)
+flat_map_cut F g zero at (r ∷ rows) within here others =
+    ap (λ rs. rs ++ flat_map F rows) here ∙ ap (λ rs. cut_in_two at (g r) ++ rs) (flat_map_new F g rows (λ k inside. others (suc k) (omega arith) (omega arith)))
+flat_map_cut F g (suc i) at (r ∷ rows) within here others =
+    let rest = flat_map_cut F g i at rows (omega arith) here (λ k inside other. others (suc k) (omega arith) (omega (arith, other))) in
+    let next : suc i + 1 ≡ suc (i + 1) = omega arith in
+    let moved : g r ∷ cut_rows i at (map g rows) ≡ cut_rows (suc i) at (g r ∷ map g rows) = rw next refl in
+    ap (λ rs. rs ++ flat_map F rows) (others 0 (omega arith) (omega arith)) ∙ ap (λ rs. g r ∷ rs) rest ∙ moved
+
+-- what is known of the candidates that are chosen
+pub record AreChosen (passes : ℕ → Bool) (rows : List Row) (cs : List Candidate) : Type 0 where
+  pub ascend : Ascend 0 (spans rows)
+  pub each : All (IsCandidateOf passes (spans rows)) cs
+  pub distinct : DistinctStarts cs
+  pub one : OneInPart cs
+
+is_at : {passes : ℕ → Bool} {rows : List Row} {cs : List Candidate} {r : Row} {c : Candidate} → AreChosen passes rows cs → IsAt cs r c → IsCandidateOf passes (spans rows) c
+is_at {passes} {rows} {cs} {r} {c} are at = subst (IsCandidateOf passes (spans rows)) at.is (are.each at.place no_candidate at.within)
+
+-- the index of the row of a candidate
+index_is : {passes : ℕ → Bool} {rows : List Row} {cs : List Candidate} {c : Candidate} → AreChosen passes rows cs → (is : IsCandidateOf passes (spans rows) c) → index_of (spans rows) c ≡ Some is.index
+index_is {passes} {rows} {cs} {c} are is = place_by_start (spans rows) is.index is.span c.start are.ascend is.at is.start
+
+-- without a part the rows are those of the definition
+pub rows_none : (action : Action) (passes : ℕ → Bool) (regions : RegionList) (cs : List Candidate) → AreChosen passes regions.rows cs → fold (next_part action passes (spans regions.rows)) None cs ≡ None → fold (rows_renewed action) regions.rows cs ≡ rows_after action regions passes cs
+rows_none action passes regions cs are none = by (changes_rows action) refl
+  where
+    no_parts : (k : ℕ) → k < length cs → part_of action passes (spans regions.rows) (get_or cs k no_candidate) ≡ None
+    no_parts = (part_none action passes (spans regions.rows) cs None none).1
+
+    not_in_part : (r : Row) (c : Candidate) → changes_rows action ≡ true → IsAt cs r c → IsInPart c → ⊥
+    not_in_part r c changes at part =
+        let is = is_at are at in
+        let one : nat_lt 0 c.share ≡ true = lt-ltb 0 c.share part.0 in
+        let two : nat_lt c.share c.passing ≡ true = lt-ltb c.share c.passing part.1 in
+        let none_here : part_of action passes (spans regions.rows) c ≡ None = ap (part_of action passes (spans regions.rows)) (sym at.is) ∙ no_parts at.place at.within in
+        let some_here : part_of action passes (spans regions.rows) c ≡ Some (record { index = is.index; pages = cut_place passes c.share (span_at (spans regions.rows) c) }) = rw (changes, one, two, index_is are is) refl in
+        absurd (cc (none_here, some_here))
+
+    by : (v : Bool) → changes_rows action ≡ v → fold (rows_renewed action) regions.rows cs ≡ rows_after action regions passes cs
+    by false stays = rows_stay action cs regions.rows stays ∙ sym (rw stays refl)
+    by true changes =
+        let each : (k : ℕ) → k < length regions.rows → row_defined regions passes cs (row_at regions.rows k) ≡ row_new cs (row_at regions.rows k) ∷ [] =
+            λ k within. row_not_cut regions passes cs (row_at regions.rows k) are.distinct (λ c at. ((is_at are at).share, not_in_part (row_at regions.rows k) c changes at)) in
+        rows_new action cs regions.rows changes
+        ∙ sym (flat_map_new (row_defined regions passes cs) (row_new cs) regions.rows each)
+        ∙ sym (rw changes refl)
+
+-- what is known of the part
+pub record PartFacts (action : Action) (passes : ℕ → Bool) (rows : List Row) (cs : List Candidate) (q : Part) : Type 0 where
+  pub changes : changes_rows action ≡ true
+  pub place : ℕ
+  pub inside : place < length cs
+  pub candidate : IsCandidateOf passes (spans rows) (get_or cs place no_candidate)
+  pub part : IsInPart (get_or cs place no_candidate)
+  pub index : q.index ≡ candidate.index
+  pub within : q.index < length rows
+  pub start : (get_or cs place no_candidate).start ≡ (row_at rows q.index).start
+  pub passing : (get_or cs place no_candidate).passing ≡ length (passing_pages passes (span_of (row_at rows q.index)))
+  pub pages : q.pages ≡ cut_place passes (get_or cs place no_candidate).share (span_of (row_at rows q.index))
+
+pub part_facts : (action : Action) (passes : ℕ → Bool) (rows : List Row) (cs : List Candidate) (q : Part) → AreChosen passes rows cs → fold (next_part action passes (spans rows)) None cs ≡ Some q → PartFacts action passes rows cs q
+part_facts action passes rows cs q are some = by (part_from action passes (spans rows) cs None q some)
+  where
+    ss : List Span
+    ss = spans rows
+
+    facts : (j : ℕ) → j < length cs → (is : IsCandidateOf passes ss (get_or cs j no_candidate)) → (u v w : Bool) → changes_rows action ≡ u → nat_lt 0 (get_or cs j no_candidate).share ≡ v → nat_lt (get_or cs j no_candidate).share (get_or cs j no_candidate).passing ≡ w → part_of action passes ss (get_or cs j no_candidate) ≡ Some q → PartFacts action passes rows cs q
+    facts j inside is false v w changes one two has = let none : None ≡ Some q = sym (rw changes refl) ∙ has in absurd (cc none)
+    facts j inside is true false w changes one two has = let none : None ≡ Some q = sym (rw (changes, one) refl) ∙ has in absurd (cc none)
+    facts j inside is true true false changes one two has = let none : None ≡ Some q = sym (rw (changes, one, two) refl) ∙ has in absurd (cc none)
+    facts j inside is true true true changes one two has =
+        let c = get_or cs j no_candidate in
+        let found : Some (record { index = is.index; pages = cut_place passes c.share (span_at ss c) }) ≡ Some q = sym (rw (changes, one, two, index_is are is) refl) ∙ has in
+        let same : record { index = is.index; pages = cut_place passes c.share (span_at ss c) } ≡ q = cc in
+        let index : q.index ≡ is.index = ap (λ (p : Part). p.index) (sym same) in
+        let at : is.index < length rows = omega (arith, slice_get_within ss is.index is.span is.at, length-map rows span_of) in
+        let within : q.index < length rows = omega (arith, index, at) in
+        let read : is.span ≡ span_of (row_at rows q.index) = sym (get_or_from_slice_get ss is.index is.span no_span is.at) ∙ ap (λ i. get_or ss i no_span) (sym index) ∙ span_read rows q.index within in
+        let placed : span_at ss c ≡ is.span = ap (λ o. unwrap_or o no_span) (found_by_start 0 ss is.index is.span c.start are.ascend is.at is.start) in
+        record {
+          changes = changes;
+          place = j;
+          inside = inside;
+          candidate = is;
+          part = (ltb-true 0 c.share one, ltb-true c.share c.passing two);
+          index = index;
+          within = within;
+          start = is.start ∙ ap (λ (s : Span). s.start) read;
+          passing = is.passing ∙ ap (λ s. length (passing_pages passes s)) read;
+          pages = ap (λ (p : Part). p.pages) (sym same) ∙ ap (cut_place passes c.share) (placed ∙ read);
+        }
+
+    by : (None ≡ Some q) ⊎ HasPart action passes ss cs q → PartFacts action passes rows cs q
+    by (inl none) = absurd (cc none)
+    by (inr has) = facts has.place has.within (are.each has.place no_candidate has.within) _ _ _ refl refl refl has.part
+
+-- the part names one of the rows, and is no longer than it
+pub part_fits : (action : Action) (passes : ℕ → Bool) (rows : List Row) (cs : List Candidate) (q : Part) → AreChosen passes rows cs → fold (next_part action passes (spans rows)) None cs ≡ Some q → IsPartOf (fold (rows_renewed action) rows cs) q
+part_fits action passes rows cs q are some =
+    let facts = part_facts action passes rows cs q are some in
+    let c = get_or cs facts.place no_candidate in
+    let r = row_at rows q.index in
+    let new = rows_new action cs rows facts.changes in
+    let read : row_at (map (row_new cs) rows) q.index ≡ row_new cs r = get_or-map (row_new cs) rows q.index no_row no_row facts.within in
+    let pages : (row_new cs r).pages ≡ r.pages = same_pages (whole_at cs r) r in
+    let end = cut_within passes c.share (span_of r) facts.part.0 (omega (arith, facts.part.1, facts.passing)) in
+    let part : IsPartOf (map (row_new cs) rows) q = record {
+      index = omega (arith, facts.within, length-map rows (row_new cs));
+      pages = omega (arith, end.1, facts.pages, pages, ap (λ (x : Row). x.pages) read);
+    } in
+    subst (λ rs. IsPartOf rs q) (sym new) part
+  where
+    same_pages : (v : Bool) (r : Row) → (cond v (renewed r) r).pages ≡ r.pages
+    same_pages true r = refl
+    same_pages false r = refl
+
+-- what holds of one index and of the others
+at_others : (P : ℕ → Type 0) (n i : ℕ) → P i → ((k : ℕ) → k < n → k ≢ i → P k) → (k : ℕ) → k < n → P k
+at_others P n i here rest k within = by (cases_eq k i)
+  where
+    by : (k ≡ i) ⊎ (k ≡ i → ⊥) → P k
+    by (inl same) = subst P (sym same) here
+    by (inr other) = rest k within other
+
+-- with a part the rows are those of the definition
+pub rows_some : (action : Action) (passes : ℕ → Bool) (regions : RegionList) (cs : List Candidate) (q : Part) → AreChosen passes regions.rows cs → fold (next_part action passes (spans regions.rows)) None cs ≡ Some q → rows_cut (record regions { rows = fold (rows_renewed action) regions.rows cs }) q ≡ rows_after action regions passes cs
+rows_some action passes regions cs q are some =
+    ap (λ rs. rows_cut (record regions { rows = rs }) q) new ∙ by (may_cut regions q.pages r) refl ∙ sym (rw facts.changes refl)
+  where
+    rows : List Row
+    rows = regions.rows
+
+    facts : PartFacts action passes regions.rows cs q
+    facts = part_facts action passes regions.rows cs q are some
+
+    c : Candidate
+    c = get_or cs facts.place no_candidate
+
+    r : Row
+    r = row_at regions.rows q.index
+
+    new : fold (rows_renewed action) regions.rows cs ≡ map (row_new cs) regions.rows
+    new = rows_new action cs regions.rows facts.changes
+
+    here : (row_defined regions passes cs r ≡ cond (may_cut regions (cut_place passes c.share (span_of r)) r) (cut_in_two (cut_place passes c.share (span_of r)) r) (r ∷ [])) × (row_new cs r ≡ r)
+    here = row_cut regions passes cs r c are.distinct (at_found cs r facts.place are.distinct facts.inside facts.start) facts.part
+
+    defined : row_defined regions passes cs r ≡ cond (may_cut regions q.pages r) (cut_in_two q.pages r) (r ∷ [])
+    defined = here.0 ∙ ap (λ n. cond (may_cut regions n r) (cut_in_two n r) (r ∷ [])) (sym facts.pages)
+
+    read : row_at (map (row_new cs) regions.rows) q.index ≡ r
+    read = get_or-map (row_new cs) regions.rows q.index no_row no_row facts.within ∙ here.1
+
+    -- no other row is cut
+    not_in_part : (k : ℕ) → k < length regions.rows → k ≢ q.index → (d : Candidate) → IsAt cs (row_at regions.rows k) d → IsInPart d → ⊥
+    not_in_part k within other d at part = order (cases_order at.place facts.place)
+      where
+        there : IsInPart (get_or cs at.place no_candidate)
+        there = subst IsInPart (sym at.is) part
+
+        order : (at.place ≡ facts.place) ⊎ ((at.place < facts.place) ⊎ (facts.place < at.place)) → ⊥
+        order (inl same) =
+            let one : d.start ≡ r.start = ap (λ (x : Candidate). x.start) (sym at.is) ∙ ap (λ j. (get_or cs j no_candidate).start) same ∙ facts.start in
+            absurd (other_start regions.rows q.index k are.ascend facts.within within other (sym at.start ∙ one))
+        order (inr (inl before)) = are.one at.place facts.place no_candidate before facts.inside there facts.part
+        order (inr (inr after)) = are.one facts.place at.place no_candidate after at.within facts.part there
+
+    others : (k : ℕ) → k < length regions.rows → k ≢ q.index → row_defined regions passes cs (row_at regions.rows k) ≡ row_new cs (row_at regions.rows k) ∷ []
+    others k within other = row_not_cut regions passes cs (row_at regions.rows k) are.distinct (λ d at. ((is_at are at).share, not_in_part k within other d at))
+
+    -- the test of the cut
+    test : may_cut (record regions { rows = map (row_new cs) regions.rows }) q.pages (row_at (map (row_new cs) regions.rows) q.index) ≡ may_cut regions q.pages r
+    test = ap (may_cut (record regions { rows = map (row_new cs) regions.rows }) q.pages) read ∙ ap (λ n. nat_lt n regions.max && (nat_le regions.unit q.pages && nat_le regions.unit (r.pages - q.pages))) (length-map regions.rows (row_new cs))
+
+    by : (v : Bool) → may_cut regions q.pages r ≡ v → rows_cut (record regions { rows = map (row_new cs) regions.rows }) q ≡ changed_rows regions passes cs
+    by true is =
+        let cut : row_defined regions passes cs r ≡ cut_in_two q.pages (row_new cs r) = defined ∙ rw is refl ∙ ap (cut_in_two q.pages) (sym here.1) in
+        rw (test ∙ is) (sym (flat_map_cut (row_defined regions passes cs) (row_new cs) q.index q.pages regions.rows facts.within cut others))
+    by false is =
+        let whole : row_defined regions passes cs r ≡ row_new cs r ∷ [] = defined ∙ rw is refl ∙ ap (λ x. x ∷ []) (sym here.1) in
+        let Same : ℕ → Type 0 = λ k. row_defined regions passes cs (row_at regions.rows k) ≡ row_new cs (row_at regions.rows k) ∷ [] in
+        rw (test ∙ is) (sym (flat_map_new (row_defined regions passes cs) (row_new cs) regions.rows (at_others Same (length regions.rows) q.index whole others)))

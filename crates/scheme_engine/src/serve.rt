@@ -34,7 +34,33 @@ pub(crate) fn serve(
     candidates: &mut Candidates,
     regions: &mut Regions,
     applied: &mut Applied,
-) {
+)
+    requires window { IsSome slot.old.set → slot.old.window.start ≤ tick }
+    requires within { AreWithin context.now.space.now regions.old.ranges }
+    requires aggr { 1 ≤ context.now.aggr }
+    requires cap { candidates.old.cap ≡ regions.old.cap }
+    requires room { length applied.old.runs + MAX_RUNS * regions.old.cap
+        ≤ RUNS_PER_ROW * applied.old.cap }
+    requires choices { length applied.old.choices < SLOTS }
+    requires fits { FitsSlot (slot_served number context.now.space.now context.now.aggr tick
+        regions.old slot.old).slot }
+    ensures slot { slot.new ≡ (slot_served number context.now.space.now context.now.aggr tick
+        regions.old slot.old).slot }
+    ensures rows { regions.new ≡ record regions.old {
+      rows = (slot_served number context.now.space.now context.now.aggr tick regions.old
+          slot.old).rows;
+    } }
+    ensures applied { applied.new ≡ record applied.old {
+      runs = applied.old.runs ++ (slot_served number context.now.space.now context.now.aggr tick
+          regions.old slot.old).runs;
+      choices = applied.old.choices ++ (slot_served number context.now.space.now
+          context.now.aggr tick regions.old slot.old).choices;
+    } }
+    ensures few { length applied.new.runs
+        ≤ length applied.old.runs + MAX_RUNS * regions.old.cap }
+    ensures one { length applied.new.choices ≤ length applied.old.choices + 1 }
+    ensures cap { candidates.new.cap ≡ candidates.old.cap }
+{
     slot.turn(tick);
     if let Some(set) = slot.scheme() {
         serve_set(number, slot, &set, context, candidates, regions, applied);
@@ -50,7 +76,33 @@ fn serve_set(
     candidates: &mut Candidates,
     regions: &mut Regions,
     applied: &mut Applied,
-) {
+)
+    requires set { slot.old.set ≡ Some set.now }
+    requires within { AreWithin context.now.space.now regions.old.ranges }
+    requires aggr { 1 ≤ context.now.aggr }
+    requires cap { candidates.old.cap ≡ regions.old.cap }
+    requires room { length applied.old.runs + MAX_RUNS * regions.old.cap
+        ≤ RUNS_PER_ROW * applied.old.cap }
+    requires choices { length applied.old.choices < SLOTS }
+    requires fits { FitsSlot (scheme_served number context.now.space.now context.now.aggr
+        regions.old slot.old (Some set.now)).slot }
+    ensures slot { slot.new ≡ (scheme_served number context.now.space.now context.now.aggr
+        regions.old slot.old (Some set.now)).slot }
+    ensures rows { regions.new ≡ record regions.old {
+      rows = (scheme_served number context.now.space.now context.now.aggr regions.old slot.old
+          (Some set.now)).rows;
+    } }
+    ensures applied { applied.new ≡ record applied.old {
+      runs = applied.old.runs ++ (scheme_served number context.now.space.now context.now.aggr
+          regions.old slot.old (Some set.now)).runs;
+      choices = applied.old.choices ++ (scheme_served number context.now.space.now
+          context.now.aggr regions.old slot.old (Some set.now)).choices;
+    } }
+    ensures few { length applied.new.runs
+        ≤ length applied.old.runs + MAX_RUNS * regions.old.cap }
+    ensures one { length applied.new.choices ≤ length applied.old.choices + 1 }
+    ensures cap { candidates.new.cap ≡ candidates.old.cap }
+{
     if !set.gauge.active() {
         applied.push_choice(SlotChoice {
             slot: number,
@@ -90,7 +142,35 @@ fn run_scheme(
     candidates: &mut Candidates,
     regions: &mut Regions,
     applied: &mut Applied,
-) -> Counts {
+) -> Counts
+    requires within { AreWithin context.now.space.now regions.old.ranges }
+    requires aggr { 1 ≤ context.now.aggr }
+    requires cap { candidates.old.cap ≡ regions.old.cap }
+    requires room { length applied.old.runs + MAX_RUNS * regions.old.cap
+        ≤ RUNS_PER_ROW * applied.old.cap }
+    ensures runs { applied.new ≡ record applied.old {
+      runs = applied.old.runs ++ (outcome_of number context.now.space.now context.now.aggr
+          scheme.now left regions.old).runs;
+    } }
+    ensures few { length applied.new.runs
+        ≤ length applied.old.runs + MAX_RUNS * regions.old.cap }
+    ensures rows { regions.new ≡ record regions.old {
+      rows = (outcome_of number context.now.space.now context.now.aggr scheme.now left
+          regions.old).rows;
+    } }
+    ensures tried { result.tried ≡ (outcome_of number context.now.space.now context.now.aggr
+        scheme.now left regions.old).tried }
+    ensures taken { result.chosen.taken ≡ (outcome_of number context.now.space.now
+        context.now.aggr scheme.now left regions.old).taken }
+    ensures lowest { result.chosen.lowest ≡ (outcome_of number context.now.space.now
+        context.now.aggr scheme.now left regions.old).lowest }
+    ensures exceeds { result.chosen.exceeds ≡ (outcome_of number context.now.space.now
+        context.now.aggr scheme.now left regions.old).exceeds }
+    ensures within { IfSome left (λ most. result.chosen.taken ≤ most) }
+    ensures cap { candidates.new.cap ≡ candidates.old.cap }
+{
+    // For its clauses alone: there are at most `cap` rows, and they lie apart.
+    let _count = regions.len();
     let tried = gather(scheme, context, regions, candidates);
     let chosen = candidates.choose(left);
     if let Some(part) = apply(number, scheme, context, candidates, regions, applied) {
