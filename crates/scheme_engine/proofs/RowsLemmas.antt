@@ -1,6 +1,6 @@
 -- The rows after an action, as the code makes them: the rows taken whole are made new one after another, and then one is cut.
 use Rattle.std.proofs.Common.{◌≡◌, ◌≢◌, ℕ, zero, suc, ◌+◌, ◌-◌, ◌≤◌, ◌<◌, Bool, true, false, cond, List, [], ◌∷◌, ◌++◌, Option, Some, None, length, map, take, drop, get_or, refl, sym, ap, ◌∙◌, subst, inl, inr, arith}
-use Rattle.std.specs.Prelude.{◌&&◌, ◌||◌, ◌==◌, ◌⊎◌, All, fold, find, nat_lt, nat_le, nat_eq}
+use Rattle.std.specs.Prelude.{◌&&◌, ◌||◌, ◌==◌, ◌⊎◌, All, IsPermutation, fold, find, nat_lt, nat_le, nat_eq}
 use Rattle.std.specs.List.{AllByRecursion, IsDistinct, flat_map, list_any}
 use Rattle.std.specs.Option.{option_map, option_map_or, option_or, unwrap_or}
 use Rattle.std.proofs.lemmas.Bool.{cases_eq, cases_order, eq-eqb, eqb-true, lt-ltb, ltb-true}
@@ -11,19 +11,27 @@ use Rattle.std.proofs.lemmas.Map.Keys.{IsDistinct-head, IsDistinct-tail}
 use Rattle.std.proofs.lemmas.Option.{get_or_from_slice_get, slice_get_within}
 use Rattle.damon_types.specs.declared.row.Row.{Row}
 use Rattle.damon_types.specs.declared.scheme.Action.{Action}
+use Rattle.damon_types.specs.declared.scheme.Scheme.{Scheme}
+use Rattle.damon_types.specs.declared.space.Target.{Target}
+use Rattle.damon_types.specs.Ranges.{InOrder}
 use Rattle.damon_types.specs.Span.{Span, span_of, spans}
 use Rattle.region_list.specs.Regions.{RegionList}
 use Rattle.region_list.specs.Rows.{no_row, row_at}
+use Rattle.region_list.specs.Tiling.{Tiling}
+use Rattle.scheme_filter.specs.Passes.{passes}
 use Rattle.priority.specs.declared.candidates.Candidate.{Candidate}
 use Rattle.priority.specs.Candidates.{DistinctStarts, starts}
+use Rattle.priority.specs.Order.{InPriority}
+use Rattle.priority.specs.Share.{with_shares}
 use Rattle.scheme_engine.specs.declared.cut.Part.{Part}
 use Rattle.scheme_engine.specs.Outcome.{candidate_at, changed_rows, changes_rows, cut_in_two, cut_place, may_cut, renewed, row_after, rows_after}
 use Rattle.scheme_engine.specs.Applying.{IsCandidateOf, IsPartOf, cut_rows, index_of, next_part, part_of, row_renewed, rows_cut, rows_renewed}
 use Rattle.scheme_engine.specs.Taken.{no_span, span_at}
-use Rattle.scheme_engine.specs.Candidates.{passing_pages}
+use Rattle.scheme_engine.specs.Candidates.{candidates_of, passing_pages}
 use Rattle.scheme_engine.proofs.ApplyLemmas.{cut_within, no_candidate, none_new, not_changed, other_start}
-use Rattle.scheme_engine.proofs.ChoiceLemmas.{IsInPart, OneInPart}
-use Rattle.scheme_engine.proofs.PlaceLemmas.{Ascend, found_by_start, place_by_start, span_read}
+use Rattle.scheme_engine.proofs.ChoiceLemmas.{IsInPart, OneInPart, chosen_have_rows, one_in_part}
+use Rattle.scheme_engine.proofs.GatherLemmas.{HasRow, candidates_have_rows}
+use Rattle.scheme_engine.proofs.PlaceLemmas.{Ascend, found_by_start, place_by_start, rows_ascend, span_read}
 
 -- whether all passing pages of a candidate that starts where a row does are taken
 abbrev whole_at : List Candidate → Row → Bool
@@ -392,3 +400,14 @@ rows_some action passes regions cs q are some =
         let whole : row_defined regions passes cs r ≡ row_new cs r ∷ [] = defined ∙ rw is refl ∙ ap (λ x. x ∷ []) (sym here.1) in
         let Same : ℕ → Type 0 = λ k. row_defined regions passes cs (row_at regions.rows k) ≡ row_new cs (row_at regions.rows k) ∷ [] in
         rw (test ∙ is) (sym (flat_map_new (row_defined regions passes cs) (row_new cs) regions.rows (at_others Same (length regions.rows) q.index whole others)))
+
+-- the candidates that a choice gives
+pub are_chosen : (space : List Target) (aggr : ℕ) (scheme : Scheme) (left : Option ℕ) (regions : RegionList) (cs ds : List Candidate) → 1 ≤ regions.unit → InOrder regions.ranges → Tiling regions.unit regions.ranges (spans regions.rows) → cs ≡ candidates_of space regions.ranges aggr scheme regions.rows → IsPermutation (with_shares left cs) ds → InPriority ds → DistinctStarts ds → All (λ c. c.share ≤ c.passing) ds → AreChosen (passes scheme.filters space regions.ranges) regions.rows ds
+are_chosen space aggr scheme left regions cs ds unit order tiling gathered same first distinct shares =
+    let has = subst (All (HasRow (passes scheme.filters space regions.ranges) regions.rows)) (sym gathered) (candidates_have_rows space regions.ranges aggr scheme regions.rows) in
+    record {
+      ascend = rows_ascend regions.unit regions.ranges (spans regions.rows) unit order tiling;
+      each = chosen_have_rows left (passes scheme.filters space regions.ranges) regions.rows cs ds has same shares;
+      distinct = distinct;
+      one = one_in_part left cs ds same first;
+    }
