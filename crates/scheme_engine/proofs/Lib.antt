@@ -5,4 +5,5 @@ pub mod CutLemmas
 pub mod ApplyLemmas
 pub mod ChoiceLemmas
 pub mod RowsLemmas
+pub mod EngineLemmas
 mod Examples
