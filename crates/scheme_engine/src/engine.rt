@@ -74,7 +74,8 @@ impl Engine {
     pub fn metric(&mut self, value: u32)
         ensures { self.new ≡ record self.old { slots = map (metered value) self.old.slots } }
     {
-        for slot in self.slots.iter_mut() {
+        for number in 0..SLOTS {
+            let slot = &mut self.slots[number];
             slot.metric(value);
         }
     }
