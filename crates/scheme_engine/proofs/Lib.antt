@@ -6,4 +6,5 @@ pub mod ApplyLemmas
 pub mod ChoiceLemmas
 pub mod RowsLemmas
 pub mod EngineLemmas
+pub mod LawLemmas
 mod Examples

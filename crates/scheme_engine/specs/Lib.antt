@@ -4,5 +4,6 @@ pub mod Outcome
 pub mod Slots
 pub mod Served
 pub mod Engine
+pub mod Kept
 pub mod Applied
 pub mod Applying

@@ -12,6 +12,8 @@ mod candidates;
 mod cut;
 /// All slots.
 mod engine;
+/// Laws of runs.
+mod laws;
 /// The pages of one row.
 mod pages;
 /// Serving one slot.
@@ -21,4 +23,5 @@ mod slot;
 
 pub use applied::{Applied, AppliedRun, RUNS_PER_ROW, SlotChoice};
 pub use engine::Engine;
+pub use laws::outcome_rows_are_kept;
 pub use slot::{SLOTS, SlotView};

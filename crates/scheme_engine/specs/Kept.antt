@@ -1,0 +1,31 @@
+-- What runs of schemes keep.
+use Rattle.std.specs.Prelude.{◌≡◌, ℕ, ◌+◌, ◌*◌, ◌≤◌, List, length, IfSome}
+use Rattle.damon_types.specs.declared.space.TheConstants.{MAX_PAGES}
+use Rattle.damon_types.specs.Ranges.{InOrder}
+use Rattle.damon_types.specs.Span.{Span, spans}
+use Rattle.region_list.specs.Regions.{RegionList}
+use Rattle.region_list.specs.Tiling.{Tiling}
+use Rattle.scheme_engine.specs.declared.applied.AppliedRun.{AppliedRun}
+use Rattle.scheme_engine.specs.Slots.{SetScheme, SlotValue}
+
+-- the rows tile the ranges with the minimum size, which is at least one page, and are at most `max`
+pub record AreTiled (r : RegionList) : Type 0 where
+  pub unit : 1 ≤ r.unit
+  pub order : InOrder r.ranges
+  pub tiling : Tiling r.unit r.ranges (spans r.rows)
+  pub few : length r.rows ≤ r.max
+
+-- a run of pages lies in a row, and has a page
+pub record LiesInRow (r : AppliedRun) (s : Span) : Type 0 where
+  pub target : r.target ≡ s.target
+  pub some : 1 ≤ r.pages
+  pub from : s.start ≤ r.start
+  pub to : r.start + r.pages ≤ s.start + s.pages
+
+-- After t runs the statistics of a set slot, and the pages charged to a slot, are at most t times what one run can add: no run
+-- has more rows or pages than a space may have pages.
+pub record CountsWithin (t : ℕ) (s : SlotValue) : Type 0 where
+  pub tried : IfSome s.set (λ h. h.tried ≤ MAX_PAGES * t)
+  pub applied : IfSome s.set (λ h. h.applied ≤ MAX_PAGES * t)
+  pub exceeds : IfSome s.set (λ h. h.exceeds ≤ t)
+  pub charged : s.window.charged ≤ MAX_PAGES * t
