@@ -1,8 +1,7 @@
 -- Rows of a tiling: their sizes, where they lie in the space, how many there are, and their counts.
-use Rattle.std.proofs.Common.{◌≡◌, ℕ, zero, suc, ◌+◌, ◌-◌, ◌/◌, ◌≤◌, ◌<◌, Bool, true, false, cond, List, [], ◌∷◌, ◌++◌, length, refl, ap, ◌∙◌, subst, arith}
+use Rattle.std.proofs.Common.{◌≡◌, ℕ, zero, suc, ◌+◌, ◌/◌, ◌≤◌, ◌<◌, Bool, true, false, cond, List, [], ◌∷◌, ◌++◌, length, refl, ap, ◌∙◌, subst, arith}
 use Rattle.std.specs.Prelude.{count_by, Any}
 use Rattle.std.specs.List.{AllByRecursion, list_any, flat_map}
-use Rattle.std.proofs.Math.Nat.{div-le_of_le-mul, mul-le-mul_right}
 use Rattle.std.proofs.lemmas.Bool.Decides.{nat_tests}
 use Rattle.std.proofs.lemmas.List.Elements.{All-get_or}
 use Rattle.std.proofs.lemmas.List.Sums.{sum_by-take-le}
@@ -16,8 +15,6 @@ use Rattle.damon_types.specs.Within.{LiesInTarget, AreWithin}
 use Rattle.region_list.specs.Tiles.{Tiles, LiesIn, span_holds, range_holds}
 use Rattle.region_list.specs.Tiling.{Chain, Tiling}
 use Rattle.region_list.specs.Division.{divided, range_rows, rows_from, range_row_count}
-use Rattle.region_list.specs.Join.{average}
-use Rattle.region_list.specs.Shrink.{closest, joined_at, joined_times, shrunk}
 use Rattle.sampler.specs.Counted.{raised}
 use Rattle.sampler.specs.Pick.{picks_of}
 
@@ -63,16 +60,6 @@ length-picks_of [] ws same = refl
 length-picks_of (r ∷ rows) [] same = absurd (omega arith)
 length-picks_of (r ∷ rows) (w ∷ ws) same = ap suc (length-picks_of rows ws (omega arith))
 
-zero_is_one : (n : ℕ) → n ≡ 0 → n ≡ 1 → ⊥
-zero_is_one n none one = omega arith
-
--- a range has a row
-pub some_row : (unit : ℕ) (g : Range) (gs : List Range) (rows : List Row) → 1 ≤ g.pages → Tiles (g ∷ gs) (spans rows) unit → 0 < length rows
-some_row unit g gs [] page tiles =
-    let held : list_any (range_holds g.target g.first) (g ∷ gs) ≡ true = (let here : range_holds g.target g.first g ≡ true = grind (arith, nat_tests) in rw here refl) in
-    absurd (zero_is_one (count_by (span_holds g.target g.first) []) refl (tiles.once g.target g.first ∙ rw held refl))
-some_row unit g gs (r ∷ rows) page tiles = omega arith
-
 all_append : (P : Row → Type 0) (xs ys : List Row) → AllByRecursion P xs → AllByRecursion P ys → AllByRecursion P (xs ++ ys)
 all_append P [] ys all more = more
 all_append P (x ∷ xs) ys all more = (all.0, all_append P xs ys all.1 more)
@@ -91,25 +78,6 @@ counts-range_rows unit least total (g ∷ gs) =
 -- a division counts nothing
 pub counts-divided : (unit least : ℕ) (gs : List Range) → AllByRecursion (λ r. r.count ≤ 0) (divided unit least gs)
 counts-divided unit least gs = counts-range_rows unit least (page_total gs) gs
-
--- an average of numbers within a bound is within it
-average_le : (n x x_pages y y_pages : ℕ) → x ≤ n → y ≤ n → average x x_pages y y_pages ≤ n
-average_le n x x_pages y y_pages few_x few_y =
-    div-le_of_le-mul (x_pages + y_pages) (omega (arith, mul-le-mul_right x_pages few_x, mul-le-mul_right y_pages few_y))
-
-counts-joined_at : (n i : ℕ) (rows : List Row) → AllByRecursion (λ r. r.count ≤ n) rows → AllByRecursion (λ r. r.count ≤ n) (joined_at i rows)
-counts-joined_at n i [] all = all
-counts-joined_at n i (a ∷ []) all = all
-counts-joined_at n zero (a ∷ b ∷ rows) all = (average_le n a.count a.pages b.count b.pages all.0 all.1.0, all.1.1)
-counts-joined_at n (suc i) (a ∷ b ∷ rows) all = (all.0, counts-joined_at n i (b ∷ rows) all.1)
-
-counts-joined_times : (n times : ℕ) (gs : List Range) (rows : List Row) → AllByRecursion (λ r. r.count ≤ n) rows → AllByRecursion (λ r. r.count ≤ n) (joined_times gs times rows)
-counts-joined_times n zero gs rows all = all
-counts-joined_times n (suc times) gs rows all = counts-joined_times n times gs (joined_at (closest gs rows) rows) (counts-joined_at n (closest gs rows) rows all)
-
--- counts within a bound stay so when rows are joined
-pub counts-shrunk : (n to : ℕ) (gs : List Range) (rows : List Row) → AllByRecursion (λ r. r.count ≤ n) rows → AllByRecursion (λ r. r.count ≤ n) (shrunk gs to rows)
-counts-shrunk n to gs rows all = counts-joined_times n (length rows - to) gs rows all
 
 pub length-raised : (bits : List Bool) (rows : List Row) → length (raised bits rows) ≡ length rows
 length-raised [] rows = refl

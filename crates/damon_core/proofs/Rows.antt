@@ -68,7 +68,7 @@ chain_some unit t from to [] further chain = absurd (omega (arith, chain))
 chain_some unit t from to (s ∷ ss) further chain = omega arith
 
 -- a tiling of at least one range has a row
-tiling_some : (unit : ℕ) (gs : List Range) (ss : List Span) → 1 ≤ unit → 1 ≤ length gs → AllByRecursion (λ g. unit ≤ g.pages) gs → Tiling unit gs ss → 0 < length ss
+pub tiling_some : (unit : ℕ) (gs : List Range) (ss : List Span) → 1 ≤ unit → 1 ≤ length gs → AllByRecursion (λ g. unit ≤ g.pages) gs → Tiling unit gs ss → 0 < length ss
 tiling_some unit [] ss some any wide tiling = absurd (omega arith)
 tiling_some unit (g ∷ gs) ss some any wide tiling = omega (arith, ap length tiling.2, length-append tiling.0 tiling.1, chain_some unit g.target g.first (end_of g) tiling.0 (omega (arith, wide.0)) tiling.3)
 

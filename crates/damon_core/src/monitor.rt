@@ -20,10 +20,10 @@ ghost use Rattle.damon_core.specs.Makes.{Makes};
 ghost use Rattle.damon_core.specs.Stands.{Stands};
 ghost use Rattle.sampler.specs.Loaded.{next_picks};
 
-use crate::{Changed, Report};
 use crate::clock::Clock;
 use crate::sampling::Sampling;
 use crate::totals::Totals;
+use crate::{Changed, Report};
 use damon_types::{Attrs, Space};
 use live_commit::{Commit, CommitFault, Phase, Setup, View, validate};
 use region_list::{Regions, RowBuf, divide, shrink_rows};
@@ -80,6 +80,7 @@ impl Monitor {
         ensures core { IfOk result (λ m. m.core ≡ opening_core (value_of setup.now)) }
         ensures opening { IfOk result (λ m. Stands m (opening (value_of setup.now))) }
     {
+        region_list::shrunk_rows_are_kept();
         let regions = first_regions(alloc, setup)?;
         // For its clauses alone: the rows tile their ranges and are within their limits.
         let _rows = regions.len();

@@ -1,4 +1,5 @@
-// The opening, passes over three pages, and an aggregation; the expected values were reckoned by hand.
+// The opening, passes over three pages, an aggregation, and commits; the expected values were reckoned by
+// hand.
 ghost use Rattle.std.specs.Prelude.{◌≡◌, [], IfOk};
 
 use crate::Monitor;
@@ -7,6 +8,9 @@ use live_commit::{Phase, Setup};
 use std::alloc::Global;
 use std::process::Abort;
 use std::test::Fail;
+
+/// Commits in each phase, accepted and refused.
+mod commits;
 
 // A range of the first target.
 fn range(from: u64, to: u64) -> RangeSpec {
@@ -29,17 +33,17 @@ fn one_target(alloc: Global, pages: u32) -> Result<Space, Fail> {
     )?)
 }
 
-// The setup of three pages that are watched whole, without a slot.
-fn three_pages(alloc: Global, aggr: u32) -> Result<Setup, Fail>
+// The setup of 3 to 8 pages that are watched whole, a row for each, without a slot.
+fn whole_target(alloc: Global, pages: u32, aggr: u32) -> Result<Setup, Fail>
     ensures { IfOk result (λ s. s.slots.list ≡ []) }
 {
     let attrs = Attrs {
-        min: 3,
+        min: pages,
         max: 8,
         aggr,
     };
-    let space = one_target(alloc, 3)?;
-    let ranges = [range(0x1_0000, 0x1_3000)];
+    let space = one_target(alloc, pages)?;
+    let ranges = [range(0x1_0000, 0x1_0000 + 0x1000 * u64::from(pages))];
     let setup = Setup::new(alloc, space, 1, 8, attrs, &ranges, &[])?;
     Ok(setup)
 }
@@ -72,14 +76,19 @@ fn clear(rt: &impl Abort, monitor: &mut Monitor, page: u32) {
     monitor.cleared();
 }
 
-// Prepares a pass of three rows and clears its picks.
-fn begin_pass(rt: &impl Abort, monitor: &mut Monitor) {
+// Prepares a pass with a word for each row.
+fn prepare(rt: &impl Abort, monitor: &mut Monitor, words: &[u32]) {
     let Phase::Idle = monitor.phase() else {
         panic!(rt; "no pass comes next");
     };
-    assert_eq!(rt; monitor.rows().len(), 3);
-    monitor.prepare(&[0, 0, 0]);
-    for page in 0..3 {
+    assert_eq!(rt; monitor.rows().len() as usize, words.len());
+    monitor.prepare(words);
+}
+
+// Prepares a pass of rows of one page, with a word for each, and clears its picks.
+fn begin_pass(rt: &impl Abort, monitor: &mut Monitor, words: &[u32]) {
+    prepare(rt, monitor, words);
+    for page in 0..monitor.rows().len() {
         clear(rt, monitor, page);
     }
 }
@@ -101,7 +110,7 @@ fn end_pass(rt: &impl Abort, monitor: &mut Monitor) {
     let Phase::Checking { next } = monitor.phase() else {
         panic!(rt; "no end comes next");
     };
-    assert_eq!(rt; (next, monitor.rows().len()), (3, 3));
+    assert_eq!(rt; next, monitor.rows().len());
     assert_eq!(rt; monitor.ticks(), 0);
     monitor.observe();
 }
@@ -135,7 +144,7 @@ fn an_opening_has_at_most_max_rows(rt: HostRuntime) -> Result<(), Fail> {
 
 #[test]
 fn a_pass_counts_its_hits(rt: HostRuntime) -> Result<(), Fail> {
-    let setup = three_pages(rt.alloc(), 5)?;
+    let setup = whole_target(rt.alloc(), 3, 5)?;
     let mut monitor = Monitor::new(rt.alloc(), &setup)?;
     assert_eq!(rt; monitor.phase(), Phase::Idle);
     assert_eq!(rt; monitor.attrs(), setup.attrs);
@@ -146,7 +155,7 @@ fn a_pass_counts_its_hits(rt: HostRuntime) -> Result<(), Fail> {
     );
     assert_eq!(rt; monitor.picks().len(), 0);
 
-    begin_pass(&rt, &mut monitor);
+    begin_pass(&rt, &mut monitor, &[0; 3]);
     assert_eq!(rt; monitor.phase(), Phase::Armed);
     for hit in [false, true, false] {
         load(&rt, &mut monitor, hit);
@@ -166,9 +175,9 @@ fn a_pass_counts_its_hits(rt: HostRuntime) -> Result<(), Fail> {
 
 #[test]
 fn an_aggregation_is_due_after_its_passes(rt: HostRuntime) -> Result<(), Fail> {
-    let setup = three_pages(rt.alloc(), 1)?;
+    let setup = whole_target(rt.alloc(), 3, 1)?;
     let mut monitor = Monitor::new(rt.alloc(), &setup)?;
-    begin_pass(&rt, &mut monitor);
+    begin_pass(&rt, &mut monitor, &[0; 3]);
     for hit in [true, true, true] {
         load(&rt, &mut monitor, hit);
     }
@@ -201,9 +210,9 @@ fn aggregate(rt: &impl Abort, monitor: &mut Monitor) {
 
 #[test]
 fn an_aggregation_reports_and_clears(rt: HostRuntime) -> Result<(), Fail> {
-    let setup = three_pages(rt.alloc(), 1)?;
+    let setup = whole_target(rt.alloc(), 3, 1)?;
     let mut monitor = Monitor::new(rt.alloc(), &setup)?;
-    begin_pass(&rt, &mut monitor);
+    begin_pass(&rt, &mut monitor, &[0; 3]);
     for hit in [false, true, false] {
         load(&rt, &mut monitor, hit);
     }

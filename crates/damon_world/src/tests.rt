@@ -1,10 +1,11 @@
-// A pass over three pages with touches in it, and an aggregation; the expected values were reckoned by
-// hand.
-ghost use Rattle.std.specs.Prelude.{◌≡◌, [], IfOk};
+// A pass over three pages with touches in it, an aggregation, and a commit; the expected values were
+// reckoned by hand.
+ghost use Rattle.std.specs.Prelude.{◌≡◌, [], IfOk, None};
 
 use crate::{Stepped, World};
-use damon_types::{Attrs, RangeSpec, Space, Target};
-use live_commit::{Phase, Setup};
+use damon_core::Changed;
+use damon_types::{Attrs, RangeSpec, RangeSpecs, Space, Target};
+use live_commit::{Commit, Phase, Setup};
 use rand_pcg::Lcg64Xsh32;
 use std::alloc::Global;
 use std::process::Abort;
@@ -172,5 +173,48 @@ fn an_aggregation_is_a_step(rt: HostRuntime) -> Result<(), Fail> {
     let report = world.monitor().report();
     assert_eq!(rt; (report.tick(), report.threshold()), (1, 0));
     assert_eq!(rt; reported(&rt, &world), [0, 1, 0]);
+    Ok(())
+}
+
+// The commit of the last two pages of the three.
+fn last_two_pages(alloc: Global) -> Result<Commit, Fail>
+    ensures slot { IfOk result (λ c. c.slot ≡ None) }
+    ensures metric { IfOk result (λ c. c.metric ≡ None) }
+{
+    let mut ranges = RangeSpecs::new(alloc);
+    ranges.push(RangeSpec {
+        target: 0,
+        from: 0x1_1000,
+        to: 0x1_3000,
+        class: 0,
+    })?;
+    Ok(Commit {
+        attrs: None,
+        ranges: Some(ranges),
+        slot: None,
+        metric: None,
+    })
+}
+
+#[test]
+fn a_touch_in_a_void_pass_is_no_hit(rt: HostRuntime) -> Result<(), Fail> {
+    let mut world = new_world(rt.alloc(), 5)?;
+    clear(&rt, &mut world);
+    assert_eq!(rt; touch(&rt, &mut world, 1), 1);
+    let commit = last_two_pages(rt.alloc())?;
+    let moved = Changed {
+        rows: 2,
+        void: true,
+    };
+    assert_eq!(rt; world.commit(&commit), Ok(moved));
+    assert_eq!(rt; step(&rt, &mut world), Stepped::Observed { void: true });
+    let monitor = world.monitor();
+    assert_eq!(rt;
+        (monitor.ticks(), monitor.checks(), monitor.hits()),
+        (1, 0, 0)
+    );
+    assert_eq!(rt; monitor.rows().len(), 2);
+    assert_eq!(rt; step(&rt, &mut world), Stepped::Prepared);
+    assert_eq!(rt; step(&rt, &mut world), Stepped::Cleared { page: 1 });
     Ok(())
 }

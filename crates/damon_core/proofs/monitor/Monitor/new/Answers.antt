@@ -1,35 +1,32 @@
 use Rattle.std.proofs.Common.{◌≡◌, ℕ, ◌≤◌, ◌<◌, List, [], ◌∷◌, length, ap, sym, subst, arith}
-use Rattle.std.specs.Prelude.{All}
 use Rattle.std.specs.List.{AllByRecursion}
-use Rattle.std.proofs.lemmas.List.Elements.{All-head}
+use Rattle.std.proofs.lemmas.List.{length-map}
+use Rattle.std.proofs.lemmas.List.Elements.{recursion_from_All}
 use Rattle.damon_types.specs.declared.range.Range.{Range}
-use Rattle.damon_types.specs.declared.row.Row.{Row}
-use Rattle.damon_types.specs.Span.{spans}
+use Rattle.damon_types.specs.Span.{span_of, spans}
 use Rattle.damon_types.specs.Within.{AreWithin}
 use Rattle.region_list.specs.Regions.{RegionList}
-use Rattle.region_list.specs.Tiles.{Tiles}
+use Rattle.region_list.specs.Tiling.{Tiling}
 use Rattle.region_list.specs.Division.{divided}
-use Rattle.live_commit.specs.Setup.{SetupValue, IsSetup}
 use Rattle.live_commit.specs.SetupView.{value_of}
-use Rattle.damon_core.specs.State.{opening_core}
+use Rattle.damon_core.specs.State.{opening_core, opening_rows}
 use Rattle.damon_core.specs.Kept.{IsMonitor, RowsLieIn}
 use Rattle.damon_core.specs.Report.{ReportBuf}
-use Rattle.damon_core.proofs.RowFacts.{some_row, counts-divided, counts-shrunk}
+use Rattle.damon_core.proofs.Rows.{tiling_some}
+use Rattle.damon_core.proofs.RowFacts.{counts-divided}
 use Rattle.damon_core.proofs.monitor.Monitor.new.Goals as goal
-
-some_rows : (v : SetupValue) (gs : List Range) (rows : List Row) (unit : ℕ) → gs ≡ v.ranges → IsSetup v → Tiles gs (spans rows) unit → 0 < length rows
-some_rows v [] rows unit is sound tiles = absurd (omega (arith, sound.ranges_some, ap length is))
-some_rows v (g ∷ gs) rows unit is sound tiles =
-    let wide = All-head (λ (h : Range). v.unit ≤ h.pages) g gs (subst (All (λ (h : Range). v.unit ≤ h.pages)) (sym is) sound.wide) in
-    some_row unit g gs rows (omega (arith, wide, sound.unit_some)) tiles
 
 pub new-requires : goal.new-requires
 new-requires c =
     let v = value_of c.args.setup.now in
-    let r = c.in_ok-regions.regions in
+    let sound = c.args.setup.now.sound in
+    let made : c.in_ok-regions.regions ≡ (opening_core v).regions = c.in_ok-regions.ensures in
+    let tiling = subst (λ (x : RegionList). Tiling x.unit x.ranges (spans x.rows)) made c.len-rows.ensures.tiling in
+    let wide = recursion_from_All (λ (g : Range). v.unit ≤ g.pages) v.ranges sound.wide in
+    let some = tiling_some v.unit v.ranges (spans (opening_rows v)) sound.unit_some sound.ranges_some wide tiling in
     record {
-      some = some_rows v r.ranges r.rows r.unit (ap (λ (x : RegionList). x.ranges) c.in_ok-regions.ensures) c.args.setup.now.sound c.len-rows.ensures.tiles;
-      cap = omega (arith, ap (λ (x : RegionList). x.cap) c.in_ok-regions.ensures, c.args.setup.now.sound.cap_most);
+      some = subst (λ (x : RegionList). 0 < length x.rows) (sym made) (omega (arith, some, length-map (opening_rows v) span_of));
+      cap = omega (arith, ap (λ (x : RegionList). x.cap) made, sound.cap_most);
     }
 
 pub invariant_of-result : goal.invariant_of-result
@@ -43,7 +40,7 @@ invariant_of-result c =
       cap_few = omega (arith, sound.cap_most, ap (λ (x : RegionList). x.cap) made);
       ranges_in = subst (AreWithin c.in_ok-space.space) (sym (ap (λ (x : RegionList). x.ranges) made)) (subst (λ ts. AreWithin ts v.ranges) (sym c.in_ok-space.ensures.cases) sound.within);
       picks_in = tt;
-      counts = subst (λ (x : RegionList). AllByRecursion (λ q. q.count ≤ 0) x.rows) (sym made) (counts-shrunk 0 v.attrs.max v.ranges (divided v.unit v.attrs.min v.ranges) (counts-divided v.unit v.attrs.min v.ranges));
+      counts = subst (λ (x : RegionList). AllByRecursion (λ q. q.count ≤ 0) x.rows) (sym made) (c.shrunk_rows_are_kept.ensures.counts v.attrs.max 0 v.ranges (divided v.unit v.attrs.min v.ranges) (counts-divided v.unit v.attrs.min v.ranges));
       since_few = omega arith;
       checks_few = omega arith;
       hits_few = omega arith;

@@ -1,0 +1,11 @@
+pub mod OrderLemmas
+pub mod ShareLemmas
+pub mod CandidateLemmas
+pub mod LowestLemmas
+pub mod WalkLemmas
+pub mod SortLemmas
+pub mod RankLemmas
+pub mod TakenLemmas
+pub mod BestLemmas
+pub mod ChoiceLemmas
+mod Examples

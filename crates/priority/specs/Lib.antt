@@ -1,0 +1,6 @@
+pub mod Score
+pub mod Candidates
+pub mod Order
+pub mod Share
+pub mod Chosen
+pub mod Best

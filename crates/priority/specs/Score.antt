@@ -1,0 +1,29 @@
+-- The score of a row for a scheme.
+use Rattle.std.specs.Prelude.{ℕ, ◌+◌, ◌-◌, ◌*◌, ◌/◌, ◌==◌, min, if◌then◌else◌}
+use Rattle.damon_types.specs.declared.row.Row.{Row}
+use Rattle.damon_types.specs.declared.scheme.Scheme.{Scheme}
+use Rattle.damon_types.specs.declared.scheme.Weights.{Weights}
+use Rattle.damon_types.specs.declared.scheme.Prefer.{Prefer}
+use Rattle.damon_types.specs.declared.scheme.Prefer.TheVariants.{Hot, Cold}
+use Rattle.priority.specs.declared.scoring.TheConstants.{MAX_SCORE}
+
+-- a number as a part of a whole, on a scale from 0 to the greatest score, rounded down
+abbrev pub scaled : ℕ → ℕ → ℕ
+scaled number whole = min (MAX_SCORE * number / whole) MAX_SCORE
+
+-- an access count on that scale as it is, or its distance from the greatest score where rows with few accesses come first
+abbrev pub preferred : Prefer → ℕ → ℕ
+preferred Hot count = count
+preferred Cold count = MAX_SCORE - count
+
+-- the mean of three numbers by these weights, rounded down; 0 where all weights are 0
+abbrev pub weighted_mean : Weights → ℕ → ℕ → ℕ → ℕ
+weighted_mean w size count age =
+    if w.size + w.count + w.age == 0 then 0
+    else (w.size * size + w.count * count + w.age * age) / (w.size + w.count + w.age)
+
+-- The score of a row, where all ranges have `total` pages and an aggregation has `aggr` passes: the mean of its pages as a part
+-- of `total`, its count as a part of `aggr`, and its age, by the weights of the scheme.
+abbrev pub score_of : Row → ℕ → ℕ → Scheme → ℕ
+score_of row total aggr scheme =
+    weighted_mean scheme.weights (scaled row.pages total) (preferred scheme.prefer (scaled row.count aggr)) (min row.age MAX_SCORE)

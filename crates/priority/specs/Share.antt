@@ -1,0 +1,26 @@
+-- The shares of candidates: how many of their passing pages are taken.
+use Rattle.std.specs.Prelude.{ℕ, ◌-◌, min, List, map, filter, sum_by, Option, Some, None}
+use Rattle.priority.specs.declared.candidates.Candidate.{Candidate}
+use Rattle.priority.specs.Order.{is_before}
+
+-- the passing pages of all candidates that come before one
+abbrev pub passing_before : List Candidate → Candidate → ℕ
+passing_before cs r = sum_by (λ s. s.passing) (filter (λ s. is_before s r) cs)
+
+-- How many of `passing` pages are taken where `before` others come first: as many as these others leave, or all where there is
+-- no quota.
+abbrev pub share_after : Option ℕ → ℕ → ℕ → ℕ
+share_after None before passing = passing
+share_after (Some left) before passing = min passing (left - before)
+
+-- the share of a candidate in what is left of a quota
+abbrev pub share_of : Option ℕ → List Candidate → Candidate → ℕ
+share_of left cs r = share_after left (passing_before cs r) r.passing
+
+-- one of the candidates with its share
+abbrev pub with_share : Option ℕ → List Candidate → Candidate → Candidate
+with_share left cs r = record r { share = share_of left cs r }
+
+-- the candidates, each with its share
+abbrev pub with_shares : Option ℕ → List Candidate → List Candidate
+with_shares left cs = map (with_share left cs) cs

@@ -1,0 +1,17 @@
+//! Priorities: the scores of regions for a scheme, and which pages of which regions the scheme is
+//! applied to within its quota.
+#![tactic(auto)]
+
+/// Lists of candidates, and the choice among them.
+mod candidates;
+/// The order of candidates, and their shares.
+mod choice;
+/// Laws of the choice.
+mod laws;
+/// Scores.
+mod scoring;
+
+pub use candidates::{Candidate, Candidates};
+pub use choice::Chosen;
+pub use laws::{lowest_is_least, order_is_one, shares_are_best, shares_are_within};
+pub use scoring::{MAX_SCORE, score};

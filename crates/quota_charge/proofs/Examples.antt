@@ -1,0 +1,42 @@
+-- Worked examples of quotas and windows, computed by hand.
+use Rattle.std.proofs.Common.{◌≡◌, ℕ, Some, None, refl}
+use Rattle.damon_types.specs.declared.scheme.Quota.{Quota}
+use Rattle.quota_charge.specs.declared.window.Window.{Window}
+use Rattle.quota_charge.specs.Quota.{effective_pages, left_of}
+use Rattle.quota_charge.specs.Window.{turned}
+
+abbrev quota : ℕ → ℕ → Quota
+quota bytes reset = record { bytes = bytes; reset = reset }
+
+abbrev window : ℕ → ℕ → Window
+window start charged = record { start = start; charged = charged }
+
+whole_pages : effective_pages (quota 12289 40) ≡ 3
+whole_pages = refl
+
+less_than_a_page : effective_pages (quota 4095 40) ≡ 0
+less_than_a_page = refl
+
+some_left : left_of (Some (quota 12289 40)) 1 ≡ Some 2
+some_left = refl
+
+-- more is charged than the quota, which was lowered, allows
+nothing_left : left_of (Some (quota 8192 40)) 3 ≡ Some 0
+nothing_left = refl
+
+no_quota : left_of None 3 ≡ None
+no_quota = refl
+
+-- the reset interval of 40 ticks
+too_early : turned (quota 8192 40) 39 (window 0 3) ≡ window 0 3
+too_early = refl
+
+in_time : turned (quota 8192 40) 40 (window 0 3) ≡ window 40 0
+in_time = refl
+
+late : turned (quota 8192 40) 60 (window 0 3) ≡ window 60 0
+late = refl
+
+-- an interval begins where the window does
+next_window : turned (quota 8192 40) 79 (window 40 2) ≡ window 40 2
+next_window = refl

@@ -1,0 +1,2 @@
+mod ActiveLemmas
+mod Examples
