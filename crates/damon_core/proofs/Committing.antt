@@ -67,9 +67,11 @@ committed_notes_hold P setting dropping measuring c notes holds = by_metric c.me
     by_scheme : (slot : ℕ) (scheme : Option Scheme) → P (slot_note slot scheme ∷ notes)
     by_scheme slot None = dropping slot notes holds
     by_scheme slot (Some scheme) = setting slot scheme notes holds
+
     by_slot : (change : Option SlotChange) → P (with_slot change notes)
     by_slot None = holds
     by_slot (Some change) = by_scheme change.slot change.scheme
+
     by_metric : (value : Option ℕ) (after : List Note) → P after → P (with_metric value after)
     by_metric None after holds = holds
     by_metric (Some value) after holds = measuring value after holds

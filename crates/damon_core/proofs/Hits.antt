@@ -60,17 +60,19 @@ clears_after_clear s i is h = record { each = λ k below. later k (cleared_so_fa
 clears_after_commit : (s : State) (c : CommitValue) → check_of c s.core ≡ Ok tt → HasClears s → HasClears (committed c s)
 clears_after_commit s c ok h = record {
   each = by_phase_after Each s.core.phase s.core.regions.rows new (allows_commit c s.core ok)
-  (λ is lies k below. noted k (h.each k (subst (λ (ph : Phase). k < cleared_so_far ph (row_count s.core)) (sym is) (omega (arith, below, same_length s.core.regions.rows new lies)))))
-  (λ is k below. absurd (omega arith))
-  (λ is k below. absurd (omega arith))
-  (λ is k below. absurd (omega arith))
-  (λ is k below. absurd (omega arith));
+      (λ is lies k below. noted k (h.each k (subst (λ (ph : Phase). k < cleared_so_far ph (row_count s.core)) (sym is) (omega (arith, below, same_length s.core.regions.rows new lies)))))
+      (λ is k below. absurd (omega arith))
+      (λ is k below. absurd (omega arith))
+      (λ is k below. absurd (omega arith))
+      (λ is k below. absurd (omega arith));
 }
   where
     new : List Row
     new = (committed_core c s.core).regions.rows
+
     Each : Phase → Type 0
     Each ph = (k : ℕ) → k < cleared_so_far ph (length new) → has_clear (committed_notes c s.notes) (s.core.ticks + 1) k (slice_index s.core.picks k) ≡ true
+
     noted : (k : ℕ) → has_clear s.notes (s.core.ticks + 1) k (slice_index s.core.picks k) ≡ true → has_clear (committed_notes c s.notes) (s.core.ticks + 1) k (slice_index s.core.picks k) ≡ true
     noted k here = committed_notes_hold (λ notes. has_clear notes (s.core.ticks + 1) k (slice_index s.core.picks k) ≡ true) (λ slot scheme notes has. has) (λ slot notes has. has) (λ value notes has. has) c s.notes here
 

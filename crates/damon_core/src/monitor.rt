@@ -20,10 +20,10 @@ ghost use Rattle.damon_core.specs.Makes.{Makes};
 ghost use Rattle.damon_core.specs.Stands.{Stands};
 ghost use Rattle.sampler.specs.Loaded.{next_picks};
 
-use crate::{Changed, Report};
 use crate::clock::Clock;
 use crate::sampling::Sampling;
 use crate::totals::Totals;
+use crate::{Changed, Report};
 use damon_types::{Attrs, Space};
 use live_commit::{Commit, CommitFault, Phase, Setup, View, validate};
 use region_list::{Regions, RowBuf, divide, shrink_rows};

@@ -1,6 +1,7 @@
-ghost use Rattle.std.specs.Prelude.{◌≡◌, ◌+◌, ◌*◌, ◌^◌, ◌≤◌, ◌<◌, ℕ, false, [], length, count_by, option_map, replicate, slice_set, IfOk, if◌then◌else◌};
+ghost use Rattle.std.specs.Prelude.{◌≡◌, ◌+◌, ◌*◌, ◌^◌, ◌≤◌, ◌<◌, ℕ, List, false, [], length, count_by, option_map, replicate, slice_set, IfOk, if◌then◌else◌};
 ghost use Rattle.std.specs.List.{AllByRecursion};
 ghost use Rattle.damon_types.specs.Within.{AreWithin};
+ghost use Rattle.damon_types.specs.declared.row.Row.{Row as row};
 ghost use Rattle.live_commit.specs.Accepted.{AllowsCommit};
 ghost use Rattle.live_commit.specs.declared.phase.Phase.TheVariants as variant;
 ghost use Rattle.sampler.specs.Counted.{raised};
@@ -275,11 +276,23 @@ impl Sampling {
         target_ranges::made_in_order();
         // For their clauses alone: there are at most `cap` rows, and the space is within its limits.
         let (_rows, _targets) = (self.regions.len(), space.targets());
-        self.earlier.copy_from(self.regions.rows());
+        keep_if_armed(&mut self.earlier, self.phase, self.regions.rows());
         self.room.change(&mut self.regions, space, specs, max);
         let void = becomes_void(self.phase, self.earlier.as_slice(), self.regions.rows());
         self.phase = void_or(void, self.phase);
         void
+    }
+}
+
+// Keeps a copy of the rows where a commit may make the pass void, which is where its picks are cleared.
+fn keep_if_armed(earlier: &mut RowBuf, phase: Phase, rows: &[Row])
+    requires room { length rows.now ≤ earlier.old.cap }
+    ensures same { (new : List row) → becomes_void_in phase earlier.new.rows new
+        ≡ becomes_void_in phase rows.now new }
+    ensures cap { earlier.new.cap ≡ earlier.old.cap }
+{
+    if phase == Phase::Armed {
+        earlier.copy_from(rows);
     }
 }
 

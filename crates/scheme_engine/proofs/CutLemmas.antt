@@ -12,8 +12,7 @@ use Rattle.scheme_engine.specs.Applying.{IsPartOf, cut_rows}
 pub cut_refined : (unit i at : ℕ) (rows : List Row) → i < length rows → unit ≤ at → unit ≤ (row_at rows i).pages - at → at ≤ (row_at rows i).pages → IsRefined unit (spans rows) (spans (cut_rows i at rows))
 cut_refined unit i at [] within left right low = absurd (omega arith)
 cut_refined unit zero at (r ∷ rows) within left right low =
-    let end : r.start + at + (r.pages - at) ≡ r.start + r.pages = omega (arith, low) in
-    (
+    let end : r.start + at + (r.pages - at) ≡ r.start + r.pages = omega (arith, low) in (
       span_of (record r { pages = at; age = 0 }) ∷ span_of (record r { start = r.start + at; pages = r.pages - at }) ∷ [],
       spans rows,
       refl,

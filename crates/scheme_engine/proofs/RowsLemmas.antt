@@ -260,7 +260,7 @@ rows_none action passes regions cs are none = by (changes_rows action) refl
     by false stays = rows_stay action cs regions.rows stays ∙ sym (rw stays refl)
     by true changes =
         let each : (k : ℕ) → k < length regions.rows → row_defined regions passes cs (row_at regions.rows k) ≡ row_new cs (row_at regions.rows k) ∷ [] =
-            λ k within. row_not_cut regions passes cs (row_at regions.rows k) are.distinct (λ c at. ((is_at are at).share, not_in_part (row_at regions.rows k) c changes at)) in
+        λ k within. row_not_cut regions passes cs (row_at regions.rows k) are.distinct (λ c at. ((is_at are at).share, not_in_part (row_at regions.rows k) c changes at)) in
         rows_new action cs regions.rows changes
         ∙ sym (flat_map_new (row_defined regions passes cs) (row_new cs) regions.rows each)
         ∙ sym (rw changes refl)

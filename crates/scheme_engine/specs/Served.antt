@@ -29,8 +29,7 @@ choice_of slot left o = record { slot = slot; active = true; left = left; taken 
 abbrev pub scheme_counted : ℕ → ℕ → Bool → SetScheme → SetScheme
 scheme_counted tried taken exceeds h = record h { tried = h.tried + tried; applied = h.applied + taken; exceeds = h.exceeds + (if exceeds then 1 else 0) }
 
--- A slot after a run of its scheme, of which so many rows matched and so many pages were taken, and whether it would have taken
--- more. The pages are charged to it.
+-- A slot after a run of its scheme: its statistics grow, and the pages that were taken are charged to it.
 abbrev pub slot_counted : ℕ → ℕ → Bool → SlotValue → SlotValue
 slot_counted tried taken exceeds s = record {
   set = option_map (scheme_counted tried taken exceeds) s.set;

@@ -104,12 +104,7 @@ fn apply_to(
 
 // Gives the row of a candidate age 0 if all its passing pages are taken and the action changes rows. If
 // they are not all taken, returns the part of the row that ends with the last one.
-fn renew(
-    action: Action,
-    candidate: &Candidate,
-    part: Part,
-    regions: &mut Regions,
-) -> Option<Part>
+fn renew(action: Action, candidate: &Candidate, part: Part, regions: &mut Regions) -> Option<Part>
     requires within { part.index < length regions.old.rows }
     requires start { candidate.now.start ≡ (row_at regions.old.rows part.index).start }
     requires share { candidate.now.share ≤ candidate.now.passing }

@@ -34,7 +34,7 @@ pub fn outcome_rows_are_kept()
         (left : Option ℕ) (regions : RegionList)
         → AllByRecursion (λ r. r.count ≤ most) regions.rows
         → AllByRecursion (λ r. r.count ≤ most)
-            (outcome_of slot space aggr scheme left regions).rows }
+        (outcome_of slot space aggr scheme left regions).rows }
 {
     refined_rows_tile();
     order_is_one();

@@ -76,12 +76,7 @@ pub(crate) fn take_row(
 
 // Appends the first pages of these runs, as many as the share of the candidate, and returns the page after
 // the last one of them. There is room for as many runs.
-fn take_pages(
-    slot: u8,
-    candidate: &Candidate,
-    runs: &[Run],
-    applied: &mut Applied,
-) -> u32
+fn take_pages(slot: u8, candidate: &Candidate, runs: &[Run], applied: &mut Applied) -> u32
     requires ends { All (λ r. run_end r < 2 ^ 32) runs.now }
     requires room { length applied.old.runs + length runs.now ≤ RUNS_PER_ROW * applied.old.cap }
     ensures runs { applied.new ≡ record applied.old {

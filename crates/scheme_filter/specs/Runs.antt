@@ -23,7 +23,9 @@ pub record AreLongest (passes : ℕ → Bool) (from to : ℕ) (runs : List Run) 
 -- runs with a page before them: it lengthens the first run where that begins at the next page, and else it is a run
 abbrev pub with_page : ℕ → List Run → List Run
 with_page page [] = record { start = page; pages = 1 } ∷ []
-with_page page (r ∷ rs) = if r.start == page + 1 then record { start = page; pages = r.pages + 1 } ∷ rs else record { start = page; pages = 1 } ∷ r ∷ rs
+with_page page (r ∷ rs) =
+    if r.start == page + 1 then record { start = page; pages = r.pages + 1 } ∷ rs
+    else record { start = page; pages = 1 } ∷ r ∷ rs
 
 -- the runs of the passing pages among the n pages from one on, found page by page
 abbrev pub runs_of : (ℕ → Bool) → ℕ → ℕ → List Run

@@ -1,4 +1,4 @@
-ghost use Rattle.std.specs.Prelude.{◌≡◌, ◌+◌, ◌≤◌, Any, length};
+ghost use Rattle.std.specs.Prelude.{◌≡◌, ◌+◌, ◌^◌, ◌≤◌, ◌<◌, Any, length, sum_by};
 ghost use Rattle.damon_types.specs.Span.{span_of};
 ghost use Rattle.damon_types.specs.Within.{AreWithin};
 ghost use Rattle.region_list.specs.Tiles.{LiesIn};
@@ -22,6 +22,7 @@ pub fn passing(filters: &Filters, space: &Space, ranges: &Ranges, row: &Row, run
         row.now.start (row.now.start + row.now.pages) runs.new }
     ensures exact { runs.new
         ≡ runs_of (passes filters.now space.now ranges.now.list) row.now.start row.now.pages }
+    ensures fits { sum_by (λ r. r.pages) runs.new < 2 ^ 32 }
 {
     // For its clauses alone: the ranges are in order.
     let _count = ranges.len();

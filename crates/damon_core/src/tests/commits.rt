@@ -58,7 +58,13 @@ fn fewer_regions_allowed_shrink_the_rows(rt: HostRuntime) -> Result<(), Fail> {
         aggr: 5,
     };
     let answer = monitor.commit(&of_attrs(attrs));
-    assert_eq!(rt; answer, Ok(Changed { rows: 3, void: false }));
+    assert_eq!(rt;
+        answer,
+        Ok(Changed {
+            rows: 3,
+            void: false
+        })
+    );
     assert_eq!(rt; monitor.attrs(), attrs);
     assert_eq!(rt; places(&rt, &monitor), [(0, 1), (1, 2), (3, 1)]);
     assert_eq!(rt; counts(&rt, &monitor), [1, 0, 1]);
@@ -80,12 +86,30 @@ fn a_pass_becomes_void_where_its_rows_move(rt: HostRuntime) -> Result<(), Fail> 
     begin_pass(&rt, &mut monitor, &[0; 3]);
 
     let same = of_range(rt.alloc(), range(0x1_0000, 0x1_3000), None)?;
-    assert_eq!(rt; monitor.commit(&same), Ok(Changed { rows: 3, void: false }));
+    assert_eq!(rt;
+        monitor.commit(&same),
+        Ok(Changed {
+            rows: 3,
+            void: false
+        })
+    );
     assert_eq!(rt; monitor.phase(), Phase::Armed);
 
     let fewer = of_range(rt.alloc(), range(0x1_1000, 0x1_3000), None)?;
-    assert_eq!(rt; monitor.commit(&fewer), Ok(Changed { rows: 2, void: true }));
-    assert_eq!(rt; monitor.commit(&fewer), Ok(Changed { rows: 2, void: false }));
+    assert_eq!(rt;
+        monitor.commit(&fewer),
+        Ok(Changed {
+            rows: 2,
+            void: true
+        })
+    );
+    assert_eq!(rt;
+        monitor.commit(&fewer),
+        Ok(Changed {
+            rows: 2,
+            void: false
+        })
+    );
     end_void_pass(&rt, &mut monitor);
 
     assert_eq!(rt; monitor.phase(), Phase::Idle);

@@ -106,7 +106,10 @@ fn the_oldest_pages_are_taken_first(rt: HostRuntime) -> Result<(), Fail> {
     engine.change(&set(3, oldest_first(Action::Pageout, 12_289)));
 
     engine.run(&mut regions, &space, 20, 20, &mut applied);
-    assert_eq!(rt; applied.runs(), [run(3, 4, 2, 90), run(3, 0, 1, 50)].as_slice());
+    assert_eq!(rt;
+        applied.runs(),
+        [run(3, 4, 2, 90), run(3, 0, 1, 50)].as_slice()
+    );
     assert_eq!(rt; applied.choices(), [choice(3, 3, 3, Some(50))].as_slice());
     assert_eq!(rt;
         regions.rows(),

@@ -65,7 +65,7 @@ loop-row-preserved c =
     let pattern = is_match scheme.pattern in
     let test = c.matches.ensures in
     elim c.if-matches.branch [
-      then-matches+then-passing-gt0 w ↦
+      | then-matches+then-passing-gt0 w ↦
           let matches : pattern r ≡ true = sym test ∙ w.if-matches.true in
           let passing = w.count_passing-passing.ensures ∙ ap (λ gs. length (passing_pages (passes scheme.filters space gs) (span_of r))) c.ranges-ranges.ensures.list in
           let total = c.total-total.ensures.total ∙ ap page_total c.ranges-ranges.ensures.list in

@@ -39,9 +39,9 @@ returns-else-room-gt0 c =
     let is : row_at r.rows p.index ≡ c.row-row.result = get_or_from_slice_get r.rows p.index c.row-row.result no_row c.row-row.ensures.row in
     let pages = ap (λ (x : Row). x.pages) is in
     let may : may_cut r p.pages (row_at r.rows p.index) ≡ false =
-        elim c.else-room-gt0.branch [
-          else-room-gt0-via-then-room-gt0+then-part-unit+else-row-part w ↦ grind (arith, nat_tests, w.if-row-part.false, c.unit-unit.ensures, pages)
-        | else-room-gt0-via-then-room-gt0+else-part-unit w ↦ grind (arith, nat_tests, w.if-part-unit.false, c.unit-unit.ensures)
-        | else-room-gt0-via-else-room-gt0 w ↦ grind (arith, nat_tests, w.if-room-gt0.false, c.room.ensures)
-        ] in
+    elim c.else-room-gt0.branch [
+      | else-room-gt0-via-then-room-gt0+then-part-unit+else-row-part w ↦ grind (arith, nat_tests, w.if-row-part.false, c.unit-unit.ensures, pages)
+      | else-room-gt0-via-then-room-gt0+else-part-unit w ↦ grind (arith, nat_tests, w.if-part-unit.false, c.unit-unit.ensures)
+      | else-room-gt0-via-else-room-gt0 w ↦ grind (arith, nat_tests, w.if-room-gt0.false, c.room.ensures)
+    ] in
     rw may refl

@@ -16,7 +16,7 @@ loop-run-preserved c =
     let f = applied_run c.args.slot c.args.candidate.now in
     let kept = c.loop-run.invariant in
     elim c.if-wanted-gt0.branch [
-      then-wanted-gt0 w ↦
+      | then-wanted-gt0 w ↦
           let wanted = c.loop-run.wanted in
           let first = next_run runs i wanted in
           let step = first_pages_more runs i wanted c.loop-run-test.true w.if-wanted-gt0.true in

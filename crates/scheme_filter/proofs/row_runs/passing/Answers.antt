@@ -1,10 +1,12 @@
-use Rattle.std.proofs.Common.{◌+◌, refl, sym, ap, ◌∙◌, arith}
+use Rattle.std.proofs.Common.{◌+◌, List, refl, sym, ap, ◌∙◌, arith}
+use Rattle.std.specs.Prelude.{sum_by}
 use Rattle.scheme_filter.specs.declared.row_pages.RowPages.{RowPages}
+use Rattle.scheme_filter.specs.declared.runs.Run.{Run}
 use Rattle.scheme_filter.specs.Passes.{passes}
 use Rattle.scheme_filter.specs.RowPages.{answer_at}
 use Rattle.scheme_filter.proofs.LongestLemmas.{longest_same}
 use Rattle.scheme_filter.proofs.RowLemmas.{row_answer, row_fits, row_within}
-use Rattle.scheme_filter.proofs.RunsOfLemmas.{longest_is}
+use Rattle.scheme_filter.proofs.RunsOfLemmas.{longest_is, runs_of-few}
 use Rattle.scheme_filter.proofs.row_runs.passing.Goals as goal
 
 pub overflow_add-row : goal.overflow_add-row
@@ -27,3 +29,9 @@ returns-clause-longest c =
 
 pub returns-clause-exact : goal.returns-clause-exact
 returns-clause-exact c = longest_is (passes c.args.filters.now c.args.space.now c.args.ranges.now.list) c.args.row.now.pages c.args.row.now.start c.find_runs.new.runs (returns-clause-longest c)
+
+pub returns-clause-fits : goal.returns-clause-fits
+returns-clause-fits c =
+    let row = c.args.row.now in
+    let few = runs_of-few (passes c.args.filters.now c.args.space.now c.args.ranges.now.list) row.pages row.start in
+    omega (arith, few, ap (λ (rs : List Run). sum_by (λ r. r.pages) rs) (returns-clause-exact c), row_fits c.args.ranges.now.list row c.len-count.ensures.order c.requires.held)

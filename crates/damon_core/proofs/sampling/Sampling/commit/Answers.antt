@@ -5,7 +5,6 @@ use Rattle.damon_types.specs.declared.row.Row.{Row}
 use Rattle.damon_types.specs.declared.space.Target.{Target}
 use Rattle.damon_types.specs.Listed.{Listed}
 use Rattle.region_list.specs.Regions.{RegionList}
-use Rattle.region_list.specs.Rows.{RowList}
 use Rattle.live_commit.specs.declared.phase.Phase.{Phase}
 use Rattle.live_commit.specs.declared.phase.Phase.TheVariants.{Void}
 use Rattle.live_commit.specs.Accepted.{AllowsCommit}
@@ -26,14 +25,15 @@ invariant_of-self c =
     let some = subst (λ (r : RegionList). 0 < length r.rows) (sym made)
     (new_some c.updated_rows_are_kept.ensures.some c.shrunk_rows_are_kept.ensures.some c.made_in_order.ensures.order c.made_in_order.ensures.count c.made_in_order.ensures.wide space specs c.args.max i.regions c.targets-targets.ensures.sound c.len-rows.ensures.unit c.self.invariant.some can) in
     let cap = ap (λ (r : RegionList). r.cap) made ∙ new_cap space specs c.args.max i.regions in
-    let old = c.as_slice.ensures ∙ ap (λ (r : RowList). r.rows) c.copy_from.ensures ∙ c.rows.ensures in
     let void =
     c.becomes_void-void.ensures
-    ∙ ap (λ (rows : List Row). becomes_void i.phase rows c.rows-2.result.now) old
+    ∙ ap (λ (rows : List Row). becomes_void i.phase rows c.rows-2.result.now) c.as_slice.ensures
+    ∙ c.keep_if_armed.ensures.same c.rows-2.result.now
+    ∙ ap (λ (rows : List Row). becomes_void i.phase rows c.rows-2.result.now) c.rows.ensures
     ∙ ap (λ (rows : List Row). becomes_void i.phase i.regions.rows rows) c.rows-2.ensures in
     let phase : phase_after_commit i.phase i.regions.rows new.rows ≡ c.void_or-self-inside.result = sym (c.void_or-self-inside.ensures ∙ ap (λ (b : Bool). cond b Void i.phase) void) in
     let Keeps : Phase → ℕ → ℕ → Type 0 = λ ph row_room range_room. IsSampling new ph i.picks i.hits_so_far row_room range_room in
     let kept = sampling_kept i.regions new i.phase i.picks i.hits_so_far i.earlier.cap i.room c.self.invariant allows some cap in
-    subst (λ n. Keeps c.void_or-self-inside.result n c.change.new.self) (sym (ap (λ (r : RowList). r.cap) c.copy_from.ensures))
+    subst (λ n. Keeps c.void_or-self-inside.result n c.change.new.self) (sym c.keep_if_armed.ensures.cap)
     (subst (λ n. Keeps c.void_or-self-inside.result i.earlier.cap n) (sym c.change.ensures.room)
     (subst (λ ph. Keeps ph i.earlier.cap i.room) phase kept))
