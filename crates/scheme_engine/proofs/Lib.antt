@@ -7,4 +7,6 @@ pub mod ChoiceLemmas
 pub mod RowsLemmas
 pub mod EngineLemmas
 pub mod LawLemmas
+pub mod RunLemmas
+pub mod BoundLemmas
 mod Examples
