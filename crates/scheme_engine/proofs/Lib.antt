@@ -9,4 +9,5 @@ pub mod EngineLemmas
 pub mod LawLemmas
 pub mod RunLemmas
 pub mod BoundLemmas
+pub mod SlotLemmas
 mod Examples
