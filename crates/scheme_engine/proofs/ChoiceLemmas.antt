@@ -108,6 +108,7 @@ chosen_have_rows left passes rows cs ds rows_of same shares = λ k d within.
       span = span_of has.row;
       at = slice_get-map span_of rows has.index ∙ ap (λ o. option_map span_of o) has.at;
       start = ap (λ (c : Candidate). c.start) is.is ∙ has.is.start;
+      target = ap (λ (c : Candidate). c.target) is.is ∙ has.is.target;
       passing = ap (λ (c : Candidate). c.passing) is.is ∙ has.is.passing;
       some = omega (arith, ap (λ (c : Candidate). c.passing) is.is, has.is.some);
       share = share;

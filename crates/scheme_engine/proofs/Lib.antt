@@ -7,4 +7,7 @@ pub mod ChoiceLemmas
 pub mod RowsLemmas
 pub mod EngineLemmas
 pub mod LawLemmas
+pub mod RunLemmas
+pub mod BoundLemmas
+pub mod SlotLemmas
 mod Examples

@@ -30,6 +30,7 @@ pub record IsCandidateOf (passes : ℕ → Bool) (ss : List Span) (c : Candidate
   pub span : Span
   pub at : slice_get ss index ≡ Some span
   pub start : c.start ≡ span.start
+  pub target : c.target ≡ span.target
   pub passing : c.passing ≡ length (passing_pages passes span)
   pub some : 1 ≤ c.passing
   pub share : c.share ≤ c.passing

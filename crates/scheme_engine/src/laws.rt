@@ -15,7 +15,7 @@ ghost use Rattle.scheme_engine.specs.Served.{slots_served};
 ghost use Rattle.scheme_engine.specs.Slots.{SlotValue};
 
 use priority::{order_is_one, shares_are_within};
-use region_list::refined_rows_tile;
+use region_list::{refined_rows_tile, tiling_is_per_page};
 use scheme_filter::{longest_runs_are_one, passing_pages_are_counted};
 
 /// The rows after a run of a scheme still tile their ranges with the minimum size, and are at most
@@ -39,4 +39,84 @@ pub fn outcome_rows_are_kept()
     refined_rows_tile();
     order_is_one();
     shares_are_within();
+}
+
+/// The runs of a scheme have as many pages together as are taken, at most what is left of its quota.
+/// Each lies in a row, and so in the space where the ranges do. No more rows match and no more pages are
+/// taken than a space may have pages.
+pub fn outcome_runs_are_taken()
+    ensures sum { (slot aggr : ℕ) (space : List target) (scheme : scheme_type) (left : Option ℕ)
+        (regions : RegionList) → AreTiled regions
+        → sum_by (λ r. r.pages) (outcome_of slot space aggr scheme left regions).runs
+        ≡ (outcome_of slot space aggr scheme left regions).taken }
+    ensures within { (slot aggr : ℕ) (space : List target) (scheme : scheme_type) (left : Option ℕ)
+        (regions : RegionList) → AreTiled regions
+        → IfSome left (λ most. (outcome_of slot space aggr scheme left regions).taken ≤ most) }
+    ensures rows { (slot aggr : ℕ) (space : List target) (scheme : scheme_type) (left : Option ℕ)
+        (regions : RegionList) → AreTiled regions
+        → All (λ r. Any (LiesInRow r) (spans regions.rows))
+            (outcome_of slot space aggr scheme left regions).runs }
+    ensures space { (slot aggr : ℕ) (space : List target) (scheme : scheme_type) (left : Option ℕ)
+        (regions : RegionList) → AreTiled regions → AreWithin space regions.ranges
+        → All (λ r. r.start + r.pages ≤ pages_of space)
+            (outcome_of slot space aggr scheme left regions).runs }
+    ensures taken { (slot aggr : ℕ) (space : List target) (scheme : scheme_type) (left : Option ℕ)
+        (regions : RegionList) → AreTiled regions → AreWithin space regions.ranges → IsSpace space
+        → (outcome_of slot space aggr scheme left regions).taken ≤ MAX_PAGES }
+    ensures tried { (slot aggr : ℕ) (space : List target) (scheme : scheme_type) (left : Option ℕ)
+        (regions : RegionList) → AreTiled regions → AreWithin space regions.ranges → IsSpace space
+        → (outcome_of slot space aggr scheme left regions).tried ≤ MAX_PAGES }
+{
+    order_is_one();
+    shares_are_within();
+    passing_pages_are_counted();
+    longest_runs_are_one();
+    tiling_is_per_page();
+}
+
+/// What serving slots keeps: the rows and their counts as [`outcome_rows_are_kept`] says, the number of
+/// slots, and that no set slot has a window that begins after the tick. The runs of all slots have as
+/// many pages as are taken in all choices, and lie in the space; each choice takes at most what is left.
+/// Numbers that are bounded by how often the slots were served stay so, and fit in 64 bits.
+pub fn served_slots_are_kept()
+    ensures tiled { (slot aggr tick : ℕ) (space : List target) (regions : RegionList)
+        (slots : List SlotValue) → AreTiled regions
+        → AreTiled (record regions {
+          rows = (slots_served slot space aggr tick regions slots).rows;
+        }) }
+    ensures some { (slot aggr tick : ℕ) (space : List target) (regions : RegionList)
+        (slots : List SlotValue) → 0 < length regions.rows
+        → 0 < length (slots_served slot space aggr tick regions slots).rows }
+    ensures counts { (slot aggr tick most : ℕ) (space : List target) (regions : RegionList)
+        (slots : List SlotValue) → AllByRecursion (λ r. r.count ≤ most) regions.rows
+        → AllByRecursion (λ r. r.count ≤ most)
+            (slots_served slot space aggr tick regions slots).rows }
+    ensures length { (slot aggr tick : ℕ) (space : List target) (regions : RegionList)
+        (slots : List SlotValue)
+        → length (slots_served slot space aggr tick regions slots).slots ≡ length slots }
+    ensures windows { (slot aggr tick : ℕ) (space : List target) (regions : RegionList)
+        (slots : List SlotValue) → BeginBy tick slots
+        → BeginBy tick (slots_served slot space aggr tick regions slots).slots }
+    ensures sum { (slot aggr tick : ℕ) (space : List target) (regions : RegionList)
+        (slots : List SlotValue) → AreTiled regions
+        → sum_by (λ r. r.pages) (slots_served slot space aggr tick regions slots).runs
+        ≡ sum_by (λ c. c.taken) (slots_served slot space aggr tick regions slots).choices }
+    ensures within { (slot aggr tick : ℕ) (space : List target) (regions : RegionList)
+        (slots : List SlotValue) → AreTiled regions
+        → All (λ c. IfSome c.left (λ most. c.taken ≤ most))
+            (slots_served slot space aggr tick regions slots).choices }
+    ensures space { (slot aggr tick : ℕ) (space : List target) (regions : RegionList)
+        (slots : List SlotValue) → AreTiled regions → AreWithin space regions.ranges
+        → All (λ r. r.start + r.pages ≤ pages_of space)
+            (slots_served slot space aggr tick regions slots).runs }
+    ensures bounded { (slot aggr tick t : ℕ) (space : List target) (regions : RegionList)
+        (slots : List SlotValue) → AreTiled regions → AreWithin space regions.ranges
+        → IsSpace space → AllByRecursion (CountsWithin t) slots
+        → AllByRecursion (CountsWithin (t + 1))
+            (slots_served slot space aggr tick regions slots).slots }
+    ensures fits { (t : ℕ) (slots : List SlotValue) → t ≤ 2 ^ 43
+        → AllByRecursion (CountsWithin t) slots → AllByRecursion FitsSlot slots }
+{
+    outcome_rows_are_kept();
+    outcome_runs_are_taken();
 }
