@@ -57,8 +57,7 @@ candidate_lies laws slot passes ss c ascend is =
 
     each : All (λ r. Any (LiesInRow (applied_run slot c r)) ss) (taken_runs passes c.share is.span)
     each k d within =
-        let low = longest.within k d within in
-        (
+        let low = longest.within k d within in (
           is.index,
           is.span,
           slice_get_within ss is.index is.span is.at,

@@ -140,7 +140,7 @@ slots_sum laws slot aggr tick space regions (s ∷ ss) tiled =
     let next : RegionList = record regions { rows = first.rows } in
     let others = slots_served (slot + 1) space aggr tick next ss in
     let here : sum_by (λ (r : AppliedRun). r.pages) first.runs ≡ sum_by (λ (c : SlotChoice). c.taken) first.choices =
-        slot_holds slot space aggr tick regions s (λ w. sum_by (λ (r : AppliedRun). r.pages) w.runs ≡ sum_by (λ (c : SlotChoice). c.taken) w.choices) (record { empty = refl; inactive = refl; active = λ h. omega (arith, laws.sum slot aggr space h.scheme (left_in (turned_slot tick s)) regions tiled) }) in
+    slot_holds slot space aggr tick regions s (λ w. sum_by (λ (r : AppliedRun). r.pages) w.runs ≡ sum_by (λ (c : SlotChoice). c.taken) w.choices) (record { empty = refl; inactive = refl; active = λ h. omega (arith, laws.sum slot aggr space h.scheme (left_in (turned_slot tick s)) regions tiled) }) in
     let rest = slots_sum laws (slot + 1) aggr tick space next ss (slot_tiled laws slot space aggr tick regions s tiled) in
     omega (arith, here, rest, sum_by-append (λ (r : AppliedRun). r.pages) first.runs others.runs, sum_by-append (λ (c : SlotChoice). c.taken) first.choices others.choices)
 
@@ -203,8 +203,7 @@ pub slots_bounded : OutcomeLaws → (slot aggr tick n : ℕ) (space : List Targe
 slots_bounded laws slot aggr tick n space regions [] tiled within sound all = tt
 slots_bounded laws slot aggr tick n space regions (s ∷ ss) tiled within sound all =
     let t = turned_slot tick s in
-    let is = turned_counts n tick s all.0 in
-    (
+    let is = turned_counts n tick s all.0 in (
       slot_holds slot space aggr tick regions s (λ w. CountsWithin (n + 1) w.slot) (record {
         empty = one_more n t is;
         inactive = one_more n t is;

@@ -55,11 +55,11 @@ pub fn outcome_runs_are_taken()
     ensures rows { (slot aggr : ℕ) (space : List target) (scheme : scheme_type) (left : Option ℕ)
         (regions : RegionList) → AreTiled regions
         → All (λ r. Any (LiesInRow r) (spans regions.rows))
-            (outcome_of slot space aggr scheme left regions).runs }
+        (outcome_of slot space aggr scheme left regions).runs }
     ensures space { (slot aggr : ℕ) (space : List target) (scheme : scheme_type) (left : Option ℕ)
         (regions : RegionList) → AreTiled regions → AreWithin space regions.ranges
         → All (λ r. r.start + r.pages ≤ pages_of space)
-            (outcome_of slot space aggr scheme left regions).runs }
+        (outcome_of slot space aggr scheme left regions).runs }
     ensures taken { (slot aggr : ℕ) (space : List target) (scheme : scheme_type) (left : Option ℕ)
         (regions : RegionList) → AreTiled regions → AreWithin space regions.ranges → IsSpace space
         → (outcome_of slot space aggr scheme left regions).taken ≤ MAX_PAGES }
@@ -90,7 +90,7 @@ pub fn served_slots_are_kept()
     ensures counts { (slot aggr tick most : ℕ) (space : List target) (regions : RegionList)
         (slots : List SlotValue) → AllByRecursion (λ r. r.count ≤ most) regions.rows
         → AllByRecursion (λ r. r.count ≤ most)
-            (slots_served slot space aggr tick regions slots).rows }
+        (slots_served slot space aggr tick regions slots).rows }
     ensures length { (slot aggr tick : ℕ) (space : List target) (regions : RegionList)
         (slots : List SlotValue)
         → length (slots_served slot space aggr tick regions slots).slots ≡ length slots }
@@ -104,16 +104,16 @@ pub fn served_slots_are_kept()
     ensures within { (slot aggr tick : ℕ) (space : List target) (regions : RegionList)
         (slots : List SlotValue) → AreTiled regions
         → All (λ c. IfSome c.left (λ most. c.taken ≤ most))
-            (slots_served slot space aggr tick regions slots).choices }
+        (slots_served slot space aggr tick regions slots).choices }
     ensures space { (slot aggr tick : ℕ) (space : List target) (regions : RegionList)
         (slots : List SlotValue) → AreTiled regions → AreWithin space regions.ranges
         → All (λ r. r.start + r.pages ≤ pages_of space)
-            (slots_served slot space aggr tick regions slots).runs }
+        (slots_served slot space aggr tick regions slots).runs }
     ensures bounded { (slot aggr tick t : ℕ) (space : List target) (regions : RegionList)
         (slots : List SlotValue) → AreTiled regions → AreWithin space regions.ranges
         → IsSpace space → AllByRecursion (CountsWithin t) slots
         → AllByRecursion (CountsWithin (t + 1))
-            (slots_served slot space aggr tick regions slots).slots }
+        (slots_served slot space aggr tick regions slots).slots }
     ensures fits { (t : ℕ) (slots : List SlotValue) → t ≤ 2 ^ 43
         → AllByRecursion (CountsWithin t) slots → AllByRecursion FitsSlot slots }
 {
