@@ -15,15 +15,8 @@ use Rattle.priority.specs.declared.candidates.Candidate.{Candidate}
 use Rattle.priority.specs.Order.{is_before, InPriority}
 use Rattle.priority.specs.Share.{passing_before, share_after, with_share, with_shares}
 use Rattle.scheme_engine.specs.Applying.{IsCandidateOf}
+use Rattle.scheme_engine.specs.Kept.{IsInPart, OneInPart}
 use Rattle.scheme_engine.proofs.GatherLemmas.{HasRow, IsOfRow}
-
--- some of the passing pages of a candidate are taken, but not all
-abbrev pub IsInPart : Candidate → Type 0
-IsInPart c = (0 < c.share) × (c.share < c.passing)
-
--- at most one of the candidates is taken in part
-abbrev pub OneInPart : List Candidate → Type 0
-OneInPart cs = AllPairs (λ c d. IsInPart c → IsInPart d → ⊥) cs
 
 -- a candidate with its share of what is left
 pub record IsShared (left : Option ℕ) (cs : List Candidate) (d : Candidate) : Type 0 where

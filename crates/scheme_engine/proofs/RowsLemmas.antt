@@ -26,10 +26,11 @@ use Rattle.priority.specs.Share.{with_shares}
 use Rattle.scheme_engine.specs.declared.cut.Part.{Part}
 use Rattle.scheme_engine.specs.Outcome.{candidate_at, changed_rows, changes_rows, cut_in_two, cut_place, may_cut, renewed, row_after, rows_after}
 use Rattle.scheme_engine.specs.Applying.{IsCandidateOf, IsPartOf, cut_rows, index_of, next_part, part_of, row_renewed, rows_cut, rows_renewed}
+use Rattle.scheme_engine.specs.Kept.{IsInPart, OneInPart}
 use Rattle.scheme_engine.specs.Taken.{no_span, span_at}
 use Rattle.scheme_engine.specs.Candidates.{candidates_of, passing_pages}
 use Rattle.scheme_engine.proofs.ApplyLemmas.{cut_within, no_candidate, none_new, not_changed, other_start}
-use Rattle.scheme_engine.proofs.ChoiceLemmas.{IsInPart, OneInPart, chosen_have_rows, one_in_part}
+use Rattle.scheme_engine.proofs.ChoiceLemmas.{chosen_have_rows, one_in_part}
 use Rattle.scheme_engine.proofs.GatherLemmas.{HasRow, candidates_have_rows}
 use Rattle.scheme_engine.proofs.PlaceLemmas.{Ascend, found_by_start, place_by_start, rows_ascend, span_read}
 

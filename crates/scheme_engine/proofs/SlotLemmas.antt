@@ -1,5 +1,5 @@
 -- What serving slots keeps.
-use Rattle.std.proofs.Common.{◌≡◌, ℕ, ◌+◌, ◌*◌, ◌^◌, ◌≤◌, ◌<◌, Bool, true, false, cond, List, [], ◌∷◌, ◌++◌, Option, Some, None, length, refl, ap, ◌∙◌, arith}
+use Rattle.std.proofs.Common.{◌≡◌, ℕ, zero, suc, ◌+◌, ◌*◌, ◌^◌, ◌≤◌, ◌<◌, Bool, true, false, cond, List, [], ◌∷◌, ◌++◌, Option, Some, None, length, get_or, set, replicate, refl, ap, ◌∙◌, arith}
 use Rattle.std.specs.Prelude.{All, IfSome, IsSome, sum_by, nat_le}
 use Rattle.std.specs.List.{AllByRecursion}
 use Rattle.std.specs.Option.{option_map}
@@ -17,10 +17,10 @@ use Rattle.quota_charge.specs.Quota.{has_ended}
 use Rattle.scheme_engine.specs.declared.applied.AppliedRun.{AppliedRun}
 use Rattle.scheme_engine.specs.declared.applied.SlotChoice.{SlotChoice}
 use Rattle.scheme_engine.specs.Engine.{BeginBy, FitsSlot}
-use Rattle.scheme_engine.specs.Kept.{AreTiled, CountsWithin}
+use Rattle.scheme_engine.specs.Kept.{AreTiled, CountsWithin, StartBy}
 use Rattle.scheme_engine.specs.Outcome.{Outcome, outcome_of}
 use Rattle.scheme_engine.specs.Served.{Served, ServedSlot, choice_of, left_in, no_choice, scheme_counted, scheme_served, slot_counted, slot_run, slot_served, slots_served}
-use Rattle.scheme_engine.specs.Slots.{SetScheme, SlotValue, quota_of, turned_slot, window_at}
+use Rattle.scheme_engine.specs.Slots.{SetScheme, SlotValue, changed, empty_slot, quota_of, turned_slot, window_at}
 
 -- what the laws of outcomes say
 pub record OutcomeLaws : Type 0 where
@@ -90,10 +90,6 @@ if_map : (f : SetScheme → SetScheme) (P Q : SetScheme → Type 0) (o : Option 
 if_map f P Q None step is = tt
 if_map f P Q (Some h) step is = step h is
 
-was_set : (f : SetScheme → SetScheme) (o : Option SetScheme) → IsSome (option_map f o) → IsSome o
-was_set f None is = is
-was_set f (Some h) is = is
-
 -- a window that may begin anew does not begin after the tick, and is charged no more
 window_start : (tick : ℕ) (quota : Option Quota) (w : Window) → w.start ≤ tick → (window_at tick quota w).start ≤ tick
 window_start tick None w before = before
@@ -111,26 +107,24 @@ window_charged tick (Some q) w = by (has_ended q w.start tick)
     by true = omega arith
     by false = omega arith
 
-slot_window : (slot : ℕ) (space : List Target) (aggr tick : ℕ) (regions : RegionList) (s : SlotValue) → (IsSome s.set → s.window.start ≤ tick) → IsSome (slot_served slot space aggr tick regions s).slot.set → (slot_served slot space aggr tick regions s).slot.window.start ≤ tick
+slot_window : (slot : ℕ) (space : List Target) (aggr tick : ℕ) (regions : RegionList) (s : SlotValue) → s.window.start ≤ tick → (slot_served slot space aggr tick regions s).slot.window.start ≤ tick
 slot_window slot space aggr tick regions s before =
-    slot_holds slot space aggr tick regions s (λ w. IsSome w.slot.set → w.slot.window.start ≤ tick) (record {
-      empty = turned;
-      inactive = turned;
-      active = λ h. λ set. turned (was_set (counted h) s.set set);
-    })
-  where
-    turned : IsSome s.set → (turned_slot tick s).window.start ≤ tick
-    turned set = window_start tick (quota_of s) s.window (before set)
+    let turned = window_start tick (quota_of s) s.window before in
+    slot_holds slot space aggr tick regions s (λ w. w.slot.window.start ≤ tick) (record { empty = turned; inactive = turned; active = λ h. turned })
 
-    counted : SetScheme → SetScheme → SetScheme
-    counted h = let o = outcome_of slot space aggr h.scheme (left_in (turned_slot tick s)) regions in scheme_counted o.tried o.taken o.exceeds
-
-pub slots_windows : (slot aggr tick : ℕ) (space : List Target) (regions : RegionList) (slots : List SlotValue) → BeginBy tick slots → BeginBy tick (slots_served slot space aggr tick regions slots).slots
-slots_windows slot aggr tick space regions [] begin = tt
-slots_windows slot aggr tick space regions (s ∷ ss) begin = (
-  slot_window slot space aggr tick regions s begin.0,
-  slots_windows (slot + 1) aggr tick space (record regions { rows = (slot_served slot space aggr tick regions s).rows }) ss begin.1,
+pub slots_windows : (slot aggr tick : ℕ) (space : List Target) (regions : RegionList) (slots : List SlotValue) → StartBy tick slots → StartBy tick (slots_served slot space aggr tick regions slots).slots
+slots_windows slot aggr tick space regions [] start = tt
+slots_windows slot aggr tick space regions (s ∷ ss) start = (
+  slot_window slot space aggr tick regions s start.0,
+  slots_windows (slot + 1) aggr tick space (record regions { rows = (slot_served slot space aggr tick regions s).rows }) ss start.1,
 )
+
+pub slots_begun : (last tick : ℕ) (slots : List SlotValue) → last ≤ tick → StartBy last slots → StartBy tick slots × BeginBy tick slots
+slots_begun last tick [] later start = (tt, tt)
+slots_begun last tick (s ∷ ss) later start =
+    let rest = slots_begun last tick ss later start.1 in
+    let here : s.window.start ≤ tick = omega (arith, start.0) in
+    ((here, rest.0), (λ set. here, rest.1))
 
 -- runs and choices
 pub slots_sum : OutcomeLaws → (slot aggr tick : ℕ) (space : List Target) (regions : RegionList) (slots : List SlotValue) → AreTiled regions → sum_by (λ r. r.pages) (slots_served slot space aggr tick regions slots).runs ≡ sum_by (λ c. c.taken) (slots_served slot space aggr tick regions slots).choices
@@ -225,3 +219,38 @@ counts_fit n (s ∷ ss) few all = (
   },
   counts_fit n ss few all.1,
 )
+
+-- changes of a slot
+all_set : (P : SlotValue → Type 0) (slots : List SlotValue) (i : ℕ) (s : SlotValue) → AllByRecursion P slots → P s → AllByRecursion P (set slots i s)
+all_set P [] i s all here = tt
+all_set P (t ∷ slots) zero s all here = (here, all.1)
+all_set P (t ∷ slots) (suc i) s all here = (all.0, all_set P slots i s all.1 here)
+
+all_at : (P : SlotValue → Type 0) (slots : List SlotValue) (i : ℕ) → AllByRecursion P slots → P empty_slot → P (get_or slots i empty_slot)
+all_at P [] i all none = none
+all_at P (t ∷ slots) zero all none = all.0
+all_at P (t ∷ slots) (suc i) all none = all_at P slots i all.1 none
+
+pub start_changed : (tick i : ℕ) (scheme : Option Scheme) (slots : List SlotValue) → StartBy tick slots → StartBy tick (set slots i (changed scheme (get_or slots i empty_slot)))
+start_changed tick i scheme slots start =
+    all_set (λ s. s.window.start ≤ tick) slots i (changed scheme (get_or slots i empty_slot)) start (all_at (λ s. s.window.start ≤ tick) slots i start (omega arith))
+
+counts_empty : (n : ℕ) → CountsWithin n empty_slot
+counts_empty n = record { tried = tt; applied = tt; exceeds = tt; charged = omega arith }
+
+counts_changed_slot : (n : ℕ) (scheme : Option Scheme) (s : SlotValue) → CountsWithin n s → CountsWithin n (changed scheme s)
+counts_changed_slot n None s is = record { tried = tt; applied = tt; exceeds = tt; charged = is.charged }
+counts_changed_slot n (Some x) s is = record { tried = omega arith; applied = omega arith; exceeds = omega arith; charged = is.charged }
+
+pub counts_changed : (n i : ℕ) (scheme : Option Scheme) (slots : List SlotValue) → AllByRecursion (CountsWithin n) slots → AllByRecursion (CountsWithin n) (set slots i (changed scheme (get_or slots i empty_slot)))
+counts_changed n i scheme slots all =
+    all_set (CountsWithin n) slots i (changed scheme (get_or slots i empty_slot)) all (counts_changed_slot n scheme (get_or slots i empty_slot) (all_at (CountsWithin n) slots i all (counts_empty n)))
+
+-- slots that were never set
+pub start_none : (k tick : ℕ) → StartBy tick (replicate k empty_slot)
+start_none zero tick = tt
+start_none (suc k) tick = (omega arith, start_none k tick)
+
+pub counts_none : (k n : ℕ) → AllByRecursion (CountsWithin n) (replicate k empty_slot)
+counts_none zero n = tt
+counts_none (suc k) n = (counts_empty n, counts_none k n)

@@ -1,10 +1,12 @@
 -- What runs of schemes keep.
-use Rattle.std.specs.Prelude.{◌≡◌, ℕ, ◌+◌, ◌*◌, ◌≤◌, List, length, IfSome}
+use Rattle.std.specs.Prelude.{◌≡◌, ℕ, ◌+◌, ◌*◌, ◌≤◌, ◌<◌, List, length, AllPairs, IfSome}
+use Rattle.std.specs.List.{AllByRecursion}
 use Rattle.damon_types.specs.declared.space.TheConstants.{MAX_PAGES}
 use Rattle.damon_types.specs.Ranges.{InOrder}
 use Rattle.damon_types.specs.Span.{Span, spans}
 use Rattle.region_list.specs.Regions.{RegionList}
 use Rattle.region_list.specs.Tiling.{Tiling}
+use Rattle.priority.specs.declared.candidates.Candidate.{Candidate}
 use Rattle.scheme_engine.specs.declared.applied.AppliedRun.{AppliedRun}
 use Rattle.scheme_engine.specs.Slots.{SetScheme, SlotValue}
 
@@ -21,6 +23,18 @@ pub record LiesInRow (r : AppliedRun) (s : Span) : Type 0 where
   pub some : 1 ≤ r.pages
   pub from : s.start ≤ r.start
   pub to : r.start + r.pages ≤ s.start + s.pages
+
+-- no slot, set or not, has a window that begins after this tick
+abbrev pub StartBy : ℕ → List SlotValue → Type 0
+StartBy tick slots = AllByRecursion (λ s. s.window.start ≤ tick) slots
+
+-- some of the passing pages of a candidate are taken, but not all
+abbrev pub IsInPart : Candidate → Type 0
+IsInPart c = (0 < c.share) × (c.share < c.passing)
+
+-- at most one of the candidates is taken in part
+abbrev pub OneInPart : List Candidate → Type 0
+OneInPart cs = AllPairs (λ c d. IsInPart c → IsInPart d → ⊥) cs
 
 -- After t runs the statistics of a set slot, and the pages charged to a slot, are at most t times what one run can add: no run
 -- has more rows or pages than a space may have pages.

@@ -9,8 +9,8 @@ ghost use Rattle.damon_types.specs.Span.{spans};
 ghost use Rattle.damon_types.specs.Within.{AreWithin};
 ghost use Rattle.region_list.specs.Regions.{RegionList};
 ghost use Rattle.scheme_engine.specs.Engine.{BeginBy, FitsSlot};
-ghost use Rattle.scheme_engine.specs.Kept.{AreTiled, CountsWithin, LiesInRow};
-ghost use Rattle.scheme_engine.specs.Outcome.{outcome_of};
+ghost use Rattle.scheme_engine.specs.Kept.{AreTiled, CountsWithin, LiesInRow, OneInPart, StartBy};
+ghost use Rattle.scheme_engine.specs.Outcome.{chosen_of, outcome_of};
 ghost use Rattle.scheme_engine.specs.Served.{slots_served};
 ghost use Rattle.scheme_engine.specs.Slots.{SlotValue};
 
@@ -19,14 +19,18 @@ use region_list::{refined_rows_tile, tiling_is_per_page};
 use scheme_filter::{longest_runs_are_one, passing_pages_are_counted};
 
 /// The rows after a run of a scheme still tile their ranges with the minimum size, and are at most
-/// `max`. There is one where there was one. Each has the count of the row that its pages belonged to,
-/// so no count rises.
+/// `max`. At most one candidate is taken in part, so at most one row is cut, and before the cut there are
+/// as many rows as before the run. There is a row where there was one. Each has the count of the row that
+/// its pages belonged to, so no count rises.
 pub fn outcome_rows_are_kept()
     ensures tiled { (slot aggr : ℕ) (space : List target) (scheme : scheme_type) (left : Option ℕ)
         (regions : RegionList) → AreTiled regions
         → AreTiled (record regions {
           rows = (outcome_of slot space aggr scheme left regions).rows;
         }) }
+    ensures one { (aggr : ℕ) (space : List target) (scheme : scheme_type) (left : Option ℕ)
+        (regions : RegionList) → AreTiled regions
+        → OneInPart (chosen_of space aggr scheme left regions) }
     ensures some { (slot aggr : ℕ) (space : List target) (scheme : scheme_type) (left : Option ℕ)
         (regions : RegionList) → 0 < length regions.rows
         → 0 < length (outcome_of slot space aggr scheme left regions).rows }
@@ -75,9 +79,9 @@ pub fn outcome_runs_are_taken()
 }
 
 /// What serving slots keeps: the rows and their counts as [`outcome_rows_are_kept`] says, the number of
-/// slots, and that no set slot has a window that begins after the tick. The runs of all slots have as
-/// many pages as are taken in all choices, and lie in the space; each choice takes at most what is left.
-/// Numbers that are bounded by how often the slots were served stay so, and fit in 64 bits.
+/// slots, and that no window begins after the tick. The runs of all slots have as many pages as are taken
+/// in all choices, and lie in the space; each choice takes at most what is left. Numbers that are bounded
+/// by how often the slots were served stay so, and fit in 64 bits.
 pub fn served_slots_are_kept()
     ensures tiled { (slot aggr tick : ℕ) (space : List target) (regions : RegionList)
         (slots : List SlotValue) → AreTiled regions
@@ -95,8 +99,10 @@ pub fn served_slots_are_kept()
         (slots : List SlotValue)
         → length (slots_served slot space aggr tick regions slots).slots ≡ length slots }
     ensures windows { (slot aggr tick : ℕ) (space : List target) (regions : RegionList)
-        (slots : List SlotValue) → BeginBy tick slots
-        → BeginBy tick (slots_served slot space aggr tick regions slots).slots }
+        (slots : List SlotValue) → StartBy tick slots
+        → StartBy tick (slots_served slot space aggr tick regions slots).slots }
+    ensures begun { (last tick : ℕ) (slots : List SlotValue) → last ≤ tick → StartBy last slots
+        → StartBy tick slots × BeginBy tick slots }
     ensures sum { (slot aggr tick : ℕ) (space : List target) (regions : RegionList)
         (slots : List SlotValue) → AreTiled regions
         → sum_by (λ r. r.pages) (slots_served slot space aggr tick regions slots).runs

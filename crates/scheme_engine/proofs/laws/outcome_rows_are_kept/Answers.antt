@@ -15,6 +15,7 @@ returns c =
         tiling = c.refined_rows_tile.ensures regions.unit regions.ranges (spans regions.rows) (spans (outcome_of slot space aggr scheme left regions).rows) tiled.tiling (rows_refined scheme.action regions (passes scheme.filters space regions.ranges) (chosen_of space aggr scheme left regions) tiled.unit);
         few = rows_few scheme.action (passes scheme.filters space regions.ranges) regions (chosen_of space aggr scheme left regions) (are_defined laws space aggr scheme left regions tiled).chosen tiled.few;
       };
+      one = λ aggr space scheme left regions tiled. (are_defined laws space aggr scheme left regions tiled).chosen.one;
       some = λ slot aggr space scheme left regions some. rows_some_left scheme.action regions (passes scheme.filters space regions.ranges) (chosen_of space aggr scheme left regions) some;
       counts = λ slot aggr most space scheme left regions few. rows_counts scheme.action regions (passes scheme.filters space regions.ranges) (chosen_of space aggr scheme left regions) most few;
     }

@@ -1,4 +1,4 @@
-use Rattle.scheme_engine.proofs.SlotLemmas.{OutcomeLaws, counts_fit, slots_bounded, slots_counts, slots_length, slots_some, slots_space, slots_sum, slots_tiled, slots_windows, slots_within}
+use Rattle.scheme_engine.proofs.SlotLemmas.{OutcomeLaws, counts_fit, slots_begun, slots_bounded, slots_counts, slots_length, slots_some, slots_space, slots_sum, slots_tiled, slots_windows, slots_within}
 use Rattle.scheme_engine.proofs.laws.served_slots_are_kept.Goals as goal
 
 pub returns : goal.returns
@@ -12,6 +12,7 @@ returns c =
       counts = slots_counts laws;
       length = slots_length;
       windows = slots_windows;
+      begun = slots_begun;
       sum = slots_sum laws;
       within = slots_within laws;
       space = slots_space laws;
