@@ -24,5 +24,5 @@ pub trait RowPass {
         requires empty { made.old.items ≡ [] }
         requires room { length (rows_of self.now ranges.now.list rows.now) ≤ vec_capacity made.old }
         ensures rows { made.new.items ≡ rows_of self.now ranges.now.list rows.now }
-        ensures capacity { vec_capacity made.new ≡ vec_capacity made.old };
+        ensures capacity { vec_capacity made.old ≤ vec_capacity made.new };
 }
