@@ -1,21 +1,31 @@
--- What the checks of a commit say of its parts.
-use Rattle.std.proofs.Common.{◌≡◌, ℕ, ◌<◌, ◌≤◌, List, length, Ok, Err, Some, refl, subst, arith}
-use Rattle.std.specs.Prelude.{Option, Result}
+-- What the checks of a commit say of its parts, and those of a setup of its slots.
+use Rattle.std.proofs.Common.{◌≡◌, ℕ, ◌<◌, ◌≤◌, Bool, List, [], ◌∷◌, ◌++◌, length, Ok, Err, Some, None, refl, subst, arith}
+use Rattle.std.specs.List.{AllByRecursion}
+use Rattle.std.specs.Prelude.{IsSome, Option, Result}
+use Rattle.std.proofs.lemmas.List.Elements.{recursion_from_All}
 use Rattle.std.proofs.lemmas.Bool.Decides.{nat_tests}
 use Rattle.damon_types.specs.declared.attrs.Attrs.{Attrs}
 use Rattle.damon_types.specs.declared.range.RangeSpec.{RangeSpec}
+use Rattle.damon_types.specs.declared.scheme.Scheme.{Scheme}
+use Rattle.damon_types.specs.declared.scheme.SchemeFault.{SchemeFault}
+use Rattle.damon_types.specs.declared.scheme.SlotChange.{SlotChange}
+use Rattle.damon_types.specs.declared.scheme.TheConstants.{MAX_SLOT}
 use Rattle.damon_types.specs.declared.space.Target.{Target}
 use Rattle.damon_types.specs.Attrs.{IsAttrs, checked_attrs}
+use Rattle.damon_types.specs.Scheme.{checked_scheme}
 use Rattle.target_ranges.specs.declared.fault.RangeFault.{RangeFault}
 use Rattle.target_ranges.specs.Checked.{checked_ranges}
 use Rattle.live_commit.specs.declared.fault.CommitFault.{CommitFault}
-use Rattle.live_commit.specs.declared.fault.CommitFault.TheVariants.{BadAttrs, BadRange}
+use Rattle.live_commit.specs.declared.fault.CommitFault.TheVariants.{BadAttrs, BadRange, BadScheme}
+use Rattle.live_commit.specs.declared.fault.SetupFault.{SetupFault}
 use Rattle.live_commit.specs.declared.phase.Phase.{Phase}
 use Rattle.live_commit.specs.declared.phase.Phase.TheVariants.{Idle, Clearing, Armed, Checking, Void, Due}
 use Rattle.live_commit.specs.declared.view.View.{View}
 use Rattle.live_commit.specs.Accepted.{AllowsCommit, IsAccepted}
-use Rattle.live_commit.specs.Accepts.{checked_commit, checked_new_attrs, checked_new_max, checked_new_ranges, checked_new_slot, checked_number, checked_phase, fault_as, max_after, ranges_after}
+use Rattle.live_commit.specs.Accepts.{checked_commit, checked_new_attrs, checked_new_max, checked_new_ranges, checked_for_slot, checked_new_slot, checked_number, checked_phase, fault_as, max_after, ranges_after}
 use Rattle.live_commit.specs.Commit.{CommitValue}
+use Rattle.live_commit.specs.Setup.{SetupValue, IsSetup}
+use Rattle.live_commit.specs.Slots.{checked_after, checked_free, checked_set, checked_slot, is_set, scheme_fault}
 use Rattle.live_commit.proofs.Changes.{both_ok}
 use Rattle.live_commit.proofs.Limits.{attrs_kept}
 
@@ -52,6 +62,35 @@ attrs_accepted cap a ok =
     let both = both_ok (fault_as BadAttrs (checked_attrs a)) (checked_new_max a.max cap) ok in
     (attrs_kept a (fault_as_ok BadAttrs (checked_attrs a) both.0), max_fits a.max cap both.1)
 
+-- a scheme that is accepted for a slot, and a slot change that is accepted, name a slot that exists
+scheme_slot : (slot : ℕ) (s : Scheme) → checked_scheme slot s ≡ Ok tt → slot ≤ MAX_SLOT
+scheme_slot slot s ok = grind (arith, nat_tests)
+
+slot_accepted : (slot : ℕ) (scheme : Option Scheme) → checked_for_slot slot scheme ≡ Ok tt → slot ≤ MAX_SLOT
+slot_accepted slot None ok = grind (arith, nat_tests)
+slot_accepted slot (Some s) ok = scheme_slot slot s ok
+
+change_accepted : (change : SlotChange) → checked_new_slot (Some change) ≡ Ok tt → change.slot ≤ MAX_SLOT
+change_accepted change ok = slot_accepted change.slot change.scheme (fault_as_ok BadScheme (checked_for_slot change.slot change.scheme) ok)
+
+scheme_fault_ok : (index : ℕ) (r : Result (Unit {0}) SchemeFault) → scheme_fault index r ≡ Ok tt → r ≡ Ok tt
+scheme_fault_ok index (Ok t) ok = refl
+scheme_fault_ok index (Err why) ok = absurd (cc)
+
+set_accepted : (index : ℕ) (set : Bool) (slot : ℕ) (scheme : Option Scheme) → IsSome scheme → checked_set index set slot scheme ≡ Ok tt → slot ≤ MAX_SLOT
+set_accepted index set slot None some ok = absurd (cc some)
+set_accepted index set slot (Some s) some ok =
+    scheme_slot slot s (scheme_fault_ok index (checked_scheme slot s) (both_ok (scheme_fault index (checked_scheme slot s)) (checked_free index set) ok).0)
+
+slots_accepted : (before changes : List SlotChange) → AllByRecursion (λ c. IsSome c.scheme) changes → checked_after before changes ≡ Ok tt → AllByRecursion (λ c. c.slot ≤ MAX_SLOT) changes
+slots_accepted before [] set ok = tt
+slots_accepted before (c ∷ changes) set ok =
+    let both = both_ok (checked_slot (length before) before c) (checked_after (before ++ c ∷ []) changes) ok in
+    (set_accepted (length before) (is_set c.slot before) c.slot c.scheme set.0 both.0, slots_accepted (before ++ c ∷ []) changes set.1 both.1)
+
+pub setup_accepted : (v : SetupValue) → IsSetup v → AllByRecursion (λ c. c.slot ≤ MAX_SLOT) v.slots
+setup_accepted v is = slots_accepted [] v.slots (recursion_from_All (λ (c : SlotChange). IsSome c.scheme) v.slots is.set) is.slots
+
 pub commit_accepted :
     (space : List Target) (v : View) (c : CommitValue) → checked_commit space v c ≡ Ok tt → IsAccepted space v c
 commit_accepted space v c ok =
@@ -61,9 +100,11 @@ commit_accepted space v c ok =
     let attrs = both_ok (checked_new_attrs v.cap c.attrs) (checked_new_slot c.slot) number.1 in
     let Ranges : Option (List RangeSpec) → Type 0 = λ o. checked_new_ranges space v.unit v.cap o ≡ Ok tt in
     let Given : Option Attrs → Type 0 = λ o. checked_new_attrs v.cap o ≡ Ok tt in
+    let Changed : Option SlotChange → Type 0 = λ o. checked_new_slot o ≡ Ok tt in
     record {
       phase = phase_allows v.phase v.rows phase.0;
       attrs = λ a given. attrs_accepted v.cap a (subst Given given attrs.0);
       ranges = λ specs given. ranges_accepted space v.unit v.cap specs (subst Ranges given ranges.0);
       few = number_fits (ranges_after c.ranges v.ranges) (max_after c.attrs v.max) number.0;
+      slot = λ change given. change_accepted change (subst Changed given attrs.1);
     }

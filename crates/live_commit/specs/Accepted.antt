@@ -2,6 +2,8 @@
 use Rattle.std.specs.Prelude.{◌≡◌, ◌<◌, ◌≤◌, List, length, Some, Ok}
 use Rattle.damon_types.specs.declared.attrs.Attrs.{Attrs}
 use Rattle.damon_types.specs.declared.range.RangeSpec.{RangeSpec}
+use Rattle.damon_types.specs.declared.scheme.SlotChange.{SlotChange}
+use Rattle.damon_types.specs.declared.scheme.TheConstants.{MAX_SLOT}
 use Rattle.damon_types.specs.declared.space.Target.{Target}
 use Rattle.damon_types.specs.Attrs.{IsAttrs}
 use Rattle.target_ranges.specs.Checked.{checked_ranges}
@@ -17,7 +19,7 @@ AllowsCommit (Clearing next) = ⊥
 AllowsCommit (Checking next) = ⊥
 AllowsCommit _ = Unit {0}
 
--- what holds of an accepted commit: of the phase, the new attributes, the new ranges, and the number of ranges after it
+-- what holds of an accepted commit: of the phase, the new attributes, the new ranges, the number of ranges after it, and the slot
 pub record IsAccepted (space : List Target) (v : View) (c : CommitValue) : Type 0 where
   pub phase : AllowsCommit v.phase
   pub attrs : (a : Attrs) → c.attrs ≡ Some a → IsAttrs a × (a.max ≤ v.cap)
@@ -25,3 +27,4 @@ pub record IsAccepted (space : List Target) (v : View) (c : CommitValue) : Type 
       (specs : List RangeSpec) → c.ranges ≡ Some specs
       → (0 < length specs) × (checked_ranges space v.unit v.cap specs ≡ Ok tt)
   pub few : ranges_after c.ranges v.ranges ≤ max_after c.attrs v.max
+  pub slot : (change : SlotChange) → c.slot ≡ Some change → change.slot ≤ MAX_SLOT

@@ -1,12 +1,15 @@
 // Laws of the definitions that the contracts cite, for the proofs of callers. The functions have no
 // bodies.
-ghost use Rattle.std.specs.Prelude.{◌≡◌, List, Ok};
+ghost use Rattle.std.specs.Prelude.{◌≡◌, ◌≤◌, List, Ok};
+ghost use Rattle.std.specs.List.{AllByRecursion};
+ghost use Rattle.damon_types.specs.declared.scheme.TheConstants.{MAX_SLOT};
 ghost use Rattle.damon_types.specs.declared.space.Target.{Target};
 ghost use Rattle.live_commit.specs.declared.view.View.{View};
 ghost use Rattle.live_commit.specs.Accepted.{IsAccepted};
 ghost use Rattle.live_commit.specs.Accepts.{checked_commit};
 ghost use Rattle.live_commit.specs.Commit.{CommitValue};
 ghost use Rattle.live_commit.specs.Laws.{ChecksInTurn};
+ghost use Rattle.live_commit.specs.Setup.{SetupValue, IsSetup};
 
 /// Slot changes that are accepted, with one more: the longer list is accepted, or rejected for the
 /// first reason against that change.
@@ -14,9 +17,12 @@ pub fn slots_are_checked_in_turn()
     ensures next { ChecksInTurn }
 {}
 
-/// A commit that is accepted comes in a phase that allows it, and its attributes, its ranges and
-/// the number of ranges after it are within their limits.
+/// A commit that is accepted comes in a phase that allows it, and its attributes, its ranges, the
+/// number of ranges after it and the slot that it changes are within their limits. The slots that a
+/// setup sets are within theirs.
 pub fn accepted_commits_are_within()
     ensures accepted { (space : List Target) (v : View) (c : CommitValue)
         → checked_commit space v c ≡ Ok tt → IsAccepted space v c }
+    ensures setup { (v : SetupValue) → IsSetup v
+        → AllByRecursion (λ c. c.slot ≤ MAX_SLOT) v.slots }
 {}
