@@ -18,8 +18,8 @@ within-phase_after_pass since aggr rows = by_phase (λ ph. IsPickWithin ph rows)
 pub has_picks-phase_after_pass : (since aggr rows picks : ℕ) → HasPicks (phase_after_pass since aggr) rows picks
 has_picks-phase_after_pass since aggr rows picks = by_phase (λ ph. HasPicks ph rows picks) since aggr (λ is. tt) (λ isnt. tt)
 
-pub since-phase_after_pass : (since aggr : ℕ) → aggr ≤ 1000 → since ≤ 1000 → SinceFew (phase_after_pass since aggr) since
-since-phase_after_pass since aggr most few = by_phase (λ ph. SinceFew ph since) since aggr (λ is. few) (λ isnt. grind (arith, nat_tests))
+pub since-phase_after_pass : (since aggr : ℕ) → 1 ≤ since → aggr ≤ 1000 → since ≤ 1000 → SinceFew (phase_after_pass since aggr) since
+since-phase_after_pass since aggr some most few = by_phase (λ ph. SinceFew ph since) since aggr (λ is. (some, few)) (λ isnt. grind (arith, nat_tests))
 
 pub hits-phase_after_pass : (since aggr found : ℕ) (bits : List Bool) → CountsHits (phase_after_pass since aggr) bits found
 hits-phase_after_pass since aggr found bits = by_phase (λ ph. CountsHits ph bits found) since aggr (λ is. tt) (λ isnt. tt)

@@ -1,20 +1,29 @@
 -- A monitor that stands for a state stands for the one after a commit.
-use Rattle.std.proofs.Common.{◌≡◌, ℕ, Bool, List, [], ◌∷◌, Ok, Err, refl, sym, ap, ◌∙◌}
+use Rattle.std.proofs.Common.{◌≡◌, ℕ, ◌≤◌, ◌<◌, Bool, List, [], ◌∷◌, get_or, set as put, Option, Some, None, Ok, Err, refl, sym, ap, ◌∙◌}
 use Rattle.std.specs.Prelude.{Result}
 use Rattle.damon_types.specs.declared.row.Row.{Row}
+use Rattle.damon_types.specs.declared.scheme.Scheme.{Scheme}
+use Rattle.damon_types.specs.declared.scheme.SlotChange.{SlotChange}
+use Rattle.damon_types.specs.declared.scheme.TheConstants.{MAX_SLOT}
+use Rattle.damon_types.specs.declared.space.Target.{Target}
 use Rattle.live_commit.specs.declared.fault.CommitFault.{CommitFault}
 use Rattle.live_commit.specs.declared.phase.Phase.{Phase}
-use Rattle.live_commit.specs.Accepted.{AllowsCommit}
+use Rattle.live_commit.specs.declared.view.View.{View}
+use Rattle.live_commit.specs.Accepted.{AllowsCommit, IsAccepted}
+use Rattle.live_commit.specs.Accepts.{checked_commit}
 use Rattle.live_commit.specs.Commit.{CommitValue}
+use Rattle.scheme_engine.specs.Slots.{changed, empty_slot}
 use Rattle.damon_core.specs.Note.{Note, was_hit}
 use Rattle.damon_core.specs.Totals.{checks_made, hits_made}
 use Rattle.damon_core.specs.State.{Core, State}
-use Rattle.damon_core.specs.Commit.{check_of, committed, committed_core, committed_notes, core_after_commit, if_accepted, phase_after_commit}
+use Rattle.damon_core.specs.Commit.{check_of, committed, committed_core, committed_notes, committed_slots, core_after_commit, if_accepted, phase_after_commit, slot_note, slots_after_commit, slots_changed, slots_metered, view_of, with_metric, with_slot}
 use Rattle.damon_core.specs.Event.{commit}
+use Rattle.damon_core.specs.Slots.{slot_count, slots_of}
 use Rattle.damon_core.specs.Makes.{Makes}
 use Rattle.damon_core.specs.Stands.{MonitorView, Stands, bit_at, last_pass}
 use Rattle.damon_core.proofs.Committing.{allows_commit, by_phase_after, committed_notes_hold}
 use Rattle.damon_core.proofs.Shown.{after_asked}
+use Rattle.damon_core.proofs.SlotNotes.{DecidesInTurn, slot_counted_below, slots_of-dropped, slots_of-metric, slots_of-set}
 use Rattle.damon_core.proofs.Tallying.{was_hit-commit}
 
 checks_made-commit : (c : CommitValue) (notes : List Note) → checks_made (committed_notes c notes) ≡ checks_made notes
@@ -30,9 +39,34 @@ last_pass-commit ph old new ticks allows = by_phase_after (λ p. last_pass ph ti
     number : {p : Phase} → ph ≡ p → last_pass ph ticks ≡ last_pass p ticks
     number is = ap (λ p. last_pass p ticks) is
 
+-- what the laws of the crates below say of the slot of a commit that is accepted, and of a metric after others
+pub record SlotLaws : Type 0 where
+  pub accepted : (space : List Target) (v : View) (c : CommitValue) → checked_commit space v c ≡ Ok tt → IsAccepted space v c
+  pub in_turn : DecidesInTurn
+
+slots_scheme : (slot : ℕ) (scheme : Option Scheme) (notes : List Note) → slot < slot_count
+    → put (slots_of notes) slot (changed scheme (get_or (slots_of notes) slot empty_slot)) ≡ slots_of (slot_note slot scheme ∷ notes)
+slots_scheme slot None notes below = sym (slots_of-dropped slot notes below)
+slots_scheme slot (Some scheme) notes below = sym (slots_of-set slot scheme notes below)
+
+slots_slot : (change : Option SlotChange) (notes : List Note) → ((x : SlotChange) → change ≡ Some x → x.slot ≤ MAX_SLOT) → slots_changed change (slots_of notes) ≡ slots_of (with_slot change notes)
+slots_slot None notes within = refl
+slots_slot (Some x) notes within = slots_scheme x.slot x.scheme notes (slot_counted_below x.slot (within x refl))
+
+slots_metric : DecidesInTurn → (value : Option ℕ) (notes : List Note) → slots_metered value (slots_of notes) ≡ slots_of (with_metric value notes)
+slots_metric law None notes = refl
+slots_metric law (Some value) notes = sym (slots_of-metric law value notes)
+
+-- the slots after a commit that is accepted are those that its notes tell of
+slots_committed : SlotLaws → (c : CommitValue) (core : Core) (notes : List Note) → check_of c core ≡ Ok tt → committed_slots c (slots_of notes) ≡ slots_of (committed_notes c notes)
+slots_committed laws c core notes ok =
+    ap (slots_metered c.metric) (slots_slot c.slot notes (laws.accepted core.space (view_of core) c ok).slot)
+    ∙ slots_metric laws.in_turn c.metric (with_slot c.slot notes)
+
 -- what the check of the commit leaves
-stands_after : (checked : Result (Unit {0}) CommitFault) (m : MonitorView) (s : State) (c : CommitValue) → check_of c s.core ≡ checked → Stands m s → Stands (record m { core = if_accepted checked (committed_core c s.core) s.core }) (if_accepted checked (committed c s) s)
-stands_after (Ok t) m s c ok stands =
+pub stands_after : SlotLaws → (checked : Result (Unit {0}) CommitFault) (m : MonitorView) (s : State) (c : CommitValue) → check_of c s.core ≡ checked → Stands m s
+    → Stands (record m { core = if_accepted checked (committed_core c s.core) s.core; slots = if_accepted checked (committed_slots c m.slots) m.slots }) (if_accepted checked (committed c s) s)
+stands_after laws (Ok t) m s c ok stands =
     let new = (committed_core c s.core).regions.rows in
     let number = last_pass-commit s.core.phase s.core.regions.rows new s.core.ticks (allows_commit c s.core ok) in
     record {
@@ -44,16 +78,18 @@ stands_after (Ok t) m s c ok stands =
           ∙ sym (was_hit-commit c s.notes (last_pass (phase_after_commit s.core.phase s.core.regions.rows new) s.core.ticks) k);
       checks = stands.checks ∙ sym (checks_made-commit c s.notes);
       hits = stands.hits ∙ sym (hits_made-commit c s.notes);
+      slots = ap (committed_slots c) stands.slots ∙ slots_committed laws c s.core s.notes ok;
     }
-stands_after (Err fault) m s c ok stands = record {
+stands_after laws (Err fault) m s c ok stands = record {
   same = refl;
   results = λ k. stands.results k ∙ ap (λ (x : Core). was_hit s.notes (last_pass x.phase x.ticks) k) stands.same;
   checks = stands.checks;
   hits = stands.hits;
+  slots = stands.slots;
 }
 
 -- a commit is an event, accepted or not
-pub commit_makes : (m : MonitorView) (c : CommitValue) → Makes Stands m (after_asked c m) (commit c ∷ [])
-commit_makes m c s reached stands =
-    let is : record m { core = core_after_commit c s.core } ≡ after_asked c m = ap (λ (x : Core). record m { core = core_after_commit c x }) (sym stands.same) in
-    ((tt, tt), rw (← is) (stands_after (check_of c s.core) m s c refl stands))
+pub commit_makes : SlotLaws → (m : MonitorView) (c : CommitValue) → Makes Stands m (after_asked c m) (commit c ∷ [])
+commit_makes laws m c s reached stands =
+    let is : record m { core = core_after_commit c s.core; slots = slots_after_commit c s.core m.slots } ≡ after_asked c m = ap (λ (x : Core). record m { core = core_after_commit c x; slots = slots_after_commit c x m.slots }) (sym stands.same) in
+    ((tt, tt), rw (← is) (stands_after laws (check_of c s.core) m s c refl stands))

@@ -7,7 +7,7 @@ use Rattle.damon_types.specs.declared.row.Row.{Row}
 use Rattle.live_commit.specs.declared.phase.Phase.{Phase}
 use Rattle.live_commit.specs.declared.phase.Phase.TheVariants.{Idle, Clearing, Armed, Checking, Void, Due}
 use Rattle.live_commit.specs.Commit.{CommitValue}
-use Rattle.damon_core.specs.Note.{Note, touched, cleared, checked, finished, voided, set, dropped, metric, turned, is_cleared, is_touched, has_clear, touched_after_clear, hit}
+use Rattle.damon_core.specs.Note.{Note, touched, cleared, checked, finished, voided, set, dropped, metric, turned, ran, is_cleared, is_touched, has_clear, touched_after_clear, hit}
 use Rattle.damon_core.specs.State.{State, row_count}
 use Rattle.damon_core.specs.Event.{IsLoading, load_index, next_hit}
 use Rattle.damon_core.specs.After.{phase_cleared, phase_after_pass, cleared_at, loaded_at}
@@ -18,6 +18,7 @@ use Rattle.damon_core.specs.Bound.{EachHitRests}
 use Rattle.damon_core.proofs.Committing.{allows_commit, by_phase_after, committed_notes_hold, same_length}
 use Rattle.damon_core.proofs.Keeping.{Keeps, any_result, true_result, reached_keeps}
 use Rattle.damon_core.proofs.Opening.{opening_holds}
+use Rattle.damon_core.proofs.Served.{notes_hold}
 use Rattle.damon_core.proofs.Rows.{RowLaws, HasRows, rows_kept}
 
 -- the pass has cleared each pick before the one that comes next
@@ -108,6 +109,7 @@ is_cleared-from_has_clear (set m x ∷ notes) n k p has = is_cleared-from_has_cl
 is_cleared-from_has_clear (dropped m ∷ notes) n k p has = is_cleared-from_has_clear notes n k p has
 is_cleared-from_has_clear (metric m ∷ notes) n k p has = is_cleared-from_has_clear notes n k p has
 is_cleared-from_has_clear (turned m t ∷ notes) n k p has = is_cleared-from_has_clear notes n k p has
+is_cleared-from_has_clear (ran m t tried runs exceeds ∷ notes) n k p has = is_cleared-from_has_clear notes n k p has
 
 -- in each state that is reached the picks before the one that comes next are cleared
 pub reached_cleared : (s : State) → Reached s → (k : ℕ) → k < cleared_so_far s.core.phase (row_count s.core) → is_cleared s.notes (slice_index s.core.picks k) ≡ true
@@ -138,6 +140,7 @@ touched_after_clear-from_is_touched (set m x ∷ notes) n k p is has = touched_a
 touched_after_clear-from_is_touched (dropped m ∷ notes) n k p is has = touched_after_clear-from_is_touched notes n k p is has
 touched_after_clear-from_is_touched (metric m ∷ notes) n k p is has = touched_after_clear-from_is_touched notes n k p is has
 touched_after_clear-from_is_touched (turned m t ∷ notes) n k p is has = touched_after_clear-from_is_touched notes n k p is has
+touched_after_clear-from_is_touched (ran m t tried runs exceeds ∷ notes) n k p is has = touched_after_clear-from_is_touched notes n k p is has
 
 -- what is kept of the hits
 pub record HasHits (s : State) : Type 0 where
@@ -179,7 +182,7 @@ hits_kept laws = let rows = rows_kept true_result laws in let clears = clears_ke
   loading = λ s k hit fits is known h. record { rows = rows.loading s k hit fits is known h.rows; clears = clears.loading s k hit fits is known h.clears; rests = load_rests s k hit fits is known h };
   finishing = λ s is h. record { rows = rows.finishing s is h.rows; clears = clears.finishing s is h.clears; rests = h.rests };
   voiding = λ s is h. record { rows = rows.voiding s is h.rows; clears = clears.voiding s is h.clears; rests = h.rests };
-  aggregating = λ s ws is h. record { rows = rows.aggregating s ws is h.rows; clears = clears.aggregating s ws is h.clears; rests = h.rests };
+  aggregating = λ s ws is h. record { rows = rows.aggregating s ws is h.rows; clears = clears.aggregating s ws is h.clears; rests = notes_hold EachHitRests (record { turning = λ i t ns rests. rests; running = λ i t tried runs exceeds ns rests. rests }) s h.rests };
   committing = λ s c ok h. record {
     rows = rows.committing s c ok h.rows;
     clears = clears.committing s c ok h.clears;

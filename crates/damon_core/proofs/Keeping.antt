@@ -9,7 +9,7 @@ use Rattle.live_commit.specs.Setup.{SetupValue}
 use Rattle.damon_core.specs.Note.{touched}
 use Rattle.damon_core.specs.State.{State, row_count, opening}
 use Rattle.damon_core.specs.Event.{Event, touch, prepare, clear, load, observe, aggregate, commit, show, Fits, ByHit, IsClearing, IsLoading, IsObserving, load_index, next_hit}
-use Rattle.damon_core.specs.Aggregate.{aggregated_core}
+use Rattle.damon_core.specs.Aggregate.{aggregated}
 use Rattle.damon_core.specs.Commit.{check_of, committed, if_accepted}
 use Rattle.damon_core.specs.After.{after, prepared_core, cleared_at, loaded_at, finished_pass, voided_pass, by_clear, by_load, by_observe}
 use Rattle.damon_core.specs.Reached.{run, AllFit, AllByHit, CanOpen, Reached, ReachedByHit}
@@ -23,7 +23,7 @@ pub record Keeps (Q : State → Bool → Type 0) (P : State → Type 0) : Type 0
   pub loading : (s : State) (k : ℕ) (hit : Bool) → IsLoading s.core.phase (row_count s.core) → load_index s.core.phase ≡ k → Q s hit → P s → P (loaded_at k hit s)
   pub finishing : (s : State) → s.core.phase ≡ Checking (row_count s.core) → P s → P (finished_pass s)
   pub voiding : (s : State) → s.core.phase ≡ Void → P s → P (voided_pass s)
-  pub aggregating : (s : State) (ws : List ℕ) → s.core.phase ≡ Due → P s → P (record s { core = aggregated_core ws s.core })
+  pub aggregating : (s : State) (ws : List ℕ) → s.core.phase ≡ Due → P s → P (aggregated ws s)
   pub committing : (s : State) (c : CommitValue) → check_of c s.core ≡ Ok tt → P s → P (committed c s)
 
 -- what is known of the result of a load

@@ -1,4 +1,9 @@
 pub mod Opening
+pub mod SlotNotes
+pub mod SlotFacts
+pub mod Setting
+pub mod Serving
+pub mod Served
 pub mod Keeping
 pub mod Shown
 pub mod Tallying

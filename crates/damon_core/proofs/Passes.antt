@@ -11,10 +11,10 @@ use Rattle.live_commit.specs.declared.phase.Phase.{Phase}
 use Rattle.live_commit.specs.declared.phase.Phase.TheVariants.{Idle, Clearing, Armed, Checking, Void, Due}
 use Rattle.live_commit.specs.Commit.{CommitValue}
 use Rattle.live_commit.specs.Setup.{SetupValue}
-use Rattle.damon_core.specs.Note.{Note, touched, cleared, checked, finished, voided, set, dropped, metric, turned, clears_of, checks_of}
+use Rattle.damon_core.specs.Note.{Note, touched, cleared, checked, finished, voided, set, dropped, metric, turned, ran, clears_of, checks_of}
 use Rattle.damon_core.specs.State.{State, row_count, opening, opening_notes}
 use Rattle.damon_core.specs.Event.{IsLoading, load_index}
-use Rattle.damon_core.specs.Aggregate.{aggregated_core}
+use Rattle.damon_core.specs.Aggregate.{aggregated, served}
 use Rattle.damon_core.specs.Commit.{check_of, committed, committed_core, committed_notes}
 use Rattle.damon_core.specs.After.{phase_cleared, phase_after_pass, prepared_core, cleared_at, loaded_at, finished_pass, voided_pass}
 use Rattle.damon_core.specs.Kept.{loaded_so_far}
@@ -23,6 +23,7 @@ use Rattle.damon_core.specs.Bound.{OneInEach, EachPassChecks}
 use Rattle.damon_core.proofs.Committing.{allows_commit, by_phase_after, committed_notes_hold, none_loaded, none_loaded_after}
 use Rattle.damon_core.proofs.Keeping.{Keeps}
 use Rattle.damon_core.proofs.Opening.{opening_holds}
+use Rattle.damon_core.proofs.Served.{notes_hold}
 use Rattle.damon_core.proofs.Rows.{RowLaws, HasRows, rows_kept}
 
 enumerate_from-take-suc : (n k j : ℕ) (ps : List ℕ) → k < length ps → n + k ≡ j → enumerate_from n (take (suc k) ps) ≡ enumerate_from n (take k ps) ++ (j, slice_index ps k) ∷ []
@@ -91,6 +92,7 @@ ends_later m n (set i x ∷ notes) low ends = ends_later m n notes low ends
 ends_later m n (dropped i ∷ notes) low ends = ends_later m n notes low ends
 ends_later m n (metric i ∷ notes) low ends = ends_later m n notes low ends
 ends_later m n (turned i t ∷ notes) low ends = ends_later m n notes low ends
+ends_later m n (ran i t tried runs exceeds ∷ notes) low ends = ends_later m n notes low ends
 
 -- a list of all notes with the same clears and checks of the passes up to one
 record SameUpTo (last : ℕ) (old new : List Note) : Type 0 where
@@ -116,6 +118,7 @@ passes_same last old new (set i x ∷ notes) same ends passes = passes_same last
 passes_same last old new (dropped i ∷ notes) same ends passes = passes_same last old new notes same ends passes
 passes_same last old new (metric i ∷ notes) same ends passes = passes_same last old new notes same ends passes
 passes_same last old new (turned i t ∷ notes) same ends passes = passes_same last old new notes same ends passes
+passes_same last old new (ran i t tried runs exceeds ∷ notes) same ends passes = passes_same last old new notes same ends passes
 
 -- a clear is one of its own pass alone
 clears_of-here : (notes : List Note) (n k p : ℕ) → clears_of (cleared n k p ∷ notes) n ≡ clears_of notes n ++ (k, p) ∷ []
@@ -299,17 +302,28 @@ passes_void s is rows h =
       );
     }
 
-passes_aggregate : (s : State) (ws : List ℕ) → s.core.phase ≡ Due → HasRows (record s { core = aggregated_core ws s.core }) → HasPasses s → HasPasses (record s { core = aggregated_core ws s.core })
-passes_aggregate s ws is rows h = record {
-  rows = rows;
-  picks = tt;
-  clears = subst (λ (ph : Phase). ClearsAre ph s.core.picks (clears_of s.notes (s.core.ticks + 1))) is h.clears;
-  checks = h.checks ∙ ap (λ (ph : Phase). enumerate_from 0 (take (loaded_so_far ph) s.core.picks)) is;
-  no_later_clears = h.no_later_clears;
-  no_later_checks = h.no_later_checks;
-  ends = h.ends;
-  passes = h.passes;
-}
+-- the notes of an aggregation say nothing of clears and checks
+clears_of-served : (s : State) (n : ℕ) → clears_of (served s).notes n ≡ clears_of s.notes n
+clears_of-served s n = notes_hold (λ ns. clears_of ns n ≡ clears_of s.notes n) (record { turning = λ i t ns same. same; running = λ i t tried runs exceeds ns same. same }) s refl
+
+checks_of-served : (s : State) (n : ℕ) → checks_of (served s).notes n ≡ checks_of s.notes n
+checks_of-served s n = notes_hold (λ ns. checks_of ns n ≡ checks_of s.notes n) (record { turning = λ i t ns same. same; running = λ i t tried runs exceeds ns same. same }) s refl
+
+passes_aggregate : (s : State) (ws : List ℕ) → s.core.phase ≡ Due → HasRows (aggregated ws s) → HasPasses s → HasPasses (aggregated ws s)
+passes_aggregate s ws is rows h =
+    let pass : ℕ = s.core.ticks + 1 in
+    let notes = (served s).notes in
+    let still : EachPassChecks notes s.notes = passes_same s.core.ticks s.notes notes s.notes (record { clears = λ n low. sym (clears_of-served s n); checks = λ n low. sym (checks_of-served s n) }) h.ends h.passes in
+    record {
+      rows = rows;
+      picks = tt;
+      clears = clears_of-served s pass ∙ subst (λ (ph : Phase). ClearsAre ph s.core.picks (clears_of s.notes pass)) is h.clears;
+      checks = checks_of-served s pass ∙ h.checks ∙ ap (λ (ph : Phase). enumerate_from 0 (take (loaded_so_far ph) s.core.picks)) is;
+      no_later_clears = λ n later. clears_of-served s n ∙ h.no_later_clears n later;
+      no_later_checks = λ n later. checks_of-served s n ∙ h.no_later_checks n later;
+      ends = notes_hold (EndsBy s.core.ticks) (record { turning = λ i t ns ends. ends; running = λ i t tried runs exceeds ns ends. ends }) s h.ends;
+      passes = notes_hold (EachPassChecks notes) (record { turning = λ i t ns passes. passes; running = λ i t tried runs exceeds ns passes. passes }) s still;
+    }
 
 -- the notes of a commit say nothing of clears and checks
 clears_of-commit : (c : CommitValue) (notes : List Note) (n : ℕ) → clears_of (committed_notes c notes) n ≡ clears_of notes n

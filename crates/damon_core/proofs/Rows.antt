@@ -27,17 +27,18 @@ use Rattle.damon_core.specs.After.{counted_from, phase_cleared, phase_after_pass
 use Rattle.damon_core.specs.Reached.{CanOpen}
 use Rattle.damon_core.specs.Pass.{IsPickWithin}
 use Rattle.damon_core.proofs.Keeping.{Keeps}
-use Rattle.damon_core.specs.Aggregate.{aggregated_core}
+use Rattle.damon_core.specs.Aggregate.{aggregated, served}
 use Rattle.damon_core.specs.Commit.{check_of, committed, regions_after}
-use Rattle.damon_core.proofs.Adapting.{AdaptLaws, AreRowsOf, aggregated_kept}
+use Rattle.damon_core.proofs.Adapting.{AdaptLaws, AreRowsOf, ServeLaws, served_kept, split_kept}
 use Rattle.damon_core.proofs.Committing.{CommitLaws, by_phase_after, commit_facts, regions_kept}
 use Rattle.damon_core.proofs.RowFacts.{tiling_of_pages}
 
--- what the laws of the crates below say of a tiling, of the division, of an aggregation, and of a commit
+-- what the laws of the crates below say of a tiling, of the division, of an aggregation, of schemes, and of a commit
 pub record RowLaws : Type 0 where
   pub per_page : (unit : ℕ) (gs : List Range) (rows : List Span) → 1 ≤ unit → InOrder gs → Tiling unit gs rows → Tiles gs rows unit
   pub division : (unit min : ℕ) (gs : List Range) → 1 ≤ unit → AllByRecursion (λ g. unit ≤ g.pages) gs → Tiling unit gs (spans (divided unit min gs))
   pub adapt : AdaptLaws
+  pub serve : ServeLaws
   pub commit : CommitLaws
 
 -- what is kept of the rows
@@ -112,10 +113,13 @@ rows_open laws v can =
       within = tt;
     }
 
-rows_aggregate : RowLaws → (s : State) (ws : List ℕ) → HasRows s → HasRows (record s { core = aggregated_core ws s.core })
+-- the rows of a state as those of a monitor
+pub rows_of : (s : State) → HasRows s → AreRowsOf s.core s.core.regions.rows
+rows_of s h = record { tiling = h.tiling; some = h.some; few = omega (arith, h.few, h.max) }
+
+rows_aggregate : RowLaws → (s : State) (ws : List ℕ) → HasRows s → HasRows (aggregated ws s)
 rows_aggregate laws s ws h =
-    let now : AreRowsOf s.core s.core.regions.rows = record { tiling = h.tiling; some = h.some; few = omega (arith, h.few, h.max) } in
-    let kept = aggregated_kept laws.adapt ws s.core h.wide h.order now in
+    let kept = split_kept laws.adapt ws s.core (served s).rows (served_kept laws.adapt laws.serve s h.wide h.order (rows_of s h)) in
     record {
       space = h.space;
       attrs = h.attrs;

@@ -1,26 +1,33 @@
 -- What a monitor shows after each call that changes it.
-use Rattle.std.specs.Prelude.{ℕ, ◌+◌, Bool, false, List, count_by, replicate, slice_set}
+use Rattle.std.specs.Prelude.{◌≡◌, ℕ, ◌+◌, Bool, false, List, length, count_by, replicate, slice_set}
+use Rattle.std.proofs.Common.{◌∙◌, ap}
 use Rattle.damon_types.specs.declared.attrs.Attrs.{Attrs}
+use Rattle.damon_types.specs.declared.row.Row.{Row}
 use Rattle.damon_types.specs.declared.space.Target.{Target}
+use Rattle.aggregator.specs.Cleared.{cleared}
+use Rattle.aggregator.specs.Threshold.{threshold}
+use Rattle.region_split.specs.Split.{split_rows}
 use Rattle.live_commit.specs.Commit.{CommitValue}
 use Rattle.live_commit.specs.declared.phase.Phase.{Phase}
-use Rattle.live_commit.specs.declared.phase.Phase.TheVariants.{Void}
+use Rattle.live_commit.specs.declared.phase.Phase.TheVariants.{Idle, Void}
 use Rattle.sampler.specs.Counted.{raised}
 use Rattle.sampler.specs.Loaded.{loaded_bits}
+use Rattle.scheme_engine.specs.Served.{Served, slots_served}
+use Rattle.scheme_engine.specs.Slots.{SlotValue}
 use Rattle.damon_core.specs.declared.clock.Clock.{Clock}
 use Rattle.damon_core.specs.declared.totals.Totals.{Totals}
 use Rattle.damon_core.specs.Kept.{SamplingView}
 use Rattle.damon_core.specs.Report.{ReportValue}
 use Rattle.damon_core.specs.State.{row_count}
 use Rattle.damon_core.specs.Event.{load_index}
-use Rattle.damon_core.specs.Aggregate.{aggregated_core}
-use Rattle.damon_core.specs.Commit.{committed_core, core_after_commit}
+use Rattle.damon_core.specs.Aggregate.{core_aggregated, engine_served, merged_regions}
+use Rattle.damon_core.specs.Commit.{committed_core, committed_slots, core_after_commit, slots_after_commit}
 use Rattle.damon_core.specs.After.{prepared_core, cleared_core, loaded_core, passed_core}
 use Rattle.damon_core.specs.Stands.{MonitorView}
 
 -- what a monitor shows by its parts
-abbrev pub shown : List Target → Attrs → SamplingView → Clock → Totals → ReportValue → MonitorView
-shown space attrs sampling clock totals report = record {
+abbrev pub shown : List Target → Attrs → SamplingView → Clock → Totals → ReportValue → List SlotValue → MonitorView
+shown space attrs sampling clock totals report slots = record {
   core = record {
     space = space;
     attrs = attrs;
@@ -35,6 +42,7 @@ shown space attrs sampling clock totals report = record {
   bits = sampling.bits;
   checks = totals.checks;
   hits = totals.hits;
+  slots = slots;
 }
 
 -- new picks, none of them loaded
@@ -78,12 +86,54 @@ after_observe m = ended m.core.phase m
 
 -- the aggregation that was due is carried out
 abbrev pub after_aggregate : List ℕ → MonitorView → MonitorView
-after_aggregate words m = record m { core = aggregated_core words m.core }
+after_aggregate words m = record m { core = core_aggregated words m.slots m.core; slots = (engine_served m.core m.slots).slots }
 
 -- a commit is made, or refused
 abbrev pub after_asked : CommitValue → MonitorView → MonitorView
-after_asked c m = record m { core = core_after_commit c m.core }
+after_asked c m = record m { core = core_after_commit c m.core; slots = slots_after_commit c m.core m.slots }
 
 -- a commit that is accepted is made
 abbrev pub after_accepted : CommitValue → MonitorView → MonitorView
-after_accepted c m = record m { core = committed_core c m.core }
+after_accepted c m = record m { core = committed_core c m.core; slots = committed_slots c m.slots }
+
+-- what is sampled once the slots are served, and once the counts are cleared and random words split the rows
+abbrev pub with_rows : List Row → SamplingView → SamplingView
+with_rows rows s = record s { regions = record s.regions { rows = rows } }
+
+abbrev pub split_then : List ℕ → SamplingView → SamplingView
+split_then ws s = record s {
+  regions = record s.regions { rows = split_rows s.regions.max s.regions.unit s.before ws (cleared s.regions.rows) };
+  phase = Idle;
+  before = length s.regions.rows;
+}
+
+-- what serving makes of the report, and the rows that it keeps at last
+abbrev pub with_applied : Served → ReportValue → ReportValue
+with_applied o r = record r { runs = o.runs; choices = o.choices }
+
+abbrev pub with_kept : ℕ → ℕ → List Row → ReportValue → ReportValue
+with_kept tick t rows r = record r { tick = tick; threshold = t; rows = rows }
+
+-- what the slots are served over
+abbrev pub serves : List Target → Attrs → Clock → SamplingView → List SlotValue → Served
+serves space attrs k s slots = slots_served 0 space attrs.aggr k.ticks s.regions slots
+
+-- the parts of a monitor after each step of an aggregation, together
+pub aggregated_view : (space : List Target) (attrs : Attrs) (k : Clock) (totals : Totals) (ws : List ℕ) (s0 s1 s2 s3 : SamplingView) (r0 r1 r2 : ReportValue) (slots0 slots1 : List SlotValue) (t : ℕ)
+    → s1 ≡ record s0 { regions = merged_regions (shown space attrs s0 k totals r0 slots0).core }
+    → s2 ≡ with_rows (serves space attrs k s1 slots0).rows s1
+    → slots1 ≡ (serves space attrs k s1 slots0).slots
+    → r1 ≡ with_applied (serves space attrs k s1 slots0) r0
+    → t ≡ threshold s0.regions.rows
+    → r2 ≡ with_kept k.ticks t s2.regions.rows r1
+    → s3 ≡ split_then ws s2
+    → shown space attrs s3 (record { ticks = k.ticks; since = 0 }) totals r2 slots1 ≡ after_aggregate ws (shown space attrs s0 k totals r0 slots0)
+aggregated_view space attrs k totals ws s0 s1 s2 s3 r0 r1 r2 slots0 slots1 t e1 e2 eslots er1 et er2 e3 =
+    let F : SamplingView → ReportValue → List SlotValue → MonitorView = λ s r slots. shown space attrs s (record { ticks = k.ticks; since = 0 }) totals r slots in
+    ap (λ (s : SamplingView). F s r2 slots1) e3
+    ∙ ap (λ (r : ReportValue). F (split_then ws s2) r slots1) er2
+    ∙ ap (λ (s : SamplingView). F (split_then ws s) (with_kept k.ticks t s.regions.rows r1) slots1) e2
+    ∙ ap (λ (slots : List SlotValue). F (split_then ws (with_rows (serves space attrs k s1 slots0).rows s1)) (with_kept k.ticks t (serves space attrs k s1 slots0).rows r1) slots) eslots
+    ∙ ap (λ (r : ReportValue). F (split_then ws (with_rows (serves space attrs k s1 slots0).rows s1)) (with_kept k.ticks t (serves space attrs k s1 slots0).rows r) (serves space attrs k s1 slots0).slots) er1
+    ∙ ap (λ (n : ℕ). F (split_then ws (with_rows (serves space attrs k s1 slots0).rows s1)) (with_kept k.ticks n (serves space attrs k s1 slots0).rows (with_applied (serves space attrs k s1 slots0) r0)) (serves space attrs k s1 slots0).slots) et
+    ∙ ap (λ (s : SamplingView). F (split_then ws (with_rows (serves space attrs k s slots0).rows s)) (with_kept k.ticks (threshold s0.regions.rows) (serves space attrs k s slots0).rows (with_applied (serves space attrs k s slots0) r0)) (serves space attrs k s slots0).slots) e1

@@ -9,18 +9,25 @@ use Rattle.damon_types.specs.declared.row.Row.{Row}
 use Rattle.live_commit.specs.declared.phase.Phase.{Phase}
 use Rattle.live_commit.specs.declared.phase.Phase.TheVariants.{Idle, Clearing, Armed, Checking, Void, Due}
 use Rattle.sampler.specs.Counted.{raised}
+use Rattle.scheme_engine.specs.Kept.{AreTiled}
+use Rattle.scheme_engine.specs.Served.{Served}
+use Rattle.scheme_engine.specs.Slots.{SlotValue}
 use Rattle.damon_core.specs.Note.{Note, was_hit}
-use Rattle.damon_core.specs.Totals.{pass_checks, pass_hits}
+use Rattle.damon_core.specs.Totals.{checks_made, hits_made, pass_checks, pass_hits}
 use Rattle.damon_core.specs.State.{State, Core, row_count}
 use Rattle.damon_core.specs.Event.{IsClearing, IsLoading, IsObserving, clear_index, load_index, prepare, clear, load, observe, aggregate}
-use Rattle.damon_core.specs.Aggregate.{aggregated_core}
+use Rattle.damon_core.specs.Aggregate.{aggregated, aggregated_core, core_aggregated, engine_served, merged_regions, served}
+use Rattle.damon_core.specs.Serve.{Serving}
+use Rattle.damon_core.specs.Slots.{slot_count, slots_of}
 use Rattle.damon_core.specs.After.{after, prepared_core, passed_core, phase_cleared, phase_after_pass, by_clear, by_load, by_observe, loaded_at, counted, counted_from}
 use Rattle.damon_core.specs.Reached.{Reached}
 use Rattle.damon_core.specs.Makes.{Makes}
 use Rattle.damon_core.specs.Stands.{MonitorView, Stands, bit_at, last_pass}
 use Rattle.damon_core.specs.Kept.{loaded_so_far, HasPicks}
+use Rattle.damon_core.proofs.Served.{notes_hold}
+use Rattle.damon_core.proofs.Serving.{AreServed, OutcomeLaws, slots_alike}
 use Rattle.damon_core.proofs.Shown.{after_prepare, after_clears, after_load, after_observe, ended, after_aggregate}
-use Rattle.damon_core.proofs.Tallying.{hits_below, reached_counted, reached_early, loading_pass, last_pass-phase_after_clear, last_pass-phase_after_pass}
+use Rattle.damon_core.proofs.Tallying.{hits_below, reached_counted, reached_early, loading_pass, last_pass-phase_after_clear, last_pass-phase_after_pass, was_hit-served}
 
 bit_at-replicate : (n k : ℕ) → bit_at (replicate n false) k ≡ false
 bit_at-replicate zero k = refl
@@ -40,6 +47,7 @@ prepare_stands m s ws reached stands idle =
       results = λ k. bit_at-replicate (row_count m.core) k ∙ sym (ap (λ n. was_hit s.notes (n + 1) k) ticks ∙ (reached_early s reached).this_pass k (omega (arith, none)));
       checks = stands.checks;
       hits = stands.hits;
+      slots = stands.slots;
     }
 
 clear_at : (ph : Phase) (m : MonitorView) (s : State) → m.core.phase ≡ ph → IsClearing ph → Stands m s → Stands (record m { core = record m.core { phase = phase_cleared (clear_index ph + 1) (row_count m.core) } }) (by_clear ph s)
@@ -51,6 +59,7 @@ clear_at (Clearing k) m s is fits stands =
       results = now;
       checks = stands.checks;
       hits = stands.hits;
+      slots = stands.slots;
     }
 clear_at Idle m s is fits stands = absurd fits
 clear_at Armed m s is fits stands = absurd fits
@@ -110,6 +119,7 @@ load_stands m s hit reached stands fits here =
           ∙ ap (λ t. was_hit (loaded_at i hit s).notes (t + 1) k) (sym ticks);
       checks = stands.checks;
       hits = stands.hits;
+      slots = stands.slots;
     } in
     subst (λ t. Stands (after_load hit m) t) (sym (by_load_is s.core.phase s hit fits_state)) made
 
@@ -161,6 +171,7 @@ observe_at (Checking k) m s is reached stands fits (inr len) =
       results = later;
       checks = omega (arith, stands.checks, made);
       hits = omega (arith, stands.hits, found);
+      slots = stands.slots;
     }
 observe_at Void m s is reached stands fits bits =
     let pass : last_pass m.core.phase m.core.ticks ≡ m.core.ticks + 1 = ap (λ ph. last_pass ph m.core.ticks) is in
@@ -170,6 +181,7 @@ observe_at Void m s is reached stands fits bits =
       results = later;
       checks = stands.checks;
       hits = stands.hits;
+      slots = stands.slots;
     }
 observe_at Idle m s is reached stands fits bits = absurd fits
 observe_at (Clearing k) m s is reached stands fits bits = absurd fits
@@ -188,20 +200,43 @@ observe_fits m s stands fits = subst (λ (c : Core). IsObserving c.phase (row_co
 pub observe_makes : (m : MonitorView) → IsObserving m.core.phase (row_count m.core) → (m.core.phase ≡ Void) ⊎ (length m.bits ≡ row_count m.core) → Makes Stands m (after_observe m) (observe ∷ [])
 observe_makes m fits bits s reached stands = ((observe_fits m s stands fits, tt), observe_stands m s reached stands fits bits)
 
+checks_made-served : (s : State) → checks_made (served s).notes ≡ checks_made s.notes
+checks_made-served s = notes_hold (λ ns. checks_made ns ≡ checks_made s.notes) (record { turning = λ i t ns same. same; running = λ i t tried runs exceeds ns same. same }) s refl
+
+hits_made-served : (s : State) → hits_made (served s).notes ≡ hits_made s.notes
+hits_made-served s = notes_hold (λ ns. hits_made ns ≡ hits_made s.notes) (record { turning = λ i t ns same. same; running = λ i t tried runs exceeds ns same. same }) s refl
+
+-- what a monitor shows after an aggregation is what the state does, where the engine and the notes were served alike
+core_alike : (ws : List ℕ) (c : Core) (x : Served) (y : Serving) → x.rows ≡ y.rows → x.runs ≡ y.runs → x.choices ≡ y.choices → aggregated_core ws x.rows x.runs x.choices c ≡ aggregated_core ws y.rows y.runs y.choices c
+core_alike ws c x y rows runs choices =
+    ap (λ rs. aggregated_core ws rs x.runs x.choices c) rows
+    ∙ ap (λ rs. aggregated_core ws y.rows rs x.choices c) runs
+    ∙ ap (λ cs. aggregated_core ws y.rows y.runs cs c) choices
+
+aggregate_stands : OutcomeLaws → (m : MonitorView) (s : State) (ws : List ℕ) → AreTiled (merged_regions s.core) → m.core.phase ≡ Due → Stands m s → Stands (after_aggregate ws m) (aggregated ws s)
+aggregate_stands laws m s ws tiled due stands =
+    let over = at_pass m s m.core.ticks stands (ap (λ ph. last_pass ph m.core.ticks) due) in
+    let alike : AreServed 0 slot_count (merged_regions s.core) s.notes (engine_served s.core (slots_of s.notes)) (served s) = slots_alike laws slot_count 0 s.core.space s.core.attrs.aggr s.core.ticks (merged_regions s.core) s.notes tiled in
+    record {
+      same =
+          ap (core_aggregated ws m.slots) stands.same
+          ∙ ap (λ (slots : List SlotValue). core_aggregated ws slots s.core) stands.slots
+          ∙ core_alike ws s.core (engine_served s.core (slots_of s.notes)) (served s) alike.rows alike.runs alike.choices;
+      results = λ k. over k ∙ sym (was_hit-served s m.core.ticks k);
+      checks = stands.checks ∙ sym (checks_made-served s);
+      hits = stands.hits ∙ sym (hits_made-served s);
+      slots =
+          ap (λ (c : Core). (engine_served c m.slots).slots) stands.same
+          ∙ ap (λ (slots : List SlotValue). (engine_served s.core slots).slots) stands.slots
+          ∙ alike.slots;
+    }
+
 -- an aggregation is an event
-pub aggregate_makes : (m : MonitorView) (ws : List ℕ) → m.core.phase ≡ Due → length ws ≡ 2 * m.core.attrs.max → Makes Stands m (after_aggregate ws m) (aggregate ws ∷ [])
-aggregate_makes m ws due count s reached stands =
+pub aggregate_makes : OutcomeLaws → (m : MonitorView) (ws : List ℕ) → AreTiled (merged_regions m.core) → m.core.phase ≡ Due → length ws ≡ 2 * m.core.attrs.max → Makes Stands m (after_aggregate ws m) (aggregate ws ∷ [])
+aggregate_makes laws m ws tiled due count s reached stands =
     let phase = ap (λ (c : Core). c.phase) (sym stands.same) ∙ due in
     let words = count ∙ ap (λ (c : Core). 2 * c.attrs.max) stands.same in
-    let over = at_pass m s m.core.ticks stands (ap (λ ph. last_pass ph m.core.ticks) due) in (
-      ((phase, words), tt),
-      record {
-        same = ap (aggregated_core ws) stands.same;
-        results = over;
-        checks = stands.checks;
-        hits = stands.hits;
-      },
-    )
+    (((phase, words), tt), aggregate_stands laws m s ws (subst (λ (c : Core). AreTiled (merged_regions c)) stands.same tiled) due stands)
 
 -- where an event fits of what the monitor shows it fits of the state
 pub load_fits : (m : MonitorView) (s : State) (hit : Bool) → Stands m s → IsLoading m.core.phase (row_count m.core) → IsLoading s.core.phase (row_count s.core)

@@ -6,11 +6,12 @@ use Rattle.std.proofs.lemmas.Bool.Decides.{nat_tests}
 use Rattle.live_commit.specs.declared.phase.Phase.{Phase}
 use Rattle.live_commit.specs.declared.phase.Phase.TheVariants.{Idle, Clearing, Armed, Checking, Void, Due}
 use Rattle.live_commit.specs.Commit.{CommitValue}
-use Rattle.damon_core.specs.Note.{Note, touched, cleared, checked, finished, voided, set, dropped, metric, turned, was_hit}
+use Rattle.damon_core.specs.Note.{Note, touched, cleared, checked, finished, voided, set, dropped, metric, turned, ran, was_hit}
 use Rattle.damon_core.specs.Totals.{pass_checks, pass_hits}
 use Rattle.damon_core.specs.State.{State, row_count, opening_notes}
 use Rattle.damon_core.specs.Event.{IsLoading, load_index}
 use Rattle.damon_core.specs.After.{phase_cleared, phase_after_pass, cleared_at, loaded_at, finished_pass, voided_pass}
+use Rattle.damon_core.specs.Aggregate.{served}
 use Rattle.damon_core.specs.Commit.{check_of, committed, committed_core, committed_notes}
 use Rattle.damon_core.specs.Reached.{Reached}
 use Rattle.damon_core.specs.Stands.{last_pass}
@@ -18,6 +19,7 @@ use Rattle.damon_core.specs.Kept.{loaded_so_far}
 use Rattle.damon_core.proofs.Committing.{allows_commit, committed_notes_hold, none_loaded, none_loaded_after}
 use Rattle.damon_core.proofs.Keeping.{Keeps, any_result, reached_keeps}
 use Rattle.damon_core.proofs.Opening.{opening_holds}
+use Rattle.damon_core.proofs.Served.{KeptByServing, notes_hold}
 
 -- a phase after a clear or after a pass has no load before it
 pub loaded_so_far-phase_after_clear : (k rows : ℕ) → loaded_so_far (phase_cleared (k + 1) rows) ≡ 0
@@ -66,6 +68,16 @@ pass_checks-commit c notes n = committed_notes_hold (λ ns. pass_checks ns n ≡
 pass_hits-commit : (c : CommitValue) (notes : List Note) (n : ℕ) → pass_hits (committed_notes c notes) n ≡ pass_hits notes n
 pass_hits-commit c notes n = committed_notes_hold (λ ns. pass_hits ns n ≡ pass_hits notes n) (λ slot scheme ns same. same) (λ slot ns same. same) (λ value ns same. same) c notes refl
 
+-- nor do those of an aggregation
+pub was_hit-served : (s : State) (n k : ℕ) → was_hit (served s).notes n k ≡ was_hit s.notes n k
+was_hit-served s n k = notes_hold (λ ns. was_hit ns n k ≡ was_hit s.notes n k) (record { turning = λ i t ns same. same; running = λ i t tried runs exceeds ns same. same }) s refl
+
+pub pass_checks-served : (s : State) (n : ℕ) → pass_checks (served s).notes n ≡ pass_checks s.notes n
+pass_checks-served s n = notes_hold (λ ns. pass_checks ns n ≡ pass_checks s.notes n) (record { turning = λ i t ns same. same; running = λ i t tried runs exceeds ns same. same }) s refl
+
+pub pass_hits-served : (s : State) (n : ℕ) → pass_hits (served s).notes n ≡ pass_hits s.notes n
+pass_hits-served s n = notes_hold (λ ns. pass_hits ns n ≡ pass_hits s.notes n) (record { turning = λ i t ns same. same; running = λ i t tried runs exceeds ns same. same }) s refl
+
 early_commit : (s : State) (c : CommitValue) → check_of c s.core ≡ Ok tt → HasNoEarly s → HasNoEarly (committed c s)
 early_commit s c ok early = record {
   this_pass = λ k beyond. was_hit-commit c s.notes (s.core.ticks + 1) k ∙ early.this_pass k (omega (arith, none_loaded s.core.phase (allows_commit c s.core ok)));
@@ -83,7 +95,7 @@ keeps_early = record {
   loading = λ s k hit fits index known early. early_load s k hit ((loading_pass s.core.phase (row_count s.core) s.core.ticks fits).1 ∙ index) early;
   finishing = λ s is early. record { this_pass = λ k beyond. early.later (s.core.ticks + 1 + 1) k (omega arith); later = λ n k above. early.later n k (omega arith) };
   voiding = λ s is early. record { this_pass = λ k beyond. early.later (s.core.ticks + 1 + 1) k (omega arith); later = λ n k above. early.later n k (omega arith) };
-  aggregating = λ s ws is early. record { this_pass = λ k beyond. early.this_pass k (let none : loaded_so_far s.core.phase ≡ 0 = ap loaded_so_far is in omega arith); later = early.later };
+  aggregating = λ s ws is early. record { this_pass = λ k beyond. was_hit-served s (s.core.ticks + 1) k ∙ early.this_pass k (let none : loaded_so_far s.core.phase ≡ 0 = ap loaded_so_far is in omega arith); later = λ n k above. was_hit-served s n k ∙ early.later n k above };
   committing = early_commit;
 }
 
@@ -123,7 +135,7 @@ keeps_tally = record {
   loading = λ s k hit fits index known tallied. tallied_load s k hit ((loading_pass s.core.phase (row_count s.core) s.core.ticks fits).1 ∙ index) tallied;
   finishing = λ s is tallied. record { this_pass = tallied.later (s.core.ticks + 1 + 1) (omega arith) ∙ sym (loaded_so_far-phase_after_pass (s.core.since + 1) s.core.attrs.aggr); later = λ n above. tallied.later n (omega arith) };
   voiding = λ s is tallied. record { this_pass = tallied.later (s.core.ticks + 1 + 1) (omega arith) ∙ sym (loaded_so_far-phase_after_pass (s.core.since + 1) s.core.attrs.aggr); later = λ n above. tallied.later n (omega arith) };
-  aggregating = λ s ws is tallied. record { this_pass = tallied.this_pass ∙ ap loaded_so_far is; later = tallied.later };
+  aggregating = λ s ws is tallied. record { this_pass = pass_checks-served s (s.core.ticks + 1) ∙ tallied.this_pass ∙ ap loaded_so_far is; later = λ n above. pass_checks-served s n ∙ tallied.later n above };
   committing = tallied_commit;
 }
 
@@ -145,6 +157,7 @@ pass_hits_le (set slot x ∷ notes) n = pass_hits_le notes n
 pass_hits_le (dropped slot ∷ notes) n = pass_hits_le notes n
 pass_hits_le (metric v ∷ notes) n = pass_hits_le notes n
 pass_hits_le (turned slot tick ∷ notes) n = pass_hits_le notes n
+pass_hits_le (ran slot tick tried runs exceeds ∷ notes) n = pass_hits_le notes n
 
 -- how many of the first checks of a pass were hits
 abbrev pub hits_below : List Note → ℕ → ℕ → ℕ
@@ -231,7 +244,7 @@ keeps_count = record {
       record { early = early_load s k hit is c.early; tallied = tallied_load s k hit is c.tallied; hits = counted_load s k hit is c });
   finishing = λ s is c. record { early = keeps_early.finishing s is c.early; tallied = keeps_tally.finishing s is c.tallied; hits = λ k beyond. same_hits (finished_pass s).notes s.notes (s.core.ticks + 1 + 1) k (λ j. refl) ∙ ended_hits s c k };
   voiding = λ s is c. record { early = keeps_early.voiding s is c.early; tallied = keeps_tally.voiding s is c.tallied; hits = λ k beyond. same_hits (voided_pass s).notes s.notes (s.core.ticks + 1 + 1) k (λ j. refl) ∙ ended_hits s c k };
-  aggregating = λ s ws is c. record { early = keeps_early.aggregating s ws is c.early; tallied = keeps_tally.aggregating s ws is c.tallied; hits = λ k beyond. c.hits k (let none : loaded_so_far s.core.phase ≡ 0 = ap loaded_so_far is in omega arith) };
+  aggregating = λ s ws is c. record { early = keeps_early.aggregating s ws is c.early; tallied = keeps_tally.aggregating s ws is c.tallied; hits = λ k beyond. same_hits (served s).notes s.notes (s.core.ticks + 1) k (λ j. was_hit-served s (s.core.ticks + 1) j) ∙ c.hits k (let none : loaded_so_far s.core.phase ≡ 0 = ap loaded_so_far is in omega arith) ∙ sym (pass_hits-served s (s.core.ticks + 1)) };
   committing = counted_commit;
 }
 

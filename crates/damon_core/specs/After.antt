@@ -7,7 +7,7 @@ use Rattle.live_commit.specs.declared.phase.Phase.TheVariants.{Idle, Clearing, A
 use Rattle.sampler.specs.Pick.{picks_of}
 use Rattle.damon_core.specs.Note.{Note, touched, cleared, checked, finished, voided, was_hit}
 use Rattle.damon_core.specs.State.{Core, State, row_count}
-use Rattle.damon_core.specs.Aggregate.{aggregated_core}
+use Rattle.damon_core.specs.Aggregate.{aggregated}
 use Rattle.damon_core.specs.Commit.{after_commit}
 use Rattle.damon_core.specs.Event.{Event, touch, prepare, clear, load, observe, aggregate, commit, show, clear_index, load_index}
 
@@ -94,6 +94,6 @@ after s (prepare words) = record s { core = prepared_core words s.core }
 after s clear = by_clear s.core.phase s
 after s (load hit) = by_load s.core.phase hit s
 after s observe = by_observe s.core.phase s
-after s (aggregate words) = record s { core = aggregated_core words s.core }
+after s (aggregate words) = aggregated words s
 after s (commit parts) = after_commit parts s
 after s show = s

@@ -8,26 +8,52 @@ use Rattle.aggregator.specs.Aged.{aged}
 use Rattle.aggregator.specs.Cleared.{cleared}
 use Rattle.region_merge.specs.Merged.{merged}
 use Rattle.region_split.specs.Split.{split_rows}
-use Rattle.damon_core.specs.State.{Core}
+use Rattle.region_list.specs.Regions.{RegionList}
+use Rattle.scheme_engine.specs.declared.applied.AppliedRun.{AppliedRun}
+use Rattle.scheme_engine.specs.declared.applied.SlotChoice.{SlotChoice}
+use Rattle.scheme_engine.specs.Served.{Served, slots_served}
+use Rattle.scheme_engine.specs.Slots.{SlotValue}
+use Rattle.damon_core.specs.Serve.{Serving, serve_slots}
+use Rattle.damon_core.specs.Slots.{slot_count}
+use Rattle.damon_core.specs.State.{Core, State}
 
 -- the most pages of a merged row: what each of `min` rows of equal size would have, and at least `unit`
 abbrev pub merge_limit : Core → ℕ
 merge_limit c = max c.regions.unit (page_total c.regions.ranges / c.attrs.min)
 
--- the rows that an aggregation reports: aged, and then merged
-abbrev pub reported_rows : Core → List Row
-reported_rows c = let t = threshold c.regions.rows in merged c.regions.ranges t (merge_limit c) (aged t c.regions.rows)
+-- the regions as schemes find them: aged, and then merged
+abbrev pub merged_regions : Core → RegionList
+merged_regions c =
+    let t = threshold c.regions.rows in
+    record c.regions { rows = merged c.regions.ranges t (merge_limit c) (aged t c.regions.rows) }
 
--- the rows after an aggregation: the counts of those reported are cleared, and these random words split them
-abbrev pub aggregated_rows : List ℕ → Core → List Row
-aggregated_rows words c = split_rows c.regions.max c.regions.unit c.before words (cleared (reported_rows c))
-
--- What a monitor shows after an aggregation. `before` is the number of rows at the start of this split.
-abbrev pub aggregated_core : List ℕ → Core → Core
-aggregated_core words c = record c {
-  regions = record c.regions { rows = aggregated_rows words c };
+-- What a monitor shows after an aggregation that reports these rows, runs and choices: the counts are cleared, and random words
+-- split the rows. `before` is the number of rows at the start of this split.
+abbrev pub aggregated_core : List ℕ → List Row → List AppliedRun → List SlotChoice → Core → Core
+aggregated_core words rows runs choices c = record c {
+  regions = record c.regions { rows = split_rows c.regions.max c.regions.unit c.before words (cleared rows) };
   phase = Idle;
   since = 0;
-  before = length (reported_rows c);
-  report = record { tick = c.ticks; threshold = threshold c.regions.rows; rows = reported_rows c };
+  before = length rows;
+  report = record { tick = c.ticks; threshold = threshold c.regions.rows; rows = rows; runs = runs; choices = choices };
 }
+
+-- what serving all slots in an aggregation makes of the rows and the notes of a state
+abbrev pub served : State → Serving
+served s = serve_slots slot_count 0 s.core.space s.core.attrs.aggr s.core.ticks (merged_regions s.core) s.notes
+
+-- the state after an aggregation
+abbrev pub aggregated : List ℕ → State → State
+aggregated words s =
+    let o = served s in
+    record { core = aggregated_core words o.rows o.runs o.choices s.core; notes = o.notes }
+
+-- what serving all slots in an aggregation makes of the rows and the slots of a monitor
+abbrev pub engine_served : Core → List SlotValue → Served
+engine_served c slots = slots_served 0 c.space c.attrs.aggr c.ticks (merged_regions c) slots
+
+-- what a monitor with these slots shows after an aggregation
+abbrev pub core_aggregated : List ℕ → List SlotValue → Core → Core
+core_aggregated words slots c =
+    let o = engine_served c slots in
+    aggregated_core words o.rows o.runs o.choices c

@@ -1,9 +1,13 @@
 -- What holds of each state that is reached.
-use Rattle.std.specs.Prelude.{◌≡◌, ℕ, ◌+◌, ◌≤◌, ◌<◌, true, List, [], ◌∷◌}
+use Rattle.std.specs.Prelude.{◌≡◌, ℕ, ◌+◌, ◌≤◌, ◌<◌, true, List, [], ◌∷◌, Some, IfSome}
 use Rattle.std.specs.List.{enumerate_from}
 use Rattle.damon_types.specs.Span.{Span, spans}
 use Rattle.region_list.specs.Tiles.{Tiles}
-use Rattle.damon_core.specs.Note.{Note, checked, finished, voided, clears_of, checks_of, touched_after_clear}
+use Rattle.damon_types.specs.declared.scheme.Scheme.{Scheme}
+use Rattle.quota_charge.specs.Quota.{effective_pages}
+use Rattle.scheme_engine.specs.declared.applied.AppliedRun.{AppliedRun}
+use Rattle.damon_core.specs.Note.{Note, checked, finished, voided, ran, clears_of, checks_of, touched_after_clear}
+use Rattle.damon_core.specs.Slots.{charged_of, is_active_in, pages_in, scheme_of}
 use Rattle.damon_core.specs.State.{State, row_count}
 
 -- page k lies in row k, for each row
@@ -33,9 +37,23 @@ EachHitRests [] = Unit {0}
 EachHitRests (checked n k p true ∷ earlier) = (touched_after_clear earlier n k p ≡ true) × EachHitRests earlier
 EachHitRests (_ ∷ earlier) = EachHitRests earlier
 
+-- A run of a slot's scheme, after these notes: the slot is set and active, and where its scheme has a quota and is applied to a
+-- page, the pages charged to the slot with these are at most the effective quota.
+pub record IsRunWithin (earlier : List Note) (slot : ℕ) (runs : List AppliedRun) : Type 0 where
+  pub scheme : Scheme
+  pub is_set : scheme_of earlier slot ≡ Some scheme
+  pub active : is_active_in earlier slot scheme ≡ true
+  pub within : 1 ≤ pages_in runs → IfSome scheme.quota (λ q. charged_of earlier slot + pages_in runs ≤ effective_pages q)
+
+-- each run of a scheme is one
+abbrev pub EachRunIsWithin : List Note → Type 0
+EachRunIsWithin [] = Unit {0}
+EachRunIsWithin (ran slot tick tried runs exceeds ∷ earlier) = IsRunWithin earlier slot runs × EachRunIsWithin earlier
+EachRunIsWithin (_ ∷ earlier) = EachRunIsWithin earlier
+
 -- The rows tile their ranges with at least `unit` pages each; there are at most `max`, which is the maximum of
 -- the attributes and of the regions alike and at most `cap`; each finished pass checks one page of each row; each
--- hit rests on a touch.
+-- hit rests on a touch; and each run of a scheme is within its quota.
 pub record Bound (s : State) : Type 0 where
   pub tiles : Tiles s.core.regions.ranges (spans s.core.regions.rows) s.core.regions.unit
   pub few : row_count s.core ≤ s.core.attrs.max
@@ -43,3 +61,4 @@ pub record Bound (s : State) : Type 0 where
   pub most : s.core.attrs.max ≤ s.core.regions.cap
   pub passes : EachPassChecks s.notes s.notes
   pub hits : EachHitRests s.notes
+  pub runs : EachRunIsWithin s.notes

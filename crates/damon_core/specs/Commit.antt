@@ -1,5 +1,5 @@
 -- What a commit makes of a state, and its answer.
-use Rattle.std.specs.Prelude.{ℕ, Bool, false, not, List, ◌∷◌, length, Option, Some, None, Result, Ok, Err, if◌then◌else◌}
+use Rattle.std.specs.Prelude.{ℕ, Bool, false, not, List, ◌∷◌, length, map, slice_index_or, slice_set, Option, Some, None, Result, Ok, Err, if◌then◌else◌}
 use Rattle.std.specs.Option.{unwrap_or}
 use Rattle.std.specs.Result.{result_and}
 use Rattle.damon_types.specs.declared.range.RangeSpec.{RangeSpec}
@@ -19,6 +19,7 @@ use Rattle.live_commit.specs.declared.phase.Phase.TheVariants.{Armed, Void}
 use Rattle.live_commit.specs.declared.view.View.{View}
 use Rattle.live_commit.specs.Accepts.{checked_commit}
 use Rattle.live_commit.specs.Commit.{CommitValue}
+use Rattle.scheme_engine.specs.Slots.{SlotValue, changed, empty_slot, metered}
 use Rattle.damon_core.specs.declared.changed.Changed.{Changed}
 use Rattle.damon_core.specs.Note.{Note, set, dropped, metric}
 use Rattle.damon_core.specs.State.{Core, State, row_count}
@@ -107,3 +108,21 @@ changed_by parts c =
 -- the answer of a commit: what it did, or the first check that fails
 abbrev pub commit_answer : CommitValue → Core → Result Changed CommitFault
 commit_answer parts c = result_and (check_of parts c) (Ok (changed_by parts c))
+
+-- the slots after a slot change: it sets or drops its slot
+abbrev pub slots_changed : Option SlotChange → List SlotValue → List SlotValue
+slots_changed None slots = slots
+slots_changed (Some change) slots = slice_set slots change.slot (changed change.scheme (slice_index_or slots change.slot empty_slot))
+
+-- the slots after a metric, which every set slot sees
+abbrev pub slots_metered : Option ℕ → List SlotValue → List SlotValue
+slots_metered None slots = slots
+slots_metered (Some value) slots = map (metered value) slots
+
+-- the slots of a monitor after a commit that is accepted
+abbrev pub committed_slots : CommitValue → List SlotValue → List SlotValue
+committed_slots parts slots = slots_metered parts.metric (slots_changed parts.slot slots)
+
+-- the slots of a monitor after a commit; one that is refused changes nothing
+abbrev pub slots_after_commit : CommitValue → Core → List SlotValue → List SlotValue
+slots_after_commit parts c slots = if_accepted (check_of parts c) (committed_slots parts slots) slots

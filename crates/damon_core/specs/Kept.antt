@@ -1,5 +1,5 @@
 -- What a monitor keeps, for the proofs of its calls. No public contract rests on this file.
-use Rattle.std.specs.Prelude.{◌≡◌, ℕ, ◌+◌, ◌*◌, ◌≤◌, ◌<◌, Bool, List, count_by, length, take, Option, Some, Ok}
+use Rattle.std.specs.Prelude.{◌≡◌, ℕ, ◌+◌, ◌-◌, ◌*◌, ◌^◌, ◌≤◌, ◌<◌, Bool, List, count_by, length, take, Option, Some, Ok}
 use Rattle.std.specs.List.{AllByRecursion}
 use Rattle.damon_types.specs.declared.space.Target.{Target}
 use Rattle.damon_types.specs.declared.attrs.Attrs.{Attrs}
@@ -14,6 +14,9 @@ use Rattle.sampler.specs.Pick.{PickList}
 use Rattle.live_commit.specs.Accepts.{ranges_after}
 use Rattle.live_commit.specs.declared.phase.Phase.{Phase}
 use Rattle.live_commit.specs.declared.phase.Phase.TheVariants.{Clearing, Armed, Checking, Due}
+use Rattle.scheme_engine.specs.Engine.{EngineValue}
+use Rattle.scheme_engine.specs.Kept.{CountsWithin, IsRunIn, StartBy}
+use Rattle.scheme_engine.specs.Slots.{SlotValue}
 use Rattle.damon_core.specs.Pass.{IsPickWithin}
 use Rattle.damon_core.specs.Report.{ReportBuf}
 use Rattle.damon_core.specs.declared.clock.Clock.{Clock}
@@ -65,17 +68,29 @@ pub record IsSampling (regions : RegionList) (phase : Phase) (picks : PickList) 
   pub earlier : regions.cap ≤ row_room
   pub commits : range_room ≡ regions.cap
 
--- fewer than 1,000 passes since the last aggregation, or up to 1,000 where one is due
+-- fewer than 1,000 passes since the last aggregation, or from one to 1,000 where one is due
 abbrev pub SinceFew : Phase → ℕ → Type 0
-SinceFew Due since = since ≤ 1000
+SinceFew Due since = (1 ≤ since) × (since ≤ 1000)
 SinceFew _ since = since < 1000
 
 -- each row has a page, and its pages are pages of the space
 abbrev pub RowsLieIn : List Target → List Row → Type 0
 RowsLieIn space rows = AllByRecursion (λ r. (1 ≤ r.pages) × (r.start + r.pages ≤ pages_of space)) rows
 
+-- a slot whose window never turned, to which nothing was charged, and whose scheme was not run since it was set
+pub record IsUnused (s : SlotValue) : Type 0 where
+  pub window : s.window.start ≡ 0
+  pub counts : CountsWithin 0 s
+
+-- What holds of the slots by the passes that have ended. They were served once in each aggregation, and so less often than that.
+pub record IsServing (clock : Clock) (slots : List SlotValue) : Type 0 where
+  pub since_ticks : clock.since ≤ clock.ticks
+  pub ticks_few : clock.ticks ≤ 2 ^ 40
+  pub windows : StartBy clock.ticks slots
+  pub served : AllByRecursion (CountsWithin (clock.ticks - clock.since)) slots
+
 -- what a monitor keeps at all times
-pub record IsMonitor (space : List Target) (attrs : Attrs) (sampling : SamplingView) (clock : Clock) (totals : Totals) (report : ReportBuf) : Type 0 where
+pub record IsMonitor (space : List Target) (attrs : Attrs) (sampling : SamplingView) (clock : Clock) (totals : Totals) (report : ReportBuf) (engine : EngineValue) : Type 0 where
   pub attrs_sound : IsAttrs attrs
   pub max : sampling.regions.max ≡ attrs.max
   pub cap_few : sampling.regions.cap ≤ 4096
@@ -85,5 +100,8 @@ pub record IsMonitor (space : List Target) (attrs : Attrs) (sampling : SamplingV
   pub since_few : SinceFew sampling.phase clock.since
   pub checks_few : totals.checks ≤ 4096 * clock.ticks
   pub hits_few : totals.hits ≤ 4096 * clock.ticks
-  pub report_room : sampling.regions.cap ≤ report.cap
+  pub report_room : sampling.regions.cap ≡ report.cap
   pub report_in : RowsLieIn space report.value.rows
+  pub runs_in : AllByRecursion (IsRunIn space) report.value.runs
+  pub engine_room : sampling.regions.cap ≡ engine.cap
+  pub serving : IsServing clock engine.slots

@@ -1,4 +1,6 @@
 pub mod Note
+pub mod Slots
+pub mod Serve
 pub mod Totals
 pub mod Report
 pub mod State

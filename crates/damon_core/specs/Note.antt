@@ -2,6 +2,7 @@
 use Rattle.std.specs.Prelude.{ℕ, ◌+◌, ◌*◌, Bool, false, ◌&&◌, ◌||◌, ◌==◌, List, [], ◌∷◌, ◌++◌, if◌then◌else◌, cond}
 use Rattle.damon_types.specs.Span.{Span}
 use Rattle.damon_types.specs.declared.scheme.Scheme.{Scheme}
+use Rattle.scheme_engine.specs.declared.applied.AppliedRun.{AppliedRun}
 
 -- one thing that has happened; a list of notes has the newest first
 pub data Note : Type 0 where
@@ -14,6 +15,7 @@ pub data Note : Type 0 where
   dropped : (slot : ℕ) → Note
   metric : (value : ℕ) → Note
   turned : (slot tick : ℕ) → Note
+  ran : (slot tick tried : ℕ) → (runs : List AppliedRun) → (exceeds : Bool) → Note
 
 -- the pass that cleared the page last, 0 where none did
 abbrev pub last_clear : List Note → ℕ → ℕ

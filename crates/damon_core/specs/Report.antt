@@ -1,16 +1,21 @@
 -- What an aggregation reports.
 use Rattle.std.specs.Prelude.{ℕ, List, []}
 use Rattle.damon_types.specs.declared.row.Row.{Row}
+use Rattle.scheme_engine.specs.declared.applied.AppliedRun.{AppliedRun}
+use Rattle.scheme_engine.specs.declared.applied.SlotChoice.{SlotChoice}
 
--- the passes in all, the threshold of ages and merging, and the rows before their counts are cleared
+-- the passes in all, the threshold of ages and merging, the rows before their counts are cleared, and the runs that schemes
+-- were applied to with the choices of the set slots
 pub record ReportValue : Type 0 where
   pub tick : ℕ
   pub threshold : ℕ
   pub rows : List Row
+  pub runs : List AppliedRun
+  pub choices : List SlotChoice
 
 -- before the first aggregation
 abbrev pub no_report : ReportValue
-no_report = record { tick = 0; threshold = 0; rows = [] }
+no_report = record { tick = 0; threshold = 0; rows = []; runs = []; choices = [] }
 
 -- a report, and the number of rows for which it has room
 pub record ReportBuf : Type 0 where

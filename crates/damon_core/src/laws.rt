@@ -1,5 +1,11 @@
 // What holds of each state to which events lead.
-ghost use Rattle.damon_core.specs.State.{State};
+ghost use Rattle.std.specs.Prelude.{◌≡◌, ℕ, List};
+ghost use Rattle.live_commit.specs.Commit.{CommitValue};
+ghost use Rattle.live_commit.specs.Setup.{SetupValue};
+ghost use Rattle.damon_core.specs.Aggregate.{aggregated};
+ghost use Rattle.damon_core.specs.Commit.{committed};
+ghost use Rattle.damon_core.specs.Note.{word_of};
+ghost use Rattle.damon_core.specs.State.{State, opening};
 ghost use Rattle.damon_core.specs.Reached.{Reached, ReachedByHit};
 ghost use Rattle.damon_core.specs.Bound.{Bound};
 ghost use Rattle.damon_core.specs.InPhase.{IsInPhase};
@@ -7,8 +13,8 @@ ghost use Rattle.damon_core.specs.InPhase.{IsInPhase};
 /// In each state to which fitting events lead, whatever the results of the loads, there is at least
 /// one row and there are at most `cap`, and the next pick of a pass under way is that of a row. Where
 /// the result of each load is that of its page, also the rows tile their ranges within the limits, each
-/// finished pass checked one page of each row, and each hit rests on a touch of its page since the pass
-/// cleared it.
+/// finished pass checked one page of each row, each hit rests on a touch of its page since the pass
+/// cleared it, and each run of a scheme is of a slot that is set and active, and within its quota.
 pub fn reached_states_are_bound()
     ensures in_phase { (s : State) → Reached s → IsInPhase s }
     ensures bound { (s : State) → ReachedByHit s → Bound s }
@@ -24,4 +30,16 @@ pub fn reached_states_are_bound()
     range_update::updated_rows_are_kept();
     target_ranges::made_in_order();
     live_commit::accepted_commits_are_within();
+    scheme_engine::outcome_rows_are_kept();
+    scheme_engine::outcome_runs_are_taken();
 }
+
+/// What serves slots, and what changes them, touches and clears no page: the word of each page, and
+/// whether it was ever cleared, are the same before and after an aggregation and an accepted commit.
+pub fn pages_are_kept()
+    ensures aggregated { (s : State) (words : List ℕ) (page : ℕ)
+        → word_of (aggregated words s).notes page ≡ word_of s.notes page }
+    ensures committed { (parts : CommitValue) (s : State) (page : ℕ)
+        → word_of (committed parts s).notes page ≡ word_of s.notes page }
+    ensures opening { (v : SetupValue) (page : ℕ) → word_of (opening v).notes page ≡ 0 }
+{}

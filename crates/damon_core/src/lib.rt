@@ -19,7 +19,7 @@ mod sampling;
 mod totals;
 
 pub use changed::Changed;
-pub use laws::reached_states_are_bound;
+pub use laws::{pages_are_kept, reached_states_are_bound};
 pub use monitor::Monitor;
 pub use report::Report;
 

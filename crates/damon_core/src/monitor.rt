@@ -1,5 +1,7 @@
 ghost use Rattle.std.specs.List.{AllByRecursion};
-ghost use Rattle.std.specs.Prelude.{◌≡◌, ◌+◌, ◌*◌, ◌^◌, ◌≤◌, ◌<◌, ℕ, true, max, ◌/◌, [], ◌∷◌, length, slice_get, slice_index, IfOk, None, Ok};
+ghost use Rattle.std.specs.Prelude.{◌≡◌, ◌+◌, ◌*◌, ◌^◌, ◌≤◌, ◌<◌, ℕ, true, max, ◌/◌, [], ◌∷◌, length, slice_get, slice_index, IfOk, Some, Ok};
+ghost use Rattle.damon_types.specs.declared.scheme.SlotChange.{SlotChange as slot_change};
+ghost use Rattle.damon_types.specs.declared.scheme.TheConstants.{MAX_SLOT};
 ghost use Rattle.damon_types.specs.Ranges.{page_total};
 ghost use Rattle.damon_types.specs.Space.{pages_of};
 ghost use Rattle.damon_types.specs.Span.{spans};
@@ -8,10 +10,12 @@ ghost use Rattle.live_commit.specs.Accepts.{steps_made};
 ghost use Rattle.live_commit.specs.Commit.{commit_value};
 ghost use Rattle.live_commit.specs.SetupView.{value_of};
 ghost use Rattle.damon_core.specs.Note.{is_cleared};
-ghost use Rattle.damon_core.specs.State.{State, opening, opening_core, opening_rows, row_count};
+ghost use Rattle.damon_core.specs.State.{State, opening, opening_core, opening_notes, opening_rows, row_count};
 ghost use Rattle.damon_core.specs.Event.{IsClearing, IsLoading, IsObserving, clear_index, load_index, prepare as prepare_event, clear as clear_event, load as load_event, observe as observe_event, aggregate as aggregate_event, commit as commit_event};
-ghost use Rattle.damon_core.specs.Aggregate.{aggregated_core, merge_limit};
-ghost use Rattle.damon_core.specs.Commit.{changed_by, check_of, commit_answer, committed_core, core_after_commit, view_of};
+ghost use Rattle.damon_core.specs.Aggregate.{core_aggregated, engine_served};
+ghost use Rattle.damon_core.specs.Commit.{changed_by, check_of, commit_answer, committed_core, committed_slots, core_after_commit, slots_after_commit, view_of};
+ghost use Rattle.damon_core.specs.Kept.{IsUnused};
+ghost use Rattle.damon_core.specs.Slots.{slots_of};
 ghost use Rattle.damon_core.specs.Several.{clears, loads};
 ghost use Rattle.damon_core.specs.After.{prepared_core, cleared_core, loaded_core, passed_core, phase_cleared, phase_after_pass};
 ghost use Rattle.damon_core.specs.Reached.{Reached};
@@ -28,6 +32,7 @@ use damon_types::{Attrs, Space};
 use live_commit::{Commit, CommitFault, Phase, Setup, View, validate};
 use region_list::{Regions, RowBuf, divide, shrink_rows};
 use sampler::{Marks, Picks};
+use scheme_engine::Engine;
 use std::alloc::{AllocError, Global};
 use std::marker::Model;
 
@@ -42,6 +47,7 @@ pub struct Monitor {
     clock: Clock,
     totals: Totals,
     report: Report,
+    engine: Engine,
 }
 
 impl Model for Monitor {
@@ -66,17 +72,17 @@ impl Model for Monitor {
       bits = m.sampling.bits;
       checks = m.totals.checks;
       hits = m.totals.hits;
+      slots = m.engine.slots;
     } };
 
-    ghost invariant = { λ m. IsMonitor m.space m.attrs m.sampling m.clock m.totals m.report };
+    ghost invariant = { λ m. IsMonitor m.space m.attrs m.sampling m.clock m.totals m.report m.engine };
 }
 
 impl Monitor {
     /// A monitor before its first pass. Its rows are the division of the setup's ranges, of which
-    /// adjacent ones are joined until there are at most `max`. Takes memory; no other call does. The
-    /// setup sets no slot, since schemes are not built yet.
+    /// adjacent ones are joined until there are at most `max`. The slots of the setup are set. Takes
+    /// memory; no other call does.
     pub fn new(alloc: Global, setup: &Setup) -> Result<Monitor, AllocError>
-        requires no_slots { setup.now.slots.list ≡ [] }
         ensures core { IfOk result (λ m. m.core ≡ opening_core (value_of setup.now)) }
         ensures opening { IfOk result (λ m. Stands m (opening (value_of setup.now))) }
     {
@@ -87,6 +93,7 @@ impl Monitor {
         let sampling = Sampling::new(alloc, regions)?;
         let space = setup.space.clone()?;
         let report = Report::new(alloc, setup.cap)?;
+        let engine = first_engine(alloc, setup)?;
         Ok(Monitor {
             space,
             attrs: setup.attrs,
@@ -94,6 +101,7 @@ impl Monitor {
             clock: Clock { ticks: 0, since: 0 },
             totals: Totals { checks: 0, hits: 0 },
             report,
+            engine,
         })
     }
 
@@ -143,15 +151,25 @@ impl Monitor {
         regions
     }
 
-    /// What the last aggregation reported. Each of its rows has a page, and its pages are pages of the
-    /// space.
+    /// What the last aggregation reported. Each of its rows, and each run that a scheme was applied to,
+    /// has a page, and its pages are pages of the space.
     pub fn report(&self) -> &Report
         ensures report { result.now.value ≡ self.now.core.report }
         ensures in_space { AllByRecursion
             (λ r. (1 ≤ r.pages) × (r.start + r.pages ≤ pages_of self.now.core.space))
             self.now.core.report.rows }
+        ensures runs_in_space { AllByRecursion
+            (λ r. (1 ≤ r.pages) × (r.start + r.pages ≤ pages_of self.now.core.space))
+            self.now.core.report.runs }
     {
         &self.report
+    }
+
+    /// The slots that hold schemes.
+    pub fn engine(&self) -> &Engine
+        ensures { result.now.slots ≡ self.now.slots }
+    {
+        &self.engine
     }
 
     /// The loads of all finished passes.
@@ -278,16 +296,25 @@ impl Monitor {
     }
 
     /// Carries out the aggregation that is due: ages the rows, merges those that are about the same,
-    /// keeps the report, clears the counts, and splits the rows at random places, row i by the words 2i
-    /// and 2i + 1. There are `2 × max` words.
+    /// serves the slots of schemes in order, keeps the report, clears the counts, and splits the rows at
+    /// random places, row i by the words 2i and 2i + 1. There are `2 × max` words.
     pub fn aggregate(&mut self, words: &[u32])
         requires due { self.old.core.phase ≡ Phase.Due }
         requires words { length words.now ≡ 2 * self.old.core.attrs.max }
-        ensures core { self.new.core ≡ aggregated_core words.now self.old.core }
+        ensures core { self.new.core ≡ core_aggregated words.now self.old.slots self.old.core }
+        ensures slots { self.new.slots ≡ (engine_served self.old.core self.old.slots).slots }
         ensures event { Makes Stands self.old self.new (aggregate_event words.now ∷ []) }
     {
+        scheme_engine::outcome_rows_are_kept();
+        scheme_engine::outcome_runs_are_taken();
+        scheme_engine::served_slots_are_kept();
         let limit = merge_limit(self.sampling.regions(), self.attrs.min);
         let threshold = self.sampling.merge(limit);
+        // For their clauses alone: the rows are tiled, and the space is within its limits.
+        let (_merged, _targets) = (self.sampling.regions().len(), self.space.targets());
+        let (aggr, tick) = (self.attrs.aggr, self.clock.ticks);
+        let (engine, report) = (&mut self.engine, &mut self.report);
+        self.sampling.serve(engine, report, &self.space, aggr, tick);
         let rows = self.sampling.regions();
         // For its clauses alone: the rows tile their ranges and are within their limits.
         let _rows = rows.len();
@@ -296,19 +323,21 @@ impl Monitor {
         self.clock.since = 0;
     }
 
-    /// Commits new attributes and new ranges. Returns the number of rows and whether the pass under way
-    /// became void, or the first check that failed ([`validate`]); then nothing has changed.
+    /// Commits new attributes, new ranges, a change of a slot and a metric, or some of these. Returns the
+    /// number of rows and whether the pass under way became void, or the first check that failed
+    /// ([`validate`]); then nothing has changed.
     ///
     /// The attributes take effect first. New ranges replace those that are watched, and the rows become
     /// those of a range update; without new ranges, adjacent rows of one range are joined until there are
     /// at most `max`. A pass whose picks are cleared becomes void where the rows lie elsewhere
-    /// afterwards: it is observed next, without a load, and counts nothing. Schemes and metrics are not
-    /// built yet, so the commit has neither. Takes no memory.
+    /// afterwards: it is observed next, without a load, and counts nothing. Then the slot is set, with
+    /// statistics of 0, or dropped; its window and what is charged to it stay. The metric, which each set
+    /// slot sees, comes last. Takes no memory.
     pub fn commit(&mut self, commit: &Commit) -> Result<Changed, CommitFault>
-        requires slot { commit.now.slot ≡ None }
-        requires metric { commit.now.metric ≡ None }
         ensures answer { result ≡ commit_answer (commit_value commit.now) self.old.core }
         ensures core { self.new.core ≡ core_after_commit (commit_value commit.now) self.old.core }
+        ensures slots { self.new.slots
+            ≡ slots_after_commit (commit_value commit.now) self.old.core self.old.slots }
         ensures event { Makes Stands self.old self.new (commit_event (commit_value commit.now) ∷ []) }
 
         // What no commit changes.
@@ -316,6 +345,8 @@ impl Monitor {
         ensures cap { self.new.core.regions.cap ≡ self.old.core.regions.cap }
         ensures ticks { self.new.core.ticks ≡ self.old.core.ticks }
     {
+        live_commit::accepted_commits_are_within();
+        watermarks::metrics_decide_in_turn();
         validate(commit, &self.space, &self.view())?;
         Ok(self.accept(commit))
     }
@@ -342,6 +373,7 @@ impl Monitor {
         ensures changed { result ≡ changed_by (commit_value commit.now) self.old.core }
         ensures committed { self.new ≡ record self.old {
           core = committed_core (commit_value commit.now) self.old.core;
+          slots = committed_slots (commit_value commit.now) self.old.slots;
         } }
     {
         live_commit::accepted_commits_are_within();
@@ -350,6 +382,7 @@ impl Monitor {
         let attrs = commit.attrs.unwrap_or(self.attrs());
         let void = self.sampling.commit(&self.space, &commit.ranges, attrs.max);
         self.attrs = attrs;
+        change_slots(&mut self.engine, commit);
         let rows = self.sampling.regions().len();
         Changed { rows, void }
     }
@@ -378,6 +411,35 @@ impl Monitor {
     {
         self.clock.tick();
         self.sampling.leave(self.clock.next_phase(self.attrs.aggr));
+    }
+}
+
+// The slots of a monitor before its first pass: those of the setup are set.
+fn first_engine(alloc: Global, setup: &Setup) -> Result<Engine, AllocError>
+    ensures slots { IfOk result (λ e. e.slots ≡ slots_of (opening_notes (value_of setup.now))) }
+    ensures cap { IfOk result (λ e. e.cap ≡ setup.now.cap) }
+    ensures new { IfOk result (λ e. AllByRecursion IsUnused e.slots) }
+{
+    live_commit::accepted_commits_are_within();
+    let mut engine = Engine::new(alloc, setup.cap)?;
+    for change in setup.slots.as_slice() {
+        engine.change(change);
+    }
+    Ok(engine)
+}
+
+// Makes the slot change of a commit and hands on its metric, if it has them. The slot is one that exists.
+fn change_slots(engine: &mut Engine, commit: &Commit)
+    requires { (change : slot_change) → commit.now.slot ≡ Some change → change.slot ≤ MAX_SLOT }
+    ensures { engine.new ≡ record engine.old {
+      slots = committed_slots (commit_value commit.now) engine.old.slots;
+    } }
+{
+    if let Some(change) = &commit.slot {
+        engine.change(change);
+    }
+    if let Some(value) = commit.metric {
+        engine.metric(value);
     }
 }
 

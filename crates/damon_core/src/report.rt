@@ -1,30 +1,45 @@
 ghost use Rattle.std.specs.Prelude.{◌≡◌, ◌≤◌, length, IfOk};
+ghost use Rattle.std.specs.List.{AllByRecursion};
+ghost use Rattle.damon_types.specs.Within.{AreWithin};
+ghost use Rattle.scheme_engine.specs.Engine.{BeginBy, FitsSlot};
+ghost use Rattle.scheme_engine.specs.Served.{slots_served};
 ghost use Rattle.damon_core.specs.Report.{no_report};
 
-use damon_types::Row;
-use region_list::RowBuf;
+use damon_types::{Row, Space};
+use region_list::{Regions, RowBuf};
+use scheme_engine::{Applied, Engine};
 use std::alloc::{AllocError, Global};
 use std::marker::Model;
 
-/// What the last aggregation reported: when it was, its threshold, and the rows as they stood once they
-/// were merged, with the counts of the passes since the aggregation before. Empty, with tick 0, before
-/// the first aggregation.
+/// What the last aggregation reported: when it was, its threshold, the rows as they stood once they were
+/// merged and the schemes were applied, with the counts of the passes since the aggregation before, and
+/// what the schemes were applied to. Empty, with tick 0, before the first aggregation.
 #[derive(Drop)]
 pub struct Report {
     tick: u64,
     threshold: u32,
     rows: RowBuf,
+    applied: Applied,
 }
 
 impl Model for Report {
+    ghost use Rattle.std.specs.Prelude.{◌≡◌};
     ghost use Rattle.damon_core.specs.Report.{ReportBuf};
 
     ghost Value = { ReportBuf };
 
     ghost view = { λ r. record {
-      value = record { tick = r.tick; threshold = r.threshold; rows = r.rows.rows };
+      value = record {
+        tick = r.tick;
+        threshold = r.threshold;
+        rows = r.rows.rows;
+        runs = r.applied.runs;
+        choices = r.applied.choices;
+      };
       cap = r.rows.cap;
     } };
+
+    ghost invariant = { λ r. r.applied.cap ≡ r.rows.cap };
 }
 
 impl Report {
@@ -33,18 +48,52 @@ impl Report {
         ensures { IfOk result (λ r. r ≡ record { value = no_report; cap = cap }) }
     {
         let rows = RowBuf::new(alloc, cap)?;
+        let applied = Applied::new(alloc, cap)?;
         Ok(Report {
             tick: 0,
             threshold: 0,
             rows,
+            applied,
         })
     }
 
-    // Replaces the report. There is room for the rows.
+    // Serves the slots of an engine over the rows of these regions, and keeps what they were applied to.
+    pub(crate) fn serve(
+        &mut self,
+        engine: &mut Engine,
+        regions: &mut Regions,
+        space: &Space,
+        aggr: u32,
+        tick: u64,
+    )
+        requires within { AreWithin space.now regions.old.ranges }
+        requires aggr { 1 ≤ aggr }
+        requires engine { regions.old.cap ≡ engine.old.cap }
+        requires room { regions.old.cap ≡ self.old.cap }
+        requires windows { BeginBy tick engine.old.slots }
+        requires fits { AllByRecursion FitsSlot
+            (slots_served 0 space.now aggr tick regions.old engine.old.slots).slots }
+        ensures slots { engine.new ≡ record engine.old {
+          slots = (slots_served 0 space.now aggr tick regions.old engine.old.slots).slots;
+        } }
+        ensures rows { regions.new ≡ record regions.old {
+          rows = (slots_served 0 space.now aggr tick regions.old engine.old.slots).rows;
+        } }
+        ensures applied { self.new ≡ record self.old {
+          value = record self.old.value {
+            runs = (slots_served 0 space.now aggr tick regions.old engine.old.slots).runs;
+            choices = (slots_served 0 space.now aggr tick regions.old engine.old.slots).choices;
+          };
+        } }
+    {
+        engine.run(regions, space, aggr, tick, &mut self.applied);
+    }
+
+    // Replaces the tick, the threshold and the rows, for which there is room.
     pub(crate) fn set(&mut self, tick: u64, threshold: u32, rows: &[Row])
         requires { length rows.now ≤ self.old.cap }
         ensures { self.new ≡ record self.old {
-          value = record { tick = tick; threshold = threshold; rows = rows.now };
+          value = record self.old.value { tick = tick; threshold = threshold; rows = rows.now };
         } }
     {
         self.tick = tick;
@@ -71,5 +120,13 @@ impl Report {
         ensures { result.now ≡ self.now.value.rows }
     {
         self.rows.as_slice()
+    }
+
+    /// The runs of pages that schemes were applied to, and the choices of the slots that were set.
+    pub fn applied(&self) -> &Applied
+        ensures runs { result.now.runs ≡ self.now.value.runs }
+        ensures choices { result.now.choices ≡ self.now.value.choices }
+    {
+        &self.applied
     }
 }

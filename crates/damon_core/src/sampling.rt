@@ -12,12 +12,15 @@ ghost use Rattle.aggregator.specs.Cleared.{cleared};
 ghost use Rattle.aggregator.specs.Threshold.{threshold as threshold_of};
 ghost use Rattle.region_merge.specs.Merged.{merged};
 ghost use Rattle.region_split.specs.Split.{split_rows};
+ghost use Rattle.scheme_engine.specs.Engine.{BeginBy, FitsSlot};
+ghost use Rattle.scheme_engine.specs.Served.{slots_served};
 ghost use Rattle.damon_core.specs.Commit.{becomes_void as becomes_void_in, phase_after_commit, regions_after};
 ghost use Rattle.damon_core.specs.Event.{IsClearing, IsLoading, clear_index, load_index};
 ghost use Rattle.damon_core.specs.After.{phase_cleared};
 ghost use Rattle.damon_core.specs.Kept.{CanCommit};
 ghost use Rattle.damon_core.specs.Pass.{IsBetween, IsInPass, IsPickWithin};
 
+use crate::Report;
 use crate::room::Room;
 use aggregator::{age_all, clear_counts, threshold};
 use damon_types::{RangeSpecs, Row, Space};
@@ -26,6 +29,7 @@ use region_list::{Regions, RowBuf, same_spans};
 use region_merge::merge_all;
 use region_split::split_all;
 use sampler::{Marks, Picks, set_picks};
+use scheme_engine::Engine;
 use std::alloc::{AllocError, Global};
 use std::marker::Model;
 
@@ -229,6 +233,43 @@ impl Sampling {
         age_all(&mut self.regions, threshold);
         merge_all(&mut self.regions, threshold, limit);
         threshold
+    }
+
+    // Serves the slots of an engine over the rows, at the end of an aggregation of `aggr` passes at a tick.
+    // The report keeps what they were applied to. No pass is under way.
+    pub(crate) fn serve(
+        &mut self,
+        engine: &mut Engine,
+        report: &mut Report,
+        space: &Space,
+        aggr: u32,
+        tick: u64,
+    )
+        requires phase { IsBetween self.old.phase }
+        requires within { AreWithin space.now self.old.regions.ranges }
+        requires aggr { 1 ≤ aggr }
+        requires engine { self.old.regions.cap ≡ engine.old.cap }
+        requires room { self.old.regions.cap ≡ report.old.cap }
+        requires windows { BeginBy tick engine.old.slots }
+        requires fits { AllByRecursion FitsSlot
+            (slots_served 0 space.now aggr tick self.old.regions engine.old.slots).slots }
+        ensures rows { self.new ≡ record self.old {
+          regions = record self.old.regions {
+            rows = (slots_served 0 space.now aggr tick self.old.regions engine.old.slots).rows;
+          };
+        } }
+        ensures slots { engine.new ≡ record engine.old {
+          slots = (slots_served 0 space.now aggr tick self.old.regions engine.old.slots).slots;
+        } }
+        ensures applied { report.new ≡ record report.old {
+          value = record report.old.value {
+            runs = (slots_served 0 space.now aggr tick self.old.regions engine.old.slots).runs;
+            choices = (slots_served 0 space.now aggr tick self.old.regions engine.old.slots).choices;
+          };
+        } }
+    {
+        scheme_engine::served_slots_are_kept();
+        report.serve(engine, &mut self.regions, space, aggr, tick);
     }
 
     // Clears the counts and splits the rows, row i by the words 2i and 2i + 1. No pass is under way, and

@@ -19,7 +19,7 @@ use Rattle.scheme_filter.specs.Passes.{passes}
 use Rattle.priority.specs.declared.candidates.Candidate.{Candidate}
 use Rattle.scheme_engine.specs.Candidates.{candidate_of, candidates_of, passing_pages}
 use Rattle.scheme_engine.specs.declared.applied.AppliedRun.{AppliedRun}
-use Rattle.scheme_engine.specs.Kept.{LiesInRow}
+use Rattle.scheme_engine.specs.Kept.{IsRunIn, LiesInRow}
 use Rattle.scheme_engine.proofs.GatherLemmas.{IsOfRow, candidate_is}
 
 -- the pages of rows that tile ranges are those of the ranges
@@ -90,9 +90,9 @@ share_sum (c ∷ cs) all =
     omega (arith, All-head (λ (d : Candidate). d.share ≤ d.passing) c cs all, sum_by-cons (λ (d : Candidate). d.share) c cs, sum_by-cons (λ (d : Candidate). d.passing) c cs, share_sum cs (All-tail (λ (d : Candidate). d.share ≤ d.passing) c cs all))
 
 -- a run in a row in a range lies in the space
-pub run_within : (space : List Target) (gs : List Range) (ss : List Span) (r : AppliedRun) → AreWithin space gs → AllByRecursion (λ s. Any (LiesIn s) gs) ss → Any (LiesInRow r) ss → r.start + r.pages ≤ pages_of space
+pub run_within : (space : List Target) (gs : List Range) (ss : List Span) (r : AppliedRun) → AreWithin space gs → AllByRecursion (λ s. Any (LiesIn s) gs) ss → Any (LiesInRow r) ss → IsRunIn space r
 run_within space gs ss r within held any =
     let lies = All-from_recursion (λ s. Any (LiesIn s) gs) ss held any.0 any.1 any.2 in
     let target = within lies.0 lies.1 lies.2 in
     let end = range_end space (get_or gs lies.0 lies.1) target in
-    omega (arith, any.4.to, ap (λ (s : Span). s.start + s.pages) any.3, lies.4.to, end, ap (λ (g : Range). end_of g) lies.3)
+    (any.4.some, omega (arith, any.4.to, ap (λ (s : Span). s.start + s.pages) any.3, lies.4.to, end, ap (λ (g : Range). end_of g) lies.3))

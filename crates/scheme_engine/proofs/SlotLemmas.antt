@@ -17,7 +17,7 @@ use Rattle.quota_charge.specs.Quota.{has_ended}
 use Rattle.scheme_engine.specs.declared.applied.AppliedRun.{AppliedRun}
 use Rattle.scheme_engine.specs.declared.applied.SlotChoice.{SlotChoice}
 use Rattle.scheme_engine.specs.Engine.{BeginBy, FitsSlot}
-use Rattle.scheme_engine.specs.Kept.{AreTiled, CountsWithin, StartBy}
+use Rattle.scheme_engine.specs.Kept.{AreTiled, CountsWithin, IsRunIn, StartBy}
 use Rattle.scheme_engine.specs.Outcome.{Outcome, outcome_of}
 use Rattle.scheme_engine.specs.Served.{Served, ServedSlot, choice_of, left_in, no_choice, scheme_counted, scheme_served, slot_counted, slot_run, slot_served, slots_served}
 use Rattle.scheme_engine.specs.Slots.{SetScheme, SlotValue, changed, empty_slot, quota_of, turned_slot, window_at}
@@ -29,7 +29,7 @@ pub record OutcomeLaws : Type 0 where
   pub counts : (slot aggr most : ℕ) (space : List Target) (scheme : Scheme) (left : Option ℕ) (regions : RegionList) → AllByRecursion (λ r. r.count ≤ most) regions.rows → AllByRecursion (λ r. r.count ≤ most) (outcome_of slot space aggr scheme left regions).rows
   pub sum : (slot aggr : ℕ) (space : List Target) (scheme : Scheme) (left : Option ℕ) (regions : RegionList) → AreTiled regions → sum_by (λ r. r.pages) (outcome_of slot space aggr scheme left regions).runs ≡ (outcome_of slot space aggr scheme left regions).taken
   pub within : (slot aggr : ℕ) (space : List Target) (scheme : Scheme) (left : Option ℕ) (regions : RegionList) → AreTiled regions → IfSome left (λ most. (outcome_of slot space aggr scheme left regions).taken ≤ most)
-  pub space : (slot aggr : ℕ) (space : List Target) (scheme : Scheme) (left : Option ℕ) (regions : RegionList) → AreTiled regions → AreWithin space regions.ranges → All (λ r. r.start + r.pages ≤ pages_of space) (outcome_of slot space aggr scheme left regions).runs
+  pub space : (slot aggr : ℕ) (space : List Target) (scheme : Scheme) (left : Option ℕ) (regions : RegionList) → AreTiled regions → AreWithin space regions.ranges → All (IsRunIn space) (outcome_of slot space aggr scheme left regions).runs
   pub taken : (slot aggr : ℕ) (space : List Target) (scheme : Scheme) (left : Option ℕ) (regions : RegionList) → AreTiled regions → AreWithin space regions.ranges → IsSpace space → (outcome_of slot space aggr scheme left regions).taken ≤ MAX_PAGES
   pub tried : (slot aggr : ℕ) (space : List Target) (scheme : Scheme) (left : Option ℕ) (regions : RegionList) → AreTiled regions → AreWithin space regions.ranges → IsSpace space → (outcome_of slot space aggr scheme left regions).tried ≤ MAX_PAGES
 
@@ -155,13 +155,13 @@ slots_within laws slot aggr tick space regions (s ∷ ss) tiled =
     }))
     (slots_within laws (slot + 1) aggr tick space next ss (slot_tiled laws slot space aggr tick regions s tiled))
 
-pub slots_space : OutcomeLaws → (slot aggr tick : ℕ) (space : List Target) (regions : RegionList) (slots : List SlotValue) → AreTiled regions → AreWithin space regions.ranges → All (λ r. r.start + r.pages ≤ pages_of space) (slots_served slot space aggr tick regions slots).runs
-slots_space laws slot aggr tick space regions [] tiled within = All-nil (λ (r : AppliedRun). r.start + r.pages ≤ pages_of space)
+pub slots_space : OutcomeLaws → (slot aggr tick : ℕ) (space : List Target) (regions : RegionList) (slots : List SlotValue) → AreTiled regions → AreWithin space regions.ranges → All (IsRunIn space) (slots_served slot space aggr tick regions slots).runs
+slots_space laws slot aggr tick space regions [] tiled within = All-nil (IsRunIn space)
 slots_space laws slot aggr tick space regions (s ∷ ss) tiled within =
     let first = slot_served slot space aggr tick regions s in
     let next : RegionList = record regions { rows = first.rows } in
     let others = slots_served (slot + 1) space aggr tick next ss in
-    let P : AppliedRun → Type 0 = λ r. r.start + r.pages ≤ pages_of space in
+    let P : AppliedRun → Type 0 = IsRunIn space in
     All-append P first.runs others.runs
     (slot_holds slot space aggr tick regions s (λ w. All P w.runs) (record { empty = All-nil P; inactive = All-nil P; active = λ h. laws.space slot aggr space h.scheme (left_in (turned_slot tick s)) regions tiled within }))
     (slots_space laws (slot + 1) aggr tick space next ss (slot_tiled laws slot space aggr tick regions s tiled) within)

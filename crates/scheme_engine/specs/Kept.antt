@@ -2,7 +2,9 @@
 use Rattle.std.specs.Prelude.{◌≡◌, ℕ, ◌+◌, ◌*◌, ◌≤◌, ◌<◌, List, length, AllPairs, IfSome}
 use Rattle.std.specs.List.{AllByRecursion}
 use Rattle.damon_types.specs.declared.space.TheConstants.{MAX_PAGES}
+use Rattle.damon_types.specs.declared.space.Target.{Target}
 use Rattle.damon_types.specs.Ranges.{InOrder}
+use Rattle.damon_types.specs.Space.{pages_of}
 use Rattle.damon_types.specs.Span.{Span, spans}
 use Rattle.region_list.specs.Regions.{RegionList}
 use Rattle.region_list.specs.Tiling.{Tiling}
@@ -23,6 +25,10 @@ pub record LiesInRow (r : AppliedRun) (s : Span) : Type 0 where
   pub some : 1 ≤ r.pages
   pub from : s.start ≤ r.start
   pub to : r.start + r.pages ≤ s.start + s.pages
+
+-- a run has a page, and its pages are pages of the space
+abbrev pub IsRunIn : List Target → AppliedRun → Type 0
+IsRunIn space r = (1 ≤ r.pages) × (r.start + r.pages ≤ pages_of space)
 
 -- no slot, set or not, has a window that begins after this tick
 abbrev pub StartBy : ℕ → List SlotValue → Type 0

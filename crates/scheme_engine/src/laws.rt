@@ -4,12 +4,12 @@ ghost use Rattle.std.specs.List.{AllByRecursion};
 ghost use Rattle.damon_types.specs.declared.scheme.Scheme.{Scheme as scheme_type};
 ghost use Rattle.damon_types.specs.declared.space.Target.{Target as target};
 ghost use Rattle.damon_types.specs.declared.space.TheConstants.{MAX_PAGES};
-ghost use Rattle.damon_types.specs.Space.{IsSpace, pages_of};
+ghost use Rattle.damon_types.specs.Space.{IsSpace};
 ghost use Rattle.damon_types.specs.Span.{spans};
 ghost use Rattle.damon_types.specs.Within.{AreWithin};
 ghost use Rattle.region_list.specs.Regions.{RegionList};
 ghost use Rattle.scheme_engine.specs.Engine.{BeginBy, FitsSlot};
-ghost use Rattle.scheme_engine.specs.Kept.{AreTiled, CountsWithin, LiesInRow, OneInPart, StartBy};
+ghost use Rattle.scheme_engine.specs.Kept.{AreTiled, CountsWithin, IsRunIn, LiesInRow, OneInPart, StartBy};
 ghost use Rattle.scheme_engine.specs.Outcome.{chosen_of, outcome_of};
 ghost use Rattle.scheme_engine.specs.Served.{slots_served};
 ghost use Rattle.scheme_engine.specs.Slots.{SlotValue};
@@ -46,7 +46,7 @@ pub fn outcome_rows_are_kept()
 }
 
 /// The runs of a scheme have as many pages together as are taken, at most what is left of its quota.
-/// Each lies in a row, and so in the space where the ranges do. No more rows match and no more pages are
+/// Each has a page and lies in a row, and so in the space where the ranges do. No more rows match and no more pages are
 /// taken than a space may have pages.
 pub fn outcome_runs_are_taken()
     ensures sum { (slot aggr : ℕ) (space : List target) (scheme : scheme_type) (left : Option ℕ)
@@ -62,7 +62,7 @@ pub fn outcome_runs_are_taken()
         (outcome_of slot space aggr scheme left regions).runs }
     ensures space { (slot aggr : ℕ) (space : List target) (scheme : scheme_type) (left : Option ℕ)
         (regions : RegionList) → AreTiled regions → AreWithin space regions.ranges
-        → All (λ r. r.start + r.pages ≤ pages_of space)
+        → All (IsRunIn space)
         (outcome_of slot space aggr scheme left regions).runs }
     ensures taken { (slot aggr : ℕ) (space : List target) (scheme : scheme_type) (left : Option ℕ)
         (regions : RegionList) → AreTiled regions → AreWithin space regions.ranges → IsSpace space
@@ -113,7 +113,7 @@ pub fn served_slots_are_kept()
         (slots_served slot space aggr tick regions slots).choices }
     ensures space { (slot aggr tick : ℕ) (space : List target) (regions : RegionList)
         (slots : List SlotValue) → AreTiled regions → AreWithin space regions.ranges
-        → All (λ r. r.start + r.pages ≤ pages_of space)
+        → All (IsRunIn space)
         (slots_served slot space aggr tick regions slots).runs }
     ensures bounded { (slot aggr tick t : ℕ) (space : List target) (regions : RegionList)
         (slots : List SlotValue) → AreTiled regions → AreWithin space regions.ranges

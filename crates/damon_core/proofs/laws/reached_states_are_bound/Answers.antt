@@ -2,6 +2,7 @@ use Rattle.std.proofs.Common.{arith}
 use Rattle.damon_core.proofs.Bounding.{reached_bound}
 use Rattle.damon_core.proofs.Keeping.{any_result, reached_keeps}
 use Rattle.damon_core.proofs.Rows.{HasRows, RowLaws, rows_kept}
+use Rattle.damon_core.proofs.Served.{RunLaws}
 use Rattle.damon_core.proofs.laws.reached_states_are_bound.Goals as goal
 
 pub returns : goal.returns
@@ -24,6 +25,7 @@ returns c =
         split_some = c.split_rows_are_kept.ensures.some;
         split_counts = c.split_rows_are_kept.ensures.counts;
       };
+      serve = record { tiled = c.outcome_rows_are_kept.ensures.tiled; some = λ slot aggr space scheme left regions. c.outcome_rows_are_kept.ensures.some slot aggr space scheme left regions };
       commit = record {
         accepted = c.accepted_commits_are_within.ensures.accepted;
         ranges_order = c.made_in_order.ensures.order;
@@ -37,7 +39,8 @@ returns c =
         updated_some = c.updated_rows_are_kept.ensures.some;
       };
     } in
+    let within : RunLaws = record { outcome = record { tiled = c.outcome_rows_are_kept.ensures.tiled; sum = c.outcome_runs_are_taken.ensures.sum }; within = c.outcome_runs_are_taken.ensures.within } in
     record {
       in_phase = λ s reached. (let rows = reached_keeps HasRows (rows_kept any_result laws) s reached in record { some = rows.some; few = omega (arith, rows.few, rows.most); pick = rows.within });
-      bound = reached_bound laws;
+      bound = reached_bound laws within;
     }

@@ -4,7 +4,6 @@ use Rattle.std.proofs.lemmas.List.Elements.{All-weaker}
 use Rattle.std.proofs.lemmas.List.Folds.{fold-map}
 use Rattle.std.proofs.lemmas.List.Sorted.{sum_by-IsPermutation}
 use Rattle.std.proofs.lemmas.List.Sums.{count_by-le-length}
-use Rattle.damon_types.specs.Space.{pages_of}
 use Rattle.damon_types.specs.Span.{spans}
 use Rattle.scheme_filter.specs.Passes.{passes}
 use Rattle.scheme_match.specs.Match.{is_match}
@@ -12,7 +11,7 @@ use Rattle.priority.specs.declared.candidates.Candidate.{Candidate}
 use Rattle.priority.specs.Chosen.{taken_of}
 use Rattle.priority.specs.Share.{with_share, with_shares}
 use Rattle.scheme_engine.specs.Candidates.{candidates_of}
-use Rattle.scheme_engine.specs.Kept.{LiesInRow}
+use Rattle.scheme_engine.specs.Kept.{IsRunIn, LiesInRow}
 use Rattle.scheme_engine.specs.Outcome.{chosen_of, outcome_of}
 use Rattle.scheme_engine.proofs.BoundLemmas.{passing_sum, rows_at_most, rows_within, run_within, share_sum}
 use Rattle.scheme_engine.proofs.LawLemmas.{ChoiceLaws, are_defined}
@@ -37,7 +36,7 @@ returns c =
       space = λ slot aggr space scheme left regions tiled within.
           let are = (are_defined laws space aggr scheme left regions tiled).chosen in
           let held = (c.tiling_is_per_page.ensures regions.unit regions.ranges (spans regions.rows) tiled.unit tiled.order tiled.tiling).within in
-          All-weaker (λ r. Any (LiesInRow r) (spans regions.rows)) (λ r. r.start + r.pages ≤ pages_of space) (λ r any. run_within space regions.ranges (spans regions.rows) r within held any)
+          All-weaker (λ r. Any (LiesInRow r) (spans regions.rows)) (IsRunIn space) (λ r any. run_within space regions.ranges (spans regions.rows) r within held any)
           (outcome_of slot space aggr scheme left regions).runs
           (applied_lie runs slot (passes scheme.filters space regions.ranges) (spans regions.rows) (chosen_of space aggr scheme left regions) are.ascend are.each);
       taken = λ slot aggr space scheme left regions tiled within sound.

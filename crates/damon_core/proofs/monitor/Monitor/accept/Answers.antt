@@ -8,17 +8,19 @@ use Rattle.damon_types.specs.Within.{AreWithin}
 use Rattle.region_list.specs.Regions.{RegionList}
 use Rattle.live_commit.specs.Commit.{CommitValue, commit_value}
 use Rattle.damon_core.specs.Commit.{check_of, phase_after_commit, regions_after}
-use Rattle.damon_core.specs.Kept.{CanCommit, IsMonitor, SamplingView, SinceFew}
+use Rattle.damon_core.specs.Kept.{CanCommit, IsMonitor, IsServing, SamplingView, SinceFew}
 use Rattle.damon_core.specs.State.{Core}
 use Rattle.damon_core.specs.Stands.{MonitorView}
 use Rattle.damon_core.proofs.Committing.{commit_facts, new_cap, new_counts, new_max, since_kept}
 use Rattle.damon_core.proofs.Shown.{shown}
+use Rattle.damon_core.proofs.SlotFacts.{serving_committed}
+use Rattle.scheme_engine.specs.Engine.{EngineValue}
 use Rattle.damon_core.proofs.monitor.Monitor.accept.Goals as goal
 
 pub commit-void-requires-clause-can : goal.commit-void-requires-clause-can
 commit-void-requires-clause-can c =
     let i = c.self.inside in
-    let core : Core = (shown i.space i.attrs i.sampling i.clock i.totals i.report.value).core in
+    let core : Core = (shown i.space i.attrs i.sampling i.clock i.totals i.report.value i.engine.slots).core in
     let v : CommitValue = commit_value c.args.commit.now in
     let ok = subst (λ (m : MonitorView). check_of v m.core ≡ Ok tt) (sym c.self.view_is) c.requires in
     let most = subst (λ (m : MonitorView). m.core.attrs.max ≤ m.core.regions.cap) (sym c.self.view_is) c.attrs.ensures.max in
@@ -30,7 +32,7 @@ pub invariant_of-self : goal.invariant_of-self
 invariant_of-self c =
     let i = c.self.inside in
     let inv = c.self.invariant in
-    let core : Core = (shown i.space i.attrs i.sampling i.clock i.totals i.report.value).core in
+    let core : Core = (shown i.space i.attrs i.sampling i.clock i.totals i.report.value i.engine.slots).core in
     let v : CommitValue = commit_value c.args.commit.now in
     let ok = subst (λ (m : MonitorView). check_of v m.core ≡ Ok tt) (sym c.self.view_is) c.requires in
     let most = subst (λ (m : MonitorView). m.core.attrs.max ≤ m.core.regions.cap) (sym c.self.view_is) c.attrs.ensures.max in
@@ -54,4 +56,7 @@ invariant_of-self c =
       hits_few = inv.hits_few;
       report_room = omega (arith, inv.report_room, cap);
       report_in = inv.report_in;
+      runs_in = inv.runs_in;
+      engine_room = omega (arith, inv.engine_room, cap, ap (λ (e : EngineValue). e.cap) c.change_slots.ensures);
+      serving = subst (λ (e : EngineValue). IsServing i.clock e.slots) (sym c.change_slots.ensures) (serving_committed i.clock v i.engine.slots inv.serving);
     }

@@ -1,39 +1,125 @@
-use Rattle.std.proofs.Common.{◌≡◌, ◌≤◌, ◌<◌, ℕ, ap, sym, subst, ◌∙◌, arith}
+use Rattle.std.proofs.Common.{◌≡◌, ◌+◌, ◌-◌, ◌*◌, ◌^◌, ◌≤◌, ◌<◌, ℕ, List, [], ◌∷◌, length, max, ◌/◌, ap, sym, subst, ◌∙◌, arith}
 use Rattle.std.specs.List.{AllByRecursion}
+use Rattle.std.proofs.lemmas.List.Elements.{recursion_from_All}
+use Rattle.damon_types.specs.declared.row.Row.{Row}
+use Rattle.damon_types.specs.Ranges.{page_total}
 use Rattle.damon_types.specs.Space.{pages_of}
 use Rattle.damon_types.specs.Span.{spans}
 use Rattle.damon_types.specs.Within.{AreWithin}
+use Rattle.aggregator.specs.Aged.{aged}
+use Rattle.aggregator.specs.Threshold.{threshold}
+use Rattle.live_commit.specs.declared.phase.Phase.{Phase}
+use Rattle.live_commit.specs.declared.phase.Phase.TheVariants.{Due}
 use Rattle.region_list.specs.Regions.{RegionList}
 use Rattle.region_list.specs.Tiles.{Tiles}
-use Rattle.damon_core.specs.Kept.{IsMonitor, RowsLieIn, SamplingView}
-use Rattle.damon_core.specs.Report.{ReportBuf}
+use Rattle.region_merge.specs.Merged.{merged}
+use Rattle.scheme_engine.specs.declared.applied.AppliedRun.{AppliedRun}
+use Rattle.scheme_engine.specs.Engine.{EngineValue}
+use Rattle.scheme_engine.specs.Kept.{AreTiled, IsRunIn}
+use Rattle.scheme_engine.specs.Served.{Served, slots_served}
+use Rattle.damon_core.specs.Aggregate.{engine_served, merge_limit, merged_regions}
+use Rattle.damon_core.specs.Kept.{IsMonitor, IsServing, RowsLieIn, SamplingView, SinceFew}
+use Rattle.damon_core.specs.Report.{ReportBuf, ReportValue}
+use Rattle.damon_core.specs.State.{Core}
+use Rattle.damon_core.specs.Event.{aggregate}
+use Rattle.damon_core.specs.Makes.{Makes}
+use Rattle.damon_core.specs.Stands.{MonitorView, Stands}
+use Rattle.damon_core.specs.Pass.{IsBetween}
+use Rattle.damon_core.proofs.Adapting.{merged_is, tiled_by_len}
 use Rattle.damon_core.proofs.RowFacts.{rows_in}
+use Rattle.damon_core.proofs.Serving.{OutcomeLaws}
+use Rattle.damon_core.proofs.Shown.{after_aggregate, aggregated_view, shown, with_kept}
+use Rattle.damon_core.proofs.SlotFacts.{serving_served}
+use Rattle.damon_core.proofs.Standing.{aggregate_makes}
 use Rattle.damon_core.proofs.monitor.Monitor.aggregate.Goals as goal
+
+pub serve-requires : goal.serve-requires
+serve-requires c =
+    let i = c.self.inside in
+    let v = c.self.invariant in
+    let now = c.merge-threshold.ensures.merged in
+    let r = c.merge-threshold.new.self.regions in
+    let len = c.len-merged.ensures in
+    let same_cap : r.cap ≡ i.sampling.regions.cap = ap (λ (s : SamplingView). s.regions.cap) now in
+    let within = subst (AreWithin i.space) (sym (ap (λ (s : SamplingView). s.regions.ranges) now)) v.ranges_in in
+    let tiled = subst AreTiled c.regions-2.ensures.regions (tiled_by_len _ c.len-merged.result len.len len.few len.unit len.order len.tiling) in
+    let due : i.sampling.phase ≡ Due = ap (λ (m : MonitorView). m.core.phase) c.self.view_is ∙ c.requires.due in
+    let t : ℕ = i.clock.ticks - i.clock.since in
+    let bounded = c.served_slots_are_kept.ensures.bounded 0 i.attrs.aggr i.clock.ticks t i.space r i.engine.slots tiled within c.targets-targets.ensures.sound v.serving.served in
+    record {
+      phase = subst IsBetween (sym (ap (λ (s : SamplingView). s.phase) now ∙ due)) tt;
+      within = within;
+      aggr = v.attrs_sound.aggr_some;
+      engine = same_cap ∙ v.engine_room;
+      room = same_cap ∙ v.report_room;
+      windows = (c.served_slots_are_kept.ensures.begun i.clock.ticks i.clock.ticks i.engine.slots (omega arith) v.serving.windows).1;
+      fits = c.served_slots_are_kept.ensures.fits (t + 1) (slots_served 0 i.space i.attrs.aggr i.clock.ticks r i.engine.slots).slots (omega (arith, v.serving.ticks_few)) bounded;
+    }
 
 pub invariant_of-self : goal.invariant_of-self
 invariant_of-self c =
     let v = c.self.invariant in
     let i = c.self.inside in
-    let merged = c.merge-threshold.new.self in
+    let old = c.merge-threshold.new.self in
     let now = c.merge-threshold.ensures.merged in
-    let r = merged.regions in
+    let r = old.regions in
+    let len = c.len-merged.ensures in
+    let o : Served = slots_served 0 i.space i.attrs.aggr i.clock.ticks r i.engine.slots in
+    let next = c.serve.new.self.regions in
+    let served = ap (λ (s : SamplingView). s.regions) c.serve.ensures.rows in
     let seen = c.regions-rows.ensures.regions in
-    let same_cap : r.cap ≡ i.sampling.regions.cap = ap (λ (s : SamplingView). s.regions.cap) now in
-    let ranges_in = subst (AreWithin i.space) (sym (ap (λ (s : SamplingView). s.regions.ranges) now)) v.ranges_in in
+    let same_cap : next.cap ≡ i.sampling.regions.cap = ap (λ (x : RegionList). x.cap) served ∙ ap (λ (s : SamplingView). s.regions.cap) now in
+    let within = subst (AreWithin i.space) (sym (ap (λ (s : SamplingView). s.regions.ranges) now)) v.ranges_in in
+    let ranges_in = subst (AreWithin i.space) (sym (ap (λ (x : RegionList). x.ranges) served)) within in
+    let tiled = subst AreTiled c.regions-2.ensures.regions (tiled_by_len _ c.len-merged.result len.len len.few len.unit len.order len.tiling) in
     let unit = subst (λ (x : RegionList). 1 ≤ x.unit) seen c.len-rows.ensures.unit in
     let tiles = subst (λ (x : RegionList). Tiles x.ranges (spans x.rows) x.unit) seen c.len-rows.ensures.tiles in
-    let rows = rows_in i.space r.ranges r.unit r.rows unit ranges_in tiles in
+    let rows = rows_in i.space next.ranges next.unit next.rows unit ranges_in tiles in
     let told = c.rows.ensures ∙ ap (λ (x : RegionList). x.rows) seen in
-    subst (λ x. IsMonitor i.space i.attrs x (record { ticks = i.clock.ticks; since = 0 }) i.totals c.set.new.self) (sym c.split.ensures.split) (record {
+    let t : ℕ = i.clock.ticks - i.clock.since in
+    let bounded = c.served_slots_are_kept.ensures.bounded 0 i.attrs.aggr i.clock.ticks t i.space r i.engine.slots tiled within c.targets-targets.ensures.sound v.serving.served in
+    let windows = c.served_slots_are_kept.ensures.windows 0 i.attrs.aggr i.clock.ticks i.space r i.engine.slots v.serving.windows in
+    let due : i.sampling.phase ≡ Due = ap (λ (m : MonitorView). m.core.phase) c.self.view_is ∙ c.requires.due in
+    let since = subst (λ (ph : Phase). SinceFew ph i.clock.since) due v.since_few in
+    let runs = recursion_from_All (IsRunIn i.space) o.runs (c.served_slots_are_kept.ensures.space 0 i.attrs.aggr i.clock.ticks i.space r i.engine.slots tiled within) in
+    let report : c.set.new.self ≡ record c.serve.new.report { value = record c.serve.new.report.value { tick = i.clock.ticks; threshold = c.merge-threshold.result; rows = c.rows.result.now } } = c.set.ensures in
+    subst (λ x. IsMonitor i.space i.attrs x (record { ticks = i.clock.ticks; since = 0 }) i.totals c.set.new.self c.serve.new.engine) (sym c.split.ensures.split) (record {
       attrs_sound = v.attrs_sound;
-      max = ap (λ (s : SamplingView). s.regions.max) now ∙ v.max;
+      max = ap (λ (x : RegionList). x.max) served ∙ ap (λ (s : SamplingView). s.regions.max) now ∙ v.max;
       cap_few = omega (arith, same_cap, v.cap_few);
       ranges_in = ranges_in;
-      picks_in = subst (AllByRecursion (λ (p : ℕ). p < pages_of i.space)) (sym (ap (λ (s : SamplingView). s.picks) now)) v.picks_in;
+      picks_in = subst (AllByRecursion (λ (p : ℕ). p < pages_of i.space)) (sym (ap (λ (s : SamplingView). s.picks) c.serve.ensures.rows ∙ ap (λ (s : SamplingView). s.picks) now)) v.picks_in;
       counts = subst (λ (s : SamplingView). AllByRecursion (λ q. q.count ≤ 0) s.regions.rows) c.split.ensures.split c.split.ensures.counts;
       since_few = omega arith;
       checks_few = v.checks_few;
       hits_few = v.hits_few;
-      report_room = omega (arith, same_cap, v.report_room, ap (λ (b : ReportBuf). b.cap) c.set.ensures);
-      report_in = subst (λ (b : ReportBuf). RowsLieIn i.space b.value.rows) (sym c.set.ensures) (subst (RowsLieIn i.space) (sym told) rows);
+      report_room = same_cap ∙ v.report_room ∙ sym (ap (λ (b : ReportBuf). b.cap) report ∙ ap (λ (b : ReportBuf). b.cap) c.serve.ensures.applied);
+      report_in = subst (λ (b : ReportBuf). RowsLieIn i.space b.value.rows) (sym report) (subst (RowsLieIn i.space) (sym told) rows);
+      runs_in = subst (AllByRecursion (IsRunIn i.space)) (sym (ap (λ (b : ReportBuf). b.value.runs) report ∙ ap (λ (b : ReportBuf). b.value.runs) c.serve.ensures.applied)) runs;
+      engine_room = same_cap ∙ v.engine_room ∙ sym (ap (λ (e : EngineValue). e.cap) c.serve.ensures.slots);
+      serving = subst (λ (e : EngineValue). IsServing (record { ticks = i.clock.ticks; since = 0 }) e.slots) (sym c.serve.ensures.slots) (serving_served i.clock o.slots since.0 v.serving.since_ticks v.serving.ticks_few windows bounded);
     })
+
+pub returns-clause-event : goal.returns-clause-event
+returns-clause-event c =
+    let m = c.args.self.now in
+    let i = c.self.inside in
+    let ws = c.args.words.now in
+    let core : Core = (shown i.space i.attrs i.sampling i.clock i.totals i.report.value i.engine.slots).core in
+    let len = c.len-merged.ensures in
+    let limit : c.merge_limit-limit.result ≡ merge_limit core = c.merge_limit-limit.ensures ∙ ap (λ (x : RegionList). max x.unit (page_total x.ranges / i.attrs.min)) c.regions.ensures.regions in
+    let merged = merged_is core c.merge-threshold.new.self.regions c.merge-threshold.result c.merge_limit-limit.result (ap (λ (s : SamplingView). s.regions) c.merge-threshold.ensures.merged) c.merge-threshold.ensures.threshold limit in
+    let tiled = subst AreTiled (c.regions-2.ensures.regions ∙ merged) (tiled_by_len _ c.len-merged.result len.len len.few len.unit len.order len.tiling) in
+    let here = subst (λ (x : MonitorView). AreTiled (merged_regions x.core)) c.self.view_is tiled in
+    let laws : OutcomeLaws = record { tiled = c.outcome_rows_are_kept.ensures.tiled; sum = c.outcome_runs_are_taken.ensures.sum } in
+    let told = c.rows.ensures ∙ ap (λ (x : RegionList). x.rows) c.regions-rows.ensures.regions in
+    let after = aggregated_view i.space i.attrs i.clock i.totals ws i.sampling c.merge-threshold.new.self c.serve.new.self c.split.new.self i.report.value c.serve.new.report.value c.set.new.self.value i.engine.slots c.serve.new.engine.slots c.merge-threshold.result
+    (c.merge-threshold.ensures.merged ∙ ap (λ (r : RegionList). record i.sampling { regions = r }) (sym (ap (λ (s : SamplingView). s.regions) c.merge-threshold.ensures.merged) ∙ merged))
+    c.serve.ensures.rows
+    (ap (λ (e : EngineValue). e.slots) c.serve.ensures.slots)
+    (ap (λ (b : ReportBuf). b.value) c.serve.ensures.applied)
+    c.merge-threshold.ensures.threshold
+    (ap (λ (b : ReportBuf). b.value) c.set.ensures ∙ ap (λ (rows : List Row). with_kept i.clock.ticks c.merge-threshold.result rows c.serve.new.report.value) told)
+    c.split.ensures.split in
+    subst (λ (x : MonitorView). Makes Stands m x (aggregate ws ∷ [])) (sym (after ∙ ap (after_aggregate ws) c.self.view_is))
+    (aggregate_makes laws m ws here c.requires.due c.requires.words)

@@ -1,4 +1,4 @@
-use Rattle.std.proofs.Common.{◌≡◌, inr, [], ◌∷◌, ◌+◌, Bool, length, refl, ap, sym, subst, ◌∙◌, arith}
+use Rattle.std.proofs.Common.{◌≡◌, inr, [], ◌∷◌, ◌+◌, ◌^◌, ◌<◌, Bool, length, refl, ap, sym, subst, ◌∙◌, arith}
 use Rattle.std.specs.Prelude.{count_by}
 use Rattle.std.proofs.lemmas.List.Sums.{count_by-le-length}
 use Rattle.live_commit.specs.declared.phase.Phase.{Phase}
@@ -15,6 +15,7 @@ use Rattle.damon_core.specs.declared.clock.Clock.{Clock}
 use Rattle.damon_core.proofs.Shown.{ended, shown}
 use Rattle.damon_core.proofs.RowFacts.{length-raised, counts-raised}
 use Rattle.damon_core.proofs.Between.{since-phase_after_pass}
+use Rattle.damon_core.proofs.SlotFacts.{serving_passed}
 use Rattle.damon_core.proofs.Standing.{observe_makes}
 use Rattle.damon_core.proofs.monitor.Monitor.finish_pass.Goals as goal
 
@@ -58,30 +59,33 @@ invariant_of-self c =
     let cap = ap (λ (r : RegionList). r.cap) c.regions.ensures.regions ∙ ap (λ (x : SamplingView). x.regions.cap) c.finish-hits.ensures.counted in
     let hits = count_by-le-length (λ (hit : Bool). hit) s.bits in
     let then = sampled_then s (phase_after_pass (i.clock.since + 1) i.attrs.aggr) in
-    subst (λ x. IsMonitor i.space i.attrs x c.tick.new.self c.add.new.self i.report) (sym (sampled c))
-    (subst (λ x. IsMonitor i.space i.attrs then x c.add.new.self i.report) (sym c.tick.ensures)
-    (subst (λ x. IsMonitor i.space i.attrs then (clock_then i.clock) x i.report) (sym (totals c)) (record {
+    subst (λ x. IsMonitor i.space i.attrs x c.tick.new.self c.add.new.self i.report i.engine) (sym (sampled c))
+    (subst (λ x. IsMonitor i.space i.attrs then x c.add.new.self i.report i.engine) (sym c.tick.ensures)
+    (subst (λ x. IsMonitor i.space i.attrs then (clock_then i.clock) x i.report i.engine) (sym (totals c)) (record {
       attrs_sound = v.attrs_sound;
       max = v.max;
       cap_few = v.cap_few;
       ranges_in = v.ranges_in;
       picks_in = v.picks_in;
       counts = counts-raised i.clock.since s.bits s.regions.rows v.counts;
-      since_few = since-phase_after_pass (i.clock.since + 1) i.attrs.aggr v.attrs_sound.aggr_most (omega arith);
+      since_few = since-phase_after_pass (i.clock.since + 1) i.attrs.aggr (omega arith) v.attrs_sound.aggr_most (omega arith);
       checks_few = omega (arith, v.checks_few, same, c.len.ensures.few, c.len.ensures.most, cap, v.cap_few);
       hits_few = omega (arith, v.hits_few, hits, c.finish-hits.ensures.each, same, c.len.ensures.few, c.len.ensures.most, cap, v.cap_few);
       report_room = v.report_room;
       report_in = v.report_in;
+      runs_in = v.runs_in;
+      engine_room = v.engine_room;
+      serving = serving_passed i.clock i.engine.slots (subst (λ (m : MonitorView). m.core.ticks < 2 ^ 40) (sym c.self.view_is) c.requires.ticks) v.serving;
     })))
 
 pub returns-clause-event : goal.returns-clause-event
 returns-clause-event c =
     let i = c.self.inside in
     let m = c.args.self.now in
-    let is : shown i.space i.attrs c.finish-hits.new.self c.tick.new.self c.add.new.self i.report.value ≡ ended m.core.phase m =
-    ap (λ x. shown i.space i.attrs x c.tick.new.self c.add.new.self i.report.value) (sampled c)
-    ∙ ap (λ x. shown i.space i.attrs (sampled_then i.sampling (phase_after_pass (i.clock.since + 1) i.attrs.aggr)) x c.add.new.self i.report.value) c.tick.ensures
-    ∙ ap (λ x. shown i.space i.attrs (sampled_then i.sampling (phase_after_pass (i.clock.since + 1) i.attrs.aggr)) (clock_then i.clock) x i.report.value) (totals c)
+    let is : shown i.space i.attrs c.finish-hits.new.self c.tick.new.self c.add.new.self i.report.value i.engine.slots ≡ ended m.core.phase m =
+    ap (λ x. shown i.space i.attrs x c.tick.new.self c.add.new.self i.report.value i.engine.slots) (sampled c)
+    ∙ ap (λ x. shown i.space i.attrs (sampled_then i.sampling (phase_after_pass (i.clock.since + 1) i.attrs.aggr)) x c.add.new.self i.report.value i.engine.slots) c.tick.ensures
+    ∙ ap (λ x. shown i.space i.attrs (sampled_then i.sampling (phase_after_pass (i.clock.since + 1) i.attrs.aggr)) (clock_then i.clock) x i.report.value i.engine.slots) (totals c)
     ∙ ap (λ (x : MonitorView). ended (Checking (row_count x.core)) x) c.self.view_is
     ∙ ap (λ (ph : Phase). ended ph m) (sym c.requires.phase) in
     let fits : IsObserving m.core.phase (row_count m.core) = subst (λ (ph : Phase). IsObserving ph (row_count m.core)) (sym c.requires.phase) refl in

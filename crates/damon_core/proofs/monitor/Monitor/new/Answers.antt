@@ -1,18 +1,27 @@
-use Rattle.std.proofs.Common.{◌≡◌, ℕ, ◌≤◌, ◌<◌, List, [], ◌∷◌, length, ap, sym, subst, arith}
+use Rattle.std.proofs.Common.{◌≡◌, ℕ, ◌≤◌, ◌<◌, false, List, [], ◌∷◌, length, refl, ap, sym, subst, ◌∙◌, arith}
 use Rattle.std.specs.List.{AllByRecursion}
 use Rattle.std.proofs.lemmas.List.{length-map}
 use Rattle.std.proofs.lemmas.List.Elements.{recursion_from_All}
 use Rattle.damon_types.specs.declared.range.Range.{Range}
+use Rattle.damon_types.specs.declared.space.Target.{Target}
 use Rattle.damon_types.specs.Span.{span_of, spans}
 use Rattle.damon_types.specs.Within.{AreWithin}
 use Rattle.region_list.specs.Regions.{RegionList}
 use Rattle.region_list.specs.Tiling.{Tiling}
 use Rattle.region_list.specs.Division.{divided}
 use Rattle.live_commit.specs.SetupView.{value_of}
-use Rattle.damon_core.specs.State.{opening_core, opening_rows}
-use Rattle.damon_core.specs.Kept.{IsMonitor, RowsLieIn}
-use Rattle.damon_core.specs.Report.{ReportBuf}
+use Rattle.damon_core.specs.State.{Core, opening_core, opening_rows}
+use Rattle.damon_core.specs.Kept.{IsMonitor, RowsLieIn, SamplingView}
+use Rattle.damon_core.specs.Report.{ReportBuf, ReportValue}
+use Rattle.scheme_engine.specs.Kept.{IsRunIn}
+use Rattle.live_commit.specs.declared.phase.Phase.TheVariants.{Idle}
+use Rattle.damon_core.specs.Note.{was_hit}
+use Rattle.damon_core.specs.Stands.{bit_at, last_pass}
+use Rattle.damon_core.specs.Totals.{checks_made, hits_made}
+use Rattle.damon_core.proofs.Opening.{opening_holds}
 use Rattle.damon_core.proofs.Rows.{tiling_some}
+use Rattle.damon_core.proofs.Shown.{shown}
+use Rattle.damon_core.proofs.SlotFacts.{serving_opens}
 use Rattle.damon_core.proofs.RowFacts.{counts-divided}
 use Rattle.damon_core.proofs.monitor.Monitor.new.Goals as goal
 
@@ -34,7 +43,7 @@ invariant_of-result c =
     let v = value_of c.args.setup.now in
     let sound = c.args.setup.now.sound in
     let made : c.in_ok-regions.regions ≡ (opening_core v).regions = c.in_ok-regions.ensures in
-    subst (λ x. IsMonitor c.in_ok-space.space v.attrs x (record { ticks = 0; since = 0 }) (record { checks = 0; hits = 0 }) c.in_ok-report.report) (sym c.in_ok-sampling.ensures) (record {
+    subst (λ x. IsMonitor c.in_ok-space.space v.attrs x (record { ticks = 0; since = 0 }) (record { checks = 0; hits = 0 }) c.in_ok-report.report c.in_ok-engine.engine) (sym c.in_ok-sampling.ensures) (record {
       attrs_sound = sound.attrs;
       max = ap (λ (x : RegionList). x.max) made;
       cap_few = omega (arith, sound.cap_most, ap (λ (x : RegionList). x.cap) made);
@@ -46,4 +55,24 @@ invariant_of-result c =
       hits_few = omega arith;
       report_room = omega (arith, ap (λ (x : RegionList). x.cap) made, ap (λ (r : ReportBuf). r.cap) c.in_ok-report.ensures);
       report_in = subst (λ (r : ReportBuf). RowsLieIn c.in_ok-space.space r.value.rows) (sym c.in_ok-report.ensures) (tt {0});
+      runs_in = subst (λ (r : ReportBuf). AllByRecursion (IsRunIn c.in_ok-space.space) r.value.runs) (sym c.in_ok-report.ensures) (tt {0});
+      engine_room = omega (arith, ap (λ (x : RegionList). x.cap) made, c.in_ok-engine.ensures.cap);
+      serving = serving_opens c.in_ok-engine.engine.slots c.in_ok-engine.ensures.new;
     })
+
+pub returns-clause-opening : goal.returns-clause-opening
+returns-clause-opening c =
+    let v = value_of c.args.setup.now in
+    let space = c.in_ok-space.ensures.cases in
+    let made : c.in_ok-regions.regions ≡ (opening_core v).regions = c.in_ok-regions.ensures in
+    let report = ap (λ (b : ReportBuf). b.value) c.in_ok-report.ensures in
+    let bits = ap (λ (s : SamplingView). s.bits) c.in_ok-sampling.ensures in
+    let core : List Target → SamplingView → ReportValue → Core = λ ts s r. (shown ts v.attrs s (record { ticks = 0; since = 0 }) (record { checks = 0; hits = 0 }) r c.in_ok-engine.engine.slots).core in
+    let start : RegionList → SamplingView = λ rs. record { regions = rs; phase = Idle; picks = []; bits = []; before = 0 } in
+    record {
+      same = ap (λ (ts : List Target). core ts c.in_ok-sampling.sampling c.in_ok-report.report.value) space ∙ ap (λ (s : SamplingView). core v.space s c.in_ok-report.report.value) (c.in_ok-sampling.ensures ∙ ap start made) ∙ ap (λ (r : ReportValue). core v.space (start (opening_core v).regions) r) report;
+      results = λ k. (ap (λ bs. bit_at bs k) bits ∙ opening_holds (λ ns. false ≡ was_hit ns (last_pass c.in_ok-sampling.sampling.phase 0) k) refl (λ slot scheme ns none. none) v);
+      checks = opening_holds (λ ns. 0 ≡ checks_made ns) refl (λ slot scheme ns none. none) v;
+      hits = opening_holds (λ ns. 0 ≡ hits_made ns) refl (λ slot scheme ns none. none) v;
+      slots = c.in_ok-engine.ensures.slots;
+    }

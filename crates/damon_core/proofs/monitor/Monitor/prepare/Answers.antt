@@ -22,7 +22,7 @@ invariant_of-self c =
     let idle : i.sampling.phase ≡ Idle = ap (λ (m : MonitorView). m.core.phase) c.self.view_is ∙ c.requires.idle in
     let same = c.regions.ensures.regions in
     let rows = rows_in i.space r.ranges r.unit r.rows (subst (λ (x : RegionList). 1 ≤ x.unit) same c.len-rows.ensures.unit) v.ranges_in (subst (λ (x : RegionList). Tiles x.ranges (spans x.rows) x.unit) same c.len-rows.ensures.tiles) in
-    subst (λ x. IsMonitor i.space i.attrs x i.clock i.totals i.report) (sym c.prepare.ensures) (record {
+    subst (λ x. IsMonitor i.space i.attrs x i.clock i.totals i.report i.engine) (sym c.prepare.ensures) (record {
       attrs_sound = v.attrs_sound;
       max = v.max;
       cap_few = v.cap_few;
@@ -34,6 +34,9 @@ invariant_of-self c =
       hits_few = v.hits_few;
       report_room = v.report_room;
       report_in = v.report_in;
+      runs_in = v.runs_in;
+      engine_room = v.engine_room;
+      serving = v.serving;
     })
 
 pub returns-clause-event : goal.returns-clause-event
@@ -41,8 +44,8 @@ returns-clause-event c s reached stands =
     let i = c.self.inside in
     let m = c.args.self.now in
     let ws = c.args.words.now in
-    let is : shown i.space i.attrs c.prepare.new.self i.clock i.totals i.report.value ≡ after_prepare ws m =
-    ap (λ x. shown i.space i.attrs x i.clock i.totals i.report.value) c.prepare.ensures ∙ ap (after_prepare ws) c.self.view_is in (
+    let is : shown i.space i.attrs c.prepare.new.self i.clock i.totals i.report.value i.engine.slots ≡ after_prepare ws m =
+    ap (λ x. shown i.space i.attrs x i.clock i.totals i.report.value i.engine.slots) c.prepare.ensures ∙ ap (after_prepare ws) c.self.view_is in (
       (prepare_fits m s ws stands c.requires.idle c.requires.words, tt),
       subst (λ (x : MonitorView). Stands x (after s (prepare ws))) (sym is) (prepare_stands m s ws reached stands c.requires.idle),
     )

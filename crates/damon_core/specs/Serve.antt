@@ -1,0 +1,64 @@
+-- What an aggregation does for the slots: their schemes are applied to the rows, one slot after another.
+use Rattle.std.specs.Prelude.{ℕ, zero, suc, ◌+◌, Bool, false, List, [], ◌∷◌, ◌++◌, Option, Some, None, if◌then◌else◌}
+use Rattle.std.specs.Option.{option_map_or}
+use Rattle.damon_types.specs.declared.row.Row.{Row}
+use Rattle.damon_types.specs.declared.scheme.Quota.{Quota}
+use Rattle.damon_types.specs.declared.scheme.Scheme.{Scheme}
+use Rattle.damon_types.specs.declared.space.Target.{Target}
+use Rattle.region_list.specs.Regions.{RegionList}
+use Rattle.quota_charge.specs.Quota.{has_ended, left_of}
+use Rattle.scheme_engine.specs.declared.applied.AppliedRun.{AppliedRun}
+use Rattle.scheme_engine.specs.declared.applied.SlotChoice.{SlotChoice}
+use Rattle.scheme_engine.specs.Outcome.{Outcome, outcome_of}
+use Rattle.scheme_engine.specs.Served.{choice_of, no_choice}
+use Rattle.damon_core.specs.Note.{Note, turned, ran}
+use Rattle.damon_core.specs.Slots.{charged_of, is_active_in, scheme_of, start_of}
+
+-- the rows and the notes after slots were served, the runs that were applied in order, and the choices of the set slots
+pub record Serving : Type 0 where
+  pub rows : List Row
+  pub notes : List Note
+  pub runs : List AppliedRun
+  pub choices : List SlotChoice
+
+-- nothing was served
+abbrev pub nothing_served : RegionList → List Note → Serving
+nothing_served regions notes = record { rows = regions.rows; notes = notes; runs = []; choices = [] }
+
+-- whether the window of a slot ends at a tick: never without a quota
+abbrev pub window_ends : List Note → ℕ → ℕ → Option Quota → Bool
+window_ends notes slot tick None = false
+window_ends notes slot tick (Some quota) = has_ended quota (start_of notes slot) tick
+
+-- notes with that of a window that begins, where the one before ends
+abbrev pub with_turn : ℕ → ℕ → Option Quota → List Note → List Note
+with_turn slot tick quota notes = if window_ends notes slot tick quota then turned slot tick ∷ notes else notes
+
+-- the scheme of a slot was run, with what was left of its quota
+abbrev pub run_served : ℕ → ℕ → Option ℕ → List Note → Outcome → Serving
+run_served slot tick left notes o =
+    record { rows = o.rows; notes = ran slot tick o.tried o.runs o.exceeds ∷ notes; runs = o.runs; choices = choice_of slot left o ∷ [] }
+
+-- a set slot once its window may have begun anew: its scheme is run with what is left of its quota, if it is active
+abbrev pub serve_now : ℕ → List Target → ℕ → ℕ → RegionList → List Note → Scheme → Serving
+serve_now slot space aggr tick regions now scheme =
+    let left = left_of scheme.quota (charged_of now slot) in
+    if is_active_in now slot scheme then run_served slot tick left now (outcome_of slot space aggr scheme left regions)
+    else record { rows = regions.rows; notes = now; runs = []; choices = no_choice slot ∷ [] }
+
+-- a set slot is served: its window may begin anew, and then its scheme may be run
+abbrev pub serve_scheme : ℕ → List Target → ℕ → ℕ → RegionList → List Note → Scheme → Serving
+serve_scheme slot space aggr tick regions notes scheme = serve_now slot space aggr tick regions (with_turn slot tick scheme.quota notes) scheme
+
+-- a slot is served if it is set
+abbrev pub serve_slot : ℕ → List Target → ℕ → ℕ → RegionList → List Note → Serving
+serve_slot slot space aggr tick regions notes =
+    option_map_or (serve_scheme slot space aggr tick regions notes) (scheme_of notes slot) (nothing_served regions notes)
+
+-- n slots are served in order, the first of which has this number, in a space, at the end of an aggregation of `aggr` passes
+abbrev pub serve_slots : ℕ → ℕ → List Target → ℕ → ℕ → RegionList → List Note → Serving
+serve_slots zero slot space aggr tick regions notes = nothing_served regions notes
+serve_slots (suc n) slot space aggr tick regions notes =
+    let first = serve_slot slot space aggr tick regions notes in
+    let others = serve_slots n (slot + 1) space aggr tick (record regions { rows = first.rows }) first.notes in
+    record { rows = others.rows; notes = others.notes; runs = first.runs ++ others.runs; choices = first.choices ++ others.choices }

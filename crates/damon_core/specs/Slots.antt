@@ -1,0 +1,94 @@
+-- What the notes say of a slot: its scheme, whether it is active, its window, and what its scheme has done.
+use Rattle.std.specs.Prelude.{ℕ, ◌+◌, Bool, ◌==◌, List, [], ◌∷◌, ◌++◌, map, sum_by, Option, Some, None, if◌then◌else◌, cond}
+use Rattle.std.specs.List.{range_with_len}
+use Rattle.std.specs.Option.{option_map}
+use Rattle.damon_types.specs.declared.scheme.Scheme.{Scheme}
+use Rattle.watermarks.specs.Active.{is_active}
+use Rattle.scheme_engine.specs.declared.applied.AppliedRun.{AppliedRun}
+use Rattle.scheme_engine.specs.declared.slot.TheConstants.{SLOTS}
+use Rattle.scheme_engine.specs.Slots.{SetScheme, SlotValue}
+use Rattle.damon_core.specs.Note.{Note, set, dropped, metric, turned, ran}
+
+-- the scheme of a slot: the one to which it was set last, unless it was dropped since
+abbrev pub scheme_of : List Note → ℕ → Option Scheme
+scheme_of [] slot = None
+scheme_of (set i scheme ∷ earlier) slot = if i == slot then Some scheme else scheme_of earlier slot
+scheme_of (dropped i ∷ earlier) slot = if i == slot then None else scheme_of earlier slot
+scheme_of (_ ∷ earlier) slot = scheme_of earlier slot
+
+-- the metrics since a slot was set last, the oldest first
+abbrev pub metrics_of : List Note → ℕ → List ℕ
+metrics_of [] slot = []
+metrics_of (set i scheme ∷ earlier) slot = if i == slot then [] else metrics_of earlier slot
+metrics_of (metric value ∷ earlier) slot = metrics_of earlier slot ++ value ∷ []
+metrics_of (_ ∷ earlier) slot = metrics_of earlier slot
+
+-- whether a scheme is active in a slot
+abbrev pub is_active_in : List Note → ℕ → Scheme → Bool
+is_active_in notes slot scheme = is_active scheme.marks (metrics_of notes slot)
+
+-- the tick at which the window of a slot began, 0 before it first turned
+abbrev pub start_of : List Note → ℕ → ℕ
+start_of [] slot = 0
+start_of (turned i tick ∷ earlier) slot = if i == slot then tick else start_of earlier slot
+start_of (_ ∷ earlier) slot = start_of earlier slot
+
+-- the pages of runs
+abbrev pub pages_in : List AppliedRun → ℕ
+pages_in runs = sum_by (λ r. r.pages) runs
+
+-- the pages that were charged to a slot since its window began: those of all its runs
+abbrev pub charged_of : List Note → ℕ → ℕ
+charged_of [] slot = 0
+charged_of (turned i tick ∷ earlier) slot = if i == slot then 0 else charged_of earlier slot
+charged_of (ran i tick tried runs exceeds ∷ earlier) slot =
+    if i == slot then charged_of earlier slot + pages_in runs else charged_of earlier slot
+charged_of (_ ∷ earlier) slot = charged_of earlier slot
+
+-- how many rows matched, over all runs of a slot since it was set last
+abbrev pub tried_of : List Note → ℕ → ℕ
+tried_of [] slot = 0
+tried_of (set i scheme ∷ earlier) slot = if i == slot then 0 else tried_of earlier slot
+tried_of (ran i tick tried runs exceeds ∷ earlier) slot = if i == slot then tried_of earlier slot + tried else tried_of earlier slot
+tried_of (_ ∷ earlier) slot = tried_of earlier slot
+
+-- how many pages its scheme was applied to
+abbrev pub applied_of : List Note → ℕ → ℕ
+applied_of [] slot = 0
+applied_of (set i scheme ∷ earlier) slot = if i == slot then 0 else applied_of earlier slot
+applied_of (ran i tick tried runs exceeds ∷ earlier) slot =
+    if i == slot then applied_of earlier slot + pages_in runs else applied_of earlier slot
+applied_of (_ ∷ earlier) slot = applied_of earlier slot
+
+-- in how many of them a passing page was not taken
+abbrev pub exceeds_of : List Note → ℕ → ℕ
+exceeds_of [] slot = 0
+exceeds_of (set i scheme ∷ earlier) slot = if i == slot then 0 else exceeds_of earlier slot
+exceeds_of (ran i tick tried runs exceeds ∷ earlier) slot =
+    if i == slot then exceeds_of earlier slot + cond exceeds 1 0 else exceeds_of earlier slot
+exceeds_of (_ ∷ earlier) slot = exceeds_of earlier slot
+
+-- a set scheme, by the notes
+abbrev pub set_scheme_of : List Note → ℕ → Scheme → SetScheme
+set_scheme_of notes slot scheme = record {
+  scheme = scheme;
+  gauge = record { marks = scheme.marks; active = is_active_in notes slot scheme };
+  tried = tried_of notes slot;
+  applied = applied_of notes slot;
+  exceeds = exceeds_of notes slot;
+}
+
+-- a slot, by the notes
+abbrev pub slot_of : List Note → ℕ → SlotValue
+slot_of notes slot = record {
+  set = option_map (λ scheme. set_scheme_of notes slot scheme) (scheme_of notes slot);
+  window = record { start = start_of notes slot; charged = charged_of notes slot };
+}
+
+-- the number of slots: a name that does not compute, so that proofs do not go through the slots one by one
+unfoldable pub slot_count : ℕ
+slot_count = SLOTS
+
+-- all slots, by the notes
+abbrev pub slots_of : List Note → List SlotValue
+slots_of notes = map (slot_of notes) (range_with_len 0 slot_count)
