@@ -84,13 +84,9 @@ fn push_whole_rows(
 {
     let mut next = from;
     let mut start = current.start;
-    'whole: while is_whole(rows, next, end, unit, start) {
-        let row = rows[next];
-        made.push(Row {
-            target: current.target,
-            ..row
-        });
+    'whole: while is_whole(rows, next, current.target, end, unit, start) {
         start = row_end(rows, next);
+        made.push(rows[next]);
         next += 1;
     }
     if next == from {
@@ -105,14 +101,16 @@ fn push_whole_rows(
 
 // Whether there is a row with this index, it begins where the current piece does, and its end may be
 // kept.
-fn is_whole(rows: &[Row], index: usize, end: u32, unit: u32, start: u32) -> bool
+fn is_whole(rows: &[Row], index: usize, target: u32, end: u32, unit: u32, start: u32) -> bool
     requires order { RowsInOrder 0 rows.now }
     ensures here { result ≡ true → index < length rows.now }
+    ensures target { result ≡ true → (row_at rows.now index).target ≡ target }
     ensures start { result ≡ true → (row_at rows.now index).start ≡ start }
     ensures end { result ≡ true
         → may_keep_at unit end start (row_end_of (row_at rows.now index)) ≡ true }
 {
     index < rows.len()
+        && rows[index].target == target
         && rows[index].start == start
         && may_keep(unit, end, start, row_end(rows, index))
 }

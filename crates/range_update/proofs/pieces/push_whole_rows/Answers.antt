@@ -27,6 +27,7 @@ whole-preserved c =
     let x = row_end (row_at rows i) in
     let within = kept_within c.args.unit c.args.end c.whole.start x keeps in
     let rest = pieces_from rows t c.args.unit c.args.end x (boundaries (drop (i + 1) rows)) in
+    let next = subst (λ (q : ℕ). pieces_from rows q c.args.unit c.args.end c.whole.start (boundaries (drop i rows)) ≡ row_at rows i ∷ pieces_from rows q c.args.unit c.args.end x (boundaries (drop (i + 1) rows))) (c.whole-test.ensures.target refl) (whole_row rows c.args.unit c.args.end c.whole.start i c.requires.unit c.requires.order here starts keeps) in
     record {
       within = omega (arith, here);
       forward = omega (arith, k.forward);
@@ -39,7 +40,7 @@ whole-preserved c =
       so_far =
           ap (λ n. c.push.new.self.rows ++ pieces_from rows t c.args.unit c.args.end n (boundaries (drop (i + 1) rows))) c.row_end-start.ensures
           ∙ ap (λ (b : RowList). b.rows ++ rest) c.push.ensures
-          ∙ append_assoc c.whole.made.rows (record (row_at rows i) { target = t } ∷ []) rest
-          ∙ ap (λ rs. c.whole.made.rows ++ rs) (sym (whole_row rows t c.args.unit c.args.end c.whole.start i c.requires.unit c.requires.order here starts keeps))
+          ∙ append_assoc c.whole.made.rows (row_at rows i ∷ []) rest
+          ∙ ap (λ rs. c.whole.made.rows ++ rs) (sym next)
           ∙ k.so_far;
     }
