@@ -53,7 +53,7 @@ struct Progress {
 }
 
 // Appends the rows from the index `from` on that are pieces as they are, up to the first that is not.
-// Most rows of a range are such, and a copy costs half as much as two looks at boundaries.
+// Most rows of a range are such, and a copy takes a third of the time of two looks at boundaries.
 fn push_whole_rows(
     rows: &[Row],
     from: usize,
@@ -84,7 +84,8 @@ fn push_whole_rows(
 {
     let mut next = from;
     let mut start = current.start;
-    'whole: while is_whole(rows, next, current.target, end, unit, start) {
+    'whole: while is_whole(rows, next, end, unit, current.target, start) {
+        // Before the push, so that what was read for the test is not read again.
         start = row_end(rows, next);
         made.push(rows[next]);
         next += 1;
@@ -99,9 +100,9 @@ fn push_whole_rows(
     }
 }
 
-// Whether there is a row with this index, it begins where the current piece does, and its end may be
-// kept.
-fn is_whole(rows: &[Row], index: usize, target: u32, end: u32, unit: u32, start: u32) -> bool
+// Whether there is a row with this index that is a piece as it is: it has the target, it begins at the
+// page `start`, where the current piece does, and its end may be kept.
+fn is_whole(rows: &[Row], index: usize, end: u32, unit: u32, target: u32, start: u32) -> bool
     requires order { RowsInOrder 0 rows.now }
     ensures here { result ≡ true → index < length rows.now }
     ensures target { result ≡ true → (row_at rows.now index).target ≡ target }
