@@ -4,7 +4,7 @@ use Rattle.range_update.specs.Order.{row_end}
 use Rattle.range_update.specs.Updated.{boundaries}
 use Rattle.range_update.specs.OpenPiece.{pieces_from}
 use Rattle.range_update.proofs.OrderLemmas.{past_end, past_more, next_after}
-use Rattle.range_update.proofs.PieceLemmas.{opened, whole_row, kept_within, pieces_some, room_on}
+use Rattle.range_update.proofs.PieceLemmas.{whole_row, kept_within, pieces_some, room_on}
 use Rattle.range_update.proofs.pieces.push_whole_rows.Goals as goal
 
 pub push-requires : goal.push-requires
