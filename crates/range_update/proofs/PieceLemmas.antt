@@ -1,5 +1,5 @@
 -- The values and the boundaries of pieces, from the old rows.
-use Rattle.std.proofs.Common.{◌≡◌, ◌⊎◌, inl, inr, ℕ, zero, suc, ◌+◌, ◌≤◌, ◌<◌, Bool, true, false, List, [], ◌∷◌, ◌++◌, length, length-append, drop, refl, ap, ◌∙◌, Option, Some, None, arith}
+use Rattle.std.proofs.Common.{◌≡◌, ◌⊎◌, inl, inr, ℕ, zero, suc, ◌+◌, ◌-◌, ◌≤◌, ◌<◌, Bool, true, false, List, [], ◌∷◌, ◌++◌, length, length-append, drop, refl, sym, ap, ◌∙◌, Option, Some, None, arith}
 use Rattle.std.specs.Prelude.{if◌then◌else◌}
 use Rattle.std.proofs.lemmas.Bool.{cases_lt}
 use Rattle.std.proofs.lemmas.List.{drop_all}
@@ -113,3 +113,20 @@ opened all t from row current target start values held to = values to ∙ rw (ta
 
 pub room_here : (all : List Row) (unit end t : ℕ) (current : Row) (xs : List ℕ) (made whole : List Row) (cap : ℕ) → current.target ≡ t → made ++ pieces_from all t unit end current.start xs ≡ whole → length whole ≤ cap → length made + length (pieces_from all current.target unit end current.start xs) ≤ cap
 room_here all unit end t current xs made whole cap target same room = rw target (omega (arith, ap length same, length-append made (pieces_from all t unit end current.start xs), room))
+
+-- a row of the target that starts where the current piece does, and whose end may be kept, is the next piece
+pub whole_row : (rows : List Row) (unit end from i : ℕ) → 1 ≤ unit → RowsInOrder 0 rows → i < length rows → (row_at rows i).start ≡ from → may_keep unit end from (row_end (row_at rows i)) ≡ true → pieces_from rows (row_at rows i).target unit end from (boundaries (drop i rows)) ≡ row_at rows i ∷ pieces_from rows (row_at rows i).target unit end (row_end (row_at rows i)) (boundaries (drop (i + 1) rows))
+whole_row rows unit end from i some order here start keeps =
+    let r = row_at rows i in
+    let out : may_keep unit end from r.start ≡ false = grind (arith, nat_tests) in
+    let pages : row_end r - r.start ≡ r.pages = omega arith in
+    let first : piece rows r.target from (row_end r) ≡ r =
+    ap (λ n. piece rows r.target n (row_end r)) (sym start)
+    ∙ ap (λ o. piece_of o r.target r.start (row_end r)) (covering_start rows i order here)
+    ∙ ap (λ (n : ℕ). record r { pages = n }) pages in
+    let rest = pieces_from rows r.target unit end (row_end r) (boundaries (drop (i + 1) rows)) in
+    ap (λ rs. pieces_from rows r.target unit end from (boundaries rs)) (drop_row i rows here) ∙ rw (out, keeps) (ap (λ x. x ∷ rest) first)
+
+-- a boundary that may be kept is not after the end of the range
+pub kept_within : (unit end from x : ℕ) → may_keep unit end from x ≡ true → x ≤ end
+kept_within unit end from x keeps = grind (arith, nat_tests)

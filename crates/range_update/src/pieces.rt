@@ -1,5 +1,5 @@
 // The pieces of one new range.
-ghost use Rattle.std.specs.Prelude.{◌≡◌, ℕ, ◌+◌, ◌^◌, ◌≤◌, ◌<◌, List, [], ◌∷◌, ◌++◌, drop, length, if◌then◌else◌};
+ghost use Rattle.std.specs.Prelude.{◌≡◌, ℕ, true, ◌+◌, ◌^◌, ◌≤◌, ◌<◌, List, [], ◌∷◌, ◌++◌, drop, length, if◌then◌else◌};
 ghost use Rattle.damon_types.specs.Ranges.{end_of};
 ghost use Rattle.region_list.specs.Rows.{row_at};
 ghost use Rattle.range_update.specs.Order.{EndBy, RowsInOrder, row_end as row_end_of};
@@ -36,11 +36,84 @@ pub(crate) fn cut_range(
     let first = covering_row(rows, index, range.first);
     let mut current = begin_piece(range.target, range.first, first);
     'rows: while ends_by(rows, index, end) {
-        current = cut_at_row(rows, index, end, unit, current, made);
-        index += 1;
+        let cut = cut_at_row(rows, index, end, unit, current, made);
+        let progress = push_whole_rows(rows, index + 1, end, unit, cut, made);
+        index = progress.next;
+        current = progress.current;
     }
     push_last(rows, index, end, unit, current, made);
     index
+}
+
+// How far a range has been cut: the index of the next old row, and the current piece.
+#[derive(Clone, Copy)]
+struct Progress {
+    next: usize,
+    current: Row,
+}
+
+// Appends the rows from the index `from` on that are pieces as they are, up to the first that is not.
+// Most rows of a range are such, and a copy takes a third of the time of two looks at boundaries.
+fn push_whole_rows(
+    rows: &[Row],
+    from: usize,
+    end: u32,
+    unit: u32,
+    current: Row,
+    made: &mut RowBuf,
+) -> Progress
+    requires order { RowsInOrder 0 rows.now }
+    requires unit { 1 ≤ unit }
+    requires open { IsOpenPiece rows.now current }
+    requires within { from ≤ length rows.now }
+    requires past { EndBy end rows.now from }
+    requires room { length made.old.rows
+        + length (pieces_from rows.now current.target unit end current.start
+        (boundaries (drop from rows.now))) ≤ made.old.cap }
+    ensures within { result.next ≤ length rows.now }
+    ensures forward { from ≤ result.next }
+    ensures past { EndBy end rows.now result.next }
+    ensures open { IsOpenPiece rows.now result.current }
+    ensures target { result.current.target ≡ current.target }
+    ensures start { current.start ≤ end → result.current.start ≤ end }
+    ensures cap { made.new.cap ≡ made.old.cap }
+    ensures made { made.new.rows ++ pieces_from rows.now current.target unit end result.current.start
+        (boundaries (drop result.next rows.now))
+        ≡ made.old.rows ++ pieces_from rows.now current.target unit end current.start
+        (boundaries (drop from rows.now)) }
+{
+    let mut next = from;
+    let mut start = current.start;
+    'whole: while is_whole(rows, next, end, unit, current.target, start) {
+        // Before the push, so that what was read for the test is not read again.
+        start = row_end(rows, next);
+        made.push(rows[next]);
+        next += 1;
+    }
+    if next == from {
+        return Progress { next, current };
+    }
+    let row = covering_row(rows, next, start);
+    Progress {
+        next,
+        current: begin_piece(current.target, start, row),
+    }
+}
+
+// Whether there is a row with this index that is a piece as it is: it has the target, it begins at the
+// page `start`, where the current piece does, and its end may be kept.
+fn is_whole(rows: &[Row], index: usize, end: u32, unit: u32, target: u32, start: u32) -> bool
+    requires order { RowsInOrder 0 rows.now }
+    ensures here { result ≡ true → index < length rows.now }
+    ensures target { result ≡ true → (row_at rows.now index).target ≡ target }
+    ensures start { result ≡ true → (row_at rows.now index).start ≡ start }
+    ensures end { result ≡ true
+        → may_keep_at unit end start (row_end_of (row_at rows.now index)) ≡ true }
+{
+    index < rows.len()
+        && rows[index].target == target
+        && rows[index].start == start
+        && may_keep(unit, end, start, row_end(rows, index))
 }
 
 // A piece that starts at the page, with the values of an old row, or zeros. Its number of pages is set

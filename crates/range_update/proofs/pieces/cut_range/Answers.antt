@@ -25,8 +25,8 @@ rows-init c =
           ∙ ap (λ ks. c.args.made.now.rows ++ pieces rows g.target (end_of g) g.first ks) (sym same);
     }
 
-pub cut_at_row-current-requires-clause-room : goal.cut_at_row-current-requires-clause-room
-cut_at_row-current-requires-clause-room c =
+pub cut_at_row-cut-requires-clause-room : goal.cut_at_row-cut-requires-clause-room
+cut_at_row-cut-requires-clause-room c =
     let rows = c.args.rows.now in
     let g = c.args.range in
     let k = c.rows.invariant in
@@ -39,22 +39,40 @@ push_last-requires-clause-room c =
     let k = c.rows.invariant in
     room_here rows c.args.unit (end_of g) g.target c.rows.current (boundaries (drop c.rows.index rows)) c.rows.made.rows (c.args.made.now.rows ++ range_pieces c.args.unit rows g) c.rows.made.cap k.target k.so_far (omega (arith, c.requires.room, length-append c.args.made.now.rows (range_pieces c.args.unit rows g), k.cap))
 
+pub push_whole_rows-progress-requires-clause-past : goal.push_whole_rows-progress-requires-clause-past
+push_whole_rows-progress-requires-clause-past c =
+    past_more (end_of c.args.range) c.args.rows.now c.rows.index c.rows.invariant.past (c.rows-test.ensures.yes refl).1
+
+pub push_whole_rows-progress-requires-clause-room : goal.push_whole_rows-progress-requires-clause-room
+push_whole_rows-progress-requires-clause-room c =
+    let rows = c.args.rows.now in
+    let g = c.args.range in
+    let k = c.rows.invariant in
+    let cut = c.cut_at_row-cut in
+    let so_far =
+    subst (λ (t : ℕ). cut.new.made.rows ++ pieces_from rows t c.args.unit (end_of g) cut.result.start (boundaries (drop (c.rows.index + 1) rows)) ≡ c.rows.made.rows ++ pieces_from rows t c.args.unit (end_of g) c.rows.current.start (boundaries (drop c.rows.index rows))) k.target cut.ensures.made
+    ∙ k.so_far in
+    room_here rows c.args.unit (end_of g) g.target cut.result (boundaries (drop (c.rows.index + 1) rows)) cut.new.made.rows (c.args.made.now.rows ++ range_pieces c.args.unit rows g) cut.new.made.cap (cut.ensures.target ∙ k.target) so_far (omega (arith, c.requires.room, length-append c.args.made.now.rows (range_pieces c.args.unit rows g), k.cap, cut.ensures.cap))
+
 pub rows-preserved : goal.rows-preserved
 rows-preserved c =
     let rows = c.args.rows.now in
     let g = c.args.range in
     let k = c.rows.invariant in
     let here = c.rows-test.ensures.yes refl in
-    let current = c.cut_at_row-current.result in
+    let cut = c.cut_at_row-cut in
+    let on = c.push_whole_rows-progress in
+    let target = cut.ensures.target ∙ k.target in
     record {
-      within = omega (arith, here.0);
-      forward = omega (arith, k.forward);
-      past = past_more (end_of g) rows c.rows.index k.past here.1;
-      piece = c.cut_at_row-current.ensures.open;
-      target = c.cut_at_row-current.ensures.target ∙ k.target;
-      start = c.cut_at_row-current.ensures.within k.start;
-      cap = c.cut_at_row-current.ensures.cap ∙ k.cap;
+      within = on.ensures.within;
+      forward = omega (arith, k.forward, on.ensures.forward);
+      past = on.ensures.past;
+      piece = on.ensures.open;
+      target = on.ensures.target ∙ target;
+      start = on.ensures.start (cut.ensures.within k.start);
+      cap = on.ensures.cap ∙ cut.ensures.cap ∙ k.cap;
       so_far =
-          subst (λ (t : ℕ). c.cut_at_row-current.new.made.rows ++ pieces_from rows t c.args.unit (end_of g) current.start (boundaries (drop (c.rows.index + 1) rows)) ≡ c.rows.made.rows ++ pieces_from rows t c.args.unit (end_of g) c.rows.current.start (boundaries (drop c.rows.index rows))) k.target c.cut_at_row-current.ensures.made
+          subst (λ (t : ℕ). on.new.made.rows ++ pieces_from rows t c.args.unit (end_of g) on.result.current.start (boundaries (drop on.result.next rows)) ≡ cut.new.made.rows ++ pieces_from rows t c.args.unit (end_of g) cut.result.start (boundaries (drop (c.rows.index + 1) rows))) target on.ensures.made
+          ∙ subst (λ (t : ℕ). cut.new.made.rows ++ pieces_from rows t c.args.unit (end_of g) cut.result.start (boundaries (drop (c.rows.index + 1) rows)) ≡ c.rows.made.rows ++ pieces_from rows t c.args.unit (end_of g) c.rows.current.start (boundaries (drop c.rows.index rows))) k.target cut.ensures.made
           ∙ k.so_far;
     }

@@ -1,0 +1,22 @@
+use Rattle.std.proofs.Common.{◌≡◌, ◌≤◌, ◌<◌, ◌-◌, ◌++◌, length, drop}
+use Rattle.region_list.specs.Rows.{row_at}
+use Rattle.range_update.specs.Order.{EndBy, row_end}
+use Rattle.range_update.specs.Updated.{boundaries}
+use Rattle.range_update.specs.OpenPiece.{pieces_from}
+use Rattle.range_update.proofs.pieces.push_whole_rows.Given as goal
+
+abbrev pub invariant-whole : goal.invariant-whole
+invariant-whole l = record {
+  within : l.next ≤ length l.rows;
+  forward : l.from ≤ l.next;
+  past : EndBy l.end l.rows l.next;
+  none : l.next ≡ l.from → l.start ≡ l.current.start;
+  before : l.from < l.next → EndBy l.start l.rows l.next;
+  after : l.from < l.next → l.next < length l.rows → l.start < row_end (row_at l.rows l.next);
+  low : l.current.start ≤ l.end → l.start ≤ l.end;
+  cap : l.made.cap ≡ l.fn.made.cap;
+  so_far : l.made.rows ++ pieces_from l.rows l.current.target l.unit l.end l.start (boundaries (drop l.next l.rows)) ≡ l.fn.made.rows ++ pieces_from l.rows l.current.target l.unit l.end l.current.start (boundaries (drop l.from l.rows));
+}
+
+abbrev pub decreases-whole : goal.decreases-whole
+decreases-whole l = length l.rows - l.next
