@@ -63,7 +63,7 @@ words_of-put (m ∷ ls) hs is (suc p) l h high =
     ap (λ x. word m x ∷ words_of (set ls p l) (drop 1 is)) (puts_behind hs is p h high)
     ∙ ap (λ ws. word m (slice_index hs 0) ∷ ws) (words_of-put ls (drop 1 hs) (drop 1 is) p l h (puts_rest hs is p h high))
 
-index_of_zeros : (n q : ℕ) → slice_index (replicate n 0) q ≡ 0
+pub index_of_zeros : (n q : ℕ) → slice_index (replicate n 0) q ≡ 0
 index_of_zeros zero q = refl
 index_of_zeros (suc n) zero = refl
 index_of_zeros (suc n) (suc q) = index_of_zeros n q

@@ -1,20 +1,16 @@
 // A pass over three pages with touches in it, an aggregation, and a commit; the expected values were
 // reckoned by hand.
-ghost use Rattle.std.specs.Prelude.{◌≡◌, [], IfOk, None};
-
 use crate::{Stepped, World};
 use damon_core::Changed;
-use damon_types::{Attrs, RangeSpec, RangeSpecs, Space, Target};
+use damon_types::{Attrs, RangeSpec, RangeSpecs, SlotChange, Space, Target};
 use live_commit::{Commit, Phase, Setup};
 use rand_pcg::Lcg64Xsh32;
 use std::alloc::Global;
 use std::process::Abort;
 use std::test::Fail;
 
-// The setup of one target of three pages that is watched whole, without a slot.
-fn three_pages(alloc: Global, aggr: u32) -> Result<Setup, Fail>
-    ensures { IfOk result (λ s. s.slots.list ≡ []) }
-{
+// The setup of one target of three pages that is watched whole.
+fn three_pages(alloc: Global, aggr: u32) -> Result<Setup, Fail> {
     let space = Space::new(
         alloc,
         &[Target {
@@ -177,10 +173,7 @@ fn an_aggregation_is_a_step(rt: HostRuntime) -> Result<(), Fail> {
 }
 
 // The commit of the last two pages of the three.
-fn last_two_pages(alloc: Global) -> Result<Commit, Fail>
-    ensures slot { IfOk result (λ c. c.slot ≡ None) }
-    ensures metric { IfOk result (λ c. c.metric ≡ None) }
-{
+fn last_two_pages(alloc: Global) -> Result<Commit, Fail> {
     let mut ranges = RangeSpecs::new(alloc);
     ranges.push(RangeSpec {
         target: 0,
@@ -216,5 +209,29 @@ fn a_touch_in_a_void_pass_is_no_hit(rt: HostRuntime) -> Result<(), Fail> {
     assert_eq!(rt; monitor.rows().len(), 2);
     assert_eq!(rt; step(&rt, &mut world), Stepped::Prepared);
     assert_eq!(rt; step(&rt, &mut world), Stepped::Cleared { page: 1 });
+    Ok(())
+}
+
+#[test]
+fn a_slot_and_a_metric_leave_the_pass(rt: HostRuntime) -> Result<(), Fail> {
+    let mut world = new_world(rt.alloc(), 5)?;
+    clear(&rt, &mut world);
+    assert_eq!(rt; touch(&rt, &mut world, 1), 1);
+    let commit = Commit {
+        attrs: None,
+        ranges: None,
+        slot: Some(SlotChange {
+            slot: 3,
+            scheme: None,
+        }),
+        metric: Some(7),
+    };
+    let kept = Changed {
+        rows: 3,
+        void: false,
+    };
+    assert_eq!(rt; world.commit(&commit), Ok(kept));
+    check(&rt, &mut world, [false, true, false]);
+    assert_eq!(rt; counts(&rt, &world), [0, 1, 0]);
     Ok(())
 }

@@ -1,4 +1,4 @@
-ghost use Rattle.std.specs.Prelude.{◌≡◌, ◌+◌, ◌-◌, ◌*◌, ◌/◌, ◌^◌, ◌≤◌, ◌<◌, [], ◌∷◌, min, length, IfOk, None, slice_index, vec_capacity};
+ghost use Rattle.std.specs.Prelude.{◌≡◌, ◌+◌, ◌-◌, ◌*◌, ◌/◌, ◌^◌, ◌≤◌, ◌<◌, [], ◌∷◌, min, length, IfOk, slice_index, vec_capacity};
 ghost use Rattle.damon_types.specs.Space.{pages_of};
 ghost use Rattle.live_commit.specs.Commit.{commit_value};
 ghost use Rattle.live_commit.specs.SetupView.{value_of};
@@ -64,10 +64,8 @@ impl<R: Rng> Model for World<R> {
 }
 
 impl<R: Rng + Drop> World<R> {
-    /// A world before its first event: no page was touched. Takes memory; no other call does. The setup
-    /// sets no slot, since schemes are not built yet.
+    /// A world before its first event: no page was touched. Takes memory; no other call does.
     pub fn new(alloc: Global, setup: &Setup, source: R) -> Result<World<R>, AllocError>
-        requires no_slots { setup.now.slots.list ≡ [] }
         ensures core { IfOk result (λ w. w.monitor.core ≡ opening_core (value_of setup.now)) }
         ensures source { IfOk result (λ w. w.source ≡ source) }
         ensures opening { IfOk result (λ w. StandsFor w (opening (value_of setup.now))) }
@@ -113,12 +111,10 @@ impl<R: Rng + Drop> World<R> {
         self.words.sweep(from, to);
     }
 
-    /// Commits new attributes and new ranges, as [`Monitor::commit`] does: returns what that did, or the
-    /// first check that failed; then nothing has changed. The commit has neither a slot change nor a
-    /// metric, which are not built yet.
+    /// Commits new attributes, new ranges, a slot change or a metric, as [`Monitor::commit`] does: returns
+    /// what that did, or the first check that failed; then nothing has changed. No page is touched or
+    /// cleared, and no random word is drawn.
     pub fn commit(&mut self, commit: &Commit) -> Result<Changed, CommitFault>
-        requires slot { commit.now.slot ≡ None }
-        requires metric { commit.now.metric ≡ None }
         ensures answer { result ≡ commit_answer (commit_value commit.now) self.old.monitor.core }
         ensures core { self.new.monitor.core
             ≡ core_after_commit (commit_value commit.now) self.old.monitor.core }

@@ -1,0 +1,15 @@
+use Rattle.std.proofs.Common.{sym, ap, ◌∙◌}
+use Rattle.std.specs.Prelude.{slice_index}
+use Rattle.live_commit.specs.SetupView.{value_of}
+use Rattle.damon_world.proofs.Opening.{word_of-opening}
+use Rattle.damon_world.proofs.Parts.{index_of_zeros}
+use Rattle.damon_world.proofs.world.World.new.Goals as goal
+
+pub returns-clause-opening : goal.returns-clause-opening
+returns-clause-opening g c = record {
+  monitor = c.in_ok-monitor.ensures.opening;
+  words = λ p below.
+      ap (λ ws. slice_index ws p) c.in_ok-words.ensures
+      ∙ index_of_zeros c.pages.result p
+      ∙ sym (word_of-opening (value_of c.args.setup.now) p);
+}
