@@ -1,6 +1,5 @@
 -- What a player keeps: none of it is promised to callers.
-use Rattle.std.specs.Prelude.{◌≡◌, ℕ, ◌+◌, ◌≤◌, ◌^◌, Bool, false, ◌||◌, ◌==◌, List, [], ◌∷◌, None}
-use Rattle.std.specs.List.{AllByRecursion}
+use Rattle.std.specs.Prelude.{ℕ, ◌+◌, ◌≤◌, ◌^◌, Bool, false, ◌||◌, ◌==◌, List, [], ◌∷◌}
 use Rattle.damon_types.specs.Space.{pages_of}
 use Rattle.live_commit.specs.declared.phase.Phase.{Phase}
 use Rattle.damon_world.specs.Stands.{WorldView}
@@ -26,13 +25,7 @@ abbrev pub ArePartsWithin : ℕ → List Part → Type 0
 ArePartsWithin pages [] = Unit {0}
 ArePartsWithin pages (p ∷ ps) = IsPartWithin pages p × ArePartsWithin pages ps
 
--- a part is no commit of a slot or a metric, which are not built yet
-abbrev pub IsBuilt : Part → Type 0
-IsBuilt (part.Commit parts) = (parts.slot ≡ None) × (parts.metric ≡ None)
-IsBuilt _ = Unit {0}
-
--- the pages of the parts are pages of the world's space, what is left keeps the passes below 2^40, and it is built
+-- the pages of the parts are pages of the world's space, and what is left keeps the passes below 2^40
 pub record IsPlayer {R : Type 0} (w : WorldView R) (parts : List Part) : Type 0 where
   pub within : ArePartsWithin (pages_of w.monitor.core.space) parts
   pub work : w.monitor.core.ticks + left_in parts ≤ 2 ^ 40
-  pub built : AllByRecursion IsBuilt parts

@@ -1,7 +1,6 @@
 pub mod Part
 pub mod Parts
 pub mod Unfold
-pub mod NotBuilt
 pub mod Report
 pub mod Player
 pub mod Kept

@@ -9,9 +9,6 @@ mod part;
 mod player;
 /// The random words of a script.
 mod random;
-/// What of a script is not built yet.
-mod script;
 
 pub use laws::{each_script_is_bound, passes_reach_their_phase};
 pub use player::{Filled, PIECE, Player, open_player};
-pub use script::has_later_parts;

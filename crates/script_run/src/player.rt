@@ -1,11 +1,10 @@
-ghost use Rattle.std.specs.Prelude.{◌≡◌, ◌≢◌, ◌+◌, ◌<◌, ◌≤◌, ◌^◌, ◌∷◌, ◌++◌, [], All, None, Ok, IfOk, OnErr, OnOk, true, false, length, map, ℕ, List, vec_len};
+ghost use Rattle.std.specs.Prelude.{◌≡◌, ◌≢◌, ◌+◌, ◌<◌, ◌≤◌, ◌^◌, ◌∷◌, ◌++◌, [], Ok, IfOk, OnErr, OnOk, true, false, length, map, ℕ, List, vec_len};
 ghost use Rattle.rand_core.specs.Steps.{stream_of, steps_u32};
 ghost use Rattle.rand_pcg.specs.Pcg.{pcg32};
 ghost use Rattle.damon_types.specs.Space.{pages_of};
 ghost use Rattle.damon_control.specs.Command.{command_value, work_of};
 ghost use Rattle.damon_control.specs.Limits.{EachIsWithin};
 ghost use Rattle.damon_control.specs.ScriptView.{said_by};
-ghost use Rattle.script_run.specs.NotBuilt.{has_later_parts};
 ghost use Rattle.damon_core.specs.Commit.{commit_answer};
 ghost use Rattle.damon_core.specs.Event.{commit as commit_event};
 ghost use Rattle.damon_core.specs.Makes.{Makes};
@@ -245,8 +244,6 @@ fn make_commit<R: Rng + Drop>(
     world: &mut World<R>,
     commit: &Commit,
 ) -> Result<(), AllocError>
-    requires slot { commit.now.slot ≡ None }
-    requires metric { commit.now.metric ≡ None }
     ensures ok { OnOk result (out.new.items ≡ out.old.items
         ++ commit_text form world.old.monitor.core.ticks
         (commit_answer (commit_value commit.now) world.old.monitor.core)) }
@@ -260,9 +257,9 @@ fn make_commit<R: Rng + Drop>(
     print_commit(alloc, out, form, world.monitor().ticks(), &answer)
 }
 
-/// A player before the first event of a script that has no scheme, and no commit with a slot change
-/// or a metric. Its random words are those of the script's seed. The pages of the commands are pages
-/// of the script's space, and their work is at most [`MAX_WORK`]. Takes memory.
+/// A player before the first event of a script. Its random words are those of the script's seed. The
+/// pages of the commands are pages of the script's space, and their work is at most [`MAX_WORK`].
+/// Takes memory.
 pub fn open_player(
     alloc: Global,
     script: Script,
@@ -270,7 +267,6 @@ pub fn open_player(
 ) -> Result<Player<Lcg64Xsh32>, AllocError>
     requires within { EachIsWithin (pages_of script.setup.space) script.commands.list }
     requires work { work_of script.setup.cap (map command_value script.commands.list) ≤ MAX_WORK }
-    requires built { has_later_parts (said_by script) ≡ false }
     ensures { IfOk result (λ p.
         IsOnItsWay (stream_of (steps_u32 pcg32)) (said_by script) form p []) }
 {

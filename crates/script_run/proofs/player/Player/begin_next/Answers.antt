@@ -1,6 +1,5 @@
 use Rattle.std.proofs.Common.{◌≡◌, ℕ, ◌+◌, ◌<◌, ◌≤◌, suc, List, ◌∷◌, [], ◌++◌, length, drop, map, Some, add-one, refl, sym, ap, ◌∙◌, subst, arith}
 use Rattle.std.specs.Prelude.{slice_get}
-use Rattle.std.specs.List.{AllByRecursion}
 use Rattle.std.proofs.Math.Seq.{drop-cons}
 use Rattle.std.proofs.lemmas.List.{drop_all}
 use Rattle.std.proofs.lemmas.Option.{get_or_from_slice_get}
@@ -16,7 +15,7 @@ use Rattle.live_commit.specs.Commit.{commit_value}
 use Rattle.snapshot_print.specs.Commit.{commit_text}
 use Rattle.script_run.specs.Part.{Part, part_value}
 use Rattle.script_run.specs.Part as part
-use Rattle.script_run.specs.Kept.{ArePartsWithin, IsBuilt, IsPlayer}
+use Rattle.script_run.specs.Kept.{ArePartsWithin, IsPlayer}
 use Rattle.script_run.specs.Player.{left_in, left_of}
 use Rattle.script_run.specs.Parts.{part_of, parts_of}
 use Rattle.script_run.proofs.Moves.{commit_made, is_over, next_begins, on-none}
@@ -40,7 +39,6 @@ player-next w p q cap i cs c here get value kept =
     record {
       within = subst (ArePartsWithin (pages_of w.monitor.core.space)) is kept.within.1;
       work = omega (arith, kept.work, less_left p (parts_of cap (map command_value (drop i cs))), ap left_in is);
-      built = subst (AllByRecursion IsBuilt) is kept.built.1;
     }
 
 -- the same once the part under way is done, at one event that changes neither the space nor the ticks
@@ -48,7 +46,6 @@ player-made : {R : Type 0} (w w' : WorldView R) (q : Part) (new : List Part) →
 player-made w w' q new one space ticks kept = record {
   within = (omega arith, subst (λ sp. ArePartsWithin (pages_of sp) new) (sym space) kept.within.1);
   work = omega (arith, kept.work, ticks, less_left q new, less_left (part.Touches 0 0) new);
-  built = (tt, kept.built.1);
 }
 
 pub returns-then-self-len-clause-on : goal.returns-then-self-len-clause-on
@@ -66,18 +63,6 @@ invariant_of-self g c =
     let p = c.self.inside in
     let here : p.begun < length p.commands.list = omega (arith, c.if-self-len.false, c.len.ensures) in
     player-next p.world (part_value p.part) (part_value c.in-Part.part) p.cap p.begun p.commands.list c.get.result.now here c.get.ensures c.in-Part.ensures c.self.invariant
-
-pub make_commit-requires-clause-slot : goal.make_commit-requires-clause-slot
-make_commit-requires-clause-slot g c =
-    let p = c.self.inside in
-    let here : p.begun < length p.commands.list = omega (arith, c.if-self-len.false, c.len.ensures) in
-    (player-next p.world (part_value p.part) (part.Commit (commit_value c.in-Commit.commit.now)) p.cap p.begun p.commands.list c.get.result.now here c.get.ensures c.in-Commit.ensures c.self.invariant).built.0.0
-
-pub make_commit-requires-clause-metric : goal.make_commit-requires-clause-metric
-make_commit-requires-clause-metric g c =
-    let p = c.self.inside in
-    let here : p.begun < length p.commands.list = omega (arith, c.if-self-len.false, c.len.ensures) in
-    (player-next p.world (part_value p.part) (part.Commit (commit_value c.in-Commit.commit.now)) p.cap p.begun p.commands.list c.get.result.now here c.get.ensures c.in-Commit.ensures c.self.invariant).built.0.1
 
 pub invariant_of-self-in_err-make_commit-in-Commit :
     goal.invariant_of-self-in_err-make_commit-in-Commit
