@@ -1,7 +1,7 @@
 -- What the status of a replay says, failure by failure.
-use Rattle.std.proofs.Common.{◌≡◌, ◌⊎◌, inl, inr, ℕ, ◌≤◌, true, false, List, ◌++◌, length, Option, Some, None, Result, Ok, Err, refl, sym, ap, ◌∙◌, subst, append-nil}
+use Rattle.std.proofs.Common.{◌≡◌, ◌⊎◌, inl, inr, ℕ, ◌≤◌, List, ◌++◌, length, Option, Some, None, Result, Ok, Err, refl, sym, ap, ◌∙◌, subst, append-nil}
 use Rattle.std.specs.Prelude.{IsSome, IfSome}
-use Rattle.std.specs.Io.KnownBytes.{Consumes, IsAtEnd}
+use Rattle.std.specs.Io.KnownBytes.{Appends, Consumes, IsAtEnd}
 use Rattle.damon_types.specs.Causes.{Rose}
 use Rattle.damon_control.specs.Script.{ScriptValue, script_of}
 use Rattle.damon_control.specs.declared.fault.ReadFail.{ReadFail}
@@ -9,7 +9,6 @@ use Rattle.damon_control.specs.declared.fault.ReadFail.TheVariants as reads
 use Rattle.damon_control.specs.declared.fault.ScriptFault.{ScriptFault}
 use Rattle.damon_control.specs.declared.fault.ScriptKind.{ScriptKind}
 use Rattle.snapshot_print.specs.declared.form.Form.TheVariants.{Text}
-use Rattle.script_run.specs.NotBuilt.{has_later_parts}
 use Rattle.script_run.specs.Report.{report}
 use Rattle.damon_app.specs.declared.input.InputFault.{InputFault}
 use Rattle.damon_app.specs.declared.input.InputFault.TheVariants as inputs
@@ -18,11 +17,11 @@ use Rattle.damon_app.specs.declared.status.Status.TheVariants as statuses
 use Rattle.damon_app.specs.Given.{GaveOver, GaveUpTo}
 use Rattle.damon_app.specs.Taken.{WritesPart}
 use Rattle.damon_app.specs.Causes.{input_status, read_status}
-use Rattle.damon_app.specs.Replay.{Replays, SpellsLater, TellsFault, TellsLater, WritesPrefix}
+use Rattle.damon_app.specs.Replay.{Replays, TellsFault, WritesPrefix}
 use Rattle.damon_app.specs.StatusOf.{IsFailure, status_of_input, status_of_spelled}
 use Rattle.damon_app.specs.Answers.{Ends, EndsRun, IsAnswer}
-use Rattle.damon_app.proofs.Known.{GaveUpTo-not_over}
-use Rattle.damon_app.proofs.Statuses.{had_over, status_of_input-long, status_of_input-short, status_of_script-built, status_of_script-later}
+use Rattle.damon_app.proofs.Known.{GaveUpTo-not_over, WritesPart-whole}
+use Rattle.damon_app.proofs.Statuses.{had_over, status_of_input-long, status_of_input-short}
 
 -- what holds of no bytes in particular
 untold : (P : List ℕ → Type 0) (told : Option (List ℕ)) → ((bytes : List ℕ) → P bytes) → IfSome told P
@@ -60,8 +59,6 @@ module _ (limit : ℕ) (source source' sink sink' : Ends) (same : Type 0) where
     complete = failed statuses.Memory tt;
     too_long = λ not known. absurd (not refl);
     script = λ no. absurd no;
-    not_yet = λ e. absurd (cc e);
-    later = λ no. absurd no;
     read = λ e. absurd (cc e);
     write = λ e. absurd (cc e);
     asked = λ e. absurd (cc e);
@@ -82,8 +79,6 @@ module _ (limit : ℕ) (source source' sink sink' : Ends) (same : Type 0) where
     complete = failed statuses.ReadFault (cause refl);
     too_long = λ not known. ((λ e. absurd (cc e)), (λ gave. absurd (GaveUpTo-not_over limit source.bytes source'.bytes known (within refl) gave)));
     script = λ no. absurd no;
-    not_yet = λ e. absurd (cc e);
-    later = λ no. absurd no;
     read = λ e. cause refl;
     write = λ e. absurd (cc e);
     asked = λ e. absurd (cc e);
@@ -96,8 +91,6 @@ module _ (limit : ℕ) (source source' sink sink' : Ends) (same : Type 0) where
     complete = had_over limit source.bytes source'.bytes (HasStatus statuses.TooLong) (over refl) (λ bytes long. inl (sym (status_of_input-long limit bytes long)));
     too_long = λ not known. ((λ e. over refl), (λ gave. refl));
     script = λ no. absurd no;
-    not_yet = λ e. absurd (cc e);
-    later = λ no. absurd no;
     read = λ e. absurd (cc e);
     write = λ e. absurd (cc e);
     asked = λ e. absurd (cc e);
@@ -114,22 +107,20 @@ module _ (limit : ℕ) (source source' sink sink' : Ends) (same : Type 0) where
     of_bytes P holds = read_whole P source.bytes source'.bytes bytes all end holds
 
     -- the status is the one of what the text spells
-    has_status : (spelled : Result ScriptValue ScriptFault) (status : Status) → script_of bytes ≡ spelled → status_of_spelled spelled ≡ status → IfSome source.bytes (HasStatus status)
-    has_status spelled status spells is = of_bytes (HasStatus status) (inl (sym (status_of_input-short limit bytes spelled few spells ∙ is)))
+    has_status : (spelled : Result ScriptValue ScriptFault) → script_of bytes ≡ spelled → IfSome source.bytes (HasStatus (status_of_spelled spelled))
+    has_status spelled spells = of_bytes (HasStatus (status_of_spelled spelled)) (inl (sym (status_of_input-short limit bytes spelled few spells)))
 
     -- the text has this fault
     faulty : (fault : ScriptFault) → same → script_of bytes ≡ Err fault → IsAnswer limit source source' sink sink' same (statuses.Script fault.line fault.kind)
     faulty fault is spells = record {
       ok = λ e. absurd (cc e);
       end = λ yes. end;
-      complete = has_status (Err fault) (statuses.Script fault.line fault.kind) spells refl;
+      complete = has_status (Err fault) spells;
       too_long = λ not known. ((λ e. absurd (cc e)), (λ gave. absurd (not_over known gave)));
       script = λ yes. of_bytes (TellsFault (statuses.Script fault.line fault.kind)) (λ other. (
         (λ e. spells ∙ ap (λ f. Err f) (same_fault fault other (cc e) (cc e))),
         (λ e. let one : Err fault ≡ Err other = sym spells ∙ e in let equal : fault ≡ other = cc one in rw equal refl),
       ));
-      not_yet = λ e. absurd (cc e);
-      later = λ yes. of_bytes (TellsLater (statuses.Script fault.line fault.kind)) (λ s spelt has. absurd (let two : Err fault ≡ Ok s = sym spells ∙ spelt in cc two));
       read = λ e. absurd (cc e);
       write = λ e. absurd (cc e);
       asked = λ e. absurd (cc e);
@@ -148,68 +139,42 @@ module _ (limit : ℕ) (source source' sink sink' : Ends) (same : Type 0) where
       no_fault : (status : Status) → ((fault : ScriptFault) → status ≡ statuses.Script fault.line fault.kind → ⊥) → TellsFault status bytes
       no_fault status not fault = ((λ e. absurd (not fault e)), (λ e. absurd (let two : Ok s ≡ Err fault = sym spells ∙ e in cc two)))
 
-      -- the script has no part that is not built
-      no_later : (status : Status) → has_later_parts s ≡ false → TellsLater status bytes
-      no_later status built t spelt has = absurd (let one : Ok s ≡ Ok t = sym spells ∙ spelt in let equal : s ≡ t = cc one in cc (built, has, equal))
-
-      -- the script has a part that is not built
-      pub not_built : same → has_later_parts s ≡ true → IsAnswer limit source source' sink sink' same statuses.NotYet
-      not_built is has = record {
-        ok = λ e. absurd (cc e);
-        end = λ yes. end;
-        complete = has_status (Ok s) statuses.NotYet spells (status_of_script-later s has);
-        too_long = λ not known. ((λ e. absurd (cc e)), (λ gave. absurd (not_over known gave)));
-        script = λ yes. of_bytes (TellsFault statuses.NotYet) (no_fault statuses.NotYet (λ fault e. cc e));
-        not_yet = λ e. of_bytes SpellsLater (s, spells, has);
-        later = λ yes. of_bytes (TellsLater statuses.NotYet) (λ t spelt has. refl);
-        read = λ e. absurd (cc e);
-        write = λ e. absurd (cc e);
-        asked = λ e. absurd (cc e);
-        unwritten = λ yes. is;
-        prefix = alone source.bytes sink.bytes sink'.bytes same is;
-      }
-
       -- what the sink took of the report
-      prefix_of : has_later_parts s ≡ false → WritesPart sink.bytes sink'.bytes (report Text s) → IfSome source.bytes (λ bs. same ⊎ WritesPrefix bs sink.bytes sink'.bytes)
-      prefix_of built part = of_bytes (λ bs. same ⊎ WritesPrefix bs sink.bytes sink'.bytes) (inr (s, spells, built, part))
+      prefix_of : WritesPart sink.bytes sink'.bytes (report Text s) → IfSome source.bytes (λ bs. same ⊎ WritesPrefix bs sink.bytes sink'.bytes)
+      prefix_of part = of_bytes (λ bs. same ⊎ WritesPrefix bs sink.bytes sink'.bytes) (inr (s, spells, part))
 
       -- the run of the script did not end
-      pub not_run : (status : Status) → has_later_parts s ≡ false → EndsRun status → (status ≡ statuses.WriteFault → Rose sink.faults sink'.faults) → WritesPart sink.bytes sink'.bytes (report Text s) → IsAnswer limit source source' sink sink' same status
-      not_run statuses.WriteFault built ends cause part = record {
+      pub not_run : (status : Status) → EndsRun status → (status ≡ statuses.WriteFault → Rose sink.faults sink'.faults) → WritesPart sink.bytes sink'.bytes (report Text s) → IsAnswer limit source source' sink sink' same status
+      not_run statuses.WriteFault ends cause part = record {
         ok = λ e. absurd (cc e);
         end = λ yes. end;
         complete = failed statuses.WriteFault (cause refl);
         too_long = λ not known. ((λ e. absurd (cc e)), (λ gave. absurd (not_over known gave)));
         script = λ yes. of_bytes (TellsFault statuses.WriteFault) (no_fault statuses.WriteFault (λ fault e. cc e));
-        not_yet = λ e. absurd (cc e);
-        later = λ yes. of_bytes (TellsLater statuses.WriteFault) (no_later statuses.WriteFault built);
         read = λ e. absurd (cc e);
         write = λ e. cause refl;
         asked = λ e. absurd (cc e);
         unwritten = λ no. absurd no;
-        prefix = prefix_of built part;
+        prefix = prefix_of part;
       }
-      not_run statuses.Memory built ends cause part = no_memory (prefix_of built part)
-      not_run statuses.Ok built ends cause part = absurd ends
-      not_run statuses.NotYet built ends cause part = absurd ends
-      not_run statuses.Usage built ends cause part = absurd ends
-      not_run (statuses.Script line kind) built ends cause part = absurd ends
-      not_run statuses.TooLong built ends cause part = absurd ends
-      not_run statuses.ReadFault built ends cause part = absurd ends
+      not_run statuses.Memory ends cause part = no_memory (prefix_of part)
+      not_run statuses.Ok ends cause part = absurd ends
+      not_run statuses.Usage ends cause part = absurd ends
+      not_run (statuses.Script line kind) ends cause part = absurd ends
+      not_run statuses.TooLong ends cause part = absurd ends
+      not_run statuses.ReadFault ends cause part = absurd ends
 
       -- the whole report was written
-      pub replayed : has_later_parts s ≡ false → Replays bytes sink.bytes sink'.bytes → WritesPart sink.bytes sink'.bytes (report Text s) → IsAnswer limit source source' sink sink' same statuses.Ok
-      replayed built replays part = record {
-        ok = λ e. of_bytes (λ bs. Replays bs sink.bytes sink'.bytes) replays;
+      pub replayed : Appends sink.bytes sink'.bytes (report Text s) → IsAnswer limit source source' sink sink' same statuses.Ok
+      replayed all_written = record {
+        ok = λ e. of_bytes (λ bs. Replays bs sink.bytes sink'.bytes) (record { script = s; spells = spells; report = all_written });
         end = λ yes. end;
-        complete = has_status (Ok replays.script) statuses.Ok replays.spells (status_of_script-built replays.script replays.built);
+        complete = has_status (Ok s) spells;
         too_long = λ not known. ((λ e. absurd (cc e)), (λ gave. absurd (not_over known gave)));
         script = λ yes. of_bytes (TellsFault statuses.Ok) (no_fault statuses.Ok (λ fault e. cc e));
-        not_yet = λ e. absurd (cc e);
-        later = λ yes. of_bytes (TellsLater statuses.Ok) (no_later statuses.Ok built);
         read = λ e. absurd (cc e);
         write = λ e. absurd (cc e);
         asked = λ e. absurd (cc e);
         unwritten = λ no. absurd no;
-        prefix = prefix_of built part;
+        prefix = prefix_of (WritesPart-whole sink.bytes sink'.bytes (report Text s) all_written);
       }

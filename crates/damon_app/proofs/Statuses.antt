@@ -1,13 +1,12 @@
 -- The status of an input, case by case.
-use Rattle.std.proofs.Common.{◌≡◌, ℕ, ◌≤◌, ◌<◌, true, false, List, length, Option, Some, None, Result, refl, ap, ◌∙◌, arith, length-append}
+use Rattle.std.proofs.Common.{◌≡◌, ℕ, ◌≤◌, ◌<◌, List, length, Option, Some, None, Result, refl, ap, ◌∙◌, arith, length-append}
 use Rattle.std.specs.Prelude.{IfSome}
 use Rattle.std.proofs.lemmas.Bool.{lt-ltb, le-ltb}
 use Rattle.damon_control.specs.Script.{ScriptValue, script_of}
 use Rattle.damon_control.specs.declared.fault.ScriptFault.{ScriptFault}
-use Rattle.script_run.specs.NotBuilt.{has_later_parts}
 use Rattle.damon_app.specs.declared.status.Status.TheVariants as statuses
 use Rattle.damon_app.specs.Given.{GaveOver}
-use Rattle.damon_app.specs.StatusOf.{status_of_input, status_of_script, status_of_spelled}
+use Rattle.damon_app.specs.StatusOf.{status_of_input, status_of_spelled}
 
 -- known bytes of which more were given are more
 pub had_over : (limit : ℕ) (a b : Option (List ℕ)) (P : List ℕ → Type 0) → GaveOver limit a b → ((bytes : List ℕ) → limit < length bytes → P bytes) → IfSome a P
@@ -23,9 +22,3 @@ status_of_input-short limit bytes spelled few spells = by ∙ ap status_of_spell
   where
     by : status_of_input limit bytes ≡ status_of_spelled (script_of bytes)
     by = rw (le-ltb limit (length bytes) few) refl
-
-pub status_of_script-built : (s : ScriptValue) → has_later_parts s ≡ false → status_of_script s ≡ statuses.Ok
-status_of_script-built s built = rw built refl
-
-pub status_of_script-later : (s : ScriptValue) → has_later_parts s ≡ true → status_of_script s ≡ statuses.NotYet
-status_of_script-later s has = rw has refl

@@ -6,7 +6,7 @@ use Rattle.damon_app.specs.declared.status.Status.{Status}
 use Rattle.damon_app.specs.declared.status.Status.TheVariants as statuses
 use Rattle.damon_app.specs.Given.{GaveOver}
 use Rattle.damon_app.specs.StatusOf.{IsFailure, status_of_input}
-use Rattle.damon_app.specs.Replay.{IsRead, IsUnwritten, Replays, SpellsLater, TellsFault, TellsLater, WritesPrefix}
+use Rattle.damon_app.specs.Replay.{IsRead, IsUnwritten, Replays, TellsFault, WritesPrefix}
 
 -- the status that a result becomes
 abbrev pub status_of : Result (Unit {0}) Status → Status
@@ -34,8 +34,6 @@ pub record IsAnswer (limit : ℕ) (source source' sink sink' : Ends) (same : Typ
   pub too_long : status ≢ statuses.Memory → IsSome source.bytes
       → (status ≡ statuses.TooLong) ↔ GaveOver limit source.bytes source'.bytes
   pub script : IsRead status → IfSome source.bytes (TellsFault status)
-  pub not_yet : status ≡ statuses.NotYet → IfSome source.bytes SpellsLater
-  pub later : IsRead status → IfSome source.bytes (TellsLater status)
   pub read : status ≡ statuses.ReadFault → Rose source.faults source'.faults
   pub write : status ≡ statuses.WriteFault → Rose sink.faults sink'.faults
   pub asked : status ≢ statuses.Usage

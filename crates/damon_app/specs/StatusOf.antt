@@ -2,17 +2,12 @@
 use Rattle.std.specs.Prelude.{ℕ, nat_lt, if◌then◌else◌, List, length, Result, Ok, Err}
 use Rattle.damon_control.specs.Script.{ScriptValue, script_of}
 use Rattle.damon_control.specs.declared.fault.ScriptFault.{ScriptFault}
-use Rattle.script_run.specs.NotBuilt.{has_later_parts}
 use Rattle.damon_app.specs.declared.status.Status.{Status}
 use Rattle.damon_app.specs.declared.status.Status.TheVariants as statuses
 
--- the status of a script: `NotYet` where it has a part that is not built yet, else `Ok`
-abbrev pub status_of_script : ScriptValue → Status
-status_of_script s = if has_later_parts s then statuses.NotYet else statuses.Ok
-
--- the status of what a text spells: a script, or its first fault
+-- the status of what a text spells: `Ok` for a script, else its first fault
 abbrev pub status_of_spelled : Result ScriptValue ScriptFault → Status
-status_of_spelled (Ok s) = status_of_script s
+status_of_spelled (Ok s) = statuses.Ok
 status_of_spelled (Err fault) = statuses.Script fault.line fault.kind
 
 -- the status of the bytes of an input, of which at most `limit` are allowed

@@ -1,4 +1,4 @@
-ghost use Rattle.std.specs.Prelude.{◌≡◌, ◌≢◌, ◌≤◌, ◌⊎◌, ◌↔◌, ℕ, true, false, IfSome, IfErr, IsTrue, IsSome, IsErrOf, OnOk, All, map};
+ghost use Rattle.std.specs.Prelude.{◌≡◌, ◌≢◌, ◌≤◌, ◌⊎◌, ◌↔◌, IfSome, IfErr, IsTrue, IsSome, IsErrOf, OnOk, All, map};
 ghost use Rattle.std.specs.Io.KnownBytes.{Appends, IsAtEnd};
 ghost use Rattle.damon_types.specs.Causes.{Rose};
 ghost use Rattle.damon_types.specs.Space.{pages_of};
@@ -6,18 +6,17 @@ ghost use Rattle.damon_control.specs.Command.{command_value, work_of};
 ghost use Rattle.damon_control.specs.Limits.{EachIsWithin};
 ghost use Rattle.damon_control.specs.ScriptView.{said_by};
 ghost use Rattle.script_run.specs.BoundAlong.{EachScriptIsBound};
-ghost use Rattle.script_run.specs.NotBuilt.{has_later_parts};
 ghost use Rattle.script_run.specs.Report.{report};
 ghost use Rattle.damon_app.specs.Given.{GaveOver};
 ghost use Rattle.damon_app.specs.Taken.{WritesPart};
 ghost use Rattle.damon_app.specs.StatusOf.{IsFailure, status_of_input};
-ghost use Rattle.damon_app.specs.Replay.{AsksReplay, IsRead, IsUnwritten, Replays, SpellsLater, TellsFault, TellsLater, WritesPrefix};
+ghost use Rattle.damon_app.specs.Replay.{AsksReplay, IsRead, IsUnwritten, Replays, TellsFault, WritesPrefix};
 ghost use Rattle.damon_app.specs.Answers.{EndsRun, IsAnswer, status_of};
 
 use crate::{INPUT_LIMIT, Status, read_all, write_all};
 use damon_control::{MAX_WORK, Script, read_script};
 use damon_types::{Sink, Source};
-use script_run::{Filled, each_script_is_bound, has_later_parts, open_player};
+use script_run::{Filled, each_script_is_bound, open_player};
 use snapshot_print::Form;
 use std::alloc::Global;
 
@@ -49,8 +48,6 @@ pub fn replay_main<S: Source, K: Sink>(
     ensures too_long { result ≢ Status.Memory → IsSome (S.left source.old) →
         (result ≡ Status.TooLong) ↔ GaveOver INPUT_LIMIT (S.left source.old) (S.left source.new) }
     ensures script { IsRead result → IfSome (S.left source.old) (TellsFault result) }
-    ensures not_yet { result ≡ Status.NotYet → IfSome (S.left source.old) SpellsLater }
-    ensures later { IsRead result → IfSome (S.left source.old) (TellsLater result) }
     ensures read { result ≡ Status.ReadFault → Rose (S.faults source.old) (S.faults source.new) }
     ensures write { result ≡ Status.WriteFault → Rose (K.faults sink.old) (K.faults sink.new) }
 
@@ -91,9 +88,6 @@ fn replay<S: Source, K: Sink>(alloc: Global, source: &mut S, sink: &mut K) -> Re
 {
     let bytes = read_all(alloc, source)?;
     let script = read_script(alloc, &bytes)?;
-    if has_later_parts(&script) {
-        return Err(Status::NotYet);
-    }
     write_report(alloc, script, sink)?;
     Ok(())
 }
@@ -102,7 +96,6 @@ fn replay<S: Source, K: Sink>(alloc: Global, source: &mut S, sink: &mut K) -> Re
 fn write_report<K: Sink>(alloc: Global, script: Script, sink: &mut K) -> Result<(), Status>
     requires within { EachIsWithin (pages_of script.setup.space) script.commands.list }
     requires work { work_of script.setup.cap (map command_value script.commands.list) ≤ MAX_WORK }
-    requires built { has_later_parts (said_by script) ≡ false }
 
     // The sink gained the report of the script.
     ensures all { OnOk result

@@ -120,6 +120,22 @@ commit tick=1 refused busy next=1
 end ticks=1 rows=2 checks=0 hits=0
 ";
 
+// What is written where an empty slot is dropped.
+const DROPPED: &str = "\
+commit tick=0 ok rows=3 void=no
+end ticks=0 rows=3 checks=0 hits=0
+";
+
+// What is written where a metric is handed in and each pass ends with an aggregation from then on.
+const METRIC_HANDED_IN: &str = "\
+commit tick=0 ok rows=3 void=no
+aggregate tick=1 threshold=0 rows=3
+row 0 0x10000-0x11000 count=0 last=0 age=1
+row 0 0x11000-0x12000 count=0 last=0 age=1
+row 0 0x12000-0x13000 count=0 last=0 age=1
+end ticks=1 rows=3 checks=3 hits=0
+";
+
 // The words of a command line.
 fn words_of(alloc: Global, words: &[&str]) -> Result<Vec<String>, AllocError> {
     let mut list = Vec::new(alloc);
@@ -291,24 +307,18 @@ fn commits_change_the_ranges_or_nothing(rt: HostRuntime) -> Result<(), Fail> {
     Ok(())
 }
 
+// An empty slot is dropped, and a metric comes with new attributes.
 #[test]
-fn what_is_not_built_writes_nothing(rt: HostRuntime) -> Result<(), Fail> {
-    for (scheme, commands) in [
-        ("scheme 0 stat\n", TOUCHED),
-        ("", "show\ncommit\ndrop 0\napply\n"),
-        ("", "show\ncommit\nmetric 5\napply\n"),
+fn commits_drop_slots_and_hand_in_metrics(rt: HostRuntime) -> Result<(), Fail> {
+    for (commands, report) in [
+        ("commit\ndrop 0\napply\n", DROPPED),
+        (
+            "commit\nattrs 3 8 1\nmetric 0\napply\narm\nfinish\n",
+            METRIC_HANDED_IN,
+        ),
     ] {
-        let parts = [
-            FRONT,
-            FIVE,
-            THREE_PAGES,
-            scheme,
-            "begin\n",
-            commands,
-            "end\n",
-        ];
-        let script = script_of(rt.alloc(), &parts)?;
-        expect_replay(&rt, &script, Status::NotYet, "")?;
+        let script = three_pages(rt.alloc(), commands, "end\n")?;
+        expect_replay(&rt, &script, Status::Ok, report)?;
     }
     Ok(())
 }

@@ -22,8 +22,6 @@ pub enum Status {
     WriteFault,
     /// Memory ran out.
     Memory,
-    /// The script has a scheme, or a commit with a slot change or a metric: these are not built yet.
-    NotYet,
 }
 
 impl Status {
@@ -37,7 +35,6 @@ impl Status {
             Status::ReadFault => 5,
             Status::WriteFault => 6,
             Status::Memory => 7,
-            Status::NotYet => 11,
         }
     }
 }
@@ -52,7 +49,6 @@ impl fmt::Display for Status {
             Status::ReadFault => f.write_str("reading failed"),
             Status::WriteFault => f.write_str("writing failed"),
             Status::Memory => f.write_str("out of memory"),
-            Status::NotYet => f.write_str("not built yet"),
         }
     }
 }

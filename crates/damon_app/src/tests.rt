@@ -137,7 +137,6 @@ fn a_status_has_its_number_and_line(rt: HostRuntime) -> Result<(), Fail> {
         (Status::ReadFault, 5, "reading failed"),
         (Status::WriteFault, 6, "writing failed"),
         (Status::Memory, 7, "out of memory"),
-        (Status::NotYet, 11, "not built yet"),
     ] {
         assert_eq!(rt; status.number(), number);
         assert_eq!(rt; status.to_string(rt.alloc())?.as_str(), line);

@@ -3,7 +3,7 @@ use Rattle.std.proofs.lemmas.Result.{err_from_is_err_and}
 use Rattle.damon_control.specs.Script.{script_of}
 use Rattle.damon_control.specs.ScriptView.{said_by}
 use Rattle.damon_app.specs.declared.input.TheConstants.{INPUT_LIMIT}
-use Rattle.damon_app.proofs.Answering.{not_read, not_spelled, not_built, not_run, replayed}
+use Rattle.damon_app.proofs.Answering.{not_read, not_spelled, not_run, replayed}
 use Rattle.damon_app.proofs.replay.replay.Goals as goal
 
 pub returns-in_err-bytes : goal.returns-in_err-bytes
@@ -30,17 +30,6 @@ returns-in_err-script g c =
     (c.args.sink.now ≡ c.args.sink.now) c.in_ok-bytes.bytes.items read.all read.end read.limit c.in_err-script.field-0.0 refl
     (λ f e. subst (λ bs. script_of bs ≡ Err f) c.deref.ensures.value (rw e at c.in_err-script.ensures.fault)))
 
-pub returns-then-has_later_parts : goal.returns-then-has_later_parts
-returns-then-has_later_parts g c =
-    let read = c.in_ok-bytes.ensures in
-    let spells = ap script_of (sym c.deref.ensures.value) ∙ c.in_ok-script.ensures.script in
-    not_built INPUT_LIMIT
-    (record { bytes = g.S.Source.left c.args.source.now; faults = g.S.Source.faults c.args.source.now })
-    (record { bytes = g.S.Source.left c.read_all.new.source; faults = g.S.Source.faults c.read_all.new.source })
-    (record { bytes = g.K.Sink.taken c.args.sink.now; faults = g.K.Sink.faults c.args.sink.now })
-    (record { bytes = g.K.Sink.taken c.args.sink.now; faults = g.K.Sink.faults c.args.sink.now })
-    (c.args.sink.now ≡ c.args.sink.now) c.in_ok-bytes.bytes.items read.all read.end read.limit (said_by c.in_ok-script.script) spells refl (sym c.has_later_parts.ensures ∙ c.if-has_later_parts.true)
-
 pub returns-in_err-write_report : goal.returns-in_err-write_report
 returns-in_err-write_report g c =
     let p = err_from_is_err_and c.from_residual-in_err-write_report.result c.from_residual-in_err-write_report.ensures.1 in
@@ -53,21 +42,15 @@ returns-in_err-write_report g c =
     (record { bytes = g.K.Sink.taken c.args.sink.now; faults = g.K.Sink.faults c.args.sink.now })
     (record { bytes = g.K.Sink.taken c.write_report.new.sink; faults = g.K.Sink.faults c.write_report.new.sink })
     (c.write_report.new.sink ≡ c.args.sink.now) c.in_ok-bytes.bytes.items read.all read.end read.limit (said_by c.in_ok-script.script) spells c.in_err-write_report.field-0.0
-    (sym c.has_later_parts.ensures ∙ c.if-has_later_parts.false) failed.answers
-    (λ e. failed.cause (ap (λ x. Err x) e)) failed.part)
+    failed.answers (λ e. failed.cause (ap (λ x. Err x) e)) failed.part)
 
 pub returns : goal.returns
 returns g c =
     let read = c.in_ok-bytes.ensures in
-    let ran = c.in_ok-write_report.ensures in
-    let script = said_by c.in_ok-script.script in
     let spells = ap script_of (sym c.deref.ensures.value) ∙ c.in_ok-script.ensures.script in
-    let built = sym c.has_later_parts.ensures ∙ c.if-has_later_parts.false in
     replayed INPUT_LIMIT
     (record { bytes = g.S.Source.left c.args.source.now; faults = g.S.Source.faults c.args.source.now })
     (record { bytes = g.S.Source.left c.read_all.new.source; faults = g.S.Source.faults c.read_all.new.source })
     (record { bytes = g.K.Sink.taken c.args.sink.now; faults = g.K.Sink.faults c.args.sink.now })
     (record { bytes = g.K.Sink.taken c.write_report.new.sink; faults = g.K.Sink.faults c.write_report.new.sink })
-    (c.write_report.new.sink ≡ c.args.sink.now) c.in_ok-bytes.bytes.items read.all read.end read.limit script spells built
-    (record { script = script; spells = spells; built = built; report = ran.all })
-    ran.part
+    (c.write_report.new.sink ≡ c.args.sink.now) c.in_ok-bytes.bytes.items read.all read.end read.limit (said_by c.in_ok-script.script) spells c.in_ok-write_report.ensures.all
