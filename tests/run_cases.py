@@ -14,7 +14,6 @@ A line of a file of cases is one JSON object. Each character of a text stands fo
     status         the exit status that is wanted
     stderr         what the program is to write to standard error
     memory         optional: the most bytes of address space that the program may use
-    not_yet        optional, only where the program cannot do this yet: what is missing
 
 Exactly one field says what stands on standard input:
 
@@ -27,10 +26,6 @@ Exactly one field says what is to become of standard output:
     stdout         the program is to write this text
     stdout_sha256  the program is to write bytes with this checksum; `stdout_bytes` is their number
     stdout_to      standard output is the file at this path, and what is written there is not looked at
-
-In a case with `not_yet`, which is `scheme` or `metric`, the other fields say what the finished program
-does. Today the program is to write nothing and to end with status 11 and the line `not built yet`.
-Whoever builds the missing part removes the field: a case that has it fails from then on.
 
 Each failed case is printed with what was wanted and what was given. The last line counts the cases
 that passed and failed, and the exit status is 1 where one failed or none was found.
@@ -50,11 +45,10 @@ TOP = Path(__file__).resolve().parent.parent
 PROGRAM = TOP / "crates/damon/out/damon"
 CASES = TOP / "tests/cases"
 ALWAYS = {"name": str, "words": list, "stderr": str, "status": int}
-OPTIONAL = {"memory": int, "not_yet": str, "stdout_bytes": int}
+OPTIONAL = {"memory": int, "stdout_bytes": int}
 INPUTS = {"input": str, "input_parts": list, "stdin_from": str}
 OUTPUTS = {"stdout": str, "stdout_sha256": str, "stdout_to": str}
 FIELDS = {**ALWAYS, **OPTIONAL, **INPUTS, **OUTPUTS}
-MISSING = ("scheme", "metric")
 SECONDS = 60
 # A line with its LF, which the last one may lack.
 LINE = re.compile(rb"[^\n]*\n|[^\n]+")
@@ -82,9 +76,7 @@ class Case(NamedTuple):
     stdin: Union[bytes, Path]
     stdout_to: Optional[str]
     memory: Optional[int]
-    # What is wanted today, and what the finished program does: they differ only with `not_yet`.
     wanted: Ended
-    finished: Ended
 
 
 def main(words):
@@ -138,7 +130,6 @@ def lines_of(places):
 
 def case_of(place, fields):
     check_fields(fields)
-    finished = Ended(stdout_of(fields), to_bytes(fields["stderr"]), fields["status"])
     return Case(
         place,
         fields["name"],
@@ -146,8 +137,7 @@ def case_of(place, fields):
         stdin_of(fields),
         fields.get("stdout_to"),
         fields.get("memory"),
-        Ended(b"", b"not built yet\n", 11) if "not_yet" in fields else finished,
-        finished,
+        Ended(stdout_of(fields), to_bytes(fields["stderr"]), fields["status"]),
     )
 
 
@@ -164,8 +154,6 @@ def check_fields(fields):
             raise ValueError(f"it needs exactly one of {', '.join(choice)}")
     if ("stdout_sha256" in fields) != ("stdout_bytes" in fields):
         raise ValueError("stdout_sha256 and stdout_bytes come together")
-    if fields.get("not_yet", MISSING[0]) not in MISSING:
-        raise ValueError(f"not_yet is not one of {', '.join(MISSING)}")
 
 
 def to_bytes(text):
@@ -218,13 +206,11 @@ def run(program, case):
 
 
 def differences(case, given):
-    """Says in lines how what was given differs from what is wanted today."""
+    """Says in lines how what was given differs from what is wanted."""
     wanted = case.wanted
     lines = [*unlike_stdout(wanted.stdout, given.stdout), *unlike_text("stderr", wanted.stderr, given.stderr)]
     if wanted.status != given.status:
         lines.append(f"status: wanted {wanted.status}, given {given.status}")
-    if lines and given == case.finished:
-        lines.append("this is what the finished program is to do: remove the field not_yet")
     return lines
 
 
