@@ -1,3 +1,4 @@
 pub mod Appending
 pub mod Rows
+pub mod Slots
 mod Examples

@@ -1,6 +1,6 @@
 -- The lines of the rows in two parts.
-use Rattle.std.proofs.Common.{◌≡◌, ℕ, List, ◌++◌, take, drop, ap, sym, ◌∙◌}
-use Rattle.std.proofs.lemmas.List.{take-append-drop, append_assoc}
+use Rattle.std.proofs.Common.{◌≡◌, ℕ, List, [], ◌++◌, take, drop, ap, sym, ◌∙◌}
+use Rattle.std.proofs.lemmas.List.{append-nil, append_assoc, take-append-drop}
 use Rattle.std.proofs.lemmas.List.Concat.{flat_map-append}
 use Rattle.damon_types.specs.declared.space.Target.{Target}
 use Rattle.damon_types.specs.declared.row.Row.{Row}
@@ -20,3 +20,7 @@ text_joined space n rows first rest old line is_first is_rest =
     append_assoc old (line ++ row_lines space first) (row_lines space rest)
     ∙ ap (λ t. old ++ t) (append_assoc line (row_lines space first) (row_lines space rest))
     ∙ ap (λ t. old ++ (line ++ t)) (row_lines_joined space n rows first rest is_first is_rest)
+
+-- a text, and then three more, of which the first was appended together with no rows
+pub served_joined : (old line served rows : List ℕ) → ((old ++ (line ++ [])) ++ served) ++ rows ≡ old ++ (line ++ (served ++ rows))
+served_joined old line served rows = simp (append-nil, append_assoc)

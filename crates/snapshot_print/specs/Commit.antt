@@ -1,5 +1,5 @@
 -- The line of a commit.
-use Rattle.std.specs.Prelude.{ℕ, Bool, true, false, List, Result, Ok, Err, codes}
+use Rattle.std.specs.Prelude.{ℕ, List, Result, Ok, Err, codes}
 use Rattle.std.specs.Fmt.{decimal}
 use Rattle.damon_types.specs.declared.attrs.AttrsFault.{AttrsFault}
 use Rattle.damon_types.specs.declared.attrs.AttrsFault.TheVariants.{MinTooSmall, MinOverMax, AggrOutOfRange}
@@ -15,12 +15,7 @@ use Rattle.live_commit.specs.declared.fault.CommitFault.TheVariants.{BadAttrs, O
 use Rattle.damon_core.specs.declared.changed.Changed.{Changed}
 use Rattle.snapshot_print.specs.declared.form.Form.{Form}
 use Rattle.snapshot_print.specs.declared.form.Form.TheVariants.{Text}
-use Rattle.snapshot_print.specs.Lines.{◌then◌}
-
--- `yes` for true, and `no` for false
-abbrev pub yes_or_no : Bool → List ℕ
-yes_or_no true = codes "yes"
-yes_or_no false = codes "no"
+use Rattle.snapshot_print.specs.Fields.{◌then◌, yes_or_no}
 
 -- the word of the reason why a range is rejected
 abbrev pub range_why : RangeWhy → List ℕ

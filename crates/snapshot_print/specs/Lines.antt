@@ -1,23 +1,18 @@
 -- The lines of a report.
-use Rattle.std.specs.Prelude.{ℕ, ◌+◌, ◌*◌, List, ◌++◌, codes, length}
+use Rattle.std.specs.Prelude.{ℕ, List, ◌++◌, codes, length}
 use Rattle.std.specs.List.{flat_map}
 use Rattle.std.specs.Fmt.{decimal}
 use Rattle.damon_types.specs.declared.space.Target.{Target}
 use Rattle.damon_types.specs.declared.row.Row.{Row}
-use Rattle.damon_types.specs.Space.{place_of}
 use Rattle.live_commit.specs.declared.phase.Phase.{Phase}
 use Rattle.live_commit.specs.declared.phase.Phase.TheVariants.{Idle, Clearing, Armed, Checking, Void, Due}
-use Rattle.line_text.specs.Address.{spelled_address}
 use Rattle.damon_core.specs.Report.{ReportValue}
 use Rattle.damon_core.specs.State.{Core, row_count}
 use Rattle.snapshot_print.specs.declared.form.Form.{Form}
 use Rattle.snapshot_print.specs.declared.form.Form.TheVariants.{Text}
+use Rattle.snapshot_print.specs.Fields.{◌then◌, pages_part}
 use Rattle.snapshot_print.specs.Printed.{Printed}
-
-infixr 20 ◌then◌
--- one text and then another
-abbrev pub ◌then◌ : List ℕ → List ℕ → List ℕ
-a then b = a ++ b
+use Rattle.snapshot_print.specs.Schemes.{choices_text, shown_slots}
 
 -- the name of a phase
 abbrev pub phase_name : Phase → List ℕ
@@ -28,15 +23,9 @@ phase_name (Checking k) = codes "checking"
 phase_name Void = codes "void"
 phase_name Due = codes "due"
 
--- the address of the first byte of a page
-abbrev pub page_address : List Target → ℕ → ℕ
-page_address space page = (place_of space page).addr
-
--- the place of a row: its target, its first address, and the address after its last page
+-- the place of a row: its target and its pages
 abbrev pub place_part : List Target → Row → List ℕ
-place_part space r =
-    codes "row " then decimal r.target then codes " " then spelled_address (page_address space r.start)
-    then codes "-" then spelled_address (page_address space r.start + 4096 * r.pages)
+place_part space r = codes "row " then decimal r.target then pages_part space r.start r.pages
 
 -- the counts and the age of a row
 abbrev pub count_part : Row → List ℕ
@@ -58,13 +47,10 @@ show_line c =
     codes "show tick=" then decimal c.ticks then codes " phase=" then phase_name c.phase
     then codes " rows=" then decimal (row_count c) then codes "\n"
 
--- the text of a show: its first line and the lines of the rows
-abbrev pub state_text : Core → List ℕ
-state_text c = show_line c ++ row_lines c.space c.regions.rows
-
--- what a show writes, in each form
+-- what a show writes, in each form: its first line, the lines of the rows, and those of the set slots
 abbrev pub show_text : Form → Printed → List ℕ
-show_text Text p = state_text p.core
+show_text Text p =
+    show_line p.core then row_lines p.core.space p.core.regions.rows then shown_slots 0 p.slots
 
 -- the first line of an aggregation: its tick, its threshold and the number of rows that it reported
 abbrev pub aggregate_line : ReportValue → List ℕ
@@ -72,9 +58,15 @@ aggregate_line r =
     codes "aggregate tick=" then decimal r.tick then codes " threshold=" then decimal r.threshold
     then codes " rows=" then decimal (length r.rows) then codes "\n"
 
--- what is printed of the last aggregation, in each form: its first line and the lines of the rows that it reported
+-- the lines of the schemes that an aggregation served: those of its choices in slot order, each with its runs
+abbrev pub served_text : Printed → List ℕ
+served_text p = choices_text p.core.space p.slots p.core.report.runs p.core.report.choices
+
+-- What is printed of the last aggregation, in each form: its first line, the lines of the schemes that it served, and the
+-- lines of the rows that it reported.
 abbrev pub aggregate_text : Form → Printed → List ℕ
-aggregate_text Text p = aggregate_line p.core.report ++ row_lines p.core.space p.core.report.rows
+aggregate_text Text p =
+    aggregate_line p.core.report then served_text p then row_lines p.core.space p.core.report.rows
 
 -- the last line of a report, with the checks and hits of all finished passes
 abbrev pub end_text : Form → Printed → List ℕ

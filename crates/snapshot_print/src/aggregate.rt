@@ -6,14 +6,19 @@ ghost use Rattle.snapshot_print.specs.Kept.{KeepsFront};
 ghost use Rattle.snapshot_print.specs.Printed.{printed_monitor};
 
 use crate::Form;
+use crate::choice_text::print_choices;
 use crate::fields::{field_before, text_before, whole_or_nothing};
-use crate::row_text::{ROW_ROOM, lines_before, print_rows};
+use crate::line_groups::{LINE_ROOM, lines_before};
+use crate::row_text::print_rows;
 use damon_core::{Monitor, Report};
 use damon_types::{Row, Space};
 use std::alloc::{AllocError, Global};
 
 /// Appends the text of the last aggregation: a line with its tick, its threshold and the number of
-/// rows, then a line for each row that it reported, in order. When out of memory, nothing is appended.
+/// rows, then the lines of the slots that it served, then a line for each row that it reported, in order.
+/// A slot that was served has a line for each run of pages that its scheme was applied to, in the order of
+/// application, and a line with what was chosen. After an aggregation these are the set slots, in slot
+/// order. When out of memory, nothing is appended.
 pub fn print_aggregate(
     alloc: Global,
     out: &mut Vec<u8>,
@@ -35,13 +40,31 @@ pub fn print_aggregate(
 const FIRST_ROWS: usize = 4;
 
 // Bytes enough for the first line, which has at most 93, and the lines of these rows.
-const FIRST_ROOM: usize = 96 + ROW_ROOM * FIRST_ROWS;
+const FIRST_ROOM: usize = 96 + LINE_ROOM * FIRST_ROWS;
 
-// Appends the first line of an aggregation and the lines of the rows that it reported.
+// Appends the first line of an aggregation, the lines of the slots that it served, and those of the rows
+// that it reported.
 #[tactic(auto, using(crate::proofs::Appending::appends))]
 fn print_report(out: &mut Vec<u8>, monitor: &Monitor) -> Result<(), AllocError>
     ensures ok { OnOk result (out.new.items ≡ out.old.items
         ++ aggregate_text Form.Text (printed_monitor monitor.now)) }
+    ensures kept { KeepsFront out.old.items out.new.items }
+{
+    let report = monitor.report();
+    if report.applied().choices().is_empty() {
+        return print_unserved(out, monitor);
+    }
+    print_first_rows(out, report, &[], monitor.space())?;
+    print_choices(out, report.applied(), monitor.engine(), monitor.space())?;
+    print_rows(out, report.rows(), monitor.space())
+}
+
+// Appends the first line of an aggregation and the lines of its rows, the first of them together with it.
+#[tactic(auto, using(crate::proofs::Appending::appends))]
+fn print_unserved(out: &mut Vec<u8>, monitor: &Monitor) -> Result<(), AllocError>
+    ensures ok { OnOk result (out.new.items ≡ out.old.items
+        ++ (aggregate_line monitor.now.core.report
+        ++ row_lines monitor.now.core.space monitor.now.core.report.rows)) }
     ensures kept { KeepsFront out.old.items out.new.items }
 {
     let report = monitor.report();

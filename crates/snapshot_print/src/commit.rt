@@ -1,10 +1,10 @@
 ghost use Rattle.std.specs.Prelude.{◌≡◌, ◌++◌, OnErr, OnOk};
 ghost use Rattle.snapshot_print.specs.Commit.{answer_text, commit_text, refusal_text};
-ghost use Rattle.snapshot_print.specs.Commit.{attrs_why, range_why, scheme_why, yes_or_no};
+ghost use Rattle.snapshot_print.specs.Commit.{attrs_why, range_why, scheme_why};
 ghost use Rattle.snapshot_print.specs.Kept.{KeepsFront};
 
 use crate::Form;
-use crate::fields::{end_line, print_field, print_word, whole_or_nothing};
+use crate::fields::{end_line, print_field, print_word, whole_or_nothing, yes_or_no};
 use damon_core::Changed;
 use damon_types::{AttrsFault, SchemeFault};
 use live_commit::CommitFault;
@@ -129,13 +129,6 @@ fn scheme_why(why: SchemeFault) -> &'static [u8]
         SchemeFault::MarksOutOfOrder => b"marks-out-of-order",
         SchemeFault::BadFilter { .. } => b"bad-filter",
     }
-}
-
-// `yes` for true, and `no` for false.
-fn yes_or_no(value: bool) -> &'static [u8]
-    ensures { result.now ≡ yes_or_no value }
-{
-    if value { b"yes" } else { b"no" }
 }
 
 #[cfg(test)]

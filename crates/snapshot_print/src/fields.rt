@@ -1,5 +1,6 @@
 ghost use Rattle.std.specs.Prelude.{◌≡◌, ◌+◌, ◌≤◌, ◌++◌, length, take, drop, codes, OnErr, OnOk};
 ghost use Rattle.std.specs.Fmt.{decimal};
+ghost use Rattle.snapshot_print.specs.Fields.{yes_or_no};
 ghost use Rattle.snapshot_print.specs.Kept.{KeepsFront};
 
 use line_text::{number_before, write_number};
@@ -59,6 +60,26 @@ pub(crate) fn text_before(bytes: &mut [u8], end: usize, text: &[u8]) -> usize
     let start = end - text.len();
     bytes[start..end].copy_from_slice(text);
     start
+}
+
+// Writes a field's name and a word in the same way.
+#[inline(always)]
+pub(crate) fn word_before(bytes: &mut [u8], end: usize, name: &[u8], word: &[u8]) -> usize
+    requires room { length name.now + length word.now ≤ end }
+    requires within { end ≤ length bytes.old }
+    ensures start { result + (length name.now + length word.now) ≡ end }
+    ensures written { drop result bytes.new ≡ name.now ++ (word.now ++ drop end bytes.old) }
+{
+    let start = text_before(bytes, end, word);
+    text_before(bytes, start, name)
+}
+
+// `yes` for true, and `no` for false.
+pub(crate) fn yes_or_no(value: bool) -> &'static [u8]
+    ensures word { result.now ≡ yes_or_no value }
+    ensures short { length result.now ≤ 3 }
+{
+    if value { b"yes" } else { b"no" }
 }
 
 // Removes what was appended after the first `before` bytes if printing failed.

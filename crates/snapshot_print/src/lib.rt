@@ -4,16 +4,22 @@
 
 /// The text of an aggregation.
 mod aggregate;
+/// The lines of the slots that an aggregation served.
+mod choice_text;
 /// The line of a commit.
 mod commit;
 /// Fields, words and ends of lines, and texts that are appended whole or not at all.
 mod fields;
 /// The forms of a report.
 mod form;
+/// Lines that are appended in groups.
+mod line_groups;
 /// The lines of rows.
 mod row_text;
 /// The text of a show, and the last line of a report.
 mod show;
+/// The lines of the set slots in a show.
+mod slot_text;
 #[cfg(test)]
 mod tests;
 

@@ -1,17 +1,20 @@
 ghost use Rattle.std.specs.Prelude.{◌≡◌, ◌++◌, OnErr, OnOk};
-ghost use Rattle.snapshot_print.specs.Lines.{end_text, phase_name, show_line, show_text, state_text};
+ghost use Rattle.snapshot_print.specs.Lines.{end_text, phase_name, show_line, show_text};
 ghost use Rattle.snapshot_print.specs.Kept.{KeepsFront};
 ghost use Rattle.snapshot_print.specs.Printed.{printed_monitor};
 
 use crate::Form;
 use crate::fields::{end_line, print_field, print_word, whole_or_nothing};
 use crate::row_text::print_rows;
+use crate::slot_text::print_slots;
 use damon_core::Monitor;
 use live_commit::Phase;
 use std::alloc::{AllocError, Global};
 
 /// Appends the text of a show: a line with the tick, the phase and the number of rows, then a line for
-/// each row in order, with addresses in bytes. When out of memory, nothing is appended.
+/// each row in order, with addresses in bytes, and then a line for each set slot in slot order, with the
+/// action of its scheme, whether it is active, its window and its statistics. When out of memory, nothing
+/// is appended.
 pub fn print_show(
     alloc: Global,
     out: &mut Vec<u8>,
@@ -48,14 +51,15 @@ pub fn print_end(
     whole_or_nothing(out, before, printed)
 }
 
-// Appends the first line of a show and the lines of the rows.
+// Appends the first line of a show, the lines of the rows, and those of the set slots.
 #[tactic(auto, using(crate::proofs::Appending::appends))]
 fn print_state(out: &mut Vec<u8>, monitor: &Monitor) -> Result<(), AllocError>
-    ensures ok { OnOk result (out.new.items ≡ out.old.items ++ state_text monitor.now.core) }
+    ensures ok { OnOk result (out.new.items ≡ out.old.items ++ show_text Form.Text (printed_monitor monitor.now)) }
     ensures kept { KeepsFront out.old.items out.new.items }
 {
     print_first_line(out, monitor)?;
-    print_rows(out, monitor.rows().rows(), monitor.space())
+    print_rows(out, monitor.rows().rows(), monitor.space())?;
+    print_slots(out, monitor.engine())
 }
 
 // Appends the first line of a show.

@@ -1,14 +1,14 @@
 use Rattle.std.proofs.Common.{◌≡◌, ◌≤◌, ◌*◌, ◌+◌, ◌-◌, drop, length}
-use Rattle.snapshot_print.specs.Lines.{row_lines}
-use Rattle.snapshot_print.proofs.row_text.lines_before.Given as goal
+use Rattle.std.specs.List.{flat_map}
+use Rattle.snapshot_print.proofs.line_groups.lines_before.Given as goal
 
-abbrev pub invariant-rows : goal.invariant-rows
-invariant-rows l = record {
-  index : l.index ≤ length l.rows;
-  room : length l.lines ≤ l.start + 141 * (length l.rows - l.index);
+abbrev pub invariant-items : goal.invariant-items
+invariant-items g l = record {
+  index : l.index ≤ length l.items;
+  room : length l.lines ≤ l.start + 141 * (length l.items - l.index);
   start : l.start ≤ length l.lines;
-  text : drop l.start l.lines ≡ row_lines l.space (drop l.index l.rows);
+  text : drop l.start l.lines ≡ flat_map (g.L.LineOf.line l.line_of) (drop l.index l.items);
 }
 
-abbrev pub decreases-rows : goal.decreases-rows
-decreases-rows l = l.index
+abbrev pub decreases-items : goal.decreases-items
+decreases-items g l = l.index

@@ -1,16 +1,14 @@
 use Rattle.std.proofs.Common.{◌≡◌, ◌≤◌, ◌+◌, ◌++◌, length}
-use Rattle.std.specs.List.{AllByRecursion}
-use Rattle.damon_types.specs.Space.{pages_of}
+use Rattle.std.specs.List.{AllByRecursion, flat_map}
 use Rattle.snapshot_print.specs.Kept.{KeepsFront}
-use Rattle.snapshot_print.specs.Lines.{row_lines}
-use Rattle.snapshot_print.proofs.row_text.print_rows.Given as goal
+use Rattle.snapshot_print.proofs.line_groups.print_lines.Given as goal
 
 abbrev pub invariant-groups : goal.invariant-groups
-invariant-groups l = record {
-  rows : AllByRecursion (λ r. (1 ≤ r.pages) × (r.start + r.pages ≤ pages_of l.space)) l.left;
-  text : l.out.items ++ row_lines l.space l.left ≡ l.fn.out.items ++ row_lines l.space l.rows;
+invariant-groups g l = record {
+  items : AllByRecursion (g.L.LineOf.can_write l.line_of) l.left;
+  text : l.out.items ++ flat_map (g.L.LineOf.line l.line_of) l.left ≡ l.fn.out.items ++ flat_map (g.L.LineOf.line l.line_of) l.items;
   kept : KeepsFront l.fn.out.items l.out.items;
 }
 
 abbrev pub decreases-groups : goal.decreases-groups
-decreases-groups l = length l.left
+decreases-groups g l = length l.left

@@ -1,0 +1,102 @@
+// The lines of the set slots in a show.
+ghost use Rattle.std.specs.Prelude.{◌≡◌, ◌+◌, ◌≤◌, ◌++◌, length, drop, slice_index_or, OnOk};
+ghost use Rattle.scheme_engine.specs.Slots.{empty_slot};
+ghost use Rattle.snapshot_print.specs.Schemes.{action_word, scheme_line, scheme_part, shown_slot, shown_slots, statistics_part};
+ghost use Rattle.snapshot_print.specs.Kept.{KeepsFront};
+
+use crate::fields::{field_before, text_before, word_before, yes_or_no};
+use damon_types::{Action, MAX_SLOT};
+use scheme_engine::{Engine, SLOTS, SlotView};
+use std::alloc::AllocError;
+
+// Bytes enough for the line of a set slot, which has at most 191.
+const SCHEME_ROOM: usize = 192;
+
+// Appends the lines of the set slots, in slot order.
+#[tactic(auto, using(crate::proofs::Slots::shown_slots_next))]
+pub(crate) fn print_slots(out: &mut Vec<u8>, engine: &Engine) -> Result<(), AllocError>
+    ensures ok { OnOk result (out.new.items ≡ out.old.items ++ shown_slots 0 engine.now.slots) }
+    ensures kept { KeepsFront out.old.items out.new.items }
+{
+    // For its clauses alone: the number of slots.
+    let _cap = engine.cap();
+    for slot in 0..SLOTS {
+        print_slot(out, slot as u8, engine)?;
+    }
+    Ok(())
+}
+
+// Appends the line of a slot, if it is set.
+fn print_slot(out: &mut Vec<u8>, slot: u8, engine: &Engine) -> Result<(), AllocError>
+    requires { slot ≤ MAX_SLOT }
+    ensures ok { OnOk result (out.new.items ≡ out.old.items
+        ++ shown_slot slot (slice_index_or engine.now.slots slot empty_slot)) }
+    ensures kept { KeepsFront out.old.items out.new.items }
+{
+    let Some(view) = engine.slot(slot) else {
+        return Ok(());
+    };
+    let mut line = [0; SCHEME_ROOM];
+    let start = scheme_before(&mut line, SCHEME_ROOM, slot, &view);
+    out.extend_from_slice(&line[start..])
+}
+
+// Writes the line of a set slot, at most 191 bytes, so that it ends right before index `end`, and returns
+// the index where it begins. The functions below do the same for a part of it.
+fn scheme_before(bytes: &mut [u8], end: usize, slot: u8, view: &SlotView) -> usize
+    requires room { 191 ≤ end }
+    requires within { end ≤ length bytes.old }
+    ensures start { result ≤ end }
+    ensures written { drop result bytes.new ≡ scheme_line slot view.now ++ drop end bytes.old }
+{
+    let statistics = statistics_before(bytes, end, view);
+    state_before(bytes, statistics, slot, view)
+}
+
+// Writes the window and the statistics, and the line's end: at most 142 bytes.
+fn statistics_before(bytes: &mut [u8], end: usize, view: &SlotView) -> usize
+    requires room { 142 ≤ end }
+    requires within { end ≤ length bytes.old }
+    ensures start { result ≤ end }
+    ensures most { end ≤ result + 142 }
+    ensures written { drop result bytes.new ≡ statistics_part view.now ++ drop end bytes.old }
+{
+    let line_end = text_before(bytes, end, b"\n");
+    let exceeds = field_before(bytes, line_end, b" exceeds=", view.exceeds);
+    let applied = field_before(bytes, exceeds, b" applied=", view.applied);
+    let tried = field_before(bytes, applied, b" tried=", view.tried);
+    let from = field_before(bytes, tried, b" start=", view.window.start);
+    field_before(bytes, from, b" charged=", view.window.charged)
+}
+
+// Writes `scheme SLOT ACTION active=..`: at most 49 bytes.
+fn state_before(bytes: &mut [u8], end: usize, slot: u8, view: &SlotView) -> usize
+    requires room { 49 ≤ end }
+    requires within { end ≤ length bytes.old }
+    ensures start { result ≤ end }
+    ensures written { drop result bytes.new ≡ scheme_part slot view.now ++ drop end bytes.old }
+{
+    let active = word_before(bytes, end, b" active=", yes_or_no(view.active));
+    let action = word_before(bytes, active, b" ", action_word(view.action));
+    field_before(bytes, action, b"scheme ", u64::from(slot))
+}
+
+// The word of an action.
+pub(crate) fn action_word(action: Action) -> &'static [u8]
+    ensures word { result.now ≡ action_word action }
+    ensures short { length result.now ≤ 10 }
+{
+    match action {
+        Action::Stat => b"stat",
+        Action::Willneed => b"willneed",
+        Action::Cold => b"cold",
+        Action::Pageout => b"pageout",
+        Action::Hugepage => b"hugepage",
+        Action::Nohugepage => b"nohugepage",
+        Action::LruPrio => b"lru_prio",
+        Action::LruDeprio => b"lru_deprio",
+    }
+}
+
+#[cfg(test)]
+mod tests;
