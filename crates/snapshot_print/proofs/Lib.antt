@@ -1,4 +1,5 @@
 pub mod Appending
 pub mod Rows
 pub mod Slots
+pub mod BySlot
 mod Examples

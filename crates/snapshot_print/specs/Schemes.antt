@@ -1,6 +1,6 @@
 -- The lines of schemes.
 use Rattle.std.specs.Prelude.{ℕ, ◌+◌, ◌==◌, List, [], ◌∷◌, ◌++◌, take, drop, codes, Option, slice_index_or, if◌then◌else◌}
-use Rattle.std.specs.List.{flat_map, prefix_len}
+use Rattle.std.specs.List.{filter, flat_map, prefix_len}
 use Rattle.std.specs.Option.{option_map, option_map_or}
 use Rattle.std.specs.Fmt.{decimal}
 use Rattle.damon_types.specs.declared.scheme.Action.{Action}
@@ -95,3 +95,8 @@ choices_text space slots runs [] = []
 choices_text space slots runs (c ∷ cs) =
     let n = runs_of_slot c.slot runs in
     choice_lines space slots (take n runs) c ++ choices_text space slots (drop n runs) cs
+
+-- The same, where each choice has all runs of its slot.
+abbrev pub choices_by_slot : List Target → List SlotValue → List AppliedRun → List SlotChoice → List ℕ
+choices_by_slot space slots runs cs =
+    flat_map (λ c. choice_lines space slots (filter (λ r. r.slot == c.slot) runs) c) cs

@@ -12,6 +12,8 @@ mod commit;
 mod fields;
 /// The forms of a report.
 mod form;
+/// A law of the text of an aggregation.
+mod laws;
 /// Lines that are appended in groups.
 mod line_groups;
 /// The lines of rows.
@@ -26,4 +28,5 @@ mod tests;
 pub use aggregate::print_aggregate;
 pub use commit::print_commit;
 pub use form::Form;
+pub use laws::choices_have_all_their_runs;
 pub use show::{print_end, print_show};

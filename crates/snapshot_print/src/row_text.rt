@@ -80,20 +80,20 @@ pub(crate) fn pages_before(
 {
     let from = space.addr_of(start).addr;
     let to = from + PAGE_SIZE * u64::from(pages);
-    let last = address_after(bytes, end, b"-", to);
-    address_after(bytes, last, b" ", from)
+    let last = address_field_before(bytes, end, b"-", to);
+    address_field_before(bytes, last, b" ", from)
 }
 
-// Writes a separator and an address.
+// Writes a field's name and an address.
 #[inline(always)]
-fn address_after(bytes: &mut [u8], end: usize, separator: &[u8], value: u64) -> usize
-    requires room { length separator.now + 18 ≤ end }
+fn address_field_before(bytes: &mut [u8], end: usize, name: &[u8], value: u64) -> usize
+    requires room { length name.now + 18 ≤ end }
     requires within { end ≤ length bytes.old }
     ensures start { result ≤ end }
-    ensures most { end ≤ result + (length separator.now + 18) }
+    ensures most { end ≤ result + (length name.now + 18) }
     ensures written { drop result bytes.new
-        ≡ separator.now ++ (spelled_address value ++ drop end bytes.old) }
+        ≡ name.now ++ (spelled_address value ++ drop end bytes.old) }
 {
     let address = address_before(bytes, end, value);
-    text_before(bytes, address, separator)
+    text_before(bytes, address, name)
 }

@@ -58,7 +58,10 @@ fn one_scheme(alloc: Global) -> Result<Engine, Fail> {
 }
 
 // A run of slot 3 in the second target.
-fn run(start: u32, pages: u32, score: u32) -> AppliedRun {
+fn run(start: u32, pages: u32, score: u32) -> AppliedRun
+    ensures start { result.start ≡ start }
+    ensures pages { result.pages ≡ pages }
+{
     AppliedRun {
         slot: 3,
         target: 1,
