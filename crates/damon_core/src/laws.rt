@@ -1,9 +1,7 @@
 // What holds of each state to which events lead.
 ghost use Rattle.std.specs.Prelude.{◌≡◌, ℕ, List};
-ghost use Rattle.live_commit.specs.Commit.{CommitValue};
 ghost use Rattle.live_commit.specs.Setup.{SetupValue};
 ghost use Rattle.damon_core.specs.Aggregate.{aggregated};
-ghost use Rattle.damon_core.specs.Commit.{committed};
 ghost use Rattle.damon_core.specs.Note.{word_of};
 ghost use Rattle.damon_core.specs.State.{State, opening};
 ghost use Rattle.damon_core.specs.Reached.{Reached, ReachedByHit};
@@ -34,12 +32,10 @@ pub fn reached_states_are_bound()
     scheme_engine::outcome_runs_are_taken();
 }
 
-/// What serves slots, and what changes them, touches and clears no page: the word of each page, and
-/// whether it was ever cleared, are the same before and after an aggregation and an accepted commit.
+/// Neither an aggregation nor the slots that a setup sets touch or clear a page: the word of each page
+/// stays, and is 0 at the opening.
 pub fn pages_are_kept()
     ensures aggregated { (s : State) (words : List ℕ) (page : ℕ)
         → word_of (aggregated words s).notes page ≡ word_of s.notes page }
-    ensures committed { (parts : CommitValue) (s : State) (page : ℕ)
-        → word_of (committed parts s).notes page ≡ word_of s.notes page }
     ensures opening { (v : SetupValue) (page : ℕ) → word_of (opening v).notes page ≡ 0 }
 {}

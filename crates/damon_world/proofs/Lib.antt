@@ -3,7 +3,6 @@ pub mod Words
 pub mod Parts
 pub mod Stepping
 pub mod Touching
-pub mod Opening
 pub mod Committing
 pub mod Advancing
 pub mod Passing

@@ -10,7 +10,7 @@ use Rattle.damon_core.specs.Note.{word_of}
 use Rattle.damon_core.specs.State.{Core, State, row_count}
 use Rattle.damon_core.specs.Event.{Event, prepare, load, observe, aggregate, IsLoading, IsObserving, load_index, next_hit}
 use Rattle.damon_core.specs.After.{after, by_load, by_observe, passed_core, prepared_core}
-use Rattle.damon_core.specs.Aggregate.{aggregated_core}
+use Rattle.damon_core.specs.Aggregate.{aggregated, core_aggregated}
 use Rattle.damon_core.specs.Makes.{Makes}
 use Rattle.damon_core.specs.Reached.{AllFit, Reached}
 use Rattle.damon_core.specs.Stands.{MonitorView, Stands}
@@ -71,11 +71,11 @@ one_step stream old new step passes space cap = record {
   cap = cap;
 }
 
--- the event of a step that takes the next n random words, and leaves the notes
+-- the event of a step that takes the next n random words, and leaves the words of pages
 record DrawsNext (m : MonitorView) (e : Event) (n : ℕ) (words : List ℕ) : Type 0 where
   next : (s : State) (stream : Stream) → m.core ≡ s.core → words ≡ drawn n stream → next_event s stream ≡ e
   taken : drawn_by e ≡ n
-  notes : (s : State) → (after s e).notes ≡ s.notes
+  pages : (s : State) (p : ℕ) → word_of (after s e).notes p ≡ word_of s.notes p
 
 -- one step that takes random words
 draws_advance : {R : Type 0} (stream : R → Stream) (m new : MonitorView) (words : List ℕ) (old_source new_source : R) (e : Event) (n : ℕ) (ws : List ℕ) → DrawsNext m e n ws → ws ≡ drawn n (stream old_source) → stream new_source ≡ drawn_rest n (stream old_source) → Makes Stands m new (e ∷ []) → new.core.ticks ≡ m.core.ticks → new.core.space ≡ m.core.space → new.core.regions.cap ≡ m.core.regions.cap → IsAdvance stream (record { monitor = m; words = words; source = old_source }) (record { monitor = new; words = words; source = new_source }) 1
@@ -90,7 +90,7 @@ draws_advance {R} stream m new words old_source new_source e n ws draws drew res
     let here : StandsAt stream (record { monitor = new; words = words; source = new_source }) (moved x e) = record {
       state = record {
         monitor = made.1;
-        words = λ p below. stands.state.words p (subst (λ ts. p < pages_of ts) space below) ∙ ap (λ notes. word_of notes p) (sym (draws.notes s));
+        words = λ p below. stands.state.words p (subst (λ ts. p < pages_of ts) space below) ∙ sym (draws.pages s p);
       };
       words = left;
     } in
@@ -105,19 +105,19 @@ prepare_advances stream m new words old_source new_source ws idle count drew res
           (ap (λ p. event_in p s t) (ap (λ (c : Core). c.phase) (sym same) ∙ idle)
           ∙ ap prepare (ap (λ n. drawn n t) (ap row_count (sym same)) ∙ sym is));
       taken = count;
-      notes = λ s. refl;
+      pages = λ s p. refl;
     })
     drew rest event (ap (λ (c : Core). c.ticks) shown) (ap (λ (c : Core). c.space) shown) (ap (λ (c : Core). c.regions.cap) shown)
 
-pub aggregate_advances : {R : Type 0} (stream : R → Stream) (m new : MonitorView) (words : List ℕ) (old_source new_source : R) (ws : List ℕ) → m.core.phase ≡ Due → length ws ≡ 2 * m.core.attrs.max → ws ≡ drawn (2 * m.core.attrs.max) (stream old_source) → stream new_source ≡ drawn_rest (2 * m.core.attrs.max) (stream old_source) → new.core ≡ aggregated_core ws m.core → Makes Stands m new (aggregate ws ∷ []) → IsAdvance stream (record { monitor = m; words = words; source = old_source }) (record { monitor = new; words = words; source = new_source }) 1
-aggregate_advances stream m new words old_source new_source ws due count drew rest shown event =
+pub aggregate_advances : ((s : State) (words : List ℕ) (page : ℕ) → word_of (aggregated words s).notes page ≡ word_of s.notes page) → {R : Type 0} (stream : R → Stream) (m new : MonitorView) (words : List ℕ) (old_source new_source : R) (ws : List ℕ) → m.core.phase ≡ Due → length ws ≡ 2 * m.core.attrs.max → ws ≡ drawn (2 * m.core.attrs.max) (stream old_source) → stream new_source ≡ drawn_rest (2 * m.core.attrs.max) (stream old_source) → new.core ≡ core_aggregated ws m.slots m.core → Makes Stands m new (aggregate ws ∷ []) → IsAdvance stream (record { monitor = m; words = words; source = old_source }) (record { monitor = new; words = words; source = new_source }) 1
+aggregate_advances kept stream m new words old_source new_source ws due count drew rest shown event =
     draws_advance stream m new words old_source new_source (aggregate ws) (2 * m.core.attrs.max) ws
     (record {
       next = λ s t same is.
           (ap (λ p. event_in p s t) (ap (λ (c : Core). c.phase) (sym same) ∙ due)
           ∙ ap aggregate (ap (λ n. drawn (2 * n) t) (ap (λ (c : Core). c.attrs.max) (sym same)) ∙ sym is));
       taken = count;
-      notes = λ s. refl;
+      pages = λ s p. kept s ws p;
     })
     drew rest event (ap (λ (c : Core). c.ticks) shown) (ap (λ (c : Core). c.space) shown) (ap (λ (c : Core). c.regions.cap) shown)
 

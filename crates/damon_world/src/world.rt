@@ -70,6 +70,7 @@ impl<R: Rng + Drop> World<R> {
         ensures source { IfOk result (λ w. w.source ≡ source) }
         ensures opening { IfOk result (λ w. StandsFor w (opening (value_of setup.now))) }
     {
+        damon_core::pages_are_kept();
         let monitor = Monitor::new(alloc, setup)?;
         let words = PlainWords::new(alloc, setup.space.pages())?;
         let drawn = Vec::with_capacity(alloc, 2 * setup.cap as usize)?;
@@ -224,6 +225,7 @@ impl<R: Rng + Drop> World<R> {
         ensures one { result ≡ 1 }
         ensures advance { IsAdvance R.stream self.old self.new 1 }
     {
+        damon_core::pages_are_kept();
         let attrs = self.monitor.attrs();
         draw(&mut self.source, 2 * attrs.max as usize, &mut self.drawn);
         self.monitor.aggregate(&self.drawn);

@@ -1,7 +1,6 @@
 use Rattle.std.proofs.Common.{sym, ap, ◌∙◌}
 use Rattle.std.specs.Prelude.{slice_index}
 use Rattle.live_commit.specs.SetupView.{value_of}
-use Rattle.damon_world.proofs.Opening.{word_of-opening}
 use Rattle.damon_world.proofs.Parts.{index_of_zeros}
 use Rattle.damon_world.proofs.world.World.new.Goals as goal
 
@@ -11,5 +10,5 @@ returns-clause-opening g c = record {
   words = λ p below.
       ap (λ ws. slice_index ws p) c.in_ok-words.ensures
       ∙ index_of_zeros c.pages.result p
-      ∙ sym (word_of-opening (value_of c.args.setup.now) p);
+      ∙ sym (c.pages_are_kept.ensures.opening (value_of c.args.setup.now) p);
 }
