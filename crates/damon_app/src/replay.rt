@@ -6,6 +6,7 @@ ghost use Rattle.damon_control.specs.Command.{command_value, work_of};
 ghost use Rattle.damon_control.specs.Limits.{EachIsWithin};
 ghost use Rattle.damon_control.specs.ScriptView.{said_by};
 ghost use Rattle.script_run.specs.BoundAlong.{EachScriptIsBound};
+ghost use Rattle.script_run.specs.Choices.{EachChoiceIsBest};
 ghost use Rattle.script_run.specs.Report.{report};
 ghost use Rattle.damon_app.specs.Given.{GaveOver};
 ghost use Rattle.damon_app.specs.Taken.{WritesPart};
@@ -16,7 +17,7 @@ ghost use Rattle.damon_app.specs.Answers.{EndsRun, IsAnswer, status_of};
 use crate::{INPUT_LIMIT, Status, read_all, write_all};
 use damon_control::{MAX_WORK, Script, read_script};
 use damon_types::{Sink, Source};
-use script_run::{Filled, each_script_is_bound, open_player};
+use script_run::{Filled, each_choice_is_best, each_script_is_bound, open_player};
 use snapshot_print::Form;
 use std::alloc::Global;
 
@@ -33,8 +34,11 @@ pub fn replay_main<S: Source, K: Sink>(
         IfSome (S.left source.old) (λ bytes. Replays bytes (K.taken sink.old) (K.taken sink.new)) }
     ensures end { IsRead result → IsAtEnd (S.left source.new) }
 
-    // Whatever the status, the states along the run of every script are bound.
+    // Whatever the status, the states along the run of every script are bound; and each aggregation along
+    // it applies each active scheme to the first passing pages of its priority order within what is left
+    // of its quota, which is the best choice.
     ensures bound { EachScriptIsBound }
+    ensures choices { EachChoiceIsBest }
 
     // The status is the one of the input, or a failure.
     ensures complete { AsksReplay words.now → IfSome (S.left source.old) (λ bytes.
@@ -58,6 +62,7 @@ pub fn replay_main<S: Source, K: Sink>(
         (sink.new ≡ sink.old) ⊎ WritesPrefix bytes (K.taken sink.old) (K.taken sink.new)) }
 {
     each_script_is_bound();
+    each_choice_is_best();
     if !asks_replay(words) {
         return Status::Usage;
     }

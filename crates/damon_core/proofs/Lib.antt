@@ -18,4 +18,5 @@ pub mod Rows
 pub mod Hits
 pub mod Passes
 pub mod Bounding
+pub mod Choosing
 pub mod CommitStanding

@@ -69,7 +69,7 @@ notes_hold P kept s holds = serve_notes_hold P kept slot_count 0 s.core.space s.
 abbrev pub KeptByRuns : (RegionList → Type 0) → Type 0
 KeptByRuns P = (slot aggr : ℕ) (space : List Target) (scheme : Scheme) (left : Option ℕ) (r : RegionList) → P r → P (record r { rows = (outcome_of slot space aggr scheme left r).rows })
 
-slot_rows_hold : (P : RegionList → Type 0) → KeptByRuns P → (slot : ℕ) (space : List Target) (aggr tick : ℕ) (regions : RegionList) (notes : List Note) → P regions → P (record regions { rows = (serve_slot slot space aggr tick regions notes).rows })
+pub slot_rows_hold : (P : RegionList → Type 0) → KeptByRuns P → (slot : ℕ) (space : List Target) (aggr tick : ℕ) (regions : RegionList) (notes : List Note) → P regions → P (record regions { rows = (serve_slot slot space aggr tick regions notes).rows })
 slot_rows_hold P kept slot space aggr tick regions notes holds = by_scheme (scheme_of notes slot)
   where
     by_scheme : (o : Option Scheme) → P (record regions { rows = (option_map_or (serve_scheme slot space aggr tick regions notes) o (nothing_served regions notes)).rows })

@@ -14,5 +14,6 @@ pub mod Reached
 pub mod Makes
 pub mod Stands
 pub mod Bound
+pub mod Choosing
 pub mod Kept
 pub mod InPhase

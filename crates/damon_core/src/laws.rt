@@ -6,15 +6,18 @@ ghost use Rattle.damon_core.specs.Note.{word_of};
 ghost use Rattle.damon_core.specs.State.{State, opening};
 ghost use Rattle.damon_core.specs.Reached.{Reached, ReachedByHit};
 ghost use Rattle.damon_core.specs.Bound.{Bound};
+ghost use Rattle.damon_core.specs.Choosing.{ServesBest};
 ghost use Rattle.damon_core.specs.InPhase.{IsInPhase};
 
 /// In each state to which fitting events lead, whatever the results of the loads, there is at least
-/// one row and there are at most `cap`, and the next pick of a pass under way is that of a row. Where
+/// one row and there are at most `cap`, and the next pick of a pass under way is that of a row; and an
+/// aggregation applies each active scheme to the best choice within what is left of its quota. Where
 /// the result of each load is that of its page, also the rows tile their ranges within the limits, each
 /// finished pass checked one page of each row, each hit rests on a touch of its page since the pass
 /// cleared it, and each run of a scheme is of a slot that is set and active, and within its quota.
 pub fn reached_states_are_bound()
     ensures in_phase { (s : State) → Reached s → IsInPhase s }
+    ensures choices { (s : State) → Reached s → ServesBest s }
     ensures bound { (s : State) → ReachedByHit s → Bound s }
 {
     region_list::tiling_is_per_page();
@@ -30,6 +33,7 @@ pub fn reached_states_are_bound()
     live_commit::accepted_commits_are_within();
     scheme_engine::outcome_rows_are_kept();
     scheme_engine::outcome_runs_are_taken();
+    scheme_engine::outcome_is_best();
 }
 
 /// Neither an aggregation nor the slots that a setup sets touch or clear a page: the word of each page

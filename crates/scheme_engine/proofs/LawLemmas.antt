@@ -78,6 +78,13 @@ distinct_candidates space ranges aggr scheme rows ascend = (start_from space ran
 eq_flips : (x y : ℕ) → nat_eq x y ≡ nat_eq y x
 eq_flips x y = grind (arith, nat_tests)
 
+-- candidates in priority order, and candidates with their shares, start at pages of their own
+pub distinct_in_order : ChoiceLaws → (cs : List Candidate) → DistinctStarts cs → DistinctStarts (in_order cs)
+distinct_in_order laws cs distinct = IsDistinct-IsPermutation nat_eq eq_flips (starts cs) (starts (in_order cs)) (IsPermutation-map (λ (c : Candidate). c.start) cs (in_order cs) (laws.same cs distinct)) distinct
+
+pub distinct_shares : ChoiceLaws → (left : Option ℕ) (cs : List Candidate) → DistinctStarts cs → DistinctStarts (with_shares left cs)
+distinct_shares laws left cs distinct = subst (IsDistinct nat_eq) (sym (laws.starts left cs)) distinct
+
 -- the candidates of the definition
 pub record AreDefined (space : List Target) (aggr : ℕ) (scheme : Scheme) (left : Option ℕ) (regions : RegionList) : Type 0 where
   pub distinct : DistinctStarts (candidates_of space regions.ranges aggr scheme regions.rows)
@@ -89,7 +96,7 @@ are_defined laws space aggr scheme left regions tiled =
     let cs = candidates_of space regions.ranges aggr scheme regions.rows in
     let ds = chosen_of space aggr scheme left regions in
     let distinct = distinct_candidates space regions.ranges aggr scheme regions.rows (rows_ascend regions.unit regions.ranges (spans regions.rows) tiled.unit tiled.order tiled.tiling) in
-    let shared : DistinctStarts (with_shares left cs) = subst (IsDistinct nat_eq) (sym (laws.starts left cs)) distinct in
+    let shared : DistinctStarts (with_shares left cs) = distinct_shares laws left cs distinct in
     let same = laws.same (with_shares left cs) shared in
     let chosen : DistinctStarts ds = IsDistinct-IsPermutation nat_eq eq_flips (starts (with_shares left cs)) (starts ds) (IsPermutation-map (λ (c : Candidate). c.start) (with_shares left cs) ds same) shared in
     record {

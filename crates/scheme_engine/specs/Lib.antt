@@ -1,6 +1,7 @@
 pub mod Candidates
 pub mod Taken
 pub mod Outcome
+pub mod Best
 pub mod Slots
 pub mod Served
 pub mod Engine

@@ -8,13 +8,14 @@ ghost use Rattle.damon_types.specs.Space.{IsSpace};
 ghost use Rattle.damon_types.specs.Span.{spans};
 ghost use Rattle.damon_types.specs.Within.{AreWithin};
 ghost use Rattle.region_list.specs.Regions.{RegionList};
+ghost use Rattle.scheme_engine.specs.Best.{IsBestRun};
 ghost use Rattle.scheme_engine.specs.Engine.{BeginBy, FitsSlot};
 ghost use Rattle.scheme_engine.specs.Kept.{AreTiled, CountsWithin, IsRunIn, LiesInRow, OneInPart, StartBy};
 ghost use Rattle.scheme_engine.specs.Outcome.{chosen_of, outcome_of};
 ghost use Rattle.scheme_engine.specs.Served.{slots_served};
 ghost use Rattle.scheme_engine.specs.Slots.{SlotValue};
 
-use priority::{order_is_one, shares_are_within};
+use priority::{order_is_one, shares_are_best, shares_are_within};
 use region_list::{refined_rows_tile, tiling_is_per_page};
 use scheme_filter::{longest_runs_are_one, passing_pages_are_counted};
 
@@ -76,6 +77,20 @@ pub fn outcome_runs_are_taken()
     passing_pages_are_counted();
     longest_runs_are_one();
     tiling_is_per_page();
+}
+
+/// A run of a scheme is the best choice: its candidates are in priority order, each with its share of
+/// what is left of the quota; what it is applied to are the first passing pages of each; no other choice
+/// within what is left has a greater sum of scores, and the certificate holds.
+pub fn outcome_is_best()
+    ensures best { (slot aggr : ℕ) (space : List target) (scheme : scheme_type) (left : Option ℕ)
+        (regions : RegionList) → AreTiled regions
+        → IsBestRun slot space aggr scheme left regions
+        (outcome_of slot space aggr scheme left regions) }
+{
+    order_is_one();
+    shares_are_best();
+    shares_are_within();
 }
 
 /// What serving slots keeps: the rows and their counts as [`outcome_rows_are_kept`] says, the number of

@@ -17,6 +17,7 @@ use Rattle.damon_core.specs.State.{State, opening, row_count}
 use Rattle.damon_core.specs.Event.{Event, Fits, IsClearing, IsLoading, IsObserving, touch, prepare, clear, load, observe, aggregate, commit, show, next_hit}
 use Rattle.damon_core.specs.After.{after, by_clear, by_load, by_observe}
 use Rattle.damon_core.specs.Bound.{Bound}
+use Rattle.damon_core.specs.Choosing.{ServesBest}
 use Rattle.damon_core.specs.InPhase.{IsInPhase}
 use Rattle.damon_core.specs.Pass.{IsPickWithin}
 use Rattle.damon_core.specs.Makes.{AllFit-append, Reached-run}
@@ -30,6 +31,7 @@ use Rattle.script_run.specs.Part.{Part}
 use Rattle.script_run.specs.Part as part
 use Rattle.script_run.specs.declared.part.Until.{Until}
 use Rattle.script_run.specs.BoundAlong.{EachScriptIsBound}
+use Rattle.script_run.specs.Choices.{EachChoiceIsBest}
 use Rattle.script_run.specs.Kept.{ArePartsWithin, IsPartWithin}
 use Rattle.script_run.specs.Parts.{part_of, parts_of, stops_at}
 use Rattle.damon_control.specs.Limits.{AreCommandsWithin, IsCommandWithin}
@@ -190,3 +192,19 @@ bound_along in_phase bound each text s spells =
         is = refl;
       });
     }
+
+-- Each aggregation along the run of a script applies each active scheme to the best choice.
+pub choices_along : ((s : State) → Reached s → IsInPhase s) → ((s : State) → Reached s → ServesBest s) → ScriptsAreSound → EachChoiceIsBest
+choices_along in_phase best each text s spells events rest words is =
+    let sound = each text s spells in
+    let can : CanOpen s.setup = record { space = sound.space; sound = sound.setup; order = sound.order } in
+    let parts = parts_of s.setup.cap s.commands in
+    let fits : AllFit (opening s.setup) (unfold_script s) =
+    parts_fit in_phase (start s) parts (Reached-start s can) (parts_within s.setup.cap (pages_of s.setup.space) s.commands sound.commands) in
+    best (run (opening s.setup) events) (record {
+      setup = s.setup;
+      events = events;
+      can_open = can;
+      fit = AllFit-prefix (opening s.setup) events (aggregate words ∷ rest) (subst (λ es. AllFit (opening s.setup) es) is fits);
+      is = refl;
+    })

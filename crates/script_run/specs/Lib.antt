@@ -6,4 +6,5 @@ pub mod Player
 pub mod Kept
 pub mod Way
 pub mod BoundAlong
+pub mod Choices
 pub mod Reaching

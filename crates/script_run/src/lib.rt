@@ -10,5 +10,5 @@ mod player;
 /// The random words of a script.
 mod random;
 
-pub use laws::{each_script_is_bound, passes_reach_their_phase};
+pub use laws::{each_choice_is_best, each_script_is_bound, passes_reach_their_phase};
 pub use player::{Filled, PIECE, Player, open_player};

@@ -1,7 +1,7 @@
 -- Once slots were served, the runs that come next for a choice are all runs of its slot.
-use Rattle.std.proofs.Common.{◌≡◌, ℕ, zero, suc, ◌+◌, ◌≤◌, Bool, true, false, cond, List, [], ◌∷◌, ◌++◌, take, drop, length, refl, ap, subst, sym, ◌∙◌, arith, Some, None}
+use Rattle.std.proofs.Common.{◌≡◌, ℕ, suc, ◌+◌, ◌≤◌, Bool, true, false, cond, List, [], ◌∷◌, ◌++◌, take, drop, length, refl, ap, sym, ◌∙◌, arith, Some, None}
 use Rattle.std.specs.Prelude.{◌==◌, map, Option}
-use Rattle.std.specs.List.{AllByRecursion, filter, flat_map, prefix_len}
+use Rattle.std.specs.List.{AllByRecursion, filter}
 use Rattle.std.proofs.Math.Seq.{take-append_seam}
 use Rattle.std.proofs.lemmas.Bool.Decides.{nat_tests}
 use Rattle.damon_types.specs.declared.space.Target.{Target}
@@ -13,7 +13,7 @@ use Rattle.scheme_filter.specs.Passes.{passes}
 use Rattle.scheme_engine.specs.declared.applied.AppliedRun.{AppliedRun}
 use Rattle.scheme_engine.specs.declared.applied.SlotChoice.{SlotChoice}
 use Rattle.scheme_engine.specs.Outcome.{chosen_of}
-use Rattle.scheme_engine.specs.Served.{Served, choice_of, left_in, no_choice, scheme_served, slot_served, slots_served}
+use Rattle.scheme_engine.specs.Served.{left_in, no_choice, scheme_served, slot_served, slots_served}
 use Rattle.scheme_engine.specs.Slots.{SetScheme, SlotValue, turned_slot}
 use Rattle.scheme_engine.specs.Taken.{applied_run, applied_runs, candidate_runs, span_at, taken_runs}
 use Rattle.snapshot_print.specs.Schemes.{choice_lines, choices_by_slot, choices_text, runs_of_slot}

@@ -1,5 +1,5 @@
 -- The lines of the slots from one on.
-use Rattle.std.proofs.Common.{◌≡◌, ℕ, zero, suc, ◌+◌, ◌<◌, List, [], ◌∷◌, ◌++◌, drop, length, get_or, refl, ap, subst, sym, ◌∙◌, arith}
+use Rattle.std.proofs.Common.{◌≡◌, ℕ, zero, suc, ◌+◌, ◌<◌, List, [], ◌∷◌, ◌++◌, drop, length, get_or, refl, subst, arith}
 use Rattle.scheme_engine.specs.Slots.{SlotValue, empty_slot}
 use Rattle.snapshot_print.specs.Schemes.{shown_slot, shown_slots}
 

@@ -63,6 +63,7 @@ fn place_before(bytes: &mut [u8], end: usize, row: &Row, space: &Space) -> usize
 }
 
 // Writes ` START-END` of consecutive pages: at most 38 bytes.
+#[inline(always)]
 pub(crate) fn pages_before(
     bytes: &mut [u8],
     end: usize,

@@ -54,7 +54,8 @@ pub fn print_end(
 // Appends the first line of a show, the lines of the rows, and those of the set slots.
 #[tactic(auto, using(crate::proofs::Appending::appends))]
 fn print_state(out: &mut Vec<u8>, monitor: &Monitor) -> Result<(), AllocError>
-    ensures ok { OnOk result (out.new.items ≡ out.old.items ++ show_text Form.Text (printed_monitor monitor.now)) }
+    ensures ok { OnOk result (out.new.items ≡ out.old.items
+        ++ show_text Form.Text (printed_monitor monitor.now)) }
     ensures kept { KeepsFront out.old.items out.new.items }
 {
     print_first_line(out, monitor)?;

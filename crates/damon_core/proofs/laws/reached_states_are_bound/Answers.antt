@@ -1,5 +1,6 @@
 use Rattle.std.proofs.Common.{arith}
 use Rattle.damon_core.proofs.Bounding.{reached_bound}
+use Rattle.damon_core.proofs.Choosing.{serves_best}
 use Rattle.damon_core.proofs.Keeping.{any_result, reached_keeps}
 use Rattle.damon_core.proofs.Rows.{HasRows, RowLaws, rows_kept}
 use Rattle.damon_core.proofs.Served.{RunLaws}
@@ -42,5 +43,6 @@ returns c =
     let within : RunLaws = record { outcome = record { tiled = c.outcome_rows_are_kept.ensures.tiled; sum = c.outcome_runs_are_taken.ensures.sum }; within = c.outcome_runs_are_taken.ensures.within } in
     record {
       in_phase = λ s reached. (let rows = reached_keeps HasRows (rows_kept any_result laws) s reached in record { some = rows.some; few = omega (arith, rows.few, rows.most); pick = rows.within });
+      choices = λ s reached. serves_best c.outcome_is_best.ensures.best laws s (reached_keeps HasRows (rows_kept any_result laws) s reached);
       bound = reached_bound laws within;
     }
