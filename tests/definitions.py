@@ -28,12 +28,12 @@ from typing import NamedTuple
 
 TOP = Path(__file__).resolve().parent.parent
 PAGE = TOP / "docs/DEFINITIONS.md"
-MACHINE = ["Bound", "opening", "damon_core/After.after", "damon_core/Event.Fits"]
+MACHINE = ["Bound", "ServesBest", "opening", "damon_core/After.after", "damon_core/Event.Fits"]
 OK = ["damon_app::replay_main.ok"]
 # A claim in words, its roots, and definitions that a law allows to be read in place of others.
 CLAIMS = [
-    ("the headline, for events: `Bound` of each state that they lead to", MACHINE, {}),
-    ("the headline, for a script: `IsBoundAlong`", ["IsBoundAlong"], {}),
+    ("the headline, for events: `Bound` and `ServesBest` of each state that they lead to", MACHINE, {}),
+    ("the headline, for a script: `IsBoundAlong` and `ChoosesBestAlong`", ["IsBoundAlong", "ChoosesBestAlong"], {}),
     ("which texts are scripts: `IsText`", ["IsText"], {}),
     ("clause `ok` of `replay_main`: what was read, and what was written", OK, {}),
     ("the same, with the grammar as `IsText` in place of `script_of`", OK, {"script_of": "IsText"}),
