@@ -20,7 +20,7 @@ use Rattle.damon_core.specs.Kept.{SamplingView}
 use Rattle.damon_core.specs.Report.{ReportValue}
 use Rattle.damon_core.specs.State.{row_count}
 use Rattle.damon_core.specs.Event.{load_index}
-use Rattle.damon_core.specs.Aggregate.{core_aggregated, engine_served, merged_regions}
+use Rattle.damon_core.specs.Aggregate.{core_after_aggregation, engine_served, merged_regions}
 use Rattle.damon_core.specs.Commit.{committed_core, committed_slots, core_after_commit, slots_after_commit}
 use Rattle.damon_core.specs.After.{prepared_core, cleared_core, loaded_core, passed_core}
 use Rattle.damon_core.specs.Stands.{MonitorView}
@@ -86,7 +86,7 @@ after_observe m = ended m.core.phase m
 
 -- the aggregation that was due is carried out
 abbrev pub after_aggregate : List ℕ → MonitorView → MonitorView
-after_aggregate words m = record m { core = core_aggregated words m.slots m.core; slots = (engine_served m.core m.slots).slots }
+after_aggregate words m = record m { core = core_after_aggregation words m.slots m.core; slots = (engine_served m.core m.slots).slots }
 
 -- a commit is made, or refused
 abbrev pub after_asked : CommitValue → MonitorView → MonitorView

@@ -16,7 +16,7 @@ use Rattle.damon_core.specs.Note.{Note, was_hit}
 use Rattle.damon_core.specs.Totals.{checks_made, hits_made, pass_checks, pass_hits}
 use Rattle.damon_core.specs.State.{State, Core, row_count}
 use Rattle.damon_core.specs.Event.{IsClearing, IsLoading, IsObserving, clear_index, load_index, prepare, clear, load, observe, aggregate}
-use Rattle.damon_core.specs.Aggregate.{aggregated, aggregated_core, core_aggregated, engine_served, merged_regions, served}
+use Rattle.damon_core.specs.Aggregate.{aggregated, aggregated_core, core_after_aggregation, engine_served, merged_regions, served}
 use Rattle.damon_core.specs.Serve.{Serving}
 use Rattle.damon_core.specs.Slots.{slot_count, slots_of}
 use Rattle.damon_core.specs.After.{after, prepared_core, passed_core, phase_cleared, phase_after_pass, by_clear, by_load, by_observe, loaded_at, counted, counted_from}
@@ -219,8 +219,8 @@ aggregate_stands laws m s ws tiled due stands =
     let alike : AreServed 0 slot_count (merged_regions s.core) s.notes (engine_served s.core (slots_of s.notes)) (served s) = slots_alike laws slot_count 0 s.core.space s.core.attrs.aggr s.core.ticks (merged_regions s.core) s.notes tiled in
     record {
       same =
-          ap (core_aggregated ws m.slots) stands.same
-          ∙ ap (λ (slots : List SlotValue). core_aggregated ws slots s.core) stands.slots
+          ap (core_after_aggregation ws m.slots) stands.same
+          ∙ ap (λ (slots : List SlotValue). core_after_aggregation ws slots s.core) stands.slots
           ∙ core_alike ws s.core (engine_served s.core (slots_of s.notes)) (served s) alike.rows alike.runs alike.choices;
       results = λ k. over k ∙ sym (was_hit-served s m.core.ticks k);
       checks = stands.checks ∙ sym (checks_made-served s);

@@ -53,7 +53,7 @@ abbrev pub engine_served : Core → List SlotValue → Served
 engine_served c slots = slots_served 0 c.space c.attrs.aggr c.ticks (merged_regions c) slots
 
 -- what a monitor with these slots shows after an aggregation
-abbrev pub core_aggregated : List ℕ → List SlotValue → Core → Core
-core_aggregated words slots c =
+abbrev pub core_after_aggregation : List ℕ → List SlotValue → Core → Core
+core_after_aggregation words slots c =
     let o = engine_served c slots in
     aggregated_core words o.rows o.runs o.choices c

@@ -12,7 +12,7 @@ ghost use Rattle.live_commit.specs.SetupView.{value_of};
 ghost use Rattle.damon_core.specs.Note.{is_cleared};
 ghost use Rattle.damon_core.specs.State.{State, opening, opening_core, opening_notes, opening_rows, row_count};
 ghost use Rattle.damon_core.specs.Event.{IsClearing, IsLoading, IsObserving, clear_index, load_index, prepare as prepare_event, clear as clear_event, load as load_event, observe as observe_event, aggregate as aggregate_event, commit as commit_event};
-ghost use Rattle.damon_core.specs.Aggregate.{core_aggregated, engine_served};
+ghost use Rattle.damon_core.specs.Aggregate.{core_after_aggregation, engine_served};
 ghost use Rattle.damon_core.specs.Commit.{changed_by, check_of, commit_answer, committed_core, committed_slots, core_after_commit, slots_after_commit, view_of};
 ghost use Rattle.damon_core.specs.Kept.{IsUnused};
 ghost use Rattle.damon_core.specs.Slots.{slots_of};
@@ -301,7 +301,7 @@ impl Monitor {
     pub fn aggregate(&mut self, words: &[u32])
         requires due { self.old.core.phase ≡ Phase.Due }
         requires words { length words.now ≡ 2 * self.old.core.attrs.max }
-        ensures core { self.new.core ≡ core_aggregated words.now self.old.slots self.old.core }
+        ensures core { self.new.core ≡ core_after_aggregation words.now self.old.slots self.old.core }
         ensures slots { self.new.slots ≡ (engine_served self.old.core self.old.slots).slots }
         ensures event { Makes Stands self.old self.new (aggregate_event words.now ∷ []) }
     {

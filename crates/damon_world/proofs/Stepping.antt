@@ -10,7 +10,7 @@ use Rattle.damon_core.specs.Note.{word_of}
 use Rattle.damon_core.specs.State.{Core, State, row_count}
 use Rattle.damon_core.specs.Event.{Event, prepare, load, observe, aggregate, IsLoading, IsObserving, load_index, next_hit}
 use Rattle.damon_core.specs.After.{after, by_load, by_observe, passed_core, prepared_core}
-use Rattle.damon_core.specs.Aggregate.{aggregated, core_aggregated}
+use Rattle.damon_core.specs.Aggregate.{aggregated, core_after_aggregation}
 use Rattle.damon_core.specs.Makes.{Makes}
 use Rattle.damon_core.specs.Reached.{AllFit, Reached}
 use Rattle.damon_core.specs.Stands.{MonitorView, Stands}
@@ -109,7 +109,7 @@ prepare_advances stream m new words old_source new_source ws idle count drew res
     })
     drew rest event (ap (λ (c : Core). c.ticks) shown) (ap (λ (c : Core). c.space) shown) (ap (λ (c : Core). c.regions.cap) shown)
 
-pub aggregate_advances : ((s : State) (words : List ℕ) (page : ℕ) → word_of (aggregated words s).notes page ≡ word_of s.notes page) → {R : Type 0} (stream : R → Stream) (m new : MonitorView) (words : List ℕ) (old_source new_source : R) (ws : List ℕ) → m.core.phase ≡ Due → length ws ≡ 2 * m.core.attrs.max → ws ≡ drawn (2 * m.core.attrs.max) (stream old_source) → stream new_source ≡ drawn_rest (2 * m.core.attrs.max) (stream old_source) → new.core ≡ core_aggregated ws m.slots m.core → Makes Stands m new (aggregate ws ∷ []) → IsAdvance stream (record { monitor = m; words = words; source = old_source }) (record { monitor = new; words = words; source = new_source }) 1
+pub aggregate_advances : ((s : State) (words : List ℕ) (page : ℕ) → word_of (aggregated words s).notes page ≡ word_of s.notes page) → {R : Type 0} (stream : R → Stream) (m new : MonitorView) (words : List ℕ) (old_source new_source : R) (ws : List ℕ) → m.core.phase ≡ Due → length ws ≡ 2 * m.core.attrs.max → ws ≡ drawn (2 * m.core.attrs.max) (stream old_source) → stream new_source ≡ drawn_rest (2 * m.core.attrs.max) (stream old_source) → new.core ≡ core_after_aggregation ws m.slots m.core → Makes Stands m new (aggregate ws ∷ []) → IsAdvance stream (record { monitor = m; words = words; source = old_source }) (record { monitor = new; words = words; source = new_source }) 1
 aggregate_advances kept stream m new words old_source new_source ws due count drew rest shown event =
     draws_advance stream m new words old_source new_source (aggregate ws) (2 * m.core.attrs.max) ws
     (record {
