@@ -1,11 +1,14 @@
 // The texts of three pages that are watched whole; the expected texts were worked out by hand.
-ghost use Rattle.std.specs.Prelude.{◌≡◌, [], IfOk};
+ghost use Rattle.std.specs.Prelude.{◌<◌, ◌^◌, length};
 
 use super::*;
-use damon_core::Monitor;
-use damon_types::{Attrs, RangeSpec, Space, Target};
+use damon_core::{Changed, Monitor};
+use damon_types::{
+    Action, Attrs, Filters, Marks, Pattern, Prefer, Quota, RangeSpec, Scheme, SlotChange, Space,
+    Span, Target, Weights,
+};
 use line_text::{same_text, strip};
-use live_commit::{Phase, Setup};
+use live_commit::{Commit, CommitFault, Phase, Setup};
 use std::alloc::{AllocError, Global};
 use std::process::Abort;
 use std::test::Fail;
@@ -33,9 +36,36 @@ const AFTER_AN_AGGREGATION: &[u8] = b"show tick=1 phase=idle rows=3\n\
     row 0 0x12000-0x13000 count=0 last=0 age=1\n\
     end ticks=1 rows=3 checks=3 hits=1\n";
 
-// The setup of three pages in one target, each a row, with an aggregation after each pass.
-fn three_pages(alloc: Global) -> Result<Setup, Fail>
-    ensures { IfOk result (λ s. s.slots.list ≡ []) }
+// The aggregations of a monitor whose slot 3 sees a metric after the first one.
+const SLOT_IS_INACTIVE: &[u8] = b"aggregate tick=1 threshold=0 rows=3\n\
+    slot 3 inactive\n\
+    row 0 0x10000-0x11000 count=0 last=0 age=1\n\
+    row 0 0x11000-0x12000 count=0 last=0 age=1\n\
+    row 0 0x12000-0x13000 count=0 last=0 age=1\n";
+
+const SLOT_IS_APPLIED: &[u8] = b"aggregate tick=2 threshold=0 rows=3\n\
+    apply 3 pageout 0 0x10000-0x11000 score=11\n\
+    slot 3 left=1 taken=1 lowest=11\n\
+    row 0 0x10000-0x11000 count=0 last=0 age=0\n\
+    row 0 0x11000-0x12000 count=0 last=0 age=2\n\
+    row 0 0x12000-0x13000 count=0 last=0 age=2\n";
+
+const QUOTA_IS_USED_UP: &[u8] = b"aggregate tick=3 threshold=0 rows=3\n\
+    slot 3 left=0 taken=0 lowest=none\n\
+    row 0 0x10000-0x11000 count=0 last=0 age=1\n\
+    row 0 0x11000-0x12000 count=0 last=0 age=3\n\
+    row 0 0x12000-0x13000 count=0 last=0 age=3\n";
+
+const SHOW_WITH_A_SCHEME: &[u8] = b"show tick=3 phase=idle rows=3\n\
+    row 0 0x10000-0x11000 count=0 last=0 age=1\n\
+    row 0 0x11000-0x12000 count=0 last=0 age=3\n\
+    row 0 0x12000-0x13000 count=0 last=0 age=3\n\
+    scheme 3 pageout active=yes charged=1 start=0 tried=6 applied=1 exceeds=2\n\
+    end ticks=3 rows=3 checks=9 hits=0\n";
+
+// The setup of three pages in one target, each a row, with these slots and an aggregation after each pass.
+fn three_pages(alloc: Global, slots: &[SlotChange]) -> Result<Setup, Fail>
+    requires { length slots.now < 2 ^ 32 }
 {
     let target = Target {
         base: 0x1_0000,
@@ -53,13 +83,57 @@ fn three_pages(alloc: Global) -> Result<Setup, Fail>
         class: 0,
     };
     let space = Space::new(alloc, &[target])?;
-    let setup = Setup::new(alloc, space, 1, 8, attrs, &[range], &[])?;
+    let setup = Setup::new(alloc, space, 1, 8, attrs, &[range], slots)?;
     Ok(setup)
 }
 
 // A monitor before its first pass.
 fn started(alloc: Global) -> Result<Monitor, Fail> {
-    let setup = three_pages(alloc)?;
+    let setup = three_pages(alloc, &[])?;
+    let monitor = Monitor::new(alloc, &setup)?;
+    Ok(monitor)
+}
+
+const ANY: Span = Span {
+    low: 0,
+    high: u32::MAX,
+};
+
+// A scheme that pages out one page in 5 ticks, which a metric from 200 to below 400 makes active.
+fn one_page_in_five_ticks() -> Scheme {
+    Scheme {
+        action: Action::Pageout,
+        pattern: Pattern {
+            size: ANY,
+            count: ANY,
+            age: ANY,
+        },
+        quota: Some(Quota {
+            bytes: 4096,
+            reset: 5,
+        }),
+        weights: Weights {
+            size: 1,
+            count: 1,
+            age: 1,
+        },
+        prefer: Prefer::Hot,
+        marks: Some(Marks {
+            high: 500,
+            mid: 400,
+            low: 200,
+        }),
+        filters: Filters::new(),
+    }
+}
+
+// A monitor whose slot 3 holds that scheme, before its first pass.
+fn started_with_a_scheme(alloc: Global) -> Result<Monitor, Fail> {
+    let change = SlotChange {
+        slot: 3,
+        scheme: Some(one_page_in_five_ticks()),
+    };
+    let setup = three_pages(alloc, &[change])?;
     let monitor = Monitor::new(alloc, &setup)?;
     Ok(monitor)
 }
@@ -102,13 +176,13 @@ fn load_all(rt: &impl Abort, monitor: &mut Monitor) {
     }
 }
 
-// Ends the first pass, whose picks are all loaded.
+// Ends the pass, whose picks are all loaded.
 fn end_pass(rt: &impl Abort, monitor: &mut Monitor) {
     let Phase::Checking { next } = monitor.phase() else {
         panic!(rt; "no end comes next");
     };
     assert_eq!(rt; (next, monitor.rows().len()), (3, 3));
-    assert_eq!(rt; monitor.ticks(), 0);
+    assert!(rt; monitor.ticks() < 1_000);
     monitor.observe();
 }
 
@@ -127,6 +201,50 @@ fn aggregate(rt: &impl Abort, monitor: &mut Monitor) {
     };
     assert_eq!(rt; monitor.attrs().max, 8);
     monitor.aggregate(&[0; 16]);
+}
+
+// Makes a pass without a hit, and carries out the aggregation after it.
+fn aggregate_without_hits(rt: &impl Abort, monitor: &mut Monitor) {
+    prepare(rt, monitor);
+    clear(rt, monitor);
+    for _ in 0..3 {
+        load(rt, monitor, false);
+    }
+    end_pass(rt, monitor);
+    aggregate(rt, monitor);
+}
+
+// A monitor whose slot 3 holds a scheme, after its first aggregation.
+fn aggregated_once(rt: &impl Abort, alloc: Global) -> Result<Monitor, Fail> {
+    let mut monitor = started_with_a_scheme(alloc)?;
+    aggregate_without_hits(rt, &mut monitor);
+    Ok(monitor)
+}
+
+// Commits a metric that makes the slot active.
+fn commit_metric(monitor: &mut Monitor) -> Result<Changed, CommitFault> {
+    let commit = Commit {
+        attrs: None,
+        ranges: None,
+        slot: None,
+        metric: Some(300),
+    };
+    monitor.commit(&commit)
+}
+
+// That monitor after a metric and a second aggregation.
+fn aggregated_twice(rt: &impl Abort, alloc: Global) -> Result<Monitor, Fail> {
+    let mut monitor = aggregated_once(rt, alloc)?;
+    assert!(rt; commit_metric(&mut monitor).is_ok());
+    aggregate_without_hits(rt, &mut monitor);
+    Ok(monitor)
+}
+
+// That monitor after a third aggregation.
+fn aggregated_thrice(rt: &impl Abort, alloc: Global) -> Result<Monitor, Fail> {
+    let mut monitor = aggregated_twice(rt, alloc)?;
+    aggregate_without_hits(rt, &mut monitor);
+    Ok(monitor)
 }
 
 // The text of a show, with the last line.
@@ -188,5 +306,37 @@ fn an_aggregation_has_the_rows_that_it_reported(rt: HostRuntime) -> Result<(), F
     aggregate(&rt, &mut monitor);
     assert!(rt; same_text(&aggregated(alloc, &monitor)?, AGGREGATION));
     assert!(rt; same_text(&shown(alloc, &monitor)?, AFTER_AN_AGGREGATION));
+    Ok(())
+}
+
+#[test]
+fn an_inactive_slot_is_named(rt: HostRuntime) -> Result<(), Fail> {
+    let alloc = rt.alloc();
+    let monitor = aggregated_once(&rt, alloc)?;
+    assert!(rt; same_text(&aggregated(alloc, &monitor)?, SLOT_IS_INACTIVE));
+    Ok(())
+}
+
+#[test]
+fn a_scheme_has_the_runs_that_it_was_applied_to(rt: HostRuntime) -> Result<(), Fail> {
+    let alloc = rt.alloc();
+    let monitor = aggregated_twice(&rt, alloc)?;
+    assert!(rt; same_text(&aggregated(alloc, &monitor)?, SLOT_IS_APPLIED));
+    Ok(())
+}
+
+#[test]
+fn a_quota_that_is_used_up_leaves_nothing(rt: HostRuntime) -> Result<(), Fail> {
+    let alloc = rt.alloc();
+    let monitor = aggregated_thrice(&rt, alloc)?;
+    assert!(rt; same_text(&aggregated(alloc, &monitor)?, QUOTA_IS_USED_UP));
+    Ok(())
+}
+
+#[test]
+fn a_show_has_the_scheme_of_a_slot(rt: HostRuntime) -> Result<(), Fail> {
+    let alloc = rt.alloc();
+    let monitor = aggregated_thrice(&rt, alloc)?;
+    assert!(rt; same_text(&shown(alloc, &monitor)?, SHOW_WITH_A_SCHEME));
     Ok(())
 }
