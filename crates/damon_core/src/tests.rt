@@ -11,6 +11,8 @@ use std::test::Fail;
 
 /// Commits in each phase, accepted and refused.
 mod commits;
+/// Schemes of a setup and of commits.
+mod schemes;
 
 // A range of the first target.
 fn range(from: u64, to: u64) -> RangeSpec {
