@@ -62,8 +62,7 @@ slots_served_best : RunsAreBest → ((slot aggr : ℕ) (space : List Target) (sc
     → (n slot : ℕ) (space : List Target) (aggr tick : ℕ) (regions : RegionList) (notes : List Note) → AreTiled regions → AreSlotsServed n slot space aggr tick regions notes
 slots_served_best law kept zero slot space aggr tick regions notes tiled = tt
 slots_served_best law kept (suc n) slot space aggr tick regions notes tiled =
-    let first = serve_slot slot space aggr tick regions notes in
-    (
+    let first = serve_slot slot space aggr tick regions notes in (
       slot_served_best law slot space aggr tick regions notes tiled,
       slots_served_best law kept n (slot + 1) space aggr tick (record regions { rows = first.rows }) first.notes (slot_rows_hold AreTiled kept slot space aggr tick regions notes tiled),
     )
