@@ -24,13 +24,13 @@ def script(cap, attrs, pages, commands):
     return "\n".join(lines).encode()
 
 
-def aggregations():
+def aggregations(schemes=()):
     """An aggregation after each pass, over 64 ranges and some 3,700 rows, with two sweeps in each pass."""
     choose = random.Random(3)
     lines = ["damon script 1", "seed 3", "unit 4", "cap 4096", "attrs 2800 4096 1", f"target 0x0 {MILLION}"]
     for number in range(64):
         lines.append(f"range 0 {number * 16384 * PAGE:#x} {(number + 1) * 16384 * PAGE:#x} {number % 16}")
-    lines.append("begin")
+    lines += [*schemes, "begin"]
     for _ in range(366):
         lines.append("arm")
         for _ in range(2):
@@ -38,6 +38,20 @@ def aggregations():
             lines.append(f"sweep 0 {first * PAGE:#x} {(first + 8192) * PAGE:#x}")
         lines.append("finish")
     return "\n".join([*lines, "end", ""]).encode()
+
+
+def sixteen_schemes():
+    """A scheme in each slot: a third with filters by address, a third by class, each with a quota of its own."""
+    actions = ["pageout", "cold", "willneed", "lru_prio", "hugepage", "stat"]
+    for slot in range(16):
+        keys = [f"age={slot % 3},4294967295", f"quota={(1500 + 3500 * slot) * PAGE},{1 + slot % 4}"]
+        keys += [f"weights={1 + slot % 5},{slot % 4},{1 + slot % 3}", "prefer=cold" if slot % 2 else "prefer=hot"]
+        for part in range(4 if slot % 3 == 0 else 0):
+            first = part * MILLION // 4 + 900 * slot
+            keys.append(f"filter=reject:addr:{first * PAGE:#x}-{(first + 40000) * PAGE:#x}")
+        if slot % 3 == 1:
+            keys += [f"filter=reject:class:{slot}", f"filter=allow:not-class:{(slot + 6) % 16}"]
+        yield f"scheme {slot} {actions[slot % len(actions)]} " + " ".join(keys)
 
 
 def commits():
@@ -65,8 +79,12 @@ def workloads():
     # A pass over 4,000 rows takes 8,002 steps. An aggregation is due after the thousandth.
     for name, pages in (("passes", MILLION), ("small passes", 4000)):
         yield name, script(4000, "4000 4000 1000", pages, ["step 8002"] * 1000)
+    # A tenth and a hundredth of them, to see how the time grows.
+    for times in (100, 10):
+        yield f"{times} passes", script(4000, "4000 4000 1000", MILLION, ["step 8002"] * times)
     yield "reading", script(4, "3 4 10", MILLION, [f"touch 0 {page * PAGE:#x}" for page in range(800_000)])
     yield "aggregating", aggregations()
+    yield "schemes", aggregations(sixteen_schemes())
     yield "commits", commits()
     # A pass over three rows with its aggregation takes nine steps.
     yield "small rows", script(3, "3 3 1", 3, ["step 1000000"])
