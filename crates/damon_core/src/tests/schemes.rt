@@ -3,8 +3,7 @@
 use super::{load, one_target, prepare, range};
 use crate::{Changed, Monitor};
 use damon_types::{
-    Action, Attrs, Filters, Marks, Pattern, Prefer, Quota, Row, Scheme, SlotChange, Space, Span,
-    Target, Weights,
+    Action, Attrs, Filters, Marks, Pattern, Prefer, Quota, Row, Scheme, SlotChange, Span, Weights,
 };
 use live_commit::{Commit, CommitFault, Phase, Setup};
 use quota_charge::Window;
@@ -53,8 +52,12 @@ fn with_marks() -> Scheme {
 }
 
 // The setup of six pages with this scheme in slot 3.
-fn six_pages(alloc: Global, max: u32, aggr: u32, scheme: Scheme) -> Result<Setup, Fail> {
-    let attrs = Attrs { min: 3, max, aggr };
+fn six_pages(alloc: Global, max: u32, scheme: Scheme) -> Result<Setup, Fail> {
+    let attrs = Attrs {
+        min: 3,
+        max,
+        aggr: 1,
+    };
     let space = one_target(alloc, 6)?;
     let ranges = [range(0x1_0000, 0x1_6000)];
     let slots = [SlotChange {
@@ -102,16 +105,6 @@ fn aggregate(rt: &impl Abort, monitor: &mut Monitor, words: &[u32]) {
     };
     assert_eq!(rt; words.len(), 2 * monitor.attrs().max as usize);
     monitor.aggregate(words);
-}
-
-// Makes this many passes of three rows without a hit, where no more are allowed.
-fn make_passes(rt: &impl Abort, monitor: &mut Monitor, count: u32) {
-    for _ in 0..count {
-        if monitor.phase() == Phase::Due {
-            aggregate(rt, monitor, &[0; 6]);
-        }
-        make_pass(rt, monitor, &[0; 3], &[false; 3]);
-    }
 }
 
 // A run of slot 3.
@@ -178,12 +171,6 @@ fn accept(rt: &impl Abort, monitor: &mut Monitor, commit: &Commit) {
     );
 }
 
-// The window of slot 3, if it is set.
-fn window(monitor: &Monitor) -> Option<Window> {
-    let view = monitor.engine().slot(3)?;
-    Some(view.window)
-}
-
 // Whether slot 3 is set and active.
 fn is_active(monitor: &Monitor) -> bool {
     match monitor.engine().slot(3) {
@@ -199,7 +186,7 @@ fn first_aggregation(
     max: u32,
     words: &[u32],
 ) -> Result<Monitor, Fail> {
-    let setup = six_pages(alloc, max, 1, scheme(Action::Pageout, 12_289))?;
+    let setup = six_pages(alloc, max, scheme(Action::Pageout, 12_289))?;
     let mut monitor = Monitor::new(alloc, &setup)?;
     make_pass(rt, &mut monitor, &[0; 3], &[false, false, true]);
     aggregate(rt, &mut monitor, words);
@@ -233,20 +220,6 @@ fn a_row_taken_in_part_is_cut(rt: HostRuntime) -> Result<(), Fail> {
 }
 
 #[test]
-fn no_row_is_cut_without_room(rt: HostRuntime) -> Result<(), Fail> {
-    let monitor = first_aggregation(&rt, rt.alloc(), 3, &[0; 6])?;
-    assert_eq!(rt;
-        monitor.report().rows(),
-        [row(0, 2, 0, 1), row(2, 2, 0, 1), row(4, 2, 1, 0)].as_slice()
-    );
-    assert_eq!(rt;
-        monitor.report().applied().choices(),
-        [choice(3, 3, Some(16))].as_slice()
-    );
-    Ok(())
-}
-
-#[test]
 fn a_slot_shows_its_statistics(rt: HostRuntime) -> Result<(), Fail> {
     let monitor = first_aggregation(&rt, rt.alloc(), 3, &[0; 6])?;
     assert_eq!(rt;
@@ -267,98 +240,10 @@ fn a_slot_shows_its_statistics(rt: HostRuntime) -> Result<(), Fail> {
     Ok(())
 }
 
-// A monitor of the six pages after 20 passes and two aggregations, in which three pages were taken.
-fn after_twenty_passes(rt: &impl Abort, alloc: Global) -> Result<Monitor, Fail> {
-    let setup = six_pages(alloc, 3, 10, scheme(Action::Stat, 12_289))?;
-    let mut monitor = Monitor::new(alloc, &setup)?;
-    make_passes(rt, &mut monitor, 20);
-    aggregate(rt, &mut monitor, &[0; 6]);
-    Ok(monitor)
-}
-
-#[test]
-fn a_lower_quota_takes_no_charge_back(rt: HostRuntime) -> Result<(), Fail> {
-    let mut monitor = after_twenty_passes(&rt, rt.alloc())?;
-    accept(&rt, &mut monitor, &of_scheme(scheme(Action::Stat, 8_192)));
-    make_passes(&rt, &mut monitor, 10);
-    aggregate(&rt, &mut monitor, &[0; 6]);
-    assert_eq!(rt; monitor.ticks(), 30);
-    assert_eq!(rt;
-        monitor.report().applied().choices(),
-        [choice(0, 0, None)].as_slice()
-    );
-    Ok(())
-}
-
-#[test]
-fn a_window_survives_commits_until_it_ends(rt: HostRuntime) -> Result<(), Fail> {
-    let mut monitor = after_twenty_passes(&rt, rt.alloc())?;
-    make_passes(&rt, &mut monitor, 15);
-    let dropped = SlotChange {
-        slot: 3,
-        scheme: None,
-    };
-    accept(&rt, &mut monitor, &of_slot(Some(dropped), None));
-    assert!(rt; monitor.engine().slot(3).is_none());
-    accept(&rt, &mut monitor, &of_scheme(scheme(Action::Stat, 8_192)));
-    let old = Window {
-        start: 0,
-        charged: 3,
-    };
-    assert_eq!(rt; window(&monitor), Some(old));
-
-    make_passes(&rt, &mut monitor, 5);
-    aggregate(&rt, &mut monitor, &[0; 6]);
-    assert_eq!(rt;
-        monitor.report().applied().choices(),
-        [choice(2, 2, Some(16))].as_slice()
-    );
-    let new = Window {
-        start: 40,
-        charged: 2,
-    };
-    assert_eq!(rt; window(&monitor), Some(new));
-    Ok(())
-}
-
-#[test]
-fn an_inactive_slot_takes_nothing(rt: HostRuntime) -> Result<(), Fail> {
-    let setup = six_pages(rt.alloc(), 3, 1, with_marks())?;
-    let mut monitor = Monitor::new(rt.alloc(), &setup)?;
-    make_passes(&rt, &mut monitor, 1);
-    aggregate(&rt, &mut monitor, &[0; 6]);
-    let inactive = SlotChoice {
-        slot: 3,
-        active: false,
-        left: None,
-        taken: 0,
-        lowest: None,
-    };
-    let applied = monitor.report().applied();
-    assert_eq!(rt; applied.choices(), [inactive].as_slice());
-    assert!(rt; applied.runs().is_empty());
-    Ok(())
-}
-
-#[test]
-fn a_metric_makes_a_slot_active(rt: HostRuntime) -> Result<(), Fail> {
-    let setup = six_pages(rt.alloc(), 3, 1, with_marks())?;
-    let mut monitor = Monitor::new(rt.alloc(), &setup)?;
-    accept(&rt, &mut monitor, &of_slot(None, Some(399)));
-    assert!(rt; is_active(&monitor));
-    make_passes(&rt, &mut monitor, 1);
-    aggregate(&rt, &mut monitor, &[0; 6]);
-    assert_eq!(rt;
-        monitor.report().applied().choices(),
-        [choice(2, 2, Some(16))].as_slice()
-    );
-    Ok(())
-}
-
 // A slot that is set anew has seen no metric, but it sees that of the commit that sets it.
 #[test]
 fn a_slot_is_set_before_the_metric(rt: HostRuntime) -> Result<(), Fail> {
-    let setup = six_pages(rt.alloc(), 3, 1, with_marks())?;
+    let setup = six_pages(rt.alloc(), 3, with_marks())?;
     let mut monitor = Monitor::new(rt.alloc(), &setup)?;
     accept(&rt, &mut monitor, &of_slot(None, Some(300)));
     accept(&rt, &mut monitor, &of_scheme(with_marks()));
@@ -374,7 +259,7 @@ fn a_slot_is_set_before_the_metric(rt: HostRuntime) -> Result<(), Fail> {
 
 #[test]
 fn a_refused_commit_leaves_the_slots(rt: HostRuntime) -> Result<(), Fail> {
-    let setup = six_pages(rt.alloc(), 3, 1, with_marks())?;
+    let setup = six_pages(rt.alloc(), 3, with_marks())?;
     let mut monitor = Monitor::new(rt.alloc(), &setup)?;
     let attrs = Attrs {
         max: 9,
@@ -392,99 +277,5 @@ fn a_refused_commit_leaves_the_slots(rt: HostRuntime) -> Result<(), Fail> {
     assert_eq!(rt; monitor.commit(&commit), Err(fault));
     assert!(rt; monitor.engine().slot(3).is_some());
     assert!(rt; !is_active(&monitor));
-    Ok(())
-}
-
-// The setup of 1,024 pages, whose division has nine rows of 102 pages and one of 106. The scheme in slot 0
-// pages out 100 pages in 20 ticks of rows without an access.
-fn many_pages(alloc: Global) -> Result<Setup, Fail> {
-    let attrs = Attrs {
-        min: 10,
-        max: 100,
-        aggr: 20,
-    };
-    let target = Target {
-        base: 0x40_0000,
-        pages: 1_024,
-    };
-    let space = Space::new(alloc, &[target])?;
-    let slots = [SlotChange {
-        slot: 0,
-        scheme: Some(cold_pages()),
-    }];
-    let ranges = [range(0x40_0000, 0x80_0000)];
-    let setup = Setup::new(alloc, space, 2, 100, attrs, &ranges, &slots)?;
-    Ok(setup)
-}
-
-// A scheme for rows that were not accessed, the older ones first.
-fn cold_pages() -> Scheme {
-    Scheme {
-        pattern: Pattern {
-            size: ANY,
-            count: Span { low: 0, high: 0 },
-            age: Span {
-                low: 1,
-                high: u32::MAX,
-            },
-        },
-        quota: Some(Quota {
-            bytes: 409_600,
-            reset: 20,
-        }),
-        weights: Weights {
-            size: 0,
-            count: 1,
-            age: 1,
-        },
-        prefer: Prefer::Cold,
-        ..scheme(Action::Pageout, 0)
-    }
-}
-
-// A monitor of them after 20 passes, in each of which the first row alone was accessed, and an aggregation.
-fn with_cold_pages(rt: &impl Abort, alloc: Global) -> Result<Monitor, Fail> {
-    let setup = many_pages(alloc)?;
-    let mut monitor = Monitor::new(alloc, &setup)?;
-    let mut hits = [false; 10];
-    hits[0] = true;
-    for _ in 0..20 {
-        make_pass(rt, &mut monitor, &[0; 10], &hits);
-    }
-    aggregate(rt, &mut monitor, &[0; 200]);
-    Ok(monitor)
-}
-
-#[test]
-fn cold_pages_are_taken_up_to_the_quota(rt: HostRuntime) -> Result<(), Fail> {
-    let monitor = with_cold_pages(&rt, rt.alloc())?;
-    let applied = monitor.report().applied();
-    let run = AppliedRun {
-        slot: 0,
-        target: 0,
-        start: 102,
-        pages: 100,
-        score: 50,
-    };
-    assert_eq!(rt; applied.runs(), [run].as_slice());
-    let choice = SlotChoice {
-        slot: 0,
-        ..choice(100, 100, Some(50))
-    };
-    assert_eq!(rt; applied.choices(), [choice].as_slice());
-    Ok(())
-}
-
-#[test]
-fn the_end_of_a_row_taken_in_part_is_too_small_to_be_split(rt: HostRuntime) -> Result<(), Fail> {
-    let monitor = with_cold_pages(&rt, rt.alloc())?;
-    let reported = monitor.report().rows();
-    assert_eq!(rt; reported.len(), 11);
-    assert_eq!(rt; reported[0], row(0, 102, 20, 0));
-    assert_eq!(rt; reported[1], row(102, 100, 0, 0));
-    assert_eq!(rt; reported[2], row(202, 2, 0, 1));
-    assert_eq!(rt; reported[3], row(204, 102, 0, 1));
-    assert_eq!(rt; monitor.rows().len(), 21);
-    assert_eq!(rt; (monitor.checks(), monitor.hits()), (200, 20));
     Ok(())
 }
