@@ -196,12 +196,15 @@ def main() -> None:
     options = parser().parse_args()
     try:
         result = converted(options)
-        sys.stdout.writelines(result.script.pieces)
-        sys.stdout.flush()
     except (UsageError, LimitError, TraceError) as error:
         fail(str(error))
     except (OSError, EOFError, lzma.LZMAError) as error:
         fail(f"{options.trace}: {error}")
+    try:
+        sys.stdout.writelines(result.script.pieces)
+        sys.stdout.flush()
+    except OSError as error:
+        fail(f"writing failed: {error}")
     for note in notes(result):
         print(f"note: {note}", file=sys.stderr)
 

@@ -56,7 +56,7 @@ def check_settings(settings: Settings) -> None:
 
 
 def hint(name: str) -> str:
-    return {"min": " or --max", "max": ", --min or --cap"}.get(name, "")
+    return {"cap": " or --max", "min": " or --max", "max": ", --min or --cap"}.get(name, "")
 
 
 def check_ranges(areas: list[Area], settings: Settings) -> None:
@@ -111,7 +111,6 @@ class Writer:
     def __init__(self, areas: list[Area], settings: Settings) -> None:
         self.settings = settings
         self.lookup = Lookup(areas)
-        self.spans = [(area.first, area.after) for area in areas]
         self.metrics = dict(settings.metrics)
         self.pieces: list[str] = []
         self.bytes = 0
