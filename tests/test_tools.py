@@ -337,7 +337,8 @@ class Comparison(unittest.TestCase):
             ran = run("compare.py", str(exact), str(sampled))
         # 2 pages of target 1 and 4 of target 0 are hot; of the first the second report has one, and one beside it.
         self.assertEqual(ran.stdout.decode().splitlines(),
-                         ["5 of 6 hot pages found: 83.3 %", "1 of 6 pages called hot are not: 16.7 %"])
+                         ["5 of 6 hot pages found: 83.3 %", "1 of 6 pages called hot are not: 16.7 %",
+                          "2 of 2 pages that schemes were applied to were accessed in the next 5 aggregations: 100.0 %"])
 
 
 class Help(unittest.TestCase):
