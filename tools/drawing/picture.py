@@ -186,7 +186,7 @@ def draw_time(canvas: Canvas, columns: Columns, top: float) -> None:
         x = x_of(tick, columns)
         canvas.put(f'<path class="frame" d="M{short(x)} {top:g}v5"/>')
         canvas.text(x, top + 17, f"{tick}", "small middle soft")
-    canvas.text(RIGHT + 10, top + 17, "sampling intervals", "small soft")
+    canvas.text(RIGHT + 28, top + 17, "sampling intervals", "small soft")
 
 
 def round_step(least: float) -> int:
