@@ -341,6 +341,33 @@ class Comparison(unittest.TestCase):
                           "2 of 2 pages that schemes were applied to were accessed in the next 5 aggregations: 100.0 %"])
 
 
+class Tutorial(unittest.TestCase):
+    """The commands of docs/TUTORIAL.md work as printed, but for those that need valgrind."""
+
+    COMMANDS = ("mkdir ", "tools/", "./damon ", "grep ", "sed ")
+
+    def test_commands_and_outputs(self) -> None:
+        blocks = re.findall(r"^```\n(.*?)^```", (TOP / "docs/TUTORIAL.md").read_text(), re.MULTILINE | re.DOTALL)
+        with tempfile.TemporaryDirectory() as folder:
+            output = ""
+            for block in blocks:
+                if "valgrind" in block or "out/shop.trace" in block:
+                    continue
+                for line in block.splitlines():
+                    if line.startswith(self.COMMANDS):
+                        output += self.run_command(line.replace("out/", f"{folder}/").replace("./damon", str(PROGRAM)))
+                    else:
+                        self.assertIn(line + "\n", output)
+            for picture in ("shop", "exact", "patient"):
+                made = (Path(folder) / f"{picture}.svg").read_bytes()
+                self.assertEqual(made == (TOP / f"docs/pictures/{picture}.svg").read_bytes(), True, picture)
+
+    def run_command(self, line: str) -> str:
+        ran = subprocess.run(line, shell=True, cwd=TOP, stdout=subprocess.PIPE, stderr=subprocess.STDOUT, timeout=300)
+        self.assertEqual(ran.returncode, 0, f"{line}: {ran.stdout.decode()}")
+        return ran.stdout.decode()
+
+
 class Help(unittest.TestCase):
     def test_help_shows_an_example(self) -> None:
         for tool in ("trace_to_script.py", "picture.py", "compare.py"):

@@ -30,6 +30,10 @@ An access is one line of the trace; a modify is one access, and counts as a load
 Without --loads, --stores and --fetches, loads and stores are taken.
 """
 SCHEME = re.compile(r"scheme [ -~]*")
+USUAL_INTERVAL = 10_000
+"""The accesses of an interval where --interval is not given."""
+SHORTEST_FITTED = 1_000
+"""The same with --fit, which makes intervals longer but not shorter."""
 METRIC = re.compile(r"([0-9]{1,9}):([0-9]{1,10})")
 
 
@@ -60,7 +64,7 @@ def parser() -> argparse.ArgumentParser:
     add("trace", nargs="?", default="-", help="the trace; `-`, the default, is standard input; .gz and .xz are unpacked")
     for kind in KINDS:
         add(f"--{kind}", action="store_true", help=f"take {kind}")
-    add("--interval", type=int, default=10_000, metavar="N", help="accesses of a sampling interval (10000)")
+    add("--interval", type=int, metavar="N", help="accesses of a sampling interval (10000; with --fit 1000)")
     add("--fit", action="store_true", help="make the interval longer than --interval where the limits of a script need it")
     add("--gap", type=int, default=16, metavar="PAGES", help="untouched pages that a target may have between touched ones (16)")
     add("--exact", action="store_true", help=f"one page a region: sets --unit, --cap, --min and --max; at most {MOST_CAP} pages")
@@ -138,6 +142,8 @@ def settings_of(options: argparse.Namespace, pages: int) -> Settings:
 
 def converted(options: argparse.Namespace) -> Result:
     """Reads the trace and makes the script. Raises UsageError, TraceError and LimitError."""
+    if options.interval is None:
+        options.interval = SHORTEST_FITTED if options.fit else USUAL_INTERVAL
     check_options(options)
     early = settings_of(options, 0)
     check = too_much_to_fit(early.cap) if options.fit else too_much_at_all(early.cap, options.interval)
