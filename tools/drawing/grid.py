@@ -48,9 +48,8 @@ def rows_of(report: list[Aggregation], target: int, low: int, high: int, most: i
     """The edges of the rows of a panel: where regions begin and end, if that gives at most `most` rows."""
     edges = {low, high}
     for aggregation in report:
-        for region in aggregation.regions:
-            if region.target == target:
-                edges.update((region.start, region.end))
+        for region in aggregation.by_target.get(target, ()):
+            edges.update((region.start, region.end))
     edges.update(edge for aggregation in report for run in aggregation.applied
                  if run.target == target for edge in (run.start, run.end))
     if len(edges) - 1 <= most:
@@ -71,10 +70,9 @@ def heat_column(group: list[Aggregation], target: int, rows: list[int]) -> list[
     count = len(rows) - 1
     hits, covered = [0.0] * count, [0.0] * count
     for aggregation in group:
-        for region in aggregation.regions:
-            if region.target == target:
-                share = region.count / aggregation.passes
-                spread(rows, region.start, region.end, share, hits, covered)
+        for region in aggregation.by_target.get(target, ()):
+            share = region.count / aggregation.passes
+            spread(rows, region.start, region.end, share, hits, covered)
     return [level(hit / cover) if cover else -1 for hit, cover in zip(hits, covered)]
 
 

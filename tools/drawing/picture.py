@@ -4,7 +4,7 @@ from __future__ import annotations
 from dataclasses import dataclass
 from xml.sax.saxutils import escape
 
-from .grid import LEVELS, MOST_COLUMNS, Cells, Columns, Rectangle, cells_of, columns_of, rows_of
+from .grid import LEVELS, Cells, Columns, Rectangle, cells_of, columns_of, rows_of
 from .report import Aggregation, targets, working_set
 from .style import SLOT_COLOURS, style
 
@@ -78,11 +78,6 @@ def panels_of(report: list[Aggregation], labels: dict[int, str]) -> list[Panel]:
 def x_of(tick: float, columns: Columns) -> float:
     first, last = columns.edges[0], columns.edges[-1]
     return LEFT + (RIGHT - LEFT) * (tick - first) / (last - first)
-
-
-def path_of(rectangles: list[Rectangle]) -> str:
-    """Rectangles as one path, in cells."""
-    return "".join(f"M{x} {y}h{width}v{height}h-{width}z" for x, y, width, height in rectangles)
 
 
 def scaled_path(rectangles: list[Rectangle], xs: list[float], ys: list[float]) -> str:

@@ -3,6 +3,7 @@ from __future__ import annotations
 
 import re
 from dataclasses import dataclass, field
+from functools import cached_property
 from typing import Iterable, Iterator
 
 ADDRESS = r"0x([0-9a-f]+)"
@@ -51,6 +52,14 @@ class Aggregation:
     """The number of regions that its first line names."""
     regions: list[Region] = field(default_factory=list)
     applied: list[Applied] = field(default_factory=list)
+
+    @cached_property
+    def by_target(self) -> dict[int, list[Region]]:
+        """The regions of each target. To be used when all regions are read."""
+        result: dict[int, list[Region]] = {}
+        for found in self.regions:
+            result.setdefault(found.target, []).append(found)
+        return result
 
 
 def aggregations(lines: Iterable[str]) -> list[Aggregation]:
