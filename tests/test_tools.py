@@ -315,6 +315,13 @@ class Pictures(unittest.TestCase):
         self.assertTrue(heat["h5"].startswith("M580 "))
         self.assertEqual(len(re.findall("hatch0", ran.stdout.decode())), 3)
 
+    def test_slots_share_colours(self) -> None:
+        lines = [f"apply {slot} stat 0 0x10000-0x12000 score=9\nslot {slot} left=none taken=2 lowest=9\n" for slot in range(6)]
+        report = "aggregate tick=4 threshold=0 rows=1\n" + "".join(lines) + "row 0 0x10000-0x14000 count=0 last=0 age=1\n"
+        texts = [element.text for element in xml.fromstring(run("picture.py", text=report.encode()).stdout).iter(f"{SVG}text")]
+        self.assertEqual([text for text in texts if text and text.startswith("slot")],
+                         ["slots 0, 4: 4 pages", "slots 1, 5: 4 pages", "slot 2 stat: 2 pages", "slot 3 stat: 2 pages"])
+
     def test_a_large_picture_is_small(self) -> None:
         source, lines = random.Random(1), []
         for tick in range(1, 301):

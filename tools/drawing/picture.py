@@ -11,7 +11,7 @@ from .style import SLOT_COLOURS, style
 WIDTH = 960.0
 LEFT, RIGHT = 128.0, 806.0
 """Between these the panels lie; addresses stand left of them, sizes right of them."""
-TOP = 74.0
+TOP = 80.0
 PANELS = 480.0
 """The height that the panels share, if none is too small."""
 LEAST, GAP = 26.0, 8.0
@@ -136,13 +136,19 @@ def draw_legend(canvas: Canvas, slots: dict[int, str], pages: dict[int, int]) ->
                     f"{number / LEVELS:.2f} to {(number + 1) / LEVELS:.2f}")
     canvas.rect(x, y, step * (LEVELS + 1), 11, "frame")
     canvas.text(x + step * (LEVELS + 1) + 6, y + 9, "1", "small soft")
-    x += step * (LEVELS + 1) + 30
-    for order, (slot, action) in enumerate(list(slots.items())[:SLOT_COLOURS]):
-        colour = order % SLOT_COLOURS
+    draw_slots(canvas, slots, pages, x + step * (LEVELS + 1) + 30, y)
+
+
+def draw_slots(canvas: Canvas, slots: dict[int, str], pages: dict[int, int], left: float, top: float) -> None:
+    """The marks of slots, two beside each other; slots that share a colour share an entry."""
+    for colour in range(min(SLOT_COLOURS, len(slots))):
+        x, y = left + 236 * (colour % 2), top + 15 * (colour // 2)
         canvas.put(f'<rect x="{x:g}" y="{y:g}" width="18" height="11" fill="url(#hatch{colour})"/>')
         canvas.rect(x, y, 18, 11, f"mark s{colour}")
-        canvas.text(x + 24, y + 9, f"slot {slot} {action}: {pages[slot]} pages", "small")
-        x += 172
+        same = list(slots)[colour::SLOT_COLOURS]
+        names = ", ".join(map(str, same)) if len(same) > 1 else f"{same[0]} {slots[same[0]]}"
+        count = sum(pages[slot] for slot in same)
+        canvas.text(x + 24, y + 9, f"slot{'s' * (len(same) > 1)} {names}: {count} pages", "small")
 
 
 def curve(values: list[float], ticks: list[int], columns: Columns, top: float, most: float) -> list[tuple[float, float]]:
