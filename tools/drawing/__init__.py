@@ -1,0 +1,1 @@
+"""From a report of damon to a picture."""

@@ -1,0 +1,140 @@
+"""Fills the cells of a grid of time and addresses, and joins equal cells to rectangles.
+
+A panel has at most MOST_COLUMNS columns; its rows lie where regions begin and end, or are of equal
+height if those are too many. So the size of a picture is bounded, whatever the report has.
+"""
+from __future__ import annotations
+
+from bisect import bisect_left
+from dataclasses import dataclass
+
+from .report import Aggregation
+
+MOST_COLUMNS = 480
+LEVELS = 9
+"""The steps of the colour scale above 0."""
+
+Rectangle = tuple[int, int, int, int]
+"""Column, row, and how many of each; row 0 has the lowest addresses."""
+
+
+@dataclass(frozen=True)
+class Columns:
+    """The ticks at which columns begin and end; each has the same number of aggregations."""
+
+    edges: list[int]
+    groups: list[list[Aggregation]]
+
+
+@dataclass(frozen=True)
+class Cells:
+    """The cells of one panel, as rectangles by level, and by slot for the pages of schemes."""
+
+    rows: list[int]
+    """The addresses at which rows begin and end."""
+    heat: dict[int, list[Rectangle]]
+    applied: dict[int, list[Rectangle]]
+
+
+def columns_of(report: list[Aggregation]) -> Columns:
+    """Groups aggregations so that there are at most MOST_COLUMNS columns."""
+    size = -(-len(report) // MOST_COLUMNS)
+    groups = [report[start : start + size] for start in range(0, len(report), size)]
+    first = report[0].tick - report[0].passes
+    return Columns([first, *(group[-1].tick for group in groups)], groups)
+
+
+def rows_of(report: list[Aggregation], target: int, low: int, high: int, most: int) -> list[int]:
+    """The edges of the rows of a panel: where regions begin and end, if that gives at most `most` rows."""
+    edges = {low, high}
+    for aggregation in report:
+        for region in aggregation.by_target.get(target, ()):
+            edges.update((region.start, region.end))
+    edges.update(edge for aggregation in report for run in aggregation.applied
+                 if run.target == target for edge in (run.start, run.end))
+    if len(edges) - 1 <= most:
+        return sorted(edges)
+    return [low + (high - low) * number // most for number in range(most + 1)]
+
+
+def level(share: float) -> int:
+    """The step of the colour scale for a share from 0 to 1; 0 only for a share of 0."""
+    return 0 if share <= 0 else min(LEVELS, 1 + int(share * LEVELS))
+
+
+def heat_column(group: list[Aggregation], target: int, rows: list[int]) -> list[int]:
+    """The levels of one column: the mean share of hits over its aggregations and the row's bytes.
+
+    A cell that no region covers has the level -1.
+    """
+    count = len(rows) - 1
+    hits, covered = [0.0] * count, [0.0] * count
+    for aggregation in group:
+        for region in aggregation.by_target.get(target, ()):
+            share = region.count / aggregation.passes
+            spread(rows, region.start, region.end, share, hits, covered)
+    return [level(hit / cover) if cover else -1 for hit, cover in zip(hits, covered)]
+
+
+def spread(rows: list[int], start: int, end: int, share: float, hits: list[float], covered: list[float]) -> None:
+    """Adds a region's share to the rows that it overlaps, weighted by the bytes."""
+    row = max(0, bisect_left(rows, start + 1) - 1)
+    while row < len(hits) and rows[row] < end:
+        both = min(end, rows[row + 1]) - max(start, rows[row])
+        hits[row] += share * both
+        covered[row] += both
+        row += 1
+
+
+def applied_column(group: list[Aggregation], target: int, rows: list[int], slot: int) -> list[int]:
+    """1 for each row with a page to which the slot's scheme was applied in this column."""
+    marks = [0] * (len(rows) - 1)
+    for aggregation in group:
+        for run in aggregation.applied:
+            if run.target == target and run.slot == slot:
+                row = max(0, bisect_left(rows, run.start + 1) - 1)
+                while row < len(marks) and rows[row] < run.end:
+                    marks[row] = 1
+                    row += 1
+    return marks
+
+
+def cells_of(columns: Columns, target: int, rows: list[int], slots: list[int]) -> Cells:
+    """The rectangles of a panel."""
+    heat = [heat_column(group, target, rows) for group in columns.groups]
+    applied = {
+        slot: rectangles([applied_column(group, target, rows, slot) for group in columns.groups]).get(1, [])
+        for slot in slots
+    }
+    return Cells(rows, rectangles(heat), applied)
+
+
+def rectangles(columns: list[list[int]]) -> dict[int, list[Rectangle]]:
+    """Joins cells of the same level: within a column first, then columns with the same run."""
+    done: dict[int, list[Rectangle]] = {}
+    open_runs: dict[tuple[int, int, int], int] = {}
+    for column, cells in enumerate(columns):
+        runs = set(runs_of(cells))
+        for run in [run for run in open_runs if run not in runs]:
+            close(done, run, open_runs.pop(run), column)
+        for run in runs:
+            open_runs.setdefault(run, column)
+    for run, since in open_runs.items():
+        close(done, run, since, len(columns))
+    return {value: sorted(found) for value, found in done.items()}
+
+
+def runs_of(cells: list[int]) -> list[tuple[int, int, int]]:
+    """The longest runs of equal cells that are above 0: first row, number of rows, level."""
+    runs, start = [], 0
+    for row in range(1, len(cells) + 1):
+        if row == len(cells) or cells[row] != cells[start]:
+            if cells[start] > 0:
+                runs.append((start, row - start, cells[start]))
+            start = row
+    return runs
+
+
+def close(done: dict[int, list[Rectangle]], run: tuple[int, int, int], since: int, column: int) -> None:
+    row, rows, value = run
+    done.setdefault(value, []).append((since, row, column - since, rows))

@@ -1,0 +1,1 @@
+"""From a trace of a program's memory accesses to a script of damon."""

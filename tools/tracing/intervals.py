@@ -1,0 +1,103 @@
+"""Cuts a trace into sampling intervals of a number of accesses.
+
+Of each interval only the runs of touched pages are kept. To find an interval that fits the limits of
+a script in one reading of the trace, neighbours are joined in pairs whenever too much was collected.
+"""
+from __future__ import annotations
+
+from array import array
+from collections import Counter
+from dataclasses import dataclass, field
+from itertools import chain, islice
+from typing import Callable, Iterable, Iterator
+
+from .lackey import Pages
+
+Runs = array
+"""The touched pages of an interval, ascending: first page, page after the last one, and so on."""
+
+
+@dataclass
+class Recording:
+    """What is kept of a trace."""
+
+    length: int
+    """The accesses of each interval; the last interval may have fewer."""
+    intervals: list[Runs] = field(default_factory=list)
+    uses: Counter[int] = field(default_factory=Counter)
+    """The accesses of each page; one across a border counts for its first page alone."""
+    more_pages: set[int] = field(default_factory=set)
+    """Pages behind a border that an access crossed."""
+    accesses: int = 0
+    runs: int = 0
+    """The runs of all intervals together."""
+
+
+def record(trace: Iterable[Pages], length: int, too_much: Callable[[Recording], bool]) -> Recording:
+    """Reads a whole trace in intervals of `length` accesses.
+
+    Whenever `too_much` says so of what was collected so far, neighbours are joined in pairs and the
+    length doubles. It may raise an error instead.
+    """
+    recording = Recording(length)
+    trace = iter(trace)
+    while interval := list(islice(trace, recording.length)):
+        add(recording, interval)
+        # Joining needs an even number of whole intervals; a shorter one is the last of the trace.
+        while len(recording.intervals) % 2 == 0 and too_much(recording):
+            double(recording)
+    return recording
+
+
+def add(recording: Recording, interval: list[Pages]) -> None:
+    """Adds one interval, given by its accesses."""
+    recording.uses.update([pages[0] for pages in interval])
+    distinct = set(interval)
+    touched = set(chain.from_iterable(distinct))
+    recording.more_pages.update(*(pages[1:] for pages in distinct if len(pages) > 1))
+    recording.accesses += len(interval)
+    runs = runs_of(sorted(touched))
+    recording.intervals.append(runs)
+    recording.runs += len(runs) // 2
+
+
+def double(recording: Recording) -> None:
+    """Makes intervals of twice the length."""
+    recording.intervals = list(joined(recording.intervals, 2))
+    recording.length *= 2
+    recording.runs = sum(map(len, recording.intervals)) // 2
+
+
+def joined(intervals: list[Runs], count: int) -> Iterator[Runs]:
+    """Joins each `count` intervals that follow each other; the last ones may be fewer."""
+    for start in range(0, len(intervals), count):
+        yield union(intervals[start : start + count])
+
+
+def union(intervals: list[Runs]) -> Runs:
+    """The pages touched in at least one of these intervals."""
+    if len(intervals) == 1:
+        return intervals[0]
+    result: list[int] = []
+    for first, after in sorted(chain.from_iterable(map(pairs, intervals))):
+        if result and first <= result[-1]:
+            result[-1] = max(result[-1], after)
+        else:
+            result += (first, after)
+    return array("Q", result)
+
+
+def pairs(runs: Runs) -> Iterator[tuple[int, int]]:
+    """The runs of an interval, each as its first page and the page after its last one."""
+    return zip(runs[::2], runs[1::2])
+
+
+def runs_of(pages: list[int]) -> Runs:
+    """The longest runs of these pages, which rise."""
+    result: list[int] = []
+    for page in pages:
+        if result and page == result[-1]:
+            result[-1] = page + 1
+        else:
+            result += (page, page + 1)
+    return array("Q", result)
