@@ -243,7 +243,7 @@ part_leads back b commit line part may is =
     else_way (begins_with (codes "apply") line) _ _ (part_begins commit line part read).not_first
     ∙ lead_to (part_line commit line) part (λ p. InCommit b (with_part commit p)) read
 
-parts_lead : LinesReadBack → (b : Body) (commit : CommitValue) (between : List (List ℕ)) (parts : List Part) (lines : List (List ℕ)) → EachSays IsPart between parts → come_in_order commit parts ≡ true
+pub parts_lead : LinesReadBack → (b : Body) (commit : CommitValue) (between : List (List ℕ)) (parts : List Part) (lines : List (List ℕ)) → EachSays IsPart between parts → come_in_order commit parts ≡ true
     → leads (InCommit b commit) (between ++ lines) ≡ leads (InCommit b (with_parts commit parts)) lines
 parts_lead back b commit [] [] lines each order = refl
 parts_lead back b commit (line ∷ between) (part ∷ parts) lines each order =
@@ -354,7 +354,7 @@ regroup : (a b c d : List (List ℕ)) → ((a ++ b) ++ c) ++ d ≡ a ++ (b ++ (c
 regroup a b c d = simp append_assoc
 
 -- a setup's lines lead to a body
-setup_leads : LeadLaws → (seed : ℕ) (setup : SetupValue) (lines back : List (List ℕ)) → SaySetup lines seed setup
+pub setup_leads : LeadLaws → (seed : ℕ) (setup : SetupValue) (lines back : List (List ℕ)) → SaySetup lines seed setup
     → leads AtHeader (lines ++ codes "begin" ∷ back) ≡ leads (InBody (begun seed setup)) back
 setup_leads laws seed setup lines back says =
     let f : Frame = record { seed = seed; unit = setup.unit; cap = setup.cap; attrs = setup.attrs } in

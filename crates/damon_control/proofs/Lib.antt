@@ -26,3 +26,8 @@ pub mod LineWords
 pub mod Leading
 mod SpellExamples
 pub mod WorkLemmas
+pub mod Appending
+pub mod WrittenLemmas
+pub mod WrittenSchemes
+pub mod WrittenRanges
+pub mod ReadWritten

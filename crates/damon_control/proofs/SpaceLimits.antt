@@ -47,13 +47,13 @@ accepted-IsTarget i t ok = record {
   end = grind (arith, nat_tests);
 }
 
-each_target : (i : ℕ) (ts : List Target) → checked_targets_from i ts ≡ Ok tt → AllByRecursion IsTarget ts
+pub each_target : (i : ℕ) (ts : List Target) → checked_targets_from i ts ≡ Ok tt → AllByRecursion IsTarget ts
 each_target i [] ok = tt
 each_target i (t ∷ ts) ok =
     let both = both_accept (checked_target i t) (checked_targets_from (i + 1) ts) ok in
     (accepted-IsTarget i t both.0, each_target (i + 1) ts both.1)
 
-target_there : (ts : List Target) (i : ℕ) (t : Target) → AllByRecursion IsTarget ts → slice_get ts i ≡ Some t → IsTarget t
+pub target_there : (ts : List Target) (i : ℕ) (t : Target) → AllByRecursion IsTarget ts → slice_get ts i ≡ Some t → IsTarget t
 target_there [] i t each is = absurd cc
 target_there (u ∷ us) zero t each is = let same : u ≡ t = cc in subst IsTarget same each.0
 target_there (u ∷ us) (suc i) t each is = target_there us i t each.1 is
@@ -164,17 +164,17 @@ each_range ts unit cap index before (s ∷ specs) ok =
     let both = no_fault index (checked_range ts unit cap index before s) _ ok in
     (range_accepted ts unit cap index before s both.0, each_range ts unit cap (index + 1) (Some s) specs both.1)
 
-offset-suc : (t : Target) (ts : List Target) (i : ℕ) → offset (t ∷ ts) (suc i) ≡ t.pages + offset ts i
+pub offset-suc : (t : Target) (ts : List Target) (i : ℕ) → offset (t ∷ ts) (suc i) ≡ t.pages + offset ts i
 offset-suc t ts i = sum_by-cons (λ (u : Target). u.pages) t (take i ts)
 
 -- the pages of a target lie between its offset and the next
-offset-next : (ts : List Target) (i : ℕ) (t : Target) → slice_get ts i ≡ Some t → offset ts (suc i) ≡ offset ts i + t.pages
+pub offset-next : (ts : List Target) (i : ℕ) (t : Target) → slice_get ts i ≡ Some t → offset ts (suc i) ≡ offset ts i + t.pages
 offset-next [] i t is = absurd cc
 offset-next (u ∷ us) zero t is = let same : u ≡ t = cc in omega (arith, ap (λ (t : Target). t.pages) same, offset-suc u us 0)
 offset-next (u ∷ us) (suc i) t is = omega (arith, offset-suc u us i, offset-suc u us (suc i), offset-next us i t is)
 
 -- the base of a target that is there
-base_of_there : (ts : List Target) (i : ℕ) (t : Target) → slice_get ts i ≡ Some t → base_of ts i ≡ t.base
+pub base_of_there : (ts : List Target) (i : ℕ) (t : Target) → slice_get ts i ≡ Some t → base_of ts i ≡ t.base
 base_of_there [] i t is = absurd cc
 base_of_there (u ∷ us) zero t is = let same : u ≡ t = cc in ap (λ (t : Target). t.base) same
 base_of_there (u ∷ us) (suc i) t is = base_of_there us i t is

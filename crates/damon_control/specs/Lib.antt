@@ -20,3 +20,6 @@ pub mod Laws
 pub mod ReadBack
 pub mod Text
 pub mod Sound
+pub mod Written
+pub mod Kept
+pub mod WriteBack

@@ -1,5 +1,6 @@
 -- A script as a text: its lines, what they say, and the limits of what they say.
 use Rattle.std.specs.Prelude.{◌≡◌, ◌⊎◌, ℕ, ◌^◌, ◌<◌, ◌≤◌, Bool, true, ◌&&◌, List, [], ◌∷◌, ◌++◌, length, map, codes, Ok, ◌↔◌}
+use Rattle.damon_types.specs.declared.attrs.Attrs.{Attrs}
 use Rattle.damon_types.specs.declared.range.RangeSpec.{RangeSpec}
 use Rattle.damon_types.specs.declared.space.Target.{Target}
 use Rattle.damon_types.specs.Space.{checked}
@@ -33,15 +34,16 @@ EachSays says [] [] = Unit {0}
 EachSays says (line ∷ lines) (value ∷ values) = says line value × EachSays says lines values
 EachSays says _ _ = ⊥
 
+-- the lines of the numbers of a setup
+abbrev pub number_lines : ℕ → ℕ → ℕ → Attrs → List (List ℕ)
+number_lines seed unit cap attrs =
+    spelled_seed seed ∷ spelled_unit unit ∷ spelled_cap cap ∷ spelled_attrs attrs ∷ []
+
 -- the lines of a setup up to its schemes
 abbrev pub setup_lines : ℕ → SetupValue → List RangeSpec → List (List ℕ)
 setup_lines seed setup specs =
     codes "damon script 1"
-    ∷ spelled_seed seed
-    ∷ spelled_unit setup.unit
-    ∷ spelled_cap setup.cap
-    ∷ spelled_attrs setup.attrs
-    ∷ (map spelled_target setup.space ++ map spelled_range specs)
+    ∷ (number_lines seed setup.unit setup.cap setup.attrs ++ (map spelled_target setup.space ++ map spelled_range specs))
 
 -- lines say a seed and a setup: a line for each number, target, range and scheme, in this order and each within its limits
 pub record SaySetup (lines : List (List ℕ)) (seed : ℕ) (setup : SetupValue) : Type 0 where

@@ -12,6 +12,7 @@ ghost use Rattle.damon_control.specs.ReadBack.{LinesReadBack};
 ghost use Rattle.damon_control.specs.Sound.{ScriptsAreSound};
 ghost use Rattle.damon_control.specs.Spelling.{attrs_words, range_words, spelled_attrs, spelled_cap, spelled_range, spelled_seed, spelled_setting, spelled_target, spelled_unit};
 ghost use Rattle.damon_control.specs.Text.{TextsAreRead};
+ghost use Rattle.damon_control.specs.WriteBack.{CommitsAreReadBack, SetupsAreReadBack};
 
 use damon_types::pages_rise;
 use line_text::{
@@ -109,4 +110,27 @@ pub fn scripts_are_sound()
     texts_are_exactly_read();
     made_in_order();
     pages_rise();
+}
+
+/// What [`write_setup`](crate::write_setup) appends, in its place after the first line of a script and
+/// before `begin`, is read as the same seed and setup, and what follows as the body. It holds for every
+/// setup that the type allows.
+pub fn setups_are_read_back()
+    ensures back { SetupsAreReadBack }
+{
+    words_have_laws();
+    spelled_lines_are_read();
+    next_decides();
+    fault_stays();
+}
+
+/// What [`write_commit`](crate::write_commit) appends, in its place between `commit` and `apply`, is
+/// read as the same commit, from any line of a body on.
+pub fn commits_are_read_back()
+    ensures back { CommitsAreReadBack }
+{
+    words_have_laws();
+    spelled_lines_are_read();
+    next_decides();
+    fault_stays();
 }

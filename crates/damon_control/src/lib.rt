@@ -22,15 +22,21 @@ mod lines;
 mod reader;
 /// What a script is.
 mod script;
+/// Appending a setup and a commit.
+mod spelling;
 #[cfg(test)]
 mod tests;
 /// The words of a line.
 mod words;
+/// Appending fields, and the words of a scheme.
+mod written;
 
 pub use fault::{ReadFail, ScriptFault, ScriptKind};
 pub use laws::{
-    body_lines_are_spelled, fields_are_spelled, schemes_are_spelled, scripts_are_sound,
-    setup_lines_are_spelled, spelled_lines_are_read, texts_are_exactly_read,
+    body_lines_are_spelled, commits_are_read_back, fields_are_spelled, schemes_are_spelled,
+    scripts_are_sound, setup_lines_are_spelled, setups_are_read_back, spelled_lines_are_read,
+    texts_are_exactly_read,
 };
 pub use reader::{MAX_BYTES, read_script};
 pub use script::{Command, Commands, MAX_STEPS, MAX_WORK, Script};
+pub use spelling::{write_commit, write_setup};

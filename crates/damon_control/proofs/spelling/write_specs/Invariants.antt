@@ -1,0 +1,11 @@
+use Rattle.std.proofs.Common.{◌≡◌, ◌++◌, drop, map}
+use Rattle.damon_control.specs.Kept.{KeepsFront}
+use Rattle.damon_control.specs.Spelling.{spelled_range}
+use Rattle.damon_control.specs.Text.{lines_text}
+use Rattle.damon_control.proofs.spelling.write_specs.Given as goal
+
+abbrev pub invariant-loop-spec : goal.invariant-loop-spec
+invariant-loop-spec l = record {
+  text : l.out.items ++ lines_text (map spelled_range (drop l.spec-index l.specs)) ≡ l.fn.out.items ++ lines_text (map spelled_range l.specs);
+  kept : KeepsFront l.fn.out.items l.out.items;
+}

@@ -1,0 +1,65 @@
+-- A setup and a commit that are written are read back as the same, in their places in a script.
+use Rattle.std.specs.Prelude.{◌≡◌, ℕ, ◌+◌, ◌^◌, ◌<◌, ◌≤◌, List, ◌++◌, length, All, IfSome, codes}
+use Rattle.damon_types.specs.declared.filter.TheConstants.{MAX_FILTERS}
+use Rattle.damon_types.specs.declared.scheme.Scheme.{Scheme}
+use Rattle.damon_types.specs.declared.scheme.SlotChange.{SlotChange}
+use Rattle.damon_types.specs.Ranges.{InOrder}
+use Rattle.damon_types.specs.Space.{IsSpace}
+use Rattle.line_text.specs.Parts.{parts}
+use Rattle.live_commit.specs.Commit.{CommitValue}
+use Rattle.live_commit.specs.Setup.{IsSetup, SetupValue}
+use Rattle.damon_control.specs.Command.{Commit}
+use Rattle.damon_control.specs.Fits.{FitsAttrs, FitsKind, FitsMarks, FitsQuota, FitsRange, FitsSpan, FitsWeights}
+use Rattle.damon_control.specs.Refusal.{◌>>=◌}
+use Rattle.damon_control.specs.Script.{Body, InBody, at, begun, reads, script_of, with_command}
+use Rattle.damon_control.specs.Written.{commit_text, setup_text, written_commit, written_setup}
+
+-- a scheme as its type has it: each number is within its field, and its filters within their list
+pub record FitsScheme (s : Scheme) : Type 0 where
+  pub size : FitsSpan s.pattern.size
+  pub count : FitsSpan s.pattern.count
+  pub age : FitsSpan s.pattern.age
+  pub quota : IfSome s.quota FitsQuota
+  pub weights : FitsWeights s.weights
+  pub marks : IfSome s.marks FitsMarks
+  pub filters : All (λ f. FitsKind f.kind) s.filters
+  pub few : length s.filters ≤ MAX_FILTERS
+
+-- a slot change as its type has it
+pub record FitsChange (c : SlotChange) : Type 0 where
+  pub small : c.slot < 2 ^ 8
+  pub fits : IfSome c.scheme FitsScheme
+
+-- a seed and a setup as their types have them
+pub record IsWritable (seed : ℕ) (s : SetupValue) : Type 0 where
+  pub seed_fits : seed < 2 ^ 64
+  pub space : IsSpace s.space
+  pub setup : IsSetup s
+  pub order : InOrder s.ranges
+  pub changes : All FitsChange s.slots
+
+-- a commit as its type has it
+pub record FitsCommit (c : CommitValue) : Type 0 where
+  pub attrs_fit : IfSome c.attrs FitsAttrs
+  pub ranges_fit : IfSome c.ranges (λ ranges. All FitsRange ranges)
+  pub slot_fits : IfSome c.slot FitsChange
+  pub metric_fits : IfSome c.metric (λ value. value < 2 ^ 32)
+
+-- new ranges of a commit are at least one: no text spells an empty list
+abbrev pub SpellsRanges : CommitValue → Type 0
+SpellsRanges c = IfSome c.ranges (λ ranges. 1 ≤ length ranges)
+
+-- after the first line of a script, the text of a setup and `begin` lead to the body of that seed and setup
+abbrev pub SetupsAreReadBack : Type 0
+SetupsAreReadBack =
+    (seed : ℕ) (setup : SetupValue) (body : List ℕ) → IsWritable seed setup
+    → script_of (codes "damon script 1\n" ++ (setup_text seed setup ++ (codes "begin\n" ++ body)))
+    ≡ reads (3 + length (written_setup seed setup)) (InBody (begun seed setup)) (parts 10 body)
+
+-- the text of a commit between `commit` and `apply`, from line n of a body on, is read as that commit
+abbrev pub CommitsAreReadBack : Type 0
+CommitsAreReadBack =
+    (b : Body) (commit : CommitValue) (n : ℕ) (rest : List ℕ) → FitsCommit commit → SpellsRanges commit
+    → let last = n + (1 + length (written_commit commit)) in
+    reads n (InBody b) (parts 10 (codes "commit\n" ++ (commit_text commit ++ (codes "apply\n" ++ rest))))
+    ≡ (at last (with_command b (Commit commit)) >>= λ next. reads (last + 1) next (parts 10 rest))

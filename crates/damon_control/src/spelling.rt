@@ -1,0 +1,297 @@
+// Appending the lines of a setup and of a commit, each in its one spelling.
+ghost use Rattle.std.specs.Prelude.{◌≡◌, ◌+◌, ◌≤◌, ◌<◌, [], ◌∷◌, ◌++◌, map, length, codes, OnErr, OnOk, take, All, option_map};
+ghost use Rattle.std.specs.Fmt.{decimal};
+ghost use Rattle.damon_types.specs.Space.{pages_of};
+ghost use Rattle.live_commit.specs.Commit.{commit_value};
+ghost use Rattle.live_commit.specs.SetupView.{value_of};
+ghost use Rattle.line_text.specs.Address.{spelled_address};
+ghost use Rattle.damon_control.specs.Kept.{KeepsFront};
+ghost use Rattle.damon_control.specs.Spelling.{range_words, spelled_attrs, spelled_cap, spelled_range, spelled_seed, spelled_target, spelled_unit};
+ghost use Rattle.damon_control.specs.Text.{lines_text, number_lines};
+ghost use Rattle.damon_control.specs.WriteBack.{SpellsRanges};
+ghost use Rattle.damon_control.specs.Written.{change_text, commit_text, part_given, part_text, ranges_given, setup_text, spec_of};
+ghost use Rattle.damon_control.specs.declared.commit.Part.TheVariants.{Attrs as attrs_part, Slot as slot_part, Metric as metric_part};
+
+use crate::written::{end_line, write_address, write_change, write_field};
+use damon_types::{
+    Attrs, PAGE_SIZE, Range, RangeSpec, RangeSpecs, Ranges, SlotChange, Space, Target,
+};
+use live_commit::{Commit, Setup};
+use std::alloc::{AllocError, Global};
+
+/// Appends the lines of a seed and a setup, as they stand in a script between its first line and
+/// `begin`, each ended by its LF: the seed, the unit, the cap, the attributes, the targets, the ranges
+/// by their addresses, and the schemes. A key whose value is the default is left out. By the law
+/// [`setups_are_read_back`] they are read as the same seed and setup. When out of memory, nothing is
+/// appended.
+///
+/// [`setups_are_read_back`]: crate::setups_are_read_back
+pub fn write_setup(
+    alloc: Global,
+    out: &mut Vec<u8>,
+    seed: u64,
+    setup: &Setup,
+) -> Result<(), AllocError>
+    ensures ok { OnOk result (out.new.items ≡ out.old.items ++ setup_text seed (value_of setup.now)) }
+    ensures err { OnErr result (out.new.items ≡ out.old.items) }
+{
+    let before = out.len();
+    let written = write_setup_lines(out, seed, setup);
+    whole_or_nothing(out, before, written)
+}
+
+/// Appends the lines of a commit, as they stand in a script between `commit` and `apply`, each ended by
+/// its LF: its attributes, its ranges, its slot change and its metric, where it has them. A key whose
+/// value is the default is left out. By the law [`commits_are_read_back`] they are read as the same
+/// commit. No text spells an empty list of ranges, so a commit may not have one. The ranges of a commit
+/// are given by addresses already, so nothing is asked of the space. When out of memory, nothing is
+/// appended.
+///
+/// [`commits_are_read_back`]: crate::commits_are_read_back
+pub fn write_commit(
+    alloc: Global,
+    out: &mut Vec<u8>,
+    space: &Space,
+    commit: &Commit,
+) -> Result<(), AllocError>
+    requires { SpellsRanges (commit_value commit.now) }
+    ensures ok { OnOk result (out.new.items ≡ out.old.items ++ commit_text (commit_value commit.now)) }
+    ensures err { OnErr result (out.new.items ≡ out.old.items) }
+{
+    let before = out.len();
+    let written = write_parts(out, commit);
+    whole_or_nothing(out, before, written)
+}
+
+// Removes what was appended after the first `before` bytes if writing failed.
+fn whole_or_nothing(
+    out: &mut Vec<u8>,
+    before: usize,
+    written: Result<(), AllocError>,
+) -> Result<(), AllocError>
+    ensures same { result ≡ written }
+    ensures ok { OnOk result (out.new.items ≡ out.old.items) }
+    ensures err { OnErr result (out.new.items ≡ take before out.old.items) }
+{
+    if written.is_err() {
+        out.truncate(before);
+    }
+    written
+}
+
+// Appends the lines of a seed and a setup.
+fn write_setup_lines(out: &mut Vec<u8>, seed: u64, setup: &Setup) -> Result<(), AllocError>
+    ensures ok { OnOk result (out.new.items ≡ out.old.items ++ setup_text seed (value_of setup.now)) }
+    ensures kept { KeepsFront out.old.items out.new.items }
+{
+    write_numbers(out, seed, setup.unit, setup.cap, &setup.attrs)?;
+    write_targets(out, &setup.space)?;
+    write_ranges(out, &setup.space, &setup.ranges)?;
+    write_changes(out, setup.slots.as_slice())
+}
+
+// Appends the lines before the targets.
+#[tactic(auto, using(crate::proofs::Appending::appends))]
+fn write_numbers(
+    out: &mut Vec<u8>,
+    seed: u64,
+    unit: u32,
+    cap: u32,
+    attrs: &Attrs,
+) -> Result<(), AllocError>
+    ensures ok { OnOk result (out.new.items
+        ≡ out.old.items ++ lines_text (number_lines seed unit cap attrs.now)) }
+    ensures kept { KeepsFront out.old.items out.new.items }
+{
+    write_number_line(out, b"seed ", seed)?;
+    write_number_line(out, b"unit ", u64::from(unit))?;
+    write_number_line(out, b"cap ", u64::from(cap))?;
+    write_attrs(out, attrs)
+}
+
+// Appends a line of a word and a number.
+#[tactic(auto, using(crate::proofs::Appending::appends))]
+fn write_number_line(out: &mut Vec<u8>, name: &[u8], value: u64) -> Result<(), AllocError>
+    ensures ok { OnOk result (out.new.items
+        ≡ out.old.items ++ lines_text ((name.now ++ decimal value) ∷ [])) }
+    ensures kept { KeepsFront out.old.items out.new.items }
+{
+    write_field(out, name, value)?;
+    end_line(out)
+}
+
+// Appends `attrs MIN MAX AGGR`.
+#[tactic(auto, using(crate::proofs::Appending::appends))]
+fn write_attrs(out: &mut Vec<u8>, attrs: &Attrs) -> Result<(), AllocError>
+    ensures ok { OnOk result (out.new.items
+        ≡ out.old.items ++ lines_text (spelled_attrs attrs.now ∷ [])) }
+    ensures kept { KeepsFront out.old.items out.new.items }
+{
+    write_field(out, b"attrs ", u64::from(attrs.min))?;
+    write_field(out, b" ", u64::from(attrs.max))?;
+    write_field(out, b" ", u64::from(attrs.aggr))?;
+    end_line(out)
+}
+
+// Appends the lines of the targets.
+fn write_targets(out: &mut Vec<u8>, space: &Space) -> Result<(), AllocError>
+    ensures ok { OnOk result (out.new.items
+        ≡ out.old.items ++ lines_text (map spelled_target space.now)) }
+    ensures kept { KeepsFront out.old.items out.new.items }
+{
+    for index in 0..space.targets() {
+        write_target(out, &space.target(index))?;
+    }
+    Ok(())
+}
+
+// Appends `target BASE PAGES`.
+#[tactic(auto, using(crate::proofs::Appending::appends))]
+fn write_target(out: &mut Vec<u8>, target: &Target) -> Result<(), AllocError>
+    ensures ok { OnOk result (out.new.items
+        ≡ out.old.items ++ lines_text (spelled_target target.now ∷ [])) }
+    ensures kept { KeepsFront out.old.items out.new.items }
+{
+    write_address(out, b"target ", target.base)?;
+    write_field(out, b" ", u64::from(target.pages))?;
+    end_line(out)
+}
+
+// Appends the lines of ranges of pages.
+fn write_ranges(out: &mut Vec<u8>, space: &Space, ranges: &Ranges) -> Result<(), AllocError>
+    requires { All (λ g. g.first < pages_of space.now) ranges.now.list }
+    ensures ok { OnOk result (out.new.items ≡ out.old.items
+        ++ lines_text (map (λ g. spelled_range (spec_of space.now g)) ranges.now.list)) }
+    ensures kept { KeepsFront out.old.items out.new.items }
+{
+    for index in 0..ranges.len() {
+        let spec = spec_of(space, ranges.get(index));
+        write_range(out, &spec)?;
+    }
+    Ok(())
+}
+
+// A range by its addresses.
+fn spec_of(space: &Space, range: Range) -> RangeSpec
+    requires { range.first < pages_of space.now }
+    ensures { result ≡ spec_of space.now range }
+{
+    let from = space.addr_of(range.first).addr;
+    RangeSpec {
+        target: range.target,
+        from,
+        to: from + PAGE_SIZE * u64::from(range.pages),
+        class: range.class,
+    }
+}
+
+// Appends `range TARGET FROM TO CLASS`.
+#[tactic(auto, using(crate::proofs::Appending::appends))]
+fn write_range(out: &mut Vec<u8>, range: &RangeSpec) -> Result<(), AllocError>
+    ensures ok { OnOk result (out.new.items
+        ≡ out.old.items ++ lines_text (spelled_range range.now ∷ [])) }
+    ensures kept { KeepsFront out.old.items out.new.items }
+{
+    write_field(out, b"range ", u64::from(range.target))?;
+    write_address(out, b" ", range.from)?;
+    write_address(out, b" ", range.to)?;
+    write_field(out, b" ", u64::from(range.class))?;
+    end_line(out)
+}
+
+// Appends the lines of slot changes.
+fn write_changes(out: &mut Vec<u8>, changes: &[SlotChange]) -> Result<(), AllocError>
+    ensures ok { OnOk result (out.new.items
+        ≡ out.old.items ++ lines_text (map change_text changes.now)) }
+    ensures kept { KeepsFront out.old.items out.new.items }
+{
+    for change in changes {
+        write_change_line(out, change)?;
+    }
+    Ok(())
+}
+
+// Appends the line of a slot change.
+#[tactic(auto, using(crate::proofs::Appending::appends))]
+fn write_change_line(out: &mut Vec<u8>, change: &SlotChange) -> Result<(), AllocError>
+    ensures ok { OnOk result (out.new.items
+        ≡ out.old.items ++ lines_text (change_text change.now ∷ [])) }
+    ensures kept { KeepsFront out.old.items out.new.items }
+{
+    write_change(out, change)?;
+    end_line(out)
+}
+
+// Appends the lines of the parts of a commit.
+fn write_parts(out: &mut Vec<u8>, commit: &Commit) -> Result<(), AllocError>
+    ensures ok { OnOk result (out.new.items ≡ out.old.items ++ commit_text (commit_value commit.now)) }
+    ensures kept { KeepsFront out.old.items out.new.items }
+{
+    write_new_attrs(out, &commit.attrs)?;
+    write_new_ranges(out, &commit.ranges)?;
+    write_new_slot(out, &commit.slot)?;
+    write_new_metric(out, commit.metric)
+}
+
+// Appends the line of new attributes, if there are some.
+#[tactic(auto, using(crate::proofs::Appending::appends))]
+fn write_new_attrs(out: &mut Vec<u8>, attrs: &Option<Attrs>) -> Result<(), AllocError>
+    ensures ok { OnOk result (out.new.items ≡ out.old.items
+        ++ lines_text (map part_text (part_given (λ a. attrs_part a) attrs.now))) }
+    ensures kept { KeepsFront out.old.items out.new.items }
+{
+    match attrs {
+        Some(attrs) => write_attrs(out, attrs),
+        None => Ok(()),
+    }
+}
+
+// Appends the lines of new ranges, if there are some.
+fn write_new_ranges(out: &mut Vec<u8>, ranges: &Option<RangeSpecs>) -> Result<(), AllocError>
+    ensures ok { OnOk result (out.new.items ≡ out.old.items
+        ++ lines_text (map part_text (ranges_given (option_map (λ l. l.list) ranges.now)))) }
+    ensures kept { KeepsFront out.old.items out.new.items }
+{
+    match ranges {
+        Some(ranges) => write_specs(out, ranges.as_slice()),
+        None => Ok(()),
+    }
+}
+
+// Appends the lines of ranges.
+fn write_specs(out: &mut Vec<u8>, specs: &[RangeSpec]) -> Result<(), AllocError>
+    ensures ok { OnOk result (out.new.items
+        ≡ out.old.items ++ lines_text (map spelled_range specs.now)) }
+    ensures kept { KeepsFront out.old.items out.new.items }
+{
+    for spec in specs {
+        write_range(out, spec)?;
+    }
+    Ok(())
+}
+
+// Appends the line of a new slot change, if there is one.
+#[tactic(auto, using(crate::proofs::Appending::appends))]
+fn write_new_slot(out: &mut Vec<u8>, slot: &Option<SlotChange>) -> Result<(), AllocError>
+    ensures ok { OnOk result (out.new.items ≡ out.old.items
+        ++ lines_text (map part_text (part_given (λ c. slot_part c) slot.now))) }
+    ensures kept { KeepsFront out.old.items out.new.items }
+{
+    match slot {
+        Some(change) => write_change_line(out, change),
+        None => Ok(()),
+    }
+}
+
+// Appends the line of a new metric, if there is one.
+#[tactic(auto, using(crate::proofs::Appending::appends))]
+fn write_new_metric(out: &mut Vec<u8>, metric: Option<u32>) -> Result<(), AllocError>
+    ensures ok { OnOk result (out.new.items ≡ out.old.items
+        ++ lines_text (map part_text (part_given (λ m. metric_part m) metric))) }
+    ensures kept { KeepsFront out.old.items out.new.items }
+{
+    match metric {
+        Some(value) => write_number_line(out, b"metric ", u64::from(value)),
+        None => Ok(()),
+    }
+}
