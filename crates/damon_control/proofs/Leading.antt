@@ -24,6 +24,7 @@ use Rattle.target_ranges.specs.declared.fault.RangeFault.{RangeFault}
 use Rattle.target_ranges.specs.declared.fault.RangeWhy.{RangeWhy}
 use Rattle.target_ranges.specs.Checked.{checked_next, checked_ranges, fault_at}
 use Rattle.target_ranges.specs.Laws.{ChecksOneMore, KeepsFault}
+use Rattle.damon_control.specs.declared.grammar.Grammar.TheVariants.{OfScript}
 use Rattle.damon_control.specs.declared.commit.Part.{Part}
 use Rattle.damon_control.specs.declared.fault.ScriptKind.{ScriptKind}
 use Rattle.damon_control.specs.declared.head.Frame.{Frame}
@@ -47,7 +48,7 @@ use Rattle.damon_control.proofs.SpaceLimits.{accepted-FitsRange, checked-IsSpace
 -- ---- the lines before the targets
 
 -- a value that is read leads on
-lead_to : {A : Type 0} (r : Result A ScriptKind) (x : A) (to : A → Place) → r ≡ Ok x → (r >>= λ y. Ok (to y)) ≡ Ok (to x)
+lead_to : {A : Type 0} (r : Result A ScriptKind) (x : A) (to : A → Place OfScript) → r ≡ Ok x → (r >>= λ y. Ok (to y)) ≡ Ok (to x)
 lead_to r x to is = rw is refl
 
 -- the way that a test takes
@@ -89,7 +90,7 @@ frame_leads back f lines small sound =
 
 -- ---- targets
 
-target_leads : (f : Frame) (before : List Target) (line : List ℕ) (t : Target) → target_line before line ≡ Ok t → place_after (AtTargets f before) line ≡ Ok (AtTargets f (before ++ t ∷ []))
+target_leads : (f : Frame) (before : List Target) (line : List ℕ) (t : Target) → target_line before line ≡ Ok t → place_after OfScript (AtTargets f before) line ≡ Ok (AtTargets f (before ++ t ∷ []))
 target_leads f before line t read =
     then_way (begins_with (codes "target") line || (length before == 0)) _ _ (either_true (begins_with (codes "target") line) _ (target_begins before line t read).begins)
     ∙ lead_to (target_line before line) t (λ u. AtTargets f (before ++ u ∷ [])) read
@@ -109,7 +110,7 @@ targets_lead back f before (t ∷ more) lines sound =
 -- ---- ranges
 
 range_leads : (f : Frame) (targets : List Target) (before : List RangeSpec) (line : List ℕ) (r : RangeSpec) → range_line f targets before line ≡ Ok r
-    → place_after (AtRanges f targets before) line ≡ Ok (AtRanges f targets (before ++ r ∷ []))
+    → place_after OfScript (AtRanges f targets before) line ≡ Ok (AtRanges f targets (before ++ r ∷ []))
 range_leads f targets before line r read =
     then_way (begins_with (codes "range") line || (length before == 0)) _ _ (either_true (begins_with (codes "range") line) _ (range_begins f targets before line r read).begins)
     ∙ lead_to (range_line f targets before line) r (λ u. AtRanges f targets (before ++ u ∷ [])) read
@@ -164,7 +165,7 @@ past_targets : (f : Frame) (targets : List Target) (line : List ℕ) (lines : Li
     → leads (AtTargets f targets) (line ∷ lines) ≡ leads (AtRanges f targets []) (line ∷ lines)
 past_targets f targets line lines some other = ap (λ r. r >>= λ next. leads next lines) same
   where
-    same : place_after (AtTargets f targets) line ≡ place_after (AtRanges f targets []) line
+    same : place_after OfScript (AtTargets f targets) line ≡ place_after OfScript (AtRanges f targets []) line
     same = else_way (begins_with (codes "target") line || (length targets == 0)) _ _ (neither_true (begins_with (codes "target") line) (length targets == 0) other (some_is targets some))
 
 -- after some ranges a line that is of no range is the first of the schemes
@@ -172,13 +173,13 @@ past_ranges : (f : Frame) (targets : List Target) (specs : List RangeSpec) (line
     → leads (AtRanges f targets specs) (line ∷ lines) ≡ leads (AtSchemes f targets specs []) (line ∷ lines)
 past_ranges f targets specs line lines some other = ap (λ r. r >>= λ next. leads next lines) same
   where
-    same : place_after (AtRanges f targets specs) line ≡ place_after (AtSchemes f targets specs []) line
+    same : place_after OfScript (AtRanges f targets specs) line ≡ place_after OfScript (AtSchemes f targets specs []) line
     same = else_way (begins_with (codes "range") line || (length specs == 0)) _ _ (neither_true (begins_with (codes "range") line) (length specs == 0) other (some_is specs some))
 
 -- ---- schemes
 
 scheme_leads : (f : Frame) (targets : List Target) (specs : List RangeSpec) (before : List SlotChange) (line : List ℕ) (c : SlotChange) → scheme_line before line ≡ Ok c
-    → place_after (AtSchemes f targets specs before) line ≡ Ok (AtSchemes f targets specs (before ++ c ∷ []))
+    → place_after OfScript (AtSchemes f targets specs before) line ≡ Ok (AtSchemes f targets specs (before ++ c ∷ []))
 scheme_leads f targets specs before line c read =
     then_way (begins_with (codes "scheme") line) _ _ (scheme_begins before line c read).begins
     ∙ lead_to (scheme_line before line) c (λ d. AtSchemes f targets specs (before ++ d ∷ [])) read
@@ -237,7 +238,7 @@ schemes_lead back f targets specs before (line ∷ schemes) [] lines each gives 
 -- ---- commits
 
 part_leads : LinesReadBack → (b : Body) (commit : CommitValue) (line : List ℕ) (part : Part) → may_come commit part ≡ true → IsPart line part
-    → place_after (InCommit b commit) line ≡ Ok (InCommit b (with_part commit part))
+    → place_after OfScript (InCommit b commit) line ≡ Ok (InCommit b (with_part commit part))
 part_leads back b commit line part may is =
     let read = back.part commit line part may is in
     else_way (begins_with (codes "apply") line) _ _ (part_begins commit line part read).not_first
@@ -284,7 +285,7 @@ command_taken b c few = then_way (nat_le (b.work + weight b.said.setup.cap c) MA
 
 -- the line of a command
 line_leads : LinesReadBack → (b : Body) (line : List ℕ) (c : CommandValue) → IsCommand b.said.setup.space line c → b.work + weight b.said.setup.cap c ≤ MAX_WORK
-    → place_after (InBody b) line ≡ Ok (InBody (with_one b c))
+    → place_after OfScript (InBody b) line ≡ Ok (InBody (with_one b c))
 line_leads back b line c is few =
     let read = back.command b.said.setup.space line c is in
     let begins = command_begins b.said.setup.space line c read in
@@ -387,5 +388,5 @@ IsText-script_of laws text s says =
     let lines = says.setup ++ codes "begin" ∷ (all_lines says.commands ++ codes "end" ∷ []) in
     let lead = lines_lead laws text s says in
     ap script_of says.spelled
-    ∙ ap (reads 1 AtHeader) (lines_apart laws.apart lines (leads-IsPiece AtHeader lines (AtEnd s) lead))
+    ∙ ap (reads OfScript 1 AtHeader) (lines_apart laws.apart lines (leads-IsPiece AtHeader lines (AtEnd s) lead))
     ∙ leads-read 1 AtHeader lines s lead

@@ -5,6 +5,7 @@ use Rattle.std.proofs.lemmas.List.{length-append}
 use Rattle.std.proofs.lemmas.List.Elements.{All-append, All-from_recursion, All-nil}
 use Rattle.line_text.specs.Laws.{TakesApartPieces}
 use Rattle.line_text.specs.Parts.{IsPiece, joined, parts}
+use Rattle.damon_control.specs.declared.grammar.Grammar.TheVariants.{OfScript}
 use Rattle.damon_control.specs.declared.fault.ScriptKind.{ScriptKind}
 use Rattle.damon_control.specs.Refusal.{◌>>=◌}
 use Rattle.damon_control.specs.Script.{AtAttrs, AtCap, AtEnd, AtHeader, AtRanges, AtSchemes, AtSeed, AtTargets, AtUnit, InBody, InCommit, Place, ScriptValue, at, at_text_end, place_after, reads}
@@ -13,27 +14,27 @@ use Rattle.damon_control.proofs.PartLemmas.{reads_more}
 use Rattle.damon_control.proofs.SpellSteps.{bind-Ok}
 
 -- the place to which lines lead from another
-abbrev pub leads : Place → List (List ℕ) → Result Place ScriptKind
+abbrev pub leads : Place OfScript → List (List ℕ) → Result (Place OfScript) ScriptKind
 leads place [] = Ok place
-leads place (line ∷ lines) = place_after place line >>= λ next. leads next lines
+leads place (line ∷ lines) = place_after OfScript place line >>= λ next. leads next lines
 
 -- more lines go on from where the first ones lead
-pub leads-append : (place middle : Place) (front back : List (List ℕ)) → leads place front ≡ Ok middle → leads place (front ++ back) ≡ leads middle back
+pub leads-append : (place middle : Place OfScript) (front back : List (List ℕ)) → leads place front ≡ Ok middle → leads place (front ++ back) ≡ leads middle back
 leads-append place middle [] back e = let is : place ≡ middle = cc in ap (λ p. leads p back) is
 leads-append place middle (line ∷ front) back e =
-    let next = bind-Ok (place_after place line) (λ p. leads p front) middle e in
+    let next = bind-Ok (place_after OfScript place line) (λ p. leads p front) middle e in
     rw next.1 (leads-append next.0 middle front back next.2)
 
 -- one line, and then others
-pub leads-line : (place next : Place) (line : List ℕ) (lines : List (List ℕ)) → place_after place line ≡ Ok next → leads place (line ∷ lines) ≡ leads next lines
+pub leads-line : (place next : Place OfScript) (line : List ℕ) (lines : List (List ℕ)) → place_after OfScript place line ≡ Ok next → leads place (line ∷ lines) ≡ leads next lines
 leads-line place next line lines e = rw e refl
 
-at-Ok : {A : Type 0} (n : ℕ) (r : Result A ScriptKind) (x : A) → at n r ≡ Ok x → r ≡ Ok x
-at-Ok n (Ok y) x e = cc
-at-Ok n (Err kind) x e = absurd cc
+pub at_ok : {A : Type 0} (n : ℕ) (r : Result A ScriptKind) (x : A) → at n r ≡ Ok x → r ≡ Ok x
+at_ok n (Ok y) x e = cc
+at_ok n (Err kind) x e = absurd cc
 
 -- a text ends after its last line
-text_ends : (n : ℕ) (place : Place) (bytes : List ℕ) (s : ScriptValue) → at_text_end n place bytes ≡ Ok s → (place ≡ AtEnd s) × (bytes ≡ [])
+text_ends : (n : ℕ) (place : Place OfScript) (bytes : List ℕ) (s : ScriptValue) → at_text_end OfScript n place bytes ≡ Ok s → (place ≡ AtEnd s) × (bytes ≡ [])
 text_ends n (AtEnd said) [] s e = let is : said ≡ s = cc in (ap (λ x. AtEnd x) is, refl)
 text_ends n (AtEnd said) (b ∷ bs) s e = absurd cc
 text_ends n AtHeader bytes s e = absurd cc
@@ -48,34 +49,34 @@ text_ends n (InBody b) bytes s e = absurd cc
 text_ends n (InCommit b commit) bytes s e = absurd cc
 
 -- lines that lead to the end of a script, whose text is that of these pieces
-pub record Lead (place : Place) (pieces : List (List ℕ)) (s : ScriptValue) : Type 0 where
+pub record Lead (place : Place OfScript) (pieces : List (List ℕ)) (s : ScriptValue) : Type 0 where
   pub lines : List (List ℕ)
   pub whole : joined 10 pieces ≡ lines_text lines
   pub lead : leads place lines ≡ Ok (AtEnd s)
 
 -- pieces that are read as a script are the text of lines that lead to its end
-pub read-Lead : (n : ℕ) (place : Place) (pieces : List (List ℕ)) (s : ScriptValue) → reads n place pieces ≡ Ok s → Lead place pieces s
+pub read-Lead : (n : ℕ) (place : Place OfScript) (pieces : List (List ℕ)) (s : ScriptValue) → reads OfScript n place pieces ≡ Ok s → Lead place pieces s
 read-Lead n place [] s e = record { lines = []; whole = refl; lead = ap (λ p. Ok p) (text_ends n place [] s e).0 }
 read-Lead n place (bytes ∷ []) s e =
     let end = text_ends n place bytes s e in
     record { lines = []; whole = end.1; lead = ap (λ p. Ok p) end.0 }
 read-Lead n place (line ∷ next ∷ more) s e =
-    let reached = bind-Ok (at n (place_after place line)) _ s e in
+    let reached = bind-Ok (at n (place_after OfScript place line)) _ s e in
     let others = read-Lead (n + 1) reached.0 (next ∷ more) s reached.2 in
     record {
       lines = line ∷ others.lines;
       whole = ap (λ text. line ++ 10 ∷ text) others.whole;
-      lead = leads-line place reached.0 line others.lines (at-Ok n (place_after place line) reached.0 reached.1) ∙ others.lead;
+      lead = leads-line place reached.0 line others.lines (at_ok n (place_after OfScript place line) reached.0 reached.1) ∙ others.lead;
     }
 
 -- lines that lead to the end of a script are read as it, where nothing follows them
-pub leads-read : (n : ℕ) (place : Place) (lines : List (List ℕ)) (s : ScriptValue) → leads place lines ≡ Ok (AtEnd s) → reads n place (lines ++ [] ∷ []) ≡ Ok s
-leads-read n place [] s e = let is : place ≡ AtEnd s = cc in ap (λ p. reads n p ([] ∷ [])) is
+pub leads-read : (n : ℕ) (place : Place OfScript) (lines : List (List ℕ)) (s : ScriptValue) → leads place lines ≡ Ok (AtEnd s) → reads OfScript n place (lines ++ [] ∷ []) ≡ Ok s
+leads-read n place [] s e = let is : place ≡ AtEnd s = cc in ap (λ p. reads OfScript n p ([] ∷ [])) is
 leads-read n place (line ∷ lines) s e =
-    let next = bind-Ok (place_after place line) (λ p. leads p lines) (AtEnd s) e in
+    let next = bind-Ok (place_after OfScript place line) (λ p. leads p lines) (AtEnd s) e in
     let some : 0 < length (lines ++ [] ∷ []) = omega (arith, length-append lines ([] ∷ [])) in
-    reads_more n place line (lines ++ [] ∷ []) some
-    ∙ ap (λ r. at n r >>= λ reached. reads (n + 1) reached (lines ++ [] ∷ [])) next.1
+    reads_more OfScript n place line (lines ++ [] ∷ []) some
+    ∙ ap (λ r. at n r >>= λ reached. reads OfScript (n + 1) reached (lines ++ [] ∷ [])) next.1
     ∙ leads-read (n + 1) next.0 lines s next.2
 
 -- the text of lines, as pieces between LFs

@@ -31,3 +31,4 @@ pub mod WrittenLemmas
 pub mod WrittenSchemes
 pub mod WrittenRanges
 pub mod ReadWritten
+pub mod LiveLemmas

@@ -9,6 +9,7 @@ use Rattle.damon_types.specs.declared.scheme.SlotChange.{SlotChange}
 use Rattle.damon_types.specs.declared.space.Target.{Target}
 use Rattle.line_text.specs.Parts.{IsPiece, is_plain, is_printable, is_word, parts}
 use Rattle.live_commit.specs.Commit.{CommitValue}
+use Rattle.damon_control.specs.declared.grammar.Grammar.TheVariants.{OfScript}
 use Rattle.damon_control.specs.declared.commit.Part.{Part}
 use Rattle.damon_control.specs.declared.commit.Part.TheVariants.{Attrs, Range, Slot, Metric}
 use Rattle.damon_control.specs.declared.fault.ScriptKind.{ScriptKind}
@@ -190,35 +191,36 @@ read_plain r to next line each e =
     let said = bind-Ok r to next e in
     each said.0 said.1
 
-schemes_plain : (f : Frame) (targets : List Target) (specs : List RangeSpec) (slots : List SlotChange) (line : List ℕ) (next : Place) → after_schemes f targets specs slots line ≡ Ok next → is_plain line ≡ true
+schemes_plain : (f : Frame) (targets : List Target) (specs : List RangeSpec) (slots : List SlotChange) (line : List ℕ) (next : Place OfScript) → after_schemes OfScript f targets specs slots line ≡ Ok next → is_plain line ≡ true
 schemes_plain f targets specs slots line next e =
     either_way (begins_with (codes "scheme") line) _ _ _ (read_plain (scheme_line slots line) _ next line (λ c read. (scheme_begins slots line c read).plain))
     (read_plain (alone (codes "begin") line) _ next line (λ t read. (alone_begins (codes "begin") line t read).plain)) e
 
-ranges_plain : (f : Frame) (targets : List Target) (specs : List RangeSpec) (line : List ℕ) (next : Place) → after_ranges f targets specs line ≡ Ok next → is_plain line ≡ true
+ranges_plain : (f : Frame) (targets : List Target) (specs : List RangeSpec) (line : List ℕ) (next : Place OfScript) → after_ranges OfScript f targets specs line ≡ Ok next → is_plain line ≡ true
 ranges_plain f targets specs line next e =
     either_way (begins_with (codes "range") line || (length specs == 0)) _ _ _ (read_plain (range_line f targets specs line) _ next line (λ r read. (range_begins f targets specs line r read).plain))
     (schemes_plain f targets specs [] line next) e
 
-targets_plain : (f : Frame) (targets : List Target) (line : List ℕ) (next : Place) → after_targets f targets line ≡ Ok next → is_plain line ≡ true
+targets_plain : (f : Frame) (targets : List Target) (line : List ℕ) (next : Place OfScript) → after_targets OfScript f targets line ≡ Ok next → is_plain line ≡ true
 targets_plain f targets line next e =
     either_way (begins_with (codes "target") line || (length targets == 0)) _ _ _ (read_plain (target_line targets line) _ next line (λ t read. (target_begins targets line t read).plain))
     (ranges_plain f targets [] line next) e
 
-body_plain : (b : Body) (line : List ℕ) (next : Place) → after_body b line ≡ Ok next → is_plain line ≡ true
+body_plain : (b : Body) (line : List ℕ) (next : Place OfScript) → after_body b line ≡ Ok next → is_plain line ≡ true
 body_plain b line next e =
     either_way (begins_with (codes "end") line) _ _ _ (read_plain (alone (codes "end") line) _ next line (λ t read. (alone_begins (codes "end") line t read).plain))
     (either_way (begins_with (codes "commit") line) _ _ _ (read_plain (alone (codes "commit") line) _ next line (λ t read. (alone_begins (codes "commit") line t read).plain))
     (read_plain (command_line b.said.setup.space line) _ next line (λ c read. (command_begins b.said.setup.space line c read).plain))) e
 
-commit_plain : (b : Body) (commit : CommitValue) (line : List ℕ) (next : Place) → after_commit b commit line ≡ Ok next → is_plain line ≡ true
+commit_plain : (b : Body) (commit : CommitValue) (line : List ℕ) (next : Place OfScript) → after_commit OfScript b commit line ≡ Ok next → is_plain line ≡ true
 commit_plain b commit line next e =
     either_way (begins_with (codes "apply") line) _ _ _ (read_plain (alone (codes "apply") line) _ next line (λ t read. (alone_begins (codes "apply") line t read).plain))
     (read_plain (part_line commit line) _ next line (λ part read. (part_begins commit line part read).plain)) e
 
-line-IsPiece : (place : Place) (line : List ℕ) (next : Place) → place_after place line ≡ Ok next → IsPiece 10 line
+line-IsPiece : (place : Place OfScript) (line : List ℕ) (next : Place OfScript) → place_after OfScript place line ≡ Ok next → IsPiece 10 line
 line-IsPiece AtHeader line next e =
-    let only = only_if-Ok (same_word line (codes "damon script 1")) Header AtSeed next e in
+    let seed : Place OfScript = AtSeed in
+    let only = only_if-Ok (same_word line (codes "damon script 1")) Header seed next e in
     let is : line ≡ codes "damon script 1" = same_text line (codes "damon script 1") (sym only.0) in
     plain-IsPiece line (ap is_plain is)
 line-IsPiece AtSeed line next e = plain-IsPiece line (read_plain (seed_line line) _ next line (λ n read. (one_begins (codes "seed") line number_64 n read).plain) e)
@@ -232,12 +234,12 @@ line-IsPiece (InBody b) line next e = plain-IsPiece line (body_plain b line next
 line-IsPiece (InCommit b commit) line next e = plain-IsPiece line (commit_plain b commit line next e)
 line-IsPiece (AtEnd s) line next e = absurd cc
 
-each_piece : (place : Place) (lines : List (List ℕ)) (last : Place) → leads place lines ≡ Ok last → AllByRecursion (IsPiece 10) lines
+each_piece : (place : Place OfScript) (lines : List (List ℕ)) (last : Place OfScript) → leads place lines ≡ Ok last → AllByRecursion (IsPiece 10) lines
 each_piece place [] last e = tt
 each_piece place (line ∷ lines) last e =
-    let next = bind-Ok (place_after place line) (λ p. leads p lines) last e in
+    let next = bind-Ok (place_after OfScript place line) (λ p. leads p lines) last e in
     (line-IsPiece place line next.0 next.1, each_piece next.0 lines last next.2)
 
 -- no line that leads on has an LF
-pub leads-IsPiece : (place : Place) (lines : List (List ℕ)) (last : Place) → leads place lines ≡ Ok last → All (IsPiece 10) lines
+pub leads-IsPiece : (place : Place OfScript) (lines : List (List ℕ)) (last : Place OfScript) → leads place lines ≡ Ok last → All (IsPiece 10) lines
 leads-IsPiece place lines last e = All-from_recursion (IsPiece 10) lines (each_piece place lines last e)

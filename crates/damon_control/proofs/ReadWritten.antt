@@ -16,6 +16,7 @@ use Rattle.line_text.specs.Parts.{IsPiece, joined, parts}
 use Rattle.live_commit.specs.Checked.{checked_limits}
 use Rattle.live_commit.specs.Commit.{CommitValue}
 use Rattle.live_commit.specs.Setup.{IsSetup, SetupValue}
+use Rattle.damon_control.specs.declared.grammar.Grammar.TheVariants.{OfScript}
 use Rattle.damon_control.specs.declared.commit.Part.{Part}
 use Rattle.damon_control.specs.declared.commit.Part.TheVariants.{Attrs as AttrsPart, Range as RangePart, Slot, Metric}
 use Rattle.damon_control.specs.Body.{no_commit}
@@ -126,25 +127,25 @@ parts_before apart together lines bytes each =
     by (first ∷ others) some each = apart 10 first others each
 
 -- lines that lead to a place are read up to it, and then what follows them
-reads_led : (n : ℕ) (place : Place) (lines pieces : List (List ℕ)) (next : Place) → 0 < length pieces → leads place lines ≡ Ok next → reads n place (lines ++ pieces) ≡ reads (n + length lines) next pieces
+reads_led : (n : ℕ) (place : Place OfScript) (lines pieces : List (List ℕ)) (next : Place OfScript) → 0 < length pieces → leads place lines ≡ Ok next → reads OfScript n place (lines ++ pieces) ≡ reads OfScript (n + length lines) next pieces
 reads_led n place [] pieces next some e =
     let is : place ≡ next = cc in
     let same : n ≡ n + 0 = omega arith in
-    λ i. reads (same i) (is i) pieces
+    λ i. reads OfScript (same i) (is i) pieces
 reads_led n place (line ∷ lines) pieces next some e =
-    let reached = bind-Ok (place_after place line) (λ p. leads p lines) next e in
+    let reached = bind-Ok (place_after OfScript place line) (λ p. leads p lines) next e in
     let more : 0 < length (lines ++ pieces) = omega (arith, length-append lines pieces, some) in
     let last : n + 1 + length lines ≡ n + length (line ∷ lines) = omega arith in
-    reads_more n place line (lines ++ pieces) more
-    ∙ ap (λ r. at n r >>= λ p. reads (n + 1) p (lines ++ pieces)) reached.1
+    reads_more OfScript n place line (lines ++ pieces) more
+    ∙ ap (λ r. at n r >>= λ p. reads OfScript (n + 1) p (lines ++ pieces)) reached.1
     ∙ reads_led (n + 1) reached.0 lines pieces next some reached.2
-    ∙ ap (λ m. reads m next pieces) last
+    ∙ ap (λ m. reads OfScript m next pieces) last
 
 -- ---- a setup
 
 -- the lines of a setup up to `begin` lead to its body
 pub setup_read_back : LeadLaws → PutsPartsTogether → (seed : ℕ) (s : SetupValue) (body : List ℕ) → IsWritable seed s
-    → script_of (codes "damon script 1\n" ++ (setup_text seed s ++ (codes "begin\n" ++ body))) ≡ reads (3 + length (written_setup seed s)) (InBody (begun seed s)) (parts 10 body)
+    → script_of (codes "damon script 1\n" ++ (setup_text seed s ++ (codes "begin\n" ++ body))) ≡ reads OfScript (3 + length (written_setup seed s)) (InBody (begun seed s)) (parts 10 body)
 setup_read_back laws together seed s body is =
     let written = written_setup seed s in
     let lines = codes "damon script 1" ∷ (written ++ codes "begin" ∷ []) in
@@ -154,9 +155,9 @@ setup_read_back laws together seed s body is =
     in
     let count : 1 + length lines ≡ 3 + length written = omega (arith, length-append written (codes "begin" ∷ [])) in
     ap script_of text
-    ∙ ap (reads 1 AtHeader) (parts_before laws.apart together lines body (leads-IsPiece AtHeader lines (InBody (begun seed s)) lead))
+    ∙ ap (reads OfScript 1 AtHeader) (parts_before laws.apart together lines body (leads-IsPiece AtHeader lines (InBody (begun seed s)) lead))
     ∙ reads_led 1 AtHeader lines (parts 10 body) (InBody (begun seed s)) (parts-some 10 body) lead
-    ∙ ap (λ n. reads n (InBody (begun seed s)) (parts 10 body)) count
+    ∙ ap (λ n. reads OfScript n (InBody (begun seed s)) (parts 10 body)) count
 
 -- ---- a commit
 
@@ -253,8 +254,8 @@ parts_in (Some a) (Some (r ∷ ranges)) slot metric some =
 -- the text of a commit is read as it
 pub commit_read_back : LeadLaws → PutsPartsTogether → (b : Body) (c : CommitValue) (n : ℕ) (rest : List ℕ) → FitsCommit c → SpellsRanges c
     → let last = n + (1 + length (written_commit c)) in
-    reads n (InBody b) (parts 10 (codes "commit\n" ++ (commit_text c ++ (codes "apply\n" ++ rest))))
-    ≡ (at last (with_command b (Commit c)) >>= λ next. reads (last + 1) next (parts 10 rest))
+    reads OfScript n (InBody b) (parts 10 (codes "commit\n" ++ (commit_text c ++ (codes "apply\n" ++ rest))))
+    ≡ (at last (with_command b (Commit c)) >>= λ next. reads OfScript (last + 1) next (parts 10 rest))
 commit_read_back laws together b c n rest fits some =
     let written = written_commit c in
     let lines = codes "commit" ∷ written in
@@ -271,9 +272,9 @@ commit_read_back laws together b c n rest fits some =
     in
     let line : n + length lines ≡ last = omega arith in
     let text : codes "commit\n" ++ (commit_text c ++ (codes "apply\n" ++ rest)) ≡ lines_text lines ++ (codes "apply\n" ++ rest) = refl in
-    ap (λ t. reads n (InBody b) (parts 10 t)) text
-    ∙ ap (reads n (InBody b)) (parts_before laws.apart together lines (codes "apply\n" ++ rest) (leads-IsPiece (InBody b) lines (InCommit b c) lead))
-    ∙ ap (λ ps. reads n (InBody b) (lines ++ ps)) apply
+    ap (λ t. reads OfScript n (InBody b) (parts 10 t)) text
+    ∙ ap (reads OfScript n (InBody b)) (parts_before laws.apart together lines (codes "apply\n" ++ rest) (leads-IsPiece (InBody b) lines (InCommit b c) lead))
+    ∙ ap (λ ps. reads OfScript n (InBody b) (lines ++ ps)) apply
     ∙ reads_led n (InBody b) lines (codes "apply" ∷ parts 10 rest) (InCommit b c) (omega arith) lead
-    ∙ ap (λ m. reads m (InCommit b c) (codes "apply" ∷ parts 10 rest)) line
-    ∙ reads_line last (InCommit b c) (codes "apply") rest
+    ∙ ap (λ m. reads OfScript m (InCommit b c) (codes "apply" ∷ parts 10 rest)) line
+    ∙ reads_line OfScript last (InCommit b c) (codes "apply") rest

@@ -15,6 +15,7 @@ use Rattle.live_commit.specs.Commit.{CommitValue}
 use Rattle.live_commit.specs.Laws.{ChecksInTurn}
 use Rattle.target_ranges.specs.Checked.{checked_ranges, fault_at}
 use Rattle.target_ranges.specs.Laws.{ChecksOneMore}
+use Rattle.damon_control.specs.declared.grammar.Grammar.TheVariants.{OfScript}
 use Rattle.damon_control.specs.declared.commit.Part.{Part}
 use Rattle.damon_control.specs.declared.fault.ScriptKind.{ScriptKind}
 use Rattle.damon_control.specs.declared.fault.ScriptKind.TheVariants.{Header, TooMuch}
@@ -89,7 +90,7 @@ record SayCommit (lines : List (List ℕ)) (b : Body) (commit : CommitValue) : T
   made : with_parts no_commit parts ≡ commit
 
 -- lines that lead to a place say this
-abbrev Says : List (List ℕ) → Place → Type 0
+abbrev Says : List (List ℕ) → Place OfScript → Type 0
 Says lines AtHeader = lines ≡ []
 Says lines AtSeed = lines ≡ codes "damon script 1" ∷ []
 Says lines (AtUnit seed) = (lines ≡ codes "damon script 1" ∷ spelled_seed seed ∷ []) × (seed < 2 ^ 64)
@@ -108,7 +109,7 @@ Says lines (InCommit b commit) = SayCommit lines b commit
 Says lines (AtEnd s) = IsText (lines_text lines) s
 
 -- what holds of each place to which a reading leads, holds of the one to which it did
-read_to : {A : Type 0} (P : Place → Type 0) (r : Result A ScriptKind) (to : A → Place) (next : Place) → ((x : A) → r ≡ Ok x → P (to x)) → (r >>= λ x. Ok (to x)) ≡ Ok next → P next
+read_to : {A : Type 0} (P : Place OfScript → Type 0) (r : Result A ScriptKind) (to : A → Place OfScript) (next : Place OfScript) → ((x : A) → r ≡ Ok x → P (to x)) → (r >>= λ x. Ok (to x)) ≡ Ok next → P next
 read_to P r to next each e =
     let said = bind-Ok r (λ x. Ok (to x)) next e in
     let is : to said.0 ≡ next = cc in
@@ -150,7 +151,7 @@ work-more cap (d ∷ commands) c =
 
 -- ---- what a line adds to what the lines before it say
 
-more_command : (lines front : List (List ℕ)) (b : Body) (group : List (List ℕ)) (command : CommandValue) (next : Place) → SayBody front b → lines ≡ front ++ group → SayCommand b.said.setup.space group command
+more_command : (lines front : List (List ℕ)) (b : Body) (group : List (List ℕ)) (command : CommandValue) (next : Place OfScript) → SayBody front b → lines ≡ front ++ group → SayCommand b.said.setup.space group command
     → with_command b command ≡ Ok next → Says lines next
 more_command lines front b group command next before is says e =
     let work = b.work + weight b.said.setup.cap command in
@@ -170,7 +171,7 @@ more_command lines front b group command next before is says e =
       work = grind (arith, nat_tests, passes.0);
     })
 
-in_body : (laws : TextLaws) (lines : List (List ℕ)) (b : Body) (line : List ℕ) (next : Place) → SayBody lines b → after_body b line ≡ Ok next → Says (lines ++ line ∷ []) next
+in_body : (laws : TextLaws) (lines : List (List ℕ)) (b : Body) (line : List ℕ) (next : Place OfScript) → SayBody lines b → after_body b line ≡ Ok next → Says (lines ++ line ∷ []) next
 in_body laws lines b line next before e =
     either_way (begins_with (codes "end") line) _ _ _ at_end (either_way (begins_with (codes "commit") line) _ _ _ at_commit at_command) e
   where
@@ -204,7 +205,7 @@ in_body laws lines b line next before e =
         let says = command_line-Ok laws.words b.said.setup.space line command.0 command.1 in
         more_command (lines ++ line ∷ []) lines b (line ∷ []) command.0 next before refl (inl (line, refl, says)) command.2
 
-in_commit : (laws : TextLaws) (lines : List (List ℕ)) (b : Body) (commit : CommitValue) (line : List ℕ) (next : Place) → SayCommit lines b commit → after_commit b commit line ≡ Ok next
+in_commit : (laws : TextLaws) (lines : List (List ℕ)) (b : Body) (commit : CommitValue) (line : List ℕ) (next : Place OfScript) → SayCommit lines b commit → after_commit OfScript b commit line ≡ Ok next
     → Says (lines ++ line ∷ []) next
 in_commit laws lines b commit line next before e = either_way (begins_with (codes "apply") line) _ _ _ at_apply at_part e
   where
@@ -234,8 +235,8 @@ in_commit laws lines b commit line next before e = either_way (begins_with (code
           made = with_parts-more no_commit before.parts part ∙ ap (λ c. with_part c part) before.made;
         })
 
-at_schemes : (laws : TextLaws) (lines : List (List ℕ)) (f : Frame) (targets : List Target) (specs : List RangeSpec) (slots : List SlotChange) (line : List ℕ) (next : Place)
-    → SaySetup lines f.seed (setup_said f targets specs slots) → after_schemes f targets specs slots line ≡ Ok next → Says (lines ++ line ∷ []) next
+at_schemes : (laws : TextLaws) (lines : List (List ℕ)) (f : Frame) (targets : List Target) (specs : List RangeSpec) (slots : List SlotChange) (line : List ℕ) (next : Place OfScript)
+    → SaySetup lines f.seed (setup_said f targets specs slots) → after_schemes OfScript f targets specs slots line ≡ Ok next → Says (lines ++ line ∷ []) next
 at_schemes laws lines f targets specs slots line next before e = either_way (begins_with (codes "scheme") line) _ _ _ at_scheme at_begin e
   where
     at_scheme : (scheme_line slots line >>= λ change. Ok (AtSchemes f targets specs (slots ++ change ∷ []))) ≡ Ok next → Says (lines ++ line ∷ []) next
@@ -288,8 +289,8 @@ some_of : {A : Type 0} (begins : Bool) (xs : List A) → (begins || (length xs =
 some_of true xs e = absurd cc
 some_of false xs e = grind (arith, nat_tests)
 
-at_ranges : (laws : TextLaws) (lines : List (List ℕ)) (f : Frame) (targets : List Target) (specs : List RangeSpec) (line : List ℕ) (next : Place) → SayRanges lines f targets specs
-    → after_ranges f targets specs line ≡ Ok next → Says (lines ++ line ∷ []) next
+at_ranges : (laws : TextLaws) (lines : List (List ℕ)) (f : Frame) (targets : List Target) (specs : List RangeSpec) (line : List ℕ) (next : Place OfScript) → SayRanges lines f targets specs
+    → after_ranges OfScript f targets specs line ≡ Ok next → Says (lines ++ line ∷ []) next
 at_ranges laws lines f targets specs line next before e = both_ways (begins_with (codes "range") line || (length specs == 0)) _ _ _ (λ _. at_range) past e
   where
     at_range : (range_line f targets specs line >>= λ range. Ok (AtRanges f targets (specs ++ range ∷ []))) ≡ Ok next → Says (lines ++ line ∷ []) next
@@ -306,10 +307,10 @@ at_ranges laws lines f targets specs line next before e = both_ways (begins_with
           few = omega (arith, follows.few, length-append specs (range ∷ []));
         })
 
-    past : (begins_with (codes "range") line || (length specs == 0)) ≡ false → after_schemes f targets specs [] line ≡ Ok next → Says (lines ++ line ∷ []) next
+    past : (begins_with (codes "range") line || (length specs == 0)) ≡ false → after_schemes OfScript f targets specs [] line ≡ Ok next → Says (lines ++ line ∷ []) next
     past other = at_schemes laws lines f targets specs [] line next (ranges-SaySetup lines f targets specs before (some_of (begins_with (codes "range") line) specs other))
 
-at_targets : (laws : TextLaws) (lines : List (List ℕ)) (f : Frame) (targets : List Target) (line : List ℕ) (next : Place) → SayTargets lines f targets → after_targets f targets line ≡ Ok next
+at_targets : (laws : TextLaws) (lines : List (List ℕ)) (f : Frame) (targets : List Target) (line : List ℕ) (next : Place OfScript) → SayTargets lines f targets → after_targets OfScript f targets line ≡ Ok next
     → Says (lines ++ line ∷ []) next
 at_targets laws lines f targets line next before e = both_ways (begins_with (codes "target") line || (length targets == 0)) _ _ _ (λ _. at_target) past e
   where
@@ -322,7 +323,7 @@ at_targets laws lines f targets line next before e = both_ways (begins_with (cod
       sound = λ some. target_sound targets line target read;
     })
 
-    past : (begins_with (codes "target") line || (length targets == 0)) ≡ false → after_ranges f targets [] line ≡ Ok next → Says (lines ++ line ∷ []) next
+    past : (begins_with (codes "target") line || (length targets == 0)) ≡ false → after_ranges OfScript f targets [] line ≡ Ok next → Says (lines ++ line ∷ []) next
     past other = at_ranges laws lines f targets [] line next (record {
       spelled = before.spelled ∙ ap (frame_lines f) (sym (append-nil (map spelled_target targets)));
       frame = before.frame;
@@ -332,9 +333,10 @@ at_targets laws lines f targets line next before e = both_ways (begins_with (cod
     })
 
 -- one line more, and what it says
-line-Says : (laws : TextLaws) (lines : List (List ℕ)) (place : Place) (line : List ℕ) (next : Place) → Says lines place → place_after place line ≡ Ok next → Says (lines ++ line ∷ []) next
+line-Says : (laws : TextLaws) (lines : List (List ℕ)) (place : Place OfScript) (line : List ℕ) (next : Place OfScript) → Says lines place → place_after OfScript place line ≡ Ok next → Says (lines ++ line ∷ []) next
 line-Says laws lines AtHeader line next before e =
-    let only = only_if-Ok (same_word line (codes "damon script 1")) Header AtSeed next e in
+    let seed : Place OfScript = AtSeed in
+    let only = only_if-Ok (same_word line (codes "damon script 1")) Header seed next e in
     let is : line ≡ codes "damon script 1" = same_text line (codes "damon script 1") (sym only.0) in
     subst (Says (lines ++ line ∷ [])) only.1 (λ i. before i ++ is i ∷ [])
 line-Says laws lines AtSeed line next before e =
@@ -360,12 +362,12 @@ line-Says laws lines (InCommit b commit) line next before e = in_commit laws lin
 line-Says laws lines (AtEnd s) line next before e = absurd cc
 
 -- more lines, and what they say
-leads-Says : (laws : TextLaws) (front : List (List ℕ)) (place : Place) (lines : List (List ℕ)) (last : Place) → Says front place → leads place lines ≡ Ok last → Says (front ++ lines) last
+leads-Says : (laws : TextLaws) (front : List (List ℕ)) (place : Place OfScript) (lines : List (List ℕ)) (last : Place OfScript) → Says front place → leads place lines ≡ Ok last → Says (front ++ lines) last
 leads-Says laws front place [] last before e =
     let is : place ≡ last = cc in
     subst (λ ls. Says ls last) (sym (append-nil front)) (subst (Says front) is before)
 leads-Says laws front place (line ∷ lines) last before e =
-    let next = bind-Ok (place_after place line) (λ p. leads p lines) last e in
+    let next = bind-Ok (place_after OfScript place line) (λ p. leads p lines) last e in
     subst (λ ls. Says ls last) (append_assoc front (line ∷ []) lines)
     (leads-Says laws (front ++ line ∷ []) next.0 lines last (line-Says laws front place line next.0 before next.1) next.2)
 

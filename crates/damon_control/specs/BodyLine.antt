@@ -3,6 +3,7 @@ use Rattle.std.specs.Prelude.{ℕ, List, map, Result, Ok, Err}
 use Rattle.damon_control.specs.declared.body.BodyLine.{BodyLine}
 use Rattle.damon_control.specs.declared.body.BodyLine.TheVariants.{End, Commit, Say}
 use Rattle.damon_control.specs.declared.fault.ScriptKind.{ScriptKind}
+use Rattle.damon_control.specs.declared.grammar.Grammar.TheVariants.{OfScript}
 use Rattle.damon_control.specs.declared.script.Command.{Command}
 use Rattle.damon_control.specs.Command.{CommandValue, command_value}
 use Rattle.live_commit.specs.Setup.{SetupValue}
@@ -16,7 +17,7 @@ command_said (Ok command) = Ok (command_value command)
 command_said (Err kind) = Err kind
 
 -- the place after a line of a body that was read, or why it was rejected
-abbrev pub body_said : Body → Result BodyLine ScriptKind → Result Place ScriptKind
+abbrev pub body_said : Body → Result BodyLine ScriptKind → Result (Place OfScript) ScriptKind
 body_said b (Ok End) = Ok (AtEnd b.said)
 body_said b (Ok Commit) = Ok (InCommit b no_commit)
 body_said b (Ok (Say command)) = with_command b (command_value command)

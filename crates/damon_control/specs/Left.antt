@@ -6,8 +6,9 @@ use Rattle.damon_control.specs.declared.fault.ReadFail.TheVariants.{Script, Memo
 use Rattle.damon_control.specs.declared.fault.ScriptFault.{ScriptFault}
 use Rattle.damon_control.specs.declared.lines.Lines.{Lines}
 use Rattle.damon_control.specs.declared.reader.TheConstants.{MAX_BYTES}
-use Rattle.damon_control.specs.Script.{Body, Place, AtEnd, ScriptValue, place_after, at, reads, with_command}
-use Rattle.damon_control.specs.Command.{CommandValue}
+use Rattle.live_commit.specs.Commit.{CommitValue}
+use Rattle.damon_control.specs.declared.grammar.Grammar.{Grammar}
+use Rattle.damon_control.specs.Script.{AtEnd, Place, Said, Within, at, place_after, reads, with_commit}
 use Rattle.damon_control.specs.Refusal.{◌>>=◌}
 use Rattle.damon_control.specs.Words.{begins_with}
 
@@ -16,19 +17,19 @@ abbrev pub IsShort : Lines → Type 0
 IsShort lines = lines.taken + length lines.rest.now ≤ MAX_BYTES
 
 -- what is said from a place on by the lines that are left
-abbrev pub reads_left : Place → Lines → Result ScriptValue ScriptFault
-reads_left place lines = reads (lines.taken + 1) place (parts 10 lines.rest.now)
+abbrev pub reads_left : (g : Grammar) → Place g → Lines → Result (Said g) ScriptFault
+reads_left g place lines = reads g (lines.taken + 1) place (parts 10 lines.rest.now)
 
 -- a reader goes from a place to another: what the text still says is the same before and after
-abbrev pub MovesTo : Place → Lines → Place → Lines → Type 0
-MovesTo place old next new = reads_left place old ≡ reads_left next new
+abbrev pub MovesTo : (g : Grammar) → Place g → Lines → Place g → Lines → Type 0
+MovesTo g place old next new = reads_left g place old ≡ reads_left g next new
 
 -- what is said from a place on by a line and those that are left after it
-abbrev pub reads_on : Place → List ℕ → Lines → Result ScriptValue ScriptFault
-reads_on place line lines = at lines.taken (place_after place line) >>= λ next. reads_left next lines
+abbrev pub reads_on : (g : Grammar) → Place g → List ℕ → Lines → Result (Said g) ScriptFault
+reads_on g place line lines = at lines.taken (place_after g place line) >>= λ next. reads_left g next lines
 
 -- a place that wants a line
-abbrev pub IsOpen : Place → Type 0
+abbrev pub IsOpen : {g : Grammar} → Place g → Type 0
 IsOpen (AtEnd s) = ⊥
 IsOpen _ = Unit {0}
 
@@ -47,11 +48,11 @@ abbrev pub IsWanted : List ℕ → ℕ → Lines → Type 0
 IsWanted word count lines = (first_begins word lines.rest.now || (count == 0)) ≡ true
 
 -- a fault that is returned is the fault of the text; out of memory says nothing of the text
-abbrev pub FaultOf : {T : Type 0} → Result T ReadFail → Result ScriptValue ScriptFault → Type 0
+abbrev pub FaultOf : {T V : Type 0} → Result T ReadFail → Result V ScriptFault → Type 0
 FaultOf (Ok value) said = Unit {0}
 FaultOf (Err Memory) said = Unit {0}
 FaultOf (Err (Script fault)) said = said ≡ Err fault
 
--- what is said by a command, whose last line was taken, and the lines that are left after it
-abbrev pub reads_command : Body → CommandValue → Lines → Result ScriptValue ScriptFault
-reads_command b command lines = at lines.taken (with_command b command) >>= λ next. reads_left next lines
+-- what is said by a commit, whose last line was taken, and the lines that are left after it
+abbrev pub reads_commit : (g : Grammar) → Within g → CommitValue → Lines → Result (Said g) ScriptFault
+reads_commit g b commit lines = at lines.taken (with_commit g b commit) >>= λ next. reads_left g next lines

@@ -7,11 +7,14 @@ pub mod Keys
 pub mod Head
 pub mod Command
 pub mod Body
+pub mod Live
 pub mod Script
 pub mod ScriptView
 pub mod Limits
 pub mod BodyLine
 pub mod Left
+pub mod HeadView
+pub mod LiveView
 pub mod Views
 pub mod KeyViews
 pub mod Spelling

@@ -8,6 +8,7 @@ use Rattle.damon_types.specs.Space.{IsSpace}
 use Rattle.line_text.specs.Parts.{parts}
 use Rattle.live_commit.specs.Commit.{CommitValue}
 use Rattle.live_commit.specs.Setup.{IsSetup, SetupValue}
+use Rattle.damon_control.specs.declared.grammar.Grammar.TheVariants.{OfScript}
 use Rattle.damon_control.specs.Command.{Commit}
 use Rattle.damon_control.specs.Fits.{FitsAttrs, FitsKind, FitsMarks, FitsQuota, FitsRange, FitsSpan, FitsWeights}
 use Rattle.damon_control.specs.Refusal.{◌>>=◌}
@@ -54,12 +55,12 @@ abbrev pub SetupsAreReadBack : Type 0
 SetupsAreReadBack =
     (seed : ℕ) (setup : SetupValue) (body : List ℕ) → IsWritable seed setup
     → script_of (codes "damon script 1\n" ++ (setup_text seed setup ++ (codes "begin\n" ++ body)))
-    ≡ reads (3 + length (written_setup seed setup)) (InBody (begun seed setup)) (parts 10 body)
+    ≡ reads OfScript (3 + length (written_setup seed setup)) (InBody (begun seed setup)) (parts 10 body)
 
 -- the text of a commit between `commit` and `apply`, from line n of a body on, is read as that commit
 abbrev pub CommitsAreReadBack : Type 0
 CommitsAreReadBack =
     (b : Body) (commit : CommitValue) (n : ℕ) (rest : List ℕ) → FitsCommit commit → SpellsRanges commit
     → let last = n + (1 + length (written_commit commit)) in
-    reads n (InBody b) (parts 10 (codes "commit\n" ++ (commit_text commit ++ (codes "apply\n" ++ rest))))
-    ≡ (at last (with_command b (Commit commit)) >>= λ next. reads (last + 1) next (parts 10 rest))
+    reads OfScript n (InBody b) (parts 10 (codes "commit\n" ++ (commit_text commit ++ (codes "apply\n" ++ rest))))
+    ≡ (at last (with_command b (Commit commit)) >>= λ next. reads OfScript (last + 1) next (parts 10 rest))

@@ -10,6 +10,7 @@ ghost use Rattle.damon_control.specs.Limits.{EachIsWithin, IsCommandWithin};
 ghost use Rattle.damon_control.specs.Refusal.{only_if};
 ghost use Rattle.damon_control.specs.Script.{AtEnd, Body, InBody, after_body, begun};
 ghost use Rattle.damon_control.specs.Words.{begins_with};
+ghost use Rattle.damon_control.specs.declared.grammar.Grammar.TheVariants.{OfScript as of_script};
 ghost use Rattle.damon_control.specs.declared.fault.ScriptKind.TheVariants.{Outside, TooMuch};
 
 use crate::commit::read_commit;
@@ -39,10 +40,10 @@ pub enum BodyLine {
 pub fn read_body(alloc: Global, lines: &mut Lines, setup: &Setup) -> Result<Commands, ReadFail>
     requires { IsShort lines.old }
     ensures ok { IfOk result (λ commands. (seed : ℕ) →
-        MovesTo (InBody (begun seed (value_of setup.now))) lines.old
+        MovesTo of_script (InBody (begun seed (value_of setup.now))) lines.old
         (AtEnd (script_at seed (value_of setup.now) commands.list)) lines.new) }
     ensures fault { (seed : ℕ) →
-        FaultOf result (reads_left (InBody (begun seed (value_of setup.now))) lines.old) }
+        FaultOf result (reads_left of_script (InBody (begun seed (value_of setup.now))) lines.old) }
     ensures within { IfOk result (λ commands.
         EachIsWithin (pages_of setup.now.space) commands.list) }
     ensures work { IfOk result (λ commands.
@@ -70,14 +71,14 @@ fn take_command(
     requires few { length commands.old.list ≤ lines.old.taken }
     requires most { work ≤ MAX_WORK }
     ensures more { IfOk result (λ answer. IfSome answer (λ sum. (seed : ℕ) →
-        MovesTo (InBody (body_at seed (value_of setup.now) commands.old.list work)) lines.old
+        MovesTo of_script (InBody (body_at seed (value_of setup.now) commands.old.list work)) lines.old
         (InBody (body_at seed (value_of setup.now) commands.new.list sum)) lines.new)) }
     ensures end { IfOk result (λ answer. answer ≡ None → (seed : ℕ) →
-        MovesTo (InBody (body_at seed (value_of setup.now) commands.old.list work)) lines.old
+        MovesTo of_script (InBody (body_at seed (value_of setup.now) commands.old.list work)) lines.old
         (AtEnd (script_at seed (value_of setup.now) commands.new.list)) lines.new) }
     ensures fault { (seed : ℕ) →
-        let place = InBody (body_at seed (value_of setup.now) commands.old.list work) in
-        FaultOf result (reads_left place lines.old) }
+        let body = body_at seed (value_of setup.now) commands.old.list work in
+        FaultOf result (reads_left of_script (InBody body) lines.old) }
     ensures sum { IfOk result (λ answer. IfSome answer (λ sum.
         sum + work_of setup.now.cap (map command_value commands.old.list)
         ≡ work + work_of setup.now.cap (map command_value commands.new.list))) }
@@ -148,7 +149,7 @@ fn read_command(space: &Space, line: &[u8]) -> Result<Command, ScriptKind>
 }
 
 // Reads `touch TARGET ADDRESS`.
-fn read_touch(space: &Space, line: &[u8]) -> Result<Command, ScriptKind>
+pub fn read_touch(space: &Space, line: &[u8]) -> Result<Command, ScriptKind>
     ensures exact { command_said result ≡ touch_line space.now line.now }
     ensures within { IfOk result (λ c. IsCommandWithin (pages_of space.now) (command_value c)) }
 {
@@ -172,7 +173,7 @@ fn read_page(space: &Space, target: u32, addr: u64) -> Result<u32, ScriptKind>
 }
 
 // Reads `sweep TARGET FROM TO`.
-fn read_sweep(space: &Space, line: &[u8]) -> Result<Command, ScriptKind>
+pub fn read_sweep(space: &Space, line: &[u8]) -> Result<Command, ScriptKind>
     ensures exact { command_said result ≡ sweep_line space.now line.now }
     ensures within { IfOk result (λ c. IsCommandWithin (pages_of space.now) (command_value c)) }
 {

@@ -1,9 +1,9 @@
 ghost use Rattle.std.specs.Prelude.{◌≡◌, ◌≤◌, ◌<◌, ◌+◌, ◌-◌, ◌^◌, IfOk, IfSome, OnOk, Ok, Err, Some, None, option_map, length, Result};
 ghost use Rattle.live_commit.specs.Commit.{commit_value, CommitValue};
 ghost use Rattle.damon_control.specs.Body.{change_line, drop_line, no_commit, part_line, wants_attrs, wants_slot, with_range};
-ghost use Rattle.damon_control.specs.Command.{Commit as CommitCommand};
-ghost use Rattle.damon_control.specs.Left.{FaultOf, IsShort, reads_command, reads_left};
-ghost use Rattle.damon_control.specs.Script.{Body, InCommit};
+ghost use Rattle.damon_control.specs.declared.grammar.Grammar.{Grammar as grammar};
+ghost use Rattle.damon_control.specs.Left.{FaultOf, IsShort, reads_commit, reads_left};
+ghost use Rattle.damon_control.specs.Script.{InCommit, Within};
 ghost use Rattle.damon_control.specs.Words.{begins_with};
 
 use crate::fields::{read_attrs, read_range};
@@ -18,10 +18,11 @@ use std::alloc::{AllocError, Global};
 // Reads the lines of a commit after its first, up to the line `apply`.
 pub fn read_commit(alloc: Global, lines: &mut Lines) -> Result<Commit, ReadFail>
     requires { IsShort lines.old }
-    ensures ok { IfOk result (λ c. (b : Body) →
-        reads_left (InCommit b no_commit) lines.old
-        ≡ reads_command b (CommitCommand (commit_value c)) lines.new) }
-    ensures fault { (b : Body) → FaultOf result (reads_left (InCommit b no_commit) lines.old) }
+    ensures ok { IfOk result (λ c. (g : grammar) (b : Within g) →
+        reads_left g (InCommit b no_commit) lines.old
+        ≡ reads_commit g b (commit_value c) lines.new) }
+    ensures fault { (g : grammar) (b : Within g) →
+        FaultOf result (reads_left g (InCommit b no_commit) lines.old) }
     ensures later { OnOk result (lines.old.taken ≤ lines.new.taken) }
     ensures shorter { OnOk result (length lines.new.rest.now < length lines.old.rest.now) }
     ensures small { IsShort lines.new }

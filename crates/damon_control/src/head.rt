@@ -1,4 +1,4 @@
-ghost use Rattle.std.specs.Prelude.{◌≡◌, ◌≤◌, ◌<◌, ◌^◌, Ok, Err, Some, true, IfOk, IfErr, OnOk, is_ok, [], ◌∷◌, ◌++◌, ◌+◌, ◌-◌, codes, length};
+ghost use Rattle.std.specs.Prelude.{◌≡◌, ◌≤◌, ◌<◌, ◌^◌, Ok, Err, Some, true, false, IfOk, IfErr, OnOk, is_ok, [], ◌∷◌, ◌++◌, ◌+◌, ◌-◌, codes, length};
 ghost use Rattle.damon_types.specs.declared.space.Target.{Target as target_row};
 ghost use Rattle.damon_types.specs.Space.{IsSpace, checked};
 ghost use Rattle.target_ranges.specs.Checked.{checked_next, checked_ranges};
@@ -7,17 +7,19 @@ ghost use Rattle.damon_control.specs.declared.head.Frame.{Frame as frame};
 ghost use Rattle.live_commit.specs.Checked.{checked_cap, checked_unit};
 ghost use Rattle.live_commit.specs.Slots.{checked_slot, checked_slots, has_scheme, kept_slots};
 ghost use Rattle.damon_control.specs.Limits.{AreLimits};
-ghost use Rattle.damon_control.specs.Left.{FaultOf, IsShort, IsWanted, MovesTo, reads_left};
-ghost use Rattle.damon_control.specs.Script.{AtAttrs, AtHeader, AtRanges, AtSchemes, AtTargets, InBody, opened};
+ghost use Rattle.damon_control.specs.Left.{FaultOf, IsShort, IsWanted, MovesTo, first_begins, reads_left};
+ghost use Rattle.damon_control.specs.Script.{AtAttrs, AtHeader, AtRanges, AtSchemes, AtTargets, header_of};
+ghost use Rattle.damon_control.specs.declared.grammar.Grammar.{Grammar as grammar};
 ghost use Rattle.damon_control.specs.Refusal.{only_if};
 ghost use Rattle.damon_control.specs.Words.{same_word, words_in};
 ghost use Rattle.damon_control.specs.declared.fault.ScriptKind.TheVariants.{Header, Limit};
 
 use crate::fields::{read_attrs, read_range};
+use crate::grammar::Grammar;
 use crate::keys::read_scheme;
 use crate::lines::Lines;
 use crate::words::{
-    Words, alone, arguments, one_word, read_32, read_64, read_byte_address, same_word, two_words,
+    Words, arguments, one_word, read_32, read_64, read_byte_address, same_word, two_words,
 };
 use crate::{MAX_BYTES, ReadFail, ScriptFault, ScriptKind};
 use damon_types::{Attrs, RangeSpec, RangeSpecs, SlotChange, SlotChanges, Space, Target};
@@ -148,14 +150,14 @@ fn is_changed(slot: u8, changes: &[SlotChange]) -> bool
 }
 
 // Reads the lines before the targets.
-pub fn read_frame(lines: &mut Lines) -> Result<Frame, ScriptFault>
+pub fn read_frame(lines: &mut Lines, form: Grammar) -> Result<Frame, ScriptFault>
     requires { IsShort lines.old }
-    ensures ok { IfOk result (λ f. MovesTo AtHeader lines.old (AtTargets f []) lines.new) }
-    ensures fault { IfErr result (λ fault. reads_left AtHeader lines.old ≡ Err fault) }
+    ensures ok { IfOk result (λ f. MovesTo form AtHeader lines.old (AtTargets f []) lines.new) }
+    ensures fault { IfErr result (λ fault. reads_left form AtHeader lines.old ≡ Err fault) }
     ensures limits { IfOk result (λ f. AreLimits f) }
     ensures small { IsShort lines.new }
 {
-    let (seed, unit, cap) = read_numbers(lines)?;
+    let (seed, unit, cap) = read_numbers(lines, form)?;
     let line = lines.take_line()?;
     let attrs = lines.refuse(read_attrs_line(cap, line))?;
     Ok(Frame {
@@ -167,16 +169,16 @@ pub fn read_frame(lines: &mut Lines) -> Result<Frame, ScriptFault>
 }
 
 // Reads the lines before the attributes: the seed, the unit and the cap.
-fn read_numbers(lines: &mut Lines) -> Result<(u64, u32, u32), ScriptFault>
+fn read_numbers(lines: &mut Lines, form: Grammar) -> Result<(u64, u32, u32), ScriptFault>
     requires { IsShort lines.old }
-    ensures ok { IfOk result (λ n. MovesTo AtHeader lines.old (AtAttrs n.0 n.1 n.2) lines.new) }
-    ensures fault { IfErr result (λ fault. reads_left AtHeader lines.old ≡ Err fault) }
+    ensures ok { IfOk result (λ n. MovesTo form AtHeader lines.old (AtAttrs n.0 n.1 n.2) lines.new) }
+    ensures fault { IfErr result (λ fault. reads_left form AtHeader lines.old ≡ Err fault) }
     ensures unit { IfOk result (λ n. checked_unit n.1 ≡ Ok tt) }
     ensures cap { IfOk result (λ n. checked_cap n.2 ≡ Ok tt) }
     ensures small { IsShort lines.new }
 {
     let line = lines.take_line()?;
-    lines.refuse(read_header(line))?;
+    lines.refuse(read_header(line, form))?;
     let line = lines.take_line()?;
     let seed = lines.refuse(read_seed(line))?;
     let line = lines.take_line()?;
@@ -193,9 +195,9 @@ pub fn read_targets(
     frame: &Frame,
 ) -> Result<Vec<Target>, ReadFail>
     requires { IsShort lines.old }
-    ensures ok { IfOk result (λ v.
-        MovesTo (AtTargets frame.now []) lines.old (AtRanges frame.now v.items []) lines.new) }
-    ensures fault { FaultOf result (reads_left (AtTargets frame.now []) lines.old) }
+    ensures ok { IfOk result (λ v. (g : grammar) →
+        MovesTo g (AtTargets frame.now []) lines.old (AtRanges frame.now v.items []) lines.new) }
+    ensures fault { (g : grammar) → FaultOf result (reads_left g (AtTargets frame.now []) lines.old) }
     ensures sound { IfOk result (λ v. checked v.items ≡ Ok tt) }
     ensures small { IsShort lines.new }
 {
@@ -212,11 +214,11 @@ fn take_target(lines: &mut Lines, targets: &mut Vec<Target>) -> Result<(), ReadF
     requires wanted { IsWanted (codes "target") (length targets.old.items) lines.old }
     requires small { IsShort lines.old }
     requires few { length targets.old.items < 2 ^ 32 - 1 }
-    ensures ok { OnOk result ((f : frame) →
-        MovesTo (AtTargets f targets.old.items) lines.old
+    ensures ok { OnOk result ((g : grammar) (f : frame) →
+        MovesTo g (AtTargets f targets.old.items) lines.old
         (AtTargets f targets.new.items) lines.new) }
-    ensures fault { (f : frame) →
-        FaultOf result (reads_left (AtTargets f targets.old.items) lines.old) }
+    ensures fault { (g : grammar) (f : frame) →
+        FaultOf result (reads_left g (AtTargets f targets.old.items) lines.old) }
     ensures sound { OnOk result (checked targets.new.items ≡ Ok tt) }
     ensures some { OnOk result (1 ≤ length targets.new.items) }
     ensures few { OnOk result (length targets.new.items ≤ 64) }
@@ -250,10 +252,11 @@ pub fn read_ranges(
 ) -> Result<RangeSpecs, ReadFail>
     requires small { IsShort lines.old }
     requires cap { frame.now.cap ≤ MAX_CAP }
-    ensures ok { IfOk result (λ specs.
-        MovesTo (AtRanges frame.now space.now []) lines.old
+    ensures ok { IfOk result (λ specs. (g : grammar) →
+        MovesTo g (AtRanges frame.now space.now []) lines.old
         (AtSchemes frame.now space.now specs.list []) lines.new) }
-    ensures fault { FaultOf result (reads_left (AtRanges frame.now space.now []) lines.old) }
+    ensures fault { (g : grammar) →
+        FaultOf result (reads_left g (AtRanges frame.now space.now []) lines.old) }
     ensures sound { IfOk result (λ specs.
         checked_ranges space.now frame.now.unit frame.now.cap specs.list ≡ Ok tt) }
     ensures some { IfOk result (λ specs. 1 ≤ length specs.list) }
@@ -279,10 +282,11 @@ fn take_range(
     requires small { IsShort lines.old }
     requires cap { frame.now.cap ≤ MAX_CAP }
     requires sound { checked_ranges space.now frame.now.unit frame.now.cap specs.old.list ≡ Ok tt }
-    ensures ok { OnOk result (
-        MovesTo (AtRanges frame.now space.now specs.old.list) lines.old
+    ensures ok { OnOk result ((g : grammar) →
+        MovesTo g (AtRanges frame.now space.now specs.old.list) lines.old
         (AtRanges frame.now space.now specs.new.list) lines.new) }
-    ensures fault { FaultOf result (reads_left (AtRanges frame.now space.now specs.old.list) lines.old) }
+    ensures fault { (g : grammar) →
+        FaultOf result (reads_left g (AtRanges frame.now space.now specs.old.list) lines.old) }
     ensures sound { OnOk result (
         checked_ranges space.now frame.now.unit frame.now.cap specs.new.list ≡ Ok tt) }
     ensures some { OnOk result (1 ≤ length specs.new.list) }
@@ -298,7 +302,7 @@ fn take_range(
     Ok(())
 }
 
-// Reads the lines of the schemes, and the line `begin` after them.
+// Reads the lines of the schemes.
 pub fn read_slots(
     alloc: Global,
     lines: &mut Lines,
@@ -307,10 +311,12 @@ pub fn read_slots(
     specs: &RangeSpecs,
 ) -> Result<SlotChanges, ReadFail>
     requires small { IsShort lines.old }
-    ensures ok { IfOk result (λ slots.
-        MovesTo (AtSchemes frame.now space.now specs.now.list []) lines.old
-        (InBody (opened frame.now space.now specs.now.list slots.list)) lines.new) }
-    ensures fault { FaultOf result (reads_left (AtSchemes frame.now space.now specs.now.list []) lines.old) }
+    ensures ok { IfOk result (λ slots. (g : grammar) →
+        MovesTo g (AtSchemes frame.now space.now specs.now.list []) lines.old
+        (AtSchemes frame.now space.now specs.now.list slots.list) lines.new) }
+    ensures fault { (g : grammar) →
+        FaultOf result (reads_left g (AtSchemes frame.now space.now specs.now.list []) lines.old) }
+    ensures all { OnOk result (first_begins (codes "scheme") lines.new.rest.now ≡ false) }
     ensures sound { IfOk result (λ slots. checked_slots slots.list ≡ Ok tt) }
     ensures set { IfOk result (λ slots. kept_slots slots.list ≡ slots.list) }
     ensures few { IfOk result (λ slots. length slots.list ≤ MAX_BYTES) }
@@ -323,16 +329,18 @@ pub fn read_slots(
         let change = lines.refuse(read_scheme_line(slots.as_slice(), line))?;
         slots.push(change)?;
     }
-    let line = lines.take_line()?;
-    lines.refuse(alone(b"begin", line))?;
     Ok(slots)
 }
 
 // Reads the first line.
-fn read_header(line: &[u8]) -> Result<(), ScriptKind>
-    ensures { result ≡ only_if (same_word line.now (codes "damon script 1")) Header (tt {0}) }
+fn read_header(line: &[u8], form: Grammar) -> Result<(), ScriptKind>
+    ensures { result ≡ only_if (same_word line.now (header_of form)) Header (tt {0}) }
 {
-    if same_word(line, b"damon script 1") {
+    let is_header = match form {
+        Grammar::OfScript => same_word(line, b"damon script 1"),
+        Grammar::OfLive => same_word(line, b"damon live 1"),
+    };
+    if is_header {
         Ok(())
     } else {
         Err(ScriptKind::Header)

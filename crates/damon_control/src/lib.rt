@@ -10,6 +10,8 @@ mod commit;
 mod fault;
 /// Fields that are written alike in a setup and in a commit.
 mod fields;
+/// Which kind of text is read.
+mod grammar;
 /// The lines of a setup.
 mod head;
 /// The words of a scheme.
@@ -18,6 +20,12 @@ mod keys;
 mod laws;
 /// A text, line by line.
 mod lines;
+/// What a live script is.
+mod live;
+/// The blocks of controllers.
+mod calls;
+/// The reader of live scripts, and the blocks of workers.
+mod live_reader;
 /// The reader of a whole text.
 mod reader;
 /// What a script is.
@@ -37,6 +45,11 @@ pub use laws::{
     scripts_are_sound, setup_lines_are_spelled, setups_are_read_back, spelled_lines_are_read,
     texts_are_exactly_read,
 };
+pub use live::{
+    Call, CallList, CallLists, LiveScript, MAX_CALLS, MAX_CONTROLLERS, MAX_PASSES, MAX_TOUCHES,
+    MAX_WORKERS, Trace, Traces,
+};
+pub use live_reader::read_live;
 pub use reader::{MAX_BYTES, read_script};
 pub use script::{Command, Commands, MAX_STEPS, MAX_WORK, Script};
 pub use spelling::{write_commit, write_setup};

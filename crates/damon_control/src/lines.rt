@@ -1,6 +1,7 @@
 ghost use Rattle.std.specs.Prelude.{ℕ, List, ◌≡◌, ◌+◌, ◌<◌, ◌≤◌, length, IfOk, IfErr, OnOk, Ok, Err};
 ghost use Rattle.damon_control.specs.Left.{IsOpen, IsShort, first_begins, reads_on, reads_left};
-ghost use Rattle.damon_control.specs.Script.{AtEnd, Place, ScriptValue, at};
+ghost use Rattle.damon_control.specs.Script.{AtEnd, Place, Said, at};
+ghost use Rattle.damon_control.specs.declared.grammar.Grammar.{Grammar as grammar};
 ghost use Rattle.damon_control.specs.Words.{begins_with};
 
 use crate::words::{first_word, same_word};
@@ -32,10 +33,10 @@ impl<'a> Lines<'a> {
     #[tactic(auto, using(crate::proofs::PartLemmas::reads_line, crate::proofs::PartLemmas::begins_lines_parts))]
     pub fn take_line(&mut self) -> Result<&'a [u8], ScriptFault>
         requires { IsShort self.old }
-        ensures line { IfOk result (λ line. (place : Place) →
-            reads_left place self.old ≡ reads_on place line.now self.new) }
-        ensures cut { IfErr result (λ fault. (place : Place) → IsOpen place
-            → reads_left place self.old ≡ Err fault) }
+        ensures line { IfOk result (λ line. (g : grammar) (place : Place g) →
+            reads_left g place self.old ≡ reads_on g place line.now self.new) }
+        ensures cut { IfErr result (λ fault. (g : grammar) (place : Place g) → IsOpen place
+            → reads_left g place self.old ≡ Err fault) }
         ensures first { IfOk result (λ line. (word : List ℕ) →
             first_begins word self.old.rest.now ≡ begins_with word line.now) }
         ensures taken { IfOk result (λ _. self.new.taken ≡ self.old.taken + 1) }
@@ -83,9 +84,9 @@ impl<'a> Lines<'a> {
     #[tactic(auto, using(crate::proofs::PartLemmas::reads_after))]
     pub fn end(&self) -> Result<(), ScriptFault>
         requires { IsShort self.now }
-        ensures ok { OnOk result ((s : ScriptValue) → reads_left (AtEnd s) self.now ≡ Ok s) }
-        ensures fault { IfErr result (λ fault. (s : ScriptValue) →
-            reads_left (AtEnd s) self.now ≡ Err fault) }
+        ensures ok { OnOk result ((g : grammar) (s : Said g) → reads_left g (AtEnd s) self.now ≡ Ok s) }
+        ensures fault { IfErr result (λ fault. (g : grammar) (s : Said g) →
+            reads_left g (AtEnd s) self.now ≡ Err fault) }
     {
         if self.rest.is_empty() {
             Ok(())

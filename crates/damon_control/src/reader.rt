@@ -1,21 +1,28 @@
-ghost use Rattle.std.specs.Prelude.{◌≡◌, All, ◌≤◌, ◌<◌, ◌+◌, ◌^◌, Ok, IfOk, IfErr, length, map};
+ghost use Rattle.std.specs.Prelude.{◌≡◌, All, ◌≤◌, ◌<◌, ◌+◌, ◌^◌, List, Ok, Err, IfOk, IfErr, OnOk, codes, false, length, map};
 ghost use Rattle.damon_types.specs.Space.{checked, pages_of};
-ghost use Rattle.target_ranges.specs.Checked.{checked_ranges};
 ghost use Rattle.live_commit.specs.SetupView.{value_of};
-ghost use Rattle.live_commit.specs.Slots.{checked_slots, kept_slots};
+ghost use Rattle.damon_control.specs.HeadView.{IsHead};
+ghost use Rattle.damon_types.specs.declared.range.RangeSpec.{RangeSpec as spec};
+ghost use Rattle.damon_types.specs.declared.scheme.SlotChange.{SlotChange as change};
+ghost use Rattle.damon_types.specs.declared.space.Target.{Target as target};
+ghost use Rattle.damon_control.specs.declared.head.Frame.{Frame as frame};
 ghost use Rattle.damon_control.specs.declared.fault.ReadFail.TheVariants.{Memory};
 ghost use Rattle.damon_control.specs.Command.{command_value, work_of};
 ghost use Rattle.damon_control.specs.Head.{setup_said};
-ghost use Rattle.damon_control.specs.Left.{FaultOf, IsShort, MovesTo, reads_left};
-ghost use Rattle.damon_control.specs.Limits.{AreLimits, EachIsWithin};
-ghost use Rattle.damon_control.specs.Script.{AtHeader, InBody, begun, script_of};
+ghost use Rattle.damon_control.specs.Left.{FaultOf, IsShort, MovesTo, first_begins, reads_left};
+ghost use Rattle.damon_control.specs.Limits.{EachIsWithin};
+ghost use Rattle.damon_control.specs.Script.{AtHeader, AtSchemes, InBody, begun, opened, script_of};
+ghost use Rattle.damon_control.specs.declared.grammar.Grammar.{Grammar as grammar};
+ghost use Rattle.damon_control.specs.declared.grammar.Grammar.TheVariants.{OfScript as of_script};
 ghost use Rattle.damon_control.specs.ScriptView.{said_by};
 
 use crate::body::read_body;
+use crate::grammar::Grammar;
 use crate::head::{Frame, read_frame, read_ranges, read_slots, read_targets};
 use crate::lines::Lines;
 use crate::script::MAX_WORK;
-use crate::{ReadFail, Script};
+use crate::words::alone;
+use crate::{ReadFail, Script, ScriptFault};
 use damon_types::{RangeSpecs, SlotChanges, Space, Target};
 use live_commit::Setup;
 use std::alloc::Global;
@@ -57,24 +64,66 @@ struct Opening {
     setup: Setup,
 }
 
-// Reads the lines up to `begin`.
-fn read_opening(alloc: Global, lines: &mut Lines) -> Result<Opening, ReadFail>
+// The lines of a setup: its numbers, and what is made of the others.
+#[derive(Drop)]
+pub struct Head {
+    pub frame: Frame,
+    pub space: Space,
+    pub specs: RangeSpecs,
+    pub slots: SlotChanges,
+}
+
+// Reads the lines up to the last scheme.
+pub fn read_head(alloc: Global, lines: &mut Lines, form: Grammar) -> Result<Head, ReadFail>
     requires { IsShort lines.old }
-    ensures ok { IfOk result (λ o.
-        MovesTo AtHeader lines.old (InBody (begun o.seed (value_of o.setup))) lines.new) }
-    ensures fault { FaultOf result (reads_left AtHeader lines.old) }
+    ensures ok { IfOk result (λ h. MovesTo form AtHeader lines.old
+        (AtSchemes h.frame h.space h.specs.list h.slots.list) lines.new) }
+    ensures fault { FaultOf result (reads_left form AtHeader lines.old) }
+    ensures all { OnOk result (first_begins (codes "scheme") lines.new.rest.now ≡ false) }
+    ensures sound { IfOk result (λ h. IsHead h) }
     ensures small { IsShort lines.new }
 {
-    let frame = read_frame(lines)?;
+    let frame = read_frame(lines, form)?;
     let targets = read_targets(alloc, lines, &frame)?;
     let space = make_space(alloc, &targets)?;
     let specs = read_ranges(alloc, lines, &frame, &space)?;
     let slots = read_slots(alloc, lines, &frame, &space, &specs)?;
-    let setup = make_setup(alloc, &frame, space, &specs, &slots)?;
-    Ok(Opening {
-        seed: frame.seed,
-        setup,
+    Ok(Head {
+        frame,
+        space,
+        specs,
+        slots,
     })
+}
+
+// Reads the lines up to `begin`.
+fn read_opening(alloc: Global, lines: &mut Lines) -> Result<Opening, ReadFail>
+    requires { IsShort lines.old }
+    ensures ok { IfOk result (λ o.
+        MovesTo of_script AtHeader lines.old (InBody (begun o.seed (value_of o.setup))) lines.new) }
+    ensures fault { FaultOf result (reads_left of_script AtHeader lines.old) }
+    ensures small { IsShort lines.new }
+{
+    let head = read_head(alloc, lines, Grammar::OfScript)?;
+    read_begin(lines)?;
+    let seed = head.frame.seed;
+    let setup = make_setup(alloc, head)?;
+    Ok(Opening { seed, setup })
+}
+
+// Reads the line `begin`.
+fn read_begin(lines: &mut Lines) -> Result<(), ScriptFault>
+    requires small { IsShort lines.old }
+    requires all { first_begins (codes "scheme") lines.old.rest.now ≡ false }
+    ensures ok { OnOk result ((f : frame) (ts : List target) (rs : List spec) (cs : List change) →
+        MovesTo of_script (AtSchemes f ts rs cs) lines.old (InBody (opened f ts rs cs)) lines.new) }
+    ensures fault { IfErr result (λ fault.
+        (f : frame) (ts : List target) (rs : List spec) (cs : List change) →
+        reads_left of_script (AtSchemes f ts rs cs) lines.old ≡ Err fault) }
+    ensures small { IsShort lines.new }
+{
+    let line = lines.take_line()?;
+    lines.refuse(alone(b"begin", line))
 }
 
 // The space of targets that are accepted.
@@ -92,23 +141,18 @@ fn make_space(alloc: Global, targets: &[Target]) -> Result<Space, ReadFail>
 }
 
 // The setup that accepted lines say.
-fn make_setup(
-    alloc: Global,
-    frame: &Frame,
-    space: Space,
-    specs: &RangeSpecs,
-    slots: &SlotChanges,
-) -> Result<Setup, ReadFail>
-    requires limits { AreLimits frame.now }
-    requires ranges { checked_ranges space frame.now.unit frame.now.cap specs.now.list ≡ Ok tt }
-    requires some { 1 ≤ length specs.now.list }
-    requires most { length specs.now.list ≤ frame.now.attrs.max }
-    requires slots { checked_slots slots.now.list ≡ Ok tt }
-    requires set { kept_slots slots.now.list ≡ slots.now.list }
+pub fn make_setup(alloc: Global, head: Head) -> Result<Setup, ReadFail>
+    requires { IsHead head }
     ensures setup { IfOk result (λ s.
-        value_of s ≡ setup_said frame.now space specs.now.list slots.now.list) }
+        value_of s ≡ setup_said head.frame head.space head.specs.list head.slots.list) }
     ensures memory { IfErr result (λ fail. fail ≡ Memory) }
 {
+    let Head {
+        frame,
+        space,
+        specs,
+        slots,
+    } = head;
     // For its clause alone: there are fewer than 2^32 slot changes.
     let _changes = slots.len();
     let setup = Setup::of_checked(

@@ -1,6 +1,7 @@
 use Rattle.std.proofs.Common.{◌≡◌, ℕ, ◌≤◌, length, map}
 use Rattle.damon_types.specs.Space.{pages_of}
 use Rattle.live_commit.specs.SetupView.{value_of}
+use Rattle.damon_control.specs.declared.grammar.Grammar.TheVariants.{OfScript}
 use Rattle.damon_control.specs.declared.script.TheConstants.{MAX_WORK}
 use Rattle.damon_control.specs.Command.{command_value, work_of}
 use Rattle.damon_control.specs.BodyLine.{body_at}
@@ -11,8 +12,8 @@ use Rattle.damon_control.proofs.body.read_body.Given as goal
 
 abbrev pub invariant-lines : goal.invariant-lines
 invariant-lines l = record {
-  said : (seed : ℕ) → reads_left (InBody (begun seed (value_of l.setup))) l.fn.lines
-      ≡ reads_left (InBody (body_at seed (value_of l.setup) l.commands.list l.work)) l.lines;
+  said : (seed : ℕ) → reads_left OfScript (InBody (begun seed (value_of l.setup))) l.fn.lines
+      ≡ reads_left OfScript (InBody (body_at seed (value_of l.setup) l.commands.list l.work)) l.lines;
   within : EachIsWithin (pages_of l.setup.space) l.commands.list;
   few : length l.commands.list ≤ l.lines.taken;
   sum : l.work ≡ work_of l.setup.cap (map command_value l.commands.list);

@@ -1,13 +1,14 @@
 use Rattle.std.proofs.Common.{◌≡◌, ◌≤◌, IfSome, length}
 use Rattle.live_commit.specs.Commit.{commit_value}
+use Rattle.damon_control.specs.declared.grammar.Grammar.{Grammar}
 use Rattle.damon_control.specs.Body.{no_commit}
 use Rattle.damon_control.specs.Left.{IsShort, reads_left}
-use Rattle.damon_control.specs.Script.{Body, InCommit}
+use Rattle.damon_control.specs.Script.{InCommit, Within}
 use Rattle.damon_control.proofs.commit.read_commit.Given as goal
 
 abbrev pub invariant-lines : goal.invariant-lines
 invariant-lines l = record {
-  said : (b : Body) → reads_left (InCommit b no_commit) l.fn.lines ≡ reads_left (InCommit b (commit_value l.commit)) l.lines;
+  said : (g : Grammar) (b : Within g) → reads_left g (InCommit b no_commit) l.fn.lines ≡ reads_left g (InCommit b (commit_value l.commit)) l.lines;
   few : IfSome l.commit.ranges (λ r. length r.list ≤ l.lines.taken);
   later : l.fn.lines.taken ≤ l.lines.taken;
   shorter : length l.lines.rest.now ≤ length l.fn.lines.rest.now;

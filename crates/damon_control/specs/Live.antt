@@ -1,0 +1,98 @@
+-- What a live script says, and the lines of its body.
+use Rattle.std.specs.Prelude.{ℕ, ◌+◌, ◌-◌, ◌==◌, Bool, not, nat_le, nat_lt, List, [], ◌∷◌, ◌++◌, length, sum_by, codes, Result, Ok, Err, if◌then◌else◌}
+use Rattle.std.specs.List.{range_with_len}
+use Rattle.damon_types.specs.declared.space.Target.{Target}
+use Rattle.live_commit.specs.Commit.{CommitValue}
+use Rattle.live_commit.specs.Setup.{SetupValue}
+use Rattle.damon_control.specs.declared.fault.ScriptKind.{ScriptKind}
+use Rattle.damon_control.specs.declared.fault.ScriptKind.TheVariants.{Limit, TooMuch, Word}
+use Rattle.damon_control.specs.declared.live.TheConstants.{MAX_CALLS, MAX_CONTROLLERS, MAX_PASSES, MAX_TOUCHES, MAX_WORKERS}
+use Rattle.damon_control.specs.Body.{sweep_line, touch_line}
+use Rattle.damon_control.specs.Command.{CommandValue, Sweep, Touch}
+use Rattle.damon_control.specs.Head.{limited}
+use Rattle.damon_control.specs.Refusal.{◌>>=◌, only_if}
+use Rattle.damon_control.specs.Words.{alone, arguments, begins_with, number_32, one_word}
+
+-- what a call of a controller says
+pub data CallValue : Type 0 where
+  ShowCall : CallValue
+  CommitCall : CommitValue → CallValue
+
+-- what a live script says: a trace of pages for each worker, and a list of calls for each controller
+pub record LiveValue : Type 0 where
+  pub seed : ℕ
+  pub setup : SetupValue
+  pub passes : ℕ
+  pub workers : List (List ℕ)
+  pub controllers : List (List CallValue)
+
+-- a live script without workers and controllers
+abbrev pub live_begun : ℕ → SetupValue → ℕ → LiveValue
+live_begun seed setup passes = record { seed = seed; setup = setup; passes = passes; workers = []; controllers = [] }
+
+-- all items of these lists
+abbrev pub count_all : {A : Type 0} → List (List A) → ℕ
+count_all lists = sum_by length lists
+
+-- whether there is a controller
+abbrev pub has_controller : LiveValue → Bool
+has_controller v = not (length v.controllers == 0)
+
+-- these lists with more items in the last of them
+abbrev pub to_last : {A : Type 0} → List (List A) → List A → List (List A)
+to_last [] items = []
+to_last (last ∷ []) items = (last ++ items) ∷ []
+to_last (list ∷ next ∷ more) items = list ∷ to_last (next ∷ more) items
+
+-- `passes N`
+abbrev pub passes_line : List ℕ → Result ℕ ScriptKind
+passes_line line = arguments (codes "passes") line >>= one_word >>= number_32 >>= limited 1 MAX_PASSES
+
+-- a line of this word alone, which begins a block after this many of at most so many
+abbrev pub block_line : List ℕ → List ℕ → ℕ → ℕ → Result (Unit {0}) ScriptKind
+block_line word line count most = alone word line >>= λ _. only_if (nat_lt count most) Limit (tt {0})
+
+-- `worker`: one more trace
+abbrev pub worker_line : LiveValue → List ℕ → Result LiveValue ScriptKind
+worker_line v line =
+    block_line (codes "worker") line (length v.workers) MAX_WORKERS >>= λ _. Ok (record v { workers = v.workers ++ [] ∷ [] })
+
+-- `controller`: one more list of calls
+abbrev pub controller_line : LiveValue → List ℕ → Result LiveValue ScriptKind
+controller_line v line =
+    block_line (codes "controller") line (length v.controllers) MAX_CONTROLLERS >>= λ _. Ok (record v { controllers = v.controllers ++ [] ∷ [] })
+
+-- the pages that a command touches, in order
+abbrev pub touched : CommandValue → List ℕ
+touched (Touch page) = page ∷ []
+touched (Sweep from to) = range_with_len from (to - from)
+touched _ = []
+
+-- `touch TARGET ADDRESS` or `sweep TARGET FROM TO`
+abbrev pub touching : List Target → List ℕ → Result CommandValue ScriptKind
+touching space line = if begins_with (codes "touch") line then touch_line space line else sweep_line space line
+
+-- the pages of such a line, where with them and as many touches before them there are not too many
+abbrev pub touches_within : List Target → List ℕ → ℕ → Result (List ℕ) ScriptKind
+touches_within space line before = do
+  command ← touching space line
+  only_if (nat_le (before + length (touched command)) MAX_TOUCHES) TooMuch (touched command)
+
+-- touches of the last worker, where there is one; all touches are counted
+abbrev pub touches_line : LiveValue → List ℕ → Result LiveValue ScriptKind
+touches_line v line =
+    if length v.workers == 0 then Err Word
+    else (touches_within v.setup.space line (count_all v.workers) >>= λ pages. Ok (record v { workers = to_last v.workers pages }))
+
+-- one call more is not too much after as many
+abbrev pub call_within : ℕ → Result (Unit {0}) ScriptKind
+call_within before = only_if (nat_le (before + 1) MAX_CALLS) TooMuch (tt {0})
+
+-- a live script with one more call of its last controller; all calls are counted
+abbrev pub with_call : LiveValue → CallValue → Result LiveValue ScriptKind
+with_call v call =
+    call_within (count_all v.controllers) >>= λ _. Ok (record v { controllers = to_last v.controllers (call ∷ []) })
+
+-- `show`
+abbrev pub show_line : LiveValue → List ℕ → Result LiveValue ScriptKind
+show_line v line = alone (codes "show") line >>= λ _. with_call v ShowCall
