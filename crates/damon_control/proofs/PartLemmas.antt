@@ -9,7 +9,7 @@ use Rattle.damon_control.specs.Refusal.{◌>>=◌}
 use Rattle.damon_control.specs.Script.{AtEnd, Place, ScriptValue, place_after, at, reads}
 use Rattle.damon_control.specs.Words.{begins_with, no_word}
 
-parts-some : (separator : ℕ) (bytes : List ℕ) → 0 < length (parts separator bytes)
+pub parts-some : (separator : ℕ) (bytes : List ℕ) → 0 < length (parts separator bytes)
 parts-some separator bytes = omega (arith, length-slice_split (λ c. c == separator) bytes)
 
 -- some bytes at least are a word

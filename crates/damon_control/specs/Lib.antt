@@ -19,4 +19,5 @@ pub mod Fits
 pub mod Laws
 pub mod ReadBack
 pub mod Text
+pub mod Touches
 pub mod Sound

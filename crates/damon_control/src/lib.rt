@@ -24,6 +24,8 @@ mod reader;
 mod script;
 #[cfg(test)]
 mod tests;
+/// Touch lines in one pass.
+mod touches;
 /// The words of a line.
 mod words;
 
