@@ -18,6 +18,7 @@ ghost use Rattle.damon_world.specs.Plays.{Plays};
 ghost use Rattle.damon_world.specs.Kept.{IsAdvance};
 
 use crate::PlainWords;
+use crate::plain_words::fill_up;
 use damon_core::{Changed, Monitor};
 use live_commit::{Commit, CommitFault, Phase, Setup};
 use rand_core::Rng;
@@ -308,8 +309,19 @@ fn draw<R: Rng>(source: &mut R, count: usize, words: &mut Vec<u32>)
     ensures capacity { vec_capacity words.new ≡ vec_capacity words.old }
     ensures rest { R.stream source.new ≡ drawn_rest count (R.stream source.old) }
 {
-    words.clear();
-    for _ in 0..count {
-        words.push_reserved(source.next_u32());
+    // Mostly there are as many words already.
+    words.truncate(count);
+    fill_up(words, count, 0);
+    fill_random(source, words);
+}
+
+// Replaces each word by a random one. It is kept apart: only then does the source stay in registers.
+#[inline(never)]
+fn fill_random<R: Rng>(source: &mut R, words: &mut [u32])
+    ensures words { words.new ≡ drawn (length words.old) (R.stream source.old) }
+    ensures rest { R.stream source.new ≡ drawn_rest (length words.old) (R.stream source.old) }
+{
+    for index in 0..words.len() {
+        words[index] = source.next_u32();
     }
 }
