@@ -193,7 +193,7 @@ fn mark_blocks(swept: &mut [bool], from: u32, to: u32)
     }
 }
 
-// Touches the pages from `from` to before `to` by the lowest bits of their words.
+// Touches the pages from `from` to before `to` without the marks of blocks.
 fn touch_pages(lows: &mut Vec<u16>, pages: u32, from: u32, to: u32)
     requires order { from ≤ to }
     requires within { to ≤ pages }
@@ -239,6 +239,7 @@ fn touched(low: u16) -> u16
 }
 
 // Touches the pages from `from` to before `to` by the lowest bits of their words.
+#[inline(never)]
 fn touch_all(lows: &mut [u16], from: u32, to: u32)
     requires order { from ≤ to }
     requires within { to ≤ length lows.old }

@@ -285,7 +285,9 @@ fn at_most(count: u32, most: u64) -> u32
     u64::from(count).min(most) as u32
 }
 
-// Clears the words of the picks of the pass under way from pick `from` to before pick `to`.
+// Clears the words of the picks of the pass under way from pick `from` to before pick `to`. It is kept
+// apart, so that its loop has the registers.
+#[inline(never)]
 fn clear_words(monitor: &Monitor, from: u32, to: u32, words: &mut PlainWords)
     requires pass { IsInPass monitor.now.core.phase }
     requires order { from ≤ to }
