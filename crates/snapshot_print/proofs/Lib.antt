@@ -5,5 +5,6 @@ pub mod Sending
 pub mod Ascii
 pub mod JsonSlots
 pub mod Floats
+pub mod Readable
 pub mod BySlot
 mod Examples
