@@ -30,10 +30,10 @@ pub(crate) fn drop_late(items: &mut Vec<Candidate>, left: u64) -> bool
     }
     let sums = passing_by_score(items);
     let exceeds = left < sums.from(0);
-    if let Some(last) = last_within(items, &sums, left) {
-        items.retain(|candidate| !last.is_before(candidate));
+    let Some(last) = last_within(items, &sums, left) else {
         return exceeds;
-    }
+    };
+    items.retain(|candidate| !last.is_before(candidate));
     exceeds
 }
 
