@@ -2,13 +2,24 @@
 use Rattle.std.specs.Prelude.{◌≡◌, ℕ, zero, suc, ◌+◌, ◌*◌, ◌/◌, ◌%◌, ◌^◌, ◌≤◌, ◌<◌, Bool, false, ◌==◌, List, length, map, slice_index, slice_index_or, slice_set, if◌then◌else◌}
 use Rattle.std.specs.List.{range_with_len}
 
--- the word of a page by its lowest 16 bits and the bits above them
-abbrev pub word : ℕ → ℕ → ℕ
-word low high = 2 ^ 16 * high + low
-
 -- the word after a touch
 abbrev pub touched_word : ℕ → ℕ
 touched_word w = 2 * (w / 2) + 1
+
+-- whether the page of a word was touched
+abbrev pub is_touched_word : ℕ → Bool
+is_touched_word w = w % 2 == 1
+
+-- the words once the n picks that begin with pick `from` are cleared: each gets this word
+abbrev pub cleared_words : List ℕ → ℕ → ℕ → ℕ → List ℕ → List ℕ
+cleared_words picks from zero w words = words
+cleared_words picks from (suc n) w words = slice_set (cleared_words picks from n w words) (slice_index picks (from + n)) w
+
+-- How words are stored. Only proofs need what follows.
+
+-- the word of a page by its lowest 16 bits and the bits above them
+abbrev pub word : ℕ → ℕ → ℕ
+word low high = 2 ^ 16 * high + low
 
 -- the lowest 16 bits of a page's word: as they are stored, and touched if the page's block of 64 is swept
 abbrev pub low_in : List Bool → List ℕ → ℕ → ℕ
@@ -32,12 +43,3 @@ pub record IsStored (pages : ℕ) (swept : List Bool) (low_room high_room : ℕ)
 -- the new list has this number at this place and is the old list elsewhere; a place past the end counts as 0
 abbrev pub Puts : List ℕ → List ℕ → ℕ → ℕ → Type 0
 Puts old new place number = (q : ℕ) → slice_index new q ≡ (if q == place then number else slice_index old q)
-
--- whether the page of a word was touched
-abbrev pub is_touched_word : ℕ → Bool
-is_touched_word w = w % 2 == 1
-
--- the words once the n picks that begin with pick `from` are cleared: each gets this word
-abbrev pub cleared_words : List ℕ → ℕ → ℕ → ℕ → List ℕ → List ℕ
-cleared_words picks from zero w words = words
-cleared_words picks from (suc n) w words = slice_set (cleared_words picks from n w words) (slice_index picks (from + n)) w

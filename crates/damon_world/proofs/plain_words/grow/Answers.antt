@@ -1,4 +1,4 @@
-use Rattle.std.proofs.Common.{◌≡◌, ◌++◌, ℕ, ap, ◌∙◌, arith}
+use Rattle.std.proofs.Common.{ℕ, ap, ◌∙◌, arith}
 use Rattle.std.specs.Prelude.{slice_index}
 use Rattle.damon_world.proofs.Parts.{index_with_zeros}
 use Rattle.damon_world.proofs.plain_words.grow.Goals as goal
