@@ -1,5 +1,5 @@
 -- When a value of a report is written and read back: its numbers have 64 bits, and it has no negative number and no float.
-use Rattle.std.specs.Prelude.{ℕ, ◌<◌, ◌^◌, ⊤}
+use Rattle.std.specs.Prelude.{◌<◌, ◌^◌, ⊤}
 use Rattle.serde_json.specs.Data.{Num, unsigned, negative, float, Data, null, boolean, number, string, array, object, Items, no_items, item, Members, no_members, member}
 
 abbrev pub IsWord : Num → Type 0

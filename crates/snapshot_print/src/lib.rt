@@ -18,7 +18,7 @@ mod json_lines;
 mod json_parts;
 /// The values of the set slots in a show as JSON.
 mod json_slots;
-/// A law of the text of an aggregation.
+/// Laws of the texts of a report.
 mod laws;
 /// Lines that are appended in groups.
 mod line_groups;
@@ -34,5 +34,5 @@ mod tests;
 pub use aggregate::print_aggregate;
 pub use commit::print_commit;
 pub use form::Form;
-pub use laws::choices_have_all_their_runs;
+pub use laws::{choices_have_all_their_runs, json_lines_are_read};
 pub use show::{print_end, print_show};

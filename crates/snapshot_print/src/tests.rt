@@ -340,7 +340,12 @@ fn a_scheme_has_the_runs_that_it_was_applied_to(rt: HostRuntime) -> Result<(), F
     let alloc = rt.alloc();
     let monitor = aggregated_twice(&rt, alloc)?;
     assert!(rt; same_text(&aggregated(alloc, Form::Text, &monitor)?, SLOT_IS_APPLIED));
-    assert!(rt; same_text(&aggregated(alloc, Form::Json, &monitor)?, SLOT_IS_APPLIED_IN_JSON));
+    assert!(rt;
+        same_text(
+            &aggregated(alloc, Form::Json, &monitor)?,
+            SLOT_IS_APPLIED_IN_JSON
+        )
+    );
     Ok(())
 }
 
