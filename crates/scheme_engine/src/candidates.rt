@@ -3,10 +3,11 @@ ghost use Rattle.std.specs.Prelude.{◌≡◌, ◌≤◌};
 ghost use Rattle.damon_types.specs.Within.{AreWithin};
 ghost use Rattle.scheme_engine.specs.Candidates.{candidates_of, tried_of};
 
-use crate::pages::{Context, count_passing};
+use crate::pages::Context;
 use damon_types::Scheme;
 use priority::{Candidates, score};
 use region_list::Regions;
+use scheme_filter::{RangeRuns, count_passing};
 use scheme_match::matches;
 
 // Makes the list the candidates of a scheme among the rows, and returns how many rows match.
@@ -30,11 +31,12 @@ pub(crate) fn gather(
     candidates.clear();
     let ranges = regions.ranges();
     let total = ranges.total();
+    let mut near = RangeRuns::new();
     let mut tried = 0;
     for row in regions.rows() {
         if matches(&scheme.pattern, row) {
             tried += 1;
-            let passing = count_passing(&scheme.filters, context.space, ranges, row);
+            let passing = count_passing(&scheme.filters, context.space, ranges, row, &mut near);
             if passing > 0 {
                 let score = score(row, total, context.aggr, scheme);
                 candidates.push(row.target, row.start, score, passing);

@@ -13,7 +13,7 @@ ghost use Rattle.scheme_engine.specs.Applying.{end_of_runs, first_pages};
 use crate::{Applied, AppliedRun, RUNS_PER_ROW};
 use damon_types::{Filters, Ranges, Row, Space};
 use priority::Candidate;
-use scheme_filter::{MAX_RUNS, PassRuns, Run, passing, passing_pages_are_counted};
+use scheme_filter::{MAX_RUNS, PassRuns, Run, passing};
 
 /// What the schemes of a monitor have in common.
 #[derive(Clone, Copy)]
@@ -22,21 +22,6 @@ pub(crate) struct Context<'a> {
     pub(crate) space: &'a Space,
     /// The number of passes of an aggregation.
     pub(crate) aggr: u32,
-}
-
-// How many pages of a row pass the filters.
-pub(crate) fn count_passing(filters: &Filters, space: &Space, ranges: &Ranges, row: &Row) -> u32
-    requires within { AreWithin space.now ranges.now.list }
-    requires held { Any (LiesIn (span_of row.now)) ranges.now.list }
-    ensures { result ≡ length
-        (passing_pages (passes filters.now space.now ranges.now.list) (span_of row.now)) }
-{
-    // For their clauses alone: the runs have no more pages than the row, which ends below page 2^32.
-    passing_pages_are_counted();
-    let _count = ranges.len();
-    let mut runs = PassRuns::new();
-    passing(filters, space, ranges, row, &mut runs);
-    runs.as_slice().iter().map(|run| run.pages).sum()
 }
 
 // Appends the runs of the first passing pages of a row, as many as the share of its candidate, which is at

@@ -1,4 +1,4 @@
-use Rattle.std.proofs.Common.{◌≡◌, ℕ, ◌≤◌, ◌<◌, Bool, ◌++◌, List, Some, None, length, map, sym, ap, subst, ◌∙◌, arith}
+use Rattle.std.proofs.Common.{ℕ, ◌<◌, Bool, ◌++◌, List, map, sym, ap, subst, ◌∙◌, arith}
 use Rattle.std.specs.Prelude.{Any}
 use Rattle.std.proofs.lemmas.List.{append-nil}
 use Rattle.damon_types.specs.declared.range.Range.{Range}
@@ -6,16 +6,13 @@ use Rattle.damon_types.specs.declared.row.Row.{Row}
 use Rattle.damon_types.specs.Span.{Span, span_of, spans}
 use Rattle.region_list.specs.Regions.{RegionList}
 use Rattle.region_list.specs.Tiles.{LiesIn}
-use Rattle.scheme_filter.specs.declared.runs.Run.{Run}
 use Rattle.scheme_filter.specs.Passes.{passes}
 use Rattle.scheme_engine.specs.declared.applied.AppliedRun.{AppliedRun}
 use Rattle.scheme_engine.specs.Applied.{AppliedList}
-use Rattle.scheme_engine.specs.Applying.{IsCandidateOf, part_of, rows_renewed}
-use Rattle.scheme_engine.specs.Candidates.{passing_pages}
 use Rattle.scheme_engine.specs.Outcome.{cut_place}
-use Rattle.scheme_engine.specs.Taken.{applied_run, candidate_runs, taken_runs}
-use Rattle.scheme_engine.proofs.ApplyLemmas.{Found, found, is_found, no_part_0, no_share, none_new, not_whole, part_is, spans_stay}
-use Rattle.scheme_engine.proofs.PlaceLemmas.{Ascend, row_held, rows_ascend}
+use Rattle.scheme_engine.specs.Taken.{applied_run, taken_runs}
+use Rattle.scheme_engine.proofs.ApplyLemmas.{found, is_found, no_part_0, no_share, none_new, not_whole, part_is, spans_stay}
+use Rattle.scheme_engine.proofs.PlaceLemmas.{row_held, rows_ascend}
 use Rattle.scheme_engine.proofs.apply.apply_to.Goals as goal
 
 pub returns-then-candidate-eq0-clause-runs : goal.returns-then-candidate-eq0-clause-runs

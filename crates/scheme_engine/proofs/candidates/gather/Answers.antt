@@ -1,4 +1,4 @@
-use Rattle.std.proofs.Common.{◌≡◌, ◌+◌, ◌<◌, ◌≤◌, ◌++◌, ◌∷◌, [], List, Option, Some, None, true, false, length, take, get_or, sym, ap, ◌∙◌, subst, arith}
+use Rattle.std.proofs.Common.{◌≡◌, ◌+◌, ◌<◌, ◌++◌, [], List, Option, true, false, length, take, get_or, sym, ap, ◌∙◌, subst, arith}
 use Rattle.std.specs.List.{cons_option}
 use Rattle.std.proofs.lemmas.List.{length-take, append-nil}
 use Rattle.std.proofs.lemmas.List.Sums.{count_by_more_no, count_by_more_yes}
@@ -6,6 +6,7 @@ use Rattle.damon_types.specs.declared.row.Row.{Row}
 use Rattle.damon_types.specs.Span.{span_of}
 use Rattle.region_list.specs.Rows.{no_row, row_at}
 use Rattle.scheme_filter.specs.Passes.{passes}
+use Rattle.scheme_filter.specs.RangeRuns.{AreRunsOf}
 use Rattle.damon_types.specs.Ranges.{page_total}
 use Rattle.scheme_match.specs.Match.{is_match}
 use Rattle.priority.specs.declared.candidates.Candidate.{Candidate}
@@ -63,11 +64,12 @@ loop-row-preserved c =
     let more = filter_map_more h rows i no_row within in
     let next : (o : Option Candidate) → h r ≡ o → candidates_of space ranges aggr scheme (take (i + 1) rows) ≡ c.loop-row.candidates.list ++ cons_option o [] = λ o gives. more ∙ ap (λ x. candidates_of space ranges aggr scheme (take i rows) ++ cons_option (h x) []) (sym here) ∙ ap (λ x. candidates_of space ranges aggr scheme (take i rows) ++ cons_option x []) gives ∙ ap (λ cs. cs ++ cons_option o []) (sym kept.list) in
     let pattern = is_match scheme.pattern in
-    let test = c.matches.ensures in
+    let matching = c.matches.ensures in
+    let test = passes scheme.filters space c.ranges-ranges.result.now.list in
     elim c.if-matches.branch [
       | then-matches+then-passing-gt0 w ↦
-          let matches : pattern r ≡ true = sym test ∙ w.if-matches.true in
-          let passing = w.count_passing-passing.ensures ∙ ap (λ gs. length (passing_pages (passes scheme.filters space gs) (span_of r))) c.ranges-ranges.ensures.list in
+          let matches : pattern r ≡ true = sym matching ∙ w.if-matches.true in
+          let passing = w.count_passing-passing.ensures.count ∙ ap (λ gs. length (passing_pages (passes scheme.filters space gs) (span_of r))) c.ranges-ranges.ensures.list in
           let total = c.total-total.ensures.total ∙ ap page_total c.ranges-ranges.ensures.list in
           let score = w.score-score.ensures.exact ∙ ap (λ n. score_of r n aggr scheme) total in
           let found = candidate_here space ranges aggr scheme r w.count_passing-passing.result w.score-score.result matches passing w.if-passing-gt0.true score in
@@ -76,24 +78,27 @@ loop-row-preserved c =
             list = ap (λ (l : CandidateList). l.list) now ∙ sym (next _ found);
             cap = ap (λ (l : CandidateList). l.cap) now ∙ kept.cap;
             tried = w.tried-is ∙ ap (λ n. n + 1) kept.tried ∙ sym (count_by_more_yes pattern rows i no_row within (ap pattern (sym here) ∙ matches));
+            near = subst (AreRunsOf test) (sym w.near-is) w.count_passing-passing.ensures.near;
             few = omega (arith, w.tried-is, kept.few);
           }
       | then-matches+else-passing-gt0 w ↦
-          let matches : pattern r ≡ true = sym test ∙ w.if-matches.true in
-          let passing = w.count_passing-passing.ensures ∙ ap (λ gs. length (passing_pages (passes scheme.filters space gs) (span_of r))) c.ranges-ranges.ensures.list in
+          let matches : pattern r ≡ true = sym matching ∙ w.if-matches.true in
+          let passing = w.count_passing-passing.ensures.count ∙ ap (λ gs. length (passing_pages (passes scheme.filters space gs) (span_of r))) c.ranges-ranges.ensures.list in
           let found = none_passes space ranges aggr scheme r w.count_passing-passing.result matches passing w.if-passing-gt0.false in
           record {
             list = ap (λ (l : CandidateList). l.list) w.candidates-is ∙ sym (append-nil c.loop-row.candidates.list) ∙ sym (next _ found);
             cap = ap (λ (l : CandidateList). l.cap) w.candidates-is ∙ kept.cap;
             tried = w.tried-is ∙ ap (λ n. n + 1) kept.tried ∙ sym (count_by_more_yes pattern rows i no_row within (ap pattern (sym here) ∙ matches));
+            near = subst (AreRunsOf test) (sym w.near-is) w.count_passing-passing.ensures.near;
             few = omega (arith, w.tried-is, kept.few);
           }
       | else-matches w ↦
-          let other : pattern r ≡ false = sym test ∙ w.if-matches.false in
+          let other : pattern r ≡ false = sym matching ∙ w.if-matches.false in
           record {
             list = ap (λ (l : CandidateList). l.list) w.candidates-is ∙ sym (append-nil c.loop-row.candidates.list) ∙ sym (next _ (no_match space ranges aggr scheme r other));
             cap = ap (λ (l : CandidateList). l.cap) w.candidates-is ∙ kept.cap;
             tried = w.tried-is ∙ kept.tried ∙ sym (count_by_more_no pattern rows i no_row within (ap pattern (sym here) ∙ other));
+            near = subst (AreRunsOf test) (sym w.near-is) kept.near;
             few = omega (arith, w.tried-is, kept.few);
           }
     ]

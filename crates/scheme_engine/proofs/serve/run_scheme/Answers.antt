@@ -1,18 +1,13 @@
-use Rattle.std.proofs.Common.{◌≡◌, ℕ, ◌+◌, ◌*◌, ◌≤◌, Bool, List, Some, None, length, sym, ap, subst, ◌∙◌, arith}
-use Rattle.std.specs.Prelude.{All, IsPermutation, fold}
+use Rattle.std.proofs.Common.{List, length, sym, ap, subst, ◌∙◌, arith}
 use Rattle.damon_types.specs.declared.row.Row.{Row}
-use Rattle.damon_types.specs.Span.{spans}
 use Rattle.region_list.specs.Regions.{RegionList}
 use Rattle.scheme_filter.specs.Passes.{passes}
-use Rattle.priority.specs.declared.candidates.Candidate.{Candidate}
 use Rattle.priority.specs.Candidates.{CandidateList}
 use Rattle.priority.specs.Order.{in_order}
 use Rattle.priority.specs.Share.{with_shares}
-use Rattle.scheme_engine.specs.declared.cut.Part.{Part}
-use Rattle.scheme_engine.specs.Applied.{AppliedList}
-use Rattle.scheme_engine.specs.Applying.{IsPartOf, next_part, rows_cut, rows_renewed}
-use Rattle.scheme_engine.specs.Candidates.{candidate_of, candidates_of}
-use Rattle.scheme_engine.specs.Outcome.{chosen_of, rows_after}
+use Rattle.scheme_engine.specs.Applying.{IsPartOf, rows_cut}
+use Rattle.scheme_engine.specs.Candidates.{candidate_of}
+use Rattle.scheme_engine.specs.Outcome.{rows_after}
 use Rattle.scheme_engine.proofs.GatherLemmas.{length-filter_map}
 use Rattle.scheme_engine.proofs.RowsLemmas.{are_chosen, part_fits, rows_none, rows_some}
 use Rattle.scheme_engine.proofs.serve.run_scheme.Goals as goal
