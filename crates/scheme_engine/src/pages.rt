@@ -38,6 +38,47 @@ pub(crate) fn take_row(
     requires within { AreWithin space.now ranges.now.list }
     requires held { Any (LiesIn (span_of row.now)) ranges.now.list }
     requires some { 1 ≤ candidate.now.share }
+    requires share { candidate.now.share ≤ candidate.now.passing }
+    requires passing { candidate.now.passing ≡ length
+        (passing_pages (passes filters.now space.now ranges.now.list) (span_of row.now)) }
+    requires room { length applied.old.runs + MAX_RUNS ≤ RUNS_PER_ROW * applied.old.cap }
+    ensures runs { applied.new ≡ record applied.old {
+      runs = applied.old.runs ++ map (applied_run slot candidate.now)
+          (taken_runs (passes filters.now space.now ranges.now.list) candidate.now.share
+          (span_of row.now));
+    } }
+    ensures few { length applied.new.runs ≤ length applied.old.runs + MAX_RUNS }
+    ensures pages { result ≡ cut_place (passes filters.now space.now ranges.now.list)
+        candidate.now.share (span_of row.now) }
+    ensures most { result ≤ row.now.pages }
+{
+    // Mostly all pages of a row pass: then its first pages are one run, and no filter is looked at.
+    if candidate.passing == row.pages {
+        applied.push_run(AppliedRun {
+            slot,
+            target: candidate.target,
+            start: row.start,
+            pages: candidate.share,
+            score: candidate.score,
+        });
+        return candidate.share;
+    }
+    take_passing(slot, filters, space, ranges, row, candidate, applied)
+}
+
+// The same for a row of any pages, whose filters are looked at.
+fn take_passing(
+    slot: u8,
+    filters: &Filters,
+    space: &Space,
+    ranges: &Ranges,
+    row: &Row,
+    candidate: &Candidate,
+    applied: &mut Applied,
+) -> u32
+    requires within { AreWithin space.now ranges.now.list }
+    requires held { Any (LiesIn (span_of row.now)) ranges.now.list }
+    requires some { 1 ≤ candidate.now.share }
     requires share { candidate.now.share ≤ length
         (passing_pages (passes filters.now space.now ranges.now.list) (span_of row.now)) }
     requires room { length applied.old.runs + MAX_RUNS ≤ RUNS_PER_ROW * applied.old.cap }

@@ -51,13 +51,13 @@ take_row-pages-requires-clause-held c =
     let is = found p old.rows c.args.candidate.now c.in_ok-index.index c.row-row.result ascend c.requires.row (sym c.find.ensures ∙ c.in_ok-index.was) c.row-row.ensures.row in
     rw c.ranges-2.ensures.list (subst (λ (r : Row). Any (LiesIn (span_of r)) old.ranges) is.read (row_held old.ranges old.rows c.in_ok-index.index c.len-count.ensures.tiles.within is.within))
 
-pub take_row-pages-requires-clause-share : goal.take_row-pages-requires-clause-share
-take_row-pages-requires-clause-share c =
+pub take_row-pages-requires-clause-passing : goal.take_row-pages-requires-clause-passing
+take_row-pages-requires-clause-passing c =
     let old = c.args.regions.now in
     let p = passes c.args.scheme.now.filters c.args.context.now.space.now old.ranges in
     let ascend = rows_ascend old.unit old.ranges (spans old.rows) c.len-count.ensures.unit c.len-count.ensures.order c.len-count.ensures.tiling in
     let is = found p old.rows c.args.candidate.now c.in_ok-index.index c.row-row.result ascend c.requires.row (sym c.find.ensures ∙ c.in_ok-index.was) c.row-row.ensures.row in
-    rw c.ranges-2.ensures.list (omega (arith, c.requires.row.share, is.passing))
+    rw c.ranges-2.ensures.list is.passing
 
 pub renew-requires : goal.renew-requires
 renew-requires c =
