@@ -1,4 +1,5 @@
 pub mod TakenLemmas
+pub mod SharedLemmas
 pub mod PlaceLemmas
 pub mod GatherLemmas
 pub mod CutLemmas
