@@ -10,7 +10,9 @@ use region_list::Regions;
 use scheme_filter::{RangeRuns, count_passing};
 use scheme_match::matches;
 
-// Makes the list the candidates of a scheme among the rows, and returns how many rows match.
+// Makes the list the candidates of a scheme among the rows, and returns how many rows match. It stands by
+// itself so that its loop has all registers.
+#[inline(never)]
 pub(crate) fn gather(
     scheme: &Scheme,
     context: &Context,
