@@ -1,3 +1,5 @@
+pub mod ScaleLemmas
+pub mod HistogramLemmas
 pub mod OrderLemmas
 pub mod ShareLemmas
 pub mod CandidateLemmas

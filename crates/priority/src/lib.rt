@@ -6,6 +6,8 @@
 mod candidates;
 /// The order of candidates, and their shares.
 mod choice;
+/// Sums by an index.
+mod histogram;
 /// Laws of the choice.
 mod laws;
 /// Scores.
@@ -13,5 +15,6 @@ mod scoring;
 
 pub use candidates::{Candidate, Candidates};
 pub use choice::Chosen;
+pub use histogram::Histogram;
 pub use laws::{lowest_is_least, order_is_one, shares_are_best, shares_are_within};
-pub use scoring::{MAX_SCORE, score};
+pub use scoring::{MAX_SCORE, Scorer, score};
