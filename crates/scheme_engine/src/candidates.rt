@@ -5,7 +5,7 @@ ghost use Rattle.scheme_engine.specs.Candidates.{candidates_of, tried_of};
 
 use crate::pages::Context;
 use damon_types::Scheme;
-use priority::{Candidates, score};
+use priority::{Candidates, Scorer};
 use region_list::Regions;
 use scheme_filter::{RangeRuns, count_passing};
 use scheme_match::matches;
@@ -32,7 +32,8 @@ pub(crate) fn gather(
     let _count = regions.len();
     candidates.clear();
     let ranges = regions.ranges();
-    let total = ranges.total();
+    // Without ranges there is no row to score.
+    let scorer = Scorer::new(ranges.total().max(1), context.aggr, scheme);
     let mut near = RangeRuns::new();
     let mut tried = 0;
     for row in regions.rows() {
@@ -40,7 +41,7 @@ pub(crate) fn gather(
             tried += 1;
             let passing = count_passing(&scheme.filters, context.space, ranges, row, &mut near);
             if passing > 0 {
-                let score = score(row, total, context.aggr, scheme);
+                let score = scorer.score(row);
                 candidates.push(row.target, row.start, score, passing);
             }
         }

@@ -11,7 +11,7 @@ use Rattle.damon_types.specs.Ranges.{page_total}
 use Rattle.scheme_match.specs.Match.{is_match}
 use Rattle.priority.specs.declared.candidates.Candidate.{Candidate}
 use Rattle.priority.specs.Candidates.{CandidateList}
-use Rattle.priority.specs.Score.{score_of}
+use Rattle.priority.specs.Score.{score_by, score_of}
 use Rattle.scheme_engine.specs.Candidates.{candidate_of, candidates_of, passing_pages}
 use Rattle.scheme_engine.proofs.GatherLemmas.{candidate_here, filter_map_more, length-filter_map, no_match, none_passes, start_before}
 use Rattle.scheme_engine.proofs.PlaceLemmas.{row_held, some_pages}
@@ -22,13 +22,6 @@ pub count_passing-passing-requires-clause-held : goal.count_passing-passing-requ
 count_passing-passing-requires-clause-held c =
     let is = c.rows-row-items.ensures in
     rw (is, c.ranges-ranges.ensures.list) (row_held c.args.regions.now.ranges c.args.regions.now.rows c.loop-row.row-index c.len-count.ensures.tiles.within (omega (arith, c.loop-row-test.true, ap length is)))
-
-pub score-score-requires-clause-total : goal.score-score-requires-clause-total
-score-score-requires-clause-total c =
-    let rows = c.args.regions.now.rows in
-    let i = c.loop-row.row-index in
-    let held = row_held c.args.regions.now.ranges rows i c.len-count.ensures.tiles.within (omega (arith, c.loop-row-test.true, ap length c.rows-row-items.ensures)) in
-    omega (arith, some_pages c.args.regions.now.ranges (span_of (row_at rows i)) c.len-count.ensures.order held, c.total-total.ensures.total, ap page_total c.ranges-ranges.ensures.list)
 
 pub push-requires-clause-room : goal.push-requires-clause-room
 push-requires-clause-room c =
@@ -70,8 +63,10 @@ loop-row-preserved c =
       | then-matches+then-passing-gt0 w ↦
           let matches : pattern r ≡ true = sym matching ∙ w.if-matches.true in
           let passing = w.count_passing-passing.ensures.count ∙ ap (λ gs. length (passing_pages (passes scheme.filters space gs) (span_of r))) c.ranges-ranges.ensures.list in
-          let total = c.total-total.ensures.total ∙ ap page_total c.ranges-ranges.ensures.list in
-          let score = w.score-score.ensures.exact ∙ ap (λ n. score_of r n aggr scheme) total in
+          let held = row_held ranges rows i c.len-count.ensures.tiles.within within in
+          let some = some_pages ranges (span_of (row_at rows i)) c.len-count.ensures.order held in
+          let total : c.max.result ≡ page_total ranges = omega (arith, some, c.max.ensures, c.total.ensures.total, ap page_total c.ranges-ranges.ensures.list) in
+          let score = w.score-score.ensures.exact ∙ ap (λ by. score_by by r) c.new-scorer.ensures ∙ ap (λ n. score_of r n aggr scheme) total in
           let found = candidate_here space ranges aggr scheme r w.count_passing-passing.result w.score-score.result matches passing w.if-passing-gt0.true score in
           let now = w.candidates-is ∙ w.push.ensures in
           record {
