@@ -34,7 +34,7 @@ pub(crate) fn gather(
     let ranges = regions.ranges();
     // Without ranges there is no row to score.
     let scorer = Scorer::new(ranges.total().max(1), context.aggr, scheme);
-    let mut near = RangeRuns::new();
+    let mut near = RangeRuns::new(&scheme.filters);
     let mut tried = 0;
     for row in regions.rows() {
         if matches(&scheme.pattern, row) {

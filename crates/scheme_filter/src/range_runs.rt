@@ -1,5 +1,7 @@
-ghost use Rattle.std.specs.Prelude.{◌≡◌, ◌+◌, ◌≤◌, ◌<◌, ◌^◌, ℕ, Bool, [], length, filter, sum_by, slice_get, Some, All, Any};
+ghost use Rattle.std.specs.Prelude.{◌≡◌, ◌+◌, ◌≤◌, ◌<◌, ◌^◌, ℕ, List, length, filter, sum_by, slice_get, Some, All, Any};
 ghost use Rattle.std.specs.List.{range_with_len};
+ghost use Rattle.damon_types.specs.declared.range.Range.{Range as range};
+ghost use Rattle.damon_types.specs.declared.space.Target.{Target as target};
 ghost use Rattle.damon_types.specs.Ranges.{end_of};
 ghost use Rattle.damon_types.specs.Span.{span_of};
 ghost use Rattle.damon_types.specs.Within.{AreWithin};
@@ -29,16 +31,22 @@ impl Model for RangeRuns {
 }
 
 impl RangeRuns {
-    /// The runs of no pages, which are those of any filters.
-    pub fn new() -> RangeRuns
-        ensures none { result ≡ record { from = 0; to = 0; runs = [] } }
-        ensures any { (passes : ℕ → Bool) → AreRunsOf passes result }
+    /// What to begin with: without filters, by which every page passes, one run of all pages, and else
+    /// the runs of no pages.
+    pub fn new(filters: &Filters) -> RangeRuns
+        ensures { (space : List target) (ranges : List range)
+            → AreRunsOf (passes filters.now space ranges) result }
     {
-        RangeRuns {
-            from: 0,
-            to: 0,
-            runs: PassRuns::new(),
+        let mut runs = PassRuns::new();
+        let mut to = 0;
+        if filters.len() == 0 {
+            to = u32::MAX;
+            runs.push(Run {
+                start: 0,
+                pages: to,
+            });
         }
+        RangeRuns { from: 0, to, runs }
     }
 
     // How many pages of the runs are among those from `start` to before `end`.
@@ -57,8 +65,8 @@ impl RangeRuns {
 
 /// How many pages of a row pass the filters of a scheme (see [`passes`](crate::passes)).
 ///
-/// `near` holds the runs of the pages around an earlier row of the same filters and ranges, or of no
-/// pages. If the row lies among these pages, its pages are counted from the runs. Else `near` becomes
+/// `near` holds the runs of the pages around an earlier row of the same filters and ranges, or what
+/// [`RangeRuns::new`] gives. If the row lies among these pages, its pages are counted from the runs. Else `near` becomes
 /// the runs of the row's range. The ranges lie in the space, and one of them holds the row. Takes no
 /// memory.
 pub fn count_passing(
@@ -99,7 +107,8 @@ fn reach(filters: &Filters, space: &Space, ranges: &Ranges, row: &Row, near: &mu
     look_up(filters, space, ranges, row, near);
 }
 
-// Makes `near` the runs of the range that holds the row.
+// Makes `near` the runs of the range that holds the row. It stands by itself, since few rows need it.
+#[inline(never)]
 fn look_up(filters: &Filters, space: &Space, ranges: &Ranges, row: &Row, near: &mut RangeRuns)
     requires within { AreWithin space.now ranges.now.list }
     requires held { Any (LiesIn (span_of row.now)) ranges.now.list }

@@ -1,4 +1,4 @@
-use Rattle.std.proofs.Common.{◌≡◌, ◌+◌, ◌<◌, ◌++◌, [], List, Option, true, false, length, take, get_or, sym, ap, ◌∙◌, subst, arith}
+use Rattle.std.proofs.Common.{◌≡◌, ◌+◌, ◌<◌, ◌++◌, [], List, Option, true, false, length, take, get_or, refl, sym, ap, ◌∙◌, subst, arith}
 use Rattle.std.specs.List.{cons_option}
 use Rattle.std.proofs.lemmas.List.{length-take, append-nil}
 use Rattle.std.proofs.lemmas.List.Sums.{count_by_more_no, count_by_more_yes}
@@ -39,6 +39,15 @@ push-requires-clause-distinct c =
     let within : i < length rows = omega (arith, c.loop-row-test.true, ap length is) in
     let before = start_before c.args.context.now.space.now c.args.regions.now.ranges c.args.context.now.aggr c.args.scheme.now 0 rows i no_row c.len-count.ensures.tiles.rise within in
     rw (is, c.loop-row.invariant.list) before
+
+pub loop-row-init : goal.loop-row-init
+loop-row-init c = record {
+  list = ap (λ (l : CandidateList). l.list) c.clear.ensures;
+  cap = ap (λ (l : CandidateList). l.cap) c.clear.ensures;
+  tried = refl;
+  near = c.new-near.ensures c.args.context.now.space.now c.ranges-ranges.result.now.list;
+  few = omega arith;
+}
 
 pub loop-row-preserved : goal.loop-row-preserved
 loop-row-preserved c =
