@@ -5,3 +5,4 @@ pub mod Share
 pub mod Chosen
 pub mod Best
 pub mod Histogram
+pub mod Kept

@@ -23,7 +23,8 @@ impl<const N: usize> Histogram<N> {
     pub fn new() -> Histogram<N>
         requires some { 1 ≤ N }
         requires few { N ≤ 4096 }
-        ensures { result ≡ replicate N 0 }
+        ensures zeros { result ≡ replicate N 0 }
+        ensures from { (i : ℕ) → sum_from result i ≡ 0 }
     {
         Histogram { sums: [0; N] }
     }
@@ -33,7 +34,9 @@ impl<const N: usize> Histogram<N> {
     pub fn add(&mut self, index: u32, pages: u64)
         requires index { index < N }
         requires fits { sum self.old + pages < 2 ^ 64 }
-        ensures { self.new ≡ slice_set self.old index (slice_index self.old index + pages) }
+        ensures at { self.new ≡ slice_set self.old index (slice_index self.old index + pages) }
+        ensures from { (i : ℕ) → sum_from self.new i
+            ≡ sum_from self.old i + (if nat_le i index then pages else 0) }
     {
         self.sums[index as usize] += pages;
     }
@@ -46,10 +49,12 @@ impl<const N: usize> Histogram<N> {
         self.sums[index as usize]
     }
 
-    /// The pages at an index and above; `index` is at most `N`.
+    /// The pages at an index and above; `index` is at most `N`. Its clauses also say how long each
+    /// list is.
     pub fn from(&self, index: u32) -> u64
         requires { index ≤ N }
-        ensures { result ≡ sum_from self.now index }
+        ensures sum { result ≡ sum_from self.now index }
+        ensures len { length self.now ≡ N }
     {
         let sums = &self.sums[..];
         sum_of(&sums[index as usize..])
