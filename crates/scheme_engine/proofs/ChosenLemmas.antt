@@ -1,16 +1,24 @@
 -- What the choice of a run gives, of which only the candidates with a share are kept.
-use Rattle.std.proofs.Common.{◌≡◌, ℕ, ◌≤◌, Bool, List, Option, Some, None, sym, ap, ◌∙◌, subst}
+use Rattle.std.proofs.Common.{◌≡◌, ℕ, Bool, List, Option, Some, None, sym, ap, ◌∙◌, subst}
 use Rattle.std.specs.Prelude.{All, filter, fold, nat_lt}
 use Rattle.std.proofs.lemmas.List.Elements.{All-filter}
 use Rattle.damon_types.specs.declared.row.Row.{Row}
 use Rattle.damon_types.specs.declared.scheme.Action.{Action}
+use Rattle.damon_types.specs.declared.scheme.Scheme.{Scheme}
+use Rattle.damon_types.specs.declared.space.Target.{Target}
 use Rattle.damon_types.specs.Span.{spans}
 use Rattle.region_list.specs.Regions.{RegionList}
+use Rattle.scheme_filter.specs.Passes.{passes}
 use Rattle.priority.specs.declared.candidates.Candidate.{Candidate}
+use Rattle.priority.specs.Order.{in_order}
+use Rattle.priority.specs.Share.{with_shares}
 use Rattle.scheme_engine.specs.declared.cut.Part.{Part}
 use Rattle.scheme_engine.specs.Applying.{IsCandidateOf, IsPartOf, next_part, rows_cut, rows_renewed}
-use Rattle.scheme_engine.specs.Outcome.{rows_after}
+use Rattle.scheme_engine.specs.Candidates.{candidates_of}
+use Rattle.scheme_engine.specs.Kept.{AreTiled}
+use Rattle.scheme_engine.specs.Outcome.{chosen_of, rows_after}
 use Rattle.scheme_engine.specs.Taken.{applied_runs}
+use Rattle.scheme_engine.proofs.LawLemmas.{ChoiceLaws, are_defined}
 use Rattle.scheme_engine.proofs.RowsLemmas.{AreChosen, part_fits, rows_none, rows_some}
 use Rattle.scheme_engine.proofs.SharedLemmas.{shared_part, shared_rows, shared_runs}
 
@@ -18,6 +26,13 @@ use Rattle.scheme_engine.proofs.SharedLemmas.{shared_part, shared_rows, shared_r
 pub record IsChosenList (passes : ℕ → Bool) (rows : List Row) (all list : List Candidate) : Type 0 where
   pub are : AreChosen passes rows all
   pub is : list ≡ filter (λ c. nat_lt 0 c.share) all
+
+-- what a choice gives
+pub is_chosen : ChoiceLaws → (space : List Target) (aggr : ℕ) (scheme : Scheme) (left : Option ℕ) (regions : RegionList) → AreTiled regions → (cs list : List Candidate) → cs ≡ candidates_of space regions.ranges aggr scheme regions.rows → list ≡ filter (λ c. nat_lt 0 c.share) (in_order (with_shares left cs)) → IsChosenList (passes scheme.filters space regions.ranges) regions.rows (chosen_of space aggr scheme left regions) list
+is_chosen laws space aggr scheme left regions tiled cs list gathered is = record {
+  are = (are_defined laws space aggr scheme left regions tiled).chosen;
+  is = is ∙ ap (λ ds. filter (λ c. nat_lt 0 c.share) (in_order (with_shares left ds))) gathered;
+}
 
 pub chosen_each : (passes : ℕ → Bool) (rows : List Row) (all list : List Candidate) → IsChosenList passes rows all list → All (IsCandidateOf passes (spans rows)) list
 chosen_each passes rows all list chosen =

@@ -1,5 +1,5 @@
 -- A candidate of which no page is taken makes no difference to what a scheme is applied to, nor to the rows.
-use Rattle.std.proofs.Common.{◌≡◌, ℕ, zero, ◌≤◌, ◌<◌, Bool, true, false, List, [], ◌∷◌, ◌++◌, Option, refl, sym, ap, ◌∙◌, arith}
+use Rattle.std.proofs.Common.{◌≡◌, ℕ, ◌<◌, Bool, true, false, List, [], ◌∷◌, ◌++◌, Option, refl, sym, ap, ◌∙◌, arith}
 use Rattle.std.specs.Prelude.{All, filter, fold, nat_lt}
 use Rattle.std.specs.Option.{option_or}
 use Rattle.std.proofs.lemmas.Bool.Decides.{nat_tests}

@@ -1,10 +1,9 @@
-use Rattle.std.proofs.Common.{◌≡◌, ◌+◌, ◌-◌, ◌≤◌, ◌++◌, ◌∷◌, [], List, length, map, ap, sym, ◌∙◌, arith}
+use Rattle.std.proofs.Common.{◌++◌, List, length, map, ap, sym, ◌∙◌, arith}
 use Rattle.std.proofs.lemmas.List.{length_push}
-use Rattle.damon_types.specs.Span.{span_of}
 use Rattle.scheme_filter.specs.declared.runs.Run.{Run}
 use Rattle.scheme_filter.specs.Passes.{passes}
 use Rattle.scheme_engine.specs.Applied.{AppliedList}
-use Rattle.scheme_engine.specs.Taken.{applied_run, taken_runs}
+use Rattle.scheme_engine.specs.Taken.{applied_run}
 use Rattle.scheme_engine.proofs.TakenLemmas.{whole_cut, whole_taken}
 use Rattle.scheme_engine.proofs.pages.take_row.Goals as goal
 
