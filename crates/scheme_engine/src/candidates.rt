@@ -34,10 +34,12 @@ pub(crate) fn gather(
     let ranges = regions.ranges();
     // Without ranges there is no row to score.
     let scorer = Scorer::new(ranges.total().max(1), context.aggr, scheme);
+    // Copied, so that the loop can keep it in registers.
+    let pattern = scheme.pattern;
     let mut near = RangeRuns::new(&scheme.filters);
     let mut tried = 0;
     for row in regions.rows() {
-        if matches(&scheme.pattern, row) {
+        if matches(&pattern, row) {
             tried += 1;
             let passing = count_passing(&scheme.filters, context.space, ranges, row, &mut near);
             if passing > 0 {

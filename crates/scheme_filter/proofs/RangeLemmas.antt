@@ -14,7 +14,7 @@ use Rattle.damon_types.specs.Span.{Span, span_of}
 use Rattle.region_list.specs.Tiles.{LiesIn}
 use Rattle.scheme_filter.specs.declared.runs.Run.{Run}
 use Rattle.scheme_filter.specs.Runs.{run_end, run_holds}
-use Rattle.scheme_filter.specs.RangeRuns.{RunsWithin, AreRunsOf, shared_of}
+use Rattle.scheme_filter.specs.RangeRuns.{RunsWithin, AreRunsOf, IsInFirst, shared_of}
 use Rattle.scheme_filter.proofs.LongestLemmas.{after_first, all_later, rest_apart}
 use Rattle.scheme_filter.proofs.RowLemmas.{range_fits, range_from}
 
@@ -180,3 +180,23 @@ count_is passes near s n from to longest =
 
 pub count_few : (passes : ℕ → Bool) (s n : ℕ) → length (filter passes (range_with_len s n)) ≤ n
 count_few passes s n = omega (arith, length-filter passes (range_with_len s n), count_by-le-length passes (range_with_len s n), length-range_with_len s n)
+
+count_all : (n s : ℕ) → count_by (λ p. true) (range_with_len s n) ≡ n
+count_all zero s = refl
+count_all (suc n) s = omega (arith, count-cons (λ p. true) s n, count_all n (s + 1))
+
+-- where the first run holds all pages of a row, they all pass
+pub all_pass : (passes : ℕ → Bool) (near : RunsWithin) (s n : ℕ) → near.from ≤ s → s + n ≤ near.to → AreRunsOf passes near → IsInFirst s (s + n) near.runs → n ≡ length (filter passes (range_with_len s n))
+all_pass passes near s n from to longest in_first =
+    sym (count_all n s)
+    ∙ count_same (λ p. true) passes n s (λ k low high. sym (held near.runs in_first k low high) ∙ longest.exact k (omega (arith, from, low)) (omega (arith, to, high)))
+    ∙ sym (length-filter passes (range_with_len s n))
+  where
+    held : (runs : List Run) → IsInFirst s (s + n) runs → (k : ℕ) → s ≤ k → k < s + n → list_any (run_holds k) runs ≡ true
+    held [] first k low high = absurd (cc first.is)
+    held (r ∷ rs) first k low high =
+        let same : r ≡ first.first = cc first.is in
+        let start = ap (λ (q : Run). q.start) same in
+        let end = ap run_end same in
+        let here : run_holds k r ≡ true = grind (arith, nat_tests, start, end, first.from, first.to) in
+        rw here refl

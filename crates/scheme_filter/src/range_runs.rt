@@ -1,4 +1,4 @@
-ghost use Rattle.std.specs.Prelude.{◌≡◌, ◌+◌, ◌≤◌, ◌<◌, ◌^◌, ℕ, List, length, filter, sum_by, slice_get, Some, All, Any};
+ghost use Rattle.std.specs.Prelude.{◌≡◌, ◌+◌, ◌≤◌, ◌<◌, ◌^◌, ℕ, true, List, length, filter, sum_by, slice_get, Some, All, Any};
 ghost use Rattle.std.specs.List.{range_with_len};
 ghost use Rattle.damon_types.specs.declared.range.Range.{Range as range};
 ghost use Rattle.damon_types.specs.declared.space.Target.{Target as target};
@@ -8,7 +8,7 @@ ghost use Rattle.damon_types.specs.Within.{AreWithin};
 ghost use Rattle.region_list.specs.Tiles.{LiesIn};
 ghost use Rattle.scheme_filter.specs.Passes.{passes};
 ghost use Rattle.scheme_filter.specs.Runs.{AreLongest, run_end};
-ghost use Rattle.scheme_filter.specs.RangeRuns.{AreRunsOf, shared_of};
+ghost use Rattle.scheme_filter.specs.RangeRuns.{AreRunsOf, IsInFirst, shared_of};
 
 use crate::{PassRuns, Run, passing};
 use damon_types::{Filters, Range, Ranges, Row, Space};
@@ -49,6 +49,17 @@ impl RangeRuns {
         RangeRuns { from: 0, to, runs }
     }
 
+    // Whether the first run holds all pages from `start` to before `end`.
+    fn is_in_first(&self, start: u32, end: u32) -> bool
+        requires { All (λ r. run_end r < 2 ^ 32) self.now.runs }
+        ensures { result ≡ true → IsInFirst start end self.now.runs }
+    {
+        match self.runs.as_slice().first() {
+            Some(run) => run.start <= start && end <= run.start + run.pages,
+            None => false,
+        }
+    }
+
     // How many pages of the runs are among those from `start` to before `end`.
     fn count(&self, start: u32, end: u32) -> u32
         requires ends { All (λ r. run_end r < 2 ^ 32) self.now.runs }
@@ -86,7 +97,13 @@ pub fn count_passing(
     // For its clauses alone: each range ends below page 2^32.
     let _count = ranges.len();
     reach(filters, space, ranges, row, near);
-    near.count(row.start, row.start + row.pages)
+    let start = row.start;
+    let end = start + row.pages;
+    // Mostly all pages of a row pass, and a range has one run.
+    if near.is_in_first(start, end) {
+        return row.pages;
+    }
+    near.count(start, end)
 }
 
 // Makes `near` the runs of pages among which the row lies, if it does not lie among those of `near`.

@@ -8,16 +8,17 @@ use damon_types::{Pattern, Row, Span};
 pub fn matches(pattern: &Pattern, row: &Row) -> bool
     ensures { result ≡ is_match pattern.now row.now }
 {
+    // With `&` in place of `&&` there is one branch, which the processor foretells better than three.
     contains(pattern.size, row.pages)
-        && contains(pattern.count, row.count)
-        && contains(pattern.age, row.age)
+        & contains(pattern.count, row.count)
+        & contains(pattern.age, row.age)
 }
 
 // Whether a number lies in a span.
 fn contains(span: Span, number: u32) -> bool
     ensures { result ≡ is_in_span span number }
 {
-    (span.low..=span.high).contains(&number)
+    (span.low <= number) & (number <= span.high)
 }
 
 #[cfg(test)]

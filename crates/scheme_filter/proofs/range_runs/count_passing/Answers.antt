@@ -2,12 +2,12 @@ use Rattle.std.proofs.Common.{◌≤◌, ◌<◌, ◌^◌, ◌∙◌, arith}
 use Rattle.scheme_filter.specs.Passes.{passes}
 use Rattle.scheme_filter.specs.Runs.{run_end}
 use Rattle.scheme_filter.proofs.LongestLemmas.{all_weaker}
-use Rattle.scheme_filter.proofs.RangeLemmas.{count_few, count_is}
+use Rattle.scheme_filter.proofs.RangeLemmas.{all_pass, count_few, count_is}
 use Rattle.scheme_filter.proofs.RowLemmas.{row_fits}
 use Rattle.scheme_filter.proofs.range_runs.count_passing.Goals as goal
 
-pub overflow_add-row : goal.overflow_add-row
-overflow_add-row c = omega (arith, row_fits c.args.ranges.now.list c.args.row.now c.len-count.ensures.order c.requires.held)
+pub overflow_add-end : goal.overflow_add-end
+overflow_add-end c = omega (arith, row_fits c.args.ranges.now.list c.args.row.now c.len-count.ensures.order c.requires.held)
 
 pub count-requires-clause-ends : goal.count-requires-clause-ends
 count-requires-clause-ends c =
@@ -26,3 +26,12 @@ returns-clause-count c =
     let p = passes c.args.filters.now c.args.space.now c.args.ranges.now.list in
     let r = c.args.row.now in
     c.count.ensures ∙ count_is p c.reach.new.near r.start r.pages c.reach.ensures.from c.reach.ensures.to c.reach.ensures.near
+
+pub returns-then-is_in_first : goal.returns-then-is_in_first
+returns-then-is_in_first c =
+    let p = passes c.args.filters.now c.args.space.now c.args.ranges.now.list in
+    let r = c.args.row.now in
+    record {
+      count = all_pass p c.reach.new.near r.start r.pages c.reach.ensures.from c.reach.ensures.to c.reach.ensures.near (c.is_in_first.ensures c.if-is_in_first.true);
+      near = c.reach.ensures.near;
+    }
