@@ -8,7 +8,7 @@ use damon_types::{Pattern, Row, Span};
 pub fn matches(pattern: &Pattern, row: &Row) -> bool
     ensures { result ≡ is_match pattern.now row.now }
 {
-    // With `&` in place of `&&` there is one branch, which the processor foretells better than three.
+    // `&` and not `&&`: one branch for six comparisons, of which a processor mispredicts fewer.
     contains(pattern.size, row.pages)
         & contains(pattern.count, row.count)
         & contains(pattern.age, row.age)
