@@ -1,5 +1,9 @@
 pub mod Appending
 pub mod Rows
 pub mod Slots
+pub mod Sending
+pub mod Ascii
+pub mod JsonSlots
+pub mod Floats
 pub mod BySlot
 mod Examples

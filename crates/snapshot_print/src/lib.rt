@@ -12,6 +12,12 @@ mod commit;
 mod fields;
 /// The forms of a report.
 mod form;
+/// The lines of a report as JSON.
+mod json_lines;
+/// Members and values of the objects of a report in JSON.
+mod json_parts;
+/// The values of the set slots in a show as JSON.
+mod json_slots;
 /// A law of the text of an aggregation.
 mod laws;
 /// Lines that are appended in groups.
