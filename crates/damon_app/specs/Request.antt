@@ -4,20 +4,23 @@ use Rattle.std.specs.Option.{option_map}
 use Rattle.std.specs.declared.alloc.Global.{Global}
 use Rattle.line_text.specs.Number.{number}
 use Rattle.damon_control.specs.Words.{same_word}
-use Rattle.snapshot_print.specs.declared.form.Form.TheVariants.{Text}
+use Rattle.snapshot_print.specs.declared.form.Form.TheVariants.{Text, Json}
 use Rattle.damon_app.specs.declared.request.Request.{Request}
 use Rattle.damon_app.specs.declared.request.Request.TheVariants.{Report, Generate}
 
--- the report that one word asks for
+-- the report that one word asks for, in its form
 abbrev pub report_of : List ℕ → Option Request
-report_of word = if same_word word (codes "replay") then Some (Report Text) else None
+report_of word =
+    if same_word word (codes "replay") then Some (Report Text)
+    else if same_word word (codes "json") then Some (Report Json)
+    else None
 
 -- the generated run that two words ask for: `gen`, and a number of at most 64 bits in its one spelling
 abbrev pub generation_of : List ℕ → List ℕ → Option Request
 generation_of word digits =
     if same_word word (codes "gen") then option_map (λ n. Generate n) (number (2 ^ 64 - 1) digits) else None
 
--- what words ask for, each given by its bytes: `replay` alone or `gen N`, and nothing else
+-- what words ask for, each given by its bytes: `replay` or `json` alone, or `gen N`, and nothing else
 abbrev pub request_of : List (List ℕ) → Option Request
 request_of [] = None
 request_of (word ∷ []) = report_of word

@@ -24,9 +24,9 @@ use script_run::{Filled, open_player};
 use snapshot_print::Form;
 use std::alloc::Global;
 
-/// Does all of the program `damon`. For `replay` it reads a script to its end and writes the report of
-/// its run; for `gen N` it reads nothing, runs the generated script of N, and writes one line about the
-/// end of the run. It takes no lock and always returns.
+/// Does all of the program `damon`. For `replay` and `json` it reads a script to its end and writes the
+/// report of its run; for `gen N` it reads nothing, runs the generated script of N, and writes one line
+/// about the end of the run. It takes no lock and always returns.
 pub fn replay_main<S: Source, K: Sink>(
     alloc: Global,
     words: &[String],

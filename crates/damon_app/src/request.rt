@@ -7,7 +7,8 @@ use snapshot_print::Form;
 /// What the words after the program's name ask for.
 #[derive(Clone, Copy, Debug, PartialEq, Eq)]
 pub enum Request {
-    /// To read a script, to run it, and to write its report in a form: `replay`.
+    /// To read a script, to run it, and to write its report in a form: `replay` for lines of text, `json`
+    /// for JSON lines.
     Report { form: Form },
     /// To run the generated script of a number, and to write a line about it: `gen N`. Nothing is
     /// read.
@@ -31,6 +32,8 @@ fn report_of(word: &[u8]) -> Option<Request>
 {
     if word == b"replay".as_slice() {
         Some(Request::Report { form: Form::Text })
+    } else if word == b"json".as_slice() {
+        Some(Request::Report { form: Form::Json })
     } else {
         None
     }

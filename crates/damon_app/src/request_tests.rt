@@ -9,10 +9,13 @@ use std::test::Fail;
 #[test]
 fn words_are_a_request_or_not(rt: HostRuntime) -> Result<(), Fail> {
     let text = Request::Report { form: Form::Text };
-    let table: [(&[&str], Option<Request>); 14] = [
+    let json = Request::Report { form: Form::Json };
+    let table: [(&[&str], Option<Request>); 16] = [
         (&[], None),
         (&[""], None),
         (&["replay"], Some(text)),
+        (&["json"], Some(json)),
+        (&["json", "5"], None),
         (&["Replay"], None),
         (&["replay "], None),
         (&["replay", "x"], None),
