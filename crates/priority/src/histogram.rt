@@ -60,19 +60,12 @@ impl<const N: usize> Histogram<N> {
         sum_of(&sums[index as usize..])
     }
 
-    /// The sum of numbers.
-    fn sum_of(numbers: &[u64]) -> u64
-        requires { sum numbers.now < 2 ^ 64 }
-        ensures { result ≡ sum numbers.now }
-    {
-        numbers.iter().sum()
-    }
-
-    // The greatest index from which upward there are at least `left` pages; `None` exactly where
+    /// The greatest index from which upward there are at least `left` pages; `None` exactly where
     /// there are fewer in all.
     pub fn cut(&self, left: u64) -> Option<u32>
         ensures some { IfSome result (λ i. (i < N) × (left ≤ sum_from self.now i)) }
-        ensures greatest { IfSome result (λ i. (j : ℕ) → i < j → j < N → sum_from self.now j < left) }
+        ensures greatest { IfSome result (λ i. (j : ℕ) → i < j → j < N
+            → sum_from self.now j < left) }
         ensures none { (result ≡ None) ↔ (sum self.now < left) }
     {
         cut_of(&self.sums, left)
@@ -108,3 +101,6 @@ fn cut_of(sums: &[u64], left: u64) -> Option<u32>
     }
     None
 }
+
+#[cfg(test)]
+mod tests;

@@ -7,10 +7,10 @@ ghost use Rattle.priority.specs.Histogram.{sum_from};
 ghost use Rattle.priority.specs.Kept.{SameChoice, later_of, passing_from, passing_of_all, up_to};
 ghost use Rattle.priority.specs.Share.{with_shares};
 
-use crate::{Candidate, Histogram};
+use crate::{Candidate, Histogram, MAX_SCORE};
 
-// The number of scores, which are from 0 to MAX_SCORE.
-const SCORES: usize = 100;
+// The number of scores.
+const SCORES: usize = MAX_SCORE as usize + 1;
 
 // Drops candidates that get no share of what is left, and returns whether a passing page of any
 // candidate is not taken.
@@ -30,10 +30,10 @@ pub(crate) fn drop_late(items: &mut Vec<Candidate>, left: u64) -> bool
     }
     let sums = passing_by_score(items);
     let exceeds = left < sums.from(0);
-    if let Some(last) = last_within(items, &sums, left) {
-        items.retain(|candidate| !last.is_before(candidate));
+    let Some(last) = last_within(items, &sums, left) else {
         return exceeds;
-    }
+    };
+    items.retain(|candidate| !last.is_before(candidate));
     exceeds
 }
 
@@ -50,9 +50,10 @@ fn passing_by_score(items: &[Candidate]) -> Histogram<SCORES>
     sums
 }
 
-// A candidate such that all those after it get no share of what is left, since it and those before it have
-// as many passing pages; None where there is none. Only a prefix of the candidates of its score is
-// read, so that where they rise by target and start, it is the last one with a share.
+// A candidate such that it and those before it have as many passing pages as are left, so that those after
+// it get no share. It has the greatest score for which there is one, and is the latest of the first
+// candidates of this score that have enough pages: where candidates were pushed by rising target and
+// start, it is the last one with a share. If none is found, nothing can be dropped.
 fn last_within(items: &[Candidate], sums: &Histogram<SCORES>, left: u64) -> Option<Candidate>
     requires few { length items.now < 2 ^ 32 }
     requires sums { (score : ℕ) → sum_from sums.now score ≡ passing_from items.now score }

@@ -33,8 +33,8 @@ filtered c = filter_same _ (λ x. not (is_before c.in-Some.last x)) _ (λ x b f'
 enough : (cs items : List Candidate) (n : ℕ) (last : Candidate) → items ≡ cs → n ≤ passing_of_all (up_to last items) → n ≤ passing_of_all (up_to last cs)
 enough cs items n last same is = subst (λ xs. n ≤ passing_of_all (up_to last xs)) same is
 
-pub returns-in-Some-clause-same : goal.returns-in-Some-clause-same
-returns-in-Some-clause-same c =
+pub returns-clause-same : goal.returns-clause-same
+returns-clause-same c =
     let cs = c.args.items.now.items in
     subst (λ ds. SameChoice (Some c.args.left) cs ds) (sym (filtered c))
     (drop_same c.args.left c.in-Some.last cs c.requires.sound.distinct (enough cs c.deref-2.result.now c.args.left c.in-Some.last c.deref-2.ensures.value c.in-Some.ensures))
@@ -42,13 +42,13 @@ returns-in-Some-clause-same c =
 exceeds : (cs items : List Candidate) (n from : ℕ) → AreCandidates cs → items ≡ cs → from ≡ passing_from items 0 → nat_lt n from ≡ exceeds_of (with_shares (Some n) cs)
 exceeds cs items n from sound same is = ap (λ m. nat_lt n m) (is ∙ ap (λ xs. passing_from xs 0) same ∙ passing_all cs) ∙ exceeds_is n cs sound.distinct
 
-pub returns-in-Some-clause-exceeds : goal.returns-in-Some-clause-exceeds
-returns-in-Some-clause-exceeds c =
-    exceeds c.args.items.now.items c.deref.result.now c.args.left c.from.result c.requires.sound c.deref.ensures.value (c.from.ensures.sum ∙ c.passing_by_score-sums.ensures 0)
-
-pub returns-in-Some-clause-sound : goal.returns-in-Some-clause-sound
-returns-in-Some-clause-sound c = subst (λ cs. AreCandidates cs) (sym (filtered c)) (sound_filter (λ x. not (is_before c.in-Some.last x)) c.args.items.now.items c.requires.sound)
-
 pub returns-clause-exceeds : goal.returns-clause-exceeds
 returns-clause-exceeds c =
+    exceeds c.args.items.now.items c.deref.result.now c.args.left c.from.result c.requires.sound c.deref.ensures.value (c.from.ensures.sum ∙ c.passing_by_score-sums.ensures 0)
+
+pub returns-clause-sound : goal.returns-clause-sound
+returns-clause-sound c = subst (λ cs. AreCandidates cs) (sym (filtered c)) (sound_filter (λ x. not (is_before c.in-Some.last x)) c.args.items.now.items c.requires.sound)
+
+pub returns-in_default-clause-exceeds : goal.returns-in_default-clause-exceeds
+returns-in_default-clause-exceeds c =
     exceeds c.args.items.now.items c.deref.result.now c.args.left c.from.result c.requires.sound c.deref.ensures.value (c.from.ensures.sum ∙ c.passing_by_score-sums.ensures 0)
