@@ -177,6 +177,3 @@ fn shared(run: &Run, start: u32, end: u32) -> u32
     let to = (run.start + run.pages).min(end);
     to.saturating_sub(from)
 }
-
-#[cfg(test)]
-mod tests;
