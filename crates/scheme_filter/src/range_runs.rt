@@ -76,10 +76,10 @@ impl RangeRuns {
 
 /// How many pages of a row pass the filters of a scheme (see [`passes`](crate::passes)).
 ///
-/// `near` holds the runs of the pages around an earlier row of the same filters and ranges, or what
-/// [`RangeRuns::new`] gives. If the row lies among these pages, its pages are counted from the runs. Else `near` becomes
-/// the runs of the row's range. The ranges lie in the space, and one of them holds the row. Takes no
-/// memory.
+/// `near` holds the runs of the range of an earlier row, for the same filters and ranges, or what
+/// [`RangeRuns::new`] gives. If the row lies among their pages, it is counted from them; else `near`
+/// becomes the runs of the row's range. So rows of one range that follow each other look at the filters
+/// once. The ranges lie in the space, and one of them holds the row. Takes no memory.
 pub fn count_passing(
     filters: &Filters,
     space: &Space,
@@ -177,6 +177,3 @@ fn shared(run: &Run, start: u32, end: u32) -> u32
     let to = (run.start + run.pages).min(end);
     to.saturating_sub(from)
 }
-
-#[cfg(test)]
-mod tests;
