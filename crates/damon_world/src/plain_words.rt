@@ -225,10 +225,7 @@ fn put_low(lows: &mut [u16], page: u32, low: u16)
     requires { page < length lows.old }
     ensures { lows.new ≡ slice_set lows.old page low }
 {
-    // To look first is faster: reads of pages that are not in the nearest cache overlap, and stores do not.
-    if lows[page as usize] != low {
-        lows[page as usize] = low;
-    }
+    lows[page as usize] = low;
 }
 
 // The lowest bits of a page's word after a touch: the last one is 1.
