@@ -1,115 +1,124 @@
 #!/usr/bin/env python3
-"""Measures programs that replay scripts, side by side.
+"""Measures programs side by side: their best wall times, their peaks of memory, and the ratios of both.
 
-    tests/measure.py TURNS PROGRAM [PROGRAM ...]
+    tests/measure.py TURNS PROGRAM [PROGRAM ...] [--only NAME] [--growth FILE.svg]
 
-Each PROGRAM is run with the word `replay` on each workload, TURNS times, in turn with the others, and
-its best wall time in milliseconds is printed. The workloads keep the limits of a script; they are made
-here, and need no file.
+Each PROGRAM is run on each workload (`workloads.py`), TURNS times, in turn with the others. A line has the
+name of the workload and, for each program, its best time in milliseconds and its greatest resident set in
+MiB; for each program but the last also its time divided by that of the last one. `--only` takes the
+workloads whose names begin with NAME.
+
+With `--growth` each workload that has several sizes is run at all of them by the first PROGRAM alone. A
+table of times by size is printed, and a plot of them is written to FILE.svg.
 """
-import random
+import argparse
 import subprocess
 import sys
 import tempfile
 import time
+from contextlib import contextmanager
+from math import log10
+from typing import IO, Dict, Iterator, List, Sequence, Tuple
 
-PAGE = 4096
-MILLION = 1_048_576
+from workloads import WORKLOADS, Workload
 
-
-def script(cap, attrs, pages, commands):
-    """A script that watches all pages of one target."""
-    lines = ["damon script 1", "seed 1", "unit 1", f"cap {cap}", f"attrs {attrs}"]
-    lines += [f"target 0x0 {pages}", f"range 0 0x0 {pages * PAGE:#x} 0", "begin", *commands, "end", ""]
-    return "\n".join(lines).encode()
+COLOURS = ("#1b6ca8", "#c1440e", "#2e7d32", "#6a1b9a", "#b8860b", "#00838f", "#ad1457", "#5d4037", "#455a64", "#7cb342", "#000000")
 
 
-def aggregations(schemes=()):
-    """An aggregation after each pass, over 64 ranges and some 3,700 rows, with two sweeps in each pass."""
-    choose = random.Random(3)
-    lines = ["damon script 1", "seed 3", "unit 4", "cap 4096", "attrs 2800 4096 1", f"target 0x0 {MILLION}"]
-    for number in range(64):
-        lines.append(f"range 0 {number * 16384 * PAGE:#x} {(number + 1) * 16384 * PAGE:#x} {number % 16}")
-    lines += [*schemes, "begin"]
-    for _ in range(366):
-        lines.append("arm")
-        for _ in range(2):
-            first = choose.randrange(MILLION - 8192)
-            lines.append(f"sweep 0 {first * PAGE:#x} {(first + 8192) * PAGE:#x}")
-        lines.append("finish")
-    return "\n".join([*lines, "end", ""]).encode()
-
-
-def sixteen_schemes():
-    """A scheme in each slot: a third with filters by address, a third by class, each with a quota of its own."""
-    actions = ["pageout", "cold", "willneed", "lru_prio", "hugepage", "stat"]
-    for slot in range(16):
-        keys = [f"age={slot % 3},4294967295", f"quota={(1500 + 3500 * slot) * PAGE},{1 + slot % 4}"]
-        keys += [f"weights={1 + slot % 5},{slot % 4},{1 + slot % 3}", "prefer=cold" if slot % 2 else "prefer=hot"]
-        for part in range(4 if slot % 3 == 0 else 0):
-            first = part * MILLION // 4 + 900 * slot
-            keys.append(f"filter=reject:addr:{first * PAGE:#x}-{(first + 40000) * PAGE:#x}")
-        if slot % 3 == 1:
-            keys += [f"filter=reject:class:{slot}", f"filter=allow:not-class:{(slot + 6) % 16}"]
-        yield f"scheme {slot} {actions[slot % len(actions)]} " + " ".join(keys)
-
-
-def commits():
-    """64 ranges over 4,096 rows with counts from 0 to 9, moved there and back by 1,000 commits."""
-    choose = random.Random(5)
-    lines = ["damon script 1", "seed 5", "unit 4", "cap 4096", "attrs 4096 4096 1000", f"target 0x0 {MILLION}"]
-    lines += [*moved(0), "begin"]
-    for _ in range(9):
-        first = choose.randrange(MILLION // 2)
-        lines += ["arm", f"sweep 0 {first * PAGE:#x} {(first + MILLION // 2) * PAGE:#x}", "finish"]
-    for _ in range(500):
-        lines += ["commit", *moved(300), "apply", "commit", *moved(0), "apply"]
-    return "\n".join([*lines, "end", ""]).encode()
-
-
-def moved(pages):
-    """The lines of 64 ranges of 16,000 pages each, moved by this number of pages."""
-    firsts = [number * 16384 + pages for number in range(64)]
-    return [f"range 0 {first * PAGE:#x} {(first + 16000) * PAGE:#x} 0" for first in firsts]
-
-
-def workloads():
-    # The weight of a script is at most 16,777,216: sixteen sweeps of a million pages.
-    yield "sweeps", script(100, "10 100 5", MILLION, [f"sweep 0 0x0 {MILLION * PAGE:#x}"] * 16)
-    # A pass over 4,000 rows takes 8,002 steps. An aggregation is due after the thousandth.
-    for name, pages in (("passes", MILLION), ("small passes", 4000)):
-        yield name, script(4000, "4000 4000 1000", pages, ["step 8002"] * 1000)
-    # A tenth and a hundredth of them, to see how the time grows.
-    for times in (100, 10):
-        yield f"{times} passes", script(4000, "4000 4000 1000", MILLION, ["step 8002"] * times)
-    yield "reading", script(4, "3 4 10", MILLION, [f"touch 0 {page * PAGE:#x}" for page in range(800_000)])
-    yield "aggregating", aggregations()
-    yield "schemes", aggregations(sixteen_schemes())
-    yield "commits", commits()
-    # A pass over three rows with its aggregation takes nine steps.
-    yield "small rows", script(3, "3 3 1", 3, ["step 1000000"])
-    yield "showing", script(4096, "4096 4096 10", MILLION, ["show"] * 1000)
-
-
-def seconds(program, text):
+@contextmanager
+def source_of(workload: Workload, size: int) -> Iterator[IO[bytes]]:
     with tempfile.TemporaryFile() as source:
-        source.write(text)
+        source.write(workload.text(size))
         source.seek(0)
+        yield source
+
+
+def seconds(program: str, workload: Workload, size: int) -> float:
+    with source_of(workload, size) as source:
         start = time.perf_counter()
-        run = subprocess.run([program, "replay"], stdin=source, stdout=subprocess.DEVNULL)
+        run = subprocess.run([program, *workload.words], stdin=source, stdout=subprocess.DEVNULL)
         end = time.perf_counter()
     if run.returncode != 0:
-        sys.exit(f"{program} ended with status {run.returncode}")
+        sys.exit(f"{program} {' '.join(workload.words)} ended with status {run.returncode}")
     return end - start
 
 
-def main(words):
-    if len(words) < 2 or not words[0].isdigit():
-        sys.exit(__doc__)
-    turns, programs = int(words[0]), words[1:]
-    for name, text in workloads():
-        best = [min(times) for times in zip(*([seconds(p, text) for p in programs] for _ in range(turns)))]
-        print(f"{name:14}", *(f"{1000 * it:9.2f}" for it in best))
+def memory(program: str, workload: Workload, size: int) -> float:
+    """The greatest resident set in MiB. A small program starts the one that is measured, whose figure would else be at least
+    that of this interpreter."""
+    with source_of(workload, size) as source:
+        command = ["/usr/bin/time", "-f", "%M", program, *workload.words]
+        run = subprocess.run(command, stdin=source, stdout=subprocess.DEVNULL, stderr=subprocess.PIPE, check=True)
+    return int(run.stderr.split()[-1]) / 1024
 
 
-main(sys.argv[1:])
+def compare(turns: int, programs: List[str], workloads: Sequence[Workload]) -> None:
+    for workload in workloads:
+        size = workload.sizes[0]
+        rounds = [[seconds(program, workload, size) for program in programs] for _ in range(turns)]
+        times = [min(turns_of_one) for turns_of_one in zip(*rounds)]
+        peaks = [memory(program, workload, size) for program in programs]
+        line = "".join(f"{1000 * it:10.2f} ms {peak:6.1f} MiB" for it, peak in zip(times, peaks))
+        ratios = "".join(f"{it / times[-1]:8.2f}" for it in times[:-1])
+        print(f"{workload.name:14}{line}{ratios}", flush=True)
+
+
+def grow(turns: int, program: str, workloads: Sequence[Workload], path: str) -> None:
+    times: Dict[str, List[Tuple[int, float]]] = {}
+    for workload in workloads:
+        if len(workload.sizes) == 1:
+            continue
+        found = [(size, min(seconds(program, workload, size) for _ in range(turns))) for size in workload.sizes]
+        times[workload.name] = found
+        cells = "".join(f"| {size:,} | {1000 * it:.2f} ms " for size, it in found)
+        print(f"| {workload.name} | {workload.unit} {cells}|", flush=True)
+    with open(path, "w", encoding="ascii") as out:
+        out.write(plot(times))
+
+
+def plot(times: Dict[str, List[Tuple[int, float]]]) -> str:
+    """Time over size, both as parts of those of the greatest size, on logarithmic scales: a straight line is linear growth."""
+    width, height, left, top = 460, 360, 70, 20
+    shapes = []
+    for power in range(3):
+        # A tenth is as far to the left as it is further down.
+        x, y = left + width * (2 - power) / 2, top + height * power / 2
+        label = ("1", "1/10", "1/100")[power]
+        shapes.append(f'<path d="M{x:.0f} {top}V{top + height}M{left} {y:.0f}H{left + width}" stroke="#ddd"/>')
+        shapes.append(f'<text x="{x:.0f}" y="{top + height + 18}" text-anchor="middle">{label}</text>')
+        shapes.append(f'<text x="{left - 8}" y="{y + 4:.0f}" text-anchor="end">{label}</text>')
+    for number, (name, points) in enumerate(times.items()):
+        most_size, most_time = points[0]
+        places = []
+        for size, seconds in points:
+            x = left + width * (1 + log10(size / most_size) / 2)
+            y = top - height * log10(seconds / most_time) / 2
+            places.append(f"{x:.1f},{min(y, top + height):.1f}")
+        colour = COLOURS[number % len(COLOURS)]
+        shapes.append(f'<polyline points="{" ".join(places)}" fill="none" stroke="{colour}" stroke-width="1.5"/>')
+        row = top + 14 + 18 * number
+        shapes.append(f'<text x="{left + width + 16}" y="{row}" fill="{colour}">{name}</text>')
+    shapes.append(f'<text x="{left + width / 2:.0f}" y="{top + height + 40}" text-anchor="middle">size, as a part of the greatest</text>')
+    middle = top + height / 2
+    shapes.append(f'<text x="16" y="{middle:.0f}" text-anchor="middle" transform="rotate(-90 16 {middle:.0f})">time, as a part of that of the greatest size</text>')
+    head = f'<svg xmlns="http://www.w3.org/2000/svg" width="{left + width + 150}" height="{top + height + 56}" font-family="sans-serif" font-size="12">'
+    return "\n".join([head, '<rect width="100%" height="100%" fill="white"/>', *shapes, "</svg>", ""])
+
+
+
+def main() -> None:
+    parser = argparse.ArgumentParser(usage=__doc__)
+    parser.add_argument("turns", type=int)
+    parser.add_argument("programs", nargs="+")
+    parser.add_argument("--only", default="")
+    parser.add_argument("--growth")
+    words = parser.parse_args()
+    workloads = [it for it in WORKLOADS if it.name.startswith(words.only)]
+    if words.growth:
+        grow(words.turns, words.programs[0], workloads, words.growth)
+    else:
+        compare(words.turns, words.programs, workloads)
+
+
+if __name__ == "__main__":
+    main()

@@ -27,6 +27,9 @@ Exactly one field says what is to become of standard output:
     stdout_sha256  the program is to write bytes with this checksum; `stdout_bytes` is their number
     stdout_to      standard output is the file at this path, and what is written there is not looked at
 
+A case of `replay` whose standard output is given here in full and whose status is 0 is also run with `json`,
+and the JSON lines are to say the same as the text (`json_text.py`).
+
 Each failed case is printed with what was wanted and what was given. The last line counts the cases
 that passed and failed, and the exit status is 1 where one failed or none was found.
 """
@@ -40,6 +43,8 @@ import sys
 from contextlib import ExitStack
 from pathlib import Path
 from typing import NamedTuple, Optional, Union
+
+from json_text import text_of
 
 TOP = Path(__file__).resolve().parent.parent
 PROGRAM = TOP / "crates/damon/out/damon"
@@ -182,10 +187,24 @@ def stdout_of(fields):
 def try_case(program, case):
     """Runs a case, and gives a report if it failed."""
     try:
-        wrong = differences(case, run(program, case))
+        wrong = differences(case, run(program, case)) + json_differences(program, case)
     except (OSError, ValueError, subprocess.SubprocessError) as error:
         wrong = [f"the program could not be run to its end: {error}"]
     return ["\n    ".join([f"{case.place}: {case.name} failed", *wrong])] if wrong else []
+
+
+def json_differences(program, case):
+    """Runs a replay in its JSON form too: that report says the same as the text, number for number."""
+    wanted = case.wanted
+    if case.words != [b"replay"] or wanted.status != 0 or not isinstance(wanted.stdout, bytes):
+        return []
+    given = run(program, case._replace(words=[b"json"], memory=None))
+    if given.status != 0:
+        return [f"json: status {given.status}"]
+    try:
+        return [f"json, as text: {line}" for line in unlike_text("stdout", wanted.stdout, text_of(given.stdout))]
+    except (KeyError, ValueError) as error:
+        return [f"json: {error!r}"]
 
 
 def run(program, case):

@@ -300,6 +300,16 @@ class Pictures(unittest.TestCase):
         with self.assertRaises(ReportError):
             aggregations(TWO_AGGREGATIONS.splitlines()[:3])
 
+    def test_reports_as_json(self) -> None:
+        for name in ("cold", "filters", "watermarks"):
+            script = (TOP / "examples" / f"{name}.damon").read_bytes()
+            text, lines = (subprocess.run([PROGRAM, form], input=script, capture_output=True, check=True).stdout.decode()
+                           for form in ("replay", "json"))
+            self.assertEqual(aggregations(lines.splitlines()), aggregations(text.splitlines()))
+        for line in ("{", '{"kind":"row"}', '{"kind":"aggregate","tick":1}'):
+            with self.assertRaises(ReportError):
+                aggregations([line])
+
     def test_a_small_picture(self) -> None:
         ran = run("picture.py", "--title", "a < b", "--label", "1=the heap", text=TWO_AGGREGATIONS.encode())
         self.assertEqual((ran.returncode, ran.stderr), (0, b""))

@@ -1,10 +1,12 @@
-"""Reads the text of a report; `docs/FORMATS.md` has its lines."""
+"""Reads a report, as text or as JSON lines; `docs/FORMATS.md` has both forms."""
 from __future__ import annotations
 
+import json
 import re
 from dataclasses import dataclass, field
 from functools import cached_property
-from typing import Iterable, Iterator
+from itertools import chain
+from typing import Any, Iterable, Iterator
 
 ADDRESS = r"0x([0-9a-f]+)"
 AGGREGATE = re.compile(r"aggregate tick=(\d+) threshold=\d+ rows=(\d+)")
@@ -63,7 +65,39 @@ class Aggregation:
 
 
 def aggregations(lines: Iterable[str]) -> list[Aggregation]:
-    """All aggregations of a report. Raises ReportError with the number of the first faulty line."""
+    """All aggregations of a report in either form. Raises ReportError with the number of the first faulty line."""
+    rest = iter(lines)
+    first = next(rest, "")
+    whole = chain([first], rest) if first else rest
+    return json_aggregations(whole) if first.startswith("{") else text_aggregations(whole)
+
+
+def json_aggregations(lines: Iterable[str]) -> list[Aggregation]:
+    result: list[Aggregation] = []
+    for number, line in enumerate(lines, 1):
+        try:
+            members = json.loads(line)
+            if members["kind"] == "aggregate":
+                result.append(json_aggregation(members, result))
+            elif members["kind"] not in ("show", "commit", "end"):
+                raise ValueError(f"no such kind: {members['kind']}")
+        except (KeyError, TypeError, ValueError) as error:
+            raise ReportError(f"line {number}: not a line of a report: {error}") from error
+    return result
+
+
+def json_aggregation(members: dict[str, Any], before: list[Aggregation]) -> Aggregation:
+    rows, runs = members["rows"], members["applied"]
+    return Aggregation(
+        members["tick"],
+        passes_since(members["tick"], before),
+        len(rows),
+        [Region(row["target"], int(row["start"], 16), int(row["end"], 16), row["count"]) for row in rows],
+        [Applied(run["slot"], run["action"], run["target"], int(run["start"], 16), int(run["end"], 16)) for run in runs],
+    )
+
+
+def text_aggregations(lines: Iterable[str]) -> list[Aggregation]:
     result: list[Aggregation] = []
     current: Aggregation | None = None
     number = 0
@@ -98,7 +132,11 @@ def applied(match: re.Match[str]) -> Applied:
 
 def begun(match: re.Match[str], before: list[Aggregation]) -> Aggregation:
     tick = int(match[1])
-    return Aggregation(tick, max(1, tick - (before[-1].tick if before else 0)), int(match[2]))
+    return Aggregation(tick, passes_since(tick, before), int(match[2]))
+
+
+def passes_since(tick: int, before: list[Aggregation]) -> int:
+    return max(1, tick - (before[-1].tick if before else 0))
 
 
 def check_complete(current: Aggregation | None, number: int) -> None:

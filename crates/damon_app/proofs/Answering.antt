@@ -8,7 +8,7 @@ use Rattle.damon_control.specs.declared.fault.ReadFail.{ReadFail}
 use Rattle.damon_control.specs.declared.fault.ReadFail.TheVariants as reads
 use Rattle.damon_control.specs.declared.fault.ScriptFault.{ScriptFault}
 use Rattle.damon_control.specs.declared.fault.ScriptKind.{ScriptKind}
-use Rattle.snapshot_print.specs.declared.form.Form.TheVariants.{Text}
+use Rattle.snapshot_print.specs.declared.form.Form.{Form}
 use Rattle.script_run.specs.Report.{report}
 use Rattle.damon_app.specs.declared.input.InputFault.{InputFault}
 use Rattle.damon_app.specs.declared.input.InputFault.TheVariants as inputs
@@ -19,7 +19,7 @@ use Rattle.damon_app.specs.Taken.{WritesPart}
 use Rattle.damon_app.specs.Causes.{input_status, read_status}
 use Rattle.damon_app.specs.Replay.{Replays, TellsFault, WritesPrefix}
 use Rattle.damon_app.specs.StatusOf.{IsFailure, status_of_input, status_of_spelled}
-use Rattle.damon_app.specs.Answers.{Ends, EndsRun, IsAnswer}
+use Rattle.damon_app.specs.Answers.{Ends, EndsRun, IsReport}
 use Rattle.damon_app.proofs.Known.{GaveUpTo-not_over, WritesPart-whole}
 use Rattle.damon_app.proofs.Statuses.{had_over, status_of_input-long, status_of_input-short}
 
@@ -39,10 +39,10 @@ same_fault : (f g : ScriptFault) → f.line ≡ g.line → f.kind ≡ g.kind →
 same_fault f g line kind = ap (λ (n : ℕ). record f { line = n }) line ∙ ap (λ (k : ScriptKind). record g { kind = k }) kind
 
 -- the sink was left alone
-alone : (a : Option (List ℕ)) (old new : Option (List ℕ)) (same : Type 0) → same → IfSome a (λ bytes. same ⊎ WritesPrefix bytes old new)
-alone a old new same is = untold (λ bytes. same ⊎ WritesPrefix bytes old new) a (λ bytes. inl is)
+alone : (form : Form) (a : Option (List ℕ)) (old new : Option (List ℕ)) (same : Type 0) → same → IfSome a (λ bytes. same ⊎ WritesPrefix form bytes old new)
+alone form a old new same is = untold (λ bytes. same ⊎ WritesPrefix form bytes old new) a (λ bytes. inl is)
 
-module _ (limit : ℕ) (source source' sink sink' : Ends) (same : Type 0) where
+module _ (limit : ℕ) (form : Form) (source source' sink sink' : Ends) (same : Type 0) where
   -- the status is the one of the bytes, or a failure
   abbrev HasStatus : Status → List ℕ → Type 0
   HasStatus status bytes = (status ≡ status_of_input limit bytes) ⊎ IsFailure status (Rose source.faults source'.faults) (Rose sink.faults sink'.faults)
@@ -52,7 +52,7 @@ module _ (limit : ℕ) (source source' sink sink' : Ends) (same : Type 0) where
   failed status is = untold (HasStatus status) source.bytes (λ bytes. inr is)
 
   -- there was no memory, and what the sink took is this
-  no_memory : IfSome source.bytes (λ bytes. same ⊎ WritesPrefix bytes sink.bytes sink'.bytes) → IsAnswer limit source source' sink sink' same statuses.Memory
+  no_memory : IfSome source.bytes (λ bytes. same ⊎ WritesPrefix form bytes sink.bytes sink'.bytes) → IsReport limit form source source' sink sink' same statuses.Memory
   no_memory part = record {
     ok = λ e. absurd (cc e);
     end = λ no. absurd no;
@@ -67,11 +67,11 @@ module _ (limit : ℕ) (source source' sink sink' : Ends) (same : Type 0) where
   }
 
   -- there was no memory before anything was written
-  pub out_of_memory : same → IsAnswer limit source source' sink sink' same statuses.Memory
-  out_of_memory is = no_memory (alone source.bytes sink.bytes sink'.bytes same is)
+  pub out_of_memory : same → IsReport limit form source source' sink sink' same statuses.Memory
+  out_of_memory is = no_memory (alone form source.bytes sink.bytes sink'.bytes same is)
 
   -- the input was not read to its end
-  pub not_read : (fault : InputFault) → same → (fault ≡ inputs.TooLong → GaveOver limit source.bytes source'.bytes) → (fault ≡ inputs.Fault → GaveUpTo limit source.bytes source'.bytes) → (fault ≡ inputs.Fault → Rose source.faults source'.faults) → IsAnswer limit source source' sink sink' same (input_status fault)
+  pub not_read : (fault : InputFault) → same → (fault ≡ inputs.TooLong → GaveOver limit source.bytes source'.bytes) → (fault ≡ inputs.Fault → GaveUpTo limit source.bytes source'.bytes) → (fault ≡ inputs.Fault → Rose source.faults source'.faults) → IsReport limit form source source' sink sink' same (input_status fault)
   not_read inputs.Memory is over within cause = out_of_memory is
   not_read inputs.Fault is over within cause = record {
     ok = λ e. absurd (cc e);
@@ -83,7 +83,7 @@ module _ (limit : ℕ) (source source' sink sink' : Ends) (same : Type 0) where
     write = λ e. absurd (cc e);
     asked = λ e. absurd (cc e);
     unwritten = λ yes. is;
-    prefix = alone source.bytes sink.bytes sink'.bytes same is;
+    prefix = alone form source.bytes sink.bytes sink'.bytes same is;
   }
   not_read inputs.TooLong is over within cause = record {
     ok = λ e. absurd (cc e);
@@ -95,7 +95,7 @@ module _ (limit : ℕ) (source source' sink sink' : Ends) (same : Type 0) where
     write = λ e. absurd (cc e);
     asked = λ e. absurd (cc e);
     unwritten = λ yes. is;
-    prefix = alone source.bytes sink.bytes sink'.bytes same is;
+    prefix = alone form source.bytes sink.bytes sink'.bytes same is;
   }
 
   -- what is known of an input that was read to its end
@@ -111,7 +111,7 @@ module _ (limit : ℕ) (source source' sink sink' : Ends) (same : Type 0) where
     has_status spelled spells = of_bytes (HasStatus (status_of_spelled spelled)) (inl (sym (status_of_input-short limit bytes spelled few spells)))
 
     -- the text has this fault
-    faulty : (fault : ScriptFault) → same → script_of bytes ≡ Err fault → IsAnswer limit source source' sink sink' same (statuses.Script fault.line fault.kind)
+    faulty : (fault : ScriptFault) → same → script_of bytes ≡ Err fault → IsReport limit form source source' sink sink' same (statuses.Script fault.line fault.kind)
     faulty fault is spells = record {
       ok = λ e. absurd (cc e);
       end = λ yes. end;
@@ -125,11 +125,11 @@ module _ (limit : ℕ) (source source' sink sink' : Ends) (same : Type 0) where
       write = λ e. absurd (cc e);
       asked = λ e. absurd (cc e);
       unwritten = λ yes. is;
-      prefix = alone source.bytes sink.bytes sink'.bytes same is;
+      prefix = alone form source.bytes sink.bytes sink'.bytes same is;
     }
 
     -- the text was not read as a script
-    pub not_spelled : (fail : ReadFail) → same → ((fault : ScriptFault) → fail ≡ reads.Script fault → script_of bytes ≡ Err fault) → IsAnswer limit source source' sink sink' same (read_status fail)
+    pub not_spelled : (fail : ReadFail) → same → ((fault : ScriptFault) → fail ≡ reads.Script fault → script_of bytes ≡ Err fault) → IsReport limit form source source' sink sink' same (read_status fail)
     not_spelled reads.Memory is fault = out_of_memory is
     not_spelled (reads.Script f) is fault = faulty f is (fault f refl)
 
@@ -140,11 +140,11 @@ module _ (limit : ℕ) (source source' sink sink' : Ends) (same : Type 0) where
       no_fault status not fault = ((λ e. absurd (not fault e)), (λ e. absurd (let two : Ok s ≡ Err fault = sym spells ∙ e in cc two)))
 
       -- what the sink took of the report
-      prefix_of : WritesPart sink.bytes sink'.bytes (report Text s) → IfSome source.bytes (λ bs. same ⊎ WritesPrefix bs sink.bytes sink'.bytes)
-      prefix_of part = of_bytes (λ bs. same ⊎ WritesPrefix bs sink.bytes sink'.bytes) (inr (s, spells, part))
+      prefix_of : WritesPart sink.bytes sink'.bytes (report form s) → IfSome source.bytes (λ bs. same ⊎ WritesPrefix form bs sink.bytes sink'.bytes)
+      prefix_of part = of_bytes (λ bs. same ⊎ WritesPrefix form bs sink.bytes sink'.bytes) (inr (s, spells, part))
 
       -- the run of the script did not end
-      pub not_run : (status : Status) → EndsRun status → (status ≡ statuses.WriteFault → Rose sink.faults sink'.faults) → WritesPart sink.bytes sink'.bytes (report Text s) → IsAnswer limit source source' sink sink' same status
+      pub not_run : (status : Status) → EndsRun status → (status ≡ statuses.WriteFault → Rose sink.faults sink'.faults) → WritesPart sink.bytes sink'.bytes (report form s) → IsReport limit form source source' sink sink' same status
       not_run statuses.WriteFault ends cause part = record {
         ok = λ e. absurd (cc e);
         end = λ yes. end;
@@ -165,9 +165,9 @@ module _ (limit : ℕ) (source source' sink sink' : Ends) (same : Type 0) where
       not_run statuses.ReadFault ends cause part = absurd ends
 
       -- the whole report was written
-      pub replayed : Appends sink.bytes sink'.bytes (report Text s) → IsAnswer limit source source' sink sink' same statuses.Ok
+      pub replayed : Appends sink.bytes sink'.bytes (report form s) → IsReport limit form source source' sink sink' same statuses.Ok
       replayed all_written = record {
-        ok = λ e. of_bytes (λ bs. Replays bs sink.bytes sink'.bytes) (record { script = s; spells = spells; report = all_written });
+        ok = λ e. of_bytes (λ bs. Replays form bs sink.bytes sink'.bytes) (record { script = s; spells = spells; report = all_written });
         end = λ yes. end;
         complete = has_status (Ok s) spells;
         too_long = λ not known. ((λ e. absurd (cc e)), (λ gave. absurd (not_over known gave)));
@@ -176,5 +176,5 @@ module _ (limit : ℕ) (source source' sink sink' : Ends) (same : Type 0) where
         write = λ e. absurd (cc e);
         asked = λ e. absurd (cc e);
         unwritten = λ no. absurd no;
-        prefix = prefix_of (WritesPart-whole sink.bytes sink'.bytes (report Text s) all_written);
+        prefix = prefix_of (WritesPart-whole sink.bytes sink'.bytes (report form s) all_written);
       }

@@ -1,19 +1,22 @@
 -- The clauses of the top call in one record, for the private functions below it. No public clause cites this file.
-use Rattle.std.specs.Prelude.{◌≡◌, ◌≢◌, ◌⊎◌, ◌↔◌, ℕ, List, Option, Result, Ok, Err, IfSome, IsSome}
+use Rattle.std.specs.Prelude.{◌≡◌, ◌≢◌, ◌⊎◌, ◌↔◌, ℕ, List, Option, None, Result, Ok, Err, IfSome, IsSome}
 use Rattle.std.specs.Io.KnownBytes.{IsAtEnd}
 use Rattle.damon_types.specs.Causes.{Rose}
+use Rattle.snapshot_print.specs.declared.form.Form.{Form}
+use Rattle.damon_app.specs.declared.request.Request.{Request}
 use Rattle.damon_app.specs.declared.status.Status.{Status}
 use Rattle.damon_app.specs.declared.status.Status.TheVariants as statuses
 use Rattle.damon_app.specs.Given.{GaveOver}
+use Rattle.damon_app.specs.Request.{ReadsInput}
 use Rattle.damon_app.specs.StatusOf.{IsFailure, status_of_input}
-use Rattle.damon_app.specs.Replay.{IsRead, IsUnwritten, Replays, TellsFault, WritesPrefix}
+use Rattle.damon_app.specs.Replay.{IsBegun, IsDone, IsExpected, IsRead, IsUnwritten, Replays, TellsFault, WritesPrefix}
 
 -- the status that a result becomes
 abbrev pub status_of : Result (Unit {0}) Status → Status
 status_of (Ok done) = statuses.Ok
 status_of (Err status) = status
 
--- a failure with which the run of a script ends early
+-- a failure with which a run ends early
 abbrev pub EndsRun : Status → Type 0
 EndsRun statuses.WriteFault = Unit {0}
 EndsRun statuses.Memory = Unit {0}
@@ -24,9 +27,9 @@ pub record Ends : Type 0 where
   pub bytes : Option (List ℕ)
   pub faults : ℕ
 
--- what a status says, where `same` is that the sink was left alone
-pub record IsAnswer (limit : ℕ) (source source' sink sink' : Ends) (same : Type 0) (status : Status) : Type 0 where
-  pub ok : status ≡ statuses.Ok → IfSome source.bytes (λ bytes. Replays bytes sink.bytes sink'.bytes)
+-- what a status says of a report, where `same` is that the sink was left alone
+pub record IsReport (limit : ℕ) (form : Form) (source source' sink sink' : Ends) (same : Type 0) (status : Status) : Type 0 where
+  pub ok : status ≡ statuses.Ok → IfSome source.bytes (λ bytes. Replays form bytes sink.bytes sink'.bytes)
   pub end : IsRead status → IsAtEnd source'.bytes
   pub complete : IfSome source.bytes (λ bytes.
       (status ≡ status_of_input limit bytes)
@@ -38,4 +41,19 @@ pub record IsAnswer (limit : ℕ) (source source' sink sink' : Ends) (same : Typ
   pub write : status ≡ statuses.WriteFault → Rose sink.faults sink'.faults
   pub asked : status ≢ statuses.Usage
   pub unwritten : IsUnwritten status → same
-  pub prefix : IfSome source.bytes (λ bytes. same ⊎ WritesPrefix bytes sink.bytes sink'.bytes)
+  pub prefix : IfSome source.bytes (λ bytes. same ⊎ WritesPrefix form bytes sink.bytes sink'.bytes)
+
+-- what a status says of what was asked for, where `alone` and `same` are that the source and the sink were left alone
+pub record IsAnswer (limit : ℕ) (request : Option Request) (source source' sink sink' : Ends) (alone same : Type 0) (status : Status) : Type 0 where
+  pub ok : status ≡ statuses.Ok → IsDone request source.bytes sink.bytes sink'.bytes
+  pub end : ReadsInput request → IsRead status → IsAtEnd source'.bytes
+  pub complete : IsExpected request status limit source.bytes (Rose source.faults source'.faults) (Rose sink.faults sink'.faults)
+  pub usage : (status ≡ statuses.Usage) ↔ (request ≡ None)
+  pub too_long : status ≢ statuses.Memory → IsSome source.bytes
+      → (status ≡ statuses.TooLong) ↔ GaveOver limit source.bytes source'.bytes
+  pub script : ReadsInput request → IsRead status → IfSome source.bytes (TellsFault status)
+  pub read : status ≡ statuses.ReadFault → Rose source.faults source'.faults
+  pub write : status ≡ statuses.WriteFault → Rose sink.faults sink'.faults
+  pub unread : (ReadsInput request → ⊥) → alone
+  pub unwritten : IsUnwritten status → same
+  pub prefix : IsBegun request same source.bytes sink.bytes sink'.bytes

@@ -2,5 +2,8 @@ pub mod Given
 pub mod Taken
 pub mod Causes
 pub mod StatusOf
+pub mod Request
+pub mod Generated
+pub mod Runs
 pub mod Replay
 pub mod Answers

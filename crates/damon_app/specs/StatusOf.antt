@@ -1,4 +1,4 @@
--- The status that an input has, and the failures that may come in its place.
+-- The status that an input has, the failures that may come in its place, and the number of each status.
 use Rattle.std.specs.Prelude.{ℕ, nat_lt, if◌then◌else◌, List, length, Result, Ok, Err}
 use Rattle.damon_control.specs.Script.{ScriptValue, script_of}
 use Rattle.damon_control.specs.declared.fault.ScriptFault.{ScriptFault}
@@ -21,3 +21,13 @@ IsFailure statuses.Memory read write = Unit {0}
 IsFailure statuses.ReadFault read write = read
 IsFailure statuses.WriteFault read write = write
 IsFailure _ read write = ⊥
+
+-- the number with which the process ends
+abbrev pub number_of : Status → ℕ
+number_of statuses.Ok = 0
+number_of statuses.Usage = 2
+number_of (statuses.Script line kind) = 3
+number_of statuses.TooLong = 4
+number_of statuses.ReadFault = 5
+number_of statuses.WriteFault = 6
+number_of statuses.Memory = 7

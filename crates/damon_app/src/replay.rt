@@ -1,90 +1,133 @@
-ghost use Rattle.std.specs.Prelude.{◌≡◌, ◌≢◌, ◌≤◌, ◌⊎◌, ◌↔◌, IfSome, IfErr, IsTrue, IsSome, IsErrOf, OnOk, All, map};
+ghost use Rattle.std.specs.Prelude.{◌≡◌, ◌≢◌, ◌≤◌, ◌↔◌, None, Some, IfErr, IfSome, IsSome, IsErrOf, OnOk, map};
 ghost use Rattle.std.specs.Io.KnownBytes.{Appends, IsAtEnd};
 ghost use Rattle.damon_types.specs.Causes.{Rose};
 ghost use Rattle.damon_types.specs.Space.{pages_of};
 ghost use Rattle.damon_control.specs.Command.{command_value, work_of};
 ghost use Rattle.damon_control.specs.Limits.{EachIsWithin};
 ghost use Rattle.damon_control.specs.ScriptView.{said_by};
-ghost use Rattle.script_run.specs.BoundAlong.{EachScriptIsBound};
-ghost use Rattle.script_run.specs.Choices.{EachChoiceIsBest};
 ghost use Rattle.script_run.specs.Report.{report};
 ghost use Rattle.damon_app.specs.Given.{GaveOver};
 ghost use Rattle.damon_app.specs.Taken.{WritesPart};
-ghost use Rattle.damon_app.specs.StatusOf.{IsFailure, status_of_input};
-ghost use Rattle.damon_app.specs.Replay.{AsksReplay, IsRead, IsUnwritten, Replays, TellsFault, WritesPrefix};
-ghost use Rattle.damon_app.specs.Answers.{EndsRun, IsAnswer, status_of};
+ghost use Rattle.damon_app.specs.Request.{ReadsInput, asked};
+ghost use Rattle.damon_app.specs.Generated.{gen_text};
+ghost use Rattle.damon_app.specs.Runs.{EachRunChoosesBest, EachRunIsBound};
+ghost use Rattle.damon_app.specs.Replay.{IsBegun, IsDone, IsExpected, IsRead, IsUnwritten, TellsFault};
+ghost use Rattle.damon_app.specs.Answers.{EndsRun, IsAnswer, IsReport, status_of};
 
-use crate::{INPUT_LIMIT, Status, read_all, write_all};
+use crate::laws::{each_run_chooses_best, each_run_is_bound};
+use crate::request::read_request;
+use crate::summary::make_summary;
+use crate::{INPUT_LIMIT, Request, Status, read_all, write_all};
 use damon_control::{MAX_WORK, Script, read_script};
 use damon_types::{Sink, Source};
-use script_run::{Filled, each_choice_is_best, each_script_is_bound, open_player};
+use script_run::{Filled, open_player};
 use snapshot_print::Form;
 use std::alloc::Global;
 
-/// Does all of the program `damon`: where the words are `replay`, reads a script to its end and
-/// writes the report of its run. It takes no lock and always returns.
+/// Does all of the program `damon`. For `replay` and `json` it reads a script to its end and writes the
+/// report of its run; for `gen N` it reads nothing, runs the generated script of N, and writes one line
+/// about the end of the run. It takes no lock and always returns.
 pub fn replay_main<S: Source, K: Sink>(
     alloc: Global,
     words: &[String],
     source: &mut S,
     sink: &mut K,
 ) -> Status
-    // What was read is a script, and what was written is its report.
+    // What was written is what the words ask for: the report of the script that was read, or the line of
+    // the generated one.
     ensures ok { result ≡ Status.Ok →
-        IfSome (S.left source.old) (λ bytes. Replays bytes (K.taken sink.old) (K.taken sink.new)) }
-    ensures end { IsRead result → IsAtEnd (S.left source.new) }
+        IsDone (asked words.now) (S.left source.old) (K.taken sink.old) (K.taken sink.new) }
+    ensures end { ReadsInput (asked words.now) → IsRead result → IsAtEnd (S.left source.new) }
 
-    // Whatever the status, the states along the run of every script are bound; and each aggregation along
-    // it applies each active scheme to the first passing pages of its priority order within what is left
-    // of its quota, which is the best choice.
-    ensures bound { EachScriptIsBound }
-    ensures choices { EachChoiceIsBest }
+    // Whatever the status, the states along the run of every script that can be run are bound; and each
+    // aggregation along it applies each active scheme to the first passing pages of its priority order
+    // within what is left of its quota, which is the best choice.
+    ensures bound { EachRunIsBound }
+    ensures choices { EachRunChoosesBest }
 
-    // The status is the one of the input, or a failure.
-    ensures complete { AsksReplay words.now → IfSome (S.left source.old) (λ bytes.
-        (result ≡ status_of_input INPUT_LIMIT bytes)
-        ⊎ IsFailure result
+    // The status is the one that is expected, or a failure.
+    ensures complete { IsExpected (asked words.now) result INPUT_LIMIT (S.left source.old)
         (Rose (S.faults source.old) (S.faults source.new))
-        (Rose (K.faults sink.old) (K.faults sink.new))) }
+        (Rose (K.faults sink.old) (K.faults sink.new)) }
 
     // When each other status comes; memory may run out at any time.
-    ensures usage { (result ≡ Status.Usage) ↔ (AsksReplay words.now → ⊥) }
+    ensures usage { (result ≡ Status.Usage) ↔ (asked words.now ≡ None) }
     ensures too_long { result ≢ Status.Memory → IsSome (S.left source.old) →
         (result ≡ Status.TooLong) ↔ GaveOver INPUT_LIMIT (S.left source.old) (S.left source.new) }
-    ensures script { IsRead result → IfSome (S.left source.old) (TellsFault result) }
+    ensures script { ReadsInput (asked words.now) → IsRead result →
+        IfSome (S.left source.old) (TellsFault result) }
     ensures read { result ≡ Status.ReadFault → Rose (S.faults source.old) (S.faults source.new) }
     ensures write { result ≡ Status.WriteFault → Rose (K.faults sink.old) (K.faults sink.new) }
 
-    // What was read and written in any case: nothing, or a prefix of the report.
-    ensures unread { result ≡ Status.Usage → source.new ≡ source.old }
+    // What was read and written in any case: nothing, or a prefix of what was asked for.
+    ensures unread { (ReadsInput (asked words.now) → ⊥) → source.new ≡ source.old }
     ensures unwritten { IsUnwritten result → sink.new ≡ sink.old }
-    ensures prefix { IfSome (S.left source.old) (λ bytes.
-        (sink.new ≡ sink.old) ⊎ WritesPrefix bytes (K.taken sink.old) (K.taken sink.new)) }
+    ensures prefix { IsBegun (asked words.now) (sink.new ≡ sink.old)
+        (S.left source.old) (K.taken sink.old) (K.taken sink.new) }
 {
-    each_script_is_bound();
-    each_choice_is_best();
-    if !asks_replay(words) {
-        return Status::Usage;
+    each_run_is_bound();
+    each_run_chooses_best();
+    serve(alloc, read_request(words), source, sink)
+}
+
+// Does what was asked for, if it was a request.
+fn serve<S: Source, K: Sink>(
+    alloc: Global,
+    request: Option<Request>,
+    source: &mut S,
+    sink: &mut K,
+) -> Status
+    ensures { IsAnswer INPUT_LIMIT request
+        (record { bytes = S.left source.old; faults = S.faults source.old })
+        (record { bytes = S.left source.new; faults = S.faults source.new })
+        (record { bytes = K.taken sink.old; faults = K.faults sink.old })
+        (record { bytes = K.taken sink.new; faults = K.faults sink.new })
+        (source.new ≡ source.old) (sink.new ≡ sink.old) result }
+{
+    match request {
+        Some(request) => fulfil(alloc, request, source, sink),
+        None => Status::Usage,
     }
-    match replay(alloc, source, sink) {
+}
+
+// Does what was asked for.
+fn fulfil<S: Source, K: Sink>(
+    alloc: Global,
+    request: Request,
+    source: &mut S,
+    sink: &mut K,
+) -> Status
+    ensures { IsAnswer INPUT_LIMIT (Some request)
+        (record { bytes = S.left source.old; faults = S.faults source.old })
+        (record { bytes = S.left source.new; faults = S.faults source.new })
+        (record { bytes = K.taken sink.old; faults = K.faults sink.old })
+        (record { bytes = K.taken sink.new; faults = K.faults sink.new })
+        (source.new ≡ source.old) (sink.new ≡ sink.old) result }
+{
+    match request {
+        Request::Report { form } => status_of(replay(alloc, form, source, sink)),
+        Request::Generate { number } => status_of(summarize(alloc, number, sink)),
+    }
+}
+
+// The status with which the program ends.
+fn status_of(done: Result<(), Status>) -> Status
+    ensures { result ≡ status_of done }
+{
+    match done {
         Ok(()) => Status::Ok,
         Err(status) => status,
     }
 }
 
-// Whether the words ask for a replay.
-fn asks_replay(words: &[String]) -> bool
-    ensures { IsTrue result ↔ AsksReplay words.now }
-{
-    match words {
-        [word] => word.as_str() == "replay",
-        _ => false,
-    }
-}
-
 // Reads a script and writes its report.
-fn replay<S: Source, K: Sink>(alloc: Global, source: &mut S, sink: &mut K) -> Result<(), Status>
-    ensures { IsAnswer INPUT_LIMIT
+fn replay<S: Source, K: Sink>(
+    alloc: Global,
+    form: Form,
+    source: &mut S,
+    sink: &mut K,
+) -> Result<(), Status>
+    ensures { IsReport INPUT_LIMIT form
         (record { bytes = S.left source.old; faults = S.faults source.old })
         (record { bytes = S.left source.new; faults = S.faults source.new })
         (record { bytes = K.taken sink.old; faults = K.faults sink.old })
@@ -93,27 +136,31 @@ fn replay<S: Source, K: Sink>(alloc: Global, source: &mut S, sink: &mut K) -> Re
 {
     let bytes = read_all(alloc, source)?;
     let script = read_script(alloc, &bytes)?;
-    write_report(alloc, script, sink)?;
+    write_report(alloc, script, form, sink)?;
     Ok(())
 }
 
 // Plays a script, and hands its report to the sink a piece at a time.
-fn write_report<K: Sink>(alloc: Global, script: Script, sink: &mut K) -> Result<(), Status>
+fn write_report<K: Sink>(
+    alloc: Global,
+    script: Script,
+    form: Form,
+    sink: &mut K,
+) -> Result<(), Status>
     requires within { EachIsWithin (pages_of script.setup.space) script.commands.list }
     requires work { work_of script.setup.cap (map command_value script.commands.list) ≤ MAX_WORK }
 
     // The sink gained the report of the script.
     ensures all { OnOk result
-        (Appends (K.taken sink.old) (K.taken sink.new) (report Form.Text (said_by script))) }
+        (Appends (K.taken sink.old) (K.taken sink.new) (report form (said_by script))) }
 
     // Each failure.
     ensures answers { IfErr result EndsRun }
     ensures cause { IsErrOf result Status.WriteFault →
         Rose (K.faults sink.old) (K.faults sink.new) }
-    ensures part { WritesPart (K.taken sink.old) (K.taken sink.new)
-        (report Form.Text (said_by script)) }
+    ensures part { WritesPart (K.taken sink.old) (K.taken sink.new) (report form (said_by script)) }
 {
-    let mut player = open_player(alloc, script, Form::Text)?;
+    let mut player = open_player(alloc, script, form)?;
     let mut piece = Vec::new(alloc);
     'pieces: loop {
         match player.fill(alloc, &mut piece)? {
@@ -128,4 +175,17 @@ fn write_report<K: Sink>(alloc: Global, script: Script, sink: &mut K) -> Result<
             }
         }
     }
+}
+
+// Runs the generated script of a number, and hands its line to the sink.
+fn summarize<K: Sink>(alloc: Global, number: u64, sink: &mut K) -> Result<(), Status>
+    ensures all { OnOk result (Appends (K.taken sink.old) (K.taken sink.new) (gen_text number)) }
+    ensures answers { IfErr result EndsRun }
+    ensures cause { IsErrOf result Status.WriteFault →
+        Rose (K.faults sink.old) (K.faults sink.new) }
+    ensures part { WritesPart (K.taken sink.old) (K.taken sink.new) (gen_text number) }
+{
+    let line = make_summary(alloc, number)?;
+    write_all(sink, &line)?;
+    Ok(())
 }

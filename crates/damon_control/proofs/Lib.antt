@@ -1,4 +1,5 @@
 pub mod PartLemmas
+pub mod TouchLemmas
 pub mod WordLemmas
 pub mod PlaceLemmas
 pub mod SlotLemmas

@@ -8,7 +8,9 @@ use Rattle.damon_control.specs.declared.lines.Lines.{Lines}
 use Rattle.damon_control.specs.declared.reader.TheConstants.{MAX_BYTES}
 use Rattle.live_commit.specs.Commit.{CommitValue}
 use Rattle.damon_control.specs.declared.grammar.Grammar.{Grammar}
-use Rattle.damon_control.specs.Script.{AtEnd, Place, Said, Within, at, place_after, reads, with_commit}
+use Rattle.damon_control.specs.declared.grammar.Grammar.TheVariants.{OfScript}
+use Rattle.damon_control.specs.Command.{CommandValue}
+use Rattle.damon_control.specs.Script.{AtEnd, Body, Place, Said, ScriptValue, Within, at, place_after, reads, with_command, with_commit}
 use Rattle.damon_control.specs.Refusal.{◌>>=◌}
 use Rattle.damon_control.specs.Words.{begins_with}
 
@@ -56,3 +58,7 @@ FaultOf (Err (Script fault)) said = said ≡ Err fault
 -- what is said by a commit, whose last line was taken, and the lines that are left after it
 abbrev pub reads_commit : (g : Grammar) → Within g → CommitValue → Lines → Result (Said g) ScriptFault
 reads_commit g b commit lines = at lines.taken (with_commit g b commit) >>= λ next. reads_left g next lines
+
+-- what is said by a command of a script, whose last line was taken, and the lines that are left after it
+abbrev pub reads_command : Body → CommandValue → Lines → Result ScriptValue ScriptFault
+reads_command b command lines = at lines.taken (with_command b command) >>= λ next. reads_left OfScript next lines

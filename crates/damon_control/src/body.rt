@@ -5,7 +5,7 @@ ghost use Rattle.live_commit.specs.SetupView.{value_of};
 ghost use Rattle.damon_control.specs.Body.{are_swept, command_line, step_line, sweep_line, touch_line, word_line};
 ghost use Rattle.damon_control.specs.BodyLine.{LineIsWithin, body_at, body_said, command_said, script_at};
 ghost use Rattle.damon_control.specs.Command.{command_value, weight, work_of};
-ghost use Rattle.damon_control.specs.Left.{FaultOf, IsShort, MovesTo, reads_left};
+ghost use Rattle.damon_control.specs.Left.{FaultOf, IsShort, MovesTo, reads_command, reads_left};
 ghost use Rattle.damon_control.specs.Limits.{EachIsWithin, IsCommandWithin};
 ghost use Rattle.damon_control.specs.Refusal.{only_if};
 ghost use Rattle.damon_control.specs.Script.{AtEnd, Body, InBody, after_body, begun};
@@ -91,17 +91,50 @@ fn take_command(
     ensures small { IsShort lines.new }
     ensures shorter { OnOk result (length lines.new.rest.now < length lines.old.rest.now) }
 {
-    let line = lines.take_line()?;
-    let command = match lines.refuse(read_body_line(&setup.space, line))? {
-        BodyLine::End => return Ok(None),
-        BodyLine::Commit => Command::Commit {
-            commit: Box::new(alloc, read_commit(alloc, lines)?)?,
-        },
-        BodyLine::Say(command) => command,
+    let Some(command) = next_command(alloc, lines, &setup.space)? else {
+        return Ok(None);
     };
     let sum = lines.refuse(added_work(work, setup.cap, &command))?;
     commands.push(command)?;
     Ok(Some(sum))
+}
+
+// Reads the next command, or None where the script ends.
+fn next_command(
+    alloc: Global,
+    lines: &mut Lines,
+    space: &Space,
+) -> Result<Option<Command>, ReadFail>
+    requires { IsShort lines.old }
+    ensures command { IfOk result (λ answer. IfSome answer (λ c. (b : Body) →
+        b.said.setup.space ≡ space.now →
+        reads_left of_script (InBody b) lines.old
+        ≡ reads_command b (command_value c) lines.new)) }
+    ensures end { IfOk result (λ answer. answer ≡ None → (b : Body) →
+        b.said.setup.space ≡ space.now →
+        MovesTo of_script (InBody b) lines.old (AtEnd b.said) lines.new) }
+    ensures fault { (b : Body) → b.said.setup.space ≡ space.now →
+        FaultOf result (reads_left of_script (InBody b) lines.old) }
+    ensures within { IfOk result (λ answer. IfSome answer (λ c.
+        IsCommandWithin (pages_of space.now) (command_value c))) }
+    ensures later { OnOk result (lines.old.taken < lines.new.taken) }
+    ensures shorter { OnOk result (length lines.new.rest.now < length lines.old.rest.now) }
+    ensures small { IsShort lines.new }
+{
+    if let Some(page) = lines.take_touch(space) {
+        return Ok(Some(Command::Touch { page }));
+    }
+    let line = lines.take_line()?;
+    match lines.refuse(read_body_line(space, line))? {
+        BodyLine::End => Ok(None),
+        BodyLine::Commit => {
+            let commit = read_commit(alloc, lines)?;
+            Ok(Some(Command::Commit {
+                commit: Box::new(alloc, commit)?,
+            }))
+        }
+        BodyLine::Say(command) => Ok(Some(command)),
+    }
 }
 
 // Reads a line of a body.

@@ -24,7 +24,7 @@ use live_commit::slots_are_checked_in_turn;
 use target_ranges::{fault_stays, made_in_order, next_decides};
 
 // The laws of `line_text` on words, numbers and addresses, in one record.
-fn words_have_laws()
+pub(crate) fn words_have_laws()
     ensures laws { WordLaws }
 {
     parts_are_pieces();

@@ -34,6 +34,8 @@ mod script;
 mod spelling;
 #[cfg(test)]
 mod tests;
+/// Touch lines in one pass.
+mod touches;
 /// The words of a line.
 mod words;
 /// Appending fields, and the words of a scheme.

@@ -1,11 +1,17 @@
-ghost use Rattle.std.specs.Prelude.{ℕ, List, ◌≡◌, ◌+◌, ◌<◌, ◌≤◌, length, IfOk, IfErr, OnOk, Ok, Err};
-ghost use Rattle.damon_control.specs.Left.{IsOpen, IsShort, first_begins, reads_on, reads_left};
-ghost use Rattle.damon_control.specs.Script.{AtEnd, Place, Said, at};
+ghost use Rattle.std.specs.Prelude.{ℕ, List, ◌≡◌, ◌+◌, ◌<◌, ◌≤◌, length, IfOk, IfErr, IfNone, IfSome, OnOk, Ok, Err};
+ghost use Rattle.damon_types.specs.Space.{pages_of};
+ghost use Rattle.damon_control.specs.Command.{Touch};
+ghost use Rattle.damon_control.specs.Left.{IsOpen, IsShort, first_begins, reads_command, reads_on, reads_left};
+ghost use Rattle.damon_control.specs.Script.{AtEnd, Body, InBody, Place, Said, at};
 ghost use Rattle.damon_control.specs.declared.grammar.Grammar.{Grammar as grammar};
+ghost use Rattle.damon_control.specs.declared.grammar.Grammar.TheVariants.{OfScript as of_script};
 ghost use Rattle.damon_control.specs.Words.{begins_with};
 
+use crate::laws::words_have_laws;
+use crate::touches::leading_touch;
 use crate::words::{first_word, same_word};
 use crate::{ScriptFault, ScriptKind};
+use damon_types::Space;
 use line_text::split_front;
 
 // A text that is read line by line.
@@ -54,6 +60,28 @@ impl<'a> Lines<'a> {
                 kind: ScriptKind::Cut,
             }),
         }
+    }
+
+    // Takes the next line if it is a touch, and returns the page. Else nothing is taken.
+    pub fn take_touch(&mut self, space: &Space) -> Option<u32>
+        requires { IsShort self.old }
+        ensures said { IfSome result (λ page. (b : Body) → b.said.setup.space ≡ space.now →
+            reads_left of_script (InBody b) self.old ≡ reads_command b (Touch page) self.new) }
+        ensures below { IfSome result (λ page. page < pages_of space.now) }
+        ensures taken { IfSome result (λ _. self.new.taken ≡ self.old.taken + 1) }
+        ensures shorter { IfSome result (λ _. length self.new.rest.now < length self.old.rest.now) }
+        ensures same { IfNone result ((g : grammar) (place : Place g) →
+            reads_left g place self.new ≡ reads_left g place self.old) }
+        ensures none_taken { IfNone result (self.new.taken ≡ self.old.taken) }
+        ensures as_long { IfNone result (length self.new.rest.now ≡ length self.old.rest.now) }
+        ensures small { IsShort self.new }
+    {
+        // For its clause alone: how lines are read.
+        words_have_laws();
+        let (page, rest) = leading_touch(space, self.rest)?;
+        self.rest = rest;
+        self.taken += 1;
+        Some(page)
     }
 
     // Turns the rejection of the line that was taken last into the fault of the text.

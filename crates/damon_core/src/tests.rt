@@ -1,5 +1,5 @@
-// The opening, passes over three pages, an aggregation, and commits; the expected values were reckoned by
-// hand.
+// A pass over three pages, an aggregation, and commits; the expected values were reckoned by hand. Whole
+// runs are cases of tests/cases: the proofs of tests that drive a monitor take long.
 ghost use Rattle.std.specs.Prelude.{◌≡◌, [], IfOk};
 
 use crate::Monitor;
@@ -9,10 +9,8 @@ use std::alloc::Global;
 use std::process::Abort;
 use std::test::Fail;
 
-/// Commits in each phase, accepted and refused.
+/// Commits.
 mod commits;
-/// Schemes of a setup and of commits.
-mod schemes;
 
 // A range of the first target.
 fn range(from: u64, to: u64) -> RangeSpec {
@@ -46,25 +44,6 @@ fn whole_target(alloc: Global, pages: u32, aggr: u32) -> Result<Setup, Fail>
     };
     let space = one_target(alloc, pages)?;
     let ranges = [range(0x1_0000, 0x1_0000 + 0x1000 * u64::from(pages))];
-    let setup = Setup::new(alloc, space, 1, 8, attrs, &ranges, &[])?;
-    Ok(setup)
-}
-
-// The setup of ranges of 1, 1 and 98 pages, whose division has four rows, one more than are allowed.
-fn three_ranges(alloc: Global) -> Result<Setup, Fail>
-    ensures { IfOk result (λ s. s.slots.list ≡ []) }
-{
-    let attrs = Attrs {
-        min: 3,
-        max: 3,
-        aggr: 5,
-    };
-    let ranges = [
-        range(0x1_0000, 0x1_1000),
-        range(0x1_2000, 0x1_3000),
-        range(0x1_4000, 0x7_6000),
-    ];
-    let space = one_target(alloc, 102)?;
     let setup = Setup::new(alloc, space, 1, 8, attrs, &ranges, &[])?;
     Ok(setup)
 }
@@ -124,26 +103,6 @@ fn counts(rt: &impl Abort, monitor: &Monitor) -> [u32; 3] {
     [rows.row(0).count, rows.row(1).count, rows.row(2).count]
 }
 
-// The first page of each of three rows, and their pages.
-fn places(rt: &impl Abort, monitor: &Monitor) -> [(u32, u32); 3] {
-    let rows = monitor.rows();
-    assert_eq!(rt; rows.len(), 3);
-    let (first, second, third) = (rows.row(0), rows.row(1), rows.row(2));
-    [
-        (first.start, first.pages),
-        (second.start, second.pages),
-        (third.start, third.pages),
-    ]
-}
-
-#[test]
-fn an_opening_has_at_most_max_rows(rt: HostRuntime) -> Result<(), Fail> {
-    let setup = three_ranges(rt.alloc())?;
-    let monitor = Monitor::new(rt.alloc(), &setup)?;
-    assert_eq!(rt; places(&rt, &monitor), [(0, 1), (2, 1), (4, 98)]);
-    Ok(())
-}
-
 #[test]
 fn a_pass_counts_its_hits(rt: HostRuntime) -> Result<(), Fail> {
     let setup = whole_target(rt.alloc(), 3, 5)?;
@@ -172,20 +131,6 @@ fn a_pass_counts_its_hits(rt: HostRuntime) -> Result<(), Fail> {
         (monitor.ticks(), monitor.checks(), monitor.hits()),
         (1, 3, 1)
     );
-    Ok(())
-}
-
-#[test]
-fn an_aggregation_is_due_after_its_passes(rt: HostRuntime) -> Result<(), Fail> {
-    let setup = whole_target(rt.alloc(), 3, 1)?;
-    let mut monitor = Monitor::new(rt.alloc(), &setup)?;
-    begin_pass(&rt, &mut monitor, &[0; 3]);
-    for hit in [true, true, true] {
-        load(&rt, &mut monitor, hit);
-    }
-    end_pass(&rt, &mut monitor);
-    assert_eq!(rt; monitor.phase(), Phase::Due);
-    assert_eq!(rt; counts(&rt, &monitor), [1, 1, 1]);
     Ok(())
 }
 
@@ -232,5 +177,6 @@ fn an_aggregation_reports_and_clears(rt: HostRuntime) -> Result<(), Fail> {
     assert_eq!(rt; monitor.phase(), Phase::Idle);
     assert_eq!(rt; counts(&rt, &monitor), [0, 0, 0]);
     assert_eq!(rt; histories(&rt, &monitor), [(0, 1), (1, 0), (0, 1)]);
+    assert!(rt; monitor.engine().slot(0).is_none());
     Ok(())
 }

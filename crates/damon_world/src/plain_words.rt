@@ -1,6 +1,7 @@
-ghost use Rattle.std.specs.Prelude.{◌≡◌, ◌-◌, ◌*◌, ◌/◌, ◌^◌, ◌≤◌, ◌<◌, ◌++◌, ◌&&◌, ℕ, nat_le, nat_lt, length, replicate, slice_index, slice_set, if◌then◌else◌, IfOk, vec_capacity};
-ghost use Rattle.damon_world.specs.Words.{Puts, touched_word};
+ghost use Rattle.std.specs.Prelude.{◌≡◌, ◌+◌, ◌-◌, ◌*◌, ◌/◌, ◌^◌, ◌≤◌, ◌<◌, ◌++◌, ◌&&◌, ℕ, true, false, nat_le, nat_lt, length, replicate, slice_index, slice_index_or, slice_set, if◌then◌else◌, IfOk, vec_capacity};
+ghost use Rattle.damon_world.specs.Words.{Puts, low_in, touched_word};
 
+use damon_types::append_reserved;
 use sampler::Marks;
 use std::alloc::{AllocError, Global};
 use std::marker::Model;
@@ -8,29 +9,41 @@ use std::marker::Model;
 // How many numbers the lowest 16 bits of a word tell apart.
 const LOWS: u64 = 0x1_0000;
 
+// How many pages a block has.
+const BLOCK: u32 = 64;
+
+// The lowest bits of the words of some pages that were neither cleared nor touched.
+const NO_LOWS: [u16; 64] = [0; 64];
+
 /// The words of the pages of one thread. A page's word is `2 × c + t`, where c is the pass that
 /// cleared it last, 0 if none did, and t is 1 where it was touched since, or ever where none did.
 ///
 /// The lowest 16 bits of each word, with the mark t, are kept apart from the bits above them, which
 /// are kept only from the first pass on that has any. For a million pages these are 2 MB, which stay
 /// within the nearest caches. Words of 64 bits are 8 MB, and each clear would wait for memory.
+///
+/// A sweep marks whole blocks of pages, and only the first clear or touch of a page in such a block
+/// passes its mark on to the words. So a sweep of a million pages writes 16 KB.
 #[derive(Drop)]
 pub struct PlainWords {
-    // The lowest 16 bits of each word.
+    pages: u32,
+    // The lowest 16 bits of each word; empty until one is needed. The room is taken once.
     lows: Vec<u16>,
     // The bits above them; empty until one of them is not 0. The room is taken once.
     highs: Vec<u32>,
+    // Whether all pages of a block were touched, whatever their lowest bits say.
+    swept: Vec<bool>,
 }
 
 impl Model for PlainWords {
-    ghost use Rattle.std.specs.Prelude.{ℕ, ◌≤◌, List, length, vec_capacity};
-    ghost use Rattle.damon_world.specs.Words.{words_of};
+    ghost use Rattle.std.specs.Prelude.{ℕ, List, vec_capacity};
+    ghost use Rattle.damon_world.specs.Words.{IsStored, words_in};
 
     ghost Value = { List ℕ };
 
-    ghost view = { λ w. words_of w.lows.items w.highs.items };
+    ghost view = { λ w. words_in w.pages w.swept.items w.lows.items w.highs.items };
 
-    ghost invariant = { λ w. length w.lows.items ≤ vec_capacity w.highs };
+    ghost invariant = { λ w. IsStored w.pages w.swept.items (vec_capacity w.lows) (vec_capacity w.highs) };
 }
 
 impl PlainWords {
@@ -40,9 +53,16 @@ impl PlainWords {
     pub fn new(alloc: Global, pages: u32) -> Result<PlainWords, AllocError>
         ensures { IfOk result (λ w. w ≡ replicate pages 0) }
     {
-        let lows = vec![in alloc; 0; pages as usize]?;
+        let lows = Vec::with_capacity(alloc, pages as usize + NO_LOWS.len())?;
         let highs = Vec::with_capacity(alloc, pages as usize)?;
-        Ok(PlainWords { lows, highs })
+        let blocks = pages / BLOCK + 1;
+        let swept = vec![in alloc; false; blocks as usize]?;
+        Ok(PlainWords {
+            pages,
+            lows,
+            highs,
+            swept,
+        })
     }
 
     /// Touches a page, and returns the pass that cleared it last, 0 if none did.
@@ -52,6 +72,7 @@ impl PlainWords {
         ensures word { self.new
             ≡ slice_set self.old page (touched_word (slice_index self.old page)) }
     {
+        settle(&mut self.lows, &mut self.swept, self.pages, page);
         let low = self.lows[page as usize];
         self.lows[page as usize] = touched(low);
         (LOWS * u64::from(high_at(&self.highs, page)) + u64::from(low)) / 2
@@ -67,7 +88,7 @@ impl PlainWords {
             ≡ (if nat_le from p && nat_lt p to
             then touched_word (slice_index self.old p) else slice_index self.old p) }
     {
-        touch_all(&mut self.lows, from, to);
+        sweep_blocks(&mut self.lows, &mut self.swept, self.pages, from, to);
     }
 
     /// Clears a page in this pass, which is below 2^47.
@@ -76,10 +97,15 @@ impl PlainWords {
         requires pass { pass < 2 ^ 47 }
         ensures { self.new ≡ slice_set self.old page (2 * pass) }
     {
-        let pages = self.lows.len();
         let word = 2 * pass;
-        self.lows[page as usize] = (word % LOWS) as u16;
-        put_high(&mut self.highs, pages, page, (word / LOWS) as u32);
+        settle(&mut self.lows, &mut self.swept, self.pages, page);
+        put_low(&mut self.lows, page, (word % LOWS) as u16);
+        put_high(
+            &mut self.highs,
+            self.pages as usize,
+            page,
+            (word / LOWS) as u32,
+        );
     }
 }
 
@@ -90,8 +116,116 @@ impl Marks for PlainWords {
     ghost marks_of = { λ words. map is_touched_word words };
 
     fn is_marked(&self, page: u32) -> bool {
-        self.lows[page as usize] % 2 == 1
+        self.swept[(page / BLOCK) as usize] | (low_at(&self.lows, page) % 2 == 1)
     }
+}
+
+// Stores the lowest bits of all pages, and passes the mark of a page's block on to those of its pages, if
+// the block is swept. No page's word changes.
+fn settle(lows: &mut Vec<u16>, swept: &mut [bool], pages: u32, page: u32)
+    requires page { page < pages }
+    requires blocks { pages / 64 < length swept.old }
+    requires room { pages + 64 ≤ vec_capacity lows.old }
+    ensures same { (p : ℕ) → p < pages
+        → low_in swept.new lows.new.items p ≡ low_in swept.old lows.old.items p }
+    ensures settled { slice_index_or swept.new (page / 64) false ≡ false }
+    ensures each { pages ≤ length lows.new.items }
+    ensures blocks { length swept.new ≡ length swept.old }
+    ensures room { vec_capacity lows.old ≤ vec_capacity lows.new }
+{
+    grow(lows, pages);
+    let block = page / BLOCK;
+    if swept[block as usize] {
+        let start = block * BLOCK;
+        touch_all(lows, start, start + BLOCK.min(pages - start));
+        swept[block as usize] = false;
+    }
+}
+
+// Stores the lowest bits of at least so many pages. No page's word changes.
+fn grow(lows: &mut Vec<u16>, pages: u32)
+    requires { pages + 64 ≤ vec_capacity lows.old }
+    ensures same { (p : ℕ) → slice_index lows.new.items p ≡ slice_index lows.old.items p }
+    ensures each { pages ≤ length lows.new.items }
+    ensures room { vec_capacity lows.old ≤ vec_capacity lows.new }
+{
+    while lows.len() < pages as usize {
+        append_reserved(lows, &NO_LOWS);
+    }
+}
+
+// Touches the pages from `from` to before `to`: whole blocks of them by their marks.
+fn sweep_blocks(lows: &mut Vec<u16>, swept: &mut [bool], pages: u32, from: u32, to: u32)
+    requires order { from ≤ to }
+    requires within { to ≤ pages }
+    requires blocks { pages / 64 < length swept.old }
+    requires room { pages + 64 ≤ vec_capacity lows.old }
+    ensures lows { (p : ℕ)
+        → low_in swept.new lows.new.items p
+        ≡ (if nat_le from p && nat_lt p to
+        then touched_word (low_in swept.old lows.old.items p)
+        else low_in swept.old lows.old.items p) }
+    ensures blocks { length swept.new ≡ length swept.old }
+    ensures room { vec_capacity lows.old ≤ vec_capacity lows.new }
+{
+    let first = from.div_ceil(BLOCK);
+    let last = to / BLOCK;
+    if first < last {
+        mark_blocks(swept, first, last);
+        touch_pages(lows, pages, from, first * BLOCK);
+        touch_pages(lows, pages, last * BLOCK, to);
+    } else {
+        touch_pages(lows, pages, from, to);
+    }
+}
+
+// Marks the blocks from `from` to before `to` as swept.
+fn mark_blocks(swept: &mut [bool], from: u32, to: u32)
+    requires order { from ≤ to }
+    requires within { to ≤ length swept.old }
+    ensures len { length swept.new ≡ length swept.old }
+    ensures marks { (b : ℕ)
+        → slice_index_or swept.new b false
+        ≡ (if nat_le from b && nat_lt b to then true else slice_index_or swept.old b false) }
+{
+    for block in from..to {
+        swept[block as usize] = true;
+    }
+}
+
+// Touches the pages from `from` to before `to` without the marks of blocks.
+fn touch_pages(lows: &mut Vec<u16>, pages: u32, from: u32, to: u32)
+    requires order { from ≤ to }
+    requires within { to ≤ pages }
+    requires room { pages + 64 ≤ vec_capacity lows.old }
+    ensures lows { (p : ℕ)
+        → slice_index lows.new.items p
+        ≡ (if nat_le from p && nat_lt p to
+        then touched_word (slice_index lows.old.items p) else slice_index lows.old.items p) }
+    ensures room { vec_capacity lows.old ≤ vec_capacity lows.new }
+{
+    if from < to {
+        grow(lows, pages);
+        touch_all(lows, from, to);
+    }
+}
+
+// The lowest bits of a page's word, 0 if none are stored.
+fn low_at(lows: &[u16], page: u32) -> u16
+    ensures { result ≡ slice_index lows.now page }
+{
+    match lows.get(page as usize) {
+        Some(low) => *low,
+        None => 0,
+    }
+}
+
+// Stores the lowest bits of a page's word.
+fn put_low(lows: &mut [u16], page: u32, low: u16)
+    requires { page < length lows.old }
+    ensures { lows.new ≡ slice_set lows.old page low }
+{
+    lows[page as usize] = low;
 }
 
 // The lowest bits of a page's word after a touch: the last one is 1.
@@ -102,6 +236,7 @@ fn touched(low: u16) -> u16
 }
 
 // Touches the pages from `from` to before `to` by the lowest bits of their words.
+#[inline(never)]
 fn touch_all(lows: &mut [u16], from: u32, to: u32)
     requires order { from ≤ to }
     requires within { to ≤ length lows.old }
@@ -140,7 +275,7 @@ fn put_high(highs: &mut Vec<u32>, pages: usize, page: u32, high: u32)
 }
 
 // Appends copies of an item until there are at least `count` items.
-fn fill_up<T: Copy + Drop>(items: &mut Vec<T>, count: usize, item: T)
+pub(crate) fn fill_up<T: Copy + Drop>(items: &mut Vec<T>, count: usize, item: T)
     requires { count ≤ vec_capacity items.old }
     ensures items { items.new.items
         ≡ items.old.items ++ replicate (count - length items.old.items) item }

@@ -18,6 +18,7 @@ ghost use Rattle.damon_world.specs.Plays.{Plays};
 ghost use Rattle.damon_world.specs.Kept.{IsAdvance};
 
 use crate::PlainWords;
+use crate::plain_words::fill_up;
 use damon_core::{Changed, Monitor};
 use live_commit::{Commit, CommitFault, Phase, Setup};
 use rand_core::Rng;
@@ -284,7 +285,9 @@ fn at_most(count: u32, most: u64) -> u32
     u64::from(count).min(most) as u32
 }
 
-// Clears the words of the picks of the pass under way from pick `from` to before pick `to`.
+// Clears the words of the picks of the pass under way from pick `from` to before pick `to`. It is kept
+// apart, so that its loop has the registers.
+#[inline(never)]
 fn clear_words(monitor: &Monitor, from: u32, to: u32, words: &mut PlainWords)
     requires pass { IsInPass monitor.now.core.phase }
     requires order { from ≤ to }
@@ -308,8 +311,19 @@ fn draw<R: Rng>(source: &mut R, count: usize, words: &mut Vec<u32>)
     ensures capacity { vec_capacity words.new ≡ vec_capacity words.old }
     ensures rest { R.stream source.new ≡ drawn_rest count (R.stream source.old) }
 {
-    words.clear();
-    for _ in 0..count {
-        words.push_reserved(source.next_u32());
+    // Mostly there are as many words already.
+    words.truncate(count);
+    fill_up(words, count, 0);
+    fill_random(source, words);
+}
+
+// Replaces each word by a random one. It is kept apart: only then does the source stay in registers.
+#[inline(never)]
+fn fill_random<R: Rng>(source: &mut R, words: &mut [u32])
+    ensures words { words.new ≡ drawn (length words.old) (R.stream source.old) }
+    ensures rest { R.stream source.new ≡ drawn_rest (length words.old) (R.stream source.old) }
+{
+    for index in 0..words.len() {
+        words[index] = source.next_u32();
     }
 }

@@ -7,4 +7,5 @@ pub mod FewParts
 pub mod Plain
 pub mod Numbers
 pub mod Addresses
+pub mod LeadingLemmas
 mod Examples

@@ -5,7 +5,7 @@ use Rattle.std.proofs.lemmas.Bool.Decides.{nat_tests}
 use Rattle.std.specs.Str.{all_ascii_digits}
 use Rattle.line_text.specs.Number.{value_on, digits_up_to, with_digit_up_to}
 
-value_grows : (n : ℕ) (bs : List ℕ) → n ≤ value_on n bs
+pub value_grows : (n : ℕ) (bs : List ℕ) → n ≤ value_on n bs
 value_grows n [] = omega arith
 value_grows n (c ∷ cs) = omega (arith, value_grows (10 * n + (c - 48)) cs)
 

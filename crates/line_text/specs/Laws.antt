@@ -3,6 +3,7 @@ use Rattle.std.specs.Prelude.{◌≡◌, ℕ, ◌^◌, ◌<◌, ◌≤◌, List,
 use Rattle.std.specs.Char.{is_ascii_digit}
 use Rattle.std.specs.Fmt.{decimal, digits}
 use Rattle.line_text.specs.Address.{address, hex_digit, spelled_address}
+use Rattle.line_text.specs.Leading.{leading_address, leading_number}
 use Rattle.line_text.specs.Line.{after_prefix, split_at_byte}
 use Rattle.line_text.specs.Number.{number}
 use Rattle.line_text.specs.Parts.{IsPiece, joined, parts}
@@ -42,6 +43,16 @@ SpellsDigits = (n : ℕ) → n < 2 ^ 64 → All (λ c. IsTrue (is_ascii_digit c)
 -- the spelling of an address is `0x` and hexadecimal digits
 abbrev pub SpellsHexDigits : Type 0
 SpellsHexDigits = (n : ℕ) → n < 2 ^ 64 → All (λ c. IsSome (hex_digit c)) (digits 16 false n)
+
+-- bytes that begin with a number begin with its decimal spelling
+abbrev pub SpellsLeadingNumber : Type 0
+SpellsLeadingNumber =
+    (most n : ℕ) (bytes rest : List ℕ) → most < 2 ^ 64 → leading_number most bytes ≡ Some (n, rest) → (bytes ≡ decimal n ++ rest) × (n ≤ most)
+
+-- bytes that begin with an address begin with its spelling
+abbrev pub SpellsLeadingAddress : Type 0
+SpellsLeadingAddress =
+    (n : ℕ) (bytes rest : List ℕ) → leading_address bytes ≡ Some (n, rest) → (bytes ≡ spelled_address n ++ rest) × (n < 2 ^ 64)
 
 -- pieces without the separator are the parts of the joined bytes
 abbrev pub TakesApartPieces : Type 0

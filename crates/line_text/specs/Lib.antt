@@ -2,4 +2,5 @@ pub mod Line
 pub mod Parts
 pub mod Number
 pub mod Address
+pub mod Leading
 pub mod Laws

@@ -38,7 +38,7 @@ fn read_hex_digits(word: &[u8]) -> Option<u64>
 }
 
 // The value of a hexadecimal digit in lower case.
-fn hex_value(byte: u8) -> Option<u8>
+pub(crate) fn hex_value(byte: u8) -> Option<u8>
     ensures exact { result ≡ hex_digit byte }
     ensures bound { IfSome result (λ d. d < 16) }
 {

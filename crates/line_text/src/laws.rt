@@ -1,6 +1,6 @@
 // Laws of the definitions that the contracts cite, for the proofs of callers. The functions have no
 // bodies.
-ghost use Rattle.line_text.specs.Laws.{PutsPartsTogether, ReadsDecimal, ReadsOnlyDecimal, ReadsOnlySpelledAddress, ReadsSpelledAddress, SpellsDigits, SpellsHexDigits, StripsFront, StripsOnlyFront, TakesApartPieces, TakesPiece};
+ghost use Rattle.line_text.specs.Laws.{PutsPartsTogether, ReadsDecimal, ReadsOnlyDecimal, ReadsOnlySpelledAddress, ReadsSpelledAddress, SpellsDigits, SpellsHexDigits, SpellsLeadingAddress, SpellsLeadingNumber, StripsFront, StripsOnlyFront, TakesApartPieces, TakesPiece};
 
 /// The decimal spelling of a number of at most 64 bits is read as that number, under any limit that
 /// it is within.
@@ -31,6 +31,13 @@ pub fn decimal_has_digits()
 /// The spelling of an address has only hexadecimal digits after its `0x`.
 pub fn spelled_address_has_digits()
     ensures digits { SpellsHexDigits }
+{}
+
+/// Bytes that are read as a number and a rest, or as an address and a rest, are its spelling and that
+/// rest.
+pub fn leading_numbers_are_spelled()
+    ensures numbers { SpellsLeadingNumber }
+    ensures addresses { SpellsLeadingAddress }
 {}
 
 /// A piece without a byte, that byte, and any rest are split at the byte.

@@ -10,6 +10,8 @@ mod bytes;
 mod hex_digits;
 /// How reading and spelling relate.
 mod laws;
+/// Numbers and addresses at the front of bytes.
+mod leading;
 /// Words, prefixes, and equal texts.
 mod line;
 /// Decimal numbers: reading and writing.
@@ -22,10 +24,12 @@ mod tests;
 pub use address::{address_before, read_address};
 pub use bytes::{COLON, COMMA, DASH, EQUALS, LF, SPACE};
 pub use laws::{
-    address_is_spelled, decimal_has_digits, decimal_is_read, front_is_stripped, number_is_decimal,
-    parts_are_pieces, piece_is_taken, pieces_are_parts, spelled_address_has_digits,
-    spelled_address_is_read, stripped_front_was_first,
+    address_is_spelled, decimal_has_digits, decimal_is_read, front_is_stripped,
+    leading_numbers_are_spelled, number_is_decimal, parts_are_pieces, piece_is_taken,
+    pieces_are_parts, spelled_address_has_digits, spelled_address_is_read,
+    stripped_front_was_first,
 };
+pub use leading::{leading_address, leading_number};
 pub use line::{next_word, same_text, strip};
 pub use number::{number_before, read_number, read_number_8, read_number_32, write_number};
 pub use parts::{four_parts, is_plain, next_part, split_front, three_parts, two_parts};

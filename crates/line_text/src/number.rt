@@ -71,7 +71,7 @@ fn read_digits(word: &[u8], most: u64) -> Option<u64>
 }
 
 // The number with one more digit, if the byte is a digit and the new number at most `most`.
-fn with_digit(value: u64, byte: u8, most: u64) -> Option<u64>
+pub(crate) fn with_digit(value: u64, byte: u8, most: u64) -> Option<u64>
     ensures exact { result ≡ with_digit_up_to most value byte }
 {
     if !byte.is_ascii_digit() {

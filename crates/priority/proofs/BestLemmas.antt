@@ -26,7 +26,7 @@ sum_less f g cs k d n less within here =
     (arith, here, sum_by-take-drop f cs k, sum_by-take-drop g cs k, sum_by-drop_more f cs k d within, sum_by-drop_more g cs k d within, sum_by-le-sum_by f g (take k cs) less, sum_by-le-sum_by f g (drop (k + 1) cs) less)
 
 -- the passing pages of a candidate and of those before it
-all_before : (cs : List Candidate) (k : ℕ) (d : Candidate) → k < length cs → passing_before cs (slice_index_or cs k d) + (slice_index_or cs k d).passing ≤ sum_by passing_of cs
+pub all_before : (cs : List Candidate) (k : ℕ) (d : Candidate) → k < length cs → passing_before cs (slice_index_or cs k d) + (slice_index_or cs k d).passing ≤ sum_by passing_of cs
 all_before cs k d within =
     let r = slice_index_or cs k d in
     let here : counted r r ≡ 0 = ap (λ v. cond v r.passing 0) (before_itself r) in

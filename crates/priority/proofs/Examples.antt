@@ -1,6 +1,6 @@
 -- Worked examples of scores and choices, computed by hand.
 use Rattle.std.proofs.Common.{◌≡◌, ℕ, true, false, [], ◌∷◌, Some, None, refl, arith}
-use Rattle.std.specs.Prelude.{List}
+use Rattle.std.specs.Prelude.{List, filter, replicate, slice_set}
 use Rattle.damon_types.specs.declared.row.Row.{Row}
 use Rattle.damon_types.specs.declared.scheme.Prefer.{Prefer}
 use Rattle.damon_types.specs.declared.scheme.Prefer.TheVariants.{Hot, Cold}
@@ -10,9 +10,10 @@ use Rattle.damon_types.specs.declared.scheme.Span.{Span}
 use Rattle.priority.specs.declared.candidates.Candidate.{Candidate}
 use Rattle.priority.specs.Score.{score_of}
 use Rattle.priority.specs.Order.{in_order}
-use Rattle.priority.specs.Share.{with_shares}
+use Rattle.priority.specs.Share.{has_share, with_shares}
 use Rattle.priority.specs.Chosen.{exceeds_of, lowest_of, taken_of}
 use Rattle.priority.specs.Best.{IsBest}
+use Rattle.priority.specs.Histogram.{sum_from}
 
 -- a row of 100 pages that was accessed in 5 passes
 abbrev row : Row
@@ -45,6 +46,10 @@ three = two_pages 0 50 7 ∷ two_pages 2 50 7 ∷ two_pages 4 90 7 ∷ []
 -- three pages are left: the two of the highest score, and one of the first of those that score 50
 three_left : in_order (with_shares (Some 3) three) ≡ two_pages 4 90 2 ∷ two_pages 0 50 1 ∷ two_pages 2 50 0 ∷ []
 three_left = refl
+
+-- so the choice leaves two candidates
+three_chosen : filter has_share (in_order (with_shares (Some 3) three)) ≡ two_pages 4 90 2 ∷ two_pages 0 50 1 ∷ []
+three_chosen = refl
 
 three_taken : taken_of (with_shares (Some 3) three) ≡ 3
 three_taken = refl
@@ -79,3 +84,10 @@ by_address : IsBest (Some 3) (two_pages 0 50 2 ∷ two_pages 2 50 1 ∷ two_page
 by_address best =
     let other = best.most (1 ∷ 0 ∷ 2 ∷ []) (record { each = (omega arith, (omega arith, (omega arith, tt))); within = omega arith }) in
     absurd (omega (arith, other))
+
+-- 2 and 2 at 50 and 2 at 90
+abbrev sums : List ℕ
+sums = slice_set (slice_set (replicate 100 0) 50 4) 90 2
+
+sums_from : (sum_from sums 50 ≡ 6) × (sum_from sums 91 ≡ 0) × (sum_from sums 90 ≡ 2)
+sums_from = (refl, refl, refl)

@@ -1,3 +1,5 @@
+pub mod ScaleLemmas
+pub mod HistogramLemmas
 pub mod OrderLemmas
 pub mod ShareLemmas
 pub mod CandidateLemmas
@@ -7,5 +9,9 @@ pub mod SortLemmas
 pub mod RankLemmas
 pub mod TakenLemmas
 pub mod BestLemmas
+pub mod DropLemmas
+pub mod ThresholdLemmas
+pub mod ExceedsLemmas
+pub mod CountLemmas
 pub mod ChoiceLemmas
 mod Examples

@@ -11,7 +11,7 @@ use Rattle.priority.specs.Order.{is_before, InPriority}
 use Rattle.priority.specs.Share.{passing_before, share_after, share_of, with_share, with_shares}
 use Rattle.priority.proofs.OrderLemmas.{before_once, before_itself}
 
-none_pass : {X : Type 0} (p : X → Bool) (xs : List X) → ((k : ℕ) (d : X) → k < length xs → p (slice_index_or xs k d) ≡ false) → filter p xs ≡ []
+pub none_pass : {X : Type 0} (p : X → Bool) (xs : List X) → ((k : ℕ) (d : X) → k < length xs → p (slice_index_or xs k d) ≡ false) → filter p xs ≡ []
 none_pass p [] none = refl
 none_pass p (x ∷ xs) none = rw (none 0 x (omega arith)) (none_pass p xs (λ k d within. none (suc k) d (omega (arith, within))))
 

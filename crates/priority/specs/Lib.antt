@@ -4,3 +4,5 @@ pub mod Order
 pub mod Share
 pub mod Chosen
 pub mod Best
+pub mod Histogram
+pub mod Kept

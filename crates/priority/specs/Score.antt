@@ -22,8 +22,19 @@ weighted_mean w size count age =
     if w.size + w.count + w.age == 0 then 0
     else (w.size * size + w.count * count + w.age * age) / (w.size + w.count + w.age)
 
--- The score of a row, where all ranges have `total` pages and an aggregation has `aggr` passes: the mean of its pages as a part
--- of `total`, its count as a part of `aggr`, and its age, by the weights of the scheme.
+-- What scores are made by: the number of pages of all ranges, the number of passes of an aggregation, and the weights and the
+-- preference of a scheme.
+pub record Scoring : Type 0 where
+  pub total : ℕ
+  pub aggr : ℕ
+  pub weights : Weights
+  pub prefer : Prefer
+
+-- the mean of a row's pages as a part of all pages, its count as a part of the passes, and its age, by the weights
+abbrev pub score_by : Scoring → Row → ℕ
+score_by by row =
+    weighted_mean by.weights (scaled row.pages by.total) (preferred by.prefer (scaled row.count by.aggr)) (min row.age MAX_SCORE)
+
+-- the score of a row for a scheme, where all ranges have `total` pages and an aggregation has `aggr` passes
 abbrev pub score_of : Row → ℕ → ℕ → Scheme → ℕ
-score_of row total aggr scheme =
-    weighted_mean scheme.weights (scaled row.pages total) (preferred scheme.prefer (scaled row.count aggr)) (min row.age MAX_SCORE)
+score_of row total aggr scheme = score_by (record { total = total; aggr = aggr; weights = scheme.weights; prefer = scheme.prefer }) row

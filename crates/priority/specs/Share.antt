@@ -1,5 +1,5 @@
 -- The shares of candidates: how many of their passing pages are taken.
-use Rattle.std.specs.Prelude.{ℕ, ◌-◌, min, List, map, filter, sum_by, Option, Some, None}
+use Rattle.std.specs.Prelude.{ℕ, Bool, ◌-◌, min, nat_lt, List, map, filter, sum_by, Option, Some, None}
 use Rattle.priority.specs.declared.candidates.Candidate.{Candidate}
 use Rattle.priority.specs.Order.{is_before}
 
@@ -24,3 +24,7 @@ with_share left cs r = record r { share = share_of left cs r }
 -- the candidates, each with its share
 abbrev pub with_shares : Option ℕ → List Candidate → List Candidate
 with_shares left cs = map (with_share left cs) cs
+
+-- whether a page of a candidate is taken
+abbrev pub has_share : Candidate → Bool
+has_share c = nat_lt 0 c.share

@@ -1,8 +1,8 @@
-ghost use Rattle.std.specs.Prelude.{◌≡◌, ◌≢◌, ◌≤◌, ◌<◌, [], ◌∷◌, ◌++◌, length, slice_get, All, IsPermutation, IfOk, IfSome};
+ghost use Rattle.std.specs.Prelude.{◌≡◌, ◌≢◌, ◌≤◌, ◌<◌, [], ◌∷◌, ◌++◌, length, filter, slice_get, All, IfOk, IfSome};
 ghost use Rattle.priority.specs.declared.scoring.TheConstants.{MAX_SCORE};
 ghost use Rattle.priority.specs.Candidates.{IsCandidate, DistinctStarts};
-ghost use Rattle.priority.specs.Order.{InPriority, in_order};
-ghost use Rattle.priority.specs.Share.{with_shares};
+ghost use Rattle.priority.specs.Order.{InPriority, in_order, is_before};
+ghost use Rattle.priority.specs.Share.{has_share, with_shares};
 ghost use Rattle.priority.specs.Chosen.{exceeds_of, lowest_of, taken_of};
 ghost use Rattle.priority.specs.Best.{IsBest, IsCertified};
 
@@ -23,6 +23,19 @@ pub struct Candidate {
     pub passing: u32,
     /// How many of these pages are taken.
     pub share: u32,
+}
+
+impl Candidate {
+    // Whether it comes before the other one in priority order. All tests are made, since a branch on each
+    // would often be predicted wrongly.
+    pub(crate) fn is_before(&self, other: &Candidate) -> bool
+        ensures { result ≡ is_before self.now other.now }
+    {
+        (self.score > other.score)
+            | ((self.score == other.score)
+                & ((self.target < other.target)
+                    | ((self.target == other.target) & (self.start < other.start))))
+    }
 }
 
 /// The candidates of a scheme: a list with a fixed capacity. No two start at the same page.
@@ -120,25 +133,24 @@ impl Candidates {
     }
 
     /// Chooses which passing pages are taken: at most `left` of them, which is what is left of the
-    /// quota, or all if there is no quota (`None`). Puts the candidates into priority order: the
-    /// greater score first, then the smaller target, then the smaller start. The share of each is
-    /// as many of its passing pages as those before it leave; shares of an earlier choice do not
-    /// count. No other choice has a greater sum of the scores of its pages. Takes no memory. The
-    /// order is this project's own rule.
+    /// quota, or all if there is no quota (`None`). In priority order, which is the greater score
+    /// first, then the smaller target, then the smaller start, the share of each candidate is as many
+    /// of its passing pages as those before it leave; shares of an earlier choice do not count. The
+    /// list then has the candidates of which a page is taken, in priority order. No other choice has a
+    /// greater sum of the scores of its pages. Takes no memory. The order is this project's own rule.
     pub fn choose(&mut self, left: Option<u64>) -> Chosen
-        ensures list { self.new.list ≡ in_order (with_shares left self.old.list) }
-        ensures shares { IsPermutation (with_shares left self.old.list) self.new.list }
+        ensures list { self.new.list ≡ filter has_share (in_order (with_shares left self.old.list)) }
         ensures order { InPriority self.new.list }
-        ensures best { IsBest left self.new.list }
-        ensures certificate { IsCertified left self.new.list }
+        ensures best { IsBest left (with_shares left self.old.list) }
+        ensures certificate { IsCertified left (with_shares left self.old.list) }
         ensures distinct { DistinctStarts self.new.list }
-        ensures len { length self.new.list ≡ length self.old.list }
+        ensures len { length self.new.list ≤ length self.old.list }
         ensures cap { self.new.cap ≡ self.old.cap }
-        ensures each { All (λ c. c.share ≤ c.passing) self.new.list }
+        ensures each { All (λ c. (1 ≤ c.share) × (c.share ≤ c.passing)) self.new.list }
         ensures within { IfSome left (λ most. taken_of self.new.list ≤ most) }
-        ensures taken { result.taken ≡ taken_of self.new.list }
-        ensures lowest { result.lowest ≡ lowest_of self.new.list }
-        ensures exceeds { result.exceeds ≡ exceeds_of self.new.list }
+        ensures taken { result.taken ≡ taken_of (with_shares left self.old.list) }
+        ensures lowest { result.lowest ≡ lowest_of (with_shares left self.old.list) }
+        ensures exceeds { result.exceeds ≡ exceeds_of (with_shares left self.old.list) }
     {
         choose_among(&mut self.items, left)
     }

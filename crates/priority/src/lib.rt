@@ -6,12 +6,20 @@
 mod candidates;
 /// The order of candidates, and their shares.
 mod choice;
+/// Sums by an index.
+mod histogram;
 /// Laws of the choice.
 mod laws;
 /// Scores.
 mod scoring;
+/// Which candidates get no share.
+mod threshold;
 
 pub use candidates::{Candidate, Candidates};
 pub use choice::Chosen;
-pub use laws::{lowest_is_least, order_is_one, shares_are_best, shares_are_within};
-pub use scoring::{MAX_SCORE, score};
+pub use histogram::Histogram;
+pub use laws::{
+    counts_keep_in_any_order, counts_keep_without_shareless, lowest_is_least, order_is_one,
+    shares_are_best, shares_are_within,
+};
+pub use scoring::{MAX_SCORE, Scorer, score};

@@ -1,37 +1,140 @@
-ghost use Rattle.std.specs.Prelude.{◌≡◌, ◌≤◌};
-ghost use Rattle.priority.specs.Score.{preferred, scaled, score_of, weighted_mean};
+ghost use Rattle.std.specs.Prelude.{◌≡◌, ◌+◌, ◌≤◌, ◌<◌, ◌^◌, max};
+ghost use Rattle.priority.specs.Score.{preferred, scaled, score_by, score_of, weighted_mean};
 
 use damon_types::{Prefer, Row, Scheme, Weights};
+use reciprocal::Reciprocal;
+use std::marker::Model;
 
 /// The greatest score.
 pub const MAX_SCORE: u32 = 99;
 
-/// The score of a row for a scheme, at most [`MAX_SCORE`]: the mean, by the weights of the scheme,
-/// of three numbers. They are 99 × pages / `total`, where `total` is the number of pages of all
-/// ranges (at least 1); 99 × count / `aggr`, where `aggr` is the number of passes of an aggregation
-/// (at least 1), or 99 minus that number if the scheme prefers cold rows; and the age. Each of them
-/// stops at 99. All quotients are rounded down. With all weights 0 the score is 0. The rule is this
-/// project's own.
+/// Scores rows for one scheme. It holds the reciprocals of all divisors, so it is made once for many
+/// rows.
+#[derive(Debug, Drop)]
+pub struct Scorer {
+    pages: Scale,
+    counts: Scale,
+    weights: Weights,
+    prefer: Prefer,
+    // Of the sum of the weights, or of 1 where that is 0.
+    by_sum: Reciprocal,
+}
+
+impl Model for Scorer {
+    ghost use Rattle.std.specs.Prelude.{◌≡◌, ◌+◌, max};
+    ghost use Rattle.priority.specs.Score.{Scoring};
+
+    ghost Value = { Scoring };
+
+    ghost view = { λ s. record {
+      total = s.pages;
+      aggr = s.counts;
+      weights = s.weights;
+      prefer = s.prefer;
+    } };
+
+    ghost invariant = { λ s. s.by_sum
+        ≡ max (s.weights.size + s.weights.count + s.weights.age) 1 };
+}
+
+impl Scorer {
+    /// What scores rows for a scheme, where `total` is the number of pages of all ranges (at least 1)
+    /// and `aggr` the number of passes of an aggregation (at least 1).
+    pub fn new(total: u32, aggr: u32, scheme: &Scheme) -> Scorer
+        requires total { 1 ≤ total }
+        requires aggr { 1 ≤ aggr }
+        ensures { result ≡ record {
+          total = total;
+          aggr = aggr;
+          weights = scheme.now.weights;
+          prefer = scheme.now.prefer;
+        } }
+    {
+        let weights = scheme.weights;
+        Scorer {
+            pages: Scale::of(total),
+            counts: Scale::of(aggr),
+            weights,
+            prefer: scheme.prefer,
+            by_sum: Reciprocal::of(sum_of(weights).max(1)),
+        }
+    }
+
+    /// The score of a row, at most [`MAX_SCORE`]: the mean, by the weights of the scheme, of three
+    /// numbers. They are 99 × pages / total; 99 × count / aggr, or 99 minus that number if the scheme
+    /// prefers cold rows; and the age. Each of them stops at 99. All quotients are rounded down. With
+    /// all weights 0 the score is 0. The rule is this project's own.
+    #[inline]
+    pub fn score(&self, row: &Row) -> u32
+        ensures exact { result ≡ score_by self.now row.now }
+        ensures most { result ≤ MAX_SCORE }
+    {
+        let size = self.pages.scaled(row.pages);
+        let count = preferred(self.prefer, self.counts.scaled(row.count));
+        let age = row.age.min(MAX_SCORE);
+        weighted_mean(self.weights, &self.by_sum, size, count, age)
+    }
+}
+
+/// The score of a row for a scheme, as [`Scorer::score`] gives it. For many rows make a [`Scorer`].
 pub fn score(row: &Row, total: u32, aggr: u32, scheme: &Scheme) -> u32
     requires total { 1 ≤ total }
     requires aggr { 1 ≤ aggr }
     ensures exact { result ≡ score_of row.now total aggr scheme.now }
     ensures most { result ≤ MAX_SCORE }
 {
-    let size = scaled(row.pages, total);
-    let count = preferred(scheme.prefer, scaled(row.count, aggr));
-    let age = row.age.min(MAX_SCORE);
-    weighted_mean(scheme.weights, size, count, age)
+    Scorer::new(total, aggr, scheme).score(row)
 }
 
-// A number as a part of a whole, on a scale from 0 to the greatest score, rounded down.
-fn scaled(number: u32, whole: u32) -> u32
-    requires { 1 ≤ whole }
-    ensures exact { result ≡ scaled number whole }
-    ensures most { result ≤ MAX_SCORE }
+// Numbers as parts of a whole.
+#[derive(Debug, Drop)]
+struct Scale {
+    whole: u32,
+    by_whole: Reciprocal,
+}
+
+impl Model for Scale {
+    ghost use Rattle.std.specs.Prelude.{◌≡◌, ◌≤◌, ℕ};
+
+    ghost Value = { ℕ };
+
+    ghost view = { λ s. s.whole };
+
+    ghost invariant = { λ s. (1 ≤ s.whole) × (s.by_whole ≡ s.whole) };
+}
+
+impl Scale {
+    fn of(whole: u32) -> Scale
+        requires { 1 ≤ whole }
+        ensures { result ≡ whole }
+    {
+        Scale {
+            whole,
+            by_whole: Reciprocal::of(whole),
+        }
+    }
+
+    // A number as a part of the whole, on a scale from 0 to the greatest score, rounded down.
+    fn scaled(&self, number: u32) -> u32
+        ensures exact { result ≡ scaled number self.now }
+        ensures most { result ≤ MAX_SCORE }
+    {
+        let part = number.min(self.whole);
+        if self.whole <= u32::MAX / MAX_SCORE {
+            self.by_whole.quotient(MAX_SCORE * part)
+        } else {
+            // The product takes more than 32 bits.
+            (u64::from(MAX_SCORE) * u64::from(part) / u64::from(self.whole)) as u32
+        }
+    }
+}
+
+// The sum of weights.
+fn sum_of(weights: Weights) -> u32
+    ensures exact { result ≡ weights.size + weights.count + weights.age }
+    ensures few { result < 2 ^ 18 }
 {
-    let most = u64::from(MAX_SCORE);
-    (most * u64::from(number) / u64::from(whole)).min(most) as u32
+    u32::from(weights.size) + u32::from(weights.count) + u32::from(weights.age)
 }
 
 // An access count on that scale, or its distance from the greatest score if cold rows are
@@ -47,8 +150,9 @@ fn preferred(prefer: Prefer, count: u32) -> u32
     }
 }
 
-// The mean of three numbers by their weights, rounded down, and 0 where all weights are 0.
-fn weighted_mean(weights: Weights, size: u32, count: u32, age: u32) -> u32
+// The mean of three numbers by their weights, rounded down, and 0 where all weights are 0: 0 divided by 1.
+fn weighted_mean(weights: Weights, by_sum: &Reciprocal, size: u32, count: u32, age: u32) -> u32
+    requires sum { by_sum.now ≡ max (weights.size + weights.count + weights.age) 1 }
     requires size { size ≤ MAX_SCORE }
     requires count { count ≤ MAX_SCORE }
     requires age { age ≤ MAX_SCORE }
@@ -56,11 +160,7 @@ fn weighted_mean(weights: Weights, size: u32, count: u32, age: u32) -> u32
     ensures most { result ≤ MAX_SCORE }
 {
     let [by_size, by_count, by_age] = [weights.size, weights.count, weights.age].map(u32::from);
-    let sum = by_size + by_count + by_age;
-    if sum == 0 {
-        return 0;
-    }
-    (by_size * size + by_count * count + by_age * age) / sum
+    by_sum.quotient(by_size * size + by_count * count + by_age * age)
 }
 
 #[cfg(test)]

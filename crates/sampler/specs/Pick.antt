@@ -18,10 +18,12 @@ pub record PickList : Type 0 where
   pub bits : List Bool
   pub cap : ℕ
 
--- each page has a bit, and there is room for both
-pub record IsPickList (pages : List ℕ) (bits : List Bool) (cap page_room bit_room : ℕ) : Type 0 where
+-- each page has a bit, and there is room for both, and for reciprocals; passes since a renewal are few
+pub record IsPickList (pages : List ℕ) (bits : List Bool) (cap page_room bit_room reciprocals passes : ℕ) : Type 0 where
   pub same : length bits ≡ length pages
   pub room : length pages ≤ cap
   pub small : cap < 2 ^ 32
   pub pages_reserved : cap ≤ page_room
   pub bits_reserved : cap ≤ bit_room
+  pub reciprocals_kept : cap ≤ reciprocals
+  pub few_passes : passes < 2 ^ 16

@@ -13,6 +13,18 @@ pub fn observe(regions: &mut Regions, picks: &Picks)
     requires small { AllByRecursion (λ r. r.count + 1 < 2 ^ 32) regions.old.rows }
     ensures { regions.new ≡ record regions.old { rows = raised picks.now.bits regions.old.rows } }
 {
+    // A pass without a hit changes no row, and to see that takes one look at the bits.
+    if picks.hits() > 0 {
+        raise_rows(regions, picks);
+    }
+}
+
+// Raises the count of each row whose check was a hit.
+fn raise_rows(regions: &mut Regions, picks: &Picks)
+    requires picks { length picks.now.pages ≡ length regions.old.rows }
+    requires small { AllByRecursion (λ r. r.count + 1 < 2 ^ 32) regions.old.rows }
+    ensures { regions.new ≡ record regions.old { rows = raised picks.now.bits regions.old.rows } }
+{
     // For its clauses alone: there is a bit for each pick.
     let _checks = picks.len();
     for index in 0..regions.len() {

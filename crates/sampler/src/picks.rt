@@ -1,12 +1,17 @@
-ghost use Rattle.std.specs.Prelude.{◌≡◌, ◌+◌, ◌^◌, ◌≤◌, ◌<◌, [], false, length, slice_get, slice_set, replicate, IfOk, vec_len, vec_capacity};
+ghost use Rattle.std.specs.Prelude.{◌≡◌, ◌+◌, ◌%◌, ◌^◌, ◌≤◌, ◌<◌, [], false, count_by, length, slice_get, slice_set, replicate, IfOk, vec_len, vec_capacity};
 ghost use Rattle.std.specs.List.{AllByRecursion};
 ghost use Rattle.sampler.specs.Pick.{PickList, picks_of};
 ghost use Rattle.sampler.specs.Loaded.{loaded_bits, loaded_hits};
 
 use crate::Marks;
+use reciprocal::Reciprocal;
 use region_list::Regions;
 use std::alloc::{AllocError, Global};
 use std::marker::Model;
+
+// In how many passes the reciprocals of the rows' sizes are renewed once. A reciprocal takes as long as some
+// ten remainders, so it pays only where a row lives longer than that.
+const RENEWAL: u32 = 16;
 
 /// The pages that a pass checks, one for each row, each with a bit that says whether its check was
 /// a hit. There is room for a fixed number of them.
@@ -15,10 +20,14 @@ pub struct Picks {
     pages: Vec<u32>,
     bits: Vec<bool>,
     cap: u32,
+    // Reciprocals of the rows' sizes, as they were at the last renewal.
+    reciprocals: Vec<Reciprocal>,
+    // The passes that were prepared since then. It is less than that number of passes.
+    passes: u32,
 }
 
 impl Model for Picks {
-    ghost use Rattle.std.specs.Prelude.{vec_capacity};
+    ghost use Rattle.std.specs.Prelude.{vec_capacity, vec_len};
     ghost use Rattle.sampler.specs.Pick.{PickList, IsPickList};
 
     ghost Value = { PickList };
@@ -26,7 +35,7 @@ impl Model for Picks {
     ghost view = { λ p. record { pages = p.pages.items; bits = p.bits.items; cap = p.cap } };
 
     ghost invariant = { λ p. IsPickList p.pages.items p.bits.items p.cap
-        (vec_capacity p.pages) (vec_capacity p.bits) };
+        (vec_capacity p.pages) (vec_capacity p.bits) (vec_len p.reciprocals) p.passes };
 }
 
 impl Picks {
@@ -37,7 +46,14 @@ impl Picks {
     {
         let pages = Vec::with_capacity(alloc, cap as usize)?;
         let bits = Vec::with_capacity(alloc, cap as usize)?;
-        Ok(Picks { pages, bits, cap })
+        let reciprocals = vec![in alloc; Reciprocal::of(1); cap as usize]?;
+        Ok(Picks {
+            pages,
+            bits,
+            cap,
+            reciprocals,
+            passes: 0,
+        })
     }
 
     /// For how many picks there is room.
@@ -72,6 +88,13 @@ impl Picks {
         self.bits[k as usize]
     }
 
+    /// How many checks were hits.
+    pub fn hits(&self) -> usize
+        ensures { result ≡ count_by (λ hit. hit) self.now.bits }
+    {
+        self.bits.iter().filter(|hit| **hit).count()
+    }
+
     /// Records whether the check of pick `k`, which is below the number of picks, was a hit.
     pub fn set(&mut self, k: u32, hit: bool)
         requires { k < length self.old.pages }
@@ -98,7 +121,8 @@ impl Picks {
 }
 
 // Sets the bits of the `count` picks that begin with pick `from` to the marks of their pages, and returns
-// how many are true.
+// how many are true. It is kept apart, so that its loop has the registers.
+#[inline(never)]
 fn load_bits<M: Marks>(pages: &[u32], bits: &mut [bool], from: u32, count: u32, marks: &M) -> u32
     requires within { from + count ≤ length pages.now }
     requires small { length pages.now < 2 ^ 32 }
@@ -129,12 +153,51 @@ pub fn set_picks(regions: &Regions, words: &[u32], picks: &mut Picks)
           bits = replicate (length regions.now.rows) false;
         } }
 {
-    pick_pages(regions, words, &mut picks.pages);
+    picks.passes = (picks.passes + 1) % RENEWAL;
+    renew_at(picks.passes, regions, &mut picks.reciprocals);
+    pick_pages(regions, words, &picks.reciprocals, &mut picks.pages);
     clear_bits(&mut picks.bits, regions.len());
 }
 
-// Picks a page of each row by its word.
-fn pick_pages(regions: &Regions, words: &[u32], pages: &mut Vec<u32>)
+// Makes the reciprocals those of the rows' sizes, if this is the pass of a renewal.
+fn renew_at(pass: u32, regions: &Regions, reciprocals: &mut [Reciprocal])
+    requires { length regions.now.rows ≤ length reciprocals.old }
+    ensures { length reciprocals.new ≡ length reciprocals.old }
+{
+    if pass == 0 {
+        renew(regions, reciprocals);
+    }
+}
+
+// Makes the reciprocals those of the rows' sizes.
+fn renew(regions: &Regions, reciprocals: &mut [Reciprocal])
+    requires { length regions.now.rows ≤ length reciprocals.old }
+    ensures { length reciprocals.new ≡ length reciprocals.old }
+{
+    for index in 0..regions.len() {
+        let pages = regions.row(index).pages;
+        if reciprocals[index as usize].divisor() != pages {
+            reciprocals[index as usize] = Reciprocal::of(pages);
+        }
+    }
+}
+
+// What is left of a word after a division by this many pages; by the reciprocal, if it is theirs.
+fn remainder(word: u32, pages: u32, reciprocal: &Reciprocal) -> u32
+    requires { 1 ≤ pages }
+    ensures { result ≡ word % pages }
+{
+    if reciprocal.divisor() == pages {
+        reciprocal.remainder(word)
+    } else {
+        word % pages
+    }
+}
+
+// Picks a page of each row by its word. It is kept apart, so that its loop has the registers.
+#[inline(never)]
+fn pick_pages(regions: &Regions, words: &[u32], reciprocals: &[Reciprocal], pages: &mut Vec<u32>)
+    requires reciprocals { length regions.now.rows ≤ length reciprocals.now }
     requires words { length words.now ≡ length regions.now.rows }
     requires room { length regions.now.rows ≤ vec_capacity pages.old }
     ensures pages { pages.new.items ≡ picks_of regions.now.rows words.now }
@@ -143,7 +206,9 @@ fn pick_pages(regions: &Regions, words: &[u32], pages: &mut Vec<u32>)
     pages.clear();
     for index in 0..regions.len() {
         let row = regions.row(index);
-        pages.push_reserved(row.start + words[index as usize] % row.pages);
+        let reciprocal = &reciprocals[index as usize];
+        let offset = remainder(words[index as usize], row.pages, reciprocal);
+        pages.push_reserved(row.start + offset);
     }
 }
 

@@ -1,6 +1,6 @@
 -- How many rows and pages there are.
-use Rattle.std.proofs.Common.{◌≡◌, ℕ, zero, suc, ◌+◌, ◌≤◌, ◌<◌, Bool, List, [], ◌∷◌, ◌++◌, Option, Some, None, length, length-append, get_or, refl, sym, ap, ◌∙◌, subst, arith}
-use Rattle.std.specs.Prelude.{All, Any, IfSome, filter, sum_by}
+use Rattle.std.proofs.Common.{◌≡◌, ℕ, zero, suc, ◌+◌, ◌≤◌, Bool, List, [], ◌∷◌, Option, Some, None, length, length-append, get_or, refl, ap, arith}
+use Rattle.std.specs.Prelude.{All, Any, IfSome, sum_by}
 use Rattle.std.specs.List.{AllByRecursion, cons_option, range_with_len}
 use Rattle.std.proofs.lemmas.List.{length-map}
 use Rattle.std.proofs.lemmas.List.Elements.{All-from_recursion, All-head, All-tail, All-weaker}
@@ -10,7 +10,7 @@ use Rattle.damon_types.specs.declared.row.Row.{Row}
 use Rattle.damon_types.specs.declared.scheme.Scheme.{Scheme}
 use Rattle.damon_types.specs.declared.space.Target.{Target}
 use Rattle.damon_types.specs.Ranges.{InOrder, OrderedFrom, end_of, page_total}
-use Rattle.damon_types.specs.Space.{offset, pages_of}
+use Rattle.damon_types.specs.Space.{pages_of}
 use Rattle.damon_types.specs.Span.{Span, span_of, spans}
 use Rattle.damon_types.specs.Within.{AreWithin, LiesInTarget}
 use Rattle.region_list.specs.Tiles.{LiesIn}

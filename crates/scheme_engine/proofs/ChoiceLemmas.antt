@@ -1,7 +1,6 @@
 -- Of the candidates that are chosen, at most one is taken in part.
-use Rattle.std.proofs.Common.{◌≡◌, ℕ, zero, suc, ◌+◌, ◌-◌, ◌≤◌, ◌<◌, min, Bool, true, false, List, [], ◌∷◌, Option, Some, None, length, map, get_or, refl, sym, ap, ◌∙◌, subst, arith}
-use Rattle.std.specs.Prelude.{All, AllPairs, Contains, IsPermutation, filter, slice_get, sum_by}
-use Rattle.std.specs.Bool.{IsTrue}
+use Rattle.std.proofs.Common.{◌≡◌, ℕ, zero, suc, ◌+◌, ◌≤◌, ◌<◌, Bool, true, false, List, [], ◌∷◌, Option, Some, None, get_or, refl, sym, ap, ◌∙◌, subst, arith}
+use Rattle.std.specs.Prelude.{All, Contains, IsPermutation, filter, sum_by}
 use Rattle.std.specs.Option.{option_map}
 use Rattle.std.proofs.lemmas.Bool.{false≢true}
 use Rattle.std.proofs.lemmas.Bool.Decides.{nat_tests}
@@ -10,13 +9,13 @@ use Rattle.std.proofs.lemmas.List.Sorted.{All-permutation}
 use Rattle.std.proofs.lemmas.List.Sums.{sum_by-cons}
 use Rattle.std.proofs.lemmas.Option.{slice_get-map}
 use Rattle.damon_types.specs.declared.row.Row.{Row}
-use Rattle.damon_types.specs.Span.{Span, span_of, spans}
+use Rattle.damon_types.specs.Span.{span_of, spans}
 use Rattle.priority.specs.declared.candidates.Candidate.{Candidate}
 use Rattle.priority.specs.Order.{is_before, InPriority}
 use Rattle.priority.specs.Share.{passing_before, share_after, with_share, with_shares}
 use Rattle.scheme_engine.specs.Applying.{IsCandidateOf}
 use Rattle.scheme_engine.specs.Kept.{IsInPart, OneInPart}
-use Rattle.scheme_engine.proofs.GatherLemmas.{HasRow, IsOfRow}
+use Rattle.scheme_engine.proofs.GatherLemmas.{HasRow}
 
 -- a candidate with its share of what is left
 pub record IsShared (left : Option ℕ) (cs : List Candidate) (d : Candidate) : Type 0 where

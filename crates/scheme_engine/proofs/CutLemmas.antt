@@ -1,12 +1,11 @@
 -- Rows of which one is cut in two.
-use Rattle.std.proofs.Common.{◌≡◌, ℕ, zero, suc, ◌+◌, ◌-◌, ◌≤◌, ◌<◌, List, [], ◌∷◌, ◌++◌, length, take, drop, length-append, refl, ap, ◌∙◌, subst, arith}
+use Rattle.std.proofs.Common.{◌≡◌, ℕ, zero, suc, ◌+◌, ◌-◌, ◌≤◌, ◌<◌, List, [], ◌∷◌, length, length-append, refl, arith}
 use Rattle.std.proofs.lemmas.List.{length-take, length-drop}
 use Rattle.damon_types.specs.declared.row.Row.{Row}
-use Rattle.damon_types.specs.Span.{Span, span_of, spans}
+use Rattle.damon_types.specs.Span.{span_of, spans}
 use Rattle.region_list.specs.Refined.{IsRefined}
 use Rattle.region_list.specs.Rows.{row_at}
-use Rattle.region_list.specs.Tiling.{Chain}
-use Rattle.scheme_engine.specs.Applying.{IsPartOf, cut_rows}
+use Rattle.scheme_engine.specs.Applying.{cut_rows}
 
 -- the parts of rows cover them
 pub cut_refined : (unit i at : ℕ) (rows : List Row) → i < length rows → unit ≤ at → unit ≤ (row_at rows i).pages - at → at ≤ (row_at rows i).pages → IsRefined unit (spans rows) (spans (cut_rows i at rows))

@@ -1,8 +1,7 @@
 -- Worked examples of runs of schemes, computed by hand.
-use Rattle.std.proofs.Common.{◌≡◌, ℕ, Bool, true, false, List, [], ◌∷◌, Option, Some, None, refl}
+use Rattle.std.proofs.Common.{◌≡◌, ℕ, true, false, List, [], ◌∷◌, Option, Some, None, refl}
 use Rattle.damon_types.specs.declared.filter.Filter.{Filter}
 use Rattle.damon_types.specs.declared.filter.FilterKind.TheVariants.{Addr}
-use Rattle.damon_types.specs.declared.range.Range.{Range}
 use Rattle.damon_types.specs.declared.row.Row.{Row}
 use Rattle.damon_types.specs.declared.scheme.Action.{Action}
 use Rattle.damon_types.specs.declared.scheme.Action.TheVariants.{Pageout, Stat}
@@ -15,7 +14,7 @@ use Rattle.region_list.specs.Regions.{RegionList}
 use Rattle.scheme_engine.specs.declared.applied.AppliedRun.{AppliedRun}
 use Rattle.scheme_engine.specs.Outcome.{Outcome, outcome_of}
 use Rattle.scheme_engine.specs.Served.{slot_served, slots_served}
-use Rattle.scheme_engine.specs.Slots.{SetScheme, SlotValue, changed, set_scheme, empty_slot}
+use Rattle.scheme_engine.specs.Slots.{SlotValue, changed, set_scheme, empty_slot}
 
 -- a row that nothing has touched
 abbrev row : ℕ → ℕ → ℕ → Row

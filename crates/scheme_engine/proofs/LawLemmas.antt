@@ -1,6 +1,6 @@
 -- What runs of schemes keep.
-use Rattle.std.proofs.Common.{◌≡◌, ℕ, zero, suc, ◌+◌, ◌-◌, ◌*◌, ◌≤◌, ◌<◌, Bool, true, false, cond, List, [], ◌∷◌, ◌++◌, Option, Some, None, length, map, length-append, refl, sym, ap, ◌∙◌, subst, arith}
-use Rattle.std.specs.Prelude.{◌&&◌, ◌==◌, All, IfSome, IsPermutation, fold, nat_lt, nat_le, nat_eq, sum_by}
+use Rattle.std.proofs.Common.{◌≡◌, ℕ, ◌+◌, ◌-◌, ◌≤◌, ◌<◌, Bool, true, false, List, [], ◌∷◌, ◌++◌, Option, Some, None, length, length-append, refl, sym, ap, ◌∙◌, subst, arith}
+use Rattle.std.specs.Prelude.{◌==◌, All, IfSome, IsPermutation, fold, nat_lt, nat_eq}
 use Rattle.std.specs.List.{AllByRecursion, IsDistinct, cons_option, flat_map}
 use Rattle.std.specs.Option.{option_map_or}
 use Rattle.std.proofs.lemmas.Bool.Decides.{nat_tests}
@@ -12,11 +12,11 @@ use Rattle.damon_types.specs.declared.row.Row.{Row}
 use Rattle.damon_types.specs.declared.scheme.Action.{Action}
 use Rattle.damon_types.specs.declared.scheme.Scheme.{Scheme}
 use Rattle.damon_types.specs.declared.space.Target.{Target}
-use Rattle.damon_types.specs.Span.{Span, span_of, spans}
+use Rattle.damon_types.specs.Span.{span_of, spans}
 use Rattle.region_list.specs.Refined.{IsRefined}
 use Rattle.region_list.specs.Regions.{RegionList}
 use Rattle.region_list.specs.Rows.{row_at}
-use Rattle.region_list.specs.Tiling.{Chain, Tiling}
+use Rattle.region_list.specs.Tiling.{Chain}
 use Rattle.scheme_filter.specs.Passes.{passes}
 use Rattle.priority.specs.declared.candidates.Candidate.{Candidate}
 use Rattle.priority.specs.Candidates.{DistinctStarts, starts}
@@ -27,11 +27,11 @@ use Rattle.scheme_engine.specs.declared.cut.Part.{Part}
 use Rattle.scheme_engine.specs.Applying.{cut_rows, next_part, row_renewed, rows_cut, rows_renewed}
 use Rattle.scheme_engine.specs.Candidates.{candidate_of, candidates_of}
 use Rattle.scheme_engine.specs.Kept.{AreTiled}
-use Rattle.scheme_engine.specs.Outcome.{candidate_at, changed_rows, changes_rows, chosen_of, cut_in_two, cut_place, may_cut, outcome_of, renewed, row_after, rows_after}
+use Rattle.scheme_engine.specs.Outcome.{candidate_at, changes_rows, chosen_of, cut_in_two, cut_place, may_cut, renewed, row_after, rows_after}
 use Rattle.scheme_engine.proofs.CutLemmas.{length-cut_rows}
 use Rattle.scheme_engine.proofs.GatherLemmas.{IsOfRow, candidate_is}
 use Rattle.scheme_engine.proofs.PlaceLemmas.{Ascend, rows_ascend}
-use Rattle.scheme_engine.proofs.RowsLemmas.{AreChosen, are_chosen, part_facts, part_fits, rows_none, rows_some}
+use Rattle.scheme_engine.proofs.RowsLemmas.{AreChosen, are_chosen, part_fits, rows_none, rows_some}
 
 -- what the laws of choices say
 pub record ChoiceLaws : Type 0 where

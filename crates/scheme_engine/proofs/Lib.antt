@@ -1,4 +1,6 @@
 pub mod TakenLemmas
+pub mod SharedLemmas
+pub mod ChosenLemmas
 pub mod PlaceLemmas
 pub mod GatherLemmas
 pub mod CutLemmas

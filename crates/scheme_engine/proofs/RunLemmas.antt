@@ -1,20 +1,19 @@
 -- The runs of candidates: how many pages they have, and where they lie.
-use Rattle.std.proofs.Common.{◌≡◌, ℕ, ◌+◌, ◌≤◌, ◌<◌, min, Bool, List, [], ◌∷◌, ◌++◌, Some, length, map, get_or, refl, sym, ap, ◌∙◌, subst, arith}
+use Rattle.std.proofs.Common.{◌≡◌, ℕ, ◌+◌, Bool, List, [], ◌∷◌, refl, sym, ap, ◌∙◌, subst, arith}
 use Rattle.std.specs.Prelude.{All, Any, count_by, sum_by}
-use Rattle.std.specs.List.{flat_map, range_with_len}
+use Rattle.std.specs.List.{range_with_len}
 use Rattle.std.specs.Option.{unwrap_or}
-use Rattle.std.proofs.lemmas.List.Elements.{All-append, All-from_get_or, All-head, All-map, All-nil, All-tail}
+use Rattle.std.proofs.lemmas.List.Elements.{All-append, All-head, All-map, All-nil, All-tail}
 use Rattle.std.proofs.lemmas.List.Folds.{fold-map}
 use Rattle.std.proofs.lemmas.List.Sums.{length-filter, sum_by-append, sum_by-cons}
 use Rattle.std.proofs.lemmas.Option.{get_or_from_slice_get, slice_get_within}
 use Rattle.damon_types.specs.Span.{Span}
 use Rattle.scheme_filter.specs.declared.runs.Run.{Run}
-use Rattle.scheme_filter.specs.Runs.{AreLongest, run_end, runs_of}
+use Rattle.scheme_filter.specs.Runs.{AreLongest, runs_of}
 use Rattle.priority.specs.declared.candidates.Candidate.{Candidate}
 use Rattle.priority.specs.Chosen.{taken_of}
 use Rattle.scheme_engine.specs.declared.applied.AppliedRun.{AppliedRun}
-use Rattle.scheme_engine.specs.Applying.{IsCandidateOf, first_pages}
-use Rattle.scheme_engine.specs.Candidates.{passing_pages}
+use Rattle.scheme_engine.specs.Applying.{IsCandidateOf}
 use Rattle.scheme_engine.specs.Kept.{LiesInRow}
 use Rattle.scheme_engine.specs.Taken.{applied_run, applied_runs, candidate_runs, is_among, no_span, span_at, taken_pages, taken_runs}
 use Rattle.scheme_engine.proofs.PlaceLemmas.{Ascend, found_by_start}

@@ -1,6 +1,6 @@
 -- What serving slots keeps.
-use Rattle.std.proofs.Common.{◌≡◌, ℕ, zero, suc, ◌+◌, ◌*◌, ◌^◌, ◌≤◌, ◌<◌, Bool, true, false, cond, List, [], ◌∷◌, ◌++◌, Option, Some, None, length, get_or, set, replicate, refl, ap, ◌∙◌, arith}
-use Rattle.std.specs.Prelude.{All, IfSome, IsSome, sum_by, nat_le}
+use Rattle.std.proofs.Common.{◌≡◌, ℕ, zero, suc, ◌+◌, ◌*◌, ◌^◌, ◌≤◌, ◌<◌, Bool, true, false, cond, List, [], ◌∷◌, Option, Some, None, length, get_or, set, replicate, refl, arith}
+use Rattle.std.specs.Prelude.{All, IfSome, sum_by}
 use Rattle.std.specs.List.{AllByRecursion}
 use Rattle.std.specs.Option.{option_map}
 use Rattle.std.proofs.lemmas.List.Elements.{All-append, All-cons, All-nil}
@@ -9,7 +9,7 @@ use Rattle.damon_types.specs.declared.scheme.Quota.{Quota}
 use Rattle.damon_types.specs.declared.scheme.Scheme.{Scheme}
 use Rattle.damon_types.specs.declared.space.Target.{Target}
 use Rattle.damon_types.specs.declared.space.TheConstants.{MAX_PAGES}
-use Rattle.damon_types.specs.Space.{IsSpace, pages_of}
+use Rattle.damon_types.specs.Space.{IsSpace}
 use Rattle.damon_types.specs.Within.{AreWithin}
 use Rattle.region_list.specs.Regions.{RegionList}
 use Rattle.quota_charge.specs.declared.window.Window.{Window}
@@ -18,8 +18,8 @@ use Rattle.scheme_engine.specs.declared.applied.AppliedRun.{AppliedRun}
 use Rattle.scheme_engine.specs.declared.applied.SlotChoice.{SlotChoice}
 use Rattle.scheme_engine.specs.Engine.{BeginBy, FitsSlot}
 use Rattle.scheme_engine.specs.Kept.{AreTiled, CountsWithin, IsRunIn, StartBy}
-use Rattle.scheme_engine.specs.Outcome.{Outcome, outcome_of}
-use Rattle.scheme_engine.specs.Served.{Served, ServedSlot, choice_of, left_in, no_choice, scheme_counted, scheme_served, slot_counted, slot_run, slot_served, slots_served}
+use Rattle.scheme_engine.specs.Outcome.{outcome_of}
+use Rattle.scheme_engine.specs.Served.{ServedSlot, choice_of, left_in, no_choice, scheme_counted, scheme_served, slot_counted, slot_run, slot_served, slots_served}
 use Rattle.scheme_engine.specs.Slots.{SetScheme, SlotValue, changed, empty_slot, quota_of, turned_slot, window_at}
 
 -- what the laws of outcomes say

@@ -1,15 +1,16 @@
 -- The first pages of runs are the runs of the first passing pages.
-use Rattle.std.proofs.Common.{◌≡◌, ℕ, zero, suc, ◌+◌, ◌-◌, ◌≤◌, ◌<◌, min, None, Bool, true, false, cond, List, [], ◌∷◌, take, ◌++◌, map, drop, length, get_or, append_assoc, refl, sym, ap, ◌∙◌, arith}
-use Rattle.std.specs.Prelude.{◌==◌, nat_lt, sum_by, filter}
-use Rattle.std.specs.List.{list_any, last_or, range_with_len}
+use Rattle.std.proofs.Common.{◌≡◌, ℕ, zero, suc, ◌+◌, ◌-◌, ◌≤◌, ◌<◌, min, None, Bool, true, false, List, [], ◌∷◌, take, ◌++◌, map, drop, length, get_or, append_assoc, refl, sym, ap, ◌∙◌, arith}
+use Rattle.std.specs.Prelude.{◌==◌, sum_by, filter}
+use Rattle.std.specs.List.{last_or, range_with_len}
 use Rattle.std.specs.Option.{option_map_or}
 use Rattle.std.proofs.lemmas.Bool.Decides.{nat_tests}
 use Rattle.std.proofs.lemmas.List.{drop_more}
-use Rattle.std.proofs.lemmas.List.Sums.{sum_by-cons}
+use Rattle.std.proofs.lemmas.List.FromFn.{length-range_with_len}
+use Rattle.std.proofs.lemmas.List.Sums.{sum_by-cons, count_by-le-length, length-filter}
 use Rattle.scheme_filter.specs.declared.runs.Run.{Run}
 use Rattle.scheme_filter.specs.Runs.{run_end, runs_of, with_page}
 use Rattle.scheme_engine.specs.Taken.{is_among}
-use Rattle.scheme_engine.specs.Applying.{first_pages, end_of_runs}
+use Rattle.scheme_engine.specs.Applying.{first_pages}
 
 -- the runs of two tests that agree from a page on
 runs_agree : (p q : ℕ → Bool) (from k : ℕ) → ((n : ℕ) → from ≤ n → p n ≡ q n) → runs_of p from k ≡ runs_of q from k
@@ -203,3 +204,50 @@ first_pages_done rs n none = let is : n ≡ 0 = omega arith in rw is (first_none
 -- what is appended and what is still to come
 pub pushed : {X : Type 0} (f : Run → X) (before all : List X) (first : Run) (left next : List Run) → before ++ map f left ≡ all → left ≡ first ∷ next → (before ++ f first ∷ []) ++ map f next ≡ all
 pushed f before all first left next is step = append_assoc before (f first ∷ []) (map f next) ∙ ap (λ rs. before ++ map f rs) (sym step) ∙ is
+
+-- where all pages of a row pass, they are one run
+whole_run : (p : ℕ → Bool) (n from : ℕ) → length (filter p (range_with_len from n)) ≡ n → 0 < n → runs_of p from n ≡ record { start = from; pages = n } ∷ []
+whole_run p zero from all some = absurd (omega arith)
+whole_run p (suc zero) from all some = by (p from) refl
+  where
+    by : (v : Bool) → p from ≡ v → runs_of p from (suc zero) ≡ record { start = from; pages = suc zero } ∷ []
+    by true is = rw is refl
+    by false is = let none : length (filter p (range_with_len from (suc zero))) ≡ 0 = rw is refl in absurd (omega (arith, all, none))
+whole_run p (suc (suc k)) from all some = by (p from) refl (whole_run p (suc k) (from + 1))
+  where
+    rest : ℕ
+    rest = length (filter p (range_with_len (from + 1) (suc k)))
+
+    few : rest ≤ suc k
+    few = omega (arith, length-filter p (range_with_len (from + 1) (suc k)), count_by-le-length p (range_with_len (from + 1) (suc k)), length-range_with_len (from + 1) (suc k))
+
+    by : (v : Bool) → p from ≡ v → (rest ≡ suc k → 0 < suc k → runs_of p (from + 1) (suc k) ≡ record { start = from + 1; pages = suc k } ∷ []) → runs_of p from (suc (suc k)) ≡ record { start = from; pages = suc (suc k) } ∷ []
+    by true is others =
+        let count : length (filter p (range_with_len from (suc (suc k)))) ≡ suc rest = rw is refl in
+        let later = others (omega (arith, count, all)) (omega arith) in
+        let here : runs_of p from (suc (suc k)) ≡ with_page from (runs_of p (from + 1) (suc k)) = rw is refl in
+        let next : (from + 1 == from + 1) ≡ true = grind (arith, nat_tests) in
+        let joined : with_page from (record { start = from + 1; pages = suc k } ∷ []) ≡ record { start = from; pages = suc k + 1 } ∷ [] = rw next refl in
+        let more : suc k + 1 ≡ suc (suc k) = omega arith in
+        here ∙ ap (with_page from) later ∙ joined ∙ ap (λ n. record { start = from; pages = n } ∷ []) more
+    by false is others =
+        let count : length (filter p (range_with_len from (suc (suc k)))) ≡ rest = rw is refl in
+        absurd (omega (arith, count, all, few))
+
+-- so are the first of them
+first_of_whole : (p : ℕ → Bool) (n from share : ℕ) → length (filter p (range_with_len from n)) ≡ n → 1 ≤ share → share ≤ n → first_pages share (runs_of p from n) ≡ record { start = from; pages = share } ∷ []
+first_of_whole p n from share all some few =
+    let run : Run = record { start = from; pages = n } in
+    let least : min n share ≡ share = omega arith in
+    ap (first_pages share) (whole_run p n from all (omega arith))
+    ∙ first_pages_step share run [] (omega arith)
+    ∙ ap (λ m. record { start = from; pages = m } ∷ []) least
+
+pub whole_taken : (p : ℕ → Bool) (n from share : ℕ) → length (filter p (range_with_len from n)) ≡ n → 1 ≤ share → share ≤ n → runs_of (is_among (take share (filter p (range_with_len from n)))) from n ≡ record { start = from; pages = share } ∷ []
+whole_taken p n from share all some few = taken_are_first p share from n ∙ first_of_whole p n from share all some few
+
+-- and they end after as many pages
+pub whole_cut : (p : ℕ → Bool) (n from share : ℕ) → length (filter p (range_with_len from n)) ≡ n → 1 ≤ share → share ≤ n → page_end_or 0 (take share (filter p (range_with_len from n))) - from ≡ share
+whole_cut p n from share all some few =
+    let end : from + share ≡ page_end_or 0 (take share (filter p (range_with_len from n))) = ap (end_or 0) (sym (first_of_whole p n from share all some few)) ∙ ends_agree p 0 share from n in
+    omega (arith, end)

@@ -1,8 +1,7 @@
 -- The engine, as contracts see it.
-use Rattle.std.specs.Prelude.{◌≡◌, ℕ, ◌≤◌, ◌<◌, ◌^◌, List, length, IsSome, IfSome}
+use Rattle.std.specs.Prelude.{ℕ, ◌≤◌, ◌<◌, ◌^◌, List, IsSome, IfSome}
 use Rattle.std.specs.List.{AllByRecursion}
-use Rattle.scheme_engine.specs.declared.slot.TheConstants.{SLOTS}
-use Rattle.scheme_engine.specs.Slots.{SetScheme, SlotValue}
+use Rattle.scheme_engine.specs.Slots.{SlotValue}
 
 -- the slots, and the most rows for which there is room
 pub record EngineValue : Type 0 where

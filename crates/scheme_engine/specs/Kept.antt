@@ -10,7 +10,7 @@ use Rattle.region_list.specs.Regions.{RegionList}
 use Rattle.region_list.specs.Tiling.{Tiling}
 use Rattle.priority.specs.declared.candidates.Candidate.{Candidate}
 use Rattle.scheme_engine.specs.declared.applied.AppliedRun.{AppliedRun}
-use Rattle.scheme_engine.specs.Slots.{SetScheme, SlotValue}
+use Rattle.scheme_engine.specs.Slots.{SlotValue}
 
 -- the rows tile the ranges with the minimum size, which is at least one page, and are at most `max`
 pub record AreTiled (r : RegionList) : Type 0 where

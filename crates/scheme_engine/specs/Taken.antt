@@ -1,5 +1,5 @@
 -- Which pages of a row are taken.
-use Rattle.std.specs.Prelude.{ℕ, Bool, ◌==◌, List, map, take, find, Option}
+use Rattle.std.specs.Prelude.{ℕ, Bool, ◌==◌, List, map, take, find}
 use Rattle.std.specs.List.{list_any, flat_map}
 use Rattle.std.specs.Option.{unwrap_or}
 use Rattle.damon_types.specs.Span.{Span}

@@ -3,13 +3,16 @@ ghost use Rattle.std.specs.Prelude.{◌≡◌, ◌≤◌};
 ghost use Rattle.damon_types.specs.Within.{AreWithin};
 ghost use Rattle.scheme_engine.specs.Candidates.{candidates_of, tried_of};
 
-use crate::pages::{Context, count_passing};
+use crate::pages::Context;
 use damon_types::Scheme;
-use priority::{Candidates, score};
+use priority::{Candidates, Scorer};
 use region_list::Regions;
+use scheme_filter::{RangeRuns, count_passing};
 use scheme_match::matches;
 
-// Makes the list the candidates of a scheme among the rows, and returns how many rows match.
+// Makes the list the candidates of a scheme among the rows, and returns how many rows match. It stands by
+// itself so that its loop has all registers.
+#[inline(never)]
 pub(crate) fn gather(
     scheme: &Scheme,
     context: &Context,
@@ -29,14 +32,18 @@ pub(crate) fn gather(
     let _count = regions.len();
     candidates.clear();
     let ranges = regions.ranges();
-    let total = ranges.total();
+    // Without ranges there is no row to score.
+    let scorer = Scorer::new(ranges.total().max(1), context.aggr, scheme);
+    // Copied, so that the loop can keep it in registers.
+    let pattern = scheme.pattern;
+    let mut near = RangeRuns::new(&scheme.filters);
     let mut tried = 0;
     for row in regions.rows() {
-        if matches(&scheme.pattern, row) {
+        if matches(&pattern, row) {
             tried += 1;
-            let passing = count_passing(&scheme.filters, context.space, ranges, row);
+            let passing = count_passing(&scheme.filters, context.space, ranges, row, &mut near);
             if passing > 0 {
-                let score = score(row, total, context.aggr, scheme);
+                let score = scorer.score(row);
                 candidates.push(row.target, row.start, score, passing);
             }
         }

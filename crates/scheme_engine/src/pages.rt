@@ -13,7 +13,7 @@ ghost use Rattle.scheme_engine.specs.Applying.{end_of_runs, first_pages};
 use crate::{Applied, AppliedRun, RUNS_PER_ROW};
 use damon_types::{Filters, Ranges, Row, Space};
 use priority::Candidate;
-use scheme_filter::{MAX_RUNS, PassRuns, Run, passing, passing_pages_are_counted};
+use scheme_filter::{MAX_RUNS, PassRuns, Run, passing};
 
 /// What the schemes of a monitor have in common.
 #[derive(Clone, Copy)]
@@ -24,24 +24,50 @@ pub(crate) struct Context<'a> {
     pub(crate) aggr: u32,
 }
 
-// How many pages of a row pass the filters.
-pub(crate) fn count_passing(filters: &Filters, space: &Space, ranges: &Ranges, row: &Row) -> u32
-    requires within { AreWithin space.now ranges.now.list }
-    requires held { Any (LiesIn (span_of row.now)) ranges.now.list }
-    ensures { result ≡ length
-        (passing_pages (passes filters.now space.now ranges.now.list) (span_of row.now)) }
-{
-    // For their clauses alone: the runs have no more pages than the row, which ends below page 2^32.
-    passing_pages_are_counted();
-    let _count = ranges.len();
-    let mut runs = PassRuns::new();
-    passing(filters, space, ranges, row, &mut runs);
-    runs.as_slice().iter().map(|run| run.pages).sum()
-}
-
 // Appends the runs of the first passing pages of a row, as many as the share of its candidate, which is at
 // least 1. Returns how many pages the row has up to the last one of them.
 pub(crate) fn take_row(
+    slot: u8,
+    filters: &Filters,
+    space: &Space,
+    ranges: &Ranges,
+    row: &Row,
+    candidate: &Candidate,
+    applied: &mut Applied,
+) -> u32
+    requires within { AreWithin space.now ranges.now.list }
+    requires held { Any (LiesIn (span_of row.now)) ranges.now.list }
+    requires some { 1 ≤ candidate.now.share }
+    requires share { candidate.now.share ≤ candidate.now.passing }
+    requires passing { candidate.now.passing ≡ length
+        (passing_pages (passes filters.now space.now ranges.now.list) (span_of row.now)) }
+    requires room { length applied.old.runs + MAX_RUNS ≤ RUNS_PER_ROW * applied.old.cap }
+    ensures runs { applied.new ≡ record applied.old {
+      runs = applied.old.runs ++ map (applied_run slot candidate.now)
+          (taken_runs (passes filters.now space.now ranges.now.list) candidate.now.share
+          (span_of row.now));
+    } }
+    ensures few { length applied.new.runs ≤ length applied.old.runs + MAX_RUNS }
+    ensures pages { result ≡ cut_place (passes filters.now space.now ranges.now.list)
+        candidate.now.share (span_of row.now) }
+    ensures most { result ≤ row.now.pages }
+{
+    // Mostly all pages of a row pass: then its first pages are one run, and no filter is looked at.
+    if candidate.passing == row.pages {
+        applied.push_run(AppliedRun {
+            slot,
+            target: candidate.target,
+            start: row.start,
+            pages: candidate.share,
+            score: candidate.score,
+        });
+        return candidate.share;
+    }
+    take_passing(slot, filters, space, ranges, row, candidate, applied)
+}
+
+// The same for a row of any pages, whose filters are looked at.
+fn take_passing(
     slot: u8,
     filters: &Filters,
     space: &Space,

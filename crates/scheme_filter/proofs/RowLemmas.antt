@@ -38,12 +38,12 @@ place_moves i (suc k) first page (t ∷ ts) low later high =
     rw (first_later, page_later) (rest ∙ ap (λ n. record (place_from (i + 1) ts (first - t.pages)) { addr = (place_from (i + 1) ts (first - t.pages)).addr + 4096 * n }) gap)
 
 -- a range of a list in order begins at or after the page where the list may begin
-range_from : (t b : ℕ) (gs : List Range) (k : ℕ) (d : Range) → OrderedFrom t b gs → k < length gs → b ≤ (slice_index_or gs k d).first
+pub range_from : (t b : ℕ) (gs : List Range) (k : ℕ) (d : Range) → OrderedFrom t b gs → k < length gs → b ≤ (slice_index_or gs k d).first
 range_from t b [] k d order within = absurd (omega (arith, within))
 range_from t b (g ∷ gs) zero d order within = order.1
 range_from t b (g ∷ gs) (suc k) d order within = omega (arith, order.1, range_from g.target (end_of g) gs k d order.3 (omega (arith, within)))
 
-range_fits : (t b : ℕ) (gs : List Range) (k : ℕ) (d : Range) → OrderedFrom t b gs → k < length gs → IsRange (slice_index_or gs k d)
+pub range_fits : (t b : ℕ) (gs : List Range) (k : ℕ) (d : Range) → OrderedFrom t b gs → k < length gs → IsRange (slice_index_or gs k d)
 range_fits t b [] k d order within = absurd (omega (arith, within))
 range_fits t b (g ∷ gs) zero d order within = order.2
 range_fits t b (g ∷ gs) (suc k) d order within = range_fits g.target (end_of g) gs k d order.3 (omega (arith, within))

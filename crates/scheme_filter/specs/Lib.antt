@@ -1,3 +1,4 @@
 pub mod Passes
 pub mod Runs
 pub mod RowPages
+pub mod RangeRuns

@@ -5,6 +5,8 @@
 mod decision;
 /// What holds of runs.
 mod laws;
+/// The runs of a range, kept for its rows.
+mod range_runs;
 /// The pages of a row, and where filters may begin or cease to apply among them.
 mod row_pages;
 /// The runs of a row.
@@ -14,5 +16,6 @@ mod runs;
 
 pub use decision::passes;
 pub use laws::{longest_runs_are_one, passing_pages_are_counted};
+pub use range_runs::{RangeRuns, count_passing};
 pub use row_runs::passing;
 pub use runs::{MAX_RUNS, PassRuns, Run};

@@ -8,16 +8,17 @@ use damon_types::{Pattern, Row, Span};
 pub fn matches(pattern: &Pattern, row: &Row) -> bool
     ensures { result ≡ is_match pattern.now row.now }
 {
+    // `&` and not `&&`: one branch for six comparisons, of which a processor mispredicts fewer.
     contains(pattern.size, row.pages)
-        && contains(pattern.count, row.count)
-        && contains(pattern.age, row.age)
+        & contains(pattern.count, row.count)
+        & contains(pattern.age, row.age)
 }
 
 // Whether a number lies in a span.
 fn contains(span: Span, number: u32) -> bool
     ensures { result ≡ is_in_span span number }
 {
-    (span.low..=span.high).contains(&number)
+    (span.low <= number) & (number <= span.high)
 }
 
 #[cfg(test)]

@@ -35,7 +35,6 @@ use Rattle.script_run.specs.Choices.{EachChoiceIsBest}
 use Rattle.script_run.specs.Kept.{ArePartsWithin, IsPartWithin}
 use Rattle.script_run.specs.Parts.{part_of, parts_of, stops_at}
 use Rattle.damon_control.specs.Limits.{AreCommandsWithin, IsCommandWithin}
-use Rattle.damon_control.specs.Sound.{ScriptsAreSound}
 use Rattle.script_run.specs.Unfold.{part_events, parts_events, start, steps_until, unfold_script}
 use Rattle.script_run.specs.Way.{Reached-start}
 use Rattle.script_run.proofs.Hits.{AllByHit-prefix, by_hit-parts}
@@ -173,10 +172,9 @@ AllFit-prefix : (s : State) (es fs : List Event) → AllFit s (es ++ fs) → All
 AllFit-prefix s [] fs fit = tt
 AllFit-prefix s (e ∷ es) fs fit = (fit.0, AllFit-prefix (after s e) es fs fit.1)
 
--- The events of the script of a text fit, and each state to which a prefix of them leads is bound.
-pub bound_along : ((s : State) → Reached s → IsInPhase s) → ((s : State) → ReachedByHit s → Bound s) → ScriptsAreSound → EachScriptIsBound
-bound_along in_phase bound each text s spells =
-    let sound = each text s spells in
+-- The events of a script within its limits fit, and each state to which a prefix of them leads is bound.
+pub bound_along : ((s : State) → Reached s → IsInPhase s) → ((s : State) → ReachedByHit s → Bound s) → EachScriptIsBound
+bound_along in_phase bound s sound =
     let can : CanOpen s.setup = record { space = sound.space; sound = sound.setup; order = sound.order } in
     let parts = parts_of s.setup.cap s.commands in
     let fits : AllFit (opening s.setup) (unfold_script s) =
@@ -194,9 +192,8 @@ bound_along in_phase bound each text s spells =
     }
 
 -- Each aggregation along the run of a script applies each active scheme to the best choice.
-pub choices_along : ((s : State) → Reached s → IsInPhase s) → ((s : State) → Reached s → ServesBest s) → ScriptsAreSound → EachChoiceIsBest
-choices_along in_phase best each text s spells events rest words is =
-    let sound = each text s spells in
+pub choices_along : ((s : State) → Reached s → IsInPhase s) → ((s : State) → Reached s → ServesBest s) → EachChoiceIsBest
+choices_along in_phase best s sound events rest words is =
     let can : CanOpen s.setup = record { space = sound.space; sound = sound.setup; order = sound.order } in
     let parts = parts_of s.setup.cap s.commands in
     let fits : AllFit (opening s.setup) (unfold_script s) =

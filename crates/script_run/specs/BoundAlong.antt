@@ -1,10 +1,11 @@
--- What holds along the run of each script.
-use Rattle.std.specs.Prelude.{◌≡◌, ℕ, List, ◌++◌, Ok}
+-- What holds along the run of each script within its limits, whether a text says it or not.
+use Rattle.std.specs.Prelude.{◌≡◌, List, ◌++◌}
 use Rattle.damon_core.specs.State.{opening}
 use Rattle.damon_core.specs.Event.{Event}
 use Rattle.damon_core.specs.Reached.{AllFit, run}
 use Rattle.damon_core.specs.Bound.{Bound}
-use Rattle.damon_control.specs.Script.{ScriptValue, script_of}
+use Rattle.damon_control.specs.Script.{ScriptValue}
+use Rattle.damon_control.specs.Sound.{IsSound}
 use Rattle.script_run.specs.Unfold.{unfold_script}
 
 -- The events of the script fit from the opening of its setup, and each state to which a prefix of them leads is bound.
@@ -12,6 +13,6 @@ pub record IsBoundAlong (s : ScriptValue) : Type 0 where
   pub fit : AllFit (opening s.setup) (unfold_script s)
   pub bound : (events rest : List Event) → unfold_script s ≡ events ++ rest → Bound (run (opening s.setup) events)
 
--- the same for the script of each text
+-- the same for each script within its limits
 abbrev pub EachScriptIsBound : Type 0
-EachScriptIsBound = (text : List ℕ) (s : ScriptValue) → script_of text ≡ Ok s → IsBoundAlong s
+EachScriptIsBound = (s : ScriptValue) → IsSound s → IsBoundAlong s

@@ -29,10 +29,13 @@ text_from form s (e ∷ es) = event_text form s e ++ text_from form (after s e) 
 abbrev pub last_text : Form → State → List ℕ
 last_text form s = end_text form (printed_state s)
 
+-- the state at the end of the run of a script
+abbrev pub last_state : ScriptValue → State
+last_state s = run (opening s.setup) (unfold_script s)
+
 -- the report of a script: what its events write, and the last line
 abbrev pub report : Form → ScriptValue → List ℕ
-report form s =
-    text_from form (opening s.setup) (unfold_script s) ++ last_text form (run (opening s.setup) (unfold_script s))
+report form s = text_from form (opening s.setup) (unfold_script s) ++ last_text form (last_state s)
 
 -- the text of events and then others
 pub text_from-append : (form : Form) (s : State) (es fs : List Event)

@@ -8,11 +8,11 @@ use Rattle.damon_core.specs.Reached.{AllFit, CanOpen, Reached, run}
 use Rattle.damon_core.specs.Makes.{AllFit-append}
 use Rattle.damon_world.specs.Moment.{Moment, along}
 use Rattle.damon_world.specs.Plays.{Reached-along, along-append, along-state}
-use Rattle.damon_world.specs.Stands.{StandsAt}
+use Rattle.damon_world.specs.Stands.{StandsAt, StandsFor}
 use Rattle.damon_control.specs.Script.{ScriptValue}
 use Rattle.snapshot_print.specs.declared.form.Form.{Form}
 use Rattle.script_run.specs.Unfold.{start, unfold_script}
-use Rattle.script_run.specs.Report.{last_text, report, text_from, text_from-append}
+use Rattle.script_run.specs.Report.{last_state, last_text, report, text_from, text_from-append}
 use Rattle.script_run.specs.Player.{GoesOn, IsOver, PlayerView, left_events}
 
 -- The player made the first events of the script, which fit from its opening; it stands at the moment after them; the
@@ -90,3 +90,15 @@ module _ {R : Type 0} (stream : R → Stream) (s : ScriptValue) (f : Form) where
       ∙ ap (λ g. text_from f (opening s.setup) way.made ++ last_text g (along (start s) way.made).state) way.form
       ∙ ap (λ t. text_from f (opening s.setup) way.made ++ last_text f t) (along-state (start s) way.made)
       ∙ ap (λ es. text_from f (opening s.setup) es ++ last_text f (run (opening s.setup) es)) (sym all)
+
+  -- where no event is left, the player stands for the state at the end of the run
+  pub way-last : (p : PlayerView R) (text : List ℕ) (way : IsOnItsWay stream s f p text) → IsOver stream p
+      → StandsFor p.world (last_state s)
+  way-last p text way over =
+      let all : unfold_script s ≡ way.made =
+      way.left
+      ∙ ap (λ es. way.made ++ es) (over (along (start s) way.made) way.stands)
+      ∙ append-nil way.made in
+      subst (StandsFor p.world)
+      (along-state (start s) way.made ∙ ap (λ es. run (opening s.setup) es) (sym all))
+      way.stands.state

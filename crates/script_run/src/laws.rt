@@ -3,22 +3,20 @@ ghost use Rattle.script_run.specs.BoundAlong.{EachScriptIsBound};
 ghost use Rattle.script_run.specs.Choices.{EachChoiceIsBest};
 ghost use Rattle.script_run.specs.Reaching.{ReachTheirPhase};
 
-/// The events of the script of each text fit from the opening of its setup, and each state to which a
-/// prefix of them leads is bound. No code is run for it.
+/// The events of each script within its limits fit from the opening of its setup, and each state to
+/// which a prefix of them leads is bound. No code is run for it.
 pub fn each_script_is_bound()
     ensures { EachScriptIsBound }
 {
-    damon_control::scripts_are_sound();
     damon_core::reached_states_are_bound();
 }
 
-/// Each aggregation along the run of the script of each text applies each set and active scheme to the
-/// best choice within what is left of its quota, slot by slot: the first passing pages of its candidates
-/// in priority order. No code is run for it.
+/// Each aggregation along the run of each script within its limits applies each set and active scheme to
+/// the best choice within what is left of its quota, slot by slot: the first passing pages of its
+/// candidates in priority order. No code is run for it.
 pub fn each_choice_is_best()
     ensures { EachChoiceIsBest }
 {
-    damon_control::scripts_are_sound();
     damon_core::reached_states_are_bound();
 }
 

@@ -8,17 +8,20 @@ ghost use Rattle.damon_control.specs.ScriptView.{said_by};
 ghost use Rattle.damon_core.specs.Commit.{commit_answer};
 ghost use Rattle.damon_core.specs.Event.{commit as commit_event};
 ghost use Rattle.damon_core.specs.Makes.{Makes};
+ghost use Rattle.damon_core.specs.Stands.{Stands};
 ghost use Rattle.damon_world.specs.Stands.{StandsFor};
 ghost use Rattle.live_commit.specs.Commit.{commit_value};
 ghost use Rattle.snapshot_print.specs.Commit.{commit_text};
 ghost use Rattle.script_run.specs.Kept.{is_done};
 ghost use Rattle.script_run.specs.Part as left;
 ghost use Rattle.script_run.specs.Player.{GoesOn, IsOver, WritesLast, WritesSome, left_moves};
+ghost use Rattle.script_run.specs.Report.{last_state};
 ghost use Rattle.script_run.specs.Way.{IsOnItsWay};
 
 use crate::part::{Part, Start, Until, is_done, start_of};
 use crate::random::random_words;
 use damon_control::{Commands, MAX_WORK, Script};
+use damon_core::Monitor;
 use damon_world::World;
 use live_commit::{Commit, Phase};
 use rand_core::Rng;
@@ -225,6 +228,13 @@ impl<R: Rng + Drop> Player<R> {
         print_show(alloc, out, self.form, self.world.monitor())
     }
 
+    /// The monitor, as it stands after the events so far.
+    pub fn monitor(&self) -> &Monitor
+        ensures { result.now ≡ self.now.world.monitor }
+    {
+        self.world.monitor()
+    }
+
     /// Appends the last line of the report, after the last event. Where memory runs out, nothing is
     /// appended.
     pub fn finish(self, alloc: Global, out: &mut Vec<u8>) -> Result<(), AllocError>
@@ -285,4 +295,21 @@ pub fn open_player(
         part: Part::NOTHING,
         begun: 0,
     })
+}
+
+/// A player after the last event of a script, whose text is not kept. The pages of the commands are pages
+/// of the script's space, and their work is at most [`MAX_WORK`]. Takes memory.
+pub fn play_to_end(alloc: Global, script: Script) -> Result<Player<Lcg64Xsh32>, AllocError>
+    requires within { EachIsWithin (pages_of script.setup.space) script.commands.list }
+    requires work { work_of script.setup.cap (map command_value script.commands.list) ≤ MAX_WORK }
+    ensures { IfOk result (λ p. Stands p.world.monitor (last_state (said_by script))) }
+{
+    let mut player = open_player(alloc, script, Form::Text)?;
+    let mut unread = Vec::new(alloc);
+    'pieces: loop {
+        match player.fill(alloc, &mut unread)? {
+            Filled::Piece => unread.clear(),
+            Filled::End => return Ok(player),
+        }
+    }
 }

@@ -1,5 +1,10 @@
 pub mod Appending
 pub mod Rows
 pub mod Slots
+pub mod Sending
+pub mod Ascii
+pub mod JsonSlots
+pub mod Floats
+pub mod Readable
 pub mod BySlot
 mod Examples

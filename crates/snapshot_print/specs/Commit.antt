@@ -14,8 +14,10 @@ use Rattle.live_commit.specs.declared.fault.CommitFault.TheVariants.{Busy, NoRan
 use Rattle.live_commit.specs.declared.fault.CommitFault.TheVariants.{BadAttrs, OverCap, BadScheme}
 use Rattle.damon_core.specs.declared.changed.Changed.{Changed}
 use Rattle.snapshot_print.specs.declared.form.Form.{Form}
-use Rattle.snapshot_print.specs.declared.form.Form.TheVariants.{Text}
+use Rattle.snapshot_print.specs.declared.form.Form.TheVariants.{Text, Json}
+use Rattle.serde_json.specs.Data.{Data}
 use Rattle.snapshot_print.specs.Fields.{◌then◌, yes_or_no}
+use Rattle.snapshot_print.specs.Json.{answer_json, json_line}
 
 -- the word of the reason why a range is rejected
 abbrev pub range_why : RangeWhy → List ℕ
@@ -59,7 +61,12 @@ answer_text (Ok changed) =
     codes "ok rows=" then decimal changed.rows then codes " void=" then yes_or_no changed.void
 answer_text (Err fault) = codes "refused " then refusal_text fault
 
+-- the same as JSON, with the tick at which the commit was made
+abbrev pub commit_json : ℕ → Result Changed CommitFault → Data
+commit_json tick answer = answer_json tick (answer_text answer)
+
 -- the line of a commit, in each form: the tick at which it was made, and its answer
 abbrev pub commit_text : Form → ℕ → Result Changed CommitFault → List ℕ
 commit_text Text tick answer =
     codes "commit tick=" then decimal tick then codes " " then answer_text answer then codes "\n"
+commit_text Json tick answer = json_line (commit_json tick answer)

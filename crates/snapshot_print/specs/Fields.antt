@@ -3,6 +3,8 @@ use Rattle.std.specs.Prelude.{ℕ, ◌+◌, ◌*◌, Bool, true, false, List, �
 use Rattle.std.specs.Fmt.{decimal}
 use Rattle.damon_types.specs.declared.space.Target.{Target}
 use Rattle.damon_types.specs.Space.{place_of}
+use Rattle.live_commit.specs.declared.phase.Phase.{Phase}
+use Rattle.live_commit.specs.declared.phase.Phase.TheVariants.{Idle, Clearing, Armed, Checking, Void, Due}
 use Rattle.line_text.specs.Address.{spelled_address}
 
 infixr 20 ◌then◌
@@ -14,6 +16,15 @@ a then b = a ++ b
 abbrev pub yes_or_no : Bool → List ℕ
 yes_or_no true = codes "yes"
 yes_or_no false = codes "no"
+
+-- the name of a phase
+abbrev pub phase_name : Phase → List ℕ
+phase_name Idle = codes "idle"
+phase_name (Clearing k) = codes "clearing"
+phase_name Armed = codes "armed"
+phase_name (Checking k) = codes "checking"
+phase_name Void = codes "void"
+phase_name Due = codes "due"
 
 -- a number, or `none`
 abbrev pub number_or_none : Option ℕ → List ℕ

@@ -8,6 +8,7 @@ ghost use Rattle.snapshot_print.specs.Printed.{printed_monitor};
 use crate::Form;
 use crate::choice_text::print_choices;
 use crate::fields::{field_before, text_before, whole_or_nothing};
+use crate::json_lines::print_aggregate_line;
 use crate::line_groups::{LINE_ROOM, lines_before};
 use crate::row_text::print_rows;
 use damon_core::{Monitor, Report};
@@ -32,6 +33,7 @@ pub fn print_aggregate(
     let before = out.len();
     let printed = match form {
         Form::Text => print_report(out, monitor),
+        Form::Json => print_aggregate_line(alloc, out, monitor),
     };
     whole_or_nothing(out, before, printed)
 }

@@ -74,7 +74,7 @@ fn print_choice(
 }
 
 // The action of the scheme in the slot with this number, if it is set.
-fn action_in(engine: &Engine, slot: u8) -> Option<Action>
+pub(crate) fn action_in(engine: &Engine, slot: u8) -> Option<Action>
     ensures { result ≡ action_in engine.now.slots slot }
 {
     // For its clauses alone: the number of slots.
@@ -153,7 +153,7 @@ fn apply_before(bytes: &mut [u8], end: usize, slot: u8, action: Action) -> usize
     ensures written { drop result bytes.new ≡ apply_part slot action ++ drop end bytes.old }
 {
     let space = text_before(bytes, end, b" ");
-    let word = word_before(bytes, space, b" ", action_word(action));
+    let word = word_before(bytes, space, b" ", action_word(action).as_bytes());
     field_before(bytes, word, b"apply ", u64::from(slot))
 }
 

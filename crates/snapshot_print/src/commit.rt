@@ -1,10 +1,11 @@
-ghost use Rattle.std.specs.Prelude.{◌≡◌, ◌++◌, OnErr, OnOk};
+ghost use Rattle.std.specs.Prelude.{◌≡◌, ◌++◌, codes, string_bytes, IfOk, OnErr, OnOk};
 ghost use Rattle.snapshot_print.specs.Commit.{answer_text, commit_text, refusal_text};
 ghost use Rattle.snapshot_print.specs.Commit.{attrs_why, range_why, scheme_why};
 ghost use Rattle.snapshot_print.specs.Kept.{KeepsFront};
 
 use crate::Form;
 use crate::fields::{end_line, print_field, print_word, whole_or_nothing, yes_or_no};
+use crate::json_lines::print_commit_line;
 use damon_core::Changed;
 use damon_types::{AttrsFault, SchemeFault};
 use live_commit::CommitFault;
@@ -26,6 +27,7 @@ pub fn print_commit(
     let before = out.len();
     let printed = match form {
         Form::Text => print_line(out, tick, answer),
+        Form::Json => print_commit_line(alloc, out, tick, answer),
     };
     whole_or_nothing(out, before, printed)
 }
@@ -56,7 +58,7 @@ fn print_answer(out: &mut Vec<u8>, answer: &Result<Changed, CommitFault>) -> Res
     match answer {
         Ok(changed) => {
             print_field(out, b"ok rows=", u64::from(changed.rows))?;
-            print_word(out, b" void=", yes_or_no(changed.void))
+            print_word(out, b" void=", yes_or_no(changed.void).as_bytes())
         }
         Err(fault) => {
             out.extend_from_slice(b"refused ")?;
@@ -76,58 +78,106 @@ fn print_refusal(out: &mut Vec<u8>, fault: CommitFault) -> Result<(), AllocError
         CommitFault::NoRange => out.extend_from_slice(b"no-range"),
         CommitFault::BadRange { index, why } => {
             print_field(out, b"bad-range index=", u64::from(index))?;
-            print_word(out, b" ", range_why(why))
+            print_word(out, b" ", range_why(why).as_bytes())
         }
         CommitFault::RangesOverMax { ranges, max } => {
             print_field(out, b"ranges-over-max ranges=", u64::from(ranges))?;
             print_field(out, b" max=", u64::from(max))
         }
-        CommitFault::BadAttrs { why } => print_word(out, b"bad-attrs ", attrs_why(why)),
+        CommitFault::BadAttrs { why } => print_word(out, b"bad-attrs ", attrs_why(why).as_bytes()),
         CommitFault::OverCap { max, cap } => {
             print_field(out, b"over-cap max=", u64::from(max))?;
             print_field(out, b" cap=", u64::from(cap))
         }
-        CommitFault::BadScheme { why } => print_word(out, b"bad-scheme ", scheme_why(why)),
+        CommitFault::BadScheme { why } => print_word(
+            out,
+            b"bad-scheme ",
+            scheme_why(why).as_bytes(),
+        ),
+    }
+}
+
+// The answer of a commit as a text.
+pub(crate) fn answer_string(
+    alloc: Global,
+    answer: &Result<Changed, CommitFault>,
+) -> Result<String, AllocError>
+    ensures { IfOk result (λ s. string_bytes s ≡ answer_text answer.now) }
+{
+    match answer {
+        Ok(changed) => {
+            let void = yes_or_no(changed.void);
+            format!(in alloc; "ok rows={} void={void}", changed.rows)
+        }
+        Err(fault) => refusal_string(alloc, *fault),
+    }
+}
+
+// The answer of a commit that was refused.
+fn refusal_string(alloc: Global, fault: CommitFault) -> Result<String, AllocError>
+    ensures { IfOk result (λ s. string_bytes s ≡ codes "refused " ++ refusal_text fault) }
+{
+    match fault {
+        CommitFault::Busy { next } => format!(in alloc; "refused busy next={next}"),
+        CommitFault::NoRange => format!(in alloc; "refused no-range"),
+        CommitFault::BadRange { index, why } => {
+            let why = range_why(why);
+            format!(in alloc; "refused bad-range index={index} {why}")
+        }
+        CommitFault::RangesOverMax { ranges, max } => {
+            format!(in alloc; "refused ranges-over-max ranges={ranges} max={max}")
+        }
+        CommitFault::BadAttrs { why } => {
+            let why = attrs_why(why);
+            format!(in alloc; "refused bad-attrs {why}")
+        }
+        CommitFault::OverCap { max, cap } => {
+            format!(in alloc; "refused over-cap max={max} cap={cap}")
+        }
+        CommitFault::BadScheme { why } => {
+            let why = scheme_why(why);
+            format!(in alloc; "refused bad-scheme {why}")
+        }
     }
 }
 
 // The word of the reason why a range is rejected.
-fn range_why(why: RangeWhy) -> &'static [u8]
+fn range_why(why: RangeWhy) -> &'static str
     ensures { result.now ≡ range_why why }
 {
     match why {
-        RangeWhy::TooMany => b"too-many",
-        RangeWhy::NoSuchTarget => b"no-such-target",
-        RangeWhy::Unaligned => b"unaligned",
-        RangeWhy::Reversed => b"reversed",
-        RangeWhy::OutsideSpan => b"outside-span",
-        RangeWhy::TooSmall => b"too-small",
-        RangeWhy::BadClass => b"bad-class",
-        RangeWhy::Overlap => b"overlap",
+        RangeWhy::TooMany => "too-many",
+        RangeWhy::NoSuchTarget => "no-such-target",
+        RangeWhy::Unaligned => "unaligned",
+        RangeWhy::Reversed => "reversed",
+        RangeWhy::OutsideSpan => "outside-span",
+        RangeWhy::TooSmall => "too-small",
+        RangeWhy::BadClass => "bad-class",
+        RangeWhy::Overlap => "overlap",
     }
 }
 
 // The word of the limit that attributes break.
-fn attrs_why(why: AttrsFault) -> &'static [u8]
+fn attrs_why(why: AttrsFault) -> &'static str
     ensures { result.now ≡ attrs_why why }
 {
     match why {
-        AttrsFault::MinTooSmall { .. } => b"min-too-small",
-        AttrsFault::MinOverMax { .. } => b"min-over-max",
-        AttrsFault::AggrOutOfRange { .. } => b"aggr-out-of-range",
+        AttrsFault::MinTooSmall { .. } => "min-too-small",
+        AttrsFault::MinOverMax { .. } => "min-over-max",
+        AttrsFault::AggrOutOfRange { .. } => "aggr-out-of-range",
     }
 }
 
 // The word of the limit that a scheme or its slot breaks.
-fn scheme_why(why: SchemeFault) -> &'static [u8]
+fn scheme_why(why: SchemeFault) -> &'static str
     ensures { result.now ≡ scheme_why why }
 {
     match why {
-        SchemeFault::SlotOutOfRange { .. } => b"slot-out-of-range",
-        SchemeFault::PatternReversed { .. } => b"pattern-reversed",
-        SchemeFault::ZeroReset => b"zero-reset",
-        SchemeFault::MarksOutOfOrder => b"marks-out-of-order",
-        SchemeFault::BadFilter { .. } => b"bad-filter",
+        SchemeFault::SlotOutOfRange { .. } => "slot-out-of-range",
+        SchemeFault::PatternReversed { .. } => "pattern-reversed",
+        SchemeFault::ZeroReset => "zero-reset",
+        SchemeFault::MarksOutOfOrder => "marks-out-of-order",
+        SchemeFault::BadFilter { .. } => "bad-filter",
     }
 }
 

@@ -75,11 +75,11 @@ pub(crate) fn word_before(bytes: &mut [u8], end: usize, name: &[u8], word: &[u8]
 }
 
 // `yes` for true, and `no` for false.
-pub(crate) fn yes_or_no(value: bool) -> &'static [u8]
+pub(crate) fn yes_or_no(value: bool) -> &'static str
     ensures word { result.now ≡ yes_or_no value }
     ensures short { length result.now ≤ 3 }
 {
-    if value { b"yes" } else { b"no" }
+    if value { "yes" } else { "no" }
 }
 
 // Removes what was appended after the first `before` bytes if printing failed.

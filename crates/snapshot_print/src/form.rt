@@ -3,4 +3,6 @@
 pub enum Form {
     /// Lines of text.
     Text,
+    /// JSON lines: an object on each line.
+    Json,
 }

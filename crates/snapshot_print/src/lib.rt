@@ -12,7 +12,13 @@ mod commit;
 mod fields;
 /// The forms of a report.
 mod form;
-/// A law of the text of an aggregation.
+/// The lines of a report as JSON.
+mod json_lines;
+/// Members and values of the objects of a report in JSON.
+mod json_parts;
+/// The values of the set slots in a show as JSON.
+mod json_slots;
+/// Laws of the texts of a report.
 mod laws;
 /// Lines that are appended in groups.
 mod line_groups;
@@ -28,5 +34,5 @@ mod tests;
 pub use aggregate::print_aggregate;
 pub use commit::print_commit;
 pub use form::Form;
-pub use laws::choices_have_all_their_runs;
+pub use laws::{choices_have_all_their_runs, json_lines_are_read};
 pub use show::{print_end, print_show};

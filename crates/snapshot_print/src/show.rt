@@ -1,10 +1,12 @@
 ghost use Rattle.std.specs.Prelude.{◌≡◌, ◌++◌, OnErr, OnOk};
-ghost use Rattle.snapshot_print.specs.Lines.{end_text, phase_name, show_line, show_text};
+ghost use Rattle.snapshot_print.specs.Fields.{phase_name};
+ghost use Rattle.snapshot_print.specs.Lines.{end_text, show_line, show_text};
 ghost use Rattle.snapshot_print.specs.Kept.{KeepsFront};
 ghost use Rattle.snapshot_print.specs.Printed.{printed_monitor};
 
 use crate::Form;
 use crate::fields::{end_line, print_field, print_word, whole_or_nothing};
+use crate::json_lines::{print_end_line, print_show_line};
 use crate::row_text::print_rows;
 use crate::slot_text::print_slots;
 use damon_core::Monitor;
@@ -28,6 +30,7 @@ pub fn print_show(
     let before = out.len();
     let printed = match form {
         Form::Text => print_state(out, monitor),
+        Form::Json => print_show_line(alloc, out, monitor),
     };
     whole_or_nothing(out, before, printed)
 }
@@ -47,6 +50,7 @@ pub fn print_end(
     let before = out.len();
     let printed = match form {
         Form::Text => print_totals(out, monitor),
+        Form::Json => print_end_line(alloc, out, monitor),
     };
     whole_or_nothing(out, before, printed)
 }
@@ -71,7 +75,7 @@ fn print_first_line(out: &mut Vec<u8>, monitor: &Monitor) -> Result<(), AllocErr
 {
     let rows = monitor.rows().len();
     print_field(out, b"show tick=", monitor.ticks())?;
-    print_word(out, b" phase=", phase_name(monitor.phase()))?;
+    print_word(out, b" phase=", phase_name(monitor.phase()).as_bytes())?;
     print_field(out, b" rows=", u64::from(rows))?;
     end_line(out)
 }
@@ -91,15 +95,15 @@ fn print_totals(out: &mut Vec<u8>, monitor: &Monitor) -> Result<(), AllocError>
 }
 
 // The name of a phase.
-fn phase_name(phase: Phase) -> &'static [u8]
+pub(crate) fn phase_name(phase: Phase) -> &'static str
     ensures { result.now ≡ phase_name phase }
 {
     match phase {
-        Phase::Idle => b"idle",
-        Phase::Clearing { .. } => b"clearing",
-        Phase::Armed => b"armed",
-        Phase::Checking { .. } => b"checking",
-        Phase::Void => b"void",
-        Phase::Due => b"due",
+        Phase::Idle => "idle",
+        Phase::Clearing { .. } => "clearing",
+        Phase::Armed => "armed",
+        Phase::Checking { .. } => "checking",
+        Phase::Void => "void",
+        Phase::Due => "due",
     }
 }

@@ -76,25 +76,25 @@ fn state_before(bytes: &mut [u8], end: usize, slot: u8, view: &SlotView) -> usiz
     ensures start { result ≤ end }
     ensures written { drop result bytes.new ≡ scheme_part slot view.now ++ drop end bytes.old }
 {
-    let active = word_before(bytes, end, b" active=", yes_or_no(view.active));
-    let action = word_before(bytes, active, b" ", action_word(view.action));
+    let active = word_before(bytes, end, b" active=", yes_or_no(view.active).as_bytes());
+    let action = word_before(bytes, active, b" ", action_word(view.action).as_bytes());
     field_before(bytes, action, b"scheme ", u64::from(slot))
 }
 
 // The word of an action.
-pub(crate) fn action_word(action: Action) -> &'static [u8]
+pub(crate) fn action_word(action: Action) -> &'static str
     ensures word { result.now ≡ action_word action }
     ensures short { length result.now ≤ 10 }
 {
     match action {
-        Action::Stat => b"stat",
-        Action::Willneed => b"willneed",
-        Action::Cold => b"cold",
-        Action::Pageout => b"pageout",
-        Action::Hugepage => b"hugepage",
-        Action::Nohugepage => b"nohugepage",
-        Action::LruPrio => b"lru_prio",
-        Action::LruDeprio => b"lru_deprio",
+        Action::Stat => "stat",
+        Action::Willneed => "willneed",
+        Action::Cold => "cold",
+        Action::Pageout => "pageout",
+        Action::Hugepage => "hugepage",
+        Action::Nohugepage => "nohugepage",
+        Action::LruPrio => "lru_prio",
+        Action::LruDeprio => "lru_deprio",
     }
 }
 

@@ -30,6 +30,13 @@ const AGGREGATION: &[u8] = b"aggregate tick=1 threshold=0 rows=3\n\
     row 0 0x11000-0x12000 count=1 last=0 age=0\n\
     row 0 0x12000-0x13000 count=0 last=0 age=1\n";
 
+const AFTER_A_PASS_IN_JSON: &[u8] = b"{\"kind\":\"show\",\"phase\":\"due\",\"rows\":[\
+    {\"age\":0,\"count\":0,\"end\":\"0x11000\",\"last\":0,\"start\":\"0x10000\",\"target\":0},\
+    {\"age\":0,\"count\":1,\"end\":\"0x12000\",\"last\":0,\"start\":\"0x11000\",\"target\":0},\
+    {\"age\":0,\"count\":0,\"end\":\"0x13000\",\"last\":0,\"start\":\"0x12000\",\"target\":0}],\
+    \"slots\":[],\"tick\":1}\n\
+    {\"checks\":3,\"hits\":1,\"kind\":\"end\",\"rows\":3,\"ticks\":1}\n";
+
 const AFTER_AN_AGGREGATION: &[u8] = b"show tick=1 phase=idle rows=3\n\
     row 0 0x10000-0x11000 count=0 last=0 age=1\n\
     row 0 0x11000-0x12000 count=0 last=1 age=0\n\
@@ -49,6 +56,16 @@ const SLOT_IS_APPLIED: &[u8] = b"aggregate tick=2 threshold=0 rows=3\n\
     row 0 0x10000-0x11000 count=0 last=0 age=0\n\
     row 0 0x11000-0x12000 count=0 last=0 age=2\n\
     row 0 0x12000-0x13000 count=0 last=0 age=2\n";
+
+const SLOT_IS_APPLIED_IN_JSON: &[u8] = b"{\"applied\":[\
+    {\"action\":\"pageout\",\"end\":\"0x11000\",\"score\":11,\"slot\":3,\
+    \"start\":\"0x10000\",\"target\":0}],\
+    \"choices\":[{\"active\":true,\"left\":1,\"lowest\":11,\"slot\":3,\"taken\":1}],\
+    \"kind\":\"aggregate\",\"rows\":[\
+    {\"age\":0,\"count\":0,\"end\":\"0x11000\",\"last\":0,\"start\":\"0x10000\",\"target\":0},\
+    {\"age\":2,\"count\":0,\"end\":\"0x12000\",\"last\":0,\"start\":\"0x11000\",\"target\":0},\
+    {\"age\":2,\"count\":0,\"end\":\"0x13000\",\"last\":0,\"start\":\"0x12000\",\"target\":0}],\
+    \"threshold\":0,\"tick\":2}\n";
 
 const QUOTA_IS_USED_UP: &[u8] = b"aggregate tick=3 threshold=0 rows=3\n\
     slot 3 left=0 taken=0 lowest=none\n\
@@ -247,24 +264,24 @@ fn aggregated_thrice(rt: &impl Abort, alloc: Global) -> Result<Monitor, Fail> {
     Ok(monitor)
 }
 
-// The text of a show, with the last line.
-fn shown(alloc: Global, monitor: &Monitor) -> Result<Vec<u8>, AllocError> {
+// What a show writes in a form, with the last line.
+fn shown(alloc: Global, form: Form, monitor: &Monitor) -> Result<Vec<u8>, AllocError> {
     let mut out = Vec::new(alloc);
-    print_show(alloc, &mut out, Form::Text, monitor)?;
-    print_end(alloc, &mut out, Form::Text, monitor)?;
+    print_show(alloc, &mut out, form, monitor)?;
+    print_end(alloc, &mut out, form, monitor)?;
     Ok(out)
 }
 
-// The text of the last aggregation.
-fn aggregated(alloc: Global, monitor: &Monitor) -> Result<Vec<u8>, AllocError> {
+// What the last aggregation writes in a form.
+fn aggregated(alloc: Global, form: Form, monitor: &Monitor) -> Result<Vec<u8>, AllocError> {
     let mut out = Vec::new(alloc);
-    print_aggregate(alloc, &mut out, Form::Text, monitor)?;
+    print_aggregate(alloc, &mut out, form, monitor)?;
     Ok(out)
 }
 
 // Whether the text of a show begins with this line.
 fn begins(alloc: Global, monitor: &Monitor, line: &[u8]) -> Result<bool, AllocError> {
-    let text = shown(alloc, monitor)?;
+    let text = shown(alloc, Form::Text, monitor)?;
     Ok(strip(&text, line).is_some())
 }
 
@@ -272,7 +289,7 @@ fn begins(alloc: Global, monitor: &Monitor, line: &[u8]) -> Result<bool, AllocEr
 fn a_show_has_the_opening(rt: HostRuntime) -> Result<(), Fail> {
     let alloc = rt.alloc();
     let monitor = started(alloc)?;
-    assert!(rt; same_text(&shown(alloc, &monitor)?, OPENING));
+    assert!(rt; same_text(&shown(alloc, Form::Text, &monitor)?, OPENING));
     Ok(())
 }
 
@@ -281,7 +298,8 @@ fn a_show_has_the_counts_of_a_pass(rt: HostRuntime) -> Result<(), Fail> {
     let alloc = rt.alloc();
     let mut monitor = started(alloc)?;
     first_pass(&rt, &mut monitor);
-    assert!(rt; same_text(&shown(alloc, &monitor)?, AFTER_A_PASS));
+    assert!(rt; same_text(&shown(alloc, Form::Text, &monitor)?, AFTER_A_PASS));
+    assert!(rt; same_text(&shown(alloc, Form::Json, &monitor)?, AFTER_A_PASS_IN_JSON));
     Ok(())
 }
 
@@ -304,8 +322,8 @@ fn an_aggregation_has_the_rows_that_it_reported(rt: HostRuntime) -> Result<(), F
     let mut monitor = started(alloc)?;
     first_pass(&rt, &mut monitor);
     aggregate(&rt, &mut monitor);
-    assert!(rt; same_text(&aggregated(alloc, &monitor)?, AGGREGATION));
-    assert!(rt; same_text(&shown(alloc, &monitor)?, AFTER_AN_AGGREGATION));
+    assert!(rt; same_text(&aggregated(alloc, Form::Text, &monitor)?, AGGREGATION));
+    assert!(rt; same_text(&shown(alloc, Form::Text, &monitor)?, AFTER_AN_AGGREGATION));
     Ok(())
 }
 
@@ -313,7 +331,7 @@ fn an_aggregation_has_the_rows_that_it_reported(rt: HostRuntime) -> Result<(), F
 fn an_inactive_slot_is_named(rt: HostRuntime) -> Result<(), Fail> {
     let alloc = rt.alloc();
     let monitor = aggregated_once(&rt, alloc)?;
-    assert!(rt; same_text(&aggregated(alloc, &monitor)?, SLOT_IS_INACTIVE));
+    assert!(rt; same_text(&aggregated(alloc, Form::Text, &monitor)?, SLOT_IS_INACTIVE));
     Ok(())
 }
 
@@ -321,7 +339,13 @@ fn an_inactive_slot_is_named(rt: HostRuntime) -> Result<(), Fail> {
 fn a_scheme_has_the_runs_that_it_was_applied_to(rt: HostRuntime) -> Result<(), Fail> {
     let alloc = rt.alloc();
     let monitor = aggregated_twice(&rt, alloc)?;
-    assert!(rt; same_text(&aggregated(alloc, &monitor)?, SLOT_IS_APPLIED));
+    assert!(rt; same_text(&aggregated(alloc, Form::Text, &monitor)?, SLOT_IS_APPLIED));
+    assert!(rt;
+        same_text(
+            &aggregated(alloc, Form::Json, &monitor)?,
+            SLOT_IS_APPLIED_IN_JSON
+        )
+    );
     Ok(())
 }
 
@@ -329,7 +353,7 @@ fn a_scheme_has_the_runs_that_it_was_applied_to(rt: HostRuntime) -> Result<(), F
 fn a_quota_that_is_used_up_leaves_nothing(rt: HostRuntime) -> Result<(), Fail> {
     let alloc = rt.alloc();
     let monitor = aggregated_thrice(&rt, alloc)?;
-    assert!(rt; same_text(&aggregated(alloc, &monitor)?, QUOTA_IS_USED_UP));
+    assert!(rt; same_text(&aggregated(alloc, Form::Text, &monitor)?, QUOTA_IS_USED_UP));
     Ok(())
 }
 
@@ -337,6 +361,6 @@ fn a_quota_that_is_used_up_leaves_nothing(rt: HostRuntime) -> Result<(), Fail> {
 fn a_show_has_the_scheme_of_a_slot(rt: HostRuntime) -> Result<(), Fail> {
     let alloc = rt.alloc();
     let monitor = aggregated_thrice(&rt, alloc)?;
-    assert!(rt; same_text(&shown(alloc, &monitor)?, SHOW_WITH_A_SCHEME));
+    assert!(rt; same_text(&shown(alloc, Form::Text, &monitor)?, SHOW_WITH_A_SCHEME));
     Ok(())
 }

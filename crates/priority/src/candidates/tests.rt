@@ -36,12 +36,7 @@ fn the_highest_scores_are_taken_first(rt: HostRuntime) -> Result<(), Fail> {
     );
     assert_eq!(rt;
         candidates.as_slice(),
-        [
-            candidate(4, 90, 2),
-            candidate(0, 50, 1),
-            candidate(2, 50, 0)
-        ]
-        .as_slice()
+        [candidate(4, 90, 2), candidate(0, 50, 1)].as_slice()
     );
     Ok(())
 }
@@ -58,6 +53,7 @@ fn nothing_is_left_of_the_quota(rt: HostRuntime) -> Result<(), Fail> {
             exceeds: true,
         }
     );
+    assert_eq!(rt; candidates.len(), 0);
     Ok(())
 }
 

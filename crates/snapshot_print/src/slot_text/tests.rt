@@ -129,6 +129,6 @@ fn each_action_has_its_word(rt: HostRuntime) {
         (Action::LruDeprio, b"lru_deprio"),
     ];
     for (action, word) in words {
-        assert!(rt; same_text(action_word(action), word));
+        assert!(rt; same_text(action_word(action).as_bytes(), word));
     }
 }

@@ -10,7 +10,7 @@ pub returns-in_err-bytes : goal.returns-in_err-bytes
 returns-in_err-bytes g c =
     let p = err_from_is_err_and c.from_residual.result c.from_residual.ensures.1 in
     let failed = c.in_err-bytes.ensures in
-    rw (p.1, p.2) (not_read INPUT_LIMIT
+    rw (p.1, p.2) (not_read INPUT_LIMIT c.args.form
     (record { bytes = g.S.Source.left c.args.source.now; faults = g.S.Source.faults c.args.source.now })
     (record { bytes = g.S.Source.left c.read_all.new.source; faults = g.S.Source.faults c.read_all.new.source })
     (record { bytes = g.K.Sink.taken c.args.sink.now; faults = g.K.Sink.faults c.args.sink.now })
@@ -22,7 +22,7 @@ pub returns-in_err-script : goal.returns-in_err-script
 returns-in_err-script g c =
     let p = err_from_is_err_and c.from_residual-in_err-script.result c.from_residual-in_err-script.ensures.1 in
     let read = c.in_ok-bytes.ensures in
-    rw (p.1, p.2) (not_spelled INPUT_LIMIT
+    rw (p.1, p.2) (not_spelled INPUT_LIMIT c.args.form
     (record { bytes = g.S.Source.left c.args.source.now; faults = g.S.Source.faults c.args.source.now })
     (record { bytes = g.S.Source.left c.read_all.new.source; faults = g.S.Source.faults c.read_all.new.source })
     (record { bytes = g.K.Sink.taken c.args.sink.now; faults = g.K.Sink.faults c.args.sink.now })
@@ -36,7 +36,7 @@ returns-in_err-write_report g c =
     let read = c.in_ok-bytes.ensures in
     let failed = c.in_err-write_report.ensures in
     let spells = ap script_of (sym c.deref.ensures.value) ∙ c.in_ok-script.ensures.script in
-    rw (p.1, p.2) (not_run INPUT_LIMIT
+    rw (p.1, p.2) (not_run INPUT_LIMIT c.args.form
     (record { bytes = g.S.Source.left c.args.source.now; faults = g.S.Source.faults c.args.source.now })
     (record { bytes = g.S.Source.left c.read_all.new.source; faults = g.S.Source.faults c.read_all.new.source })
     (record { bytes = g.K.Sink.taken c.args.sink.now; faults = g.K.Sink.faults c.args.sink.now })
@@ -48,7 +48,7 @@ pub returns : goal.returns
 returns g c =
     let read = c.in_ok-bytes.ensures in
     let spells = ap script_of (sym c.deref.ensures.value) ∙ c.in_ok-script.ensures.script in
-    replayed INPUT_LIMIT
+    replayed INPUT_LIMIT c.args.form
     (record { bytes = g.S.Source.left c.args.source.now; faults = g.S.Source.faults c.args.source.now })
     (record { bytes = g.S.Source.left c.read_all.new.source; faults = g.S.Source.faults c.read_all.new.source })
     (record { bytes = g.K.Sink.taken c.args.sink.now; faults = g.K.Sink.faults c.args.sink.now })

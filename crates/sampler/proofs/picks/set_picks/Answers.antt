@@ -14,4 +14,6 @@ invariant_of-picks c =
       small = kept.small;
       pages_reserved = omega (arith, c.pick_pages.ensures.capacity, kept.pages_reserved);
       bits_reserved = omega (arith, c.clear_bits.ensures.capacity, kept.bits_reserved);
+      reciprocals_kept = omega (arith, c.renew_at.ensures, ap length c.deref_mut.ensures.value, kept.reciprocals_kept);
+      few_passes = omega arith;
     }

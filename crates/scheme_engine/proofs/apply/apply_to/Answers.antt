@@ -1,4 +1,4 @@
-use Rattle.std.proofs.Common.{◌≡◌, ℕ, ◌≤◌, ◌<◌, Bool, ◌++◌, List, Some, None, length, map, sym, ap, subst, ◌∙◌, arith}
+use Rattle.std.proofs.Common.{ℕ, ◌<◌, Bool, ◌++◌, List, map, sym, ap, subst, ◌∙◌, arith}
 use Rattle.std.specs.Prelude.{Any}
 use Rattle.std.proofs.lemmas.List.{append-nil}
 use Rattle.damon_types.specs.declared.range.Range.{Range}
@@ -6,16 +6,13 @@ use Rattle.damon_types.specs.declared.row.Row.{Row}
 use Rattle.damon_types.specs.Span.{Span, span_of, spans}
 use Rattle.region_list.specs.Regions.{RegionList}
 use Rattle.region_list.specs.Tiles.{LiesIn}
-use Rattle.scheme_filter.specs.declared.runs.Run.{Run}
 use Rattle.scheme_filter.specs.Passes.{passes}
 use Rattle.scheme_engine.specs.declared.applied.AppliedRun.{AppliedRun}
 use Rattle.scheme_engine.specs.Applied.{AppliedList}
-use Rattle.scheme_engine.specs.Applying.{IsCandidateOf, part_of, rows_renewed}
-use Rattle.scheme_engine.specs.Candidates.{passing_pages}
 use Rattle.scheme_engine.specs.Outcome.{cut_place}
-use Rattle.scheme_engine.specs.Taken.{applied_run, candidate_runs, taken_runs}
-use Rattle.scheme_engine.proofs.ApplyLemmas.{Found, found, is_found, no_part_0, no_share, none_new, not_whole, part_is, spans_stay}
-use Rattle.scheme_engine.proofs.PlaceLemmas.{Ascend, row_held, rows_ascend}
+use Rattle.scheme_engine.specs.Taken.{applied_run, taken_runs}
+use Rattle.scheme_engine.proofs.ApplyLemmas.{found, is_found, no_part_0, no_share, none_new, not_whole, part_is, spans_stay}
+use Rattle.scheme_engine.proofs.PlaceLemmas.{row_held, rows_ascend}
 use Rattle.scheme_engine.proofs.apply.apply_to.Goals as goal
 
 pub returns-then-candidate-eq0-clause-runs : goal.returns-then-candidate-eq0-clause-runs
@@ -54,13 +51,13 @@ take_row-pages-requires-clause-held c =
     let is = found p old.rows c.args.candidate.now c.in_ok-index.index c.row-row.result ascend c.requires.row (sym c.find.ensures ∙ c.in_ok-index.was) c.row-row.ensures.row in
     rw c.ranges-2.ensures.list (subst (λ (r : Row). Any (LiesIn (span_of r)) old.ranges) is.read (row_held old.ranges old.rows c.in_ok-index.index c.len-count.ensures.tiles.within is.within))
 
-pub take_row-pages-requires-clause-share : goal.take_row-pages-requires-clause-share
-take_row-pages-requires-clause-share c =
+pub take_row-pages-requires-clause-passing : goal.take_row-pages-requires-clause-passing
+take_row-pages-requires-clause-passing c =
     let old = c.args.regions.now in
     let p = passes c.args.scheme.now.filters c.args.context.now.space.now old.ranges in
     let ascend = rows_ascend old.unit old.ranges (spans old.rows) c.len-count.ensures.unit c.len-count.ensures.order c.len-count.ensures.tiling in
     let is = found p old.rows c.args.candidate.now c.in_ok-index.index c.row-row.result ascend c.requires.row (sym c.find.ensures ∙ c.in_ok-index.was) c.row-row.ensures.row in
-    rw c.ranges-2.ensures.list (omega (arith, c.requires.row.share, is.passing))
+    rw c.ranges-2.ensures.list is.passing
 
 pub renew-requires : goal.renew-requires
 renew-requires c =

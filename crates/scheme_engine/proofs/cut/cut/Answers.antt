@@ -1,11 +1,10 @@
-use Rattle.std.proofs.Common.{◌≡◌, ◌<◌, ◌≤◌, ◌-◌, Bool, true, false, length, refl, ap, ◌∙◌, arith}
+use Rattle.std.proofs.Common.{◌≡◌, true, false, refl, ap, ◌∙◌, arith}
 use Rattle.std.proofs.lemmas.Bool.Decides.{nat_tests}
 use Rattle.std.proofs.lemmas.Option.{get_or_from_slice_get}
 use Rattle.damon_types.specs.declared.row.Row.{Row}
 use Rattle.damon_types.specs.Span.{spans}
-use Rattle.region_list.specs.Regions.{RegionList}
 use Rattle.region_list.specs.Rows.{no_row, row_at}
-use Rattle.scheme_engine.specs.Applying.{IsPartOf, cut_rows, rows_cut}
+use Rattle.scheme_engine.specs.Applying.{cut_rows}
 use Rattle.scheme_engine.specs.Outcome.{may_cut}
 use Rattle.scheme_engine.proofs.CutLemmas.{cut_refined, length-cut_rows}
 use Rattle.scheme_engine.proofs.cut.cut.Goals as goal

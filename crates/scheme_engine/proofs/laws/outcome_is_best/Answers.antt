@@ -1,4 +1,4 @@
-use Rattle.std.proofs.Common.{◌≡◌, refl, sym, subst}
+use Rattle.std.proofs.Common.{refl, sym, subst}
 use Rattle.priority.specs.Best.{IsBest, IsCertified}
 use Rattle.scheme_engine.specs.Candidates.{candidates_of}
 use Rattle.scheme_engine.specs.Outcome.{chosen_of}

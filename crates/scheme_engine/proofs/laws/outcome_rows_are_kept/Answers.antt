@@ -1,4 +1,3 @@
-use Rattle.std.proofs.Common.{subst}
 use Rattle.damon_types.specs.Span.{spans}
 use Rattle.scheme_filter.specs.Passes.{passes}
 use Rattle.scheme_engine.specs.Outcome.{chosen_of, outcome_of}

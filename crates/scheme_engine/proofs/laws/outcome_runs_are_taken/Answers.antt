@@ -1,5 +1,5 @@
-use Rattle.std.proofs.Common.{◌≡◌, ℕ, ◌+◌, ◌≤◌, List, Some, sym, ap, subst, ◌∙◌, arith}
-use Rattle.std.specs.Prelude.{All, Any, IfSome, sum_by}
+use Rattle.std.proofs.Common.{◌≡◌, ℕ, ◌+◌, ◌≤◌, sym, subst, arith}
+use Rattle.std.specs.Prelude.{Any, IfSome, sum_by}
 use Rattle.std.proofs.lemmas.List.Elements.{All-weaker}
 use Rattle.std.proofs.lemmas.List.Folds.{fold-map}
 use Rattle.std.proofs.lemmas.List.Sorted.{sum_by-IsPermutation}
@@ -8,7 +8,6 @@ use Rattle.damon_types.specs.Span.{spans}
 use Rattle.scheme_filter.specs.Passes.{passes}
 use Rattle.scheme_match.specs.Match.{is_match}
 use Rattle.priority.specs.declared.candidates.Candidate.{Candidate}
-use Rattle.priority.specs.Chosen.{taken_of}
 use Rattle.priority.specs.Share.{with_share, with_shares}
 use Rattle.scheme_engine.specs.Candidates.{candidates_of}
 use Rattle.scheme_engine.specs.Kept.{IsRunIn, LiesInRow}

@@ -1,53 +1,24 @@
-use Rattle.std.proofs.Common.{◌≡◌, ◌+◌, ◌≤◌, ◌<◌, ◌^◌, ◌-◌, ◌++◌, List, length, map, ap, sym, ◌∙◌, arith}
-use Rattle.std.proofs.lemmas.List.{length-append, length-map}
-use Rattle.std.proofs.lemmas.List.Elements.{All-weaker}
-use Rattle.damon_types.specs.Span.{span_of}
+use Rattle.std.proofs.Common.{◌++◌, List, length, map, ap, sym, ◌∙◌, arith}
+use Rattle.std.proofs.lemmas.List.{length_push}
 use Rattle.scheme_filter.specs.declared.runs.Run.{Run}
 use Rattle.scheme_filter.specs.Passes.{passes}
-use Rattle.scheme_filter.specs.Runs.{run_end}
-use Rattle.scheme_engine.specs.declared.applied.AppliedRun.{AppliedRun}
 use Rattle.scheme_engine.specs.Applied.{AppliedList}
-use Rattle.scheme_engine.specs.Applying.{first_pages, end_of_runs}
-use Rattle.scheme_engine.specs.Taken.{applied_run, taken_runs}
-use Rattle.scheme_engine.proofs.ApplyLemmas.{cut_within, end_is}
-use Rattle.scheme_engine.proofs.PlaceLemmas.{held_end}
-use Rattle.scheme_engine.proofs.TakenLemmas.{length-first_pages, taken_are_first}
+use Rattle.scheme_engine.specs.Taken.{applied_run}
+use Rattle.scheme_engine.proofs.TakenLemmas.{whole_cut, whole_taken}
 use Rattle.scheme_engine.proofs.pages.take_row.Goals as goal
 
-pub take_pages-end-requires-clause-ends : goal.take_pages-end-requires-clause-ends
-take_pages-end-requires-clause-ends c =
-    let r = c.args.row.now in
-    let end = held_end c.args.ranges.now.list (span_of r) c.len-count.ensures.order c.requires.held in
-    rw c.as_slice.ensures.items
-    (All-weaker (λ s. (r.start ≤ s.start) × (run_end s ≤ r.start + r.pages)) (λ s. run_end s < 2 ^ 32) (λ s is. omega (arith, is.1, end)) c.passing.new.runs c.passing.ensures.longest.within)
-
-pub overflow_sub-result : goal.overflow_sub-result
-overflow_sub-result c =
-    let p = passes c.args.filters.now c.args.space.now c.args.ranges.now.list in
-    let r = c.args.row.now in
-    let cand = c.args.candidate.now in
-    let runs = c.as_slice.ensures.items ∙ c.passing.ensures.exact in
-    let end = c.take_pages-end.ensures.end ∙ ap (λ rs. end_of_runs (first_pages cand.share rs)) runs ∙ end_is p cand r in
-    let within = cut_within p cand.share (span_of r) c.requires.some c.requires.share in
-    omega (arith, end, within.0)
-
-pub returns : goal.returns
-returns c =
+pub returns-then-candidate-row : goal.returns-then-candidate-row
+returns-then-candidate-row c =
     let p = passes c.args.filters.now c.args.space.now c.args.ranges.now.list in
     let r = c.args.row.now in
     let cand = c.args.candidate.now in
     let old = c.args.applied.now in
-    let now = c.take_pages-end.ensures.runs in
-    let runs = c.as_slice.ensures.items ∙ c.passing.ensures.exact in
-    let are : first_pages cand.share c.as_slice.result.now ≡ taken_runs p cand.share (span_of r) = ap (first_pages cand.share) runs ∙ sym (taken_are_first p cand.share r.start r.pages) in
-    let end = c.take_pages-end.ensures.end ∙ ap (λ rs. end_of_runs (first_pages cand.share rs)) runs ∙ end_is p cand r in
-    let within = cut_within p cand.share (span_of r) c.requires.some c.requires.share in
+    let all = sym c.requires.passing ∙ c.if-candidate-row.true in
     let with : List Run → AppliedList = λ rs. record old { runs = old.runs ++ map (applied_run c.args.slot cand) rs } in
-    let pushed : List AppliedRun = map (applied_run c.args.slot cand) (first_pages cand.share c.as_slice.result.now) in
-    let few = length-first_pages cand.share c.as_slice.result.now in
+    let are = whole_taken p r.pages r.start cand.share all c.requires.some (omega arith) in
     record {
-      runs = now ∙ ap with are;
-      few = omega (arith, ap (λ (a : AppliedList). length a.runs) now, length-append old.runs pushed, length-map (first_pages cand.share c.as_slice.result.now) (applied_run c.args.slot cand), few, c.as_slice.ensures.most);
-      pages = ap (λ n. n - r.start) end;
-      most = omega (arith, end, within.1);
+      runs = c.push_run.ensures ∙ ap with (sym are);
+      few = omega (arith, ap (λ (a : AppliedList). length a.runs) c.push_run.ensures, length_push old.runs (applied_run c.args.slot cand (record { start = r.start; pages = cand.share })));
+      pages = sym (whole_cut p r.pages r.start cand.share all c.requires.some (omega arith));
+      most = omega arith;
     }

@@ -1,13 +1,12 @@
-use Rattle.std.proofs.Common.{◌≡◌, ℕ, Bool, true, ◌++◌, ◌∷◌, [], List, Option, Some, refl, sym, ap, subst, ◌∙◌}
+use Rattle.std.proofs.Common.{◌≡◌, ℕ, true, ◌++◌, ◌∷◌, [], List, Option, Some, refl, sym, ap, subst, ◌∙◌}
 use Rattle.damon_types.specs.declared.row.Row.{Row}
-use Rattle.damon_types.specs.declared.scheme.Scheme.{Scheme}
 use Rattle.region_list.specs.Regions.{RegionList}
 use Rattle.scheme_engine.specs.declared.applied.SlotChoice.{SlotChoice}
 use Rattle.scheme_engine.specs.Applied.{AppliedList}
 use Rattle.scheme_engine.specs.Engine.{FitsSlot}
 use Rattle.scheme_engine.specs.Outcome.{Outcome, outcome_of}
 use Rattle.scheme_engine.specs.Served.{ServedSlot, choice_of, left_in, scheme_served, slot_counted, slot_run}
-use Rattle.scheme_engine.specs.Slots.{SetScheme, SlotValue}
+use Rattle.scheme_engine.specs.Slots.{SetScheme}
 use Rattle.scheme_engine.proofs.serve.serve_set.Goals as goal
 
 pub count-requires-clause-fits : goal.count-requires-clause-fits

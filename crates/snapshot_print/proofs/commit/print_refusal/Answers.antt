@@ -1,10 +1,11 @@
-use Rattle.std.proofs.Common.{◌≡◌, ◌++◌, codes, append_assoc, subst}
+use Rattle.std.proofs.Common.{◌≡◌, ◌++◌, codes, append_assoc, rules, subst}
 use Rattle.std.specs.Prelude.{OnOk}
 use Rattle.snapshot_print.specs.Commit.{refusal_text}
 use Rattle.snapshot_print.proofs.commit.print_refusal.Goals as goal
 
 pub returns-in_ok-print_field-in-BadRange-clause-ok : goal.returns-in_ok-print_field-in-BadRange-clause-ok
 returns-in_ok-print_field-in-BadRange-clause-ok c =
-    let joined : c.print_field-in-BadRange.new.out.items ++ (codes " " ++ c.range_why.result.now) ≡ c.args.out.now.items ++ refusal_text c.args.fault =
-    rw (c.in-BadRange.is, c.in_ok-print_field-in-BadRange.ensures.ok, c.from-in-BadRange.ensures, c.range_why.ensures) (simp append_assoc) in
+    let bytes : c.as_bytes.result.now ≡ c.range_why.result.now = search rules in
+    let joined : c.print_field-in-BadRange.new.out.items ++ (codes " " ++ c.as_bytes.result.now) ≡ c.args.out.now.items ++ refusal_text c.args.fault =
+    rw (bytes, c.in-BadRange.is, c.in_ok-print_field-in-BadRange.ensures.ok, c.from-in-BadRange.ensures, c.range_why.ensures) (simp append_assoc) in
     subst (λ text. OnOk c.print_word.result (c.print_word.new.out.items ≡ text)) joined c.print_word.ensures.ok

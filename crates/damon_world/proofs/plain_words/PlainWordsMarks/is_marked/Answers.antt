@@ -1,27 +1,31 @@
-use Rattle.std.proofs.Common.{◌<◌, length, map, sym, ap, ◌∙◌, arith}
-use Rattle.std.proofs.lemmas.Grind.{get_or_default_zero}
+use Rattle.std.proofs.Common.{◌≡◌, ◌<◌, ◌%◌, ◌/◌, false, length, map, sym, ap, ◌∙◌, arith}
 use Rattle.std.proofs.lemmas.List.{length-map}
-use Rattle.std.specs.Prelude.{slice_index}
+use Rattle.std.specs.Prelude.{◌==◌, ◌||◌, slice_index, slice_index_or}
 use Rattle.sampler.specs.Loaded.{mark_of}
-use Rattle.damon_world.specs.Words.{words_of, is_touched_word}
-use Rattle.damon_world.proofs.Parts.{length-words_of, words_of-at, mark_of_page, mark_of_word}
+use Rattle.damon_world.specs.Words.{word_in, words_in, is_touched_word}
+use Rattle.damon_world.proofs.Parts.{get_or-default, length_view, view_at, mark_of_page, mark_in}
 use Rattle.damon_world.proofs.plain_words.PlainWordsMarks.is_marked.Goals as goal
 
 pub index-requires : goal.index-requires
 index-requires c =
     let w = c.self.inside in
-    omega (arith, c.requires, length-map c.args.self.now is_touched_word, ap length c.self.view_is, length-words_of w.lows.items w.highs.items)
+    let here : c.args.page < w.pages = omega (arith, c.requires, length-map c.args.self.now is_touched_word, ap length c.self.view_is, length_view (word_in w.swept.items w.lows.items w.highs.items) w.pages) in
+    omega (arith, here, c.self.invariant.blocks)
 
 pub returns : goal.returns
 returns c =
     let w = c.self.inside in
+    let s = w.swept.items in
     let ls = w.lows.items in
     let hs = w.highs.items in
     let p = c.args.page in
-    let old = words_of ls hs in
-    let here : p < length ls = omega (arith, c.requires, length-map c.args.self.now is_touched_word, ap length c.self.view_is, length-words_of ls hs) in
-    ap is_touched_word (c.index.ensures ∙ get_or_default_zero ls p c.index.result.now here)
-    ∙ sym (mark_of_word (slice_index ls p) (slice_index hs p))
-    ∙ ap is_touched_word (sym (words_of-at ls hs p here))
-    ∙ sym (mark_of_page old p (omega (arith, here, length-words_of ls hs)))
+    let here : p < w.pages = omega (arith, c.requires, length-map c.args.self.now is_touched_word, ap length c.self.view_is, length_view (word_in s ls hs) w.pages) in
+    let block : p / 64 < length s = omega (arith, here, c.self.invariant.blocks) in
+    let flag : c.index.result.now ≡ slice_index_or s (p / 64) false = c.index.ensures ∙ get_or-default s (p / 64) c.index.result.now false block in
+    let low : c.low_at.result ≡ slice_index ls p = c.low_at.ensures ∙ ap (λ xs. slice_index xs p) c.deref.ensures.value in
+    ap (λ b. b || c.low_at.result % 2 == 1) flag
+    ∙ ap (λ l. slice_index_or s (p / 64) false || l % 2 == 1) low
+    ∙ mark_in s ls hs p
+    ∙ ap is_touched_word (sym (view_at (word_in s ls hs) w.pages p here))
+    ∙ sym (mark_of_page (words_in w.pages s ls hs) p (omega (arith, here, length_view (word_in s ls hs) w.pages)))
     ∙ ap (λ ws. mark_of (map is_touched_word ws) p) c.self.view_is

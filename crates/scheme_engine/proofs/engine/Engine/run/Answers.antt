@@ -1,9 +1,9 @@
-use Rattle.std.proofs.Common.{◌≡◌, ◌<◌, length, get_or, subst, sym, ap, arith}
+use Rattle.std.proofs.Common.{◌<◌, length, subst, arith}
 use Rattle.std.proofs.lemmas.List.{get_or_default}
 use Rattle.scheme_engine.specs.Engine.{FitsSlot}
 use Rattle.scheme_engine.specs.Served.{slot_served}
 use Rattle.scheme_engine.specs.Slots.{SlotValue, empty_slot}
-use Rattle.scheme_engine.proofs.EngineLemmas.{serving_all, serving_fits, serving_more, serving_none}
+use Rattle.scheme_engine.proofs.EngineLemmas.{serving_fits}
 use Rattle.scheme_engine.proofs.engine.Engine.run.Goals as goal
 
 pub serve-requires-clause-fits : goal.serve-requires-clause-fits

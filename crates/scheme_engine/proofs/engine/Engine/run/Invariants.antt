@@ -1,4 +1,4 @@
-use Rattle.std.proofs.Common.{◌≡◌, ◌+◌, ◌*◌, ◌≤◌, length}
+use Rattle.std.proofs.Common.{◌≡◌, ◌*◌, ◌≤◌, length}
 use Rattle.scheme_engine.specs.declared.slot.TheConstants.{SLOTS}
 use Rattle.scheme_filter.specs.declared.runs.TheConstants.{MAX_RUNS}
 use Rattle.scheme_engine.proofs.EngineLemmas.{IsServing}

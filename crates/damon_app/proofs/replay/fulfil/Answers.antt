@@ -1,0 +1,24 @@
+use Rattle.std.proofs.Common.{◌≡◌, refl}
+use Rattle.damon_app.specs.declared.input.TheConstants.{INPUT_LIMIT}
+use Rattle.damon_app.proofs.Serving.{reported, summarized}
+use Rattle.damon_app.proofs.replay.fulfil.Goals as goal
+
+pub returns-in-Report : goal.returns-in-Report
+returns-in-Report g c =
+    rw (c.in-Report.is, c.status_of.ensures)
+    (reported INPUT_LIMIT c.in-Report.form
+    (record { bytes = g.S.Source.left c.args.source.now; faults = g.S.Source.faults c.args.source.now })
+    (record { bytes = g.S.Source.left c.replay.new.source; faults = g.S.Source.faults c.replay.new.source })
+    (record { bytes = g.K.Sink.taken c.args.sink.now; faults = g.K.Sink.faults c.args.sink.now })
+    (record { bytes = g.K.Sink.taken c.replay.new.sink; faults = g.K.Sink.faults c.replay.new.sink })
+    (c.replay.new.source ≡ c.args.source.now) (c.replay.new.sink ≡ c.args.sink.now) _ c.replay.ensures)
+
+pub returns-in-Generate : goal.returns-in-Generate
+returns-in-Generate g c =
+    let run = c.summarize.ensures in
+    rw (c.in-Generate.is, c.status_of-in-Generate.ensures)
+    (summarized INPUT_LIMIT c.in-Generate.number
+    (record { bytes = g.S.Source.left c.args.source.now; faults = g.S.Source.faults c.args.source.now })
+    (record { bytes = g.K.Sink.taken c.args.sink.now; faults = g.K.Sink.faults c.args.sink.now })
+    (record { bytes = g.K.Sink.taken c.summarize.new.sink; faults = g.K.Sink.faults c.summarize.new.sink })
+    (c.args.source.now ≡ c.args.source.now) (c.summarize.new.sink ≡ c.args.sink.now) refl run.part c.summarize.result run.all run.answers run.cause)

@@ -1,0 +1,38 @@
+-- What the words after the program's name ask for.
+use Rattle.std.specs.Prelude.{ℕ, ◌-◌, ◌^◌, List, [], ◌∷◌, Option, Some, None, if◌then◌else◌, map, codes, string_bytes, String}
+use Rattle.std.specs.Option.{option_map}
+use Rattle.std.specs.declared.alloc.Global.{Global}
+use Rattle.line_text.specs.Number.{number}
+use Rattle.damon_control.specs.Words.{same_word}
+use Rattle.snapshot_print.specs.declared.form.Form.TheVariants.{Text, Json}
+use Rattle.damon_app.specs.declared.request.Request.{Request}
+use Rattle.damon_app.specs.declared.request.Request.TheVariants.{Report, Generate}
+
+-- the report that one word asks for, in its form
+abbrev pub report_of : List ℕ → Option Request
+report_of word =
+    if same_word word (codes "replay") then Some (Report Text)
+    else if same_word word (codes "json") then Some (Report Json)
+    else None
+
+-- the generated run that two words ask for: `gen`, and a number of at most 64 bits in its one spelling
+abbrev pub generation_of : List ℕ → List ℕ → Option Request
+generation_of word digits =
+    if same_word word (codes "gen") then option_map (λ n. Generate n) (number (2 ^ 64 - 1) digits) else None
+
+-- what words ask for, each given by its bytes: `replay` or `json` alone, or `gen N`, and nothing else
+abbrev pub request_of : List (List ℕ) → Option Request
+request_of [] = None
+request_of (word ∷ []) = report_of word
+request_of (word ∷ digits ∷ []) = generation_of word digits
+request_of (word ∷ digits ∷ more ∷ words) = None
+
+-- what the program's words ask for
+abbrev pub asked : List (String Global) → Option Request
+asked words = request_of (map string_bytes words)
+
+-- an input is read for what was asked
+abbrev pub ReadsInput : Option Request → Type 0
+ReadsInput (Some (Report form)) = Unit {0}
+ReadsInput (Some (Generate n)) = ⊥
+ReadsInput None = ⊥

@@ -1,0 +1,21 @@
+// What holds of all runs of the program. The functions do nothing.
+ghost use Rattle.std.specs.Prelude.{ℕ};
+ghost use Rattle.damon_app.specs.Runs.{EachRunChoosesBest, EachRunIsBound};
+
+// The states along each run are bound.
+pub(crate) fn each_run_is_bound()
+    ensures { EachRunIsBound }
+{
+    damon_control::scripts_are_sound();
+    trace_gen::generated_scripts_are_sound();
+    script_run::each_script_is_bound();
+}
+
+// Each aggregation along each run applies schemes to the best choices.
+pub(crate) fn each_run_chooses_best()
+    ensures { EachRunChoosesBest }
+{
+    damon_control::scripts_are_sound();
+    trace_gen::generated_scripts_are_sound();
+    script_run::each_choice_is_best();
+}

@@ -1,0 +1,60 @@
+-- A touch line at the front of a text is read as a touch.
+use Rattle.std.proofs.Common.{◌≡◌, ℕ, ◌+◌, ◌<◌, true, false, List, [], ◌∷◌, ◌++◌, length, codes, decimal, append_assoc, Ok, All, refl, sym, ap, ◌∙◌, arith}
+use Rattle.std.proofs.lemmas.List.Elements.{All-cons}
+use Rattle.damon_types.specs.declared.space.Target.{Target}
+use Rattle.line_text.specs.Address.{spelled_address}
+use Rattle.line_text.specs.Laws.{PutsPartsTogether, TakesApartPieces}
+use Rattle.line_text.specs.Parts.{IsPiece, joined, parts}
+use Rattle.damon_control.specs.Command.{CommandValue, Touch}
+use Rattle.damon_control.specs.Laws.{IsTouch, WordLaws}
+use Rattle.damon_control.specs.Body.{command_line, no_commit}
+use Rattle.damon_control.specs.declared.grammar.Grammar.TheVariants.{OfScript}
+use Rattle.damon_control.specs.Refusal.{◌>>=◌}
+use Rattle.damon_control.specs.Script.{AtEnd, Body, InBody, InCommit, after_body, at, reads, with_command}
+use Rattle.damon_control.specs.Spelling.{spelled_touch}
+use Rattle.damon_control.specs.Touches.{BeginsWithTouch}
+use Rattle.damon_control.specs.Words.{alone, begins_with}
+use Rattle.damon_control.proofs.LineWords.{BeginsNeither, command_begins, plain-IsPiece}
+use Rattle.damon_control.proofs.PartLemmas.{parts-some, reads_line}
+use Rattle.damon_control.proofs.ReadCommands.{command_line-said}
+use Rattle.damon_control.proofs.SpellSteps.{passed_over}
+
+-- a line before the others of a text
+joined_line : (line : List ℕ) (others : List (List ℕ)) → 0 < length others → joined 10 (line ∷ others) ≡ line ++ 10 ∷ joined 10 others
+joined_line line [] some = absurd (omega arith)
+joined_line line (next ∷ more) some = refl
+
+-- a line without an LF is the first part of a text
+parts_line : (puts : PutsPartsTogether) (takes : TakesApartPieces) (line rest : List ℕ) → IsPiece 10 line → parts 10 (line ++ 10 ∷ rest) ≡ line ∷ parts 10 rest
+parts_line puts takes line rest piece =
+    ap (λ bytes. parts 10 (line ++ 10 ∷ bytes)) (sym (puts 10 rest).0)
+    ∙ ap (parts 10) (sym (joined_line line (parts 10 rest) (parts-some 10 rest)))
+    ∙ takes 10 line (parts 10 rest) (All-cons (IsPiece 10) line (parts 10 rest) piece (puts 10 rest).1)
+
+-- a line of a command goes on with the command
+after_command : (b : Body) (line : List ℕ) (command : CommandValue) → BeginsNeither (codes "end") (codes "commit") line → command_line b.said.setup.space line ≡ Ok command
+    → after_body b line ≡ with_command b command
+after_command b line command neither said =
+    passed_over (begins_with (codes "end") line) _ _ _ neither.not_first
+    (passed_over (begins_with (codes "commit") line) _ _ _ neither.not_second (ap (λ r. r >>= with_command b) said))
+
+-- a text that begins with a touch is read as the touch and the rest
+pub reads_touch : (laws : WordLaws) (space : List Target) (text : List ℕ) (page : ℕ) (rest : List ℕ) → BeginsWithTouch space text page rest
+    → (n : ℕ) (b : Body) → b.said.setup.space ≡ space
+    → reads OfScript n (InBody b) (parts 10 text) ≡ (at n (with_command b (Touch page)) >>= λ next. reads OfScript (n + 1) next (parts 10 rest))
+reads_touch laws space text page rest begins n b same =
+    let line = begins.line in
+    let said : command_line space line ≡ Ok (Touch page) = command_line-said laws space line (Touch page) begins.touch in
+    let neither = command_begins space line (Touch page) said in
+    ap (λ bytes. reads OfScript n (InBody b) (parts 10 bytes)) begins.whole
+    ∙ ap (reads OfScript n (InBody b)) (parts_line laws.parts laws.pieces line rest (plain-IsPiece line neither.plain))
+    ∙ reads_line OfScript n (InBody b) line rest
+    ∙ ap (λ r. at n r >>= λ next. reads OfScript (n + 1) next (parts 10 rest)) (after_command b line (Touch page) neither (ap (λ targets. command_line targets line) same ∙ said))
+
+-- the words of a touch, and then an LF, begin a text
+pub spelled_front : (target addr : ℕ) (text words end rest : List ℕ) → text ≡ codes "touch " ++ (decimal target ++ (codes " " ++ words)) → words ≡ spelled_address addr ++ end → end ≡ 10 ∷ rest
+    → text ≡ spelled_touch target addr ++ 10 ∷ rest
+spelled_front target addr text words end rest first second third =
+    first
+    ∙ ap (λ ws. codes "touch " ++ (decimal target ++ (codes " " ++ ws))) (second ∙ ap (λ e. spelled_address addr ++ e) third)
+    ∙ ap (λ ws. codes "touch " ++ ws) (sym (append_assoc (decimal target) (codes " " ++ spelled_address addr) (10 ∷ rest)))

@@ -1,0 +1,179 @@
+ghost use Rattle.std.specs.Prelude.{◌≡◌, ◌+◌, ◌≤◌, ◌<◌, ◌^◌, ℕ, true, List, length, filter, sum_by, slice_get, Some, All, Any};
+ghost use Rattle.std.specs.List.{range_with_len};
+ghost use Rattle.damon_types.specs.declared.range.Range.{Range as range};
+ghost use Rattle.damon_types.specs.declared.space.Target.{Target as target};
+ghost use Rattle.damon_types.specs.Ranges.{end_of};
+ghost use Rattle.damon_types.specs.Span.{span_of};
+ghost use Rattle.damon_types.specs.Within.{AreWithin};
+ghost use Rattle.region_list.specs.Tiles.{LiesIn};
+ghost use Rattle.scheme_filter.specs.Passes.{passes};
+ghost use Rattle.scheme_filter.specs.Runs.{AreLongest, run_end};
+ghost use Rattle.scheme_filter.specs.RangeRuns.{AreRunsOf, IsInFirst, shared_of};
+
+use crate::{PassRuns, Run, passing};
+use damon_types::{Filters, Range, Ranges, Row, Space};
+use std::marker::Model;
+
+/// The runs of passing pages of a range, kept for the rows of that range, which follow each other.
+#[derive(Debug, Drop)]
+pub struct RangeRuns {
+    from: u32,
+    to: u32,
+    runs: PassRuns,
+}
+
+impl Model for RangeRuns {
+    ghost use Rattle.scheme_filter.specs.RangeRuns.{RunsWithin};
+
+    ghost Value = { RunsWithin };
+
+    ghost view = { λ r. record { from = r.from; to = r.to; runs = r.runs } };
+}
+
+impl RangeRuns {
+    /// What to begin with: without filters, by which every page passes, one run of all pages, and else
+    /// the runs of no pages.
+    pub fn new(filters: &Filters) -> RangeRuns
+        ensures { (space : List target) (ranges : List range)
+            → AreRunsOf (passes filters.now space ranges) result }
+    {
+        let mut runs = PassRuns::new();
+        let mut to = 0;
+        if filters.len() == 0 {
+            to = u32::MAX;
+            runs.push(Run {
+                start: 0,
+                pages: to,
+            });
+        }
+        RangeRuns { from: 0, to, runs }
+    }
+
+    // Whether the first run holds all pages from `start` to before `end`.
+    fn is_in_first(&self, start: u32, end: u32) -> bool
+        requires { All (λ r. run_end r < 2 ^ 32) self.now.runs }
+        ensures { result ≡ true → IsInFirst start end self.now.runs }
+    {
+        match self.runs.as_slice().first() {
+            Some(run) => run.start <= start && end <= run.start + run.pages,
+            None => false,
+        }
+    }
+
+    // How many pages of the runs are among those from `start` to before `end`.
+    fn count(&self, start: u32, end: u32) -> u32
+        requires ends { All (λ r. run_end r < 2 ^ 32) self.now.runs }
+        requires few { sum_by (shared_of start end) self.now.runs < 2 ^ 32 }
+        ensures { result ≡ sum_by (shared_of start end) self.now.runs }
+    {
+        let mut count = 0;
+        for run in self.runs.as_slice() {
+            count += shared(run, start, end);
+        }
+        count
+    }
+}
+
+/// How many pages of a row pass the filters of a scheme (see [`passes`](crate::passes)).
+///
+/// `near` holds the runs of the range of an earlier row, for the same filters and ranges, or what
+/// [`RangeRuns::new`] gives. If the row lies among their pages, it is counted from them; else `near`
+/// becomes the runs of the row's range. So rows of one range that follow each other look at the filters
+/// once. The ranges lie in the space, and one of them holds the row. Takes no memory.
+pub fn count_passing(
+    filters: &Filters,
+    space: &Space,
+    ranges: &Ranges,
+    row: &Row,
+    near: &mut RangeRuns,
+) -> u32
+    requires within { AreWithin space.now ranges.now.list }
+    requires held { Any (LiesIn (span_of row.now)) ranges.now.list }
+    requires near { AreRunsOf (passes filters.now space.now ranges.now.list) near.old }
+    ensures count { result ≡ length (filter (passes filters.now space.now ranges.now.list)
+        (range_with_len row.now.start row.now.pages)) }
+    ensures near { AreRunsOf (passes filters.now space.now ranges.now.list) near.new }
+{
+    // For its clauses alone: each range ends below page 2^32.
+    let _count = ranges.len();
+    reach(filters, space, ranges, row, near);
+    let start = row.start;
+    let end = start + row.pages;
+    // Mostly all pages of a row pass, and a range has one run.
+    if near.is_in_first(start, end) {
+        return row.pages;
+    }
+    near.count(start, end)
+}
+
+// Makes `near` the runs of pages among which the row lies, if it does not lie among those of `near`.
+fn reach(filters: &Filters, space: &Space, ranges: &Ranges, row: &Row, near: &mut RangeRuns)
+    requires within { AreWithin space.now ranges.now.list }
+    requires held { Any (LiesIn (span_of row.now)) ranges.now.list }
+    requires near { AreRunsOf (passes filters.now space.now ranges.now.list) near.old }
+    ensures near { AreRunsOf (passes filters.now space.now ranges.now.list) near.new }
+    ensures from { near.new.from ≤ row.now.start }
+    ensures to { row.now.start + row.now.pages ≤ near.new.to }
+    ensures small { near.new.to < 2 ^ 32 }
+{
+    // For its clauses alone: each range ends below page 2^32.
+    let _count = ranges.len();
+    if near.from <= row.start && row.start + row.pages <= near.to {
+        return;
+    }
+    look_up(filters, space, ranges, row, near);
+}
+
+// Makes `near` the runs of the range that holds the row. It stands by itself, since few rows need it.
+#[inline(never)]
+fn look_up(filters: &Filters, space: &Space, ranges: &Ranges, row: &Row, near: &mut RangeRuns)
+    requires within { AreWithin space.now ranges.now.list }
+    requires held { Any (LiesIn (span_of row.now)) ranges.now.list }
+    ensures near { AreRunsOf (passes filters.now space.now ranges.now.list) near.new }
+    ensures from { near.new.from ≤ row.now.start }
+    ensures to { row.now.start + row.now.pages ≤ near.new.to }
+    ensures small { near.new.to < 2 ^ 32 }
+{
+    // For its clauses alone: each range ends below page 2^32.
+    let _count = ranges.len();
+    let range = range_of(ranges, row);
+    let whole = Row {
+        start: range.first,
+        pages: range.pages,
+        target: range.target,
+        ..*row
+    };
+    near.from = range.first;
+    near.to = range.first + range.pages;
+    passing(filters, space, ranges, &whole, &mut near.runs);
+}
+
+// The range that holds the row. The search is binary.
+fn range_of(ranges: &Ranges, row: &Row) -> Range
+    requires { Any (LiesIn (span_of row.now)) ranges.now.list }
+    ensures from { result.first ≤ row.now.start }
+    ensures to { row.now.start + row.now.pages ≤ end_of result }
+    ensures one { (index : ℕ) × (slice_get ranges.now.list index ≡ Some result) }
+{
+    let mut low = 0;
+    let mut high = ranges.len();
+    'search: while low + 1 < high {
+        let middle = low + (high - low) / 2;
+        if ranges.get(middle).first <= row.start {
+            low = middle;
+        } else {
+            high = middle;
+        }
+    }
+    ranges.get(low)
+}
+
+// How many of the pages from `start` to before `end` the run holds.
+fn shared(run: &Run, start: u32, end: u32) -> u32
+    requires { run_end run.now < 2 ^ 32 }
+    ensures { result ≡ shared_of start end run.now }
+{
+    let from = run.start.max(start);
+    let to = (run.start + run.pages).min(end);
+    to.saturating_sub(from)
+}

@@ -1,0 +1,91 @@
+// The values of the set slots in a show as JSON.
+ghost use Rattle.std.specs.Prelude.{◌≡◌, ◌≤◌, ◌++◌, ℕ, List, [], ◌∷◌, codes, length, slice_index_or, OnOk};
+ghost use Rattle.std.specs.Option.{option_map_or};
+ghost use Rattle.serde.specs.Event.{Log as log};
+ghost use Rattle.serde_json.specs.Data.{Data};
+ghost use Rattle.serde_json.specs.Events.{SendsItems, SendsValue};
+ghost use Rattle.serde_json.specs.View.{items_of};
+ghost use Rattle.scheme_engine.specs.Slots.{empty_slot, view_of};
+ghost use Rattle.snapshot_print.specs.Json.{list_of, set_slot_json, set_slots_json, slot_json};
+ghost use Rattle.snapshot_print.specs.Sending.{SendsMember};
+
+use crate::json_parts::{send_bool, send_count, send_text};
+use crate::slot_text::action_word;
+use damon_types::MAX_SLOT;
+use scheme_engine::{Engine, SLOTS, SlotView};
+use serde::Serializer;
+
+// Sends the member `slots` of a show: a value for each set slot, in slot order.
+#[tactic(auto, using(crate::proofs::JsonSlots::set_slots_next))]
+pub(crate) fn send_slots<S: Serializer>(out: &mut S, engine: &Engine) -> Result<(), S::Error>
+    ensures { OnOk result
+        (SendsMember (codes "slots") (list_of (set_slots_json 0 engine.now.slots))
+        (S.written out.old) (S.written out.new)) }
+{
+    // For its clauses alone: the number of slots.
+    let _cap = engine.cap();
+    out.key("slots")?;
+    out.begin_seq(Some(count_set(engine)))?;
+    for slot in 0..SLOTS {
+        send_slot(out, slot as u8, engine)?;
+    }
+    out.end_seq()
+}
+
+// How many slots are set.
+#[tactic(auto, using(crate::proofs::JsonSlots::set_slots_length))]
+fn count_set(engine: &Engine) -> usize
+    ensures { result ≡ length (set_slots_json 0 engine.now.slots) }
+{
+    // For its clauses alone: the number of slots.
+    let _cap = engine.cap();
+    let mut set = 0;
+    for slot in 0..SLOTS {
+        set += count_slot(engine, slot as u8);
+    }
+    set
+}
+
+// 1 for a slot that is set, and 0 for one that is not.
+fn count_slot(engine: &Engine, slot: u8) -> usize
+    requires { slot ≤ MAX_SLOT }
+    ensures count { result
+        ≡ length (set_slot_json slot (slice_index_or engine.now.slots slot empty_slot)) }
+    ensures one { result ≤ 1 }
+{
+    match engine.slot(slot) {
+        Some(_) => 1,
+        None => 0,
+    }
+}
+
+// Sends the value of a slot, if it is set.
+fn send_slot<S: Serializer>(out: &mut S, slot: u8, engine: &Engine) -> Result<(), S::Error>
+    requires { slot ≤ MAX_SLOT }
+    ensures { OnOk result ((rest : List Data) (end : log)
+        → SendsItems (items_of rest) (S.written out.new) end
+        → SendsItems (items_of (set_slot_json slot (slice_index_or engine.now.slots slot empty_slot) ++ rest))
+        (S.written out.old) end) }
+{
+    match engine.slot(slot) {
+        Some(view) => send_set_slot(out, slot, &view),
+        None => Ok(()),
+    }
+}
+
+// Sends the value of a set slot.
+fn send_set_slot<S: Serializer>(out: &mut S, slot: u8, view: &SlotView) -> Result<(), S::Error>
+    ensures { OnOk result
+        (SendsValue (slot_json slot view.now) (S.written out.old) (S.written out.new)) }
+{
+    out.begin_map(Some(8))?;
+    send_text(out, "action", action_word(view.action))?;
+    send_bool(out, "active", view.active)?;
+    send_count(out, "applied", view.applied)?;
+    send_count(out, "charged", view.window.charged)?;
+    send_count(out, "exceeds", view.exceeds)?;
+    send_count(out, "slot", u64::from(slot))?;
+    send_count(out, "start", view.window.start)?;
+    send_count(out, "tried", view.tried)?;
+    out.end_map()
+}
