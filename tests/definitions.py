@@ -124,7 +124,7 @@ def read_specs(crate, name):
     """Gives the definitions of a file, and its text."""
     text = (TOP / "crates" / crate / "specs" / f"{name}.antt").read_text()
     found, words, lines = [], [], []
-    for line in text.splitlines():
+    for line in apart(text.splitlines()):
         head = DEFINITION.match(line)
         if line.startswith("--"):
             words.append(line[2:].strip())
@@ -139,6 +139,18 @@ def read_specs(crate, name):
         if not line.startswith(("--", "infix")):
             words = []
     return [Definition(crate, name, title, said, tuple(lines)) for title, said, lines in found], text
+
+
+def apart(lines):
+    """The lines of a text, with the definitions of an `abbrev mutual` as if each stood by itself."""
+    mutual = False
+    for line in lines:
+        if line == "abbrev mutual":
+            mutual = True
+            continue
+        mutual = mutual and (not line or line[0].isspace())
+        line = line[2:] if mutual else line
+        yield f"abbrev {line}" if mutual and line.startswith("pub ") else line
 
 
 def constructors(definition):
@@ -216,6 +228,7 @@ def exported_clauses(crate, exports):
     sources = TOP / "crates" / crate / "src"
     root = (sources / "lib.rt").read_text() if (sources / "lib.rt").exists() else ""
     exported = set(re.findall(r"\w+", " ".join(re.findall(r"^pub use \w+::([^;]*);", root, re.M))))
+    exported |= set(re.findall(r"^pub (?:struct|enum|fn) (\w+)", root, re.M))
     clauses = {}
     for file in sorted(sources.rglob("*.rt")):
         text = file.read_text()

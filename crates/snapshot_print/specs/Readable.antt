@@ -2,6 +2,7 @@
 use Rattle.std.specs.Prelude.{◌<◌, ◌^◌, ⊤}
 use Rattle.serde_json.specs.Data.{Num, unsigned, negative, float, Data, null, boolean, number, string, array, object, Items, no_items, item, Members, no_members, member}
 
+-- a whole number below 2^64 that is not negative
 abbrev pub IsWord : Num → Type 0
 IsWord (unsigned n) = n < 2 ^ 64
 IsWord (negative z) = ⊥
@@ -17,10 +18,12 @@ abbrev mutual
   HasWords (array ds) = ItemsHaveWords ds
   HasWords (object ms) = MembersHaveWords ms
 
+  -- the same for the items of an array
   pub ItemsHaveWords : Items → Type 0
   ItemsHaveWords no_items = ⊤
   ItemsHaveWords (item d ds) = HasWords d × ItemsHaveWords ds
 
+  -- and for the members of an object
   pub MembersHaveWords : Members → Type 0
   MembersHaveWords no_members = ⊤
   MembersHaveWords (member k d ms) = HasWords d × MembersHaveWords ms
