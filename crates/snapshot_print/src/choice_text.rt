@@ -221,6 +221,3 @@ fn option_before(bytes: &mut [u8], end: usize, name: &[u8], value: Option<u64>) 
         None => word_before(bytes, end, name, b"none"),
     }
 }
-
-#[cfg(test)]
-mod tests;

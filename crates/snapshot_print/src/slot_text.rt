@@ -97,6 +97,3 @@ pub(crate) fn action_word(action: Action) -> &'static str
         Action::LruDeprio => "lru_deprio",
     }
 }
-
-#[cfg(test)]
-mod tests;

@@ -1,4 +1,5 @@
-// The texts of three pages that are watched whole; the expected texts were worked out by hand.
+// The texts of three pages that are watched whole; the expected texts were worked out by hand. Those of whole
+// runs are cases of tests/cases.
 ghost use Rattle.std.specs.Prelude.{◌<◌, ◌^◌, length};
 
 use super::*;
@@ -7,17 +8,11 @@ use damon_types::{
     Action, Attrs, Filters, Marks, Pattern, Prefer, Quota, RangeSpec, Scheme, SlotChange, Space,
     Span, Target, Weights,
 };
-use line_text::{same_text, strip};
+use line_text::same_text;
 use live_commit::{Commit, CommitFault, Phase, Setup};
 use std::alloc::{AllocError, Global};
 use std::process::Abort;
 use std::test::Fail;
-
-const OPENING: &[u8] = b"show tick=0 phase=idle rows=3\n\
-    row 0 0x10000-0x11000 count=0 last=0 age=0\n\
-    row 0 0x11000-0x12000 count=0 last=0 age=0\n\
-    row 0 0x12000-0x13000 count=0 last=0 age=0\n\
-    end ticks=0 rows=3 checks=0 hits=0\n";
 
 const AFTER_A_PASS: &[u8] = b"show tick=1 phase=due rows=3\n\
     row 0 0x10000-0x11000 count=0 last=0 age=0\n\
@@ -25,30 +20,12 @@ const AFTER_A_PASS: &[u8] = b"show tick=1 phase=due rows=3\n\
     row 0 0x12000-0x13000 count=0 last=0 age=0\n\
     end ticks=1 rows=3 checks=3 hits=1\n";
 
-const AGGREGATION: &[u8] = b"aggregate tick=1 threshold=0 rows=3\n\
-    row 0 0x10000-0x11000 count=0 last=0 age=1\n\
-    row 0 0x11000-0x12000 count=1 last=0 age=0\n\
-    row 0 0x12000-0x13000 count=0 last=0 age=1\n";
-
 const AFTER_A_PASS_IN_JSON: &[u8] = b"{\"kind\":\"show\",\"phase\":\"due\",\"rows\":[\
     {\"age\":0,\"count\":0,\"end\":\"0x11000\",\"last\":0,\"start\":\"0x10000\",\"target\":0},\
     {\"age\":0,\"count\":1,\"end\":\"0x12000\",\"last\":0,\"start\":\"0x11000\",\"target\":0},\
     {\"age\":0,\"count\":0,\"end\":\"0x13000\",\"last\":0,\"start\":\"0x12000\",\"target\":0}],\
     \"slots\":[],\"tick\":1}\n\
     {\"checks\":3,\"hits\":1,\"kind\":\"end\",\"rows\":3,\"ticks\":1}\n";
-
-const AFTER_AN_AGGREGATION: &[u8] = b"show tick=1 phase=idle rows=3\n\
-    row 0 0x10000-0x11000 count=0 last=0 age=1\n\
-    row 0 0x11000-0x12000 count=0 last=1 age=0\n\
-    row 0 0x12000-0x13000 count=0 last=0 age=1\n\
-    end ticks=1 rows=3 checks=3 hits=1\n";
-
-// The aggregations of a monitor whose slot 3 sees a metric after the first one.
-const SLOT_IS_INACTIVE: &[u8] = b"aggregate tick=1 threshold=0 rows=3\n\
-    slot 3 inactive\n\
-    row 0 0x10000-0x11000 count=0 last=0 age=1\n\
-    row 0 0x11000-0x12000 count=0 last=0 age=1\n\
-    row 0 0x12000-0x13000 count=0 last=0 age=1\n";
 
 const SLOT_IS_APPLIED: &[u8] = b"aggregate tick=2 threshold=0 rows=3\n\
     apply 3 pageout 0 0x10000-0x11000 score=11\n\
@@ -66,19 +43,6 @@ const SLOT_IS_APPLIED_IN_JSON: &[u8] = b"{\"applied\":[\
     {\"age\":2,\"count\":0,\"end\":\"0x12000\",\"last\":0,\"start\":\"0x11000\",\"target\":0},\
     {\"age\":2,\"count\":0,\"end\":\"0x13000\",\"last\":0,\"start\":\"0x12000\",\"target\":0}],\
     \"threshold\":0,\"tick\":2}\n";
-
-const QUOTA_IS_USED_UP: &[u8] = b"aggregate tick=3 threshold=0 rows=3\n\
-    slot 3 left=0 taken=0 lowest=none\n\
-    row 0 0x10000-0x11000 count=0 last=0 age=1\n\
-    row 0 0x11000-0x12000 count=0 last=0 age=3\n\
-    row 0 0x12000-0x13000 count=0 last=0 age=3\n";
-
-const SHOW_WITH_A_SCHEME: &[u8] = b"show tick=3 phase=idle rows=3\n\
-    row 0 0x10000-0x11000 count=0 last=0 age=1\n\
-    row 0 0x11000-0x12000 count=0 last=0 age=3\n\
-    row 0 0x12000-0x13000 count=0 last=0 age=3\n\
-    scheme 3 pageout active=yes charged=1 start=0 tried=6 applied=1 exceeds=2\n\
-    end ticks=3 rows=3 checks=9 hits=0\n";
 
 // The setup of three pages in one target, each a row, with these slots and an aggregation after each pass.
 fn three_pages(alloc: Global, slots: &[SlotChange]) -> Result<Setup, Fail>
@@ -257,13 +221,6 @@ fn aggregated_twice(rt: &impl Abort, alloc: Global) -> Result<Monitor, Fail> {
     Ok(monitor)
 }
 
-// That monitor after a third aggregation.
-fn aggregated_thrice(rt: &impl Abort, alloc: Global) -> Result<Monitor, Fail> {
-    let mut monitor = aggregated_twice(rt, alloc)?;
-    aggregate_without_hits(rt, &mut monitor);
-    Ok(monitor)
-}
-
 // What a show writes in a form, with the last line.
 fn shown(alloc: Global, form: Form, monitor: &Monitor) -> Result<Vec<u8>, AllocError> {
     let mut out = Vec::new(alloc);
@@ -279,20 +236,6 @@ fn aggregated(alloc: Global, form: Form, monitor: &Monitor) -> Result<Vec<u8>, A
     Ok(out)
 }
 
-// Whether the text of a show begins with this line.
-fn begins(alloc: Global, monitor: &Monitor, line: &[u8]) -> Result<bool, AllocError> {
-    let text = shown(alloc, Form::Text, monitor)?;
-    Ok(strip(&text, line).is_some())
-}
-
-#[test]
-fn a_show_has_the_opening(rt: HostRuntime) -> Result<(), Fail> {
-    let alloc = rt.alloc();
-    let monitor = started(alloc)?;
-    assert!(rt; same_text(&shown(alloc, Form::Text, &monitor)?, OPENING));
-    Ok(())
-}
-
 #[test]
 fn a_show_has_the_counts_of_a_pass(rt: HostRuntime) -> Result<(), Fail> {
     let alloc = rt.alloc();
@@ -300,38 +243,6 @@ fn a_show_has_the_counts_of_a_pass(rt: HostRuntime) -> Result<(), Fail> {
     first_pass(&rt, &mut monitor);
     assert!(rt; same_text(&shown(alloc, Form::Text, &monitor)?, AFTER_A_PASS));
     assert!(rt; same_text(&shown(alloc, Form::Json, &monitor)?, AFTER_A_PASS_IN_JSON));
-    Ok(())
-}
-
-#[test]
-fn a_show_names_the_phase(rt: HostRuntime) -> Result<(), Fail> {
-    let alloc = rt.alloc();
-    let mut monitor = started(alloc)?;
-    prepare(&rt, &mut monitor);
-    assert!(rt; begins(alloc, &monitor, b"show tick=0 phase=clearing ")?);
-    clear(&rt, &mut monitor);
-    assert!(rt; begins(alloc, &monitor, b"show tick=0 phase=armed ")?);
-    load_all(&rt, &mut monitor);
-    assert!(rt; begins(alloc, &monitor, b"show tick=0 phase=checking ")?);
-    Ok(())
-}
-
-#[test]
-fn an_aggregation_has_the_rows_that_it_reported(rt: HostRuntime) -> Result<(), Fail> {
-    let alloc = rt.alloc();
-    let mut monitor = started(alloc)?;
-    first_pass(&rt, &mut monitor);
-    aggregate(&rt, &mut monitor);
-    assert!(rt; same_text(&aggregated(alloc, Form::Text, &monitor)?, AGGREGATION));
-    assert!(rt; same_text(&shown(alloc, Form::Text, &monitor)?, AFTER_AN_AGGREGATION));
-    Ok(())
-}
-
-#[test]
-fn an_inactive_slot_is_named(rt: HostRuntime) -> Result<(), Fail> {
-    let alloc = rt.alloc();
-    let monitor = aggregated_once(&rt, alloc)?;
-    assert!(rt; same_text(&aggregated(alloc, Form::Text, &monitor)?, SLOT_IS_INACTIVE));
     Ok(())
 }
 
@@ -346,21 +257,5 @@ fn a_scheme_has_the_runs_that_it_was_applied_to(rt: HostRuntime) -> Result<(), F
             SLOT_IS_APPLIED_IN_JSON
         )
     );
-    Ok(())
-}
-
-#[test]
-fn a_quota_that_is_used_up_leaves_nothing(rt: HostRuntime) -> Result<(), Fail> {
-    let alloc = rt.alloc();
-    let monitor = aggregated_thrice(&rt, alloc)?;
-    assert!(rt; same_text(&aggregated(alloc, Form::Text, &monitor)?, QUOTA_IS_USED_UP));
-    Ok(())
-}
-
-#[test]
-fn a_show_has_the_scheme_of_a_slot(rt: HostRuntime) -> Result<(), Fail> {
-    let alloc = rt.alloc();
-    let monitor = aggregated_thrice(&rt, alloc)?;
-    assert!(rt; same_text(&shown(alloc, Form::Text, &monitor)?, SHOW_WITH_A_SCHEME));
     Ok(())
 }

@@ -1,4 +1,5 @@
-// The lines of commits; the expected texts were worked out by hand.
+// The lines of commits; the expected texts were worked out by hand. Each reason of a range, of attributes and
+// of a scheme is in cases of tests/cases.
 use super::print_commit;
 use crate::Form;
 use damon_core::Changed;
@@ -72,103 +73,6 @@ fn a_refused_commit_has_its_line(rt: HostRuntime) -> Result<(), Fail> {
     ];
     for (fault, text) in cases {
         assert!(rt; has_line(rt.alloc(), Err(fault), text)?, "of {fault:?}");
-    }
-    Ok(())
-}
-
-#[test]
-fn a_bad_range_has_its_reason(rt: HostRuntime) -> Result<(), Fail> {
-    let cases: [(RangeWhy, &[u8]); 8] = [
-        (
-            RangeWhy::TooMany,
-            b"commit tick=70 refused bad-range index=1 too-many\n",
-        ),
-        (
-            RangeWhy::NoSuchTarget,
-            b"commit tick=70 refused bad-range index=1 no-such-target\n",
-        ),
-        (
-            RangeWhy::Unaligned,
-            b"commit tick=70 refused bad-range index=1 unaligned\n",
-        ),
-        (
-            RangeWhy::Reversed,
-            b"commit tick=70 refused bad-range index=1 reversed\n",
-        ),
-        (
-            RangeWhy::OutsideSpan,
-            b"commit tick=70 refused bad-range index=1 outside-span\n",
-        ),
-        (
-            RangeWhy::TooSmall,
-            b"commit tick=70 refused bad-range index=1 too-small\n",
-        ),
-        (
-            RangeWhy::BadClass,
-            b"commit tick=70 refused bad-range index=1 bad-class\n",
-        ),
-        (
-            RangeWhy::Overlap,
-            b"commit tick=70 refused bad-range index=1 overlap\n",
-        ),
-    ];
-    for (why, text) in cases {
-        let fault = CommitFault::BadRange { index: 1, why };
-        assert!(rt; has_line(rt.alloc(), Err(fault), text)?, "of {why:?}");
-    }
-    Ok(())
-}
-
-#[test]
-fn bad_attributes_have_their_reason(rt: HostRuntime) -> Result<(), Fail> {
-    let cases: [(AttrsFault, &[u8]); 3] = [
-        (
-            AttrsFault::MinTooSmall { min: 2 },
-            b"commit tick=70 refused bad-attrs min-too-small\n",
-        ),
-        (
-            AttrsFault::MinOverMax { min: 9, max: 8 },
-            b"commit tick=70 refused bad-attrs min-over-max\n",
-        ),
-        (
-            AttrsFault::AggrOutOfRange { aggr: 1001 },
-            b"commit tick=70 refused bad-attrs aggr-out-of-range\n",
-        ),
-    ];
-    for (why, text) in cases {
-        let fault = CommitFault::BadAttrs { why };
-        assert!(rt; has_line(rt.alloc(), Err(fault), text)?, "of {why:?}");
-    }
-    Ok(())
-}
-
-#[test]
-fn a_bad_scheme_has_its_reason(rt: HostRuntime) -> Result<(), Fail> {
-    let cases: [(SchemeFault, &[u8]); 5] = [
-        (
-            SchemeFault::SlotOutOfRange { slot: 16 },
-            b"commit tick=70 refused bad-scheme slot-out-of-range\n",
-        ),
-        (
-            SchemeFault::PatternReversed { part: 1 },
-            b"commit tick=70 refused bad-scheme pattern-reversed\n",
-        ),
-        (
-            SchemeFault::ZeroReset,
-            b"commit tick=70 refused bad-scheme zero-reset\n",
-        ),
-        (
-            SchemeFault::MarksOutOfOrder,
-            b"commit tick=70 refused bad-scheme marks-out-of-order\n",
-        ),
-        (
-            SchemeFault::BadFilter { index: 0 },
-            b"commit tick=70 refused bad-scheme bad-filter\n",
-        ),
-    ];
-    for (why, text) in cases {
-        let fault = CommitFault::BadScheme { why };
-        assert!(rt; has_line(rt.alloc(), Err(fault), text)?, "of {why:?}");
     }
     Ok(())
 }
