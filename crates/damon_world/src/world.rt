@@ -1,4 +1,4 @@
-ghost use Rattle.std.specs.Prelude.{◌≡◌, ◌+◌, ◌-◌, ◌*◌, ◌/◌, ◌^◌, ◌≤◌, ◌<◌, [], ◌∷◌, min, length, IfOk, slice_index, vec_capacity};
+ghost use Rattle.std.specs.Prelude.{◌≡◌, ◌+◌, ◌-◌, ◌*◌, ◌/◌, ◌^◌, ◌≤◌, ◌<◌, [], ◌∷◌, min, length, ◌++◌, IfOk, slice_index, vec_capacity, vec_len};
 ghost use Rattle.damon_types.specs.Space.{pages_of};
 ghost use Rattle.live_commit.specs.Commit.{commit_value};
 ghost use Rattle.live_commit.specs.SetupView.{value_of};
@@ -311,19 +311,29 @@ fn draw<R: Rng>(source: &mut R, count: usize, words: &mut Vec<u32>)
     ensures capacity { vec_capacity words.new ≡ vec_capacity words.old }
     ensures rest { R.stream source.new ≡ drawn_rest count (R.stream source.old) }
 {
-    // Mostly there are as many words already.
-    words.truncate(count);
-    fill_up(words, count, 0);
-    fill_random(source, words);
+    words.clear();
+    'fours: for _ in 0..count / 4 {
+        draw_four(source, words);
+    }
+    'others: for _ in 0..count % 4 {
+        words.push_reserved(source.next_u32());
+    }
 }
 
-// Replaces each word by a random one. It is kept apart: only then does the source stay in registers.
-#[inline(never)]
-fn fill_random<R: Rng>(source: &mut R, words: &mut [u32])
-    ensures words { words.new ≡ drawn (length words.old) (R.stream source.old) }
-    ensures rest { R.stream source.new ≡ drawn_rest (length words.old) (R.stream source.old) }
+// Appends four random words. They are stored only when all of them are drawn: a store after each would send
+// the state of the source through memory, which takes as long as the word.
+fn draw_four<R: Rng>(source: &mut R, words: &mut Vec<u32>)
+    requires { vec_len words.old + 4 ≤ vec_capacity words.old }
+    ensures words { words.new.items ≡ words.old.items ++ drawn 4 (R.stream source.old) }
+    ensures capacity { vec_capacity words.new ≡ vec_capacity words.old }
+    ensures rest { R.stream source.new ≡ drawn_rest 4 (R.stream source.old) }
 {
-    for index in 0..words.len() {
-        words[index] = source.next_u32();
-    }
+    let first = source.next_u32();
+    let second = source.next_u32();
+    let third = source.next_u32();
+    let fourth = source.next_u32();
+    words.push_reserved(first);
+    words.push_reserved(second);
+    words.push_reserved(third);
+    words.push_reserved(fourth);
 }
