@@ -142,7 +142,7 @@ fn settle(lows: &mut Vec<u16>, swept: &mut [bool], pages: u32, page: u32)
     }
 }
 
-// Stores the lowest bits of at least so many pages. No page's word changes.
+// Stores the lowest bits of at least this many pages. No page's word changes.
 fn grow(lows: &mut Vec<u16>, pages: u32)
     requires { pages + 64 ≤ vec_capacity lows.old }
     ensures same { (p : ℕ) → slice_index lows.new.items p ≡ slice_index lows.old.items p }
