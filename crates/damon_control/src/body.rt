@@ -124,6 +124,29 @@ fn next_command(
     if let Some(page) = lines.take_touch(space) {
         return Ok(Some(Command::Touch { page }));
     }
+    next_other(alloc, lines, space)
+}
+
+// The same, where the next line is read as any other. It is kept apart: a commit has room for a scheme, which
+// would be cleared for each touch.
+#[inline(never)]
+fn next_other(alloc: Global, lines: &mut Lines, space: &Space) -> Result<Option<Command>, ReadFail>
+    requires { IsShort lines.old }
+    ensures command { IfOk result (λ answer. IfSome answer (λ c. (b : Body) →
+        b.said.setup.space ≡ space.now →
+        reads_left of_script (InBody b) lines.old
+        ≡ reads_command b (command_value c) lines.new)) }
+    ensures end { IfOk result (λ answer. answer ≡ None → (b : Body) →
+        b.said.setup.space ≡ space.now →
+        MovesTo of_script (InBody b) lines.old (AtEnd b.said) lines.new) }
+    ensures fault { (b : Body) → b.said.setup.space ≡ space.now →
+        FaultOf result (reads_left of_script (InBody b) lines.old) }
+    ensures within { IfOk result (λ answer. IfSome answer (λ c.
+        IsCommandWithin (pages_of space.now) (command_value c))) }
+    ensures later { OnOk result (lines.old.taken < lines.new.taken) }
+    ensures shorter { OnOk result (length lines.new.rest.now < length lines.old.rest.now) }
+    ensures small { IsShort lines.new }
+{
     let line = lines.take_line()?;
     match lines.refuse(read_body_line(space, line))? {
         BodyLine::End => Ok(None),
