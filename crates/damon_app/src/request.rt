@@ -36,9 +36,7 @@ pub(crate) fn read_request(alloc: Global, words: &[String]) -> Result<Option<Req
 fn has_option(words: &[String]) -> bool
     ensures { result ≡ has_option words.now }
 {
-    words
-        .iter()
-        .any(|word| begins_with_hyphen(word.as_bytes()))
+    words.iter().any(|word| begins_with_hyphen(word.as_bytes()))
 }
 
 // Whether this word does.
