@@ -24,7 +24,7 @@ use Rattle.damon_app.proofs.Known.{GaveUpTo-not_over, WritesPart-whole}
 use Rattle.damon_app.proofs.Statuses.{had_over, status_of_input-long, status_of_input-short}
 
 -- what holds of no bytes in particular
-untold : (P : List ℕ → Type 0) (told : Option (List ℕ)) → ((bytes : List ℕ) → P bytes) → IfSome told P
+pub untold : (P : List ℕ → Type 0) (told : Option (List ℕ)) → ((bytes : List ℕ) → P bytes) → IfSome told P
 untold P None all = tt
 untold P (Some bytes) all = all bytes
 

@@ -1,5 +1,5 @@
 -- What the program answers to each request.
-use Rattle.std.proofs.Common.{◌≡◌, inl, inr, ℕ, List, Option, Some, None, Result, Ok, Err, refl, ap}
+use Rattle.std.proofs.Common.{◌≡◌, ◌⊎◌, inl, inr, ℕ, List, Option, Some, None, Result, Ok, Err, refl, ap, arith}
 use Rattle.std.specs.Prelude.{IsSome, IfErr, IsErrOf, OnOk}
 use Rattle.std.specs.Io.KnownBytes.{Appends}
 use Rattle.damon_types.specs.Causes.{Rose}
@@ -10,6 +10,11 @@ use Rattle.damon_app.specs.declared.status.Status.TheVariants as statuses
 use Rattle.damon_app.specs.Generated.{gen_text}
 use Rattle.damon_app.specs.Given.{GaveOver}
 use Rattle.damon_app.specs.Taken.{WritesPart}
+use Rattle.damon_app.specs.declared.request.Request.{Request}
+use Rattle.damon_app.specs.StatusOf.{IsFailure, status_of_input}
+use Rattle.damon_app.specs.Replay.{IsBegun, IsExpected, WritesPrefix}
+use Rattle.std.proofs.KnownBytes.{Appends-nil}
+use Rattle.damon_app.proofs.Answering.{untold}
 use Rattle.damon_app.specs.Answers.{Ends, EndsRun, IsAnswer, IsReport, status_of}
 use Rattle.damon_app.proofs.Known.{GaveUpTo-none, GaveUpTo-not_over}
 
@@ -23,7 +28,7 @@ reported limit form source source' sink sink' unread same status is = record {
   ok = is.ok;
   end = λ reads. is.end;
   complete = is.complete;
-  usage = ((λ e. absurd (is.asked e)), (λ e. absurd (cc e)));
+  usage = λ free. ((λ e. absurd (is.asked e)), (λ e. absurd (cc e)));
   too_long = is.too_long;
   script = λ reads. is.script;
   read = is.read;
@@ -38,8 +43,8 @@ pub not_asked : (limit : ℕ) (source sink : Ends) (unread same : Type 0) → un
 not_asked limit source sink unread same left_alone is = record {
   ok = λ e. absurd (cc e);
   end = λ reads. absurd reads;
-  complete = refl;
-  usage = ((λ e. refl), (λ e. refl));
+  complete = inl refl;
+  usage = λ free. ((λ e. refl), (λ e. refl));
   too_long = λ not known. ((λ e. absurd (cc e)), (λ gave. absurd (none_given limit source.bytes known gave)));
   script = λ reads. absurd reads;
   read = λ e. absurd (cc e);
@@ -49,6 +54,32 @@ not_asked limit source sink unread same left_alone is = record {
   prefix = is;
 }
 
+-- the answer where there was no memory to read the words
+pub no_room : (limit : ℕ) (request : Option Request) (source sink : Ends) (alone same : Type 0) → alone → same → IsAnswer limit request source source sink sink alone same statuses.Memory
+no_room limit request source sink alone same left_alone is = record {
+  ok = λ e. absurd (cc e);
+  end = λ reads no. absurd no;
+  complete = expected request;
+  usage = λ free. absurd (free refl);
+  too_long = λ free. absurd (free refl);
+  script = λ reads no. absurd no;
+  read = λ e. absurd (cc e);
+  write = λ e. absurd (cc e);
+  unread = λ not. left_alone;
+  unwritten = λ no. absurd no;
+  prefix = begun request;
+}
+  where
+    expected : (request : Option Request) → IsExpected request statuses.Memory limit source.bytes (Rose source.faults source.faults) (Rose sink.faults sink.faults)
+    expected (Some (Report form)) = untold (λ bytes. (statuses.Memory ≡ status_of_input limit bytes) ⊎ IsFailure statuses.Memory (Rose source.faults source.faults) (Rose sink.faults sink.faults)) source.bytes (λ bytes. inr tt)
+    expected (Some (Generate n)) = inr tt
+    expected None = inr tt
+
+    begun : (request : Option Request) → IsBegun request same source.bytes sink.bytes sink.bytes
+    begun (Some (Report form)) = untold (λ bytes. same ⊎ WritesPrefix form bytes sink.bytes sink.bytes) source.bytes (λ bytes. inl is)
+    begun (Some (Generate n)) = (0, omega arith, Appends-nil sink.bytes)
+    begun None = is
+
 -- the answer to a request for a generated run
 module _ (limit n : ℕ) (source sink sink' : Ends) (unread same : Type 0) (left_alone : unread) (part : WritesPart sink.bytes sink'.bytes (gen_text n)) where
   pub generated : Appends sink.bytes sink'.bytes (gen_text n) → IsAnswer limit (Some (Generate n)) source source sink sink' unread same statuses.Ok
@@ -56,7 +87,7 @@ module _ (limit n : ℕ) (source sink sink' : Ends) (unread same : Type 0) (left
     ok = λ e. all;
     end = λ reads. absurd reads;
     complete = inl refl;
-    usage = ((λ e. absurd (cc e)), (λ e. absurd (cc e)));
+    usage = λ free. ((λ e. absurd (cc e)), (λ e. absurd (cc e)));
     too_long = λ not known. ((λ e. absurd (cc e)), (λ gave. absurd (none_given limit source.bytes known gave)));
     script = λ reads. absurd reads;
     read = λ e. absurd (cc e);
@@ -71,7 +102,7 @@ module _ (limit n : ℕ) (source sink sink' : Ends) (unread same : Type 0) (left
     ok = λ e. absurd (cc e);
     end = λ reads. absurd reads;
     complete = inr (cause refl);
-    usage = ((λ e. absurd (cc e)), (λ e. absurd (cc e)));
+    usage = λ free. ((λ e. absurd (cc e)), (λ e. absurd (cc e)));
     too_long = λ not known. ((λ e. absurd (cc e)), (λ gave. absurd (none_given limit source.bytes known gave)));
     script = λ reads. absurd reads;
     read = λ e. absurd (cc e);
@@ -84,7 +115,7 @@ module _ (limit n : ℕ) (source sink sink' : Ends) (unread same : Type 0) (left
     ok = λ e. absurd (cc e);
     end = λ reads. absurd reads;
     complete = inr tt;
-    usage = ((λ e. absurd (cc e)), (λ e. absurd (cc e)));
+    usage = λ free. ((λ e. absurd (cc e)), (λ e. absurd (cc e)));
     too_long = λ not known. absurd (not refl);
     script = λ reads. absurd reads;
     read = λ e. absurd (cc e);

@@ -48,7 +48,7 @@ pub record IsAnswer (limit : ℕ) (request : Option Request) (source source' sin
   pub ok : status ≡ statuses.Ok → IsDone request source.bytes sink.bytes sink'.bytes
   pub end : ReadsInput request → IsRead status → IsAtEnd source'.bytes
   pub complete : IsExpected request status limit source.bytes (Rose source.faults source'.faults) (Rose sink.faults sink'.faults)
-  pub usage : (status ≡ statuses.Usage) ↔ (request ≡ None)
+  pub usage : status ≢ statuses.Memory → (status ≡ statuses.Usage) ↔ (request ≡ None)
   pub too_long : status ≢ statuses.Memory → IsSome source.bytes
       → (status ≡ statuses.TooLong) ↔ GaveOver limit source.bytes source'.bytes
   pub script : ReadsInput request → IsRead status → IfSome source.bytes (TellsFault status)

@@ -3,6 +3,7 @@ pub mod Taken
 pub mod Causes
 pub mod StatusOf
 pub mod Request
+pub mod Parser
 pub mod Generated
 pub mod Runs
 pub mod Replay

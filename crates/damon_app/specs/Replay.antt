@@ -38,12 +38,13 @@ IsBegun (Some (Generate n)) same input old new = WritesPart old new (gen_text n)
 IsBegun None same input old new = same
 
 -- The status is the one that is expected, or a failure: for a report, of which the input may have at most `limit` bytes, the
--- status of the input; for a generated run, in which no read can fail, `Ok`; else `Usage`.
+-- status of the input; for a generated run, in which no read can fail, `Ok`; for other words, where nothing is read or
+-- written, `Usage`.
 abbrev pub IsExpected : Option Request → Status → ℕ → Option (List ℕ) → Type 0 → Type 0 → Type 0
 IsExpected (Some (Report form)) status limit input read write =
     IfSome input (λ bytes. (status ≡ status_of_input limit bytes) ⊎ IsFailure status read write)
 IsExpected (Some (Generate n)) status limit input read write = (status ≡ statuses.Ok) ⊎ IsFailure status ⊥ write
-IsExpected None status limit input read write = status ≡ statuses.Usage
+IsExpected None status limit input read write = (status ≡ statuses.Usage) ⊎ IsFailure status ⊥ ⊥
 
 -- the status is a fault of the text exactly where the bytes have it
 abbrev pub TellsFault : Status → List ℕ → Type 0

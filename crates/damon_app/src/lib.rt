@@ -1,6 +1,8 @@
 //! The program that replays scripts and runs generated ones.
 #![tactic(auto)]
 
+/// The command that parses the words.
+mod command;
 /// Reading an input to its end.
 mod input;
 /// What holds of all runs.

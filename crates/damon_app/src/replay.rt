@@ -51,7 +51,8 @@ pub fn replay_main<S: Source, K: Sink>(
         (Rose (K.faults sink.old) (K.faults sink.new)) }
 
     // When each other status comes; memory may run out at any time.
-    ensures usage { (result ≡ Status.Usage) ↔ (asked words.now ≡ None) }
+    ensures usage { result ≢ Status.Memory →
+        (result ≡ Status.Usage) ↔ (asked words.now ≡ None) }
     ensures too_long { result ≢ Status.Memory → IsSome (S.left source.old) →
         (result ≡ Status.TooLong) ↔ GaveOver INPUT_LIMIT (S.left source.old) (S.left source.new) }
     ensures script { ReadsInput (asked words.now) → IsRead result →
@@ -67,26 +68,27 @@ pub fn replay_main<S: Source, K: Sink>(
 {
     each_run_is_bound();
     each_run_chooses_best();
-    serve(alloc, read_request(words), source, sink)
+    serve(alloc, words, source, sink)
 }
 
-// Does what was asked for, if it was a request.
+// Does what the words ask for.
 fn serve<S: Source, K: Sink>(
     alloc: Global,
-    request: Option<Request>,
+    words: &[String],
     source: &mut S,
     sink: &mut K,
 ) -> Status
-    ensures { IsAnswer INPUT_LIMIT request
+    ensures { IsAnswer INPUT_LIMIT (asked words.now)
         (record { bytes = S.left source.old; faults = S.faults source.old })
         (record { bytes = S.left source.new; faults = S.faults source.new })
         (record { bytes = K.taken sink.old; faults = K.faults sink.old })
         (record { bytes = K.taken sink.new; faults = K.faults sink.new })
         (source.new ≡ source.old) (sink.new ≡ sink.old) result }
 {
-    match request {
-        Some(request) => fulfil(alloc, request, source, sink),
-        None => Status::Usage,
+    match read_request(alloc, words) {
+        Ok(Some(request)) => fulfil(alloc, request, source, sink),
+        Ok(None) => Status::Usage,
+        Err(_) => Status::Memory,
     }
 }
 

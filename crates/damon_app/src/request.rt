@@ -1,8 +1,14 @@
-ghost use Rattle.std.specs.Prelude.{◌≡◌};
+ghost use Rattle.std.specs.Prelude.{◌≡◌, ◌≢◌, IfOk, None, false};
+ghost use Rattle.clap.specs.Words.{kind_of, subcommand_rows_of};
+ghost use Rattle.damon_app.specs.Parser.{begins_with_hyphen, has_option, number_found, request_found};
 ghost use Rattle.damon_app.specs.Request.{asked, generation_of, report_of};
 
+use crate::command::make_command;
+use clap::error::ErrorKind;
+use clap::{ArgMatches, Error};
 use line_text::read_number;
 use snapshot_print::Form;
+use std::alloc::{AllocError, Global};
 
 /// What the words after the program's name ask for.
 #[derive(Clone, Copy, Debug, PartialEq, Eq)]
@@ -15,14 +21,67 @@ pub enum Request {
     Generate { number: u64 },
 }
 
-// What the words ask for; `None` if they are no request.
-pub(crate) fn read_request(words: &[String]) -> Option<Request>
-    ensures { result ≡ asked words.now }
+// What the words ask for; `None` if they are no request. Memory may run out.
+pub(crate) fn read_request(alloc: Global, words: &[String]) -> Result<Option<Request>, AllocError>
+    ensures { IfOk result (λ request. request ≡ asked words.now) }
 {
-    match words {
-        [word] => report_of(word.as_bytes()),
-        [word, number] => generation_of(word.as_bytes(), number.as_bytes()),
-        _ => None,
+    // There are no options.
+    if has_option(words) {
+        return Ok(None);
+    }
+    parse(alloc, words)
+}
+
+// Whether a word begins with a hyphen.
+fn has_option(words: &[String]) -> bool
+    ensures { result ≡ has_option words.now }
+{
+    words.iter().any(|word| begins_with_hyphen(word.as_bytes()))
+}
+
+// Whether this word does.
+fn begins_with_hyphen(word: &[u8]) -> bool
+    ensures { result ≡ begins_with_hyphen word.now }
+{
+    match word {
+        [first, ..] => *first == b'-',
+        [] => false,
+    }
+}
+
+// What words ask for, none of which begins with a hyphen.
+fn parse(alloc: Global, words: &[String]) -> Result<Option<Request>, AllocError>
+    requires { has_option words.now ≡ false }
+    ensures { IfOk result (λ request. request ≡ asked words.now) }
+{
+    let command = make_command(alloc)?;
+    match command.try_get_matches_from(words) {
+        Ok(matches) => Ok(request_in(&matches)),
+        // What clap would print is never printed.
+        Err(error) => refusal(&error),
+    }
+}
+
+// What a failed parse comes to: want of memory, or no request.
+fn refusal(error: &Error) -> Result<Option<Request>, AllocError>
+    ensures { IfOk result (λ request.
+        (request ≡ None) × (kind_of error.now ≢ ErrorKind.OutOfMemory)) }
+{
+    if error.kind() == ErrorKind::OutOfMemory {
+        Err(AllocError)
+    } else {
+        Ok(None)
+    }
+}
+
+// What the subcommand asks for that was found.
+fn request_in(matches: &ArgMatches) -> Option<Request>
+    ensures { result ≡ request_found (number_found (subcommand_rows_of matches.now)) }
+{
+    let (name, found) = matches.subcommand()?;
+    match found.get_str("number") {
+        Some(number) => generation_of(name.as_bytes(), number.as_bytes()),
+        None => report_of(name.as_bytes()),
     }
 }
 

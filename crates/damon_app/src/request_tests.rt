@@ -33,7 +33,7 @@ fn words_are_a_request_or_not(rt: HostRuntime) -> Result<(), Fail> {
     ];
     for (words, request) in table {
         let words = words_of(rt.alloc(), words)?;
-        assert_eq!(rt; read_request(&words), request);
+        assert_eq!(rt; read_request(rt.alloc(), &words)?, request);
     }
     Ok(())
 }

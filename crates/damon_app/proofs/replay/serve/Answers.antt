@@ -1,12 +1,16 @@
-use Rattle.std.proofs.Common.{◌≡◌, refl}
+use Rattle.std.proofs.Common.{◌≡◌, Option, None, refl, sym, subst, ◌∙◌}
 use Rattle.damon_app.specs.declared.input.TheConstants.{INPUT_LIMIT}
+use Rattle.damon_app.specs.declared.request.Request.{Request}
+use Rattle.damon_app.specs.declared.status.Status.TheVariants.{Usage}
+use Rattle.damon_app.specs.Answers.{Ends, IsAnswer}
+use Rattle.damon_app.specs.Request.{asked}
 use Rattle.damon_app.proofs.Serving.{not_asked}
 use Rattle.damon_app.proofs.replay.serve.Goals as goal
 
-pub returns-in-None : goal.returns-in-None
-returns-in-None g c =
-    rw c.in-None.is
-    (not_asked INPUT_LIMIT
-    (record { bytes = g.S.Source.left c.args.source.now; faults = g.S.Source.faults c.args.source.now })
-    (record { bytes = g.K.Sink.taken c.args.sink.now; faults = g.K.Sink.faults c.args.sink.now })
-    (c.args.source.now ≡ c.args.source.now) (c.args.sink.now ≡ c.args.sink.now) refl refl)
+pub returns-in-Ok-None : goal.returns-in-Ok-None
+returns-in-Ok-None g c =
+    let none : asked c.args.words.now ≡ None = sym c.in-Ok-None.ensures ∙ c.in-Ok-None.field-0-is in
+    let source : Ends = record { bytes = g.S.Source.left c.args.source.now; faults = g.S.Source.faults c.args.source.now } in
+    let sink : Ends = record { bytes = g.K.Sink.taken c.args.sink.now; faults = g.K.Sink.faults c.args.sink.now } in
+    subst (λ (request : Option Request). IsAnswer INPUT_LIMIT request source source sink sink (c.args.source.now ≡ c.args.source.now) (c.args.sink.now ≡ c.args.sink.now) Usage)
+    (sym none) (not_asked INPUT_LIMIT source sink (c.args.source.now ≡ c.args.source.now) (c.args.sink.now ≡ c.args.sink.now) refl refl)

@@ -1,0 +1,22 @@
+use Rattle.std.proofs.Common.{rules, ap, ap₂, codes, true, false, ◌≡◌, ◌∙◌}
+use Rattle.std.proofs.lemmas.Result.{IfOk-weaker}
+use Rattle.clap.specs.Simple.{app_of_fields, on_top}
+use Rattle.clap.specs.Words.{App, app_of, new_app, rule_of, with_rule, with_subcommand}
+use Rattle.damon_app.specs.Parser.{number_rule, top_app}
+use Rattle.damon_app.proofs.command.make_command.Goals as goal
+
+pub returns : goal.returns
+returns c =
+    let number_is : rule_of c.action-number.result ≡ number_rule = search rules in
+    let gen_is : app_of c.in_ok-generate.generate ≡ with_rule (new_app (codes "gen")) number_rule = c.in_ok-generate.ensures.shape (search rules) ∙ ap₂ with_rule c.new-2.ensures.app number_is in
+    let top_is : app_of c.subcommand_required.result ≡ top_app =
+    ap app_of_fields c.subcommand_required.ensures
+    ∙ ap (λ f. app_of_fields (record f { subcommand_required = true })) c.disable_help_subcommand.ensures
+    ∙ ap (λ f. app_of_fields (record f { disable_help_subcommand = true; subcommand_required = true })) c.disable_help_flag.ensures
+    ∙ ap (λ f. app_of_fields (record f { disable_help_flag = true; disable_help_subcommand = true; subcommand_required = true })) c.no_binary_name.ensures
+    ∙ ap (on_top (λ s. record s { no_binary_name = true; disable_help_flag = true; disable_help_subcommand = true; subcommand_required = true })) c.new-3.ensures.app in
+    let replay_is : app_of c.in_ok-subcommand.field-0 ≡ with_subcommand top_app (new_app (codes "replay")).top = c.in_ok-subcommand.ensures.shape c.new-replay.ensures.local
+    ∙ ap₂ with_subcommand top_is (ap (λ (a : App). a.top) c.new-replay.ensures.app) in
+    let json_is : app_of c.in_ok-subcommand-2.field-0 ≡ with_subcommand (with_subcommand top_app (new_app (codes "replay")).top) (new_app (codes "json")).top = c.in_ok-subcommand-2.ensures.shape c.new-json.ensures.local
+    ∙ ap₂ with_subcommand replay_is (ap (λ (a : App). a.top) c.new-json.ensures.app) in
+    IfOk-weaker c.subcommand-3.result _ _ (λ r h. h.shape (search rules) ∙ ap₂ with_subcommand json_is (ap (λ (a : App). a.top) gen_is)) c.subcommand-3.ensures

@@ -1,0 +1,26 @@
+ghost use Rattle.std.specs.Prelude.{◌≡◌, IfOk};
+ghost use Rattle.clap.specs.Words.{app_of};
+ghost use Rattle.damon_app.specs.Parser.{damon_app};
+
+use clap::{Arg, ArgAction, Command};
+use std::alloc::{AllocError, Global};
+
+// The command that the words are parsed by: a subcommand for each of the program's commands, and no help.
+pub(crate) fn make_command<'a>(alloc: Global) -> Result<Command<'a>, AllocError>
+    ensures { IfOk result (λ command. app_of command ≡ damon_app) }
+{
+    let number = Arg::new(alloc, "number")
+        .required(true)
+        .action(ArgAction::Set);
+    let generate = Command::new(alloc, "gen").arg(number)?;
+    let replay = Command::new(alloc, "replay");
+    let json = Command::new(alloc, "json");
+    Command::new(alloc, "damon")
+        .no_binary_name(true)
+        .disable_help_flag(true)
+        .disable_help_subcommand(true)
+        .subcommand_required(true)
+        .subcommand(replay)?
+        .subcommand(json)?
+        .subcommand(generate)
+}
