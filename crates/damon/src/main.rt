@@ -1,5 +1,5 @@
-//! `damon replay`: replays a script that comes on standard input, and writes its report to standard
-//! output.
+//! `damon`: runs a script that comes on standard input, or a generated one, and writes its report to
+//! standard output.
 #![tactic(auto)]
 
 use damon_app::{Status, replay_main};
