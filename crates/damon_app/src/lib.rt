@@ -23,12 +23,3 @@ pub use output::write_all;
 pub use replay::replay_main;
 pub use request::Request;
 pub use status::Status;
-
-#[cfg(test)]
-mod fakes;
-#[cfg(test)]
-mod replay_tests;
-#[cfg(test)]
-mod request_tests;
-#[cfg(test)]
-mod tests;

@@ -23,5 +23,3 @@ pub use laws::{pages_are_kept, reached_states_are_bound};
 pub use monitor::Monitor;
 pub use report::Report;
 
-#[cfg(test)]
-mod tests;

@@ -12,5 +12,3 @@ pub use laws::a_pass_takes_its_steps;
 use plain_words::PlainWords;
 pub use world::{Stepped, World};
 
-#[cfg(test)]
-mod tests;

@@ -1,5 +1,5 @@
 -- Lists of rows, as contracts see them.
-use Rattle.std.specs.Prelude.{ℕ, ◌≤◌, ◌<◌, ◌^◌, List, length, slice_set, slice_index_or}
+use Rattle.std.specs.Prelude.{ℕ, ◌+◌, ◌≤◌, ◌<◌, ◌^◌, List, ◌∷◌, ◌++◌, length, take, drop, slice_set, slice_index_or}
 use Rattle.damon_types.specs.declared.row.Row.{Row}
 
 -- rows, and the number for which there is room
@@ -24,3 +24,7 @@ row_at rows i = slice_index_or rows i no_row
 -- the rows with another count, last count and age at one index
 abbrev pub with_values : List Row → ℕ → ℕ → ℕ → ℕ → List Row
 with_values rows i count last age = slice_set rows i (record (row_at rows i) { count = count; last = last; age = age })
+
+-- the rows with two others in the place of the one with this index
+abbrev pub with_two : List Row → ℕ → Row → Row → List Row
+with_two rows i first second = take i rows ++ (first ∷ second ∷ drop (i + 1) rows)

@@ -1,7 +1,7 @@
 ghost use Rattle.std.specs.Prelude.{◌≡◌, ◌+◌, ◌-◌, ◌≤◌, ◌<◌, ◌^◌, [], length, slice_get, IfOk};
 ghost use Rattle.damon_types.specs.Ranges.{InOrder};
 ghost use Rattle.damon_types.specs.Span.{spans};
-ghost use Rattle.region_list.specs.Rows.{with_values};
+ghost use Rattle.region_list.specs.Rows.{with_two, with_values};
 ghost use Rattle.region_list.specs.Tiles.{Tiles};
 ghost use Rattle.region_list.specs.Tiling.{Tiling};
 ghost use Rattle.region_list.specs.Shrink.{shrunk};
@@ -114,6 +114,24 @@ impl Regions {
         self.spare.clear();
         pass.run(&self.ranges, &self.rows, &mut self.spare);
         mem::swap(&mut self.rows, &mut self.spare);
+    }
+
+    /// Puts two rows in the place of the one with this index, which is below the number of rows. There is
+    /// room for one row more, and the new rows tile the ranges with this list's `unit`. The rows behind it
+    /// are moved; no other row is copied.
+    pub fn put_two(&mut self, index: u32, first: Row, second: Row)
+        requires within { index < length self.old.rows }
+        requires room { length self.old.rows < self.old.max }
+        requires tiling { Tiling self.old.unit self.old.ranges
+            (spans (with_two self.old.rows index first second)) }
+        ensures { self.new ≡ record self.old { rows = with_two self.old.rows index first second } }
+    {
+        let index = index as usize;
+        self.rows[index] = first;
+        // There is room for `cap` rows, so no memory is taken.
+        if self.rows.insert(index + 1, second).is_err() {
+            unreachable!();
+        }
     }
 
     /// The number of rows. Its clauses also say what holds of every region list.

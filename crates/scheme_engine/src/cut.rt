@@ -2,8 +2,8 @@
 ghost use Rattle.std.specs.Prelude.{◌≡◌, ◌<◌, ◌≤◌, length};
 ghost use Rattle.scheme_engine.specs.Applying.{IsPartOf, cut_rows, rows_cut};
 
-use damon_types::{Ranges, Row, append_reserved};
-use region_list::{Regions, RowPass, refined_rows_tile, tiled_rows_fit};
+use damon_types::Row;
+use region_list::{Regions, refined_rows_tile};
 
 /// A row, by its index, and after how many of its pages it is cut.
 #[derive(Clone, Copy)]
@@ -24,32 +24,16 @@ pub(crate) fn cut(part: Part, regions: &mut Regions)
     let row = regions.row(part.index);
     let unit = regions.unit();
     if regions.room() > 0 && part.pages >= unit && row.pages - part.pages >= unit {
-        regions.remake(&part);
-    }
-}
-
-impl RowPass for Part {
-    ghost rows_of = { λ p gs rows. cut_rows p.index p.pages rows };
-
-    ghost can_run = { λ p rows. IsPartOf rows p };
-
-    fn run(&self, ranges: &Ranges, rows: &[Row], made: &mut Vec<Row>) {
-        // For their clauses alone: each row ends below page 2^32.
-        let _count = ranges.len();
-        tiled_rows_fit();
-        let index = self.index as usize;
-        let row = rows[index];
-        append_reserved(made, &rows[..index]);
-        made.push_reserved(Row {
-            pages: self.pages,
+        let first = Row {
+            pages: part.pages,
             age: 0,
             ..row
-        });
-        made.push_reserved(Row {
-            start: row.start + self.pages,
-            pages: row.pages - self.pages,
+        };
+        let second = Row {
+            start: row.start + part.pages,
+            pages: row.pages - part.pages,
             ..row
-        });
-        append_reserved(made, &rows[index + 1..]);
+        };
+        regions.put_two(part.index, first, second);
     }
 }

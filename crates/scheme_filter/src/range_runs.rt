@@ -19,6 +19,8 @@ use std::marker::Model;
 pub struct RangeRuns {
     from: u32,
     to: u32,
+    // The index of that range; only how fast the next one is found depends on it.
+    index: u32,
     runs: PassRuns,
 }
 
@@ -46,7 +48,12 @@ impl RangeRuns {
                 pages: to,
             });
         }
-        RangeRuns { from: 0, to, runs }
+        RangeRuns {
+            from: 0,
+            to,
+            index: 0,
+            runs,
+        }
     }
 
     // Whether the first run holds all pages from `start` to before `end`.
@@ -136,7 +143,7 @@ fn look_up(filters: &Filters, space: &Space, ranges: &Ranges, row: &Row, near: &
 {
     // For its clauses alone: each range ends below page 2^32.
     let _count = ranges.len();
-    let range = range_of(ranges, row);
+    let Found { index, range } = range_of(ranges, row, near.index.saturating_add(1));
     let whole = Row {
         start: range.first,
         pages: range.pages,
@@ -145,15 +152,49 @@ fn look_up(filters: &Filters, space: &Space, ranges: &Ranges, row: &Row, near: &
     };
     near.from = range.first;
     near.to = range.first + range.pages;
+    near.index = index;
     passing(filters, space, ranges, &whole, &mut near.runs);
 }
 
-// The range that holds the row. The search is binary.
-fn range_of(ranges: &Ranges, row: &Row) -> Range
+// A range of a list, with its index.
+struct Found {
+    index: u32,
+    range: Range,
+}
+
+// The range that holds the row. The one with index `next` is tried first, since rows are asked for in their
+// order.
+fn range_of(ranges: &Ranges, row: &Row, next: u32) -> Found
     requires { Any (LiesIn (span_of row.now)) ranges.now.list }
-    ensures from { result.first ≤ row.now.start }
-    ensures to { row.now.start + row.now.pages ≤ end_of result }
-    ensures one { (index : ℕ) × (slice_get ranges.now.list index ≡ Some result) }
+    ensures from { result.range.first ≤ row.now.start }
+    ensures to { row.now.start + row.now.pages ≤ end_of result.range }
+    ensures one { slice_get ranges.now.list result.index ≡ Some result.range }
+{
+    if next < ranges.len() {
+        let range = ranges.get(next);
+        if holds(&range, row) {
+            return Found { index: next, range };
+        }
+    }
+    search(ranges, row)
+}
+
+// Whether the pages of the row are pages of the range.
+fn holds(range: &Range, row: &Row) -> bool
+    requires range { end_of range.now < 2 ^ 32 }
+    requires row { row.now.start + row.now.pages < 2 ^ 32 }
+    ensures from { result ≡ true → range.now.first ≤ row.now.start }
+    ensures to { result ≡ true → row.now.start + row.now.pages ≤ end_of range.now }
+{
+    range.first <= row.start && row.start + row.pages <= range.first + range.pages
+}
+
+// The range that holds the row, by a binary search.
+fn search(ranges: &Ranges, row: &Row) -> Found
+    requires { Any (LiesIn (span_of row.now)) ranges.now.list }
+    ensures from { result.range.first ≤ row.now.start }
+    ensures to { row.now.start + row.now.pages ≤ end_of result.range }
+    ensures one { slice_get ranges.now.list result.index ≡ Some result.range }
 {
     let mut low = 0;
     let mut high = ranges.len();
@@ -165,7 +206,10 @@ fn range_of(ranges: &Ranges, row: &Row) -> Range
             high = middle;
         }
     }
-    ranges.get(low)
+    Found {
+        index: low,
+        range: ranges.get(low),
+    }
 }
 
 // How many of the pages from `start` to before `end` the run holds.

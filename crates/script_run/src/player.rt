@@ -10,6 +10,7 @@ ghost use Rattle.damon_core.specs.Event.{commit as commit_event};
 ghost use Rattle.damon_core.specs.Makes.{Makes};
 ghost use Rattle.damon_core.specs.Stands.{Stands};
 ghost use Rattle.damon_world.specs.Stands.{StandsFor};
+ghost use Rattle.damon_world.specs.Touches.{touches};
 ghost use Rattle.live_commit.specs.Commit.{commit_value};
 ghost use Rattle.snapshot_print.specs.Commit.{commit_text};
 ghost use Rattle.script_run.specs.Kept.{is_done};
@@ -173,7 +174,7 @@ impl<R: Rng + Drop> Player<R> {
     {
         // For its clauses alone: the pages are a u32.
         let _pages = self.world.monitor().space().pages();
-        self.world.sweep(page, page + count);
+        make_touches(&mut self.world, page, count);
         self.part = Part::NOTHING;
     }
 
@@ -243,6 +244,21 @@ impl<R: Rng + Drop> Player<R> {
         ensures err { OnErr result (out.new.items ≡ out.old.items) }
     {
         print_end(alloc, out, self.form, self.world.monitor())
+    }
+}
+
+// Touches some pages of a world, one after another. One page alone, as most commands say, takes less time
+// than a sweep.
+fn make_touches<R: Rng + Drop>(world: &mut World<R>, page: u32, count: u32)
+    requires { page + count ≤ pages_of world.old.monitor.core.space }
+    ensures events { Makes StandsFor world.old world.new (touches page count) }
+    ensures monitor { world.new.monitor ≡ world.old.monitor }
+    ensures source { world.new.source ≡ world.old.source }
+{
+    if count == 1 {
+        world.touch(page);
+    } else {
+        world.sweep(page, page + count);
     }
 }
 

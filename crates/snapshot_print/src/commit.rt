@@ -181,5 +181,3 @@ fn scheme_why(why: SchemeFault) -> &'static str
     }
 }
 
-#[cfg(test)]
-mod tests;

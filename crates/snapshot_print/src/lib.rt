@@ -28,8 +28,6 @@ mod row_text;
 mod show;
 /// The lines of the set slots in a show.
 mod slot_text;
-#[cfg(test)]
-mod tests;
 
 pub use aggregate::print_aggregate;
 pub use commit::print_commit;

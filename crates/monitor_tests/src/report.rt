@@ -1,15 +1,13 @@
 // The texts of three pages that are watched whole; the expected texts were worked out by hand. Those of whole
 // runs are cases of tests/cases.
-ghost use Rattle.std.specs.Prelude.{◌<◌, ◌^◌, length};
-
-use super::*;
+use crate::fixtures::{aggregate, make_pass, three_pages};
 use damon_core::{Changed, Monitor};
 use damon_types::{
-    Action, Attrs, Filters, Marks, Pattern, Prefer, Quota, RangeSpec, Scheme, SlotChange, Space,
-    Span, Target, Weights,
+    Action, Filters, Marks, Pattern, Prefer, Quota, Scheme, SlotChange, Span, Weights,
 };
 use line_text::same_text;
-use live_commit::{Commit, CommitFault, Phase, Setup};
+use live_commit::{Commit, CommitFault};
+use snapshot_print::{Form, print_aggregate, print_end, print_show};
 use std::alloc::{AllocError, Global};
 use std::process::Abort;
 use std::test::Fail;
@@ -44,33 +42,9 @@ const SLOT_IS_APPLIED_IN_JSON: &[u8] = b"{\"applied\":[\
     {\"age\":2,\"count\":0,\"end\":\"0x13000\",\"last\":0,\"start\":\"0x12000\",\"target\":0}],\
     \"threshold\":0,\"tick\":2}\n";
 
-// The setup of three pages in one target, each a row, with these slots and an aggregation after each pass.
-fn three_pages(alloc: Global, slots: &[SlotChange]) -> Result<Setup, Fail>
-    requires { length slots.now < 2 ^ 32 }
-{
-    let target = Target {
-        base: 0x1_0000,
-        pages: 3,
-    };
-    let attrs = Attrs {
-        min: 3,
-        max: 8,
-        aggr: 1,
-    };
-    let range = RangeSpec {
-        target: 0,
-        from: 0x1_0000,
-        to: 0x1_3000,
-        class: 0,
-    };
-    let space = Space::new(alloc, &[target])?;
-    let setup = Setup::new(alloc, space, 1, 8, attrs, &[range], slots)?;
-    Ok(setup)
-}
-
 // A monitor before its first pass.
 fn started(alloc: Global) -> Result<Monitor, Fail> {
-    let setup = three_pages(alloc, &[])?;
+    let setup = three_pages(alloc, 1, &[])?;
     let monitor = Monitor::new(alloc, &setup)?;
     Ok(monitor)
 }
@@ -114,84 +88,14 @@ fn started_with_a_scheme(alloc: Global) -> Result<Monitor, Fail> {
         slot: 3,
         scheme: Some(one_page_in_five_ticks()),
     };
-    let setup = three_pages(alloc, &[change])?;
+    let setup = three_pages(alloc, 1, &[change])?;
     let monitor = Monitor::new(alloc, &setup)?;
     Ok(monitor)
 }
 
-// Prepares a pass of three rows.
-fn prepare(rt: &impl Abort, monitor: &mut Monitor) {
-    let Phase::Idle = monitor.phase() else {
-        panic!(rt; "no pass comes next");
-    };
-    assert_eq!(rt; monitor.rows().len(), 3);
-    monitor.prepare(&[0, 0, 0]);
-}
-
-// Clears the picks of a pass of three rows.
-fn clear(rt: &impl Abort, monitor: &mut Monitor) {
-    for _ in 0..3 {
-        let Phase::Clearing { .. } = monitor.phase() else {
-            panic!(rt; "no clear comes next");
-        };
-        monitor.cleared();
-    }
-}
-
-// Loads the next pick, with this result.
-fn load(rt: &impl Abort, monitor: &mut Monitor, hit: bool) {
-    match monitor.phase() {
-        Phase::Armed => monitor.loaded(hit),
-        Phase::Checking { next } => {
-            assert!(rt; next < monitor.rows().len());
-            monitor.loaded(hit);
-        }
-        _ => panic!(rt; "no load comes next"),
-    }
-}
-
-// Loads the picks of a pass of three rows, of which the second was touched.
-fn load_all(rt: &impl Abort, monitor: &mut Monitor) {
-    for hit in [false, true, false] {
-        load(rt, monitor, hit);
-    }
-}
-
-// Ends the pass, whose picks are all loaded.
-fn end_pass(rt: &impl Abort, monitor: &mut Monitor) {
-    let Phase::Checking { next } = monitor.phase() else {
-        panic!(rt; "no end comes next");
-    };
-    assert_eq!(rt; (next, monitor.rows().len()), (3, 3));
-    assert!(rt; monitor.ticks() < 1_000);
-    monitor.observe();
-}
-
-// Takes the steps of the first pass.
-fn first_pass(rt: &impl Abort, monitor: &mut Monitor) {
-    prepare(rt, monitor);
-    clear(rt, monitor);
-    load_all(rt, monitor);
-    end_pass(rt, monitor);
-}
-
-// Carries out the aggregation that is due.
-fn aggregate(rt: &impl Abort, monitor: &mut Monitor) {
-    let Phase::Due = monitor.phase() else {
-        panic!(rt; "no aggregation is due");
-    };
-    assert_eq!(rt; monitor.attrs().max, 8);
-    monitor.aggregate(&[0; 16]);
-}
-
 // Makes a pass without a hit, and carries out the aggregation after it.
 fn aggregate_without_hits(rt: &impl Abort, monitor: &mut Monitor) {
-    prepare(rt, monitor);
-    clear(rt, monitor);
-    for _ in 0..3 {
-        load(rt, monitor, false);
-    }
-    end_pass(rt, monitor);
+    make_pass(rt, monitor, [false, false, false]);
     aggregate(rt, monitor);
 }
 
@@ -240,7 +144,7 @@ fn aggregated(alloc: Global, form: Form, monitor: &Monitor) -> Result<Vec<u8>, A
 fn a_show_has_the_counts_of_a_pass(rt: HostRuntime) -> Result<(), Fail> {
     let alloc = rt.alloc();
     let mut monitor = started(alloc)?;
-    first_pass(&rt, &mut monitor);
+    make_pass(&rt, &mut monitor, [false, true, false]);
     assert!(rt; same_text(&shown(alloc, Form::Text, &monitor)?, AFTER_A_PASS));
     assert!(rt; same_text(&shown(alloc, Form::Json, &monitor)?, AFTER_A_PASS_IN_JSON));
     Ok(())

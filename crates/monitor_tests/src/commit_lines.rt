@@ -1,11 +1,10 @@
 // The lines of commits; the expected texts were worked out by hand. Each reason of a range, of attributes and
 // of a scheme is in cases of tests/cases.
-use super::print_commit;
-use crate::Form;
 use damon_core::Changed;
 use damon_types::{AttrsFault, SchemeFault};
 use line_text::same_text;
 use live_commit::CommitFault;
+use snapshot_print::{Form, print_commit};
 use std::alloc::{AllocError, Global};
 use std::test::Fail;
 use target_ranges::RangeWhy;

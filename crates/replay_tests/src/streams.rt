@@ -2,14 +2,14 @@
 ghost use Rattle.std.specs.Prelude.{◌≤◌};
 
 use crate::fakes::KeptSink;
-use crate::{INPUT_LIMIT, InputFault, Status, read_all, write_all};
+use damon_app::{INPUT_LIMIT, InputFault, Status, read_all, write_all};
 use damon_control::ScriptKind;
 use damon_types::{Failed, FaultSink, FaultSource};
 use std::alloc::{AllocError, Global};
 use std::process::Abort;
 use std::test::Fail;
 
-// So many bytes, where each one tells its place.
+// This number of bytes, where each one tells its place.
 fn placed_bytes(alloc: Global, count: u32) -> Result<Vec<u8>, AllocError> {
     let mut bytes = Vec::new(alloc);
     for place in 0..count {
@@ -24,7 +24,7 @@ fn count_read(alloc: Global, source: &mut FaultSource) -> Result<usize, InputFau
     Ok(bytes.len())
 }
 
-// Sees that these bytes are read whole where they come in such pieces.
+// Sees that these bytes are read whole when they come in pieces of this size.
 fn expect_read(rt: &(impl Abort + AllocGlobal), bytes: &[u8], piece: u32)
     requires { 1 ≤ piece }
 {
@@ -34,7 +34,7 @@ fn expect_read(rt: &(impl Abort + AllocGlobal), bytes: &[u8], piece: u32)
     }
 }
 
-// Sees that so many bytes are too many, and that so many of them are not read.
+// Sees that `total` bytes are too many, and that `left` of them are not read.
 fn expect_too_long(
     rt: &(impl Abort + AllocGlobal),
     total: usize,

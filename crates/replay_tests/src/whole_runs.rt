@@ -1,5 +1,5 @@
 // Whole runs of the program, on scripts whose reports were worked out by hand.
-use crate::{Status, replay_main};
+use damon_app::{Status, replay_main};
 use damon_control::ScriptKind;
 use damon_types::{FaultSink, FaultSource, MemSink, MemSource};
 use std::alloc::{AllocError, Global};
@@ -137,7 +137,7 @@ end ticks=1 rows=3 checks=3 hits=0
 ";
 
 // The words of a command line.
-pub fn words_of(alloc: Global, words: &[&str]) -> Result<Vec<String>, AllocError> {
+fn words_of(alloc: Global, words: &[&str]) -> Result<Vec<String>, AllocError> {
     let mut list = Vec::new(alloc);
     for word in words {
         list.push(String::from_str(alloc, word)?)?;
@@ -188,7 +188,7 @@ fn expect_usage(rt: &(impl Abort + AllocGlobal), words: &[&str]) -> Result<(), F
     Ok(())
 }
 
-// Replays so many bytes `x`, and sees that this is answered, with nothing written.
+// Replays this number of bytes `x`, and sees that this is answered, with nothing written.
 fn expect_of_length(
     rt: &(impl Abort + AllocGlobal),
     total: usize,

@@ -1,41 +1,18 @@
-// A pass over three pages with touches in it, an aggregation, and a commit; the expected values were
-// reckoned by hand.
-use crate::{Stepped, World};
+// A pass over three pages with touches in it, an aggregation, and commits; the expected values were reckoned by
+// hand.
+use crate::fixtures::{counts, lasts_and_ages, of_range, reported, three_pages};
 use damon_core::Changed;
-use damon_types::{Attrs, RangeSpec, RangeSpecs, SlotChange, Space, Target};
-use live_commit::{Commit, Phase, Setup};
+use damon_types::SlotChange;
+use damon_world::{Stepped, World};
+use live_commit::{Commit, Phase};
 use rand_pcg::Lcg64Xsh32;
 use std::alloc::Global;
 use std::process::Abort;
 use std::test::Fail;
 
-// The setup of one target of three pages that is watched whole.
-fn three_pages(alloc: Global, aggr: u32) -> Result<Setup, Fail> {
-    let space = Space::new(
-        alloc,
-        &[Target {
-            base: 0x1_0000,
-            pages: 3,
-        }],
-    )?;
-    let attrs = Attrs {
-        min: 3,
-        max: 8,
-        aggr,
-    };
-    let range = RangeSpec {
-        target: 0,
-        from: 0x1_0000,
-        to: 0x1_3000,
-        class: 0,
-    };
-    let setup = Setup::new(alloc, space, 1, 8, attrs, &[range], &[])?;
-    Ok(setup)
-}
-
 // A world of three pages that aggregates after this many passes.
 fn new_world(alloc: Global, aggr: u32) -> Result<World<Lcg64Xsh32>, Fail> {
-    let setup = three_pages(alloc, aggr)?;
+    let setup = three_pages(alloc, aggr, &[])?;
     Ok(World::new(alloc, &setup, Lcg64Xsh32::new(42, 54))?)
 }
 
@@ -87,32 +64,6 @@ fn check(rt: &impl Abort, world: &mut World<Lcg64Xsh32>, hits: [bool; 3]) {
     assert_eq!(rt; step(rt, world), Stepped::Observed { void: false });
 }
 
-// The counts of three rows.
-fn counts(rt: &impl Abort, world: &World<Lcg64Xsh32>) -> [u32; 3] {
-    let rows = world.monitor().rows();
-    assert_eq!(rt; rows.len(), 3);
-    [rows.row(0).count, rows.row(1).count, rows.row(2).count]
-}
-
-// The last counts of three rows, and their ages.
-fn lasts_and_ages(rt: &impl Abort, world: &World<Lcg64Xsh32>) -> [(u32, u32); 3] {
-    let rows = world.monitor().rows();
-    assert_eq!(rt; rows.len(), 3);
-    let (first, second, third) = (rows.row(0), rows.row(1), rows.row(2));
-    [
-        (first.last, first.age),
-        (second.last, second.age),
-        (third.last, third.age),
-    ]
-}
-
-// The counts that the last aggregation reported of three rows.
-fn reported(rt: &impl Abort, world: &World<Lcg64Xsh32>) -> [u32; 3] {
-    let rows = world.monitor().report().rows();
-    assert_eq!(rt; rows.len(), 3);
-    [rows[0].count, rows[1].count, rows[2].count]
-}
-
 #[test]
 fn a_touch_between_clear_and_load_is_counted_once(rt: HostRuntime) -> Result<(), Fail> {
     for times in 1..3 {
@@ -123,7 +74,7 @@ fn a_touch_between_clear_and_load_is_counted_once(rt: HostRuntime) -> Result<(),
             assert_eq!(rt; touch(&rt, &mut world, 1), 1);
         }
         check(&rt, &mut world, [false, true, false]);
-        assert_eq!(rt; counts(&rt, &world), [0, 1, 0]);
+        assert_eq!(rt; counts(&rt, world.monitor()), [0, 1, 0]);
         assert_eq!(rt; (world.monitor().ticks(), world.monitor().hits()), (1, 1));
     }
     Ok(())
@@ -135,7 +86,7 @@ fn a_touch_before_the_clear_is_no_hit(rt: HostRuntime) -> Result<(), Fail> {
     assert_eq!(rt; touch(&rt, &mut world, 1), 0);
     clear(&rt, &mut world);
     check(&rt, &mut world, [false, false, false]);
-    assert_eq!(rt; counts(&rt, &world), [0, 0, 0]);
+    assert_eq!(rt; counts(&rt, world.monitor()), [0, 0, 0]);
     Ok(())
 }
 
@@ -150,7 +101,7 @@ fn steps_of_one_kind_are_made_at_once(rt: HostRuntime) -> Result<(), Fail> {
     for (most, made) in [(2, 2), (9, 1), (9, 1)] {
         assert_eq!(rt; advance(&rt, &mut world, most), made);
     }
-    assert_eq!(rt; counts(&rt, &world), [0, 1, 1]);
+    assert_eq!(rt; counts(&rt, world.monitor()), [0, 1, 1]);
     assert_eq!(rt; (world.monitor().ticks(), world.monitor().hits()), (1, 2));
     Ok(())
 }
@@ -164,29 +115,15 @@ fn an_aggregation_is_a_step(rt: HostRuntime) -> Result<(), Fail> {
     assert_eq!(rt; world.monitor().phase(), Phase::Due);
     assert_eq!(rt; step(&rt, &mut world), Stepped::Aggregated);
     assert_eq!(rt; world.monitor().phase(), Phase::Idle);
-    assert_eq!(rt; counts(&rt, &world), [0, 0, 0]);
-    assert_eq!(rt; lasts_and_ages(&rt, &world), [(0, 1), (1, 0), (0, 1)]);
+    assert_eq!(rt; counts(&rt, world.monitor()), [0, 0, 0]);
+    assert_eq!(rt;
+        lasts_and_ages(&rt, world.monitor()),
+        [(0, 1), (1, 0), (0, 1)]
+    );
     let report = world.monitor().report();
     assert_eq!(rt; (report.tick(), report.threshold()), (1, 0));
-    assert_eq!(rt; reported(&rt, &world), [0, 1, 0]);
+    assert_eq!(rt; reported(&rt, world.monitor()), [0, 1, 0]);
     Ok(())
-}
-
-// The commit of the last two pages of the three.
-fn last_two_pages(alloc: Global) -> Result<Commit, Fail> {
-    let mut ranges = RangeSpecs::new(alloc);
-    ranges.push(RangeSpec {
-        target: 0,
-        from: 0x1_1000,
-        to: 0x1_3000,
-        class: 0,
-    })?;
-    Ok(Commit {
-        attrs: None,
-        ranges: Some(ranges),
-        slot: None,
-        metric: None,
-    })
 }
 
 #[test]
@@ -194,7 +131,7 @@ fn a_touch_in_a_void_pass_is_no_hit(rt: HostRuntime) -> Result<(), Fail> {
     let mut world = new_world(rt.alloc(), 5)?;
     clear(&rt, &mut world);
     assert_eq!(rt; touch(&rt, &mut world, 1), 1);
-    let commit = last_two_pages(rt.alloc())?;
+    let commit = of_range(rt.alloc(), 0x1_1000, 0x1_3000)?;
     let moved = Changed {
         rows: 2,
         void: true,
@@ -232,6 +169,6 @@ fn a_slot_and_a_metric_leave_the_pass(rt: HostRuntime) -> Result<(), Fail> {
     };
     assert_eq!(rt; world.commit(&commit), Ok(kept));
     check(&rt, &mut world, [false, true, false]);
-    assert_eq!(rt; counts(&rt, &world), [0, 1, 0]);
+    assert_eq!(rt; counts(&rt, world.monitor()), [0, 1, 0]);
     Ok(())
 }

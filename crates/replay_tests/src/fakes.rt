@@ -23,7 +23,7 @@ impl KeptSink {
         }
     }
 
-    // Keeps the front of a piece that was handed over.
+    // Keeps the first `count` bytes of a piece that was handed over.
     fn keep(&mut self, piece: &[u8], count: usize) -> Result<(), AllocError>
         requires { count ≤ length piece.now }
         ensures { self.new.faults ≡ self.old.faults }

@@ -1,6 +1,6 @@
 use Rattle.std.proofs.Common.{◌+◌, ◌-◌}
 use Rattle.scheme_filter.proofs.RangeLemmas.{Searched}
-use Rattle.scheme_filter.proofs.range_runs.range_of.Given as goal
+use Rattle.scheme_filter.proofs.range_runs.search.Given as goal
 
 abbrev pub invariant-search : goal.invariant-search
 invariant-search l = Searched l.ranges.list l.row.start (l.row.start + l.row.pages) l.low l.high

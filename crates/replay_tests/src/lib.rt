@@ -1,0 +1,13 @@
+//! Tests of the program's top call and of its reading and writing. They stand in a crate of their own,
+//! since a crate with tests is proved twice.
+#![tactic(auto)]
+
+/// A sink that tells how it was used.
+#[cfg(test)]
+mod fakes;
+/// Reading and writing in pieces.
+#[cfg(test)]
+mod streams;
+/// Whole runs.
+#[cfg(test)]
+mod whole_runs;
