@@ -147,6 +147,3 @@ impl Engine {
         }
     }
 }
-
-#[cfg(test)]
-mod tests;

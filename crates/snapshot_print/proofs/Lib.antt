@@ -7,4 +7,5 @@ pub mod JsonSlots
 pub mod Floats
 pub mod Readable
 pub mod BySlot
+pub mod OneLine
 mod Examples

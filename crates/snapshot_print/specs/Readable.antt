@@ -1,5 +1,6 @@
 -- When a value of a report is written and read back: its numbers have 64 bits, and it has no negative number and no float.
-use Rattle.std.specs.Prelude.{◌<◌, ◌^◌, ⊤}
+use Rattle.std.specs.Prelude.{◌≡◌, ◌<◌, ◌^◌, ◌==◌, ℕ, Bool, false, List, ⊤}
+use Rattle.std.specs.List.{list_any}
 use Rattle.serde_json.specs.Data.{Num, unsigned, negative, float, Data, null, boolean, number, string, array, object, Items, no_items, item, Members, no_members, member}
 
 -- a whole number below 2^64 that is not negative
@@ -27,3 +28,11 @@ abbrev mutual
   pub MembersHaveWords : Members → Type 0
   MembersHaveWords no_members = ⊤
   MembersHaveWords (member k d ms) = HasWords d × MembersHaveWords ms
+
+-- whether a byte ends a line
+abbrev pub is_line_end : ℕ → Bool
+is_line_end byte = byte == 10
+
+-- a text has no line end
+abbrev pub IsOneLine : List ℕ → Type 0
+IsOneLine text = list_any is_line_end text ≡ false

@@ -4,11 +4,12 @@ ghost use Rattle.damon_types.specs.declared.space.Target.{Target as target};
 ghost use Rattle.region_list.specs.Regions.{RegionList};
 ghost use Rattle.scheme_engine.specs.Served.{slots_served};
 ghost use Rattle.scheme_engine.specs.Slots.{SlotValue};
+ghost use Rattle.serde_json.specs.Data.{Data};
 ghost use Rattle.serde_json.specs.Read.{read};
 ghost use Rattle.serde_json.specs.Written.{compact_text};
 ghost use Rattle.snapshot_print.specs.Json.{aggregate_json, answer_json, end_json, show_json};
 ghost use Rattle.snapshot_print.specs.Printed.{Printed as printed};
-ghost use Rattle.snapshot_print.specs.Readable.{HasWords};
+ghost use Rattle.snapshot_print.specs.Readable.{HasWords, IsOneLine};
 ghost use Rattle.snapshot_print.specs.Schemes.{choices_by_slot, choices_text};
 
 /// Once slots were served, the runs that come next for a choice are all runs of its slot. So in the text of
@@ -32,4 +33,10 @@ pub fn json_lines_are_read()
         → read (compact_text (answer_json tick answer)) ≡ Some (answer_json tick answer) }
     ensures end { (p : printed) → HasWords (end_json p)
         → read (compact_text (end_json p)) ≡ Some (end_json p) }
+{}
+
+/// The text of a value whose numbers have at most 64 bits has no line end. So each line of a report as JSON is
+/// one line of the text.
+pub fn json_lines_are_one_line()
+    ensures { (d : Data) → HasWords d → IsOneLine (compact_text d) }
 {}

@@ -4,14 +4,14 @@ ghost use Rattle.std.specs.List.{AllByRecursion};
 ghost use Rattle.damon_types.specs.Within.{AreWithin};
 ghost use Rattle.scheme_engine.specs.Kept.{CountsWithin, StartBy};
 
-use super::*;
-use crate::{AppliedRun, SlotChoice, served_slots_are_kept};
 use damon_types::{
     Action, Filter, FilterKind, Filters, Marks, Pattern, Prefer, Quota, Range, Ranges, Row, Scheme,
-    Span, Target, Weights,
+    SlotChange, Space, Span, Target, Weights,
 };
 use quota_charge::Window;
-use region_list::{RowBuf, divide};
+use region_list::{Regions, RowBuf, divide};
+use scheme_engine::{Applied, AppliedRun, Engine, SlotChoice, SlotView, served_slots_are_kept};
+use std::alloc::Global;
 use std::process::Abort;
 use std::test::Fail;
 
