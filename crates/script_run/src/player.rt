@@ -172,8 +172,6 @@ impl<R: Rng + Drop> Player<R> {
         ensures on { (text : List ℕ) → GoesOn R.stream self.old self.new text text }
         ensures less { left_moves self.new < left_moves self.old }
     {
-        // For its clauses alone: the pages are a u32.
-        let _pages = self.world.monitor().space().pages();
         make_touches(&mut self.world, page, count);
         self.part = Part::NOTHING;
     }
@@ -258,6 +256,8 @@ fn make_touches<R: Rng + Drop>(world: &mut World<R>, page: u32, count: u32)
     if count == 1 {
         world.touch(page);
     } else {
+        // For its clause alone: the pages are a u32.
+        let _pages = world.monitor().space().pages();
         world.sweep(page, page + count);
     }
 }

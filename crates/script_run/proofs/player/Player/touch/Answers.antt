@@ -1,4 +1,4 @@
-use Rattle.std.proofs.Common.{◌≡◌, ◌+◌, ◌-◌, refl, sym, ap, subst, ◌∙◌, arith}
+use Rattle.std.proofs.Common.{◌≡◌, ◌+◌, refl, sym, ap, subst, ◌∙◌, arith}
 use Rattle.damon_types.specs.Space.{pages_of}
 use Rattle.damon_core.specs.Makes.{Makes}
 use Rattle.damon_world.specs.Stands.{StandsFor}
@@ -9,18 +9,15 @@ use Rattle.script_run.specs.Kept.{IsPartWithin}
 use Rattle.script_run.proofs.Moves.{touches_made}
 use Rattle.script_run.proofs.player.Player.touch.Goals as goal
 
-pub overflow_add-page : goal.overflow_add-page
-overflow_add-page g c =
+pub make_touches-requires : goal.make_touches-requires
+make_touches-requires g c =
     let is : part_value c.self.inside.part ≡ part.Touches c.args.page c.args.count = ap (λ v. v.part) c.self.view_is ∙ c.requires.part in
-    let within = subst (IsPartWithin (pages_of c.self.inside.world.monitor.core.space)) is c.self.invariant.within.0 in
-    let same = ap pages_of (c.space.ensures ∙ ap (λ m. m.core.space) c.monitor.ensures) in
-    omega (arith, within, same, c.pages-pages.ensures, c.pages-pages.type_inv)
+    subst (IsPartWithin (pages_of c.self.inside.world.monitor.core.space)) is c.self.invariant.within.0
 
 pub returns-clause-on : goal.returns-clause-on
 returns-clause-on g c text =
     let is = c.self.view_is in
     let world = sym (ap (λ v. v.world) is) in
-    let count : c.args.page + c.args.count - c.args.page ≡ c.args.count = omega arith in
     touches_made g.R.Rng.stream c.args.self.now _ text c.args.page c.args.count c.requires.part refl
-    (ap (λ v. v.later) is) (ap (λ v. v.form) is) (c.sweep.ensures.source ∙ sym (ap (λ w. w.source) world))
-    (subst (λ w. Makes StandsFor w c.sweep.new.self (touches c.args.page c.args.count)) (sym world) (subst (λ n. Makes StandsFor c.self.inside.world c.sweep.new.self (touches c.args.page n)) count c.sweep.ensures.events))
+    (ap (λ v. v.later) is) (ap (λ v. v.form) is) (c.make_touches.ensures.source ∙ sym (ap (λ w. w.source) world))
+    (subst (λ w. Makes StandsFor w c.make_touches.new.world (touches c.args.page c.args.count)) (sym world) c.make_touches.ensures.events)
