@@ -181,7 +181,8 @@ fn take_worker<'a>(lines: &mut Lines<'a>) -> Result<&'a [u8], ScriptFault>
     Ok(line)
 }
 
-// Reads a line of this word alone, which begins a block after this many of at most so many.
+// Reads a line of this word alone, which begins one more block after `count` of them, where at most
+// `most` may be.
 pub fn read_block(word: &[u8], line: &[u8], count: u32, most: u32) -> Result<(), ScriptKind>
     ensures exact { result ≡ block_line word.now line.now count most }
     ensures few { OnOk result (count < most) }
