@@ -26,7 +26,7 @@ use Rattle.damon_control.proofs.SpellWords.{alone-Ok}
 
 -- ---- the last of some lists
 
-pub count-to_last : {A : Type 0} (lists : List (List A)) (items : List A) → 1 ≤ length lists → count_all (to_last lists items) ≡ count_all lists + length items
+count-to_last : {A : Type 0} (lists : List (List A)) (items : List A) → 1 ≤ length lists → count_all (to_last lists items) ≡ count_all lists + length items
 count-to_last [] items some = absurd (omega (arith, some))
 count-to_last (last ∷ []) items some =
     omega (arith, sum_by-cons length (last ++ items) [], sum_by-cons length last [], length-append last items)
@@ -46,7 +46,7 @@ all_lines-last (last ∷ []) more some =
 all_lines-last (group ∷ next ∷ groups) more some =
     ap (λ ls. group ++ ls) (all_lines-last (next ∷ groups) more (omega arith)) ∙ sym (append_assoc group (all_lines (next ∷ groups)) more)
 
--- where the last group says the last list, and so with more lines and items, each still says its list
+-- groups of lines still say their lists after more lines of the last group and what they add to its list
 says_last : {L A : Type 0} (says : List L → List A → Type 0) (groups : List (List L)) (lists : List (List A)) (more : List L) (items : List A)
     → ((group : List L) (list : List A) → says group list → says (group ++ more) (list ++ items)) → EachSays says groups lists → EachSays says (to_last groups more) (to_last lists items)
 says_last says [] [] more items adds each = tt
@@ -57,7 +57,7 @@ says_last says (group ∷ next ∷ groups) (list ∷ []) more items adds each = 
 says_last says [] (list ∷ lists) more items adds each = absurd each
 says_last says (group ∷ groups) [] more items adds each = absurd each
 
--- lines and values that they say are the same number
+-- the number of lines, or of groups, is that of the values that they say
 same_number : {L A : Type 0} (says : L → A → Type 0) (lines : List L) (values : List A) → EachSays says lines values → length lines ≡ length values
 same_number says [] [] each = refl
 same_number says (line ∷ lines) (value ∷ values) each = omega (arith, same_number says lines values each.1)
@@ -89,9 +89,9 @@ touching-Ok laws space line c e =
     (λ read. let said = sweep_line-pages laws space line c read in inr (said.0, said.1, sym (ap touched said.2), said.3)) e
 
 -- a line that is read as touches within the limit of all touches
-pub record SayTouches (space : List Target) (line : List ℕ) (before : ℕ) (pages : List ℕ) : Type 0 where
-  pub says : SaysPages space line pages
-  pub few : before + length pages ≤ MAX_TOUCHES
+record SayTouches (space : List Target) (line : List ℕ) (before : ℕ) (pages : List ℕ) : Type 0 where
+  says : SaysPages space line pages
+  few : before + length pages ≤ MAX_TOUCHES
 
 touches_within-Ok : (laws : WordLaws) (space : List Target) (line : List ℕ) (before : ℕ) (pages : List ℕ) → touches_within space line before ≡ Ok pages → SayTouches space line before pages
 touches_within-Ok laws space line before pages e =
@@ -103,8 +103,8 @@ touches_within-Ok laws space line before pages e =
     })
 
 -- a worker with one more line of touches
-more_touches : (space : List Target) (line pages : List ℕ) → SaysPages space line pages → (group : List (List ℕ)) (trace : List ℕ) → SayWorker space group trace → SayWorker space (group ++ line ∷ []) (trace ++ pages)
-more_touches space line pages here group trace says = record {
+worker_more : (space : List Target) (line pages : List ℕ) → SaysPages space line pages → (group : List (List ℕ)) (trace : List ℕ) → SayWorker space group trace → SayWorker space (group ++ line ∷ []) (trace ++ pages)
+worker_more space line pages here group trace says = record {
   touches = says.touches ++ line ∷ [];
   pages = says.pages ++ pages ∷ [];
   spelled = ap (λ ls. ls ++ line ∷ []) says.spelled;
@@ -130,8 +130,8 @@ no_lines v groups each none =
 some_workers : (v : LiveValue) → (length v.workers == 0) ≡ false → 1 ≤ length v.workers
 some_workers v some = grind (arith, nat_tests)
 
-touched_more : (laws : TextLaws) (lines : List (List ℕ)) (v : LiveValue) (line : List ℕ) (w : LiveValue) → SayBlocks lines v → has_controller v ≡ false → touches_line v line ≡ Ok w → SayBlocks (lines ++ line ∷ []) w
-touched_more laws lines v line w before none e = both_ways (length v.workers == 0) _ _ _ (λ _ no. absurd cc) past e
+more_touches : (laws : TextLaws) (lines : List (List ℕ)) (v : LiveValue) (line : List ℕ) (w : LiveValue) → SayBlocks lines v → has_controller v ≡ false → touches_line v line ≡ Ok w → SayBlocks (lines ++ line ∷ []) w
+more_touches laws lines v line w before none e = both_ways (length v.workers == 0) _ _ _ (λ _ no. absurd cc) past e
   where
     past : (length v.workers == 0) ≡ false → (touches_within v.setup.space line (count_all v.workers) >>= λ pages. Ok (record v { workers = to_last v.workers pages })) ≡ Ok w
         → SayBlocks (lines ++ line ∷ []) w
@@ -148,7 +148,7 @@ touched_more laws lines v line w before none e = both_ways (length v.workers == 
               ∙ ap (live_lines before.setup v.passes) (behind_workers (all_lines before.workers) (all_lines before.controllers) (all_lines (to_last before.workers (line ∷ []))) (line ∷ [])
               (no_lines v before.controllers before.say_controllers none) (all_lines-last before.workers (line ∷ []) groups));
           says_setup = before.says_setup;
-          say_workers = says_last (SayWorker v.setup.space) before.workers v.workers (line ∷ []) pages (more_touches v.setup.space line pages said.says) before.say_workers;
+          say_workers = says_last (SayWorker v.setup.space) before.workers v.workers (line ∷ []) pages (worker_more v.setup.space line pages said.says) before.say_workers;
           say_controllers = before.say_controllers;
           limits = record {
             some_pass = before.limits.some_pass;
@@ -161,9 +161,9 @@ touched_more laws lines v line w before none e = both_ways (length v.workers == 
         })
 
 -- a line that begins a block
-pub record BeginsBlock (word line : List ℕ) (count most : ℕ) : Type 0 where
-  pub is : line ≡ word
-  pub few : count < most
+record BeginsBlock (word line : List ℕ) (count most : ℕ) : Type 0 where
+  is : line ≡ word
+  few : count < most
 
 block_line-Ok : (laws : WordLaws) (word line : List ℕ) (count most : ℕ) (t : Unit {0}) → block_line word line count most ≡ Ok t → BeginsBlock word line count most
 block_line-Ok laws word line count most t e =
@@ -171,8 +171,8 @@ block_line-Ok laws word line count most t e =
     let passes = only_if-Ok (nat_lt count most) Limit (tt {0}) t word_is.2 in
     record { is = alone-Ok laws word line word_is.1; few = grind (arith, nat_tests, passes.0) }
 
-one_worker : (laws : TextLaws) (lines : List (List ℕ)) (v : LiveValue) (line : List ℕ) (w : LiveValue) → SayBlocks lines v → has_controller v ≡ false → worker_line v line ≡ Ok w → SayBlocks (lines ++ line ∷ []) w
-one_worker laws lines v line w before none =
+more_workers : (laws : TextLaws) (lines : List (List ℕ)) (v : LiveValue) (line : List ℕ) (w : LiveValue) → SayBlocks lines v → has_controller v ≡ false → worker_line v line ≡ Ok w → SayBlocks (lines ++ line ∷ []) w
+more_workers laws lines v line w before none =
     read_to (SayBlocks (lines ++ line ∷ [])) (block_line (codes "worker") line (length v.workers) MAX_WORKERS) (λ _. record v { workers = v.workers ++ [] ∷ [] }) w (λ t read.
     let begins = block_line-Ok laws.words (codes "worker") line (length v.workers) MAX_WORKERS t read in
     record {
@@ -199,8 +199,8 @@ one_worker laws lines v line w before none =
 
 -- ---- controllers
 
-one_controller : (laws : TextLaws) (lines : List (List ℕ)) (v : LiveValue) (line : List ℕ) (w : LiveValue) → SayBlocks lines v → controller_line v line ≡ Ok w → SayBlocks (lines ++ line ∷ []) w
-one_controller laws lines v line w before =
+more_controllers : (laws : TextLaws) (lines : List (List ℕ)) (v : LiveValue) (line : List ℕ) (w : LiveValue) → SayBlocks lines v → controller_line v line ≡ Ok w → SayBlocks (lines ++ line ∷ []) w
+more_controllers laws lines v line w before =
     read_to (SayBlocks (lines ++ line ∷ [])) (block_line (codes "controller") line (length v.controllers) MAX_CONTROLLERS) (λ _. record v { controllers = v.controllers ++ [] ∷ [] }) w (λ t read.
     let begins = block_line-Ok laws.words (codes "controller") line (length v.controllers) MAX_CONTROLLERS t read in
     record {
@@ -226,8 +226,8 @@ one_controller laws lines v line w before =
     })
 
 -- a controller with the lines of one more call
-one_call : (group : List (List ℕ)) (call : CallValue) → SayCall group call → (lines : List (List ℕ)) (calls : List CallValue) → SayController lines calls → SayController (lines ++ group) (calls ++ call ∷ [])
-one_call group call here lines calls says = record {
+controller_more : (group : List (List ℕ)) (call : CallValue) → SayCall group call → (lines : List (List ℕ)) (calls : List CallValue) → SayController lines calls → SayController (lines ++ group) (calls ++ call ∷ [])
+controller_more group call here lines calls says = record {
   groups = says.groups ++ group ∷ [];
   spelled = ap (λ ls. ls ++ group) says.spelled ∙ ap (λ ls. codes "controller" ∷ ls) (sym (all_lines-more says.groups group));
   each = each_more SayCall says.groups calls group call says.each here;
@@ -255,7 +255,7 @@ more_call lines front v group call next before has_one is says = read_to (Says O
               ∙ ap (λ ls. all_lines before.workers ++ ls) (sym (all_lines-last before.controllers group groups)));
           says_setup = before.says_setup;
           say_workers = before.say_workers;
-          say_controllers = says_last SayController before.controllers v.controllers group (call ∷ []) (one_call group call says) before.say_controllers;
+          say_controllers = says_last SayController before.controllers v.controllers group (call ∷ []) (controller_more group call says) before.say_controllers;
           limits = record {
             some_pass = before.limits.some_pass;
             passes = before.limits.passes;
@@ -271,11 +271,11 @@ more_call lines front v group call next before has_one is says = read_to (Says O
 pub in_blocks : (laws : TextLaws) (lines : List (List ℕ)) (v : LiveValue) (line : List ℕ) (next : Place OfLive) → SayBlocks lines v → after_live v line ≡ Ok next → Says OfLive (lines ++ line ∷ []) next
 in_blocks laws lines v line next before e =
     either_way (begins_with (codes "end") line) _ _ _ at_end
-    (either_way (begins_with (codes "controller") line) _ _ _ (read_to (Says OfLive (lines ++ line ∷ [])) (controller_line v line) (λ w. InBody w) next (λ w. one_controller laws lines v line w before))
+    (either_way (begins_with (codes "controller") line) _ _ _ (read_to (Says OfLive (lines ++ line ∷ [])) (controller_line v line) (λ w. InBody w) next (λ w. more_controllers laws lines v line w before))
     (both_ways (has_controller v) _ _ _ (λ has_one. either_way (begins_with (codes "commit") line) _ _ _ (at_commit has_one) (at_show has_one))
     (λ none. either_way (begins_with (codes "worker") line) _ _ _
-    (read_to (Says OfLive (lines ++ line ∷ [])) (worker_line v line) (λ w. InBody w) next (λ w. one_worker laws lines v line w before none))
-    (read_to (Says OfLive (lines ++ line ∷ [])) (touches_line v line) (λ w. InBody w) next (λ w. touched_more laws lines v line w before none))))) e
+    (read_to (Says OfLive (lines ++ line ∷ [])) (worker_line v line) (λ w. InBody w) next (λ w. more_workers laws lines v line w before none))
+    (read_to (Says OfLive (lines ++ line ∷ [])) (touches_line v line) (λ w. InBody w) next (λ w. more_touches laws lines v line w before none))))) e
   where
     at_end : (alone (codes "end") line >>= λ _. Ok (AtEnd v)) ≡ Ok next → Says OfLive (lines ++ line ∷ []) next
     at_end = read_to (Says OfLive (lines ++ line ∷ [])) (alone (codes "end") line) (λ _. AtEnd v) next (λ t read. record {

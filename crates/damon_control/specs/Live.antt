@@ -48,7 +48,7 @@ to_last (list ∷ next ∷ more) items = list ∷ to_last (next ∷ more) items
 abbrev pub passes_line : List ℕ → Result ℕ ScriptKind
 passes_line line = arguments (codes "passes") line >>= one_word >>= number_32 >>= limited 1 MAX_PASSES
 
--- a line of this word alone, which begins one more block after `count` of them, where at most `most` may be
+-- a line of this word alone, which begins a block: `count` blocks stand before it, and at most `most` are allowed
 abbrev pub block_line : List ℕ → List ℕ → ℕ → ℕ → Result (Unit {0}) ScriptKind
 block_line word line count most = alone word line >>= λ _. only_if (nat_lt count most) Limit (tt {0})
 
