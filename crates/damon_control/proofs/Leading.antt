@@ -1,12 +1,10 @@
--- Lines that say a script lead from its header to its end.
-use Rattle.std.proofs.Common.{◌≡◌, inl, inr, ◌∷◌, [], ◌==◌, ◌||◌, ◌+◌, ◌^◌, ◌<◌, ◌≤◌, ℕ, Bool, true, false, nat_le, List, ◌++◌, length, map, codes, Ok, Err, refl, sym, ap, subst, ◌∙◌, append_assoc, arith}
+-- Lines that say a setup lead from the first line of a text to its body, and those of a commit to its last line.
+use Rattle.std.proofs.Common.{◌≡◌, ◌∷◌, [], ◌==◌, ◌||◌, ◌^◌, ◌<◌, ◌≤◌, ℕ, Bool, true, false, List, ◌++◌, length, map, codes, Ok, Err, refl, sym, ap, subst, ◌∙◌, append_assoc, arith}
 use Rattle.std.proofs.lemmas.Bool.Decides.{nat_tests}
 use Rattle.std.proofs.lemmas.List.{append-nil, length-append}
-use Rattle.std.proofs.lemmas.List.Sums.{sum_by-cons}
 use Rattle.std.specs.Prelude.{Result, if◌then◌else◌}
 use Rattle.std.specs.List.{AllByRecursion, list_any}
 use Rattle.std.specs.Result.{result_and}
-use Rattle.damon_types.specs.declared.range.Range.{Range}
 use Rattle.damon_types.specs.declared.range.RangeSpec.{RangeSpec}
 use Rattle.damon_types.specs.declared.scheme.SchemeFault.{SchemeFault}
 use Rattle.damon_types.specs.declared.scheme.SlotChange.{SlotChange}
@@ -24,53 +22,58 @@ use Rattle.target_ranges.specs.declared.fault.RangeFault.{RangeFault}
 use Rattle.target_ranges.specs.declared.fault.RangeWhy.{RangeWhy}
 use Rattle.target_ranges.specs.Checked.{checked_next, checked_ranges, fault_at}
 use Rattle.target_ranges.specs.Laws.{ChecksOneMore, KeepsFault}
-use Rattle.damon_control.specs.declared.grammar.Grammar.TheVariants.{OfScript}
+use Rattle.target_ranges.specs.Made.{ranges_of}
+use Rattle.damon_control.specs.declared.grammar.Grammar.{Grammar}
+use Rattle.damon_control.specs.declared.grammar.Grammar.TheVariants.{OfScript, OfLive}
 use Rattle.damon_control.specs.declared.commit.Part.{Part}
 use Rattle.damon_control.specs.declared.fault.ScriptKind.{ScriptKind}
 use Rattle.damon_control.specs.declared.head.Frame.{Frame}
-use Rattle.damon_control.specs.declared.script.TheConstants.{MAX_WORK}
-use Rattle.damon_control.specs.Body.{no_commit, part_line, with_part}
-use Rattle.damon_control.specs.Command.{CommandValue, Commit, weight, work_of}
+use Rattle.damon_control.specs.Body.{part_line, with_part}
 use Rattle.damon_control.specs.Fits.{FitsAttrs}
 use Rattle.damon_control.specs.Head.{attrs_line, cap_line, is_changed, range_line, scheme_line, seed_line, target_line, unit_line}
-use Rattle.damon_control.specs.Laws.{GivesScheme, IsCommand, IsPart, may_come}
+use Rattle.damon_control.specs.Laws.{GivesScheme, IsPart, may_come}
 use Rattle.damon_control.specs.ReadBack.{LinesReadBack}
 use Rattle.damon_control.specs.Refusal.{◌>>=◌}
-use Rattle.damon_control.specs.Script.{AtAttrs, AtCap, AtEnd, AtHeader, AtRanges, AtSchemes, AtSeed, AtTargets, AtUnit, Body, InBody, InCommit, Place, ScriptValue, begun, opened, place_after, reads, script_of, with_command}
+use Rattle.damon_control.specs.Script.{AtAttrs, AtCap, AtEnd, AtHeader, AtRanges, AtSchemes, AtSeed, AtTargets, AtUnit, InBody, InCommit, Place, Said, Within, after_setup, header_of, place_after, reads}
 use Rattle.damon_control.specs.Spelling.{spelled_attrs, spelled_cap, spelled_range, spelled_seed, spelled_target, spelled_unit}
-use Rattle.damon_control.specs.Text.{AreCommit, EachSays, IsText, SayCommand, SaySetup, all_lines, come_in_order, with_parts}
+use Rattle.damon_control.specs.Text.{EachSays, SaySetup, come_in_order, lines_text, with_parts}
 use Rattle.damon_control.specs.Words.{begins_with}
 use Rattle.damon_control.proofs.Leads.{leads, leads-line, leads-read, lines_apart}
-use Rattle.damon_control.proofs.LineWords.{begins_other, both_true, command_begins, leads-IsPiece, part_begins, range_begins, scheme_begins, target_begins}
+use Rattle.damon_control.proofs.LineWords.{begins_other, both_true, leads-IsPiece, part_begins, range_begins, scheme_begins, target_begins}
 use Rattle.damon_control.proofs.SetupLimits.{checked-Limits}
 use Rattle.damon_control.proofs.SpaceLimits.{accepted-FitsRange, checked-IsSpace, checked_before}
 
 -- ---- the lines before the targets
 
 -- a value that is read leads on
-lead_to : {A : Type 0} (r : Result A ScriptKind) (x : A) (to : A → Place OfScript) → r ≡ Ok x → (r >>= λ y. Ok (to y)) ≡ Ok (to x)
-lead_to r x to is = rw is refl
+pub lead_to : {A : Type 0} (g : Grammar) (r : Result A ScriptKind) (x : A) (to : A → Place g) → r ≡ Ok x → (r >>= λ y. Ok (to y)) ≡ Ok (to x)
+lead_to g r x to is = rw is refl
 
 -- the way that a test takes
-then_way : {R : Type 0} (test : Bool) (here others : R) → test ≡ true → (if test then here else others) ≡ here
+pub then_way : {R : Type 0} (test : Bool) (here others : R) → test ≡ true → (if test then here else others) ≡ here
 then_way true here others is = refl
 then_way false here others is = absurd cc
 
-else_way : {R : Type 0} (test : Bool) (here others : R) → test ≡ false → (if test then here else others) ≡ others
+pub else_way : {R : Type 0} (test : Bool) (here others : R) → test ≡ false → (if test then here else others) ≡ others
 else_way true here others is = absurd cc
 else_way false here others is = refl
 
-either_true : (first second : Bool) → first ≡ true → (first || second) ≡ true
+pub either_true : (first second : Bool) → first ≡ true → (first || second) ≡ true
 either_true true second is = refl
 either_true false second is = absurd cc
 
-neither_true : (first second : Bool) → first ≡ false → second ≡ false → (first || second) ≡ false
+pub neither_true : (first second : Bool) → first ≡ false → second ≡ false → (first || second) ≡ false
 neither_true false second one two = two
 neither_true true second one two = absurd cc
 
-frame_leads : LinesReadBack → (f : Frame) (lines : List (List ℕ)) → f.seed < 2 ^ 64 → checked_limits f.unit f.cap f.attrs ≡ Ok tt
-    → leads AtHeader (codes "damon script 1" ∷ spelled_seed f.seed ∷ spelled_unit f.unit ∷ spelled_cap f.cap ∷ spelled_attrs f.attrs ∷ lines) ≡ leads (AtTargets f []) lines
-frame_leads back f lines small sound =
+-- the first line
+header_read : (g : Grammar) → place_after g AtHeader (header_of g) ≡ Ok AtSeed
+header_read OfScript = refl
+header_read OfLive = refl
+
+frame_leads : LinesReadBack → (g : Grammar) (f : Frame) (lines : List (List ℕ)) → f.seed < 2 ^ 64 → checked_limits f.unit f.cap f.attrs ≡ Ok tt
+    → leads g AtHeader (header_of g ∷ spelled_seed f.seed ∷ spelled_unit f.unit ∷ spelled_cap f.cap ∷ spelled_attrs f.attrs ∷ lines) ≡ leads g (AtTargets f []) lines
+frame_leads back g f lines small sound =
     let limits = checked-Limits f.unit f.cap f.attrs sound in
     let most : f.attrs.max ≤ 4096 = omega (arith, limits.max_cap, limits.cap_most) in
     let least : f.attrs.min ≤ 4096 = omega (arith, limits.attrs.max, most) in
@@ -78,42 +81,42 @@ frame_leads back f lines small sound =
     let after_cap = spelled_attrs f.attrs ∷ lines in
     let after_unit = spelled_cap f.cap ∷ after_cap in
     let after_seed = spelled_unit f.unit ∷ after_unit in
-    leads-line AtHeader AtSeed (codes "damon script 1") (spelled_seed f.seed ∷ after_seed) refl
-    ∙ leads-line AtSeed (AtUnit f.seed) (spelled_seed f.seed) after_seed (lead_to (seed_line (spelled_seed f.seed)) f.seed (λ n. AtUnit n) (back.seed f.seed small))
-    ∙ leads-line (AtUnit f.seed) (AtCap f.seed f.unit) (spelled_unit f.unit) after_unit
-    (lead_to (unit_line (spelled_unit f.unit)) f.unit (λ n. AtCap f.seed n) (back.unit f.unit limits.unit_some limits.unit_most))
-    ∙ leads-line (AtCap f.seed f.unit) (AtAttrs f.seed f.unit f.cap) (spelled_cap f.cap) after_cap
-    (lead_to (cap_line (spelled_cap f.cap)) f.cap (λ n. AtAttrs f.seed f.unit n) (back.cap f.cap limits.cap_some limits.cap_most))
-    ∙ leads-line (AtAttrs f.seed f.unit f.cap) (AtTargets f []) (spelled_attrs f.attrs) lines
-    (lead_to (attrs_line f.cap (spelled_attrs f.attrs)) f.attrs (λ a. AtTargets (record { seed = f.seed; unit = f.unit; cap = f.cap; attrs = a }) [])
+    leads-line g AtHeader AtSeed (header_of g) (spelled_seed f.seed ∷ after_seed) (header_read g)
+    ∙ leads-line g AtSeed (AtUnit f.seed) (spelled_seed f.seed) after_seed (lead_to g (seed_line (spelled_seed f.seed)) f.seed (λ n. AtUnit n) (back.seed f.seed small))
+    ∙ leads-line g (AtUnit f.seed) (AtCap f.seed f.unit) (spelled_unit f.unit) after_unit
+    (lead_to g (unit_line (spelled_unit f.unit)) f.unit (λ n. AtCap f.seed n) (back.unit f.unit limits.unit_some limits.unit_most))
+    ∙ leads-line g (AtCap f.seed f.unit) (AtAttrs f.seed f.unit f.cap) (spelled_cap f.cap) after_cap
+    (lead_to g (cap_line (spelled_cap f.cap)) f.cap (λ n. AtAttrs f.seed f.unit n) (back.cap f.cap limits.cap_some limits.cap_most))
+    ∙ leads-line g (AtAttrs f.seed f.unit f.cap) (AtTargets f []) (spelled_attrs f.attrs) lines
+    (lead_to g (attrs_line f.cap (spelled_attrs f.attrs)) f.attrs (λ a. AtTargets (record { seed = f.seed; unit = f.unit; cap = f.cap; attrs = a }) [])
     (back.attrs f.cap f.attrs fits limits.checked limits.max_cap))
 
 -- ---- targets
 
-target_leads : (f : Frame) (before : List Target) (line : List ℕ) (t : Target) → target_line before line ≡ Ok t → place_after OfScript (AtTargets f before) line ≡ Ok (AtTargets f (before ++ t ∷ []))
-target_leads f before line t read =
+target_leads : (g : Grammar) (f : Frame) (before : List Target) (line : List ℕ) (t : Target) → target_line before line ≡ Ok t → place_after g (AtTargets f before) line ≡ Ok (AtTargets f (before ++ t ∷ []))
+target_leads g f before line t read =
     then_way (begins_with (codes "target") line || (length before == 0)) _ _ (either_true (begins_with (codes "target") line) _ (target_begins before line t read).begins)
-    ∙ lead_to (target_line before line) t (λ u. AtTargets f (before ++ u ∷ [])) read
+    ∙ lead_to g (target_line before line) t (λ u. AtTargets f (before ++ u ∷ [])) read
 
-targets_lead : LinesReadBack → (f : Frame) (before more : List Target) (lines : List (List ℕ)) → checked (before ++ more) ≡ Ok tt
-    → leads (AtTargets f before) (map spelled_target more ++ lines) ≡ leads (AtTargets f (before ++ more)) lines
-targets_lead back f before [] lines sound = ap (λ ts. leads (AtTargets f ts) lines) (sym (append-nil before))
-targets_lead back f before (t ∷ more) lines sound =
+targets_lead : LinesReadBack → (g : Grammar) (f : Frame) (before more : List Target) (lines : List (List ℕ)) → checked (before ++ more) ≡ Ok tt
+    → leads g (AtTargets f before) (map spelled_target more ++ lines) ≡ leads g (AtTargets f (before ++ more)) lines
+targets_lead back g f before [] lines sound = ap (λ ts. leads g (AtTargets f ts) lines) (sym (append-nil before))
+targets_lead back g f before (t ∷ more) lines sound =
     let all = append_assoc before (t ∷ []) more in
     let whole : checked ((before ++ t ∷ []) ++ more) ≡ Ok tt = ap checked all ∙ sound in
     let first = checked_before (before ++ t ∷ []) more (omega (arith, length-append before (t ∷ []))) whole in
-    leads-line (AtTargets f before) (AtTargets f (before ++ t ∷ [])) (spelled_target t) (map spelled_target more ++ lines)
-    (target_leads f before (spelled_target t) t (back.target before t first))
-    ∙ targets_lead back f (before ++ t ∷ []) more lines whole
-    ∙ ap (λ ts. leads (AtTargets f ts) lines) all
+    leads-line g (AtTargets f before) (AtTargets f (before ++ t ∷ [])) (spelled_target t) (map spelled_target more ++ lines)
+    (target_leads g f before (spelled_target t) t (back.target before t first))
+    ∙ targets_lead back g f (before ++ t ∷ []) more lines whole
+    ∙ ap (λ ts. leads g (AtTargets f ts) lines) all
 
 -- ---- ranges
 
-range_leads : (f : Frame) (targets : List Target) (before : List RangeSpec) (line : List ℕ) (r : RangeSpec) → range_line f targets before line ≡ Ok r
-    → place_after OfScript (AtRanges f targets before) line ≡ Ok (AtRanges f targets (before ++ r ∷ []))
-range_leads f targets before line r read =
+range_leads : (g : Grammar) (f : Frame) (targets : List Target) (before : List RangeSpec) (line : List ℕ) (r : RangeSpec) → range_line f targets before line ≡ Ok r
+    → place_after g (AtRanges f targets before) line ≡ Ok (AtRanges f targets (before ++ r ∷ []))
+range_leads g f targets before line r read =
     then_way (begins_with (codes "range") line || (length before == 0)) _ _ (either_true (begins_with (codes "range") line) _ (range_begins f targets before line r read).begins)
-    ∙ lead_to (range_line f targets before line) r (λ u. AtRanges f targets (before ++ u ∷ [])) read
+    ∙ lead_to g (range_line f targets before line) r (λ u. AtRanges f targets (before ++ u ∷ [])) read
 
 -- the first of accepted ranges are accepted
 ranges_before : KeepsFault → (ts : List Target) (unit cap : ℕ) (front back : List RangeSpec) → checked_ranges ts unit cap (front ++ back) ≡ Ok tt → checked_ranges ts unit cap front ≡ Ok tt
@@ -126,6 +129,10 @@ ranges_before keeps ts unit cap front back ok = by (checked_ranges ts unit cap f
 no_fault : (index : ℕ) (r : Result (Unit {0}) RangeWhy) → fault_at index r ≡ Ok tt → r ≡ Ok tt
 no_fault index (Ok t) ok = refl
 no_fault index (Err why) ok = absurd cc
+
+-- the frame of a setup
+abbrev pub frame_of : ℕ → SetupValue → Frame
+frame_of seed setup = record { seed = seed; unit = setup.unit; cap = setup.cap; attrs = setup.attrs }
 
 -- what is known of the checks of ranges, and of texts that are taken apart
 pub record LeadLaws : Type 0 where
@@ -145,44 +152,44 @@ range_read laws f targets before more r space sound few =
     let room : length before < f.attrs.max = omega (arith, few, length-append before (r ∷ more)) in
     laws.lines.range f targets before r (accepted-FitsRange targets f.unit f.cap (length before) _ r space next) next room
 
-ranges_lead : LeadLaws → (f : Frame) (targets : List Target) (before more : List RangeSpec) (lines : List (List ℕ)) → checked targets ≡ Ok tt → checked_ranges targets f.unit f.cap (before ++ more) ≡ Ok tt
-    → length (before ++ more) ≤ f.attrs.max → leads (AtRanges f targets before) (map spelled_range more ++ lines) ≡ leads (AtRanges f targets (before ++ more)) lines
-ranges_lead laws f targets before [] lines space sound few = ap (λ rs. leads (AtRanges f targets rs) lines) (sym (append-nil before))
-ranges_lead laws f targets before (r ∷ more) lines space sound few =
+ranges_lead : LeadLaws → (g : Grammar) (f : Frame) (targets : List Target) (before more : List RangeSpec) (lines : List (List ℕ)) → checked targets ≡ Ok tt → checked_ranges targets f.unit f.cap (before ++ more) ≡ Ok tt
+    → length (before ++ more) ≤ f.attrs.max → leads g (AtRanges f targets before) (map spelled_range more ++ lines) ≡ leads g (AtRanges f targets (before ++ more)) lines
+ranges_lead laws g f targets before [] lines space sound few = ap (λ rs. leads g (AtRanges f targets rs) lines) (sym (append-nil before))
+ranges_lead laws g f targets before (r ∷ more) lines space sound few =
     let all = append_assoc before (r ∷ []) more in
-    leads-line (AtRanges f targets before) (AtRanges f targets (before ++ r ∷ [])) (spelled_range r) (map spelled_range more ++ lines)
-    (range_leads f targets before (spelled_range r) r (range_read laws f targets before more r space sound few))
-    ∙ ranges_lead laws f targets (before ++ r ∷ []) more lines space (ap (checked_ranges targets f.unit f.cap) all ∙ sound) (subst (λ (rs : List RangeSpec). length rs ≤ f.attrs.max) (sym all) few)
-    ∙ ap (λ rs. leads (AtRanges f targets rs) lines) all
+    leads-line g (AtRanges f targets before) (AtRanges f targets (before ++ r ∷ [])) (spelled_range r) (map spelled_range more ++ lines)
+    (range_leads g f targets before (spelled_range r) r (range_read laws f targets before more r space sound few))
+    ∙ ranges_lead laws g f targets (before ++ r ∷ []) more lines space (ap (checked_ranges targets f.unit f.cap) all ∙ sound) (subst (λ (rs : List RangeSpec). length rs ≤ f.attrs.max) (sym all) few)
+    ∙ ap (λ rs. leads g (AtRanges f targets rs) lines) all
 
 -- ---- from one kind of lines to the next
 
-some_is : {A : Type 0} (xs : List A) → 1 ≤ length xs → (length xs == 0) ≡ false
+pub some_is : {A : Type 0} (xs : List A) → 1 ≤ length xs → (length xs == 0) ≡ false
 some_is xs some = grind (arith, nat_tests)
 
 -- after some targets a line that is of no target is the first of the ranges
-past_targets : (f : Frame) (targets : List Target) (line : List ℕ) (lines : List (List ℕ)) → 1 ≤ length targets → begins_with (codes "target") line ≡ false
-    → leads (AtTargets f targets) (line ∷ lines) ≡ leads (AtRanges f targets []) (line ∷ lines)
-past_targets f targets line lines some other = ap (λ r. r >>= λ next. leads next lines) same
+past_targets : (g : Grammar) (f : Frame) (targets : List Target) (line : List ℕ) (lines : List (List ℕ)) → 1 ≤ length targets → begins_with (codes "target") line ≡ false
+    → leads g (AtTargets f targets) (line ∷ lines) ≡ leads g (AtRanges f targets []) (line ∷ lines)
+past_targets g f targets line lines some other = ap (λ r. r >>= λ next. leads g next lines) same
   where
-    same : place_after OfScript (AtTargets f targets) line ≡ place_after OfScript (AtRanges f targets []) line
+    same : place_after g (AtTargets f targets) line ≡ place_after g (AtRanges f targets []) line
     same = else_way (begins_with (codes "target") line || (length targets == 0)) _ _ (neither_true (begins_with (codes "target") line) (length targets == 0) other (some_is targets some))
 
 -- after some ranges a line that is of no range is the first of the schemes
-past_ranges : (f : Frame) (targets : List Target) (specs : List RangeSpec) (line : List ℕ) (lines : List (List ℕ)) → 1 ≤ length specs → begins_with (codes "range") line ≡ false
-    → leads (AtRanges f targets specs) (line ∷ lines) ≡ leads (AtSchemes f targets specs []) (line ∷ lines)
-past_ranges f targets specs line lines some other = ap (λ r. r >>= λ next. leads next lines) same
+past_ranges : (g : Grammar) (f : Frame) (targets : List Target) (specs : List RangeSpec) (line : List ℕ) (lines : List (List ℕ)) → 1 ≤ length specs → begins_with (codes "range") line ≡ false
+    → leads g (AtRanges f targets specs) (line ∷ lines) ≡ leads g (AtSchemes f targets specs []) (line ∷ lines)
+past_ranges g f targets specs line lines some other = ap (λ r. r >>= λ next. leads g next lines) same
   where
-    same : place_after OfScript (AtRanges f targets specs) line ≡ place_after OfScript (AtSchemes f targets specs []) line
+    same : place_after g (AtRanges f targets specs) line ≡ place_after g (AtSchemes f targets specs []) line
     same = else_way (begins_with (codes "range") line || (length specs == 0)) _ _ (neither_true (begins_with (codes "range") line) (length specs == 0) other (some_is specs some))
 
 -- ---- schemes
 
-scheme_leads : (f : Frame) (targets : List Target) (specs : List RangeSpec) (before : List SlotChange) (line : List ℕ) (c : SlotChange) → scheme_line before line ≡ Ok c
-    → place_after OfScript (AtSchemes f targets specs before) line ≡ Ok (AtSchemes f targets specs (before ++ c ∷ []))
-scheme_leads f targets specs before line c read =
+scheme_leads : (g : Grammar) (f : Frame) (targets : List Target) (specs : List RangeSpec) (before : List SlotChange) (line : List ℕ) (c : SlotChange) → scheme_line before line ≡ Ok c
+    → place_after g (AtSchemes f targets specs before) line ≡ Ok (AtSchemes f targets specs (before ++ c ∷ []))
+scheme_leads g f targets specs before line c read =
     then_way (begins_with (codes "scheme") line) _ _ (scheme_begins before line c read).begins
-    ∙ lead_to (scheme_line before line) c (λ d. AtSchemes f targets specs (before ++ d ∷ [])) read
+    ∙ lead_to g (scheme_line before line) c (λ d. AtSchemes f targets specs (before ++ d ∷ [])) read
 
 both_ok : (r s : Result (Unit {0}) SetupFault) → result_and r s ≡ Ok tt → (r ≡ Ok tt) × (s ≡ Ok tt)
 both_ok (Ok t) s ok = (refl, ok)
@@ -221,172 +228,100 @@ scheme_read back before line c each gives ok =
     (scheme_accepted (length before) (checked_scheme c.slot gives.0) both.0)
     (none_sets c.slot before each (free_accepted (length before) (list_any (sets c.slot) before) both.1))
 
-schemes_lead : LinesReadBack → (f : Frame) (targets : List Target) (specs : List RangeSpec) (before : List SlotChange) (schemes : List (List ℕ)) (more : List SlotChange) (lines : List (List ℕ))
+schemes_lead : LinesReadBack → (g : Grammar) (f : Frame) (targets : List Target) (specs : List RangeSpec) (before : List SlotChange) (schemes : List (List ℕ)) (more : List SlotChange) (lines : List (List ℕ))
     → AllByRecursion (λ c. has_scheme c ≡ true) before → EachSays GivesScheme schemes more → checked_after before more ≡ Ok tt
-    → leads (AtSchemes f targets specs before) (schemes ++ lines) ≡ leads (AtSchemes f targets specs (before ++ more)) lines
-schemes_lead back f targets specs before [] [] lines each gives ok = ap (λ cs. leads (AtSchemes f targets specs cs) lines) (sym (append-nil before))
-schemes_lead back f targets specs before (line ∷ schemes) (c ∷ more) lines each gives ok =
+    → leads g (AtSchemes f targets specs before) (schemes ++ lines) ≡ leads g (AtSchemes f targets specs (before ++ more)) lines
+schemes_lead back g f targets specs before [] [] lines each gives ok = ap (λ cs. leads g (AtSchemes f targets specs cs) lines) (sym (append-nil before))
+schemes_lead back g f targets specs before (line ∷ schemes) (c ∷ more) lines each gives ok =
     let both = both_ok (checked_slot (length before) before c) (checked_after (before ++ c ∷ []) more) ok in
     let set : has_scheme c ≡ true = rw gives.0.1 refl in
-    leads-line (AtSchemes f targets specs before) (AtSchemes f targets specs (before ++ c ∷ [])) line (schemes ++ lines)
-    (scheme_leads f targets specs before line c (scheme_read back before line c each gives.0 both.0))
-    ∙ schemes_lead back f targets specs (before ++ c ∷ []) schemes more lines (each_set-more before c each set) gives.1 both.1
-    ∙ ap (λ cs. leads (AtSchemes f targets specs cs) lines) (append_assoc before (c ∷ []) more)
-schemes_lead back f targets specs before [] (c ∷ more) lines each gives ok = absurd gives
-schemes_lead back f targets specs before (line ∷ schemes) [] lines each gives ok = absurd gives
+    leads-line g (AtSchemes f targets specs before) (AtSchemes f targets specs (before ++ c ∷ [])) line (schemes ++ lines)
+    (scheme_leads g f targets specs before line c (scheme_read back before line c each gives.0 both.0))
+    ∙ schemes_lead back g f targets specs (before ++ c ∷ []) schemes more lines (each_set-more before c each set) gives.1 both.1
+    ∙ ap (λ cs. leads g (AtSchemes f targets specs cs) lines) (append_assoc before (c ∷ []) more)
+schemes_lead back g f targets specs before [] (c ∷ more) lines each gives ok = absurd gives
+schemes_lead back g f targets specs before (line ∷ schemes) [] lines each gives ok = absurd gives
 
 -- ---- commits
 
-part_leads : LinesReadBack → (b : Body) (commit : CommitValue) (line : List ℕ) (part : Part) → may_come commit part ≡ true → IsPart line part
-    → place_after OfScript (InCommit b commit) line ≡ Ok (InCommit b (with_part commit part))
-part_leads back b commit line part may is =
+part_leads : LinesReadBack → (g : Grammar) (b : Within g) (commit : CommitValue) (line : List ℕ) (part : Part) → may_come commit part ≡ true → IsPart line part
+    → place_after g (InCommit b commit) line ≡ Ok (InCommit b (with_part commit part))
+part_leads back g b commit line part may is =
     let read = back.part commit line part may is in
     else_way (begins_with (codes "apply") line) _ _ (part_begins commit line part read).not_first
-    ∙ lead_to (part_line commit line) part (λ p. InCommit b (with_part commit p)) read
+    ∙ lead_to g (part_line commit line) part (λ p. InCommit b (with_part commit p)) read
 
-pub parts_lead : LinesReadBack → (b : Body) (commit : CommitValue) (between : List (List ℕ)) (parts : List Part) (lines : List (List ℕ)) → EachSays IsPart between parts → come_in_order commit parts ≡ true
-    → leads (InCommit b commit) (between ++ lines) ≡ leads (InCommit b (with_parts commit parts)) lines
-parts_lead back b commit [] [] lines each order = refl
-parts_lead back b commit (line ∷ between) (part ∷ parts) lines each order =
+pub parts_lead : LinesReadBack → (g : Grammar) (b : Within g) (commit : CommitValue) (between : List (List ℕ)) (parts : List Part) (lines : List (List ℕ)) → EachSays IsPart between parts → come_in_order commit parts ≡ true
+    → leads g (InCommit b commit) (between ++ lines) ≡ leads g (InCommit b (with_parts commit parts)) lines
+parts_lead back g b commit [] [] lines each order = refl
+parts_lead back g b commit (line ∷ between) (part ∷ parts) lines each order =
     let both = both_true (may_come commit part) (come_in_order (with_part commit part) parts) order in
-    leads-line (InCommit b commit) (InCommit b (with_part commit part)) line (between ++ lines) (part_leads back b commit line part both.0 each.0)
-    ∙ parts_lead back b (with_part commit part) between parts lines each.1 both.1
-parts_lead back b commit [] (part ∷ parts) lines each order = absurd each
-parts_lead back b commit (line ∷ between) [] lines each order = absurd each
+    leads-line g (InCommit b commit) (InCommit b (with_part commit part)) line (between ++ lines) (part_leads back g b commit line part both.0 each.0)
+    ∙ parts_lead back g b (with_part commit part) between parts lines each.1 both.1
+parts_lead back g b commit [] (part ∷ parts) lines each order = absurd each
+parts_lead back g b commit (line ∷ between) [] lines each order = absurd each
 
--- ---- commands
-
--- a body with more commands, and their work
-abbrev with_commands : Body → List CommandValue → Body
-with_commands b commands =
-    record { said = record b.said { commands = b.said.commands ++ commands }; work = b.work + work_of b.said.setup.cap commands }
-
--- a body with one command more
-abbrev with_one : Body → CommandValue → Body
-with_one b c = record { said = record b.said { commands = b.said.commands ++ c ∷ [] }; work = b.work + weight b.said.setup.cap c }
-
-no_more : (b : Body) → b ≡ with_commands b []
-no_more b =
-    let all = sym (append-nil b.said.commands) in
-    let sum : b.work ≡ b.work + work_of b.said.setup.cap [] = omega arith in
-    λ i. record { said = record b.said { commands = all i }; work = sum i }
-
-one_and_more : (b : Body) (c : CommandValue) (commands : List CommandValue) → with_commands (with_one b c) commands ≡ with_commands b (c ∷ commands)
-one_and_more b c commands =
-    let all = append_assoc b.said.commands (c ∷ []) commands in
-    let sum : b.work + weight b.said.setup.cap c + work_of b.said.setup.cap commands ≡ b.work + work_of b.said.setup.cap (c ∷ commands) =
-    omega (arith, sum_by-cons (weight b.said.setup.cap) c commands)
-    in
-    λ i. record { said = record b.said { commands = all i }; work = sum i }
-
--- a command that is not too much work is taken
-command_taken : (b : Body) (c : CommandValue) → b.work + weight b.said.setup.cap c ≤ MAX_WORK → with_command b c ≡ Ok (InBody (with_one b c))
-command_taken b c few = then_way (nat_le (b.work + weight b.said.setup.cap c) MAX_WORK) _ _ (grind (arith, nat_tests))
-
--- the line of a command
-line_leads : LinesReadBack → (b : Body) (line : List ℕ) (c : CommandValue) → IsCommand b.said.setup.space line c → b.work + weight b.said.setup.cap c ≤ MAX_WORK
-    → place_after OfScript (InBody b) line ≡ Ok (InBody (with_one b c))
-line_leads back b line c is few =
-    let read = back.command b.said.setup.space line c is in
-    let begins = command_begins b.said.setup.space line c read in
-    else_way (begins_with (codes "end") line) _ _ begins.not_first
-    ∙ else_way (begins_with (codes "commit") line) _ _ begins.not_second
-    ∙ ap (λ r. r >>= with_command b) read
-    ∙ command_taken b c few
-
--- the lines of a commit
-commit_leads : LinesReadBack → (b : Body) (commit : CommitValue) (group lines : List (List ℕ)) → AreCommit group commit → b.work + weight b.said.setup.cap (Commit commit) ≤ MAX_WORK
-    → leads (InBody b) (group ++ lines) ≡ leads (InBody (with_one b (Commit commit))) lines
-commit_leads back b commit group lines are few =
-    ap (λ ls. leads (InBody b) (ls ++ lines)) are.spelled
-    ∙ leads-line (InBody b) (InCommit b no_commit) (codes "commit") ((are.between ++ codes "apply" ∷ []) ++ lines) refl
-    ∙ ap (leads (InCommit b no_commit)) (append_assoc are.between (codes "apply" ∷ []) lines)
-    ∙ parts_lead back b no_commit are.between are.parts (codes "apply" ∷ lines) are.each are.in_order
-    ∙ ap (λ c. leads (InCommit b c) (codes "apply" ∷ lines)) are.made
-    ∙ leads-line (InCommit b commit) (InBody (with_one b (Commit commit))) (codes "apply") lines (command_taken b (Commit commit) few)
-
--- the lines of one command
-group_leads : LinesReadBack → (b : Body) (group : List (List ℕ)) (c : CommandValue) (lines : List (List ℕ)) → SayCommand b.said.setup.space group c → b.work + weight b.said.setup.cap c ≤ MAX_WORK
-    → leads (InBody b) (group ++ lines) ≡ leads (InBody (with_one b c)) lines
-group_leads back b group c lines (inl (line, is, says)) few =
-    ap (λ ls. leads (InBody b) (ls ++ lines)) is
-    ∙ leads-line (InBody b) (InBody (with_one b c)) line lines (line_leads back b line c says few)
-group_leads back b group c lines (inr (commit, is, are)) few =
-    commit_leads back b commit group lines are (subst (λ (d : CommandValue). b.work + weight b.said.setup.cap d ≤ MAX_WORK) is few)
-    ∙ ap (λ d. leads (InBody (with_one b d)) lines) (sym is)
-
-commands_lead : LinesReadBack → (b : Body) (groups : List (List (List ℕ))) (commands : List CommandValue) (lines : List (List ℕ)) → EachSays (SayCommand b.said.setup.space) groups commands
-    → b.work + work_of b.said.setup.cap commands ≤ MAX_WORK → leads (InBody b) (all_lines groups ++ lines) ≡ leads (InBody (with_commands b commands)) lines
-commands_lead back b [] [] lines each few = ap (λ d. leads (InBody d) lines) (no_more b)
-commands_lead back b (group ∷ groups) (c ∷ commands) lines each few =
-    let sum = sum_by-cons (weight b.said.setup.cap) c commands in
-    ap (leads (InBody b)) (append_assoc group (all_lines groups) lines)
-    ∙ group_leads back b group c (all_lines groups ++ lines) each.0 (omega (arith, sum, few))
-    ∙ commands_lead back (with_one b c) groups commands lines each.1 (omega (arith, sum, few))
-    ∙ ap (λ d. leads (InBody d) lines) (one_and_more b c commands)
-commands_lead back b [] (c ∷ commands) lines each few = absurd each
-commands_lead back b (group ∷ groups) [] lines each few = absurd each
-
--- ---- a whole text
+-- ---- a whole setup
 
 -- the ranges of a setup follow its targets
-targets_ranges_lead : LeadLaws → (f : Frame) (targets : List Target) (specs : List RangeSpec) (lines : List (List ℕ)) → checked targets ≡ Ok tt → checked_ranges targets f.unit f.cap specs ≡ Ok tt
-    → 1 ≤ length specs → length specs ≤ f.attrs.max → leads (AtTargets f targets) (map spelled_range specs ++ lines) ≡ leads (AtRanges f targets specs) lines
-targets_ranges_lead laws f targets [] lines space sound some few = absurd (omega (arith, some))
-targets_ranges_lead laws f targets (r ∷ specs) lines space sound some few =
+targets_ranges_lead : LeadLaws → (g : Grammar) (f : Frame) (targets : List Target) (specs : List RangeSpec) (lines : List (List ℕ)) → checked targets ≡ Ok tt → checked_ranges targets f.unit f.cap specs ≡ Ok tt
+    → 1 ≤ length specs → length specs ≤ f.attrs.max → leads g (AtTargets f targets) (map spelled_range specs ++ lines) ≡ leads g (AtRanges f targets specs) lines
+targets_ranges_lead laws g f targets [] lines space sound some few = absurd (omega (arith, some))
+targets_ranges_lead laws g f targets (r ∷ specs) lines space sound some few =
     let begins = range_begins f targets [] (spelled_range r) r (range_read laws f targets [] specs r space sound few) in
-    past_targets f targets (spelled_range r) (map spelled_range specs ++ lines) (checked-IsSpace targets space).some
+    past_targets g f targets (spelled_range r) (map spelled_range specs ++ lines) (checked-IsSpace targets space).some
     (begins_other (codes "range") (codes "target") (spelled_range r) begins.begins refl)
-    ∙ ranges_lead laws f targets [] (r ∷ specs) lines space sound few
+    ∙ ranges_lead laws g f targets [] (r ∷ specs) lines space sound few
 
--- its schemes follow its ranges, and `begin` its schemes
-ranges_schemes_lead : LeadLaws → (f : Frame) (targets : List Target) (specs : List RangeSpec) (schemes : List (List ℕ)) (slots : List SlotChange) (lines : List (List ℕ)) → 1 ≤ length specs
-    → EachSays GivesScheme schemes slots → checked_slots slots ≡ Ok tt
-    → leads (AtRanges f targets specs) (schemes ++ codes "begin" ∷ lines) ≡ leads (AtSchemes f targets specs []) (schemes ++ codes "begin" ∷ lines)
-ranges_schemes_lead laws f targets specs [] [] lines some give sound = past_ranges f targets specs (codes "begin") lines some refl
-ranges_schemes_lead laws f targets specs (line ∷ schemes) (c ∷ slots) lines some give sound =
+-- the line that opens a body is of no range and no scheme, and leads to this body
+pub record Opens (g : Grammar) (seed : ℕ) (setup : SetupValue) (opening : List ℕ) (b : Within g) : Type 0 where
+  pub no_range : begins_with (codes "range") opening ≡ false
+  pub no_scheme : begins_with (codes "scheme") opening ≡ false
+  pub opens :
+      (specs : List RangeSpec) → ranges_of setup.space specs ≡ setup.ranges
+      → after_setup g (frame_of seed setup) setup.space specs setup.slots opening ≡ Ok (InBody b)
+
+-- its schemes follow its ranges, and the line that opens the body its schemes
+ranges_schemes_lead : LeadLaws → (g : Grammar) (f : Frame) (targets : List Target) (specs : List RangeSpec) (schemes : List (List ℕ)) (slots : List SlotChange) (opening : List ℕ) (lines : List (List ℕ)) → 1 ≤ length specs
+    → EachSays GivesScheme schemes slots → checked_slots slots ≡ Ok tt → begins_with (codes "range") opening ≡ false
+    → leads g (AtRanges f targets specs) (schemes ++ opening ∷ lines) ≡ leads g (AtSchemes f targets specs []) (schemes ++ opening ∷ lines)
+ranges_schemes_lead laws g f targets specs [] [] opening lines some give sound other = past_ranges g f targets specs opening lines some other
+ranges_schemes_lead laws g f targets specs (line ∷ schemes) (c ∷ slots) opening lines some give sound other =
     let first = both_ok (checked_slot 0 [] c) (checked_after (c ∷ []) slots) sound in
     let begins = scheme_begins [] line c (scheme_read laws.lines [] line c tt give.0 first.0) in
-    past_ranges f targets specs line (schemes ++ codes "begin" ∷ lines) some (begins_other (codes "scheme") (codes "range") line begins.begins refl)
-ranges_schemes_lead laws f targets specs [] (c ∷ slots) lines some give sound = absurd give
-ranges_schemes_lead laws f targets specs (line ∷ schemes) [] lines some give sound = absurd give
+    past_ranges g f targets specs line (schemes ++ opening ∷ lines) some (begins_other (codes "scheme") (codes "range") line begins.begins refl)
+ranges_schemes_lead laws g f targets specs [] (c ∷ slots) opening lines some give sound other = absurd give
+ranges_schemes_lead laws g f targets specs (line ∷ schemes) [] opening lines some give sound other = absurd give
 
 regroup : (a b c d : List (List ℕ)) → ((a ++ b) ++ c) ++ d ≡ a ++ (b ++ (c ++ d))
 regroup a b c d = simp append_assoc
 
--- a setup's lines lead to a body
-pub setup_leads : LeadLaws → (seed : ℕ) (setup : SetupValue) (lines back : List (List ℕ)) → SaySetup lines seed setup
-    → leads AtHeader (lines ++ codes "begin" ∷ back) ≡ leads (InBody (begun seed setup)) back
-setup_leads laws seed setup lines back says =
-    let f : Frame = record { seed = seed; unit = setup.unit; cap = setup.cap; attrs = setup.attrs } in
+-- a setup's lines, and the one that opens the body, lead to the body
+pub setup_leads : LeadLaws → (g : Grammar) (seed : ℕ) (setup : SetupValue) (lines : List (List ℕ)) (opening : List ℕ) (b : Within g) (back : List (List ℕ)) → SaySetup lines seed setup → Opens g seed setup opening b
+    → leads g AtHeader (header_of g ∷ (lines ++ opening ∷ back)) ≡ leads g (InBody b) back
+setup_leads laws g seed setup lines opening b back says opens =
+    let f = frame_of seed setup in
     let space = setup.space in
-    let after_ranges = says.schemes ++ codes "begin" ∷ back in
+    let after_ranges = says.schemes ++ opening ∷ back in
     let after_targets = map spelled_range says.specs ++ after_ranges in
-    let frame_lines = λ (ls : List (List ℕ)). codes "damon script 1" ∷ spelled_seed seed ∷ spelled_unit setup.unit ∷ spelled_cap setup.cap ∷ spelled_attrs setup.attrs ∷ ls in
-    let lines_are : lines ++ codes "begin" ∷ back ≡ frame_lines (map spelled_target space ++ after_targets) =
-    ap (λ ls. ls ++ codes "begin" ∷ back) says.spelled
-    ∙ ap frame_lines (regroup (map spelled_target space) (map spelled_range says.specs) says.schemes (codes "begin" ∷ back))
+    let frame_lines = λ (ls : List (List ℕ)). header_of g ∷ spelled_seed seed ∷ spelled_unit setup.unit ∷ spelled_cap setup.cap ∷ spelled_attrs setup.attrs ∷ ls in
+    let lines_are : header_of g ∷ (lines ++ opening ∷ back) ≡ frame_lines (map spelled_target space ++ after_targets) =
+    ap (λ ls. header_of g ∷ (ls ++ opening ∷ back)) says.spelled
+    ∙ ap frame_lines (regroup (map spelled_target space) (map spelled_range says.specs) says.schemes (opening ∷ back))
     in
-    ap (leads AtHeader) lines_are
-    ∙ frame_leads laws.lines f (map spelled_target space ++ after_targets) says.seed_fits says.limits
-    ∙ targets_lead laws.lines f [] space after_targets says.targets
-    ∙ targets_ranges_lead laws f space says.specs after_ranges says.targets says.ranges says.some_range says.few_ranges
-    ∙ ranges_schemes_lead laws f space says.specs says.schemes setup.slots back says.some_range says.give says.slots
-    ∙ schemes_lead laws.lines f space says.specs [] says.schemes setup.slots (codes "begin" ∷ back) tt says.give says.slots
-    ∙ leads-line (AtSchemes f space says.specs setup.slots) (InBody (opened f space says.specs setup.slots)) (codes "begin") back refl
-    ∙ ap (λ (gs : List Range). leads (InBody (begun seed (record setup { ranges = gs }))) back) says.watched
+    let last : place_after g (AtSchemes f space says.specs setup.slots) opening ≡ Ok (InBody b) =
+    else_way (begins_with (codes "scheme") opening) _ _ opens.no_scheme ∙ opens.opens says.specs says.watched
+    in
+    ap (leads g AtHeader) lines_are
+    ∙ frame_leads laws.lines g f (map spelled_target space ++ after_targets) says.seed_fits says.limits
+    ∙ targets_lead laws.lines g f [] space after_targets says.targets
+    ∙ targets_ranges_lead laws g f space says.specs after_ranges says.targets says.ranges says.some_range says.few_ranges
+    ∙ ranges_schemes_lead laws g f space says.specs says.schemes setup.slots opening back says.some_range says.give says.slots opens.no_range
+    ∙ schemes_lead laws.lines g f space says.specs [] says.schemes setup.slots (opening ∷ back) tt says.give says.slots
+    ∙ leads-line g (AtSchemes f space says.specs setup.slots) (InBody b) opening back last
 
--- lines that say a script lead to its end
-lines_lead : LeadLaws → (text : List ℕ) (s : ScriptValue) (says : IsText text s) → leads AtHeader (says.setup ++ codes "begin" ∷ (all_lines says.commands ++ codes "end" ∷ [])) ≡ Ok (AtEnd s)
-lines_lead laws text s says =
-    setup_leads laws s.seed s.setup says.setup (all_lines says.commands ++ codes "end" ∷ []) says.says_setup
-    ∙ commands_lead laws.lines (begun s.seed s.setup) says.commands s.commands (codes "end" ∷ []) says.say_commands (omega (arith, says.work))
-
--- a text that says a script is read as it
-pub IsText-script_of : LeadLaws → (text : List ℕ) (s : ScriptValue) → IsText text s → script_of text ≡ Ok s
-IsText-script_of laws text s says =
-    let lines = says.setup ++ codes "begin" ∷ (all_lines says.commands ++ codes "end" ∷ []) in
-    let lead = lines_lead laws text s says in
-    ap script_of says.spelled
-    ∙ ap (reads OfScript 1 AtHeader) (lines_apart laws.apart lines (leads-IsPiece AtHeader lines (AtEnd s) lead))
-    ∙ leads-read 1 AtHeader lines s lead
+-- lines that lead to the end of a text are read as what it says
+pub led_read : TakesApartPieces → (g : Grammar) (lines : List (List ℕ)) (s : Said g) → leads g AtHeader lines ≡ Ok (AtEnd s) → reads g 1 AtHeader (parts 10 (lines_text lines)) ≡ Ok s
+led_read takes g lines s lead =
+    ap (reads g 1 AtHeader) (lines_apart takes lines (leads-IsPiece g AtHeader lines (AtEnd s) lead))
+    ∙ leads-read g 1 AtHeader lines s lead

@@ -22,14 +22,20 @@ pub mod LineLimits
 pub mod SpaceLimits
 pub mod SetupLimits
 pub mod TextLimits
+pub mod LiveLemmas
+pub mod SayPlaces
+pub mod SayCommands
+pub mod SayBlocks
 pub mod Says
 pub mod LineWords
 pub mod Leading
+pub mod LeadingScript
+pub mod LeadingLive
 mod SpellExamples
+mod LiveExamples
 pub mod WorkLemmas
 pub mod Appending
 pub mod WrittenLemmas
 pub mod WrittenSchemes
 pub mod WrittenRanges
 pub mod ReadWritten
-pub mod LiveLemmas

@@ -9,19 +9,22 @@ use Rattle.damon_types.specs.declared.scheme.SlotChange.{SlotChange}
 use Rattle.damon_types.specs.declared.space.Target.{Target}
 use Rattle.line_text.specs.Parts.{IsPiece, is_plain, is_printable, is_word, parts}
 use Rattle.live_commit.specs.Commit.{CommitValue}
-use Rattle.damon_control.specs.declared.grammar.Grammar.TheVariants.{OfScript}
+use Rattle.damon_control.specs.declared.grammar.Grammar.{Grammar}
+use Rattle.damon_control.specs.declared.grammar.Grammar.TheVariants.{OfScript, OfLive}
 use Rattle.damon_control.specs.declared.commit.Part.{Part}
 use Rattle.damon_control.specs.declared.commit.Part.TheVariants.{Attrs, Range, Slot, Metric}
 use Rattle.damon_control.specs.declared.fault.ScriptKind.{ScriptKind}
 use Rattle.damon_control.specs.declared.fault.ScriptKind.TheVariants.{Form, Header, Word}
+use Rattle.damon_control.specs.declared.live.TheConstants.{MAX_CONTROLLERS, MAX_WORKERS}
 use Rattle.damon_control.specs.declared.head.Frame.{Frame}
 use Rattle.damon_control.specs.Body.{change_line, command_line, drop_line, part_line, step_line, wants_attrs, wants_slot, word_line}
 use Rattle.damon_control.specs.Command.{Arm, CommandValue, Finish, Show}
 use Rattle.damon_control.specs.Fields.{attrs_in, range_in}
 use Rattle.damon_control.specs.Head.{attrs_line, cap_line, limited, one_target, range_line, scheme_line, seed_line, target_line, unit_line}
 use Rattle.damon_control.specs.Keys.{scheme_in}
+use Rattle.damon_control.specs.Live.{LiveValue, block_line, count_all, controller_line, has_controller, passes_line, show_line, touches_line, touches_within, touching, worker_line}
 use Rattle.damon_control.specs.Refusal.{◌>>=◌}
-use Rattle.damon_control.specs.Script.{AtAttrs, AtCap, AtEnd, AtHeader, AtRanges, AtSchemes, AtSeed, AtTargets, AtUnit, Body, InBody, InCommit, Place, after_body, after_commit, after_ranges, after_schemes, after_targets, place_after}
+use Rattle.damon_control.specs.Script.{AtAttrs, AtCap, AtEnd, AtHeader, AtRanges, AtSchemes, AtSeed, AtTargets, AtUnit, Body, InBody, InCommit, Place, Within, after_body, after_commit, after_live, after_ranges, after_schemes, after_setup, after_targets, after_within, header_of, place_after}
 use Rattle.damon_control.specs.Words.{alone, arguments, begins_with, no_word, number_8, number_32, number_64, one_word, same_word}
 use Rattle.damon_control.proofs.Leads.{leads}
 use Rattle.damon_control.proofs.SpellSteps.{bind-Ok, either_way, only_if-Ok}
@@ -97,8 +100,11 @@ limited_begins word line least most n e =
     let number = bind-Ok (arguments word line >>= one_word >>= number_32) (limited least most) n e in
     one_begins word line number_32 number.0 number.1
 
-alone_begins : (word line : List ℕ) (t : Unit {0}) → alone word line ≡ Ok t → BeginsPlain word line
+pub alone_begins : (word line : List ℕ) (t : Unit {0}) → alone word line ≡ Ok t → BeginsPlain word line
 alone_begins word line t e = words_begin word line no_word t e
+
+pub passes_begins : (line : List ℕ) (n : ℕ) → passes_line line ≡ Ok n → BeginsPlain (codes "passes") line
+passes_begins line n e = limited_begins (codes "passes") line 1 1000000 n e
 
 pub target_begins : (before : List Target) (line : List ℕ) (t : Target) → target_line before line ≡ Ok t → BeginsPlain (codes "target") line
 target_begins before line t e =
@@ -152,7 +158,7 @@ part_begins commit line part e =
     (either_way (begins_with (codes "range") line && wants_slot commit) _ _ _ at_range
     (either_way (begins_with (codes "scheme") line && wants_slot commit) _ _ _ at_scheme
     (either_way (begins_with (codes "drop") line && wants_slot commit) _ _ _ at_drop
-    (either_way (begins_with (codes "metric") line && is_none commit.metric) _ _ _ at_metric (λ no. absurd cc))))) e
+    (either_way (begins_with (codes "metric") line && is_none commit.metric) _ _ _ at_metric (λ word. absurd cc))))) e
   where
     says : (word : List ℕ) → BeginsPlain word line → same_word word (codes "apply") ≡ false → BeginsNeither (codes "apply") (codes "apply") line
     says word is differs = neither word (codes "apply") (codes "apply") line is differs differs
@@ -191,20 +197,25 @@ read_plain r to next line each e =
     let said = bind-Ok r to next e in
     each said.0 said.1
 
-schemes_plain : (f : Frame) (targets : List Target) (specs : List RangeSpec) (slots : List SlotChange) (line : List ℕ) (next : Place OfScript) → after_schemes OfScript f targets specs slots line ≡ Ok next → is_plain line ≡ true
-schemes_plain f targets specs slots line next e =
+-- the line that opens the body
+setup_plain : (g : Grammar) (f : Frame) (targets : List Target) (specs : List RangeSpec) (slots : List SlotChange) (line : List ℕ) (next : Place g) → after_setup g f targets specs slots line ≡ Ok next → is_plain line ≡ true
+setup_plain OfScript f targets specs slots line next e = read_plain (alone (codes "begin") line) _ next line (λ t read. (alone_begins (codes "begin") line t read).plain) e
+setup_plain OfLive f targets specs slots line next e = read_plain (passes_line line) _ next line (λ n read. (passes_begins line n read).plain) e
+
+schemes_plain : (g : Grammar) (f : Frame) (targets : List Target) (specs : List RangeSpec) (slots : List SlotChange) (line : List ℕ) (next : Place g) → after_schemes g f targets specs slots line ≡ Ok next → is_plain line ≡ true
+schemes_plain g f targets specs slots line next e =
     either_way (begins_with (codes "scheme") line) _ _ _ (read_plain (scheme_line slots line) _ next line (λ c read. (scheme_begins slots line c read).plain))
-    (read_plain (alone (codes "begin") line) _ next line (λ t read. (alone_begins (codes "begin") line t read).plain)) e
+    (setup_plain g f targets specs slots line next) e
 
-ranges_plain : (f : Frame) (targets : List Target) (specs : List RangeSpec) (line : List ℕ) (next : Place OfScript) → after_ranges OfScript f targets specs line ≡ Ok next → is_plain line ≡ true
-ranges_plain f targets specs line next e =
+ranges_plain : (g : Grammar) (f : Frame) (targets : List Target) (specs : List RangeSpec) (line : List ℕ) (next : Place g) → after_ranges g f targets specs line ≡ Ok next → is_plain line ≡ true
+ranges_plain g f targets specs line next e =
     either_way (begins_with (codes "range") line || (length specs == 0)) _ _ _ (read_plain (range_line f targets specs line) _ next line (λ r read. (range_begins f targets specs line r read).plain))
-    (schemes_plain f targets specs [] line next) e
+    (schemes_plain g f targets specs [] line next) e
 
-targets_plain : (f : Frame) (targets : List Target) (line : List ℕ) (next : Place OfScript) → after_targets OfScript f targets line ≡ Ok next → is_plain line ≡ true
-targets_plain f targets line next e =
+targets_plain : (g : Grammar) (f : Frame) (targets : List Target) (line : List ℕ) (next : Place g) → after_targets g f targets line ≡ Ok next → is_plain line ≡ true
+targets_plain g f targets line next e =
     either_way (begins_with (codes "target") line || (length targets == 0)) _ _ _ (read_plain (target_line targets line) _ next line (λ t read. (target_begins targets line t read).plain))
-    (ranges_plain f targets [] line next) e
+    (ranges_plain g f targets [] line next) e
 
 body_plain : (b : Body) (line : List ℕ) (next : Place OfScript) → after_body b line ≡ Ok next → is_plain line ≡ true
 body_plain b line next e =
@@ -212,34 +223,68 @@ body_plain b line next e =
     (either_way (begins_with (codes "commit") line) _ _ _ (read_plain (alone (codes "commit") line) _ next line (λ t read. (alone_begins (codes "commit") line t read).plain))
     (read_plain (command_line b.said.setup.space line) _ next line (λ c read. (command_begins b.said.setup.space line c read).plain))) e
 
-commit_plain : (b : Body) (commit : CommitValue) (line : List ℕ) (next : Place OfScript) → after_commit OfScript b commit line ≡ Ok next → is_plain line ≡ true
-commit_plain b commit line next e =
+-- a line that says touches
+touching_plain : (space : List Target) (line : List ℕ) (c : CommandValue) → touching space line ≡ Ok c → is_plain line ≡ true
+touching_plain space line c e =
+    either_way (begins_with (codes "touch") line) _ _ _ (λ read. (words_begin (codes "touch") line _ c read).plain) (λ read. (words_begin (codes "sweep") line _ c read).plain) e
+
+-- a line that begins a block
+block_plain : (word line : List ℕ) (count most : ℕ) (t : Unit {0}) → block_line word line count most ≡ Ok t → is_plain line ≡ true
+block_plain word line count most t e = read_plain (alone word line) _ t line (λ u read. (alone_begins word line u read).plain) e
+
+touches_plain : (v : LiveValue) (line : List ℕ) (w : LiveValue) → touches_line v line ≡ Ok w → is_plain line ≡ true
+touches_plain v line w e =
+    either_way (length v.workers == 0) _ _ _ (λ word. absurd cc)
+    (read_plain (touches_within v.setup.space line (count_all v.workers)) _ w line (λ pages read. read_plain (touching v.setup.space line) _ pages line (touching_plain v.setup.space line) read)) e
+
+live_plain : (v : LiveValue) (line : List ℕ) (next : Place OfLive) → after_live v line ≡ Ok next → is_plain line ≡ true
+live_plain v line next e =
+    either_way (begins_with (codes "end") line) _ _ _ (read_plain (alone (codes "end") line) _ next line (λ t read. (alone_begins (codes "end") line t read).plain))
+    (either_way (begins_with (codes "controller") line) _ _ _
+    (read_plain (controller_line v line) _ next line (λ w read. read_plain (block_line (codes "controller") line (length v.controllers) MAX_CONTROLLERS) _ w line (block_plain (codes "controller") line (length v.controllers) MAX_CONTROLLERS) read))
+    (either_way (has_controller v) _ _ _
+    (either_way (begins_with (codes "commit") line) _ _ _ (read_plain (alone (codes "commit") line) _ next line (λ t read. (alone_begins (codes "commit") line t read).plain))
+    (read_plain (show_line v line) _ next line (λ w read. read_plain (alone (codes "show") line) _ w line (λ t said. (alone_begins (codes "show") line t said).plain) read)))
+    (either_way (begins_with (codes "worker") line) _ _ _
+    (read_plain (worker_line v line) _ next line (λ w read. read_plain (block_line (codes "worker") line (length v.workers) MAX_WORKERS) _ w line (block_plain (codes "worker") line (length v.workers) MAX_WORKERS) read))
+    (read_plain (touches_line v line) _ next line (touches_plain v line))))) e
+
+within_plain : (g : Grammar) (b : Within g) (line : List ℕ) (next : Place g) → after_within g b line ≡ Ok next → is_plain line ≡ true
+within_plain OfScript b line next e = body_plain b line next e
+within_plain OfLive v line next e = live_plain v line next e
+
+commit_plain : (g : Grammar) (b : Within g) (commit : CommitValue) (line : List ℕ) (next : Place g) → after_commit g b commit line ≡ Ok next → is_plain line ≡ true
+commit_plain g b commit line next e =
     either_way (begins_with (codes "apply") line) _ _ _ (read_plain (alone (codes "apply") line) _ next line (λ t read. (alone_begins (codes "apply") line t read).plain))
     (read_plain (part_line commit line) _ next line (λ part read. (part_begins commit line part read).plain)) e
 
-line-IsPiece : (place : Place OfScript) (line : List ℕ) (next : Place OfScript) → place_after OfScript place line ≡ Ok next → IsPiece 10 line
-line-IsPiece AtHeader line next e =
-    let seed : Place OfScript = AtSeed in
-    let only = only_if-Ok (same_word line (codes "damon script 1")) Header seed next e in
-    let is : line ≡ codes "damon script 1" = same_text line (codes "damon script 1") (sym only.0) in
-    plain-IsPiece line (ap is_plain is)
-line-IsPiece AtSeed line next e = plain-IsPiece line (read_plain (seed_line line) _ next line (λ n read. (one_begins (codes "seed") line number_64 n read).plain) e)
-line-IsPiece (AtUnit seed) line next e = plain-IsPiece line (read_plain (unit_line line) _ next line (λ n read. (limited_begins (codes "unit") line 1 1048576 n read).plain) e)
-line-IsPiece (AtCap seed unit) line next e = plain-IsPiece line (read_plain (cap_line line) _ next line (λ n read. (limited_begins (codes "cap") line 3 4096 n read).plain) e)
-line-IsPiece (AtAttrs seed unit cap) line next e = plain-IsPiece line (read_plain (attrs_line cap line) _ next line (λ a read. (words_begin (codes "attrs") line _ a read).plain) e)
-line-IsPiece (AtTargets f targets) line next e = plain-IsPiece line (targets_plain f targets line next e)
-line-IsPiece (AtRanges f targets specs) line next e = plain-IsPiece line (ranges_plain f targets specs line next e)
-line-IsPiece (AtSchemes f targets specs slots) line next e = plain-IsPiece line (schemes_plain f targets specs slots line next e)
-line-IsPiece (InBody b) line next e = plain-IsPiece line (body_plain b line next e)
-line-IsPiece (InCommit b commit) line next e = plain-IsPiece line (commit_plain b commit line next e)
-line-IsPiece (AtEnd s) line next e = absurd cc
+header_plain : (g : Grammar) → is_plain (header_of g) ≡ true
+header_plain OfScript = refl
+header_plain OfLive = refl
 
-each_piece : (place : Place OfScript) (lines : List (List ℕ)) (last : Place OfScript) → leads place lines ≡ Ok last → AllByRecursion (IsPiece 10) lines
-each_piece place [] last e = tt
-each_piece place (line ∷ lines) last e =
-    let next = bind-Ok (place_after OfScript place line) (λ p. leads p lines) last e in
-    (line-IsPiece place line next.0 next.1, each_piece next.0 lines last next.2)
+line-IsPiece : (g : Grammar) (place : Place g) (line : List ℕ) (next : Place g) → place_after g place line ≡ Ok next → IsPiece 10 line
+line-IsPiece g AtHeader line next e =
+    let seed : Place g = AtSeed in
+    let only = only_if-Ok (same_word line (header_of g)) Header seed next e in
+    let is : line ≡ header_of g = same_text line (header_of g) (sym only.0) in
+    plain-IsPiece line (ap is_plain is ∙ header_plain g)
+line-IsPiece g AtSeed line next e = plain-IsPiece line (read_plain (seed_line line) _ next line (λ n read. (one_begins (codes "seed") line number_64 n read).plain) e)
+line-IsPiece g (AtUnit seed) line next e = plain-IsPiece line (read_plain (unit_line line) _ next line (λ n read. (limited_begins (codes "unit") line 1 1048576 n read).plain) e)
+line-IsPiece g (AtCap seed unit) line next e = plain-IsPiece line (read_plain (cap_line line) _ next line (λ n read. (limited_begins (codes "cap") line 3 4096 n read).plain) e)
+line-IsPiece g (AtAttrs seed unit cap) line next e = plain-IsPiece line (read_plain (attrs_line cap line) _ next line (λ a read. (words_begin (codes "attrs") line _ a read).plain) e)
+line-IsPiece g (AtTargets f targets) line next e = plain-IsPiece line (targets_plain g f targets line next e)
+line-IsPiece g (AtRanges f targets specs) line next e = plain-IsPiece line (ranges_plain g f targets specs line next e)
+line-IsPiece g (AtSchemes f targets specs slots) line next e = plain-IsPiece line (schemes_plain g f targets specs slots line next e)
+line-IsPiece g (InBody b) line next e = plain-IsPiece line (within_plain g b line next e)
+line-IsPiece g (InCommit b commit) line next e = plain-IsPiece line (commit_plain g b commit line next e)
+line-IsPiece g (AtEnd s) line next e = absurd cc
+
+each_piece : (g : Grammar) (place : Place g) (lines : List (List ℕ)) (last : Place g) → leads g place lines ≡ Ok last → AllByRecursion (IsPiece 10) lines
+each_piece g place [] last e = tt
+each_piece g place (line ∷ lines) last e =
+    let next = bind-Ok (place_after g place line) (λ p. leads g p lines) last e in
+    (line-IsPiece g place line next.0 next.1, each_piece g next.0 lines last next.2)
 
 -- no line that leads on has an LF
-pub leads-IsPiece : (place : Place OfScript) (lines : List (List ℕ)) (last : Place OfScript) → leads place lines ≡ Ok last → All (IsPiece 10) lines
-leads-IsPiece place lines last e = All-from_recursion (IsPiece 10) lines (each_piece place lines last e)
+pub leads-IsPiece : (g : Grammar) (place : Place g) (lines : List (List ℕ)) (last : Place g) → leads g place lines ≡ Ok last → All (IsPiece 10) lines
+leads-IsPiece g place lines last e = All-from_recursion (IsPiece 10) lines (each_piece g place lines last e)

@@ -1,11 +1,10 @@
 -- The lines of the blocks of a live script.
-use Rattle.std.proofs.Common.{◌≡◌, ◌∷◌, [], ◌==◌, ◌||◌, ◌+◌, ◌-◌, ◌<◌, ◌≤◌, ℕ, zero, suc, Bool, true, false, not, nat_le, List, ◌++◌, length, map, codes, Ok, Err, refl, sym, ap, subst, ◌∙◌, append_assoc, arith}
-use Rattle.std.specs.Prelude.{All, Result, sum_by}
+use Rattle.std.proofs.Common.{◌≡◌, ◌∷◌, [], ◌==◌, ◌||◌, ◌+◌, ◌-◌, ◌<◌, ◌≤◌, ℕ, zero, suc, Bool, true, false, not, nat_le, List, ◌++◌, length, map, codes, Ok, Err, refl, sym, ap, ◌∙◌, arith}
+use Rattle.std.specs.Prelude.{All, Result}
 use Rattle.std.specs.List.{AllByRecursion, range_with_len}
 use Rattle.std.proofs.lemmas.Bool.Decides.{nat_tests}
-use Rattle.std.proofs.lemmas.List.{append-nil, length-append, length-map}
+use Rattle.std.proofs.lemmas.List.{length-append, length-map}
 use Rattle.std.proofs.lemmas.List.Elements.{All-from_recursion}
-use Rattle.std.proofs.lemmas.List.FromFn.{length-range_with_len}
 use Rattle.std.proofs.lemmas.List.Sums.{sum_by-append, sum_by-cons}
 use Rattle.damon_types.specs.Listed.{Listed}
 use Rattle.damon_control.specs.declared.live.Call.{Call}
@@ -18,7 +17,7 @@ use Rattle.damon_control.specs.declared.live.TheConstants.{MAX_TOUCHES}
 use Rattle.damon_control.specs.Body.{no_commit}
 use Rattle.damon_control.specs.Command.{CommandValue}
 use Rattle.damon_control.specs.Left.{first_begins, reads_left, reads_on}
-use Rattle.damon_control.specs.Live.{CallValue, LiveValue, ShowCall, call_within, count_all, has_controller, show_line, to_last, touched, touches_within, with_call}
+use Rattle.damon_control.specs.Live.{CallValue, LiveValue, ShowCall, call_within, count_all, to_last, touched, touches_within, with_call}
 use Rattle.damon_control.specs.LiveView.{NoBlock, NoCall, NoWorker, call_value, calls_of, reads_call, reads_touches, touched_of, with_controllers, with_workers}
 use Rattle.damon_control.specs.Refusal.{◌>>=◌, only_if}
 use Rattle.damon_control.specs.Script.{InBody, InCommit, Place, after_live, at, live_within}
@@ -33,7 +32,7 @@ to_last-more (list ∷ next ∷ more) last items = ap (λ ls. list ∷ ls) (to_l
 pub count_all-more : {A : Type 0} (lists : List (List A)) (last : List A) → count_all (lists ++ last ∷ []) ≡ count_all lists + length last
 count_all-more lists last = omega (arith, sum_by-append length lists (last ∷ []), sum_by-cons length last [])
 
-some_more : {A : Type 0} (xs : List A) (x : A) → (length (xs ++ x ∷ []) == 0) ≡ false
+pub some_more : {A : Type 0} (xs : List A) (x : A) → (length (xs ++ x ∷ []) == 0) ≡ false
 some_more xs x = grind (arith, nat_tests, length-append xs (x ∷ []))
 
 -- what is said by a step within a live script
@@ -45,7 +44,7 @@ joined n (Err kind) f next = refl
 -- ---- touches
 
 -- a line of touches of the last worker
-touches_after : (v : LiveValue) (ws : List (List ℕ)) (t line : List ℕ) → (begins_with (codes "touch") line || begins_with (codes "sweep") line) ≡ true
+pub touches_after : (v : LiveValue) (ws : List (List ℕ)) (t line : List ℕ) → (begins_with (codes "touch") line || begins_with (codes "sweep") line) ≡ true
     → after_live (with_workers v (ws ++ t ∷ [])) line ≡ live_within (touches_within v.setup.space line (count_all ws + length t) >>= λ pages. Ok (with_workers v (ws ++ (t ++ pages) ∷ [])))
 touches_after v ws t line is = by (begins_with (codes "touch") line) refl
   where
@@ -67,7 +66,7 @@ touches_read v ws t line lines is =
     ap (λ r. at lines.taken r >>= λ next. reads_left OfLive next lines) (touches_after v ws t line is)
     ∙ joined lines.taken (touches_within v.setup.space line (count_all ws + length t)) (λ pages. with_workers v (ws ++ (t ++ pages) ∷ [])) (λ next. reads_left OfLive next lines)
 
--- the touches of a command that was read, or why it was rejected, after as many touches
+-- the touches of a command that was read, or why it was rejected, after this number of touches
 abbrev counted : ℕ → Result CommandValue ScriptKind → Result (List ℕ) ScriptKind
 counted before said = said >>= λ command. only_if (nat_le (before + length (touched command)) MAX_TOUCHES) TooMuch (touched command)
 
@@ -133,10 +132,10 @@ show_after v cs t line begins said =
 
 -- ---- the end
 
-some_of : {A : Type 0} (xs : List A) → not (length xs == 0) ≡ true → 1 ≤ length xs
+pub some_of : {A : Type 0} (xs : List A) → not (length xs == 0) ≡ true → 1 ≤ length xs
 some_of xs is = grind (arith, nat_tests)
 
-none_of : {A : Type 0} (xs : List A) → not (length xs == 0) ≡ false → xs ≡ []
+pub none_of : {A : Type 0} (xs : List A) → not (length xs == 0) ≡ false → xs ≡ []
 none_of [] is = refl
 none_of (x ∷ xs) is = absurd (omega (arith, few))
   where

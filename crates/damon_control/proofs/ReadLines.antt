@@ -25,8 +25,9 @@ use Rattle.damon_control.specs.Fits.{FitsAttrs, FitsRange}
 use Rattle.damon_control.specs.Head.{attrs_line, cap_line, is_changed, limited, one_target, range_line, scheme_line, seed_line, target_in, target_line, unit_line}
 use Rattle.damon_control.specs.Keys.{scheme_in}
 use Rattle.damon_control.specs.Laws.{GivesScheme, IsScheme, WordLaws}
+use Rattle.damon_control.specs.Live.{passes_line}
 use Rattle.damon_control.specs.Refusal.{◌>>=◌, only_if, refused_as}
-use Rattle.damon_control.specs.Spelling.{attrs_words, range_words, scheme_words, spelled_attrs, spelled_cap, spelled_range, spelled_seed, spelled_target, spelled_unit, target_words}
+use Rattle.damon_control.specs.Spelling.{attrs_words, range_words, scheme_words, spelled_attrs, spelled_cap, spelled_passes, spelled_range, spelled_seed, spelled_target, spelled_unit, target_words}
 use Rattle.damon_control.specs.Words.{arguments, number_32, number_64, one_word, same_word}
 use Rattle.damon_control.proofs.PlainWords.{address_field, arguments-spaced, decimal_field, field_8, field_32, field_word, is_plain_word}
 use Rattle.damon_control.proofs.ReadFields.{attrs_in-words, number_32-decimal, number_64-decimal, range_in-words, target_in-words}
@@ -67,6 +68,11 @@ pub cap_line-spelled : (laws : WordLaws) (n : ℕ) → 3 ≤ n → n ≤ 4096 �
 cap_line-spelled laws n low high =
     then-Ok (arguments (codes "cap") (spelled_cap n) >>= one_word >>= number_32) (limited 3 4096) n (Ok n) (number_line laws (codes "cap") n refl refl (omega arith))
     (limited-within 3 4096 n low high)
+
+pub passes_line-spelled : (laws : WordLaws) (n : ℕ) → 1 ≤ n → n ≤ 1000000 → passes_line (spelled_passes n) ≡ Ok n
+passes_line-spelled laws n low high =
+    then-Ok (arguments (codes "passes") (spelled_passes n) >>= one_word >>= number_32) (limited 1 1000000) n (Ok n) (number_line laws (codes "passes") n refl refl (omega arith))
+    (limited-within 1 1000000 n low high)
 
 -- the words of attributes are plain
 pub attrs_words-plain : (laws : WordLaws) (a : Attrs) → FitsAttrs a → list_all is_plain_word (attrs_words a) ≡ true

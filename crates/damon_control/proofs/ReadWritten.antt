@@ -30,6 +30,7 @@ use Rattle.damon_control.specs.Text.{EachSays, SaySetup, come_in_order, lines_te
 use Rattle.damon_control.specs.WriteBack.{FitsChange, FitsCommit, IsWritable, SpellsRanges}
 use Rattle.damon_control.specs.Written.{change_text, commit_text, part_given, part_text, parts_of, ranges_given, setup_text, spec_of, written_commit, written_setup}
 use Rattle.damon_control.proofs.Leading.{LeadLaws, parts_lead, setup_leads}
+use Rattle.damon_control.proofs.LeadingScript.{begin_opens}
 use Rattle.damon_control.proofs.Leads.{leads, leads-line}
 use Rattle.damon_control.proofs.LineWords.{leads-IsPiece, plain-IsPiece}
 use Rattle.damon_control.proofs.PartLemmas.{parts-some, reads_line, reads_more}
@@ -83,7 +84,7 @@ map_both f g [] = refl
 map_both f g (x ∷ xs) = ap (λ ys. f (g x) ∷ ys) (map_both f g xs)
 
 -- the lines that are written of a setup say it
-written-SaySetup : (seed : ℕ) (s : SetupValue) → IsWritable seed s → SaySetup (codes "damon script 1" ∷ written_setup seed s) seed s
+written-SaySetup : (seed : ℕ) (s : SetupValue) → IsWritable seed s → SaySetup (written_setup seed s) seed s
 written-SaySetup seed s is =
     let setup = is.setup in
     let specs = map (spec_of s.space) s.ranges in
@@ -93,8 +94,8 @@ written-SaySetup seed s is =
       specs = specs;
       schemes = changes;
       spelled =
-          ap (λ (rs : List (List ℕ)). codes "damon script 1" ∷ (number_lines seed s.unit s.cap s.attrs ++ (map spelled_target s.space ++ (rs ++ changes)))) (map_both spelled_range (spec_of s.space) s.ranges)
-          ∙ ap (λ ls. codes "damon script 1" ∷ (number_lines seed s.unit s.cap s.attrs ++ ls)) (sym (append_assoc (map spelled_target s.space) (map spelled_range specs) changes));
+          ap (λ (rs : List (List ℕ)). number_lines seed s.unit s.cap s.attrs ++ (map spelled_target s.space ++ (rs ++ changes))) (map_both spelled_range (spec_of s.space) s.ranges)
+          ∙ ap (λ ls. number_lines seed s.unit s.cap s.attrs ++ ls) (sym (append_assoc (map spelled_target s.space) (map spelled_range specs) changes));
       seed_fits = is.seed_fits;
       limits = limits_checked s setup;
       targets = space_checked s.space is.space;
@@ -127,13 +128,13 @@ parts_before apart together lines bytes each =
     by (first ∷ others) some each = apart 10 first others each
 
 -- lines that lead to a place are read up to it, and then what follows them
-reads_led : (n : ℕ) (place : Place OfScript) (lines pieces : List (List ℕ)) (next : Place OfScript) → 0 < length pieces → leads place lines ≡ Ok next → reads OfScript n place (lines ++ pieces) ≡ reads OfScript (n + length lines) next pieces
+reads_led : (n : ℕ) (place : Place OfScript) (lines pieces : List (List ℕ)) (next : Place OfScript) → 0 < length pieces → leads OfScript place lines ≡ Ok next → reads OfScript n place (lines ++ pieces) ≡ reads OfScript (n + length lines) next pieces
 reads_led n place [] pieces next some e =
     let is : place ≡ next = cc in
     let same : n ≡ n + 0 = omega arith in
     λ i. reads OfScript (same i) (is i) pieces
 reads_led n place (line ∷ lines) pieces next some e =
-    let reached = bind-Ok (place_after OfScript place line) (λ p. leads p lines) next e in
+    let reached = bind-Ok (place_after OfScript place line) (λ p. leads OfScript p lines) next e in
     let more : 0 < length (lines ++ pieces) = omega (arith, length-append lines pieces, some) in
     let last : n + 1 + length lines ≡ n + length (line ∷ lines) = omega arith in
     reads_more OfScript n place line (lines ++ pieces) more
@@ -149,13 +150,13 @@ pub setup_read_back : LeadLaws → PutsPartsTogether → (seed : ℕ) (s : Setup
 setup_read_back laws together seed s body is =
     let written = written_setup seed s in
     let lines = codes "damon script 1" ∷ (written ++ codes "begin" ∷ []) in
-    let lead : leads AtHeader lines ≡ Ok (InBody (begun seed s)) = setup_leads laws seed s (codes "damon script 1" ∷ written) [] (written-SaySetup seed s is) in
+    let lead : leads OfScript AtHeader lines ≡ Ok (InBody (begun seed s)) = setup_leads laws OfScript seed s written (codes "begin") (begun seed s) [] (written-SaySetup seed s is) (begin_opens seed s) in
     let text : codes "damon script 1\n" ++ (setup_text seed s ++ (codes "begin\n" ++ body)) ≡ lines_text lines ++ body =
     ap (λ t. codes "damon script 1\n" ++ t) (sym (append_assoc (lines_text written) (codes "begin\n") body) ∙ ap (λ t. t ++ body) (sym (lines_text-append written (codes "begin" ∷ []))))
     in
     let count : 1 + length lines ≡ 3 + length written = omega (arith, length-append written (codes "begin" ∷ [])) in
     ap script_of text
-    ∙ ap (reads OfScript 1 AtHeader) (parts_before laws.apart together lines body (leads-IsPiece AtHeader lines (InBody (begun seed s)) lead))
+    ∙ ap (reads OfScript 1 AtHeader) (parts_before laws.apart together lines body (leads-IsPiece OfScript AtHeader lines (InBody (begun seed s)) lead))
     ∙ reads_led 1 AtHeader lines (parts 10 body) (InBody (begun seed s)) (parts-some 10 body) lead
     ∙ ap (λ n. reads OfScript n (InBody (begun seed s)) (parts 10 body)) count
 
@@ -260,10 +261,10 @@ commit_read_back laws together b c n rest fits some =
     let written = written_commit c in
     let lines = codes "commit" ∷ written in
     let are = parts_in c.attrs c.ranges c.slot c.metric some in
-    let lead : leads (InBody b) lines ≡ Ok (InCommit b c) =
-    leads-line (InBody b) (InCommit b no_commit) (codes "commit") written refl
-    ∙ ap (leads (InCommit b no_commit)) (sym (append-nil written))
-    ∙ parts_lead laws.lines b no_commit written (parts_of c) [] (each_said (parts_of c) (parts_said c fits)) are.in_order
+    let lead : leads OfScript (InBody b) lines ≡ Ok (InCommit b c) =
+    leads-line OfScript (InBody b) (InCommit b no_commit) (codes "commit") written refl
+    ∙ ap (leads OfScript (InCommit b no_commit)) (sym (append-nil written))
+    ∙ parts_lead laws.lines OfScript b no_commit written (parts_of c) [] (each_said (parts_of c) (parts_said c fits)) are.in_order
     ∙ ap (λ d. Ok (InCommit b d)) are.made
     in
     let last = n + (1 + length written) in
@@ -273,7 +274,7 @@ commit_read_back laws together b c n rest fits some =
     let line : n + length lines ≡ last = omega arith in
     let text : codes "commit\n" ++ (commit_text c ++ (codes "apply\n" ++ rest)) ≡ lines_text lines ++ (codes "apply\n" ++ rest) = refl in
     ap (λ t. reads OfScript n (InBody b) (parts 10 t)) text
-    ∙ ap (reads OfScript n (InBody b)) (parts_before laws.apart together lines (codes "apply\n" ++ rest) (leads-IsPiece (InBody b) lines (InCommit b c) lead))
+    ∙ ap (reads OfScript n (InBody b)) (parts_before laws.apart together lines (codes "apply\n" ++ rest) (leads-IsPiece OfScript (InBody b) lines (InCommit b c) lead))
     ∙ ap (λ ps. reads OfScript n (InBody b) (lines ++ ps)) apply
     ∙ reads_led n (InBody b) lines (codes "apply" ∷ parts 10 rest) (InCommit b c) (omega arith) lead
     ∙ ap (λ m. reads OfScript m (InCommit b c) (codes "apply" ∷ parts 10 rest)) line

@@ -15,7 +15,7 @@ use Rattle.damon_control.specs.Command.{CommandValue, Touch, Sweep, Step, Arm, F
 use Rattle.damon_control.specs.Fields.{attrs_in, range_in}
 use Rattle.damon_control.specs.Fits.{FitsAttrs, FitsRange}
 use Rattle.damon_control.specs.Head.{limited}
-use Rattle.damon_control.specs.Laws.{EmptiesSlot, IsCommand, IsPart, ReadsOnlyCommands, ReadsOnlyParts, WordLaws, may_come}
+use Rattle.damon_control.specs.Laws.{EmptiesSlot, IsCommand, IsPart, IsSweep, IsTouch, ReadsOnlyCommands, ReadsOnlyParts, WordLaws, may_come}
 use Rattle.damon_control.specs.Refusal.{◌>>=◌, only_if}
 use Rattle.damon_control.specs.Spelling.{attrs_words, range_words, spelled_sweep, spelled_touch}
 use Rattle.damon_control.specs.Words.{alone, arguments, begins_with, byte_address, number_8, number_32, one_word}
@@ -27,18 +27,21 @@ use Rattle.damon_control.proofs.SpellWords.{alone-Ok, arguments-Ok, byte_address
 
 -- a touch that finds its page says that page
 touch_page : (space : List Target) (line : List ℕ) (command : CommandValue) (target addr : ℕ) → line ≡ spelled_touch target addr → target < 2 ^ 32 → addr < 2 ^ 64
-    → (ok_or (page_of space target addr) Outside >>= λ page. Ok (Touch page)) ≡ Ok command → IsCommand space line command
+    → (ok_or (page_of space target addr) Outside >>= λ page. Ok (Touch page)) ≡ Ok command → (page : ℕ) × (Touch page ≡ command) × IsTouch space line page
 touch_page space line command target addr spelled target_fits addr_fits e =
     let page = bind-Ok (ok_or (page_of space target addr) Outside) _ command e in
-    let is : Touch page.0 ≡ command = cc in
-    subst (IsCommand space line) is (record {
-      target = target;
-      addr = addr;
-      spelled = spelled;
-      target_fits = target_fits;
-      addr_fits = addr_fits;
-      holds = ok_or-Ok (page_of space target addr) Outside page.0 page.1;
-    })
+    let is : Touch page.0 ≡ command = cc in (
+      page.0,
+      is,
+      record {
+        target = target;
+        addr = addr;
+        spelled = spelled;
+        target_fits = target_fits;
+        addr_fits = addr_fits;
+        holds = ok_or-Ok (page_of space target addr) Outside page.0 page.1;
+      },
+    )
 
 -- the words of a touch spell its line
 touch_words : (laws : WordLaws) (line : List ℕ) (words : List (List ℕ)) (fields : List ℕ × List ℕ) (target addr : ℕ) → arguments (codes "touch") line ≡ Ok words
@@ -48,8 +51,9 @@ touch_words laws line words fields target addr said two is_target is_addr =
     ∙ ap (λ ws. joined 32 (codes "touch" ∷ ws)) (two_of-Some words fields two)
     ∙ (λ i. joined 32 (codes "touch" ∷ number_32-Ok laws fields.0 target is_target i ∷ byte_address-Ok laws fields.1 addr is_addr i ∷ []))
 
-touch_line-Ok : (laws : WordLaws) (space : List Target) (line : List ℕ) (command : CommandValue) → touch_line space line ≡ Ok command → IsCommand space line command
-touch_line-Ok laws space line command e =
+-- a line that is read as a touch touches a page
+pub touch_line-page : (laws : WordLaws) (space : List Target) (line : List ℕ) (command : CommandValue) → touch_line space line ≡ Ok command → (page : ℕ) × (Touch page ≡ command) × IsTouch space line page
+touch_line-page laws space line command e =
     let words = bind-Ok (arguments (codes "touch") line) _ command e in
     let fields = bind-Ok (ok_or (two_of words.0) Form) _ command words.2 in
     let target = bind-Ok (number_32 fields.0.0) _ command fields.2 in
@@ -57,6 +61,9 @@ touch_line-Ok laws space line command e =
     let two = ok_or-Ok (two_of words.0) Form fields.0 fields.1 in
     let spelled = touch_words laws line words.0 fields.0 target.0 addr.0 words.1 two target.1 addr.1 in
     touch_page space line command target.0 addr.0 spelled (number_32-small laws fields.0.0 target.0 target.1) (byte_address-small laws fields.0.1 addr.0 addr.1) addr.2
+
+touch_line-Ok : (laws : WordLaws) (space : List Target) (line : List ℕ) (command : CommandValue) → touch_line space line ≡ Ok command → IsCommand space line command
+touch_line-Ok laws space line command e = let said = touch_line-page laws space line command e in subst (IsCommand space line) said.1 said.2
 
 -- a sweep that finds its pages says these pages
 sweep_pages : (space : List Target) (line : List ℕ) (command : CommandValue) (target from to : ℕ) → line ≡ spelled_sweep target from to
@@ -66,24 +73,28 @@ sweep_pages : (space : List Target) (line : List ℕ) (command : CommandValue) (
       first ← ok_or (page_of space target from) Outside
       last ← ok_or (page_of space target (to - 4096)) Outside
       Ok (Sweep first (last + 1))) ≡ Ok command
-    → IsCommand space line command
+    → (first : ℕ) × (end : ℕ) × (Sweep first end ≡ command) × IsSweep space line first end
 sweep_pages space line command target from to spelled target_fits from_fits to_fits e =
     let whole = bind-Ok (only_if (are_swept from to) Limit (tt {0})) _ command e in
     let first = bind-Ok (ok_or (page_of space target from) Outside) _ command whole.2 in
     let last = bind-Ok (ok_or (page_of space target (to - 4096)) Outside) _ command first.2 in
-    let is : Sweep first.0 (last.0 + 1) ≡ command = cc in
-    subst (IsCommand space line) is (record {
-      target = target;
-      from = from;
-      to = to;
-      spelled = spelled;
-      target_fits = target_fits;
-      from_fits = from_fits;
-      to_fits = to_fits;
-      whole = (only_if-Ok (are_swept from to) Limit (tt {0}) whole.0 whole.1).0;
-      begins = ok_or-Ok (page_of space target from) Outside first.0 first.1;
-      ends = ap (option_map (λ page. page + 1)) (ok_or-Ok (page_of space target (to - 4096)) Outside last.0 last.1);
-    })
+    let is : Sweep first.0 (last.0 + 1) ≡ command = cc in (
+      first.0,
+      last.0 + 1,
+      is,
+      record {
+        target = target;
+        from = from;
+        to = to;
+        spelled = spelled;
+        target_fits = target_fits;
+        from_fits = from_fits;
+        to_fits = to_fits;
+        whole = (only_if-Ok (are_swept from to) Limit (tt {0}) whole.0 whole.1).0;
+        begins = ok_or-Ok (page_of space target from) Outside first.0 first.1;
+        ends = ap (option_map (λ page. page + 1)) (ok_or-Ok (page_of space target (to - 4096)) Outside last.0 last.1);
+      },
+    )
 
 -- the words of a sweep spell its line
 sweep_words : (laws : WordLaws) (line : List ℕ) (words : List (List ℕ)) (fields : List ℕ × List ℕ × List ℕ) (target from to : ℕ) → arguments (codes "sweep") line ≡ Ok words
@@ -93,8 +104,10 @@ sweep_words laws line words fields target from to said three is_target is_from i
     ∙ ap (λ ws. joined 32 (codes "sweep" ∷ ws)) (three_of-Some words fields three)
     ∙ (λ i. joined 32 (codes "sweep" ∷ number_32-Ok laws fields.0 target is_target i ∷ byte_address-Ok laws fields.1 from is_from i ∷ byte_address-Ok laws fields.2 to is_to i ∷ []))
 
-sweep_line-Ok : (laws : WordLaws) (space : List Target) (line : List ℕ) (command : CommandValue) → sweep_line space line ≡ Ok command → IsCommand space line command
-sweep_line-Ok laws space line command e =
+-- a line that is read as a sweep sweeps pages
+pub sweep_line-pages : (laws : WordLaws) (space : List Target) (line : List ℕ) (command : CommandValue) → sweep_line space line ≡ Ok command
+    → (first : ℕ) × (end : ℕ) × (Sweep first end ≡ command) × IsSweep space line first end
+sweep_line-pages laws space line command e =
     let words = bind-Ok (arguments (codes "sweep") line) _ command e in
     let fields = bind-Ok (ok_or (three_of words.0) Form) _ command words.2 in
     let target = bind-Ok (number_32 fields.0.0) _ command fields.2 in
@@ -104,6 +117,9 @@ sweep_line-Ok laws space line command e =
     let spelled = sweep_words laws line words.0 fields.0 target.0 from.0 to.0 words.1 three target.1 from.1 to.1 in
     sweep_pages space line command target.0 from.0 to.0 spelled (number_32-small laws fields.0.0 target.0 target.1) (byte_address-small laws fields.0.1 from.0 from.1)
     (byte_address-small laws fields.0.2 to.0 to.1) to.2
+
+sweep_line-Ok : (laws : WordLaws) (space : List Target) (line : List ℕ) (command : CommandValue) → sweep_line space line ≡ Ok command → IsCommand space line command
+sweep_line-Ok laws space line command e = let said = sweep_line-pages laws space line command e in subst (IsCommand space line) said.2 said.3
 
 step_line-Ok : (laws : WordLaws) (space : List Target) (line : List ℕ) (command : CommandValue) → step_line line ≡ Ok command → IsCommand space line command
 step_line-Ok laws space line command e =

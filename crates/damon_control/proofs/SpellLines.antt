@@ -15,8 +15,9 @@ use Rattle.damon_control.specs.declared.head.Frame.{Frame}
 use Rattle.damon_control.specs.Fields.{attrs_in, range_in}
 use Rattle.damon_control.specs.Head.{attrs_line, cap_line, limited, one_target, range_line, seed_line, target_in, target_line, unit_line}
 use Rattle.damon_control.specs.Laws.{ReadsOnly, WordLaws}
+use Rattle.damon_control.specs.Live.{passes_line}
 use Rattle.damon_control.specs.Refusal.{◌>>=◌, refused_as}
-use Rattle.damon_control.specs.Spelling.{attrs_words, range_words, spelled_attrs, spelled_cap, spelled_range, spelled_seed, spelled_target, spelled_unit, target_words}
+use Rattle.damon_control.specs.Spelling.{attrs_words, range_words, spelled_attrs, spelled_cap, spelled_passes, spelled_range, spelled_seed, spelled_target, spelled_unit, target_words}
 use Rattle.damon_control.specs.Words.{arguments, byte_address, number_8, number_32, number_64, one_word}
 use Rattle.damon_control.proofs.SpellSteps.{bind-Ok, first_true, ok_or-Ok, only_if-Ok, second_true, two_of-Some, three_of-Some, four_of-Some}
 use Rattle.damon_control.proofs.SpellWords.{arguments-Ok, byte_address-Ok, number_8-Ok, number_32-Ok, number_64-Ok, one_word-Ok}
@@ -49,6 +50,11 @@ pub cap_line-Ok : WordLaws → ReadsOnly cap_line spelled_cap
 cap_line-Ok laws line n e =
     one_word-Ok laws (codes "cap") number_32 decimal (number_32-Ok laws) line n
     (limited-Ok (arguments (codes "cap") line >>= one_word >>= number_32) 3 4096 n e)
+
+pub passes_line-Ok : WordLaws → ReadsOnly passes_line spelled_passes
+passes_line-Ok laws line n e =
+    one_word-Ok laws (codes "passes") number_32 decimal (number_32-Ok laws) line n
+    (limited-Ok (arguments (codes "passes") line >>= one_word >>= number_32) 1 1000000 n e)
 
 -- a property of all that a reader of words returns holds of what is read from a line
 pub words-have : {A : Type 0} (P : A → Type 0) (word : List ℕ) (read : List (List ℕ) → Result A ScriptKind) → ((words : List (List ℕ)) (x : A) → read words ≡ Ok x → P x)

@@ -1,19 +1,19 @@
 -- A touch line at the front of a text is read as a touch.
-use Rattle.std.proofs.Common.{◌≡◌, ℕ, ◌+◌, ◌<◌, true, false, List, [], ◌∷◌, ◌++◌, length, codes, decimal, append_assoc, Ok, All, refl, sym, ap, ◌∙◌, arith}
+use Rattle.std.proofs.Common.{◌≡◌, ℕ, ◌+◌, ◌<◌, List, [], ◌∷◌, ◌++◌, length, codes, decimal, append_assoc, Ok, refl, sym, ap, ◌∙◌, arith}
 use Rattle.std.proofs.lemmas.List.Elements.{All-cons}
 use Rattle.damon_types.specs.declared.space.Target.{Target}
 use Rattle.line_text.specs.Address.{spelled_address}
 use Rattle.line_text.specs.Laws.{PutsPartsTogether, TakesApartPieces}
 use Rattle.line_text.specs.Parts.{IsPiece, joined, parts}
 use Rattle.damon_control.specs.Command.{CommandValue, Touch}
-use Rattle.damon_control.specs.Laws.{IsTouch, WordLaws}
-use Rattle.damon_control.specs.Body.{command_line, no_commit}
+use Rattle.damon_control.specs.Laws.{WordLaws}
+use Rattle.damon_control.specs.Body.{command_line}
 use Rattle.damon_control.specs.declared.grammar.Grammar.TheVariants.{OfScript}
 use Rattle.damon_control.specs.Refusal.{◌>>=◌}
-use Rattle.damon_control.specs.Script.{AtEnd, Body, InBody, InCommit, after_body, at, reads, with_command}
+use Rattle.damon_control.specs.Script.{Body, InBody, after_body, at, reads, with_command}
 use Rattle.damon_control.specs.Spelling.{spelled_touch}
 use Rattle.damon_control.specs.Touches.{BeginsWithTouch}
-use Rattle.damon_control.specs.Words.{alone, begins_with}
+use Rattle.damon_control.specs.Words.{begins_with}
 use Rattle.damon_control.proofs.LineWords.{BeginsNeither, command_begins, plain-IsPiece}
 use Rattle.damon_control.proofs.PartLemmas.{parts-some, reads_line}
 use Rattle.damon_control.proofs.ReadCommands.{command_line-said}

@@ -14,7 +14,7 @@ use Rattle.damon_control.specs.Script.{AtEnd, Body, Place, Said, ScriptValue, Wi
 use Rattle.damon_control.specs.Refusal.{◌>>=◌}
 use Rattle.damon_control.specs.Words.{begins_with}
 
--- the lines that were taken and the bytes that are left are at most as many as the most bytes of a text
+-- the lines that were taken and the bytes that are left are together at most MAX_BYTES
 abbrev pub IsShort : Lines → Type 0
 IsShort lines = lines.taken + length lines.rest.now ≤ MAX_BYTES
 

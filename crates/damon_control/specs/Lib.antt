@@ -22,6 +22,7 @@ pub mod Fits
 pub mod Laws
 pub mod ReadBack
 pub mod Text
+pub mod LiveText
 pub mod Touches
 pub mod Sound
 pub mod Written

@@ -48,7 +48,7 @@ to_last (list ∷ next ∷ more) items = list ∷ to_last (next ∷ more) items
 abbrev pub passes_line : List ℕ → Result ℕ ScriptKind
 passes_line line = arguments (codes "passes") line >>= one_word >>= number_32 >>= limited 1 MAX_PASSES
 
--- a line of this word alone, which begins a block after this many of at most so many
+-- a line of this word alone, which begins a block: `count` blocks stand before it, and at most `most` are allowed
 abbrev pub block_line : List ℕ → List ℕ → ℕ → ℕ → Result (Unit {0}) ScriptKind
 block_line word line count most = alone word line >>= λ _. only_if (nat_lt count most) Limit (tt {0})
 
@@ -72,7 +72,7 @@ touched _ = []
 abbrev pub touching : List Target → List ℕ → Result CommandValue ScriptKind
 touching space line = if begins_with (codes "touch") line then touch_line space line else sweep_line space line
 
--- the pages of such a line, where with them and as many touches before them there are not too many
+-- the pages of such a line, where they and this number of touches before them are at most MAX_TOUCHES
 abbrev pub touches_within : List Target → List ℕ → ℕ → Result (List ℕ) ScriptKind
 touches_within space line before = do
   command ← touching space line
@@ -84,7 +84,7 @@ touches_line v line =
     if length v.workers == 0 then Err Word
     else (touches_within v.setup.space line (count_all v.workers) >>= λ pages. Ok (record v { workers = to_last v.workers pages }))
 
--- one call more is not too much after as many
+-- one call more after this number of calls is not too much
 abbrev pub call_within : ℕ → Result (Unit {0}) ScriptKind
 call_within before = only_if (nat_le (before + 1) MAX_CALLS) TooMuch (tt {0})
 

@@ -79,6 +79,10 @@ spelled_sweep target from to =
 abbrev pub spelled_step : ℕ → List ℕ
 spelled_step times = codes "step " ++ decimal times
 
+-- `passes N`
+abbrev pub spelled_passes : ℕ → List ℕ
+spelled_passes n = codes "passes " ++ decimal n
+
 -- `drop SLOT`
 abbrev pub spelled_drop : ℕ → List ℕ
 spelled_drop slot = codes "drop " ++ decimal slot

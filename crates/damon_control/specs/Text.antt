@@ -28,7 +28,7 @@ abbrev pub all_lines : List (List (List ℕ)) → List (List ℕ)
 all_lines [] = []
 all_lines (group ∷ groups) = group ++ all_lines groups
 
--- as many lines, or groups of them, as values, and each says the value at its place
+-- a line, or a group of lines, for each value, in order, and each says its value
 abbrev pub EachSays : {L A : Type 0} → (L → A → Type 0) → List L → List A → Type 0
 EachSays says [] [] = Unit {0}
 EachSays says (line ∷ lines) (value ∷ values) = says line value × EachSays says lines values
@@ -39,11 +39,10 @@ abbrev pub number_lines : ℕ → ℕ → ℕ → Attrs → List (List ℕ)
 number_lines seed unit cap attrs =
     spelled_seed seed ∷ spelled_unit unit ∷ spelled_cap cap ∷ spelled_attrs attrs ∷ []
 
--- the lines of a setup up to its schemes
+-- the lines of a setup up to its schemes, from `seed` on
 abbrev pub setup_lines : ℕ → SetupValue → List RangeSpec → List (List ℕ)
 setup_lines seed setup specs =
-    codes "damon script 1"
-    ∷ (number_lines seed setup.unit setup.cap setup.attrs ++ (map spelled_target setup.space ++ map spelled_range specs))
+    number_lines seed setup.unit setup.cap setup.attrs ++ (map spelled_target setup.space ++ map spelled_range specs)
 
 -- lines say a seed and a setup: a line for each number, target, range and scheme, in this order and each within its limits
 pub record SaySetup (lines : List (List ℕ)) (seed : ℕ) (setup : SetupValue) : Type 0 where
@@ -85,11 +84,12 @@ SayCommand space lines command =
     ((line : List ℕ) × (lines ≡ line ∷ []) × IsCommand space line command)
     ⊎ ((commit : CommitValue) × (command ≡ Commit commit) × AreCommit lines commit)
 
--- a text says a script: the lines of its setup, `begin`, those of each command, and `end`; the commands are not too much work
+-- a text says a script: its first line, the lines of its setup, `begin`, those of each command, and `end`; the commands are
+-- not too much work
 pub record IsText (text : List ℕ) (s : ScriptValue) : Type 0 where
   pub setup : List (List ℕ)
   pub commands : List (List (List ℕ))
-  pub spelled : text ≡ lines_text (setup ++ codes "begin" ∷ (all_lines commands ++ codes "end" ∷ []))
+  pub spelled : text ≡ lines_text (codes "damon script 1" ∷ (setup ++ codes "begin" ∷ (all_lines commands ++ codes "end" ∷ [])))
   pub says_setup : SaySetup setup s.seed s.setup
   pub say_commands : EachSays (SayCommand s.setup.space) commands s.commands
   pub work : work_of s.setup.cap s.commands ≤ MAX_WORK

@@ -8,6 +8,7 @@ ghost use Rattle.damon_control.specs.Fields.{attrs_in, range_in};
 ghost use Rattle.damon_control.specs.Head.{attrs_line, cap_line, one_target, range_line, seed_line, unit_line};
 ghost use Rattle.damon_control.specs.Keys.{setting_of};
 ghost use Rattle.damon_control.specs.Laws.{NamesActions, ReadsOnly, ReadsOnlyCommands, ReadsOnlyParts, ReadsOnlySchemes, WordLaws};
+ghost use Rattle.damon_control.specs.LiveText.{LiveTextsAreRead};
 ghost use Rattle.damon_control.specs.ReadBack.{LinesReadBack};
 ghost use Rattle.damon_control.specs.Sound.{ScriptsAreSound};
 ghost use Rattle.damon_control.specs.Spelling.{attrs_words, range_words, spelled_attrs, spelled_cap, spelled_range, spelled_seed, spelled_setting, spelled_target, spelled_unit};
@@ -94,6 +95,19 @@ pub fn spelled_lines_are_read()
 /// `end`, each with its LF and nothing after the last.
 pub fn texts_are_exactly_read()
     ensures texts { TextsAreRead }
+{
+    words_have_laws();
+    spelled_lines_are_read();
+    next_decides();
+    fault_stays();
+    slots_are_checked_in_turn();
+}
+
+/// A text is read as a live script exactly where it says it: the header, the lines of the setup, the
+/// passes, the workers, the controllers and `end`, each with its LF and nothing after the last, and all
+/// of it within the limits.
+pub fn live_texts_are_exactly_read()
+    ensures texts { LiveTextsAreRead }
 {
     words_have_laws();
     spelled_lines_are_read();

@@ -43,9 +43,9 @@ mod written;
 
 pub use fault::{ReadFail, ScriptFault, ScriptKind};
 pub use laws::{
-    body_lines_are_spelled, commits_are_read_back, fields_are_spelled, schemes_are_spelled,
-    scripts_are_sound, setup_lines_are_spelled, setups_are_read_back, spelled_lines_are_read,
-    texts_are_exactly_read,
+    body_lines_are_spelled, commits_are_read_back, fields_are_spelled, live_texts_are_exactly_read,
+    schemes_are_spelled, scripts_are_sound, setup_lines_are_spelled, setups_are_read_back,
+    spelled_lines_are_read, texts_are_exactly_read,
 };
 pub use live::{
     Call, CallList, CallLists, LiveScript, MAX_CALLS, MAX_CONTROLLERS, MAX_PASSES, MAX_TOUCHES,

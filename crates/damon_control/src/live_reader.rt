@@ -33,8 +33,9 @@ use live_commit::Setup;
 use std::alloc::{AllocError, Global};
 
 /// Reads a live script of at most [`MAX_BYTES`](crate::MAX_BYTES) bytes. For any other text, returns the
-/// first line that is rejected and the first kind that applies to it. Allocates; returns `Memory` only if
-/// out of memory.
+/// first line that is rejected and the first kind that applies to it. By the law
+/// [`live_texts_are_exactly_read`](crate::live_texts_are_exactly_read) a text is a live script exactly
+/// where it says one, line by line. Allocates; returns `Memory` only if out of memory.
 pub fn read_live(alloc: Global, text: &[u8]) -> Result<LiveScript, ReadFail>
     requires { length text.now ≤ MAX_BYTES }
     ensures script { IfOk result (λ s. live_of text.now ≡ Ok (live_said s)) }
@@ -181,7 +182,8 @@ fn take_worker<'a>(lines: &mut Lines<'a>) -> Result<&'a [u8], ScriptFault>
     Ok(line)
 }
 
-// Reads a line of this word alone, which begins a block after this many of at most so many.
+// Reads a line of this word alone, which begins a block: `count` blocks stand before it, and at most
+// `most` are allowed.
 pub fn read_block(word: &[u8], line: &[u8], count: u32, most: u32) -> Result<(), ScriptKind>
     ensures exact { result ≡ block_line word.now line.now count most }
     ensures few { OnOk result (count < most) }

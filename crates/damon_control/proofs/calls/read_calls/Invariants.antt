@@ -1,4 +1,4 @@
-use Rattle.std.proofs.Common.{◌≡◌, ◌≤◌, ◌<◌, ◌+◌, ◌++◌, ◌∷◌, [], ℕ, List, length, map}
+use Rattle.std.proofs.Common.{◌≡◌, ◌≤◌, ◌+◌, ◌++◌, ◌∷◌, [], List, length, map}
 use Rattle.damon_control.specs.declared.grammar.Grammar.TheVariants.{OfLive}
 use Rattle.damon_control.specs.declared.live.TheConstants.{MAX_CALLS}
 use Rattle.damon_control.specs.Left.{IsShort, reads_left}

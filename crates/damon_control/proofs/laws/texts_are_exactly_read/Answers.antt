@@ -1,4 +1,4 @@
-use Rattle.damon_control.proofs.Leading.{IsText-script_of}
+use Rattle.damon_control.proofs.LeadingScript.{IsText-script_of}
 use Rattle.damon_control.proofs.Says.{script_of-IsText}
 use Rattle.damon_control.proofs.laws.texts_are_exactly_read.Goals as goal
 

@@ -1,4 +1,4 @@
-use Rattle.std.proofs.Common.{◌≡◌, ◌∙◌, ◌+◌, [], ℕ, List, Ok, Err, sym, ap, subst, refl, arith}
+use Rattle.std.proofs.Common.{◌≡◌, ◌∙◌, ◌+◌, ℕ, List, Err, sym, ap, subst, refl}
 use Rattle.std.specs.Prelude.{Result}
 use Rattle.std.proofs.lemmas.Result.{err_from_is_err_and}
 use Rattle.line_text.specs.Parts.{parts}
@@ -10,7 +10,7 @@ use Rattle.damon_control.specs.declared.lines.Lines.{Lines}
 use Rattle.damon_control.specs.Left.{FaultOf, reads_left}
 use Rattle.damon_control.specs.Live.{LiveValue, live_begun}
 use Rattle.damon_control.specs.LiveView.{NoWorker, calls_of, traces_of, with_controllers, with_workers}
-use Rattle.damon_control.specs.Script.{AtEnd, AtHeader, InBody, live_of, reads}
+use Rattle.damon_control.specs.Script.{AtHeader, live_of, reads}
 use Rattle.damon_control.proofs.LiveLemmas.{no_block}
 use Rattle.damon_control.proofs.live_reader.read_live.Goals as goal
 

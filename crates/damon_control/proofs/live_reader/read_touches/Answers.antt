@@ -1,10 +1,9 @@
-use Rattle.std.proofs.Common.{◌≡◌, ◌∙◌, refl, ◌-◌, ◌+◌, ◌≤◌, ap, sym, nat_le, true, false, length, Ok, Err, arith}
+use Rattle.std.proofs.Common.{◌≡◌, refl, ◌-◌, ◌+◌, sym, nat_le, true, false, length, arith}
 use Rattle.std.proofs.lemmas.Bool.Decides.{nat_tests}
 use Rattle.std.proofs.lemmas.List.FromFn.{length-range_with_len}
 use Rattle.std.proofs.lemmas.Result.{err_from_is_err_and}
-use Rattle.damon_control.specs.declared.live.TheConstants.{MAX_TOUCHES}
 use Rattle.damon_control.specs.Live.{touching}
-use Rattle.damon_control.specs.LiveView.{page_list, pages_said}
+use Rattle.damon_control.specs.LiveView.{page_list}
 use Rattle.damon_control.proofs.LiveLemmas.{counted-Err, counted-Ok}
 use Rattle.damon_control.proofs.live_reader.read_touches.Goals as goal
 

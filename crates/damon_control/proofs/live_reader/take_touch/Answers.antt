@@ -1,8 +1,7 @@
-use Rattle.std.proofs.Common.{◌≡◌, ◌∙◌, ◌||◌, ◌∷◌, [], ◌++◌, sym, codes, true}
+use Rattle.std.proofs.Common.{◌∙◌, ◌||◌, ◌∷◌, [], ◌++◌, sym, codes}
 use Rattle.damon_control.specs.declared.grammar.Grammar.TheVariants.{OfLive}
 use Rattle.damon_control.specs.LiveView.{with_workers}
 use Rattle.damon_control.specs.Script.{InBody}
-use Rattle.damon_control.specs.Words.{begins_with}
 use Rattle.damon_control.proofs.LiveLemmas.{touches_read}
 use Rattle.damon_control.proofs.live_reader.take_touch.Goals as goal
 

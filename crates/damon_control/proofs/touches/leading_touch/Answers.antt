@@ -1,8 +1,6 @@
-use Rattle.std.proofs.Common.{◌≡◌, ℕ, ◌++◌, ◌∷◌, ◌<◌, ◌^◌, List, Some, codes, ap, sym, ◌∙◌, refl, rules}
-use Rattle.line_text.specs.Address.{spelled_address}
+use Rattle.std.proofs.Common.{ℕ, ap, sym, ◌∙◌, refl, rules}
 use Rattle.line_text.specs.Leading.{view_leading}
 use Rattle.damon_control.specs.Spelling.{spelled_touch}
-use Rattle.damon_control.specs.Touches.{BeginsWithTouch}
 use Rattle.damon_control.proofs.TouchLemmas.{spelled_front}
 use Rattle.damon_control.proofs.touches.leading_touch.Goals as goal
 

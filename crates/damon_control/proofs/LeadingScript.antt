@@ -1,0 +1,116 @@
+-- Lines that say a script lead from its header to its end.
+use Rattle.std.proofs.Common.{◌≡◌, inl, inr, ◌∷◌, [], ◌+◌, ◌≤◌, ℕ, nat_le, List, ◌++◌, codes, Ok, refl, sym, ap, subst, ◌∙◌, append_assoc, arith}
+use Rattle.std.proofs.lemmas.Bool.Decides.{nat_tests}
+use Rattle.std.proofs.lemmas.List.{append-nil}
+use Rattle.std.proofs.lemmas.List.Sums.{sum_by-cons}
+use Rattle.damon_types.specs.declared.range.Range.{Range}
+use Rattle.live_commit.specs.Commit.{CommitValue}
+use Rattle.live_commit.specs.Setup.{SetupValue}
+use Rattle.damon_control.specs.declared.grammar.Grammar.TheVariants.{OfScript}
+use Rattle.damon_control.specs.declared.script.TheConstants.{MAX_WORK}
+use Rattle.damon_control.specs.Body.{no_commit}
+use Rattle.damon_control.specs.Command.{CommandValue, Commit, weight, work_of}
+use Rattle.damon_control.specs.Laws.{IsCommand}
+use Rattle.damon_control.specs.ReadBack.{LinesReadBack}
+use Rattle.damon_control.specs.Refusal.{◌>>=◌}
+use Rattle.damon_control.specs.Script.{AtEnd, AtHeader, Body, InBody, InCommit, ScriptValue, begun, place_after, script_of, with_command}
+use Rattle.damon_control.specs.Text.{AreCommit, EachSays, IsText, SayCommand, all_lines}
+use Rattle.damon_control.specs.Words.{begins_with}
+use Rattle.damon_control.proofs.Leading.{LeadLaws, Opens, else_way, led_read, parts_lead, setup_leads, then_way}
+use Rattle.damon_control.proofs.Leads.{leads, leads-line}
+use Rattle.damon_control.proofs.LineWords.{command_begins}
+
+-- a body with more commands, and their work
+abbrev with_commands : Body → List CommandValue → Body
+with_commands b commands =
+    record { said = record b.said { commands = b.said.commands ++ commands }; work = b.work + work_of b.said.setup.cap commands }
+
+-- a body with one command more
+abbrev with_one : Body → CommandValue → Body
+with_one b c = record { said = record b.said { commands = b.said.commands ++ c ∷ [] }; work = b.work + weight b.said.setup.cap c }
+
+no_more : (b : Body) → b ≡ with_commands b []
+no_more b =
+    let all = sym (append-nil b.said.commands) in
+    let sum : b.work ≡ b.work + work_of b.said.setup.cap [] = omega arith in
+    λ i. record { said = record b.said { commands = all i }; work = sum i }
+
+one_and_more : (b : Body) (c : CommandValue) (commands : List CommandValue) → with_commands (with_one b c) commands ≡ with_commands b (c ∷ commands)
+one_and_more b c commands =
+    let all = append_assoc b.said.commands (c ∷ []) commands in
+    let sum : b.work + weight b.said.setup.cap c + work_of b.said.setup.cap commands ≡ b.work + work_of b.said.setup.cap (c ∷ commands) =
+    omega (arith, sum_by-cons (weight b.said.setup.cap) c commands)
+    in
+    λ i. record { said = record b.said { commands = all i }; work = sum i }
+
+-- a command that is not too much work is taken
+command_taken : (b : Body) (c : CommandValue) → b.work + weight b.said.setup.cap c ≤ MAX_WORK → with_command b c ≡ Ok (InBody (with_one b c))
+command_taken b c few = then_way (nat_le (b.work + weight b.said.setup.cap c) MAX_WORK) _ _ (grind (arith, nat_tests))
+
+-- the line of a command
+line_leads : LinesReadBack → (b : Body) (line : List ℕ) (c : CommandValue) → IsCommand b.said.setup.space line c → b.work + weight b.said.setup.cap c ≤ MAX_WORK
+    → place_after OfScript (InBody b) line ≡ Ok (InBody (with_one b c))
+line_leads back b line c is few =
+    let read = back.command b.said.setup.space line c is in
+    let begins = command_begins b.said.setup.space line c read in
+    else_way (begins_with (codes "end") line) _ _ begins.not_first
+    ∙ else_way (begins_with (codes "commit") line) _ _ begins.not_second
+    ∙ ap (λ r. r >>= with_command b) read
+    ∙ command_taken b c few
+
+-- the lines of a commit
+commit_leads : LinesReadBack → (b : Body) (commit : CommitValue) (group lines : List (List ℕ)) → AreCommit group commit → b.work + weight b.said.setup.cap (Commit commit) ≤ MAX_WORK
+    → leads OfScript (InBody b) (group ++ lines) ≡ leads OfScript (InBody (with_one b (Commit commit))) lines
+commit_leads back b commit group lines are few =
+    ap (λ ls. leads OfScript (InBody b) (ls ++ lines)) are.spelled
+    ∙ leads-line OfScript (InBody b) (InCommit b no_commit) (codes "commit") ((are.between ++ codes "apply" ∷ []) ++ lines) refl
+    ∙ ap (leads OfScript (InCommit b no_commit)) (append_assoc are.between (codes "apply" ∷ []) lines)
+    ∙ parts_lead back OfScript b no_commit are.between are.parts (codes "apply" ∷ lines) are.each are.in_order
+    ∙ ap (λ c. leads OfScript (InCommit b c) (codes "apply" ∷ lines)) are.made
+    ∙ leads-line OfScript (InCommit b commit) (InBody (with_one b (Commit commit))) (codes "apply") lines (command_taken b (Commit commit) few)
+
+-- the lines of one command
+group_leads : LinesReadBack → (b : Body) (group : List (List ℕ)) (c : CommandValue) (lines : List (List ℕ)) → SayCommand b.said.setup.space group c → b.work + weight b.said.setup.cap c ≤ MAX_WORK
+    → leads OfScript (InBody b) (group ++ lines) ≡ leads OfScript (InBody (with_one b c)) lines
+group_leads back b group c lines (inl (line, is, says)) few =
+    ap (λ ls. leads OfScript (InBody b) (ls ++ lines)) is
+    ∙ leads-line OfScript (InBody b) (InBody (with_one b c)) line lines (line_leads back b line c says few)
+group_leads back b group c lines (inr (commit, is, are)) few =
+    commit_leads back b commit group lines are (subst (λ (d : CommandValue). b.work + weight b.said.setup.cap d ≤ MAX_WORK) is few)
+    ∙ ap (λ d. leads OfScript (InBody (with_one b d)) lines) (sym is)
+
+commands_lead : LinesReadBack → (b : Body) (groups : List (List (List ℕ))) (commands : List CommandValue) (lines : List (List ℕ)) → EachSays (SayCommand b.said.setup.space) groups commands
+    → b.work + work_of b.said.setup.cap commands ≤ MAX_WORK → leads OfScript (InBody b) (all_lines groups ++ lines) ≡ leads OfScript (InBody (with_commands b commands)) lines
+commands_lead back b [] [] lines each few = ap (λ d. leads OfScript (InBody d) lines) (no_more b)
+commands_lead back b (group ∷ groups) (c ∷ commands) lines each few =
+    let sum = sum_by-cons (weight b.said.setup.cap) c commands in
+    ap (leads OfScript (InBody b)) (append_assoc group (all_lines groups) lines)
+    ∙ group_leads back b group c (all_lines groups ++ lines) each.0 (omega (arith, sum, few))
+    ∙ commands_lead back (with_one b c) groups commands lines each.1 (omega (arith, sum, few))
+    ∙ ap (λ d. leads OfScript (InBody d) lines) (one_and_more b c commands)
+commands_lead back b [] (c ∷ commands) lines each few = absurd each
+commands_lead back b (group ∷ groups) [] lines each few = absurd each
+
+-- ---- a whole text
+
+-- `begin` opens the body of a script
+pub begin_opens : (seed : ℕ) (setup : SetupValue) → Opens OfScript seed setup (codes "begin") (begun seed setup)
+begin_opens seed setup = record {
+  no_range = refl;
+  no_scheme = refl;
+  opens = λ specs watched. ap (λ (gs : List Range). Ok (InBody (begun seed (record setup { ranges = gs })))) watched;
+}
+
+-- the lines of a text that says a script
+abbrev script_lines : (text : List ℕ) (s : ScriptValue) → IsText text s → List (List ℕ)
+script_lines text s says = codes "damon script 1" ∷ (says.setup ++ codes "begin" ∷ (all_lines says.commands ++ codes "end" ∷ []))
+
+-- lines that say a script lead to its end
+lines_lead : LeadLaws → (text : List ℕ) (s : ScriptValue) (says : IsText text s) → leads OfScript AtHeader (script_lines text s says) ≡ Ok (AtEnd s)
+lines_lead laws text s says =
+    setup_leads laws OfScript s.seed s.setup says.setup (codes "begin") (begun s.seed s.setup) (all_lines says.commands ++ codes "end" ∷ []) says.says_setup (begin_opens s.seed s.setup)
+    ∙ commands_lead laws.lines (begun s.seed s.setup) says.commands s.commands (codes "end" ∷ []) says.say_commands (omega (arith, says.work))
+
+-- a text that says a script is read as it
+pub IsText-script_of : LeadLaws → (text : List ℕ) (s : ScriptValue) → IsText text s → script_of text ≡ Ok s
+IsText-script_of laws text s says = ap script_of says.spelled ∙ led_read laws.apart OfScript (script_lines text s says) s (lines_lead laws text s says)

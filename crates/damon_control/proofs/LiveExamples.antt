@@ -1,0 +1,146 @@
+-- A live script, written out: one worker that touches the first page twice, and one controller that shows. Then texts that
+-- are read as others, or rejected.
+use Rattle.std.proofs.Common.{◌≡◌, inl, lit<, arith, ◌∷◌, [], ◌++◌, ℕ, List, codes, Some, None, Ok, Err, refl}
+use Rattle.std.specs.Fmt.{digits}
+use Rattle.damon_types.specs.declared.space.Target.{Target}
+use Rattle.live_commit.specs.Setup.{SetupValue}
+use Rattle.damon_control.specs.declared.fault.ScriptKind.{ScriptKind}
+use Rattle.damon_control.specs.declared.fault.ScriptKind.TheVariants.{Limit, Outside, Word}
+use Rattle.damon_control.specs.Laws.{IsTouch}
+use Rattle.damon_control.specs.Live.{CommitCall, LiveValue, ShowCall}
+use Rattle.damon_control.specs.LiveText.{IsLiveText, KeepsLimits, SayController, SayWorker, SaysPages}
+use Rattle.damon_control.specs.Script.{live_of}
+use Rattle.damon_control.specs.Text.{SaySetup}
+
+abbrev space : List Target
+space = record { base = 65536; pages = 3 } ∷ []
+
+abbrev setup : SetupValue
+setup = record {
+  space = space;
+  unit = 1;
+  cap = 8;
+  attrs = record { min = 3; max = 8; aggr = 5 };
+  ranges = record { target = 0; first = 0; pages = 3; class = 0 } ∷ [];
+  slots = [];
+}
+
+abbrev said : LiveValue
+said = record { seed = 42; setup = setup; passes = 1; workers = (0 ∷ 0 ∷ []) ∷ []; controllers = (ShowCall ∷ []) ∷ [] }
+
+abbrev setup_text : List (List ℕ)
+setup_text =
+    codes "seed 42" ∷ codes "unit 1" ∷ codes "cap 8" ∷ codes "attrs 3 8 5" ∷ codes "target 0x10000 3" ∷ codes "range 0 0x10000 0x13000 0" ∷ []
+
+says_setup : SaySetup setup_text 42 setup
+unfolding digits
+says_setup = record {
+  specs = record { target = 0; from = 65536; to = 77824; class = 0 } ∷ [];
+  schemes = [];
+  spelled = refl;
+  seed_fits = lit< tt;
+  limits = refl;
+  targets = refl;
+  ranges = refl;
+  some_range = omega arith;
+  few_ranges = omega arith;
+  watched = refl;
+  slots = refl;
+  give = tt;
+}
+
+touches_first : IsTouch space (codes "touch 0 0x10000") 0
+unfolding digits
+touches_first = record { target = 0; addr = 65536; spelled = refl; target_fits = lit< tt; addr_fits = lit< tt; holds = refl }
+
+says_first : SaysPages space (codes "touch 0 0x10000") (0 ∷ [])
+says_first = inl (0, refl, touches_first)
+
+worker_touches_twice : SayWorker space (codes "worker" ∷ codes "touch 0 0x10000" ∷ codes "touch 0 0x10000" ∷ []) (0 ∷ 0 ∷ [])
+worker_touches_twice = record {
+  touches = codes "touch 0 0x10000" ∷ codes "touch 0 0x10000" ∷ [];
+  pages = (0 ∷ []) ∷ (0 ∷ []) ∷ [];
+  spelled = refl;
+  each = (says_first, (says_first, tt));
+  joined = refl;
+}
+
+controller_shows : SayController (codes "controller" ∷ codes "show" ∷ []) (ShowCall ∷ [])
+controller_shows = record { groups = (codes "show" ∷ []) ∷ []; spelled = refl; each = (refl, tt) }
+
+limits_are_kept : KeepsLimits said
+limits_are_kept = record {
+  some_pass = omega arith;
+  passes = omega arith;
+  workers = omega arith;
+  controllers = omega arith;
+  touches = omega arith;
+  calls = omega arith;
+}
+
+-- the text of the setup above, and more text after it
+abbrev setup_before : List ℕ → List ℕ
+setup_before text = codes "damon live 1\nseed 42\nunit 1\ncap 8\nattrs 3 8 5\ntarget 0x10000 3\nrange 0 0x10000 0x13000 0\n" ++ text
+
+abbrev whole_text : List ℕ
+whole_text = setup_before (codes "passes 1\nworker\ntouch 0 0x10000\ntouch 0 0x10000\ncontroller\nshow\nend\n")
+
+text_says_it : IsLiveText whole_text said
+unfolding digits
+text_says_it = record {
+  setup = setup_text;
+  workers = (codes "worker" ∷ codes "touch 0 0x10000" ∷ codes "touch 0 0x10000" ∷ []) ∷ [];
+  controllers = (codes "controller" ∷ codes "show" ∷ []) ∷ [];
+  spelled = refl;
+  says_setup = says_setup;
+  say_workers = (worker_touches_twice, tt);
+  say_controllers = (controller_shows, tt);
+  limits = limits_are_kept;
+}
+
+text_is_read : live_of whole_text ≡ Ok said
+text_is_read = refl
+
+-- ---- other texts
+
+-- a line of a sweep is one of its pages in order, and a commit is one call
+sweeps_and_commits : live_of (setup_before (codes "passes 7\nworker\nworker\ntouch 0 0x12fff\nsweep 0 0x10000 0x12000\ncontroller\ncommit\nmetric 300\napply\nshow\nend\n"))
+    ≡ Ok (record {
+      seed = 42;
+      setup = setup;
+      passes = 7;
+      workers = [] ∷ (2 ∷ 0 ∷ 1 ∷ []) ∷ [];
+      controllers = (CommitCall (record { attrs = None; ranges = None; slot = None; metric = Some 300 }) ∷ ShowCall ∷ []) ∷ [];
+    })
+sweeps_and_commits = refl
+
+-- a line is rejected, with this kind
+abbrev IsRejected : List ℕ → ℕ → ScriptKind → Type 0
+IsRejected text line kind = live_of (setup_before text) ≡ Err (record { line = line; kind = kind })
+
+passes_are_wanted : IsRejected (codes "worker\nend\n") 8 Word
+passes_are_wanted = refl
+
+no_pass_is_too_few : IsRejected (codes "passes 0\nend\n") 8 Limit
+no_pass_is_too_few = refl
+
+workers_come_before_controllers : IsRejected (codes "passes 1\ncontroller\nworker\nend\n") 10 Word
+workers_come_before_controllers = refl
+
+touches_want_a_worker : IsRejected (codes "passes 1\ntouch 0 0x10000\nworker\nend\n") 9 Word
+touches_want_a_worker = refl
+
+touches_end_at_a_controller : IsRejected (codes "passes 1\nworker\ncontroller\ntouch 0 0x10000\nend\n") 11 Word
+touches_end_at_a_controller = refl
+
+calls_want_a_controller : IsRejected (codes "passes 1\nworker\nshow\nend\n") 10 Word
+calls_want_a_controller = refl
+
+touches_lie_in_targets : IsRejected (codes "passes 1\nworker\ntouch 0 0x13000\nend\n") 10 Outside
+touches_lie_in_targets = refl
+
+fifth_controller_is_too_much : IsRejected (codes "passes 1\ncontroller\ncontroller\ncontroller\ncontroller\ncontroller\nend\n") 13 Limit
+fifth_controller_is_too_much = refl
+
+commands_of_scripts_are_no_calls : IsRejected (codes "passes 1\ncontroller\nstep 1\nend\n") 10 Word
+commands_of_scripts_are_no_calls = refl

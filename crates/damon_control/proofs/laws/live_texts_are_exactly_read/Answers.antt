@@ -1,0 +1,14 @@
+use Rattle.damon_control.proofs.LeadingLive.{IsLiveText-live_of}
+use Rattle.damon_control.proofs.Says.{live_of-IsLiveText}
+use Rattle.damon_control.proofs.laws.live_texts_are_exactly_read.Goals as goal
+
+pub returns : goal.returns
+returns c =
+    let words = c.words_have_laws.ensures.laws in
+    let ranges = c.next_decides.ensures.next in
+    record {
+      texts = λ text v. (
+        live_of-IsLiveText (record { words = words; ranges = ranges; slots = c.slots_are_checked_in_turn.ensures.next }) text v,
+        IsLiveText-live_of (record { lines = c.spelled_lines_are_read.ensures.lines; one_more = ranges; keeps_fault = c.fault_stays.ensures.first; apart = words.pieces }) words text v,
+      );
+    }
