@@ -1,6 +1,6 @@
 -- The range of a row, and the passing pages of a row counted from the runs of its range.
 use Rattle.std.proofs.Common.{◌≡◌, ◌⊎◌, inl, inr, ℕ, zero, suc, ◌+◌, ◌-◌, ◌^◌, ◌<◌, ◌≤◌, min, Bool, true, false, cond, List, [], ◌∷◌, length, refl, sym, ap, ◌∙◌, subst, arith}
-use Rattle.std.specs.Prelude.{max, Some, slice_get, slice_index_or, ◌||◌, AllPairs, Any, count_by, filter, sum_by}
+use Rattle.std.specs.Prelude.{max, Some, slice_get, slice_index_or, ◌||◌, All, AllPairs, Any, count_by, filter, sum_by}
 use Rattle.std.specs.List.{list_any, range_with_len}
 use Rattle.std.proofs.lemmas.Bool.{cases_lt}
 use Rattle.std.proofs.lemmas.Bool.Decides.{nat_tests}
@@ -14,7 +14,7 @@ use Rattle.damon_types.specs.Span.{Span, span_of}
 use Rattle.region_list.specs.Tiles.{LiesIn}
 use Rattle.scheme_filter.specs.declared.runs.Run.{Run}
 use Rattle.scheme_filter.specs.Runs.{run_end, run_holds}
-use Rattle.scheme_filter.specs.RangeRuns.{RunsWithin, AreRunsOf, IsInFirst, shared_of}
+use Rattle.scheme_filter.specs.RangeRuns.{RunsWithin, AreRunsOf, IsInFirst, first_end, first_start, shared_of}
 use Rattle.scheme_filter.proofs.LongestLemmas.{after_first, all_later, rest_apart}
 use Rattle.scheme_filter.proofs.RowLemmas.{range_fits, range_from}
 
@@ -184,6 +184,20 @@ count_few passes s n = omega (arith, length-filter passes (range_with_len s n), 
 count_all : (n s : ℕ) → count_by (λ p. true) (range_with_len s n) ≡ n
 count_all zero s = refl
 count_all (suc n) s = omega (arith, count-cons (λ p. true) s n, count_all n (s + 1))
+
+-- pages within the bounds of the first run are held by it
+pub bounds_hold : (runs : List Run) (s e : ℕ) → s ≤ e → first_start runs ≤ s → e ≤ first_end runs → IsInFirst s e runs
+bounds_hold [] s e order from to = absurd (omega (arith, order, from, to))
+bounds_hold (r ∷ rs) s e order from to = record { first = r; is = refl; from = from; to = to }
+
+-- what the first run holds lies where the runs do
+pub in_first_within : (near : RunsWithin) (s e : ℕ) → All (λ r. (near.from ≤ r.start) × (run_end r ≤ near.to)) near.runs → IsInFirst s e near.runs → (near.from ≤ s) × (e ≤ near.to)
+in_first_within near s e within first =
+    let is = get_or_from_slice_get near.runs 0 first.first first.first first.is in
+    let lies = within 0 first.first (slice_get_within near.runs 0 first.first first.is) in (
+      omega (arith, lies.0, first.from, ap (λ (r : Run). r.start) is),
+      omega (arith, lies.1, first.to, ap run_end is),
+    )
 
 -- where the first run holds all pages of a row, they all pass
 pub all_pass : (passes : ℕ → Bool) (near : RunsWithin) (s n : ℕ) → near.from ≤ s → s + n ≤ near.to → AreRunsOf passes near → IsInFirst s (s + n) near.runs → n ≡ length (filter passes (range_with_len s n))

@@ -61,6 +61,17 @@ class_same t b (g ∷ gs) (suc k) d first page order within low later high =
     let page_later : holds_page page g ≡ false = grind (arith, nat_tests) in
     rw (first_later, page_later) (class_same g.target (end_of g) gs k d first page order.3 (omega (arith, within)) low later high)
 
+-- the pages of a range have its class
+pub class_at : (t b : ℕ) (gs : List Range) (k : ℕ) (d : Range) (page : ℕ) → OrderedFrom t b gs → k < length gs → (slice_index_or gs k d).first ≤ page → page < end_of (slice_index_or gs k d) → class_of gs page ≡ Some (slice_index_or gs k d).class
+class_at t b [] k d page order within low high = absurd (omega (arith, within))
+class_at t b (g ∷ gs) zero d page order within low high =
+    let here : holds_page page g ≡ true = grind (arith, nat_tests) in
+    rw here refl
+class_at t b (g ∷ gs) (suc k) d page order within low high =
+    let from = range_from g.target (end_of g) gs k d order.3 (omega (arith, within)) in
+    let later : holds_page page g ≡ false = grind (arith, nat_tests) in
+    rw later (class_at g.target (end_of g) gs k d page order.3 (omega (arith, within)) low high)
+
 -- a row in a range ends where the range does, or before
 row_end-le : (gs : List Range) (r : Row) → (held : Any (LiesIn (span_of r)) gs) → r.start + r.pages ≤ end_of (slice_index_or gs held.0 held.1)
 row_end-le gs r held = rw (held.3) (held.4.to)

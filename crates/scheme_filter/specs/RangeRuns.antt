@@ -1,5 +1,5 @@
 -- The runs of a range, kept for its rows.
-use Rattle.std.specs.Prelude.{◌≡◌, ℕ, ◌-◌, ◌≤◌, min, max, Bool, List, Some, slice_get}
+use Rattle.std.specs.Prelude.{◌≡◌, ℕ, ◌-◌, ◌≤◌, min, max, Bool, List, [], ◌∷◌, Some, slice_get}
 use Rattle.scheme_filter.specs.declared.runs.Run.{Run}
 use Rattle.scheme_filter.specs.Runs.{AreLongest, run_end}
 
@@ -23,3 +23,13 @@ pub record IsInFirst (start end : ℕ) (runs : List Run) : Type 0 where
   pub is : slice_get runs 0 ≡ Some first
   pub from : first.start ≤ start
   pub to : end ≤ run_end first
+
+-- the first page of the first run, 1 where there is no run
+abbrev pub first_start : List Run → ℕ
+first_start [] = 1
+first_start (r ∷ rs) = r.start
+
+-- the page after the first run, 0 where there is no run
+abbrev pub first_end : List Run → ℕ
+first_end [] = 0
+first_end (r ∷ rs) = run_end r

@@ -8,9 +8,10 @@ ghost use Rattle.damon_types.specs.Within.{AreWithin};
 ghost use Rattle.region_list.specs.Tiles.{LiesIn};
 ghost use Rattle.scheme_filter.specs.Passes.{passes};
 ghost use Rattle.scheme_filter.specs.Runs.{AreLongest, run_end};
-ghost use Rattle.scheme_filter.specs.RangeRuns.{AreRunsOf, IsInFirst, shared_of};
+ghost use Rattle.scheme_filter.specs.RangeRuns.{AreRunsOf, IsInFirst, first_end, first_start, shared_of};
 
-use crate::{PassRuns, Run, passing};
+use crate::row_runs::passing_in;
+use crate::{PassRuns, Run};
 use damon_types::{Filters, Range, Ranges, Row, Space};
 use std::marker::Model;
 
@@ -22,14 +23,26 @@ pub struct RangeRuns {
     // The index of that range; only how fast the next one is found depends on it.
     index: u32,
     runs: PassRuns,
+    // The first run, beside the list so that a row is compared with it at once.
+    first: Bounds,
+}
+
+// The pages from `from` to before `to`; 1 and 0 stand for no run.
+#[derive(Clone, Copy, Debug)]
+struct Bounds {
+    from: u32,
+    to: u32,
 }
 
 impl Model for RangeRuns {
-    ghost use Rattle.scheme_filter.specs.RangeRuns.{RunsWithin};
+    ghost use Rattle.std.specs.Prelude.{◌≡◌};
+    ghost use Rattle.scheme_filter.specs.RangeRuns.{RunsWithin, first_end, first_start};
 
     ghost Value = { RunsWithin };
 
     ghost view = { λ r. record { from = r.from; to = r.to; runs = r.runs } };
+
+    ghost invariant = { λ r. (r.first.from ≡ first_start r.runs) × (r.first.to ≡ first_end r.runs) };
 }
 
 impl RangeRuns {
@@ -48,23 +61,22 @@ impl RangeRuns {
                 pages: to,
             });
         }
+        let first = first_of(runs.as_slice());
         RangeRuns {
             from: 0,
             to,
             index: 0,
             runs,
+            first,
         }
     }
 
     // Whether the first run holds all pages from `start` to before `end`.
     fn is_in_first(&self, start: u32, end: u32) -> bool
-        requires { All (λ r. run_end r < 2 ^ 32) self.now.runs }
+        requires { start ≤ end }
         ensures { result ≡ true → IsInFirst start end self.now.runs }
     {
-        match self.runs.as_slice().first() {
-            Some(run) => run.start <= start && end <= run.start + run.pages,
-            None => false,
-        }
+        self.first.from <= start && end <= self.first.to
     }
 
     // How many pages of the runs are among those from `start` to before `end`.
@@ -103,13 +115,13 @@ pub fn count_passing(
 {
     // For its clauses alone: each range ends below page 2^32.
     let _count = ranges.len();
-    reach(filters, space, ranges, row, near);
     let start = row.start;
     let end = start + row.pages;
     // Mostly all pages of a row pass, and a range has one run.
     if near.is_in_first(start, end) {
         return row.pages;
     }
+    reach(filters, space, ranges, row, near);
     near.count(start, end)
 }
 
@@ -144,16 +156,11 @@ fn look_up(filters: &Filters, space: &Space, ranges: &Ranges, row: &Row, near: &
     // For its clauses alone: each range ends below page 2^32.
     let _count = ranges.len();
     let Found { index, range } = range_of(ranges, row, near.index.saturating_add(1));
-    let whole = Row {
-        start: range.first,
-        pages: range.pages,
-        target: range.target,
-        ..*row
-    };
     near.from = range.first;
     near.to = range.first + range.pages;
     near.index = index;
-    passing(filters, space, ranges, &whole, &mut near.runs);
+    passing_in(filters, space, ranges, &range, &mut near.runs);
+    near.first = first_of(near.runs.as_slice());
 }
 
 // A range of a list, with its index.
@@ -209,6 +216,21 @@ fn search(ranges: &Ranges, row: &Row) -> Found
     Found {
         index: low,
         range: ranges.get(low),
+    }
+}
+
+// The pages of the first of these runs.
+fn first_of(runs: &[Run]) -> Bounds
+    requires { All (λ r. run_end r < 2 ^ 32) runs.now }
+    ensures from { result.from ≡ first_start runs.now }
+    ensures to { result.to ≡ first_end runs.now }
+{
+    match runs.first() {
+        Some(run) => Bounds {
+            from: run.start,
+            to: run.start + run.pages,
+        },
+        None => Bounds { from: 1, to: 0 },
     }
 }
 

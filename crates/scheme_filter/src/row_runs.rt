@@ -1,4 +1,5 @@
-ghost use Rattle.std.specs.Prelude.{◌≡◌, ◌+◌, ◌^◌, ◌≤◌, ◌<◌, Any, length, sum_by};
+ghost use Rattle.std.specs.Prelude.{◌≡◌, ◌+◌, ◌^◌, ◌≤◌, ◌<◌, ℕ, Any, Some, length, slice_get, sum_by};
+ghost use Rattle.damon_types.specs.Ranges.{end_of};
 ghost use Rattle.damon_types.specs.Span.{span_of};
 ghost use Rattle.damon_types.specs.Within.{AreWithin};
 ghost use Rattle.region_list.specs.Tiles.{LiesIn};
@@ -8,7 +9,7 @@ ghost use Rattle.scheme_filter.specs.RowPages.{IsRowPages, answer_at};
 
 use crate::row_pages::RowPages;
 use crate::{PassRuns, Run};
-use damon_types::{Filter, Filters, MAX_FILTERS, Ranges, Row, Space};
+use damon_types::{Filter, Filters, MAX_FILTERS, Range, Ranges, Row, Space};
 
 /// Makes the list the longest runs of pages of a row that pass the filters of a scheme (see
 /// [`passes`](crate::passes)), in the order of their pages.
@@ -37,6 +38,30 @@ pub fn passing(filters: &Filters, space: &Space, ranges: &Ranges, row: &Row, run
         end: start + pages,
         first: space.addr_of(start),
         class: ranges.class_of(start),
+    };
+    find_runs(filters.as_slice(), &row, runs);
+}
+
+// The same for all pages of one of the ranges, whose class is known.
+pub(crate) fn passing_in(
+    filters: &Filters,
+    space: &Space,
+    ranges: &Ranges,
+    range: &Range,
+    runs: &mut PassRuns,
+)
+    requires within { AreWithin space.now ranges.now.list }
+    requires one { (index : ℕ) × (slice_get ranges.now.list index ≡ Some range.now) }
+    ensures { AreLongest (passes filters.now space.now ranges.now.list)
+        range.now.first (end_of range.now) runs.new }
+{
+    // For its clauses alone: the ranges are in order.
+    let _count = ranges.len();
+    let row = RowPages {
+        start: range.first,
+        end: range.first + range.pages,
+        first: space.addr_of(range.first),
+        class: Some(range.class),
     };
     find_runs(filters.as_slice(), &row, runs);
 }

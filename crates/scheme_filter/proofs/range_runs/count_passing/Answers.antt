@@ -1,8 +1,8 @@
-use Rattle.std.proofs.Common.{◌≤◌, ◌<◌, ◌^◌, ◌∙◌, arith}
+use Rattle.std.proofs.Common.{◌+◌, ◌≤◌, ◌<◌, ◌^◌, ◌∙◌, arith}
 use Rattle.scheme_filter.specs.Passes.{passes}
 use Rattle.scheme_filter.specs.Runs.{run_end}
 use Rattle.scheme_filter.proofs.LongestLemmas.{all_weaker}
-use Rattle.scheme_filter.proofs.RangeLemmas.{all_pass, count_few, count_is}
+use Rattle.scheme_filter.proofs.RangeLemmas.{all_pass, count_few, count_is, in_first_within}
 use Rattle.scheme_filter.proofs.RowLemmas.{row_fits}
 use Rattle.scheme_filter.proofs.range_runs.count_passing.Goals as goal
 
@@ -31,7 +31,10 @@ pub returns-then-is_in_first : goal.returns-then-is_in_first
 returns-then-is_in_first c =
     let p = passes c.args.filters.now c.args.space.now c.args.ranges.now.list in
     let r = c.args.row.now in
+    let near = c.args.near.now in
+    let first = c.is_in_first.ensures c.if-is_in_first.true in
+    let within = in_first_within near r.start (r.start + r.pages) c.requires.near.within first in
     record {
-      count = all_pass p c.reach.new.near r.start r.pages c.reach.ensures.from c.reach.ensures.to c.reach.ensures.near (c.is_in_first.ensures c.if-is_in_first.true);
-      near = c.reach.ensures.near;
+      count = all_pass p near r.start r.pages within.0 within.1 c.requires.near first;
+      near = c.requires.near;
     }
