@@ -21,6 +21,10 @@ pub(crate) fn print_choice_list(
         (out.new.items ≡ out.old.items ++ compact_text (list_of (map choice_json choices.now))) }
     ensures kept { KeepsFront out.old.items out.new.items }
 {
+    // Without choices, no memory is taken.
+    if choices.is_empty() {
+        return out.extend_from_slice(b"[]");
+    }
     let list = choice_list(alloc, choices)?;
     out.extend_from_slice(&list)
 }

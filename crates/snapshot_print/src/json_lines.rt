@@ -1,5 +1,5 @@
-// The lines of a report as JSON, each an object. The lists in it whose length grows, rows and runs, are
-// written directly, and the rest that is no plain number or name is made by `serde_json`.
+// The lines of a report as JSON, each an object. Rows and runs, whose lists can be long, are written
+// directly, and choices, set slots, answers and totals by `serde_json`.
 ghost use Rattle.std.specs.Prelude.{◌≡◌, ◌++◌, codes, string_bytes, IfOk, OnOk};
 ghost use Rattle.std.specs.Fmt.{decimal};
 ghost use Rattle.serde_json.specs.Events.{SendsValue};
