@@ -12,7 +12,7 @@ use Rattle.serde_json.specs.Data.{Data, string, Members, member, no_members}
 use Rattle.serde_json.specs.Written.{comma_if, compact_text, members_text}
 use Rattle.snapshot_print.specs.Fields.{page_address}
 use Rattle.snapshot_print.specs.Json.{action_or_null, applied_json, count_of, row_json}
-use Rattle.snapshot_print.specs.Pieces.{piece, run_front, run_rest}
+use Rattle.snapshot_print.specs.Pieces.{piece, run_prefix, run_rest}
 use Rattle.snapshot_print.specs.Schemes.{action_in, action_word}
 use Rattle.snapshot_print.proofs.Escaping.{address_is_plain}
 
@@ -66,16 +66,16 @@ action_is_plain Nohugepage = refl
 action_is_plain LruPrio = refl
 action_is_plain LruDeprio = refl
 
--- the beginning of the item of a run
-pub set_front : (a : Action) (rest : List ℕ) → run_front (Some a) ++ rest ≡ codes ",{\"action\":\"" ++ (action_word a ++ (codes "\",\"end\":\"" ++ rest))
-set_front a rest =
+-- the prefix of the item of a run, where its slot is set
+pub set_prefix : (a : Action) (rest : List ℕ) → run_prefix (Some a) ++ rest ≡ codes ",{\"action\":\"" ++ (action_word a ++ (codes "\",\"end\":\"" ++ rest))
+set_prefix a rest =
     ap (λ t. codes ",{\"action\":\"" ++ t)
     (append_assoc (escape (action_word a) ++ 34 ∷ []) (codes ",\"end\":\"") rest
     ∙ append_assoc (escape (action_word a)) (34 ∷ []) (codes ",\"end\":\"" ++ rest)
     ∙ ap (λ t. t ++ (codes "\",\"end\":\"" ++ rest)) (action_is_plain a))
 
 -- the item of a run in its two parts
-pub run_item : (space : List Target) (slots : List SlotValue) (r : AppliedRun) → run_front (action_in slots r.slot) ++ run_rest space r ≡ piece (applied_json space slots r)
+pub run_item : (space : List Target) (slots : List SlotValue) (r : AppliedRun) → run_prefix (action_in slots r.slot) ++ run_rest space r ≡ piece (applied_json space slots r)
 unfolding escape_byte
 run_item space slots r =
     let action = action_or_null (action_in slots r.slot) in

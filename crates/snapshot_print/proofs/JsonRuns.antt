@@ -14,7 +14,7 @@ use Rattle.snapshot_print.proofs.JsonMembers.{run_item}
 abbrev RunsOf : ℕ → List AppliedRun → Type 0
 RunsOf slot runs = AllByRecursion (λ r. r.slot ≡ slot) runs
 
--- runs of a slot: each item is the beginning that they share, and its rest
+-- runs of a slot: each item is the prefix that they share, and its rest
 pub own_items : (space : List Target) (slots : List SlotValue) (slot : ℕ) (runs : List AppliedRun) → RunsOf slot runs
     → flat_map (run_parts space (action_in slots slot)) runs ≡ flat_map (λ r. piece (applied_json space slots r)) runs
 own_items space slots slot [] own = refl

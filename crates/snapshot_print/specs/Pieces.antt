@@ -1,5 +1,5 @@
 -- Internal to the proofs: parts of the lines of a report in JSON, as they are written one after another.
-use Rattle.std.specs.Prelude.{ℕ, ◌+◌, ◌*◌, List, ◌∷◌, ◌++◌, codes, map, Option}
+use Rattle.std.specs.Prelude.{ℕ, ◌+◌, ◌*◌, List, ◌++◌, codes, map, Option}
 use Rattle.std.specs.Fmt.{decimal}
 use Rattle.damon_types.specs.declared.scheme.Action.{Action}
 use Rattle.damon_types.specs.declared.space.Target.{Target}
@@ -13,11 +13,11 @@ use Rattle.snapshot_print.specs.Printed.{Printed}
 
 -- the comma before a value, and the value
 abbrev pub piece : Data → List ℕ
-piece d = 44 ∷ compact_text d
+piece d = codes "," ++ compact_text d
 
--- the beginning of the item of a run, up to the address after its pages: the same for all runs of a slot
-abbrev pub run_front : Option Action → List ℕ
-run_front action = codes ",{\"action\":" then compact_text (action_or_null action) then codes ",\"end\":\""
+-- the prefix of the item of a run, up to the address after its pages: the same for all runs of a slot
+abbrev pub run_prefix : Option Action → List ℕ
+run_prefix action = codes ",{\"action\":" then compact_text (action_or_null action) then codes ",\"end\":\""
 
 -- the rest of it
 abbrev pub run_rest : List Target → AppliedRun → List ℕ
@@ -29,7 +29,7 @@ run_rest space r =
 
 -- the item of a run of a slot with this action
 abbrev pub run_parts : List Target → Option Action → AppliedRun → List ℕ
-run_parts space action r = run_front action ++ run_rest space r
+run_parts space action r = run_prefix action ++ run_rest space r
 
 -- the beginning of the line of an aggregation: its runs and its choices
 abbrev pub served_part : Printed → List ℕ

@@ -5,7 +5,7 @@ ghost use Rattle.serde_json.specs.Written.{compact_text};
 ghost use Rattle.damon_types.specs.Space.{pages_of};
 ghost use Rattle.snapshot_print.specs.Json.{applied_json, list_of};
 ghost use Rattle.snapshot_print.specs.Kept.{KeepsFront};
-ghost use Rattle.snapshot_print.specs.Pieces.{piece, run_front, run_parts, run_rest};
+ghost use Rattle.snapshot_print.specs.Pieces.{piece, run_prefix, run_parts, run_rest};
 
 use crate::choice_text::{action_in, count_runs};
 use crate::fields::{short_field_before, text_before, word_before};
@@ -17,8 +17,8 @@ use line_text::address_before;
 use scheme_engine::{AppliedRun, Engine};
 use std::alloc::AllocError;
 
-// Bytes enough for the beginning of an item, which has at most 31.
-const FRONT_ROOM: usize = 32;
+// Bytes enough for the prefix of an item, which has at most 31.
+const PREFIX_ROOM: usize = 32;
 
 // Appends the list of runs, each with the action of its slot. Each run has a page, and its pages are pages
 // of the space.
@@ -90,10 +90,10 @@ fn print_with_action(
         (out.new.items ≡ out.old.items ++ flat_map (run_parts space.now action) runs.now) }
     ensures kept { KeepsFront out.old.items out.new.items }
 {
-    let mut text = [0; FRONT_ROOM];
-    let start = front_before(&mut text, FRONT_ROOM, action);
+    let mut text = [0; PREFIX_ROOM];
+    let start = prefix_before(&mut text, PREFIX_ROOM, action);
     let items = RunItems {
-        front: &text[start..],
+        prefix: &text[start..],
         space,
     };
     print_lines(out, runs, &items)
@@ -102,19 +102,19 @@ fn print_with_action(
 // The items of the runs of a slot, which all begin with the same bytes.
 #[derive(Clone, Copy)]
 struct RunItems<'a> {
-    front: &'a [u8],
+    prefix: &'a [u8],
     space: &'a Space,
-    ghost short: { length front.now ≤ 32 },
+    ghost short: { length prefix.now ≤ 32 },
 }
 
 impl LineOf<AppliedRun> for RunItems<'_> {
-    ghost line = { λ items r. items.front.now ++ run_rest items.space.now r };
+    ghost line = { λ items r. items.prefix.now ++ run_rest items.space.now r };
 
     ghost can_write = { λ items r. (1 ≤ r.pages) × (r.start + r.pages ≤ pages_of items.space.now) };
 
     fn line_before(&self, bytes: &mut [u8], end: usize, run: &AppliedRun) -> usize {
         let rest = rest_before(bytes, end, run, self.space);
-        text_before(bytes, rest, self.front)
+        text_before(bytes, rest, self.prefix)
     }
 }
 
@@ -136,13 +136,13 @@ fn rest_before(bytes: &mut [u8], end: usize, run: &AppliedRun, space: &Space) ->
     address_before(bytes, score, to)
 }
 
-// Writes the beginning of the items of the runs of a slot with this action, at most 31 bytes, in the same
+// Writes the prefix of the items of the runs of a slot with this action, at most 31 bytes, in the same
 // way.
-fn front_before(bytes: &mut [u8], end: usize, action: Option<Action>) -> usize
+fn prefix_before(bytes: &mut [u8], end: usize, action: Option<Action>) -> usize
     requires room { 31 ≤ end }
     requires within { end ≤ length bytes.old }
     ensures start { result ≤ end }
-    ensures written { drop result bytes.new ≡ run_front action ++ drop end bytes.old }
+    ensures written { drop result bytes.new ≡ run_prefix action ++ drop end bytes.old }
 {
     match action {
         Some(action) => {
