@@ -2,8 +2,13 @@ pub mod Appending
 pub mod Rows
 pub mod Slots
 pub mod Sending
-pub mod Ascii
 pub mod JsonSlots
+pub mod Digits
+pub mod Escaping
+pub mod JsonMembers
+pub mod JsonItems
+pub mod JsonRuns
+pub mod JsonWhole
 pub mod Floats
 pub mod Readable
 pub mod BySlot

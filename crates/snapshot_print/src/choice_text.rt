@@ -45,7 +45,7 @@ pub(crate) fn print_choices(
 }
 
 // How many of the runs, from the first on, are of this slot.
-fn count_runs(runs: &[AppliedRun], slot: u8) -> usize
+pub(crate) fn count_runs(runs: &[AppliedRun], slot: u8) -> usize
     ensures count { result ≡ runs_of_slot slot runs.now }
     ensures within { result ≤ length runs.now }
 {

@@ -49,6 +49,32 @@ pub(crate) fn field_before(bytes: &mut [u8], end: usize, name: &[u8], value: u64
     text_before(bytes, digits, name)
 }
 
+// Writes a field's name and a number of 32 bits in the same way, with at most 10 digits.
+#[inline(always)]
+pub(crate) fn short_field_before(bytes: &mut [u8], end: usize, name: &[u8], value: u32) -> usize
+    requires digits { 20 ≤ end }
+    requires room { length name.now + 10 ≤ end }
+    requires within { end ≤ length bytes.old }
+    ensures start { result ≤ end }
+    ensures most { end ≤ result + (length name.now + 10) }
+    ensures written { drop result bytes.new ≡ name.now ++ (decimal value ++ drop end bytes.old) }
+{
+    let digits = short_number_before(bytes, end, value);
+    text_before(bytes, digits, name)
+}
+
+// Writes a number of 32 bits in the same way, with at most 10 digits.
+#[inline(always)]
+fn short_number_before(bytes: &mut [u8], end: usize, value: u32) -> usize
+    requires digits { 20 ≤ end }
+    requires within { end ≤ length bytes.old }
+    ensures start { result ≤ end }
+    ensures most { end ≤ result + 10 }
+    ensures written { drop result bytes.new ≡ decimal value ++ drop end bytes.old }
+{
+    number_before(bytes, end, u64::from(value))
+}
+
 // Writes a text in the same way.
 #[inline(always)]
 pub(crate) fn text_before(bytes: &mut [u8], end: usize, text: &[u8]) -> usize

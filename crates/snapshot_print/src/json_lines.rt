@@ -1,19 +1,25 @@
-// The lines of a report as JSON, each made by `serde_json` from the events of its object.
-ghost use Rattle.std.specs.Prelude.{◌≡◌, ◌++◌, codes, IfOk, OnOk};
+// The lines of a report as JSON, each an object. Rows and runs, whose lists can be long, are written
+// directly, and choices, set slots, answers and totals by `serde_json`.
+ghost use Rattle.std.specs.Prelude.{◌≡◌, ◌++◌, codes, string_bytes, IfOk, OnOk};
+ghost use Rattle.std.specs.Fmt.{decimal};
 ghost use Rattle.serde_json.specs.Events.{SendsValue};
 ghost use Rattle.serde_json.specs.Data.{string};
 ghost use Rattle.serde_json.specs.Written.{compact_text};
 ghost use Rattle.snapshot_print.specs.Commit.{commit_json, commit_text};
-ghost use Rattle.snapshot_print.specs.Json.{aggregate_json, answer_json, end_json, show_json};
+ghost use Rattle.snapshot_print.specs.Json.{answer_json, end_json};
 ghost use Rattle.snapshot_print.specs.Kept.{KeepsFront};
 ghost use Rattle.snapshot_print.specs.Lines.{aggregate_text, end_text, show_text};
+ghost use Rattle.snapshot_print.specs.Pieces.{served_part};
 ghost use Rattle.snapshot_print.specs.Printed.{printed_monitor};
 
 use crate::Form;
 use crate::commit::answer_string;
-use crate::fields::end_line;
-use crate::json_parts::{Choices, Runs, send_count, send_list, send_text};
-use crate::json_slots::send_slots;
+use crate::fields::{end_line, print_field, print_word};
+use crate::json_choices::print_choice_list;
+use crate::json_parts::{send_count, send_text};
+use crate::json_rows::print_row_list;
+use crate::json_runs::print_run_list;
+use crate::json_slots::print_slot_list;
 use crate::show::phase_name;
 use damon_core::{Changed, Monitor};
 use live_commit::CommitFault;
@@ -21,6 +27,7 @@ use serde::{Described, Serialize, Serializer};
 use std::alloc::{AllocError, Global};
 
 // Appends the line of a show.
+#[tactic(auto, using(crate::proofs::Appending::appends))]
 pub(crate) fn print_show_line(
     alloc: Global,
     out: &mut Vec<u8>,
@@ -30,11 +37,17 @@ pub(crate) fn print_show_line(
         ++ show_text Form.Json (printed_monitor monitor.now)) }
     ensures kept { KeepsFront out.old.items out.new.items }
 {
-    let line = show_line(alloc, monitor)?;
-    append_line(out, &line)
+    let phase = phase_name(monitor.phase()).as_bytes();
+    print_word(out, b"{\"kind\":\"show\",\"phase\":\"", phase)?;
+    out.extend_from_slice(b"\",\"rows\":")?;
+    print_row_list(out, monitor.rows().rows(), monitor.space())?;
+    out.extend_from_slice(b",\"slots\":")?;
+    print_slot_list(alloc, out, monitor.engine())?;
+    print_last_count(out, b",\"tick\":", monitor.ticks())
 }
 
 // Appends the line of the last aggregation.
+#[tactic(auto, using(crate::proofs::Appending::appends))]
 pub(crate) fn print_aggregate_line(
     alloc: Global,
     out: &mut Vec<u8>,
@@ -44,8 +57,37 @@ pub(crate) fn print_aggregate_line(
         ++ aggregate_text Form.Json (printed_monitor monitor.now)) }
     ensures kept { KeepsFront out.old.items out.new.items }
 {
-    let line = aggregate_line(alloc, monitor)?;
-    append_line(out, &line)
+    let report = monitor.report();
+    print_served(alloc, out, monitor)?;
+    out.extend_from_slice(b",\"kind\":\"aggregate\",\"rows\":")?;
+    print_row_list(out, report.rows(), monitor.space())?;
+    print_field(out, b",\"threshold\":", u64::from(report.threshold()))?;
+    print_last_count(out, b",\"tick\":", report.tick())
+}
+
+// Appends the beginning of the line of the last aggregation: what the slots that it served were applied
+// to, and what was chosen for them.
+#[tactic(auto, using(crate::proofs::Appending::appends))]
+fn print_served(alloc: Global, out: &mut Vec<u8>, monitor: &Monitor) -> Result<(), AllocError>
+    ensures ok { OnOk result (out.new.items ≡ out.old.items ++ served_part (printed_monitor monitor.now)) }
+    ensures kept { KeepsFront out.old.items out.new.items }
+{
+    let applied = monitor.report().applied();
+    out.extend_from_slice(b"{\"applied\":")?;
+    print_run_list(out, applied.runs(), monitor.engine(), monitor.space())?;
+    out.extend_from_slice(b",\"choices\":")?;
+    print_choice_list(alloc, out, applied.choices())
+}
+
+// Appends the last member of an object, a number, and the ends of the object and the line.
+#[tactic(auto, using(crate::proofs::Appending::appends))]
+fn print_last_count(out: &mut Vec<u8>, name: &[u8], count: u64) -> Result<(), AllocError>
+    ensures ok { OnOk result
+        (out.new.items ≡ out.old.items ++ (name.now ++ (decimal count ++ codes "}\n"))) }
+    ensures kept { KeepsFront out.old.items out.new.items }
+{
+    print_field(out, name, count)?;
+    out.extend_from_slice(b"}\n")
 }
 
 // Appends the line of a commit.
@@ -86,79 +128,6 @@ fn append_line(out: &mut Vec<u8>, line: &[u8]) -> Result<(), AllocError>
 {
     out.extend_from_slice(line)?;
     end_line(out)
-}
-
-// The object of a show.
-#[derive(Clone, Copy)]
-struct Show<'a> {
-    monitor: &'a Monitor,
-}
-
-impl Described for Show<'_> {
-    ghost writes = { λ s. SendsValue (show_json (printed_monitor s.monitor.now)) };
-}
-
-impl Serialize for Show<'_> {
-    fn serialize<S: Serializer>(&self, out: &mut S) -> Result<(), S::Error> {
-        let monitor = self.monitor;
-        out.begin_map(Some(5))?;
-        send_text(out, "kind", "show")?;
-        send_text(out, "phase", phase_name(monitor.phase()))?;
-        send_list(out, "rows", monitor.rows().rows(), monitor.space())?;
-        send_slots(out, monitor.engine())?;
-        send_count(out, "tick", monitor.ticks())?;
-        out.end_map()
-    }
-}
-
-// The text of the object of a show.
-fn show_line(alloc: Global, monitor: &Monitor) -> Result<Vec<u8>, AllocError>
-    ensures { IfOk result (λ v. v.items ≡ compact_text (show_json (printed_monitor monitor.now))) }
-{
-    match serde_json::to_vec(alloc, &Show { monitor }) {
-        Ok(line) => Ok(line),
-        Err(_) => Err(AllocError),
-    }
-}
-
-// The object of an aggregation.
-#[derive(Clone, Copy)]
-struct Aggregation<'a> {
-    monitor: &'a Monitor,
-}
-
-impl Described for Aggregation<'_> {
-    ghost writes = { λ a. SendsValue (aggregate_json (printed_monitor a.monitor.now)) };
-}
-
-impl Serialize for Aggregation<'_> {
-    fn serialize<S: Serializer>(&self, out: &mut S) -> Result<(), S::Error> {
-        let report = self.monitor.report();
-        let space = self.monitor.space();
-        let runs = Runs {
-            space,
-            engine: self.monitor.engine(),
-        };
-        out.begin_map(Some(6))?;
-        send_list(out, "applied", report.applied().runs(), &runs)?;
-        send_list(out, "choices", report.applied().choices(), &Choices)?;
-        send_text(out, "kind", "aggregate")?;
-        send_list(out, "rows", report.rows(), space)?;
-        send_count(out, "threshold", u64::from(report.threshold()))?;
-        send_count(out, "tick", report.tick())?;
-        out.end_map()
-    }
-}
-
-// The text of the object of the last aggregation.
-fn aggregate_line(alloc: Global, monitor: &Monitor) -> Result<Vec<u8>, AllocError>
-    ensures { IfOk result
-        (λ v. v.items ≡ compact_text (aggregate_json (printed_monitor monitor.now))) }
-{
-    match serde_json::to_vec(alloc, &Aggregation { monitor }) {
-        Ok(line) => Ok(line),
-        Err(_) => Err(AllocError),
-    }
 }
 
 // The object of a commit with this answer.

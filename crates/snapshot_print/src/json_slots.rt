@@ -1,30 +1,73 @@
-// The values of the set slots in a show as JSON.
-ghost use Rattle.std.specs.Prelude.{◌≡◌, ◌≤◌, ◌++◌, ℕ, List, [], ◌∷◌, codes, length, slice_index_or, OnOk};
+// The set slots in a show in JSON, made by `serde_json`.
+ghost use Rattle.std.specs.Prelude.{◌≡◌, ◌≤◌, ◌++◌, ℕ, List, [], ◌∷◌, length, slice_index_or, IfOk, OnOk};
 ghost use Rattle.std.specs.Option.{option_map_or};
 ghost use Rattle.serde.specs.Event.{Log as log};
 ghost use Rattle.serde_json.specs.Data.{Data};
 ghost use Rattle.serde_json.specs.Events.{SendsItems, SendsValue};
 ghost use Rattle.serde_json.specs.View.{items_of};
+ghost use Rattle.serde_json.specs.Written.{compact_text};
 ghost use Rattle.scheme_engine.specs.Slots.{empty_slot, view_of};
 ghost use Rattle.snapshot_print.specs.Json.{list_of, set_slot_json, set_slots_json, slot_json};
-ghost use Rattle.snapshot_print.specs.Sending.{SendsMember};
+ghost use Rattle.snapshot_print.specs.Kept.{KeepsFront};
 
 use crate::json_parts::{send_bool, send_count, send_text};
 use crate::slot_text::action_word;
 use damon_types::MAX_SLOT;
 use scheme_engine::{Engine, SLOTS, SlotView};
-use serde::Serializer;
+use serde::{Described, Serialize, Serializer};
+use std::alloc::{AllocError, Global};
 
-// Sends the member `slots` of a show: a value for each set slot, in slot order.
+// Appends the list of the set slots, in slot order.
+#[tactic(auto, using(crate::proofs::Appending::appends))]
+pub(crate) fn print_slot_list(
+    alloc: Global,
+    out: &mut Vec<u8>,
+    engine: &Engine,
+) -> Result<(), AllocError>
+    ensures ok { OnOk result (out.new.items ≡ out.old.items
+        ++ compact_text (list_of (set_slots_json 0 engine.now.slots))) }
+    ensures kept { KeepsFront out.old.items out.new.items }
+{
+    let list = slot_list(alloc, engine)?;
+    out.extend_from_slice(&list)
+}
+
+// The list of the set slots.
+#[derive(Clone, Copy)]
+struct SetSlots<'a> {
+    engine: &'a Engine,
+}
+
+impl Described for SetSlots<'_> {
+    ghost writes = { λ s. SendsValue (list_of (set_slots_json 0 s.engine.now.slots)) };
+}
+
+impl Serialize for SetSlots<'_> {
+    fn serialize<S: Serializer>(&self, out: &mut S) -> Result<(), S::Error> {
+        send_slots(out, self.engine)
+    }
+}
+
+// The text of the list of the set slots.
+fn slot_list(alloc: Global, engine: &Engine) -> Result<Vec<u8>, AllocError>
+    ensures { IfOk result
+        (λ v. v.items ≡ compact_text (list_of (set_slots_json 0 engine.now.slots))) }
+{
+    match serde_json::to_vec(alloc, &SetSlots { engine }) {
+        Ok(list) => Ok(list),
+        Err(_) => Err(AllocError),
+    }
+}
+
+// Sends a value for each set slot, in slot order.
 #[tactic(auto, using(crate::proofs::JsonSlots::set_slots_next))]
-pub(crate) fn send_slots<S: Serializer>(out: &mut S, engine: &Engine) -> Result<(), S::Error>
+fn send_slots<S: Serializer>(out: &mut S, engine: &Engine) -> Result<(), S::Error>
     ensures { OnOk result
-        (SendsMember (codes "slots") (list_of (set_slots_json 0 engine.now.slots))
+        (SendsValue (list_of (set_slots_json 0 engine.now.slots))
         (S.written out.old) (S.written out.new)) }
 {
     // For its clauses alone: the number of slots.
     let _cap = engine.cap();
-    out.key("slots")?;
     out.begin_seq(Some(count_set(engine)))?;
     for slot in 0..SLOTS {
         send_slot(out, slot as u8, engine)?;

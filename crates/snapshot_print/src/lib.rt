@@ -12,11 +12,19 @@ mod commit;
 mod fields;
 /// The forms of a report.
 mod form;
+/// The choices of an aggregation in JSON.
+mod json_choices;
 /// The lines of a report as JSON.
 mod json_lines;
-/// Members and values of the objects of a report in JSON.
+/// Parts of lists in JSON that are written directly.
+mod json_list;
+/// Members of the objects of a report in JSON.
 mod json_parts;
-/// The values of the set slots in a show as JSON.
+/// Rows in JSON.
+mod json_rows;
+/// Runs in JSON.
+mod json_runs;
+/// The set slots in a show in JSON.
 mod json_slots;
 /// Laws of the texts of a report.
 mod laws;

@@ -1,11 +1,11 @@
-// Lines that are appended in groups.
+// Lines, and items of lists in JSON, that are appended in groups.
 ghost use Rattle.std.specs.Prelude.{◌≡◌, ◌+◌, ◌*◌, ◌≤◌, ◌++◌, ℕ, List, length, drop, flat_map, OnOk};
 ghost use Rattle.std.specs.List.{AllByRecursion};
 ghost use Rattle.snapshot_print.specs.Kept.{KeepsFront};
 
 use std::alloc::AllocError;
 
-// Bytes enough for any line, which has at most 141.
+// Bytes enough for any line or item, which has at most 141.
 pub(crate) const LINE_ROOM: usize = 144;
 
 // The most lines that are appended at once.
@@ -14,7 +14,7 @@ const LINES_AT_ONCE: usize = 16;
 // Bytes enough for a group of lines.
 const GROUP_ROOM: usize = LINE_ROOM * LINES_AT_ONCE;
 
-// What writes a line for each item, of at most 141 bytes.
+// What writes for each item a line, or its text in a list in JSON, of at most 141 bytes.
 pub(crate) trait LineOf<T> {
     // The line of an item.
     ghost line: { Self → T → List ℕ };

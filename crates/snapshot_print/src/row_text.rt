@@ -87,7 +87,7 @@ pub(crate) fn pages_before(
 
 // Writes a field's name and an address.
 #[inline(always)]
-fn address_field_before(bytes: &mut [u8], end: usize, name: &[u8], value: u64) -> usize
+pub(crate) fn address_field_before(bytes: &mut [u8], end: usize, name: &[u8], value: u64) -> usize
     requires room { length name.now + 18 ≤ end }
     requires within { end ≤ length bytes.old }
     ensures start { result ≤ end }

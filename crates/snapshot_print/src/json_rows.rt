@@ -1,0 +1,68 @@
+// Rows in JSON.
+ghost use Rattle.std.specs.Prelude.{◌≡◌, ◌+◌, ◌≤◌, ◌++◌, length, drop, OnOk};
+ghost use Rattle.std.specs.List.{AllByRecursion};
+ghost use Rattle.serde_json.specs.Written.{compact_text};
+ghost use Rattle.damon_types.specs.Space.{pages_of};
+ghost use Rattle.snapshot_print.specs.Json.{row_json, rows_json};
+ghost use Rattle.snapshot_print.specs.Kept.{KeepsFront};
+ghost use Rattle.snapshot_print.specs.Pieces.{piece};
+
+use crate::fields::short_field_before;
+use crate::json_list::{addresses, close_list, start_before};
+use crate::line_groups::{LineOf, print_lines};
+use crate::row_text::address_field_before;
+use damon_types::{Row, Space};
+use std::alloc::AllocError;
+
+// Appends the list of rows. Each row has a page, and its pages are pages of the space.
+#[tactic(auto, using(crate::proofs::Appending::appends))]
+pub(crate) fn print_row_list(
+    out: &mut Vec<u8>,
+    rows: &[Row],
+    space: &Space,
+) -> Result<(), AllocError>
+    requires { AllByRecursion (λ r. (1 ≤ r.pages) × (r.start + r.pages ≤ pages_of space.now)) rows.now }
+    ensures ok { OnOk result
+        (out.new.items ≡ out.old.items ++ compact_text (rows_json space.now rows.now)) }
+    ensures kept { KeepsFront out.old.items out.new.items }
+{
+    let start = out.len();
+    print_lines(out, rows, &RowItems { space })?;
+    close_list(out, start)
+}
+
+// The items of a list of rows.
+#[derive(Clone, Copy)]
+struct RowItems<'a> {
+    space: &'a Space,
+}
+
+impl LineOf<Row> for RowItems<'_> {
+    ghost line = { λ items r. piece (row_json items.space.now r) };
+
+    ghost can_write = { λ items r. (1 ≤ r.pages) × (r.start + r.pages ≤ pages_of items.space.now) };
+
+    fn line_before(&self, bytes: &mut [u8], end: usize, row: &Row) -> usize {
+        row_before(bytes, end, row, self.space)
+    }
+}
+
+// Writes a comma and the object of a row, at most 132 bytes, so that they end right before index `end`,
+// and returns the index where they begin. A number wants room for 20 digits, though it has fewer here.
+fn row_before(bytes: &mut [u8], end: usize, row: &Row, space: &Space) -> usize
+    requires some { 1 ≤ row.now.pages }
+    requires inside { row.now.start + row.now.pages ≤ pages_of space.now }
+    requires room { 134 ≤ end }
+    requires within { end ≤ length bytes.old }
+    ensures start { result ≤ end }
+    ensures most { end ≤ result + 132 }
+    ensures written { drop result bytes.new
+        ≡ piece (row_json space.now row.now) ++ drop end bytes.old }
+{
+    let (from, to) = addresses(row.start, row.pages, space);
+    let first = start_before(bytes, end, from, row.target);
+    let last = short_field_before(bytes, first, b"\",\"last\":", row.last);
+    let after = address_field_before(bytes, last, b",\"end\":\"", to);
+    let count = short_field_before(bytes, after, b",\"count\":", row.count);
+    short_field_before(bytes, count, b",{\"age\":", row.age)
+}
