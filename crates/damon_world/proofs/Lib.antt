@@ -6,3 +6,4 @@ pub mod Touching
 pub mod Committing
 pub mod Advancing
 pub mod Passing
+pub mod Clearing

@@ -1,8 +1,8 @@
 ghost use Rattle.std.specs.Prelude.{◌≡◌, ◌+◌, ◌-◌, ◌*◌, ◌/◌, ◌^◌, ◌≤◌, ◌<◌, ◌++◌, ◌&&◌, ℕ, true, false, nat_le, nat_lt, length, replicate, slice_index, slice_index_or, slice_set, if◌then◌else◌, IfOk, vec_capacity};
-ghost use Rattle.damon_world.specs.Words.{Puts, low_in, touched_word};
+ghost use Rattle.damon_world.specs.Words.{cleared_words, low_in, touched_word};
 
 use damon_types::append_reserved;
-use sampler::Marks;
+use sampler::{Marks, Picks};
 use std::alloc::{AllocError, Global};
 use std::marker::Model;
 
@@ -91,19 +91,24 @@ impl PlainWords {
         sweep_blocks(&mut self.lows, &mut self.swept, self.pages, from, to);
     }
 
-    /// Clears a page in this pass, which is below 2^47.
-    pub fn clear(&mut self, page: u32, pass: u64)
-        requires page { page < length self.old }
+    /// Clears in this pass, which is below 2^47, the pages of the picks from `from` to before `to`.
+    pub fn clear(&mut self, picks: &Picks, from: u32, to: u32, pass: u64)
+        requires order { from ≤ to }
+        requires within { to ≤ length picks.now.pages }
+        requires pages { (k : ℕ) → k < to → slice_index picks.now.pages k < length self.old }
         requires pass { pass < 2 ^ 47 }
-        ensures { self.new ≡ slice_set self.old page (2 * pass) }
+        ensures { self.new ≡ cleared_words picks.now.pages from (to - from) (2 * pass) self.old }
     {
         let word = 2 * pass;
-        settle(&mut self.lows, &mut self.swept, self.pages, page);
-        put_low(&mut self.lows, page, (word % LOWS) as u16);
-        put_high(
+        let pages = self.pages;
+        settle_picks(&mut self.lows, &mut self.swept, pages, picks, from, to);
+        put_lows(&mut self.lows, picks, from, to, (word % LOWS) as u16);
+        put_highs_if_any(
             &mut self.highs,
-            self.pages as usize,
-            page,
+            pages,
+            picks,
+            from,
+            to,
             (word / LOWS) as u32,
         );
     }
@@ -120,8 +125,7 @@ impl Marks for PlainWords {
     }
 }
 
-// Stores the lowest bits of all pages, and passes the mark of a page's block on to those of its pages, if
-// the block is swept. No page's word changes.
+// Stores the lowest bits of all pages, and settles the block of one. No page's word changes.
 fn settle(lows: &mut Vec<u16>, swept: &mut [bool], pages: u32, page: u32)
     requires page { page < pages }
     requires blocks { pages / 64 < length swept.old }
@@ -134,7 +138,88 @@ fn settle(lows: &mut Vec<u16>, swept: &mut [bool], pages: u32, page: u32)
     ensures room { vec_capacity lows.old ≤ vec_capacity lows.new }
 {
     grow(lows, pages);
-    let block = page / BLOCK;
+    settle_block(lows, swept, pages, page / BLOCK);
+}
+
+// Stores the lowest bits of all pages, and settles the blocks of the pages of the picks from `from` to
+// before `to`. No page's word changes.
+fn settle_picks(
+    lows: &mut Vec<u16>,
+    swept: &mut [bool],
+    pages: u32,
+    picks: &Picks,
+    from: u32,
+    to: u32,
+)
+    requires order { from ≤ to }
+    requires within { to ≤ length picks.now.pages }
+    requires pages { (k : ℕ) → k < to → slice_index picks.now.pages k < pages }
+    requires blocks { pages / 64 < length swept.old }
+    requires room { pages + 64 ≤ vec_capacity lows.old }
+    ensures same { (p : ℕ) → p < pages
+        → low_in swept.new lows.new.items p ≡ low_in swept.old lows.old.items p }
+    ensures settled { (k : ℕ) → from ≤ k → k < to
+        → slice_index_or swept.new (slice_index picks.now.pages k / 64) false ≡ false }
+    ensures each { pages ≤ length lows.new.items }
+    ensures blocks { length swept.new ≡ length swept.old }
+    ensures room { vec_capacity lows.old ≤ vec_capacity lows.new }
+{
+    grow(lows, pages);
+    if is_any_swept(swept, picks, from, to) {
+        settle_each(lows, swept, pages, picks, from, to);
+    }
+}
+
+// Whether a page of the picks from `from` to before `to` is in a swept block. In most passes none is, and
+// this short loop takes half of the time of the one that settles.
+#[inline(never)]
+fn is_any_swept(swept: &[bool], picks: &Picks, from: u32, to: u32) -> bool
+    requires order { from ≤ to }
+    requires within { to ≤ length picks.now.pages }
+    requires blocks { (k : ℕ) → k < to → slice_index picks.now.pages k / 64 < length swept.now }
+    ensures { result ≡ false → (k : ℕ) → from ≤ k → k < to
+        → slice_index_or swept.now (slice_index picks.now.pages k / 64) false ≡ false }
+{
+    let mut any = false;
+    for next in from..to {
+        any = any | swept[(picks.page(next) / BLOCK) as usize];
+    }
+    any
+}
+
+// Settles the blocks of the pages of the picks from `from` to before `to`. No page's word changes.
+#[inline(never)]
+fn settle_each(lows: &mut [u16], swept: &mut [bool], pages: u32, picks: &Picks, from: u32, to: u32)
+    requires order { from ≤ to }
+    requires within { to ≤ length picks.now.pages }
+    requires pages { (k : ℕ) → k < to → slice_index picks.now.pages k < pages }
+    requires blocks { pages / 64 < length swept.old }
+    requires each { pages ≤ length lows.old }
+    ensures same { (p : ℕ) → p < pages
+        → low_in swept.new lows.new p ≡ low_in swept.old lows.old p }
+    ensures settled { (k : ℕ) → from ≤ k → k < to
+        → slice_index_or swept.new (slice_index picks.now.pages k / 64) false ≡ false }
+    ensures len { length lows.new ≡ length lows.old }
+    ensures blocks { length swept.new ≡ length swept.old }
+{
+    for next in from..to {
+        settle_block(lows, swept, pages, picks.page(next) / BLOCK);
+    }
+}
+
+// If a block is swept, passes its mark on to the lowest bits of its pages. No page's word changes.
+fn settle_block(lows: &mut [u16], swept: &mut [bool], pages: u32, block: u32)
+    requires block { 64 * block < pages }
+    requires blocks { pages / 64 < length swept.old }
+    requires each { pages ≤ length lows.old }
+    ensures same { (p : ℕ) → p < pages
+        → low_in swept.new lows.new p ≡ low_in swept.old lows.old p }
+    ensures settled { slice_index_or swept.new block false ≡ false }
+    ensures others { (b : ℕ) → slice_index_or swept.old b false ≡ false
+        → slice_index_or swept.new b false ≡ false }
+    ensures len { length lows.new ≡ length lows.old }
+    ensures blocks { length swept.new ≡ length swept.old }
+{
     if swept[block as usize] {
         let start = block * BLOCK;
         touch_all(lows, start, start + BLOCK.min(pages - start));
@@ -220,12 +305,28 @@ fn low_at(lows: &[u16], page: u32) -> u16
     }
 }
 
+// Stores these lowest bits for the pages of the picks from `from` to before `to`.
+#[inline(never)]
+fn put_lows(lows: &mut [u16], picks: &Picks, from: u32, to: u32, low: u16)
+    requires order { from ≤ to }
+    requires within { to ≤ length picks.now.pages }
+    requires pages { (k : ℕ) → k < to → slice_index picks.now.pages k < length lows.old }
+    ensures { lows.new ≡ cleared_words picks.now.pages from (to - from) low lows.old }
+{
+    for next in from..to {
+        put_low(lows, picks.page(next), low);
+    }
+}
+
 // Stores the lowest bits of a page's word.
 fn put_low(lows: &mut [u16], page: u32, low: u16)
     requires { page < length lows.old }
     ensures { lows.new ≡ slice_set lows.old page low }
 {
-    lows[page as usize] = low;
+    // Stores wait for memory one after another, and loads at once. So the line is loaded first.
+    if lows[page as usize] != low {
+        lows[page as usize] = low;
+    }
 }
 
 // The lowest bits of a page's word after a touch: the last one is 1.
@@ -261,16 +362,33 @@ fn high_at(highs: &[u32], page: u32) -> u32
     }
 }
 
-// Stores the bits above the lowest, unless none are stored and these are 0.
-fn put_high(highs: &mut Vec<u32>, pages: usize, page: u32, high: u32)
-    requires page { page < pages }
+// Stores these bits above the lowest for the pages of the picks from `from` to before `to`, unless none are
+// stored and these are 0.
+fn put_highs_if_any(highs: &mut Vec<u32>, pages: u32, picks: &Picks, from: u32, to: u32, high: u32)
+    requires order { from ≤ to }
+    requires within { to ≤ length picks.now.pages }
+    requires pages { (k : ℕ) → k < to → slice_index picks.now.pages k < pages }
     requires room { pages ≤ vec_capacity highs.old }
-    ensures puts { Puts highs.old.items highs.new.items page high }
+    ensures puts { (p : ℕ) → slice_index highs.new.items p
+        ≡ slice_index (cleared_words picks.now.pages from (to - from) high
+        (highs.old.items ++ replicate (pages - length highs.old.items) 0)) p }
     ensures capacity { vec_capacity highs.new ≡ vec_capacity highs.old }
 {
     if high > 0 || !highs.is_empty() {
-        fill_up(highs, pages, 0);
-        highs[page as usize] = high;
+        fill_up(highs, pages as usize, 0);
+        put_highs(highs, picks, from, to, high);
+    }
+}
+
+// Stores these bits above the lowest for the pages of the picks from `from` to before `to`.
+fn put_highs(highs: &mut [u32], picks: &Picks, from: u32, to: u32, high: u32)
+    requires order { from ≤ to }
+    requires within { to ≤ length picks.now.pages }
+    requires pages { (k : ℕ) → k < to → slice_index picks.now.pages k < length highs.old }
+    ensures { highs.new ≡ cleared_words picks.now.pages from (to - from) high highs.old }
+{
+    for next in from..to {
+        highs[picks.page(next) as usize] = high;
     }
 }
 

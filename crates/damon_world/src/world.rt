@@ -285,9 +285,7 @@ fn at_most(count: u32, most: u64) -> u32
     u64::from(count).min(most) as u32
 }
 
-// Clears the words of the picks of the pass under way from pick `from` to before pick `to`. It is kept
-// apart, so that its loop has the registers.
-#[inline(never)]
+// Clears the words of the picks of the pass under way from pick `from` to before pick `to`.
 fn clear_words(monitor: &Monitor, from: u32, to: u32, words: &mut PlainWords)
     requires pass { IsInPass monitor.now.core.phase }
     requires order { from ≤ to }
@@ -299,9 +297,7 @@ fn clear_words(monitor: &Monitor, from: u32, to: u32, words: &mut PlainWords)
         (2 * (monitor.now.core.ticks + 1)) words.old }
 {
     let pass = monitor.ticks() + 1;
-    for next in from..to {
-        words.clear(monitor.pick(next), pass);
-    }
+    words.clear(monitor.picks(), from, to, pass);
 }
 
 // Replaces the words by `count` random ones.

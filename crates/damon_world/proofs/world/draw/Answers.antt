@@ -1,4 +1,4 @@
-use Rattle.std.proofs.Common.{◌≡◌, ℕ, suc, ◌+◌, ◌*◌, ◌/◌, List, [], ◌∷◌, ◌++◌, length, length-append, ap, sym, ◌∙◌, arith}
+use Rattle.std.proofs.Common.{◌≡◌, ℕ, ◌+◌, ◌*◌, ◌/◌, [], ◌∷◌, ◌++◌, length, length-append, ap, sym, ◌∙◌, arith}
 use Rattle.rand_core.specs.Stream.{Stream}
 use Rattle.damon_world.specs.Draws.{drawn, drawn_rest}
 use Rattle.damon_world.proofs.Drawing.{drawn-append, drawn-one, drawn_rest-append, drawn_rest-one, length-drawn}

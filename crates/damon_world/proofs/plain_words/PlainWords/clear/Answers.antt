@@ -1,24 +1,27 @@
-use Rattle.std.proofs.Common.{◌≡◌, ℕ, ◌*◌, ◌%◌, ◌/◌, ◌<◌, length, set, length-set, ap, ◌∙◌, arith}
+use Rattle.std.proofs.Common.{◌≡◌, ℕ, ◌*◌, ◌%◌, ◌/◌, ◌<◌, ◌≤◌, ◌+◌, ◌-◌, false, length, ap, ◌∙◌, arith}
+use Rattle.std.specs.Prelude.{slice_index, slice_index_or}
 use Rattle.std.specs.Vec.{with_items}
 use Rattle.std.proofs.lemmas.List.{with_items_is}
-use Rattle.damon_world.specs.Words.{low_in, word_in, words_in}
-use Rattle.damon_world.proofs.Parts.{length_view, word_of_parts, stored_set}
+use Rattle.damon_world.specs.Words.{cleared_words, low_in, word_in, words_in}
+use Rattle.damon_world.proofs.Parts.{length_view, word_of_parts}
+use Rattle.damon_world.proofs.Advancing.{length-cleared_words}
+use Rattle.damon_world.proofs.Clearing.{stored_cleared}
 use Rattle.damon_world.proofs.plain_words.PlainWords.clear.Goals as goal
 
-pub settle-requires-clause-page : goal.settle-requires-clause-page
-settle-requires-clause-page c =
+pub settle_picks-requires-clause-pages : goal.settle_picks-requires-clause-pages
+settle_picks-requires-clause-pages c k below =
     let w = c.self.inside in
-    omega (arith, c.requires.page, ap length c.self.view_is, length_view (word_in w.swept.items w.lows.items w.highs.items) w.pages)
+    omega (arith, c.requires.pages k below, ap length c.self.view_is, length_view (word_in w.swept.items w.lows.items w.highs.items) w.pages)
 
-pub put_low-requires : goal.put_low-requires
-put_low-requires c =
+pub put_lows-requires-clause-pages : goal.put_lows-requires-clause-pages
+put_lows-requires-clause-pages c k below =
     let w = c.self.inside in
-    omega (arith, c.settle.ensures.each, ap length c.deref_mut-2.ensures.value, c.requires.page, ap length c.self.view_is, length_view (word_in w.swept.items w.lows.items w.highs.items) w.pages)
+    omega (arith, c.settle_picks.ensures.each, ap length c.deref_mut-2.ensures.value, c.requires.pages k below, ap length c.self.view_is, length_view (word_in w.swept.items w.lows.items w.highs.items) w.pages)
 
-pub put_high-requires-clause-page : goal.put_high-requires-clause-page
-put_high-requires-clause-page c =
+pub put_highs_if_any-requires-clause-pages : goal.put_highs_if_any-requires-clause-pages
+put_highs_if_any-requires-clause-pages c k below =
     let w = c.self.inside in
-    omega (arith, c.requires.page, ap length c.self.view_is, length_view (word_in w.swept.items w.lows.items w.highs.items) w.pages)
+    omega (arith, c.requires.pages k below, ap length c.self.view_is, length_view (word_in w.swept.items w.lows.items w.highs.items) w.pages)
 
 pub returns : goal.returns
 returns c =
@@ -26,22 +29,25 @@ returns c =
     let s = w.swept.items in
     let ls = w.lows.items in
     let hs = w.highs.items in
-    let p = c.args.page in
+    let picks = c.args.picks.now.pages in
+    let from = c.args.from in
+    let n = c.args.to - from in
     let word = 2 * c.args.pass in
-    let sw = c.settle.new.swept in
-    let gr = c.settle.new.lows.items in
-    let put = c.put_low.new.lows in
-    let above = c.put_high.new.highs.items in
+    let sw = c.settle_picks.new.swept in
+    let gr = c.settle_picks.new.lows.items in
+    let put = c.put_lows.new.lows in
+    let above = c.put_highs_if_any.new.highs.items in
     let old = words_in w.pages s ls hs in
-    let here : p < w.pages = omega (arith, c.requires.page, ap length c.self.view_is, length_view (word_in s ls hs) w.pages) in
-    let same : (q : ℕ) → q < w.pages → low_in sw gr q ≡ low_in s ls q = λ q below. (c.settle.ensures.same q below ∙ ap (λ xs. low_in xs ls q) c.deref_mut.ensures.value) in
-    let marks = with_items_is w.swept sw (omega (arith, c.settle.ensures.blocks, ap length c.deref_mut.ensures.value)) in
-    let low : put ≡ set gr p (word % 65536) = c.put_low.ensures ∙ ap (λ xs. set xs p (word % 65536)) c.deref_mut-2.ensures.value in
-    let len : length put ≡ length gr = ap length low ∙ length-set gr p (word % 65536) in
-    let lows = with_items_is c.settle.new.lows put (omega (arith, len)) in
+    let to : from + n ≡ c.args.to = omega (arith, c.requires.order) in
+    let off : (k : ℕ) → from ≤ k → k < from + n → slice_index_or sw (slice_index picks k / 64) false ≡ false = λ k after before. c.settle_picks.ensures.settled k after (omega (arith, to)) in
+    let same : (q : ℕ) → q < w.pages → low_in sw gr q ≡ low_in s ls q = λ q below. (c.settle_picks.ensures.same q below ∙ ap (λ xs. low_in xs ls q) c.deref_mut.ensures.value) in
+    let marks = with_items_is w.swept sw (omega (arith, c.settle_picks.ensures.blocks, ap length c.deref_mut.ensures.value)) in
+    let low : put ≡ cleared_words picks from n (word % 65536) gr = c.put_lows.ensures ∙ ap (λ xs. cleared_words picks from n (word % 65536) xs) c.deref_mut-2.ensures.value in
+    let len : length put ≡ length gr = ap length low ∙ length-cleared_words picks from n (word % 65536) gr in
+    let lows = with_items_is c.settle_picks.new.lows put (omega (arith, len)) in
     ap (λ xs. words_in w.pages (with_items w.swept sw).items xs above) lows
     ∙ ap (λ xs. words_in w.pages xs put above) marks
     ∙ ap (λ xs. words_in w.pages sw xs above) low
-    ∙ stored_set s sw ls gr hs above w.pages p (word % 65536) (word / 65536) here c.settle.ensures.each c.settle.ensures.settled same c.put_high.ensures.puts
-    ∙ ap (λ n. set old p n) (word_of_parts word)
-    ∙ ap (λ ws. set ws p word) c.self.view_is
+    ∙ stored_cleared picks from n s sw ls gr hs above w.pages (word % 65536) (word / 65536) c.settle_picks.ensures.each off same c.put_highs_if_any.ensures.puts
+    ∙ ap (λ x. cleared_words picks from n x old) (word_of_parts word)
+    ∙ ap (cleared_words picks from n word) c.self.view_is
