@@ -32,8 +32,6 @@ mod reader;
 mod script;
 /// Appending a setup and a commit.
 mod spelling;
-#[cfg(test)]
-mod tests;
 /// Touch lines in one pass.
 mod touches;
 /// The words of a line.

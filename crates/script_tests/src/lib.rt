@@ -1,0 +1,10 @@
+//! Tests of the readers of scripts. They stand in a crate of their own, since a crate with tests is proved
+//! twice.
+#![tactic(auto)]
+
+/// Live scripts.
+#[cfg(test)]
+mod live;
+/// Scripts.
+#[cfg(test)]
+mod scripts;
