@@ -35,6 +35,7 @@ CLAIMS = [
     ("the headline, for events: `Bound` and `ServesBest` of each state that they lead to", MACHINE, {}),
     ("the headline, for a script: `IsBoundAlong` and `ChoosesBestAlong`", ["IsBoundAlong", "ChoosesBestAlong"], {}),
     ("which texts are scripts: `IsText`", ["IsText"], {}),
+    ("which texts are live scripts: `IsLiveText`", ["IsLiveText"], {}),
     ("clause `ok` of `replay_main`: what was read, and what was written", OK, {}),
     ("the same, with the grammar as `IsText` in place of `script_of`", OK, {"script_of": "IsText"}),
     ("all clauses of `replay_main`", ["damon_app::replay_main"], {}),

@@ -133,6 +133,12 @@ module _ {R : Type 0} (stream : R → Stream) where
       es : List Event
       es = touches page count
 
+  -- the next command, which is a touch of one page
+  pub touch_made : (a b : PlayerView R) (text : List ℕ) (page : ℕ) → is_done a.part a.world.monitor.core.phase ≡ true → a.later ≡ part.Touches page 1 ∷ b.later → b.part ≡ part.Touches 0 0 → b.form ≡ a.form → b.world.source ≡ a.world.source → Makes StandsFor a.world b.world (touches page 1) → GoesOn stream a b text text
+  touch_made a b text page done later new form source makes =
+      let m : PlayerView R = record { world = a.world; form = a.form; part = part.Touches page 1; later = b.later } in
+      on-then a m b text text text (next_begins a m text done refl refl later) (touches_made m b text page 1 refl new refl form source makes)
+
   first_goes : (n : ℕ) (stop : Bool) → ((n == 0) || stop) ≡ false → stop ≡ false
   first_goes zero stop e = absurd (cc e)
   first_goes (suc n) stop e = ap (λ b. b || stop) (sym (suc_not_zero n)) ∙ e

@@ -1,8 +1,8 @@
-ghost use Rattle.std.specs.Prelude.{◌≡◌, ◌≢◌, ◌+◌, ◌<◌, ◌≤◌, ◌^◌, ◌∷◌, ◌++◌, [], Ok, IfOk, OnErr, OnOk, true, false, length, map, ℕ, List, vec_len};
+ghost use Rattle.std.specs.Prelude.{◌≡◌, ◌≢◌, ◌+◌, ◌<◌, ◌≤◌, ◌^◌, ◌∷◌, ◌++◌, [], Ok, Some, IfOk, IfSome, OnErr, OnOk, true, false, length, map, ℕ, List, vec_len};
 ghost use Rattle.rand_core.specs.Steps.{stream_of, steps_u32};
 ghost use Rattle.rand_pcg.specs.Pcg.{pcg32};
 ghost use Rattle.damon_types.specs.Space.{pages_of};
-ghost use Rattle.damon_control.specs.Command.{command_value, work_of};
+ghost use Rattle.damon_control.specs.Command.{Touch as TouchCommand, command_value, work_of};
 ghost use Rattle.damon_control.specs.Limits.{EachIsWithin};
 ghost use Rattle.damon_control.specs.ScriptView.{said_by};
 ghost use Rattle.damon_core.specs.Commit.{commit_answer};
@@ -21,7 +21,7 @@ ghost use Rattle.script_run.specs.Way.{IsOnItsWay};
 
 use crate::part::{Part, Start, Until, is_done, start_of};
 use crate::random::random_words;
-use damon_control::{Commands, MAX_WORK, Script};
+use damon_control::{Command, Commands, MAX_WORK, Script};
 use damon_core::Monitor;
 use damon_world::World;
 use live_commit::{Commit, Phase};
@@ -109,10 +109,41 @@ impl<R: Rng + Drop> Player<R> {
     {
         let phase = self.world.monitor().phase();
         if is_done(self.part, phase) {
+            self.touch_on();
             return self.begin_next(alloc, out);
         }
         self.play(alloc, out, phase)?;
         Ok(true)
+    }
+
+    // Makes the touches of single pages that come next. Scripts have many of them in a row.
+    fn touch_on(&mut self)
+        requires { is_done self.old.part self.old.world.monitor.core.phase ≡ true }
+        ensures on { (text : List ℕ) → GoesOn R.stream self.old self.new text text }
+        ensures done { is_done self.new.part self.new.world.monitor.core.phase ≡ true }
+        ensures less { left_moves self.new ≤ left_moves self.old }
+    {
+        'touches: while self.touch_next() {}
+    }
+
+    // Makes the next command if it is a touch of a single page.
+    fn touch_next(&mut self) -> bool
+        requires { is_done self.old.part self.old.world.monitor.core.phase ≡ true }
+        ensures on { (text : List ℕ) → GoesOn R.stream self.old self.new text text }
+        ensures done { is_done self.new.part self.new.world.monitor.core.phase ≡ true }
+        ensures less { result ≡ true → left_moves self.new < left_moves self.old }
+        ensures same { result ≡ false → self.new ≡ self.old }
+    {
+        if self.begun >= self.commands.len() {
+            return false;
+        }
+        let Some(page) = touched_page(self.commands.get(self.begun)) else {
+            return false;
+        };
+        self.begun += 1;
+        self.world.touch(page);
+        self.part = Part::NOTHING;
+        true
     }
 
     // Makes the next events of the command under way, of which some are left. The phase is the monitor's.
@@ -242,6 +273,16 @@ impl<R: Rng + Drop> Player<R> {
         ensures err { OnErr result (out.new.items ≡ out.old.items) }
     {
         print_end(alloc, out, self.form, self.world.monitor())
+    }
+}
+
+// The page that a command touches, if it is a touch of a single page.
+fn touched_page(command: &Command) -> Option<u32>
+    ensures { IfSome result (λ page. command_value command.now ≡ TouchCommand page) }
+{
+    match command {
+        Command::Touch { page } => Some(*page),
+        _ => None,
     }
 }
 

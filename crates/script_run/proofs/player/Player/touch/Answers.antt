@@ -1,4 +1,4 @@
-use Rattle.std.proofs.Common.{◌≡◌, ◌+◌, refl, sym, ap, subst, ◌∙◌, arith}
+use Rattle.std.proofs.Common.{◌≡◌, refl, sym, ap, subst, ◌∙◌}
 use Rattle.damon_types.specs.Space.{pages_of}
 use Rattle.damon_core.specs.Makes.{Makes}
 use Rattle.damon_world.specs.Stands.{StandsFor}
