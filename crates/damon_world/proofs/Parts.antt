@@ -48,18 +48,6 @@ index_with_zeros [] n q = index_of_zeros n q
 index_with_zeros (x ∷ xs) n zero = refl
 index_with_zeros (x ∷ xs) n (suc q) = index_with_zeros xs n q
 
--- a number is put behind which there are zeros
-pub puts_filled : (xs ys : List ℕ) (n p x : ℕ) → ys ≡ xs ++ replicate n 0 → p < length ys → Puts xs (set ys p x) p x
-puts_filled xs ys n p x is here q = elim (cases_eq q p) [
-  | inl same ↦
-      let test : (q == p) ≡ true = grind (arith, nat_tests) in
-      subst (λ j. slice_index (set ys p x) j ≡ x) (sym same) (get_or-set_same ys p x 0 here) ∙ sym (ap (λ b. if b then x else slice_index xs q) test)
-  | inr other ↦
-      let test : (q == p) ≡ false = grind (arith, nat_tests) in
-      let now : slice_index (set ys p x) q ≡ slice_index ys q = rw get_or-set_other refl in
-      now ∙ ap (λ zs. slice_index zs q) is ∙ index_with_zeros xs n q ∙ sym (ap (λ b. if b then x else slice_index xs q) test)
-]
-
 -- numbers with zeros behind them, up to so many
 pub filled_up : (xs : List ℕ) (n : ℕ) → n ≤ length (xs ++ replicate (n - length xs) 0)
 filled_up xs n = omega (arith, length-append xs (replicate (n - length xs) 0), length-replicate {A = ℕ} (n - length xs) 0)

@@ -99,6 +99,7 @@ impl PlainWords {
         requires pass { pass < 2 ^ 47 }
         ensures { self.new ≡ cleared_words picks.now.pages from (to - from) (2 * pass) self.old }
     {
+        // Three short loops over memory: of each, more loads overlap than of one long loop.
         let word = 2 * pass;
         let pages = self.pages;
         settle_picks(&mut self.lows, &mut self.swept, pages, picks, from, to);
@@ -170,8 +171,8 @@ fn settle_picks(
     }
 }
 
-// Whether a page of the picks from `from` to before `to` is in a swept block. In most passes none is, and
-// this short loop takes half of the time of the one that settles.
+// Whether a page of the picks from `from` to before `to` is in a swept block. Where none is, this short loop
+// takes half of the time of the one that settles.
 #[inline(never)]
 fn is_any_swept(swept: &[bool], picks: &Picks, from: u32, to: u32) -> bool
     requires order { from ≤ to }
@@ -207,7 +208,7 @@ fn settle_each(lows: &mut [u16], swept: &mut [bool], pages: u32, picks: &Picks, 
     }
 }
 
-// If a block is swept, passes its mark on to the lowest bits of its pages. No page's word changes.
+// Settles a block: if it is swept, passes its mark on to the lowest bits of its pages. No page's word changes.
 fn settle_block(lows: &mut [u16], swept: &mut [bool], pages: u32, block: u32)
     requires block { 64 * block < pages }
     requires blocks { pages / 64 < length swept.old }
@@ -323,7 +324,8 @@ fn put_low(lows: &mut [u16], page: u32, low: u16)
     requires { page < length lows.old }
     ensures { lows.new ≡ slice_set lows.old page low }
 {
-    // Stores wait for memory one after another, and loads at once. So the line is loaded first.
+    // A store that misses the nearest caches holds up the stores behind it; loads overlap. So the word is
+    // loaded first.
     if lows[page as usize] != low {
         lows[page as usize] = low;
     }
