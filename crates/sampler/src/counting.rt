@@ -14,7 +14,7 @@ pub fn observe(regions: &mut Regions, picks: &Picks)
     ensures { regions.new ≡ record regions.old { rows = raised picks.now.bits regions.old.rows } }
 {
     // A pass without a hit changes no row, and to see that takes one look at the bits.
-    if picks.hits() > 0 {
+    if picks.any_hit() {
         raise_rows(regions, picks);
     }
 }

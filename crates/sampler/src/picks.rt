@@ -1,5 +1,5 @@
-ghost use Rattle.std.specs.Prelude.{◌≡◌, ◌+◌, ◌%◌, ◌^◌, ◌≤◌, ◌<◌, [], false, count_by, length, slice_get, slice_set, replicate, IfOk, vec_len, vec_capacity};
-ghost use Rattle.std.specs.List.{AllByRecursion};
+ghost use Rattle.std.specs.Prelude.{◌≡◌, ◌+◌, ◌%◌, ◌^◌, ◌≤◌, ◌<◌, [], false, length, slice_get, slice_set, replicate, IfOk, vec_len, vec_capacity};
+ghost use Rattle.std.specs.List.{AllByRecursion, list_any};
 ghost use Rattle.sampler.specs.Pick.{PickList, picks_of};
 ghost use Rattle.sampler.specs.Loaded.{loaded_bits, loaded_hits};
 
@@ -88,11 +88,11 @@ impl Picks {
         self.bits[k as usize]
     }
 
-    /// How many checks were hits.
-    pub fn hits(&self) -> usize
-        ensures { result ≡ count_by (λ hit. hit) self.now.bits }
+    /// Whether a check was a hit.
+    pub fn any_hit(&self) -> bool
+        ensures { result ≡ list_any (λ hit. hit) self.now.bits }
     {
-        self.bits.iter().filter(|hit| **hit).count()
+        any_of(&self.bits)
     }
 
     /// Records whether the check of pick `k`, which is below the number of picks, was a hit.
@@ -224,4 +224,15 @@ fn clear_bits(bits: &mut Vec<bool>, count: u32)
     for _ in bits.len()..count as usize {
         bits.push_reserved(false);
     }
+}
+
+// Whether one of these is true. All are looked at, so that it takes a few instructions for many of them.
+fn any_of(bits: &[bool]) -> bool
+    ensures { result ≡ list_any (λ bit. bit) bits.now }
+{
+    let mut any = false;
+    for bit in bits {
+        any = any | *bit;
+    }
+    any
 }
