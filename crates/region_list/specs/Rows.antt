@@ -1,5 +1,5 @@
 -- Lists of rows, as contracts see them.
-use Rattle.std.specs.Prelude.{ℕ, ◌+◌, ◌≤◌, ◌<◌, ◌^◌, List, ◌∷◌, ◌++◌, length, take, drop, slice_set, slice_index_or}
+use Rattle.std.specs.Prelude.{ℕ, ◌+◌, ◌-◌, ◌≤◌, ◌<◌, ◌^◌, List, ◌∷◌, ◌++◌, length, take, drop, slice_set, slice_index_or}
 use Rattle.damon_types.specs.declared.row.Row.{Row}
 
 -- rows, and the number for which there is room
@@ -28,3 +28,9 @@ with_values rows i count last age = slice_set rows i (record (row_at rows i) { c
 -- the rows with two others in the place of the one with this index
 abbrev pub with_two : List Row → ℕ → Row → Row → List Row
 with_two rows i first second = take i rows ++ (first ∷ second ∷ drop (i + 1) rows)
+
+-- the row with this index cut in two after this many of its pages: both parts have its count, last count and age
+abbrev pub cut_after : List Row → ℕ → ℕ → List Row
+cut_after rows i pages =
+    let r = row_at rows i in
+    with_two rows i (record r { pages = pages }) (record r { start = r.start + pages; pages = r.pages - pages })

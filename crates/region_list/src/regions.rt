@@ -1,7 +1,7 @@
 ghost use Rattle.std.specs.Prelude.{◌≡◌, ◌+◌, ◌-◌, ◌≤◌, ◌<◌, ◌^◌, [], length, slice_get, IfOk};
 ghost use Rattle.damon_types.specs.Ranges.{InOrder};
 ghost use Rattle.damon_types.specs.Span.{spans};
-ghost use Rattle.region_list.specs.Rows.{with_two, with_values};
+ghost use Rattle.region_list.specs.Rows.{cut_after, row_at, with_two, with_values};
 ghost use Rattle.region_list.specs.Tiles.{Tiles};
 ghost use Rattle.region_list.specs.Tiling.{Tiling};
 ghost use Rattle.region_list.specs.Shrink.{shrunk};
@@ -116,10 +116,30 @@ impl Regions {
         mem::swap(&mut self.rows, &mut self.spare);
     }
 
-    /// Puts two rows in the place of the one with this index, which is below the number of rows. There is
-    /// room for one row more, and the new rows tile the ranges with this list's `unit`. The rows behind it
-    /// are moved; no other row is copied.
-    pub fn put_two(&mut self, index: u32, first: Row, second: Row)
+    /// Cuts the row with this index, which is below the number of rows, after `pages` of its pages. Both
+    /// parts have its count, last count and age, and at least `unit` pages; there is room for one row
+    /// more. The rows behind it are moved, and no other row is copied.
+    pub fn cut(&mut self, index: u32, pages: u32)
+        requires within { index < length self.old.rows }
+        requires room { length self.old.rows < self.old.max }
+        requires first { self.old.unit ≤ pages }
+        requires second { self.old.unit ≤ (row_at self.old.rows index).pages - pages }
+        ensures { self.new ≡ record self.old { rows = cut_after self.old.rows index pages } }
+    {
+        // For its clauses alone: the rows tile the ranges, and `unit` is at least 1.
+        let _count = self.len();
+        let row = self.row(index);
+        let second = Row {
+            start: row.start + pages,
+            pages: row.pages - pages,
+            ..row
+        };
+        self.put_two(index, Row { pages, ..row }, second);
+    }
+
+    // Puts two rows in the place of the one with this index. There is room for one row more, and the new
+    // rows tile the ranges.
+    fn put_two(&mut self, index: u32, first: Row, second: Row)
         requires within { index < length self.old.rows }
         requires room { length self.old.rows < self.old.max }
         requires tiling { Tiling self.old.unit self.old.ranges
