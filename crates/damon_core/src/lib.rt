@@ -22,4 +22,3 @@ pub use changed::Changed;
 pub use laws::{pages_are_kept, reached_states_are_bound};
 pub use monitor::Monitor;
 pub use report::Report;
-

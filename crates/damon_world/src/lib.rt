@@ -11,4 +11,3 @@ mod world;
 pub use laws::a_pass_takes_its_steps;
 use plain_words::PlainWords;
 pub use world::{Stepped, World};
-

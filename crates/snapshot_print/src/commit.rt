@@ -180,4 +180,3 @@ fn scheme_why(why: SchemeFault) -> &'static str
         SchemeFault::BadFilter { .. } => "bad-filter",
     }
 }
-
