@@ -15,7 +15,7 @@ use Rattle.clap.specs.declared.parser.matches.ArgMatches.{ArgMatches}
 use Rattle.clap.specs.declared.parser.matches.ArgMatches.TheViews.{out-ArgMatches, out-SubCommand}
 use Rattle.clap.specs.Words.{kind_of, subcommand_name_of, subcommand_rows, subcommand_rows_of}
 use Rattle.clap.specs.Faults.{built_fault, entered_fault, fault_of, is_simple_and_free, walk_fault}
-use Rattle.clap.specs.Kinds.{HasKind, IsAmong, Kinds, or_else}
+use Rattle.clap.specs.Kinds.{HasKind, IsAmong, Kinds}
 use Rattle.clap.specs.Simple.{App, Shape, built, is_simple, names_of, subcommand_of}
 use Rattle.clap.specs.Walk.{Held, Names, Row, Rule, Text, Walk, first_of, nothing_held, walk, walk_from, walked}
 use Rattle.clap.proofs.OnLiterals.{clap_on_literals}

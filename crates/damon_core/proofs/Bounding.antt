@@ -1,5 +1,4 @@
 -- What holds of each state that is reached by true results.
-use Rattle.std.proofs.Common.{◌≡◌}
 use Rattle.damon_core.specs.State.{State}
 use Rattle.damon_core.specs.Slots.{slot_count}
 use Rattle.damon_core.specs.Aggregate.{merged_regions}

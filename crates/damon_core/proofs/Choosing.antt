@@ -1,5 +1,5 @@
 -- Each slot that is served applies the best choice.
-use Rattle.std.proofs.Common.{◌≡◌, ℕ, zero, suc, ◌+◌, Bool, true, false, List, [], ◌∷◌, Option, Some, None, refl, sym, ap, ◌∙◌, cond}
+use Rattle.std.proofs.Common.{◌≡◌, ℕ, zero, suc, ◌+◌, Bool, true, false, List, [], ◌∷◌, Option, Some, None, ap, ◌∙◌, cond}
 use Rattle.std.specs.Option.{option_map_or}
 use Rattle.damon_types.specs.declared.scheme.Scheme.{Scheme}
 use Rattle.damon_types.specs.declared.space.Target.{Target}
@@ -8,11 +8,11 @@ use Rattle.quota_charge.specs.Quota.{left_of}
 use Rattle.scheme_engine.specs.Best.{IsBestRun}
 use Rattle.scheme_engine.specs.Kept.{AreTiled}
 use Rattle.scheme_engine.specs.Outcome.{outcome_of}
-use Rattle.scheme_engine.specs.Served.{choice_of, no_choice}
+use Rattle.scheme_engine.specs.Served.{no_choice}
 use Rattle.scheme_engine.specs.Slots.{SetScheme}
 use Rattle.damon_core.specs.Note.{Note}
 use Rattle.damon_core.specs.Aggregate.{merged_regions}
-use Rattle.damon_core.specs.Choosing.{AppliesBest, AreSlotsServed, IsSlotServed, ServesBest}
+use Rattle.damon_core.specs.Choosing.{AreSlotsServed, IsSlotServed, ServesBest}
 use Rattle.damon_core.specs.Serve.{Serving, nothing_served, run_served, serve_scheme, serve_slot, with_turn}
 use Rattle.damon_core.specs.Slots.{charged_of, is_active_in, scheme_of, slot_count}
 use Rattle.damon_core.specs.State.{State}

@@ -1,5 +1,5 @@
 -- A monitor that stands for a state stands for the one after a commit.
-use Rattle.std.proofs.Common.{◌≡◌, ℕ, ◌≤◌, ◌<◌, Bool, List, [], ◌∷◌, get_or, set as put, Option, Some, None, Ok, Err, refl, sym, ap, ◌∙◌}
+use Rattle.std.proofs.Common.{◌≡◌, ℕ, ◌≤◌, ◌<◌, List, [], ◌∷◌, get_or, set as put, Option, Some, None, Ok, Err, refl, sym, ap, ◌∙◌}
 use Rattle.std.specs.Prelude.{Result}
 use Rattle.damon_types.specs.declared.row.Row.{Row}
 use Rattle.damon_types.specs.declared.scheme.Scheme.{Scheme}
@@ -20,7 +20,7 @@ use Rattle.damon_core.specs.Commit.{check_of, committed, committed_core, committ
 use Rattle.damon_core.specs.Event.{commit}
 use Rattle.damon_core.specs.Slots.{slot_count, slots_of}
 use Rattle.damon_core.specs.Makes.{Makes}
-use Rattle.damon_core.specs.Stands.{MonitorView, Stands, bit_at, last_pass}
+use Rattle.damon_core.specs.Stands.{MonitorView, Stands, last_pass}
 use Rattle.damon_core.proofs.Committing.{allows_commit, by_phase_after, committed_notes_hold}
 use Rattle.damon_core.proofs.Shown.{after_asked}
 use Rattle.damon_core.proofs.SlotNotes.{DecidesInTurn, slot_counted_below, slots_of-dropped, slots_of-metric, slots_of-set}

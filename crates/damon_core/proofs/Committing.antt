@@ -1,8 +1,8 @@
 -- What a commit that is accepted makes of notes, phases and regions.
-use Rattle.std.proofs.Common.{◌≡◌, ℕ, ◌≤◌, ◌<◌, Bool, true, false, not, cond, List, [], ◌∷◌, length, Option, Some, None, Ok, refl, sym, ap, ◌∙◌, subst, arith}
+use Rattle.std.proofs.Common.{◌≡◌, ℕ, ◌≤◌, ◌<◌, true, false, not, cond, List, ◌∷◌, length, Option, Some, None, Ok, refl, sym, ap, ◌∙◌, subst, arith}
 use Rattle.std.specs.List.{AllByRecursion}
 use Rattle.std.specs.Bool.{Decides}
-use Rattle.std.specs.Prelude.{All, Result}
+use Rattle.std.specs.Prelude.{Result}
 use Rattle.std.specs.Result.{result_and}
 use Rattle.std.proofs.lemmas.Bool.Decides.{nat_tests}
 use Rattle.std.proofs.lemmas.List.{length-map}
@@ -20,7 +20,6 @@ use Rattle.damon_types.specs.Attrs.{IsAttrs}
 use Rattle.damon_types.specs.Ranges.{InOrder}
 use Rattle.damon_types.specs.Space.{IsSpace}
 use Rattle.damon_types.specs.Span.{Span, span_of, spans}
-use Rattle.target_ranges.specs.Checked.{checked_ranges}
 use Rattle.target_ranges.specs.Laws.{MakesEach, MakesInOrder, MakesWide}
 use Rattle.target_ranges.specs.Made.{ranges_of}
 use Rattle.region_list.specs.Regions.{RegionList}
@@ -34,7 +33,7 @@ use Rattle.live_commit.specs.declared.phase.Phase.{Phase}
 use Rattle.live_commit.specs.declared.phase.Phase.TheVariants.{Idle, Clearing, Armed, Checking, Void, Due}
 use Rattle.live_commit.specs.declared.view.View.{View}
 use Rattle.live_commit.specs.Accepted.{AllowsCommit, IsAccepted}
-use Rattle.live_commit.specs.Accepts.{checked_commit, checked_phase, max_after, ranges_after}
+use Rattle.live_commit.specs.Accepts.{checked_commit, checked_phase, max_after}
 use Rattle.live_commit.specs.Commit.{CommitValue}
 use Rattle.damon_core.specs.Note.{Note, set, dropped, metric}
 use Rattle.damon_core.specs.State.{Core}

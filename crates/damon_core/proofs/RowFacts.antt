@@ -1,8 +1,7 @@
 -- Rows of a tiling: their sizes, where they lie in the space, how many there are, and their counts.
-use Rattle.std.proofs.Common.{◌≡◌, ℕ, zero, suc, ◌+◌, ◌/◌, ◌≤◌, ◌<◌, Bool, true, false, cond, List, [], ◌∷◌, ◌++◌, length, refl, ap, ◌∙◌, subst, arith}
-use Rattle.std.specs.Prelude.{count_by, Any}
-use Rattle.std.specs.List.{AllByRecursion, list_any, flat_map}
-use Rattle.std.proofs.lemmas.Bool.Decides.{nat_tests}
+use Rattle.std.proofs.Common.{◌≡◌, ℕ, zero, suc, ◌+◌, ◌/◌, ◌≤◌, ◌<◌, Bool, true, false, cond, List, [], ◌∷◌, ◌++◌, length, refl, ap, subst, arith}
+use Rattle.std.specs.Prelude.{Any}
+use Rattle.std.specs.List.{AllByRecursion, flat_map}
 use Rattle.std.proofs.lemmas.List.Elements.{All-get_or}
 use Rattle.std.proofs.lemmas.List.Sums.{sum_by-take-le}
 use Rattle.damon_types.specs.declared.space.Target.{Target}
@@ -12,7 +11,7 @@ use Rattle.damon_types.specs.Ranges.{end_of, page_total}
 use Rattle.damon_types.specs.Span.{Span, span_of, spans}
 use Rattle.damon_types.specs.Space.{pages_of}
 use Rattle.damon_types.specs.Within.{LiesInTarget, AreWithin}
-use Rattle.region_list.specs.Tiles.{Tiles, LiesIn, span_holds, range_holds}
+use Rattle.region_list.specs.Tiles.{Tiles, LiesIn}
 use Rattle.region_list.specs.Tiling.{Chain, Tiling}
 use Rattle.region_list.specs.Division.{divided, range_rows, rows_from, range_row_count}
 use Rattle.sampler.specs.Counted.{raised}

@@ -1,9 +1,7 @@
 -- What serving the slots keeps, of the notes and of the rows.
-use Rattle.std.proofs.Common.{◌≡◌, ℕ, zero, suc, ◌+◌, ◌-◌, ◌<◌, ◌≤◌, Bool, true, false, List, [], ◌∷◌, length, Option, Some, None, refl, sym, ap, ◌∙◌, subst, cond, arith}
+use Rattle.std.proofs.Common.{◌≡◌, ℕ, zero, suc, ◌+◌, ◌≤◌, Bool, true, false, List, [], ◌∷◌, Option, Some, None, refl, ◌∙◌, cond, arith}
 use Rattle.std.specs.Prelude.{IfSome, if◌then◌else◌}
-use Rattle.std.specs.List.{AllByRecursion}
 use Rattle.std.specs.Option.{option_map_or}
-use Rattle.damon_types.specs.declared.row.Row.{Row}
 use Rattle.damon_types.specs.declared.scheme.Quota.{Quota}
 use Rattle.damon_types.specs.declared.scheme.Scheme.{Scheme}
 use Rattle.damon_types.specs.declared.space.Target.{Target}
@@ -11,7 +9,7 @@ use Rattle.region_list.specs.Regions.{RegionList}
 use Rattle.quota_charge.specs.Quota.{effective_pages, has_ended, left_of}
 use Rattle.scheme_engine.specs.declared.applied.AppliedRun.{AppliedRun}
 use Rattle.scheme_engine.specs.Kept.{AreTiled}
-use Rattle.scheme_engine.specs.Outcome.{Outcome, outcome_of}
+use Rattle.scheme_engine.specs.Outcome.{outcome_of}
 use Rattle.scheme_engine.specs.Served.{no_choice}
 use Rattle.damon_core.specs.Note.{Note, turned, ran}
 use Rattle.damon_core.specs.State.{State}

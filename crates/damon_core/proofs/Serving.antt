@@ -1,6 +1,6 @@
 -- Serving the slots of a monitor, and serving those that the notes tell of, come to the same.
-use Rattle.std.proofs.Common.{◌≡◌, ℕ, zero, suc, ◌+◌, ◌<◌, ◌≤◌, Bool, true, false, List, [], ◌∷◌, ◌++◌, map, Option, Some, None, refl, sym, ap, ◌∙◌, subst, cond, arith}
-use Rattle.std.specs.Prelude.{IfSome, if◌then◌else◌, sum_by}
+use Rattle.std.proofs.Common.{◌≡◌, ℕ, zero, suc, ◌+◌, ◌<◌, Bool, true, false, List, [], ◌∷◌, ◌++◌, map, Option, Some, None, refl, sym, ap, ◌∙◌, subst, arith}
+use Rattle.std.specs.Prelude.{if◌then◌else◌, sum_by}
 use Rattle.std.specs.List.{range_with_len}
 use Rattle.std.specs.Option.{option_map, option_map_or}
 use Rattle.damon_types.specs.declared.scheme.Quota.{Quota}
@@ -10,12 +10,12 @@ use Rattle.region_list.specs.Regions.{RegionList}
 use Rattle.quota_charge.specs.declared.window.Window.{Window}
 use Rattle.quota_charge.specs.Quota.{has_ended, left_of}
 use Rattle.scheme_engine.specs.Kept.{AreTiled}
-use Rattle.scheme_engine.specs.Outcome.{Outcome, outcome_of}
-use Rattle.scheme_engine.specs.Served.{ServedSlot, Served, no_choice, scheme_served, slot_counted, slot_run, slot_served, slots_served}
-use Rattle.scheme_engine.specs.Slots.{SetScheme, SlotValue, turned_slot, window_at}
-use Rattle.damon_core.specs.Note.{Note, turned, ran}
-use Rattle.damon_core.specs.Serve.{Serving, nothing_served, run_served, serve_now, serve_scheme, serve_slot, serve_slots, with_turn}
-use Rattle.damon_core.specs.Slots.{charged_of, is_active_in, pages_in, scheme_of, set_scheme_of, slot_of, start_of}
+use Rattle.scheme_engine.specs.Outcome.{outcome_of}
+use Rattle.scheme_engine.specs.Served.{ServedSlot, Served, no_choice, slot_counted, slot_run, slot_served, slots_served}
+use Rattle.scheme_engine.specs.Slots.{SetScheme, SlotValue, window_at}
+use Rattle.damon_core.specs.Note.{Note, turned}
+use Rattle.damon_core.specs.Serve.{Serving, nothing_served, run_served, serve_scheme, serve_slot, serve_slots, with_turn}
+use Rattle.damon_core.specs.Slots.{charged_of, is_active_in, scheme_of, set_scheme_of, slot_of, start_of}
 use Rattle.damon_core.proofs.SlotNotes.{same, ran-other, ran-same, turned-other}
 
 -- what the laws of the engine say of the outcome of a scheme

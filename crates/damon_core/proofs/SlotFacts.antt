@@ -1,12 +1,10 @@
 -- What holds of all slots stays so once a pass has ended, and once the slots are changed or served.
-use Rattle.std.proofs.Common.{◌≡◌, ℕ, zero, suc, ◌+◌, ◌-◌, ◌*◌, ◌^◌, ◌<◌, ◌≤◌, List, [], ◌∷◌, map, set as put, get_or, length, Option, Some, None, refl, sym, ap, ◌∙◌, subst, arith}
+use Rattle.std.proofs.Common.{◌≡◌, ℕ, zero, suc, ◌+◌, ◌-◌, ◌*◌, ◌^◌, ◌<◌, ◌≤◌, List, [], ◌∷◌, map, set as put, get_or, Option, Some, None, refl, subst, arith}
 use Rattle.std.specs.Prelude.{IfSome, replicate}
 use Rattle.std.specs.List.{AllByRecursion}
-use Rattle.std.specs.Option.{option_map}
 use Rattle.damon_types.specs.declared.scheme.Scheme.{Scheme}
 use Rattle.damon_types.specs.declared.scheme.SlotChange.{SlotChange}
 use Rattle.live_commit.specs.Commit.{CommitValue}
-use Rattle.scheme_engine.specs.Engine.{BeginBy}
 use Rattle.scheme_engine.specs.Kept.{CountsWithin, StartBy}
 use Rattle.scheme_engine.specs.Slots.{SetScheme, SlotValue, changed, empty_slot, metered}
 use Rattle.damon_core.specs.Commit.{committed_slots, slots_changed, slots_metered}

@@ -1,5 +1,5 @@
 -- What the notes say of the slots once there is a note more of a set or dropped slot, of a metric, of a window, or of a run.
-use Rattle.std.proofs.Common.{◌≡◌, ℕ, zero, suc, ◌+◌, ◌-◌, ◌<◌, ◌≤◌, Bool, true, false, List, [], ◌∷◌, ◌++◌, map, set as put, get_or, length, Option, Some, None, refl, sym, ap, ◌∙◌, subst, cond, arith}
+use Rattle.std.proofs.Common.{◌≡◌, ℕ, zero, suc, ◌+◌, ◌<◌, ◌≤◌, Bool, true, false, List, [], ◌∷◌, ◌++◌, map, set as put, get_or, Option, Some, None, refl, sym, ap, ◌∙◌, cond, arith}
 use Rattle.std.specs.Prelude.{◌==◌, if◌then◌else◌, replicate}
 use Rattle.std.specs.List.{range_with_len}
 use Rattle.std.specs.Option.{option_map}
@@ -13,7 +13,7 @@ use Rattle.scheme_engine.specs.declared.applied.AppliedRun.{AppliedRun}
 use Rattle.scheme_engine.specs.declared.slot.TheConstants.{SLOTS}
 use Rattle.scheme_engine.specs.Served.{scheme_counted, slot_counted}
 use Rattle.scheme_engine.specs.Slots.{SetScheme, SlotValue, changed, empty_slot, metered, scheme_metered}
-use Rattle.damon_core.specs.Note.{Note, touched, cleared, checked, finished, voided, set, dropped, metric, turned, ran}
+use Rattle.damon_core.specs.Note.{Note, set, dropped, metric, turned, ran}
 use Rattle.damon_core.specs.Slots.{charged_of, is_active_in, metrics_of, pages_in, scheme_of, set_scheme_of, slot_count, slot_of, slots_of, start_of, tried_of, applied_of, exceeds_of}
 
 pub differ : (i j : ℕ) → (i ≡ j → ⊥) → (i == j) ≡ false

@@ -19,7 +19,7 @@ use Rattle.damon_core.specs.Kept.{loaded_so_far}
 use Rattle.damon_core.proofs.Committing.{allows_commit, committed_notes_hold, none_loaded, none_loaded_after}
 use Rattle.damon_core.proofs.Keeping.{Keeps, any_result, reached_keeps}
 use Rattle.damon_core.proofs.Opening.{opening_holds}
-use Rattle.damon_core.proofs.Served.{KeptByServing, notes_hold}
+use Rattle.damon_core.proofs.Served.{notes_hold}
 
 -- a phase after a clear or after a pass has no load before it
 pub loaded_so_far-phase_after_clear : (k rows : ℕ) → loaded_so_far (phase_cleared (k + 1) rows) ≡ 0

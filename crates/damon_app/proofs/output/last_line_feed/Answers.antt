@@ -1,4 +1,4 @@
-use Rattle.std.proofs.Common.{◌≡◌, ◌≢◌, ◌-◌, ◌++◌, All, length, append_assoc, sym, ap, subst, ◌∙◌}
+use Rattle.std.proofs.Common.{◌≢◌, ◌-◌, ◌++◌, All, length, append_assoc, sym, ap, subst, ◌∙◌}
 use Rattle.std.proofs.lemmas.List.Elements.{All-append}
 use Rattle.damon_app.proofs.Known.{parts_joined}
 use Rattle.damon_app.proofs.output.last_line_feed.Goals as goal

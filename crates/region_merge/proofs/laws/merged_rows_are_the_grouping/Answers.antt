@@ -1,4 +1,4 @@
-use Rattle.std.proofs.Common.{◌≡◌, List, ap, map, sym, ◌∙◌}
+use Rattle.std.proofs.Common.{List, ap, map, sym, ◌∙◌}
 use Rattle.region_merge.specs.Grouping.{Group, joined_row}
 use Rattle.region_merge.proofs.GroupingLemmas.{merged_groups, one_grouping}
 use Rattle.region_merge.proofs.laws.merged_rows_are_the_grouping.Goals as goal

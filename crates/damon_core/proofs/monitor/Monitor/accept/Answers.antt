@@ -1,14 +1,13 @@
-use Rattle.std.proofs.Common.{◌≡◌, ◌≤◌, ◌<◌, ℕ, List, length, Ok, ap, option_map, subst, sym, ◌∙◌, arith}
+use Rattle.std.proofs.Common.{◌≡◌, ◌≤◌, ◌<◌, Ok, ap, subst, sym, ◌∙◌, arith}
 use Rattle.std.specs.List.{AllByRecursion}
 use Rattle.std.specs.Option.{unwrap_or}
 use Rattle.damon_types.specs.declared.attrs.Attrs.{Attrs}
 use Rattle.damon_types.specs.Attrs.{IsAttrs}
 use Rattle.damon_types.specs.Space.{pages_of}
-use Rattle.damon_types.specs.Within.{AreWithin}
 use Rattle.region_list.specs.Regions.{RegionList}
 use Rattle.live_commit.specs.Commit.{CommitValue, commit_value}
 use Rattle.damon_core.specs.Commit.{check_of, phase_after_commit, regions_after}
-use Rattle.damon_core.specs.Kept.{CanCommit, IsMonitor, IsServing, SamplingView, SinceFew}
+use Rattle.damon_core.specs.Kept.{CanCommit, IsServing, SamplingView, SinceFew}
 use Rattle.damon_core.specs.State.{Core}
 use Rattle.damon_core.specs.Stands.{MonitorView}
 use Rattle.damon_core.proofs.Committing.{commit_facts, new_cap, new_counts, new_max, since_kept}

@@ -1,4 +1,4 @@
-use Rattle.std.proofs.Common.{◌≡◌, ◌+◌, ◌-◌, ◌*◌, ◌^◌, ◌≤◌, ◌<◌, ℕ, List, [], ◌∷◌, length, max, ◌/◌, ap, sym, subst, ◌∙◌, arith}
+use Rattle.std.proofs.Common.{◌≡◌, ◌+◌, ◌-◌, ◌≤◌, ◌<◌, ℕ, List, [], ◌∷◌, max, ◌/◌, ap, sym, subst, ◌∙◌, arith}
 use Rattle.std.specs.List.{AllByRecursion}
 use Rattle.std.proofs.lemmas.List.Elements.{recursion_from_All}
 use Rattle.damon_types.specs.declared.row.Row.{Row}
@@ -6,20 +6,16 @@ use Rattle.damon_types.specs.Ranges.{page_total}
 use Rattle.damon_types.specs.Space.{pages_of}
 use Rattle.damon_types.specs.Span.{spans}
 use Rattle.damon_types.specs.Within.{AreWithin}
-use Rattle.aggregator.specs.Aged.{aged}
-use Rattle.aggregator.specs.Threshold.{threshold}
 use Rattle.live_commit.specs.declared.phase.Phase.{Phase}
 use Rattle.live_commit.specs.declared.phase.Phase.TheVariants.{Due}
 use Rattle.region_list.specs.Regions.{RegionList}
 use Rattle.region_list.specs.Tiles.{Tiles}
-use Rattle.region_merge.specs.Merged.{merged}
-use Rattle.scheme_engine.specs.declared.applied.AppliedRun.{AppliedRun}
 use Rattle.scheme_engine.specs.Engine.{EngineValue}
 use Rattle.scheme_engine.specs.Kept.{AreTiled, IsRunIn}
 use Rattle.scheme_engine.specs.Served.{Served, slots_served}
-use Rattle.damon_core.specs.Aggregate.{engine_served, merge_limit, merged_regions}
+use Rattle.damon_core.specs.Aggregate.{merge_limit, merged_regions}
 use Rattle.damon_core.specs.Kept.{IsMonitor, IsServing, RowsLieIn, SamplingView, SinceFew}
-use Rattle.damon_core.specs.Report.{ReportBuf, ReportValue}
+use Rattle.damon_core.specs.Report.{ReportBuf}
 use Rattle.damon_core.specs.State.{Core}
 use Rattle.damon_core.specs.Event.{aggregate}
 use Rattle.damon_core.specs.Makes.{Makes}
