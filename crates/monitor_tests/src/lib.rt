@@ -1,4 +1,4 @@
-//! Tests of the scheme engine, the monitor, a world, and the texts that are printed of them. They stand in a crate of
+//! Tests of the monitor, of a world, and of the texts that are printed of them. They stand in a crate of
 //! their own, since a crate with tests is proved twice.
 #![tactic(auto)]
 
@@ -8,9 +8,6 @@ mod commit_lines;
 /// Commits of a monitor, and the pass that becomes void.
 #[cfg(test)]
 mod commits;
-/// Schemes that are run on rows without a monitor.
-#[cfg(test)]
-mod engine;
 /// What the tests have in common.
 #[cfg(test)]
 mod fixtures;

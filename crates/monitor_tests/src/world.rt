@@ -1,10 +1,8 @@
-// A pass over three pages with touches in it, an aggregation, and commits; the expected values were reckoned by
-// hand.
-use crate::fixtures::{counts, lasts_and_ages, of_range, reported, three_pages};
-use damon_core::Changed;
-use damon_types::SlotChange;
+// A pass over three pages with touches in it, step by step and at once; the expected values were reckoned by hand.
+// Aggregations and commits of a world are in whole runs.
+use crate::fixtures::{counts, three_pages};
 use damon_world::{Stepped, World};
-use live_commit::{Commit, Phase};
+use live_commit::Phase;
 use rand_pcg::Lcg64Xsh32;
 use std::alloc::Global;
 use std::process::Abort;
@@ -81,16 +79,6 @@ fn a_touch_between_clear_and_load_is_counted_once(rt: HostRuntime) -> Result<(),
 }
 
 #[test]
-fn a_touch_before_the_clear_is_no_hit(rt: HostRuntime) -> Result<(), Fail> {
-    let mut world = new_world(rt.alloc(), 5)?;
-    assert_eq!(rt; touch(&rt, &mut world, 1), 0);
-    clear(&rt, &mut world);
-    check(&rt, &mut world, [false, false, false]);
-    assert_eq!(rt; counts(&rt, world.monitor()), [0, 0, 0]);
-    Ok(())
-}
-
-#[test]
 fn steps_of_one_kind_are_made_at_once(rt: HostRuntime) -> Result<(), Fail> {
     let mut world = new_world(rt.alloc(), 5)?;
     for (most, made) in [(9, 1), (2, 2), (9, 1)] {
@@ -103,72 +91,5 @@ fn steps_of_one_kind_are_made_at_once(rt: HostRuntime) -> Result<(), Fail> {
     }
     assert_eq!(rt; counts(&rt, world.monitor()), [0, 1, 1]);
     assert_eq!(rt; (world.monitor().ticks(), world.monitor().hits()), (1, 2));
-    Ok(())
-}
-
-#[test]
-fn an_aggregation_is_a_step(rt: HostRuntime) -> Result<(), Fail> {
-    let mut world = new_world(rt.alloc(), 1)?;
-    clear(&rt, &mut world);
-    assert_eq!(rt; touch(&rt, &mut world, 1), 1);
-    check(&rt, &mut world, [false, true, false]);
-    assert_eq!(rt; world.monitor().phase(), Phase::Due);
-    assert_eq!(rt; step(&rt, &mut world), Stepped::Aggregated);
-    assert_eq!(rt; world.monitor().phase(), Phase::Idle);
-    assert_eq!(rt; counts(&rt, world.monitor()), [0, 0, 0]);
-    assert_eq!(rt;
-        lasts_and_ages(&rt, world.monitor()),
-        [(0, 1), (1, 0), (0, 1)]
-    );
-    let report = world.monitor().report();
-    assert_eq!(rt; (report.tick(), report.threshold()), (1, 0));
-    assert_eq!(rt; reported(&rt, world.monitor()), [0, 1, 0]);
-    Ok(())
-}
-
-#[test]
-fn a_touch_in_a_void_pass_is_no_hit(rt: HostRuntime) -> Result<(), Fail> {
-    let mut world = new_world(rt.alloc(), 5)?;
-    clear(&rt, &mut world);
-    assert_eq!(rt; touch(&rt, &mut world, 1), 1);
-    let commit = of_range(rt.alloc(), 0x1_1000, 0x1_3000)?;
-    let moved = Changed {
-        rows: 2,
-        void: true,
-    };
-    assert_eq!(rt; world.commit(&commit), Ok(moved));
-    assert_eq!(rt; step(&rt, &mut world), Stepped::Observed { void: true });
-    let monitor = world.monitor();
-    assert_eq!(rt;
-        (monitor.ticks(), monitor.checks(), monitor.hits()),
-        (1, 0, 0)
-    );
-    assert_eq!(rt; monitor.rows().len(), 2);
-    assert_eq!(rt; step(&rt, &mut world), Stepped::Prepared);
-    assert_eq!(rt; step(&rt, &mut world), Stepped::Cleared { page: 1 });
-    Ok(())
-}
-
-#[test]
-fn a_slot_and_a_metric_leave_the_pass(rt: HostRuntime) -> Result<(), Fail> {
-    let mut world = new_world(rt.alloc(), 5)?;
-    clear(&rt, &mut world);
-    assert_eq!(rt; touch(&rt, &mut world, 1), 1);
-    let commit = Commit {
-        attrs: None,
-        ranges: None,
-        slot: Some(SlotChange {
-            slot: 3,
-            scheme: None,
-        }),
-        metric: Some(7),
-    };
-    let kept = Changed {
-        rows: 3,
-        void: false,
-    };
-    assert_eq!(rt; world.commit(&commit), Ok(kept));
-    check(&rt, &mut world, [false, true, false]);
-    assert_eq!(rt; counts(&rt, world.monitor()), [0, 1, 0]);
     Ok(())
 }
