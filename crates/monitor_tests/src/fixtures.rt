@@ -1,27 +1,13 @@
 // A target of three pages that is watched whole, a row for each page, and the steps of its passes.
-ghost use Rattle.std.specs.Prelude.{◌<◌, ◌^◌, length};
-
 use damon_core::Monitor;
-use damon_types::{Attrs, RangeSpec, RangeSpecs, SlotChange, Space, Target};
-use live_commit::{Commit, Phase, Setup};
+use damon_types::{Attrs, RangeSpec, Space, Target};
+use live_commit::{Phase, Setup};
 use std::alloc::Global;
 use std::process::Abort;
 use std::test::Fail;
 
-// A range of the target.
-fn range(from: u64, to: u64) -> RangeSpec {
-    RangeSpec {
-        target: 0,
-        from,
-        to,
-        class: 0,
-    }
-}
-
-// The setup with these slots, and an aggregation after this number of passes.
-pub fn three_pages(alloc: Global, aggr: u32, slots: &[SlotChange]) -> Result<Setup, Fail>
-    requires { length slots.now < 2 ^ 32 }
-{
+// The setup with an aggregation after this number of passes.
+pub fn three_pages(alloc: Global, aggr: u32) -> Result<Setup, Fail> {
     let target = Target {
         base: 0x1_0000,
         pages: 3,
@@ -31,22 +17,15 @@ pub fn three_pages(alloc: Global, aggr: u32, slots: &[SlotChange]) -> Result<Set
         max: 8,
         aggr,
     };
+    let range = RangeSpec {
+        target: 0,
+        from: 0x1_0000,
+        to: 0x1_3000,
+        class: 0,
+    };
     let space = Space::new(alloc, &[target])?;
-    let ranges = [range(0x1_0000, 0x1_3000)];
-    let setup = Setup::new(alloc, space, 1, 8, attrs, &ranges, slots)?;
+    let setup = Setup::new(alloc, space, 1, 8, attrs, &[range], &[])?;
     Ok(setup)
-}
-
-// A commit of one new range alone.
-pub fn of_range(alloc: Global, from: u64, to: u64) -> Result<Commit, Fail> {
-    let mut ranges = RangeSpecs::new(alloc);
-    ranges.push(range(from, to))?;
-    Ok(Commit {
-        attrs: None,
-        ranges: Some(ranges),
-        slot: None,
-        metric: None,
-    })
 }
 
 // Prepares a pass of three rows.

@@ -9,7 +9,7 @@ use std::test::Fail;
 
 #[test]
 fn a_pass_counts_its_hits(rt: HostRuntime) -> Result<(), Fail> {
-    let setup = three_pages(rt.alloc(), 5, &[])?;
+    let setup = three_pages(rt.alloc(), 5)?;
     let mut monitor = Monitor::new(rt.alloc(), &setup)?;
     assert_eq!(rt; monitor.phase(), Phase::Idle);
     assert_eq!(rt; monitor.attrs(), setup.attrs);
@@ -40,7 +40,7 @@ fn a_pass_counts_its_hits(rt: HostRuntime) -> Result<(), Fail> {
 
 #[test]
 fn an_aggregation_reports_and_clears(rt: HostRuntime) -> Result<(), Fail> {
-    let setup = three_pages(rt.alloc(), 1, &[])?;
+    let setup = three_pages(rt.alloc(), 1)?;
     let mut monitor = Monitor::new(rt.alloc(), &setup)?;
     make_pass(&rt, &mut monitor, [false, true, false]);
     aggregate(&rt, &mut monitor);

@@ -1,16 +1,15 @@
-// A pass over three pages with touches in it, step by step and at once; the expected values were reckoned by hand.
-// Aggregations and commits of a world are in whole runs.
+// A pass over three pages with touches in it, step by step; the expected values were reckoned by hand. Steps that are
+// made together, aggregations and commits are in whole runs.
 use crate::fixtures::{counts, three_pages};
 use damon_world::{Stepped, World};
-use live_commit::Phase;
 use rand_pcg::Lcg64Xsh32;
 use std::alloc::Global;
 use std::process::Abort;
 use std::test::Fail;
 
-// A world of three pages that aggregates after this many passes.
-fn new_world(alloc: Global, aggr: u32) -> Result<World<Lcg64Xsh32>, Fail> {
-    let setup = three_pages(alloc, aggr, &[])?;
+// A world of three pages that aggregates after five passes.
+fn new_world(alloc: Global) -> Result<World<Lcg64Xsh32>, Fail> {
+    let setup = three_pages(alloc, 5)?;
     Ok(World::new(alloc, &setup, Lcg64Xsh32::new(42, 54))?)
 }
 
@@ -18,13 +17,6 @@ fn new_world(alloc: Global, aggr: u32) -> Result<World<Lcg64Xsh32>, Fail> {
 fn step(rt: &impl Abort, world: &mut World<Lcg64Xsh32>) -> Stepped {
     assert!(rt; world.monitor().ticks() < 2);
     world.step()
-}
-
-// Makes the next steps of one kind, at most `most`.
-fn advance(rt: &impl Abort, world: &mut World<Lcg64Xsh32>, most: u64) -> u64 {
-    assert_eq!(rt; world.monitor().ticks(), 0);
-    assert!(rt; most > 0);
-    world.advance(most)
 }
 
 // Touches a page of the three.
@@ -35,15 +27,6 @@ fn touch(rt: &impl Abort, world: &mut World<Lcg64Xsh32>, page: u32) -> u64 {
     assert_eq!(rt; row.start + row.pages, 3);
     assert!(rt; page < 3);
     world.touch(page)
-}
-
-// Touches the last two pages of the three.
-fn sweep(rt: &impl Abort, world: &mut World<Lcg64Xsh32>) {
-    let rows = world.monitor().rows();
-    assert_eq!(rt; rows.len(), 3);
-    let row = rows.row(2);
-    assert_eq!(rt; row.start + row.pages, 3);
-    world.sweep(1, 3);
 }
 
 // Clears each page.
@@ -65,7 +48,7 @@ fn check(rt: &impl Abort, world: &mut World<Lcg64Xsh32>, hits: [bool; 3]) {
 #[test]
 fn a_touch_between_clear_and_load_is_counted_once(rt: HostRuntime) -> Result<(), Fail> {
     for times in 1..3 {
-        let mut world = new_world(rt.alloc(), 5)?;
+        let mut world = new_world(rt.alloc())?;
         assert_eq!(rt; touch(&rt, &mut world, 0), 0);
         clear(&rt, &mut world);
         for _ in 0..times {
@@ -75,21 +58,5 @@ fn a_touch_between_clear_and_load_is_counted_once(rt: HostRuntime) -> Result<(),
         assert_eq!(rt; counts(&rt, world.monitor()), [0, 1, 0]);
         assert_eq!(rt; (world.monitor().ticks(), world.monitor().hits()), (1, 1));
     }
-    Ok(())
-}
-
-#[test]
-fn steps_of_one_kind_are_made_at_once(rt: HostRuntime) -> Result<(), Fail> {
-    let mut world = new_world(rt.alloc(), 5)?;
-    for (most, made) in [(9, 1), (2, 2), (9, 1)] {
-        assert_eq!(rt; advance(&rt, &mut world, most), made);
-    }
-    assert_eq!(rt; world.monitor().phase(), Phase::Armed);
-    sweep(&rt, &mut world);
-    for (most, made) in [(2, 2), (9, 1), (9, 1)] {
-        assert_eq!(rt; advance(&rt, &mut world, most), made);
-    }
-    assert_eq!(rt; counts(&rt, world.monitor()), [0, 1, 1]);
-    assert_eq!(rt; (world.monitor().ticks(), world.monitor().hits()), (1, 2));
     Ok(())
 }
