@@ -20,3 +20,4 @@ pub mod Passes
 pub mod Bounding
 pub mod Choosing
 pub mod CommitStanding
+pub mod Preparing

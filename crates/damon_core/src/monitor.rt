@@ -22,6 +22,7 @@ ghost use Rattle.damon_core.specs.Reached.{Reached};
 ghost use Rattle.damon_core.specs.Pass.{IsInPass, IsPickWithin, cleared_so_far};
 ghost use Rattle.damon_core.specs.Makes.{Makes};
 ghost use Rattle.damon_core.specs.Stands.{Stands};
+ghost use Rattle.sampler.specs.Draws.{drawn, drawn_rest};
 ghost use Rattle.sampler.specs.Loaded.{next_picks};
 
 use crate::clock::Clock;
@@ -30,6 +31,7 @@ use crate::totals::Totals;
 use crate::{Changed, Report};
 use damon_types::{Attrs, Space};
 use live_commit::{Commit, CommitFault, Phase, Setup, View, validate};
+use rand_core::Rng;
 use region_list::{Regions, RowBuf, divide, shrink_rows};
 use sampler::{Marks, Picks};
 use scheme_engine::Engine;
@@ -216,6 +218,24 @@ impl Monitor {
         // For its clauses alone: the rows tile their ranges and are within their limits.
         let _rows = self.sampling.regions().len();
         self.sampling.prepare(words);
+    }
+
+    /// The same by the next random words of a source, one for each row: they are drawn where the pages are
+    /// picked. No pass is under way and no aggregation is due.
+    pub fn prepare_drawn<R: Rng>(&mut self, source: &mut R)
+        requires { self.old.core.phase ≡ Phase.Idle }
+        ensures core { self.new.core
+            ≡ prepared_core (drawn (row_count self.old.core) (R.stream source.old)) self.old.core }
+        ensures event { Makes Stands self.old self.new
+            (prepare_event (drawn (row_count self.old.core) (R.stream source.old)) ∷ []) }
+        ensures rest { R.stream source.new
+            ≡ drawn_rest (row_count self.old.core) (R.stream source.old) }
+        ensures each { length (drawn (row_count self.old.core) (R.stream source.old))
+            ≡ row_count self.old.core }
+    {
+        // For its clauses alone: the rows tile their ranges and are within their limits.
+        let _rows = self.sampling.regions().len();
+        self.sampling.prepare_drawn(source);
     }
 
     /// The page of pick `k`, one for each row, of the pass under way.

@@ -5,6 +5,7 @@ ghost use Rattle.damon_types.specs.declared.row.Row.{Row as row};
 ghost use Rattle.live_commit.specs.Accepted.{AllowsCommit};
 ghost use Rattle.live_commit.specs.declared.phase.Phase.TheVariants as variant;
 ghost use Rattle.sampler.specs.Counted.{raised};
+ghost use Rattle.sampler.specs.Draws.{drawn, drawn_rest};
 ghost use Rattle.sampler.specs.Loaded.{loaded_bits, loaded_hits};
 ghost use Rattle.sampler.specs.Pick.{picks_of};
 ghost use Rattle.aggregator.specs.Aged.{aged};
@@ -25,10 +26,11 @@ use crate::room::Room;
 use aggregator::{age_all, clear_counts, threshold};
 use damon_types::{RangeSpecs, Row, Space};
 use live_commit::Phase;
+use rand_core::Rng;
 use region_list::{Regions, RowBuf, same_spans};
 use region_merge::merge_all;
 use region_split::split_all;
-use sampler::{Marks, Picks, set_picks};
+use sampler::{Marks, Picks, draw_picks, set_picks};
 use scheme_engine::Engine;
 use std::alloc::{AllocError, Global};
 use std::marker::Model;
@@ -132,6 +134,26 @@ impl Sampling {
         // For its clauses alone: there are at most `cap` rows.
         let _rows = self.regions.len();
         set_picks(&self.regions, words, &mut self.picks);
+        self.hits_so_far = 0;
+        self.phase = Phase::Clearing { next: 0 };
+    }
+
+    // The same by the next random words of a source, one for each row.
+    pub(crate) fn prepare_drawn<R: Rng>(&mut self, source: &mut R)
+        ensures prepared { self.new ≡ record self.old {
+          phase = variant.Clearing 0;
+          picks = picks_of self.old.regions.rows
+              (drawn (length self.old.regions.rows) (R.stream source.old));
+          bits = replicate (length self.old.regions.rows) false;
+        } }
+        ensures rest { R.stream source.new
+            ≡ drawn_rest (length self.old.regions.rows) (R.stream source.old) }
+        ensures each { length (drawn (length self.old.regions.rows) (R.stream source.old))
+            ≡ length self.old.regions.rows }
+    {
+        // For its clauses alone: there are at most `cap` rows.
+        let _rows = self.regions.len();
+        draw_picks(&self.regions, source, &mut self.picks);
         self.hits_so_far = 0;
         self.phase = Phase::Clearing { next: 0 };
     }

@@ -18,7 +18,7 @@ use Rattle.damon_core.specs.Pass.{IsInPass, cleared_so_far}
 use Rattle.damon_core.specs.Stands.{MonitorView, Stands}
 use Rattle.damon_world.specs.Words.{cleared_words}
 use Rattle.damon_world.specs.Moment.{Moment, drawn_by, event_in, events_of_steps, moved, next_event, stepped, stepped_times}
-use Rattle.damon_world.specs.Draws.{drawn_rest}
+use Rattle.sampler.specs.Draws.{drawn_rest}
 use Rattle.damon_world.specs.Stands.{StandsAt}
 use Rattle.damon_world.specs.Advance.{IsAmid}
 use Rattle.damon_world.specs.Kept.{IsAdvance}

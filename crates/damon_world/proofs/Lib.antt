@@ -1,4 +1,3 @@
-pub mod Drawing
 pub mod Words
 pub mod Parts
 pub mod Stepping

@@ -14,7 +14,7 @@ use Rattle.damon_core.specs.Aggregate.{aggregated, core_after_aggregation}
 use Rattle.damon_core.specs.Makes.{Makes}
 use Rattle.damon_core.specs.Reached.{AllFit, Reached}
 use Rattle.damon_core.specs.Stands.{MonitorView, Stands}
-use Rattle.damon_world.specs.Draws.{drawn, drawn_rest}
+use Rattle.sampler.specs.Draws.{drawn, drawn_rest}
 use Rattle.damon_world.specs.Stands.{StandsAt, WorldView}
 use Rattle.damon_world.specs.Moment.{Moment, drawn_by, event_in, moved, next_event}
 use Rattle.damon_world.specs.Kept.{IsAdvance}

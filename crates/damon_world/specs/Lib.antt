@@ -1,4 +1,3 @@
-pub mod Draws
 pub mod Words
 pub mod Moment
 pub mod Stands

@@ -6,7 +6,7 @@ use Rattle.live_commit.specs.declared.phase.Phase.TheVariants.{Idle, Clearing, A
 use Rattle.damon_core.specs.State.{State, row_count}
 use Rattle.damon_core.specs.Event.{Event, prepare, clear, load, observe, aggregate, load_page, next_hit}
 use Rattle.damon_core.specs.After.{after}
-use Rattle.damon_world.specs.Draws.{drawn, drawn_rest}
+use Rattle.sampler.specs.Draws.{drawn, drawn_rest}
 use Rattle.damon_world.specs.declared.world.Stepped.{Stepped}
 use Rattle.damon_world.specs.declared.world.Stepped.TheVariants.{Prepared, Cleared, Loaded, Observed, Aggregated}
 

@@ -34,9 +34,10 @@ word_in swept lows highs p = word (low_in swept lows p) (slice_index highs p)
 abbrev pub words_in : ℕ → List Bool → List ℕ → List ℕ → List ℕ
 words_in pages swept lows highs = map (word_in swept lows highs) (range_with_len 0 pages)
 
--- each page has a block, and there is room for the parts of all words
-pub record IsStored (pages : ℕ) (swept : List Bool) (low_room high_room : ℕ) : Type 0 where
+-- each page has a block, no block is swept before the first sweep, and there is room for the parts of all words
+pub record IsStored (pages : ℕ) (swept : List Bool) (any_swept : Bool) (low_room high_room : ℕ) : Type 0 where
   pub blocks : pages / 64 < length swept
+  pub unswept : any_swept ≡ false → (b : ℕ) → slice_index_or swept b false ≡ false
   pub lows : pages + 64 ≤ low_room
   pub highs : pages ≤ high_room
 

@@ -33,6 +33,8 @@ pub struct PlainWords {
     highs: Vec<u32>,
     // Whether all pages of a block were touched, whatever their lowest bits say.
     swept: Vec<bool>,
+    // Whether there was a sweep. Before the first one no block is swept, and no clear or load looks for one.
+    any_swept: bool,
 }
 
 impl Model for PlainWords {
@@ -43,7 +45,8 @@ impl Model for PlainWords {
 
     ghost view = { λ w. words_in w.pages w.swept.items w.lows.items w.highs.items };
 
-    ghost invariant = { λ w. IsStored w.pages w.swept.items (vec_capacity w.lows) (vec_capacity w.highs) };
+    ghost invariant = { λ w.
+        IsStored w.pages w.swept.items w.any_swept (vec_capacity w.lows) (vec_capacity w.highs) };
 }
 
 impl PlainWords {
@@ -62,6 +65,7 @@ impl PlainWords {
             lows,
             highs,
             swept,
+            any_swept: false,
         })
     }
 
@@ -89,6 +93,7 @@ impl PlainWords {
             then touched_word (slice_index self.old p) else slice_index self.old p) }
     {
         sweep_blocks(&mut self.lows, &mut self.swept, self.pages, from, to);
+        self.any_swept = true;
     }
 
     /// Clears in this pass, which is below 2^47, the pages of the picks from `from` to before `to`.
@@ -99,10 +104,11 @@ impl PlainWords {
         requires pass { pass < 2 ^ 47 }
         ensures { self.new ≡ cleared_words picks.now.pages from (to - from) (2 * pass) self.old }
     {
-        // Three short loops over memory: of each, more loads overlap than of one long loop.
+        // Short loops over memory: of each, more loads overlap than of one long loop.
         let word = 2 * pass;
         let pages = self.pages;
-        settle_picks(&mut self.lows, &mut self.swept, pages, picks, from, to);
+        let any_swept = self.any_swept;
+        settle_picks(&mut self.lows, &mut self.swept, any_swept, pages, picks, from, to);
         put_lows(&mut self.lows, picks, from, to, (word % LOWS) as u16);
         put_highs_if_any(
             &mut self.highs,
@@ -122,8 +128,18 @@ impl Marks for PlainWords {
     ghost marks_of = { λ words. map is_touched_word words };
 
     fn is_marked(&self, page: u32) -> bool {
-        self.swept[(page / BLOCK) as usize] | (low_at(&self.lows, page) % 2 == 1)
+        is_swept(&self.swept, self.any_swept, page) | (low_at(&self.lows, page) % 2 == 1)
     }
+}
+
+// Whether the block of a page is swept. None is unless `any_swept`.
+fn is_swept(swept: &[bool], any_swept: bool, page: u32) -> bool
+    requires block { page / 64 < length swept.now }
+    requires unswept { any_swept ≡ false
+        → (b : ℕ) → slice_index_or swept.now b false ≡ false }
+    ensures { result ≡ slice_index_or swept.now (page / 64) false }
+{
+    any_swept && swept[(page / BLOCK) as usize]
 }
 
 // Stores the lowest bits of all pages, and settles the block of one. No page's word changes.
@@ -134,6 +150,8 @@ fn settle(lows: &mut Vec<u16>, swept: &mut [bool], pages: u32, page: u32)
     ensures same { (p : ℕ) → p < pages
         → low_in swept.new lows.new.items p ≡ low_in swept.old lows.old.items p }
     ensures settled { slice_index_or swept.new (page / 64) false ≡ false }
+    ensures others { (b : ℕ) → slice_index_or swept.old b false ≡ false
+        → slice_index_or swept.new b false ≡ false }
     ensures each { pages ≤ length lows.new.items }
     ensures blocks { length swept.new ≡ length swept.old }
     ensures room { vec_capacity lows.old ≤ vec_capacity lows.new }
@@ -142,11 +160,12 @@ fn settle(lows: &mut Vec<u16>, swept: &mut [bool], pages: u32, page: u32)
     settle_block(lows, swept, pages, page / BLOCK);
 }
 
-// Stores the lowest bits of all pages, and settles the blocks of the pages of the picks from `from` to
-// before `to`. No page's word changes.
+// Stores the lowest bits of all pages, and settles the blocks of the pages of the picks from `from` to before
+// `to`. No page's word changes. No block is swept unless `any_swept`.
 fn settle_picks(
     lows: &mut Vec<u16>,
     swept: &mut [bool],
+    any_swept: bool,
     pages: u32,
     picks: &Picks,
     from: u32,
@@ -156,17 +175,21 @@ fn settle_picks(
     requires within { to ≤ length picks.now.pages }
     requires pages { (k : ℕ) → k < to → slice_index picks.now.pages k < pages }
     requires blocks { pages / 64 < length swept.old }
+    requires unswept { any_swept ≡ false
+        → (b : ℕ) → slice_index_or swept.old b false ≡ false }
     requires room { pages + 64 ≤ vec_capacity lows.old }
     ensures same { (p : ℕ) → p < pages
         → low_in swept.new lows.new.items p ≡ low_in swept.old lows.old.items p }
     ensures settled { (k : ℕ) → from ≤ k → k < to
         → slice_index_or swept.new (slice_index picks.now.pages k / 64) false ≡ false }
+    ensures others { (b : ℕ) → slice_index_or swept.old b false ≡ false
+        → slice_index_or swept.new b false ≡ false }
     ensures each { pages ≤ length lows.new.items }
     ensures blocks { length swept.new ≡ length swept.old }
     ensures room { vec_capacity lows.old ≤ vec_capacity lows.new }
 {
     grow(lows, pages);
-    if is_any_swept(swept, picks, from, to) {
+    if any_swept && is_any_swept(swept, picks, from, to) {
         settle_each(lows, swept, pages, picks, from, to);
     }
 }
@@ -200,6 +223,8 @@ fn settle_each(lows: &mut [u16], swept: &mut [bool], pages: u32, picks: &Picks, 
         → low_in swept.new lows.new p ≡ low_in swept.old lows.old p }
     ensures settled { (k : ℕ) → from ≤ k → k < to
         → slice_index_or swept.new (slice_index picks.now.pages k / 64) false ≡ false }
+    ensures others { (b : ℕ) → slice_index_or swept.old b false ≡ false
+        → slice_index_or swept.new b false ≡ false }
     ensures len { length lows.new ≡ length lows.old }
     ensures blocks { length swept.new ≡ length swept.old }
 {

@@ -8,7 +8,7 @@ ghost use Rattle.damon_core.specs.Event.{IsLoading, IsObserving, load_index, com
 ghost use Rattle.damon_core.specs.Makes.{Makes};
 ghost use Rattle.damon_core.specs.Pass.{IsInPass};
 ghost use Rattle.damon_core.specs.Reached.{Reached};
-ghost use Rattle.damon_world.specs.Draws.{drawn, drawn_rest};
+ghost use Rattle.sampler.specs.Draws.{drawn, drawn_rest};
 ghost use Rattle.damon_world.specs.Stands.{StandsAt, StandsFor};
 ghost use Rattle.damon_world.specs.Words.{cleared_words};
 ghost use Rattle.damon_world.specs.Touches.{touches};
@@ -22,7 +22,7 @@ use crate::plain_words::fill_up;
 use damon_core::{Changed, Monitor};
 use live_commit::{Commit, CommitFault, Phase, Setup};
 use rand_core::Rng;
-use sampler::Marks;
+use sampler::{Marks, draw_words};
 use std::alloc::{AllocError, Global};
 use std::marker::Model;
 
@@ -46,7 +46,7 @@ pub enum Stepped {
 pub struct World<R: Rng> {
     monitor: Monitor,
     words: PlainWords,
-    // The random words of a step; the room for them is taken once.
+    // The random words of an aggregation; the room for them is taken once.
     drawn: Vec<u32>,
     source: R,
 }
@@ -214,9 +214,7 @@ impl<R: Rng + Drop> World<R> {
         ensures one { result ≡ 1 }
         ensures advance { IsAdvance R.stream self.old self.new 1 }
     {
-        let rows = self.monitor.rows().len();
-        draw(&mut self.source, rows as usize, &mut self.drawn);
-        self.monitor.prepare(&self.drawn);
+        self.monitor.prepare_drawn(&mut self.source);
         1
     }
 
@@ -228,7 +226,7 @@ impl<R: Rng + Drop> World<R> {
     {
         damon_core::pages_are_kept();
         let attrs = self.monitor.attrs();
-        draw(&mut self.source, 2 * attrs.max as usize, &mut self.drawn);
+        draw_words(&mut self.source, 2 * attrs.max as usize, &mut self.drawn);
         self.monitor.aggregate(&self.drawn);
         1
     }
@@ -298,38 +296,4 @@ fn clear_words(monitor: &Monitor, from: u32, to: u32, words: &mut PlainWords)
 {
     let pass = monitor.ticks() + 1;
     words.clear(monitor.picks(), from, to, pass);
-}
-
-// Replaces the words by `count` random ones.
-fn draw<R: Rng>(source: &mut R, count: usize, words: &mut Vec<u32>)
-    requires { count ≤ vec_capacity words.old }
-    ensures words { words.new.items ≡ drawn count (R.stream source.old) }
-    ensures capacity { vec_capacity words.new ≡ vec_capacity words.old }
-    ensures rest { R.stream source.new ≡ drawn_rest count (R.stream source.old) }
-{
-    words.clear();
-    'fours: for _ in 0..count / 4 {
-        draw_four(source, words);
-    }
-    'others: for _ in 0..count % 4 {
-        words.push_reserved(source.next_u32());
-    }
-}
-
-// Appends four random words. They are stored only when all of them are drawn: a store after each would send
-// the state of the source through memory, which takes as long as the word.
-fn draw_four<R: Rng>(source: &mut R, words: &mut Vec<u32>)
-    requires { vec_len words.old + 4 ≤ vec_capacity words.old }
-    ensures words { words.new.items ≡ words.old.items ++ drawn 4 (R.stream source.old) }
-    ensures capacity { vec_capacity words.new ≡ vec_capacity words.old }
-    ensures rest { R.stream source.new ≡ drawn_rest 4 (R.stream source.old) }
-{
-    let first = source.next_u32();
-    let second = source.next_u32();
-    let third = source.next_u32();
-    let fourth = source.next_u32();
-    words.push_reserved(first);
-    words.push_reserved(second);
-    words.push_reserved(third);
-    words.push_reserved(fourth);
 }

@@ -1,3 +1,4 @@
 pub mod Picking
 pub mod Raised
 pub mod Loading
+pub mod Words

@@ -1,18 +1,23 @@
 -- The picks of rows.
-use Rattle.std.proofs.Common.{◌≡◌, ℕ, zero, suc, ◌<◌, List, [], ◌∷◌, ◌++◌, length, take, get_or, Some, refl, ap, arith}
+use Rattle.std.proofs.Common.{◌≡◌, ℕ, zero, suc, List, [], ◌∷◌, ◌++◌, length, take, Some, refl, ap, sym, ◌∙◌, arith}
 use Rattle.std.specs.Prelude.{slice_get}
 use Rattle.damon_types.specs.declared.row.Row.{Row}
 use Rattle.sampler.specs.Pick.{pick, picks_of}
 
 -- the picks of one row more
-pub picks_of-more : (rows : List Row) (ws : List ℕ) (i : ℕ) (r : Row) → slice_get rows i ≡ Some r → i < length ws → picks_of (take (suc i) rows) ws ≡ picks_of (take i rows) ws ++ pick r (get_or ws i 0) ∷ []
-picks_of-more [] ws i r is word = absurd (cc is)
-picks_of-more (q ∷ rows) [] i r is word = absurd (omega arith)
-picks_of-more (q ∷ rows) (w ∷ ws) zero r is word = let e : q ≡ r = cc in ap (λ (x : Row). pick x w ∷ []) e
-picks_of-more (q ∷ rows) (w ∷ ws) (suc i) r is word = ap (λ ps. pick q w ∷ ps) (picks_of-more rows ws i r is (omega arith))
+pub picks_of-more : (rows : List Row) (ws : List ℕ) (i : ℕ) (r : Row) (w : ℕ) → slice_get rows i ≡ Some r → slice_get ws i ≡ Some w → picks_of (take (suc i) rows) ws ≡ picks_of (take i rows) ws ++ pick r w ∷ []
+picks_of-more [] ws i r w is word = absurd (cc is)
+picks_of-more (q ∷ rows) [] i r w is word = absurd (cc word)
+picks_of-more (q ∷ rows) (v ∷ ws) zero r w is word = let e : q ≡ r = cc in let f : v ≡ w = cc in ap (λ (x : Row). pick x v ∷ []) e ∙ ap (λ x. pick r x ∷ []) f
+picks_of-more (q ∷ rows) (v ∷ ws) (suc i) r w is word = ap (λ ps. pick q v ∷ ps) (picks_of-more rows ws i r w is word)
 
 -- as many picks as rows
 pub length-picks_of : (rows : List Row) (ws : List ℕ) → length ws ≡ length rows → length (picks_of rows ws) ≡ length rows
 length-picks_of [] ws same = refl
 length-picks_of (r ∷ rows) [] same = absurd (omega arith)
 length-picks_of (r ∷ rows) (w ∷ ws) same = ap suc (length-picks_of rows ws (omega arith))
+
+-- the picks so far, and that of one row more
+pub picks-next : (rows : List Row) (ws : List ℕ) (i j p : ℕ) (before after : List ℕ) → before ≡ picks_of (take i rows) ws → picks_of (take (suc i) rows) ws ≡ picks_of (take i rows) ws ++ p ∷ [] → after ≡ before ++ p ∷ [] → j ≡ suc i → after ≡ picks_of (take j rows) ws
+picks-next rows ws i j p before after so_far more pushed next =
+    pushed ∙ ap (λ b. b ++ p ∷ []) so_far ∙ sym more ∙ ap (λ k. picks_of (take k rows) ws) (sym next)

@@ -1,3 +1,4 @@
 pub mod Pick
 pub mod Loaded
 pub mod Counted
+pub mod Draws

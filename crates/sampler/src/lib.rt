@@ -3,11 +3,14 @@
 
 /// Rows whose check was a hit are counted.
 mod counting;
+/// Random words, drawn in order.
+mod drawing;
 /// The marks of pages.
 mod marks;
 /// One page of each row.
 mod picks;
 
 pub use counting::observe;
+pub use drawing::draw_words;
 pub use marks::Marks;
-pub use picks::{Picks, set_picks};
+pub use picks::{Picks, draw_picks, set_picks};

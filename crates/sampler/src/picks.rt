@@ -1,9 +1,12 @@
-ghost use Rattle.std.specs.Prelude.{◌≡◌, ◌+◌, ◌%◌, ◌^◌, ◌≤◌, ◌<◌, [], false, length, slice_get, slice_set, replicate, IfOk, vec_len, vec_capacity};
+ghost use Rattle.std.specs.Prelude.{◌≡◌, ◌+◌, ◌%◌, ◌^◌, ◌≤◌, ◌<◌, ◌++◌, ◌∷◌, [], ℕ, List, Some, suc, false, length, take, slice_get, slice_set, replicate, IfOk, vec_len, vec_capacity};
 ghost use Rattle.std.specs.List.{AllByRecursion, list_any};
+ghost use Rattle.rand_core.specs.Stream.{Stream};
+ghost use Rattle.sampler.specs.Draws.{drawn, drawn_rest};
 ghost use Rattle.sampler.specs.Pick.{PickList, picks_of};
 ghost use Rattle.sampler.specs.Loaded.{loaded_bits, loaded_hits};
 
 use crate::Marks;
+use rand_core::Rng;
 use reciprocal::Reciprocal;
 use region_list::Regions;
 use std::alloc::{AllocError, Global};
@@ -159,6 +162,27 @@ pub fn set_picks(regions: &Regions, words: &[u32], picks: &mut Picks)
     clear_bits(&mut picks.bits, regions.len());
 }
 
+/// The same by the next random words of a source, one for each row. One loop draws and picks, so that the
+/// processor does both at once.
+pub fn draw_picks<R: Rng>(regions: &Regions, source: &mut R, picks: &mut Picks)
+    requires { length regions.now.rows ≤ picks.old.cap }
+    ensures picks { picks.new
+        ≡ record picks.old {
+          pages = picks_of regions.now.rows
+              (drawn (length regions.now.rows) (R.stream source.old));
+          bits = replicate (length regions.now.rows) false;
+        } }
+    ensures rest { R.stream source.new
+        ≡ drawn_rest (length regions.now.rows) (R.stream source.old) }
+    ensures each { length (drawn (length regions.now.rows) (R.stream source.old))
+        ≡ length regions.now.rows }
+{
+    picks.passes = (picks.passes + 1) % RENEWAL;
+    renew_at(picks.passes, regions, &mut picks.reciprocals);
+    pick_drawn(regions, source, &picks.reciprocals, &mut picks.pages);
+    clear_bits(&mut picks.bits, regions.len());
+}
+
 // Makes the reciprocals those of the rows' sizes, if this is the pass of a renewal.
 fn renew_at(pass: u32, regions: &Regions, reciprocals: &mut [Reciprocal])
     requires { length regions.now.rows ≤ length reciprocals.old }
@@ -194,6 +218,19 @@ fn remainder(word: u32, pages: u32, reciprocal: &Reciprocal) -> u32
     }
 }
 
+// The page that a word picks of the row with this index, which is below the number of rows.
+fn pick_at(regions: &Regions, reciprocals: &[Reciprocal], index: u32, word: u32) -> u32
+    requires reciprocals { length regions.now.rows ≤ length reciprocals.now }
+    requires index { index < length regions.now.rows }
+    ensures { (words : List ℕ) → slice_get words index ≡ Some word
+        → picks_of (take (suc index) regions.now.rows) words
+        ≡ picks_of (take index regions.now.rows) words ++ result ∷ [] }
+{
+    let row = regions.row(index);
+    let offset = remainder(word, row.pages, &reciprocals[index as usize]);
+    row.start + offset
+}
+
 // Picks a page of each row by its word. It is kept apart, so that its loop has the registers.
 #[inline(never)]
 fn pick_pages(regions: &Regions, words: &[u32], reciprocals: &[Reciprocal], pages: &mut Vec<u32>)
@@ -205,11 +242,70 @@ fn pick_pages(regions: &Regions, words: &[u32], reciprocals: &[Reciprocal], page
 {
     pages.clear();
     for index in 0..regions.len() {
-        let row = regions.row(index);
-        let reciprocal = &reciprocals[index as usize];
-        let offset = remainder(words[index as usize], row.pages, reciprocal);
-        pages.push_reserved(row.start + offset);
+        pages.push_reserved(pick_at(regions, reciprocals, index, words[index as usize]));
     }
+}
+
+// Picks a page of each row by the next random words. It is kept apart, so that its loop has the registers.
+#[inline(never)]
+fn pick_drawn<R: Rng>(
+    regions: &Regions,
+    source: &mut R,
+    reciprocals: &[Reciprocal],
+    pages: &mut Vec<u32>,
+)
+    requires reciprocals { length regions.now.rows ≤ length reciprocals.now }
+    requires room { length regions.now.rows ≤ vec_capacity pages.old }
+    ensures pages { pages.new.items
+        ≡ picks_of regions.now.rows (drawn (length regions.now.rows) (R.stream source.old)) }
+    ensures rest { R.stream source.new
+        ≡ drawn_rest (length regions.now.rows) (R.stream source.old) }
+    ensures capacity { vec_capacity pages.new ≡ vec_capacity pages.old }
+{
+    pages.clear();
+    let rows = regions.len();
+    'fours: for four in 0..rows / 4 {
+        pick_four(regions, source, reciprocals, 4 * four, pages);
+    }
+    'others: for index in rows / 4 * 4..rows {
+        let word = source.next_u32();
+        pages.push_reserved(pick_at(regions, reciprocals, index, word));
+    }
+}
+
+// Picks a page of each of four rows, the first of which has the index `from`. All four words are drawn before
+// the first page is stored: a store after each word would send the state of the source through memory, which
+// takes as long as the word.
+#[inline]
+fn pick_four<R: Rng>(
+    regions: &Regions,
+    source: &mut R,
+    reciprocals: &[Reciprocal],
+    from: u32,
+    pages: &mut Vec<u32>,
+)
+    requires reciprocals { length regions.now.rows ≤ length reciprocals.now }
+    requires within { from + 4 ≤ length regions.now.rows }
+    requires room { vec_len pages.old + 4 ≤ vec_capacity pages.old }
+    ensures pages { (s : Stream) → R.stream source.old ≡ drawn_rest from s
+        → pages.old.items
+        ≡ picks_of (take from regions.now.rows) (drawn (length regions.now.rows) s)
+        → pages.new.items
+        ≡ picks_of (take (from + 4) regions.now.rows) (drawn (length regions.now.rows) s) }
+    ensures rest { R.stream source.new ≡ drawn_rest 4 (R.stream source.old) }
+    ensures len { vec_len pages.new ≡ vec_len pages.old + 4 }
+    ensures capacity { vec_capacity pages.new ≡ vec_capacity pages.old }
+{
+    // For its clauses alone: the number of rows is a u32.
+    let _rows = regions.len();
+    let first = source.next_u32();
+    let second = source.next_u32();
+    let third = source.next_u32();
+    let fourth = source.next_u32();
+    pages.push_reserved(pick_at(regions, reciprocals, from, first));
+    pages.push_reserved(pick_at(regions, reciprocals, from + 1, second));
+    pages.push_reserved(pick_at(regions, reciprocals, from + 2, third));
+    pages.push_reserved(pick_at(regions, reciprocals, from + 3, fourth));
 }
 
 // Makes the list `count` bits that are all false.

@@ -22,7 +22,7 @@ use Rattle.damon_core.specs.InPhase.{IsInPhase}
 use Rattle.damon_core.specs.Pass.{IsPickWithin}
 use Rattle.damon_core.specs.Makes.{AllFit-append, Reached-run}
 use Rattle.damon_core.specs.Reached.{AllByHit, AllFit, CanOpen, Reached, ReachedByHit, run}
-use Rattle.damon_world.specs.Draws.{drawn}
+use Rattle.sampler.specs.Draws.{drawn}
 use Rattle.damon_world.specs.Moment.{Moment, along, event_in, moved, next_event}
 use Rattle.damon_world.specs.Plays.{Reached-along, along-state}
 use Rattle.damon_world.specs.Touches.{touches}

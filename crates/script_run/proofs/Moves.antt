@@ -10,7 +10,7 @@ use Rattle.damon_core.specs.Commit.{commit_answer}
 use Rattle.damon_core.specs.Event.{Event, aggregate, commit, show}
 use Rattle.damon_core.specs.Makes.{Makes}
 use Rattle.damon_core.specs.Reached.{Reached, run}
-use Rattle.damon_world.specs.Draws.{drawn}
+use Rattle.sampler.specs.Draws.{drawn}
 use Rattle.damon_world.specs.Advance.{AreAmid}
 use Rattle.damon_world.specs.Moment.{Moment, along, event_in, events_of_steps, moved, next_event, stepped_times}
 use Rattle.damon_world.specs.Plays.{Plays, Plays-append, Reached-along, along-append, along-state}

@@ -1,4 +1,4 @@
-use Rattle.std.proofs.Common.{◌≡◌, ℕ, ◌*◌, ◌%◌, ◌/◌, ◌<◌, ◌≤◌, ◌+◌, ◌-◌, false, length, ap, ◌∙◌, arith}
+use Rattle.std.proofs.Common.{◌≡◌, ℕ, ◌*◌, ◌%◌, ◌/◌, ◌<◌, ◌≤◌, ◌+◌, ◌-◌, Bool, List, false, length, ap, subst, sym, ◌∙◌, arith}
 use Rattle.std.specs.Prelude.{slice_index, slice_index_or}
 use Rattle.std.specs.Vec.{with_items}
 use Rattle.std.proofs.lemmas.List.{with_items_is}
@@ -22,6 +22,21 @@ pub put_highs_if_any-requires-clause-pages : goal.put_highs_if_any-requires-clau
 put_highs_if_any-requires-clause-pages c k below =
     let w = c.self.inside in
     omega (arith, c.requires.pages k below, ap length c.self.view_is, length_view (word_in w.swept.items w.lows.items w.highs.items) w.pages)
+
+pub invariant_of-self : goal.invariant_of-self
+invariant_of-self c =
+    let w = c.self.inside in
+    let kept = c.self.invariant in
+    let made = c.settle_picks.ensures in
+    let same = c.deref_mut.ensures.value in
+    let marks = with_items_is w.swept c.settle_picks.new.swept (omega (arith, made.blocks, ap length same)) in
+    record {
+      blocks = subst (λ (xs : List Bool). w.pages / 64 < length xs) (sym marks) (omega (arith, made.blocks, ap length same, kept.blocks));
+      unswept = λ no b. ap (λ (xs : List Bool). slice_index_or xs b false) marks
+          ∙ made.others b (ap (λ (xs : List Bool). slice_index_or xs b false) same ∙ kept.unswept no b);
+      lows = omega (arith, kept.lows, made.room);
+      highs = omega (arith, kept.highs, c.put_highs_if_any.ensures.capacity);
+    }
 
 pub returns : goal.returns
 returns c =

@@ -1,7 +1,7 @@
-use Rattle.std.proofs.Common.{◌≡◌, ℕ, ◌+◌, ◌*◌, ◌/◌, ◌<◌, length, set, sym, ap, ◌∙◌, arith}
+use Rattle.std.proofs.Common.{◌≡◌, ℕ, ◌+◌, ◌*◌, ◌/◌, ◌<◌, Bool, List, false, length, set, sym, ap, subst, ◌∙◌, arith}
 use Rattle.std.proofs.lemmas.Grind.{get_or_default_zero}
 use Rattle.std.proofs.lemmas.List.{with_items_is}
-use Rattle.std.specs.Prelude.{slice_index}
+use Rattle.std.specs.Prelude.{slice_index, slice_index_or}
 use Rattle.damon_world.specs.Words.{low_in, word, word_in, words_in, touched_word}
 use Rattle.damon_world.proofs.Parts.{length_view, touch_of_word, puts_same, stored_set, settled_word}
 use Rattle.damon_world.proofs.plain_words.PlainWords.touch.Goals as goal
@@ -20,6 +20,20 @@ pub index_mut-requires : goal.index_mut-requires
 index_mut-requires c =
     let w = c.self.inside in
     omega (arith, c.settle.ensures.each, c.requires, ap length c.self.view_is, length_view (word_in w.swept.items w.lows.items w.highs.items) w.pages)
+
+pub invariant_of-self : goal.invariant_of-self
+invariant_of-self c =
+    let w = c.self.inside in
+    let kept = c.self.invariant in
+    let same = c.deref_mut.ensures.value in
+    let marks = with_items_is w.swept c.settle.new.swept (omega (arith, c.settle.ensures.blocks, ap length same)) in
+    record {
+      blocks = subst (λ (xs : List Bool). w.pages / 64 < length xs) (sym marks) (omega (arith, c.settle.ensures.blocks, ap length same, kept.blocks));
+      unswept = λ no b. ap (λ (xs : List Bool). slice_index_or xs b false) marks
+          ∙ c.settle.ensures.others b (ap (λ (xs : List Bool). slice_index_or xs b false) same ∙ kept.unswept no b);
+      lows = omega (arith, kept.lows, c.settle.ensures.room);
+      highs = kept.highs;
+    }
 
 pub returns-clause-tag : goal.returns-clause-tag
 returns-clause-tag c =

@@ -1,16 +1,16 @@
-use Rattle.std.proofs.Common.{◌≡◌, ◌<◌, ◌%◌, ◌/◌, false, length, map, sym, ap, ◌∙◌, arith}
+use Rattle.std.proofs.Common.{◌≡◌, ◌<◌, ◌%◌, ◌/◌, Bool, List, false, length, map, sym, ap, ◌∙◌, arith}
 use Rattle.std.proofs.lemmas.List.{length-map}
 use Rattle.std.specs.Prelude.{◌==◌, ◌||◌, slice_index, slice_index_or}
 use Rattle.sampler.specs.Loaded.{mark_of}
 use Rattle.damon_world.specs.Words.{word_in, words_in, is_touched_word}
-use Rattle.damon_world.proofs.Parts.{get_or-default, length_view, view_at, mark_of_page, mark_in}
+use Rattle.damon_world.proofs.Parts.{length_view, view_at, mark_of_page, mark_in}
 use Rattle.damon_world.proofs.plain_words.PlainWordsMarks.is_marked.Goals as goal
 
-pub index-requires : goal.index-requires
-index-requires c =
+pub is_swept-requires-clause-block : goal.is_swept-requires-clause-block
+is_swept-requires-clause-block c =
     let w = c.self.inside in
     let here : c.args.page < w.pages = omega (arith, c.requires, length-map c.args.self.now is_touched_word, ap length c.self.view_is, length_view (word_in w.swept.items w.lows.items w.highs.items) w.pages) in
-    omega (arith, here, c.self.invariant.blocks)
+    omega (arith, here, c.self.invariant.blocks, ap length c.deref.ensures.value)
 
 pub returns : goal.returns
 returns c =
@@ -20,9 +20,8 @@ returns c =
     let hs = w.highs.items in
     let p = c.args.page in
     let here : p < w.pages = omega (arith, c.requires, length-map c.args.self.now is_touched_word, ap length c.self.view_is, length_view (word_in s ls hs) w.pages) in
-    let block : p / 64 < length s = omega (arith, here, c.self.invariant.blocks) in
-    let flag : c.index.result.now ≡ slice_index_or s (p / 64) false = c.index.ensures ∙ get_or-default s (p / 64) c.index.result.now false block in
-    let low : c.low_at.result ≡ slice_index ls p = c.low_at.ensures ∙ ap (λ xs. slice_index xs p) c.deref.ensures.value in
+    let flag : c.is_swept.result ≡ slice_index_or s (p / 64) false = c.is_swept.ensures ∙ ap (λ (xs : List Bool). slice_index_or xs (p / 64) false) c.deref.ensures.value in
+    let low : c.low_at.result ≡ slice_index ls p = c.low_at.ensures ∙ ap (λ xs. slice_index xs p) c.deref-2.ensures.value in
     ap (λ b. b || c.low_at.result % 2 == 1) flag
     ∙ ap (λ l. slice_index_or s (p / 64) false || l % 2 == 1) low
     ∙ mark_in s ls hs p

@@ -1,8 +1,8 @@
 use Rattle.std.proofs.Common.{◌≡◌, ℕ, ◌+◌, ◌*◌, ◌/◌, [], ◌∷◌, ◌++◌, length, length-append, ap, sym, ◌∙◌, arith}
 use Rattle.rand_core.specs.Stream.{Stream}
-use Rattle.damon_world.specs.Draws.{drawn, drawn_rest}
-use Rattle.damon_world.proofs.Drawing.{drawn-append, drawn-one, drawn_rest-append, drawn_rest-one, length-drawn}
-use Rattle.damon_world.proofs.world.draw.Goals as goal
+use Rattle.sampler.specs.Draws.{drawn, drawn_rest}
+use Rattle.sampler.proofs.Words.{drawn-append, drawn-one, drawn_rest-append, drawn_rest-one, length-drawn}
+use Rattle.sampler.proofs.drawing.draw_words.Goals as goal
 
 pub fours-preserved : goal.fours-preserved
 fours-preserved g c =

@@ -1,7 +1,7 @@
 use Rattle.std.proofs.Common.{◌≡◌, ◌*◌, ◌+◌, ◌/◌, length}
 use Rattle.std.specs.Prelude.{vec_capacity}
-use Rattle.damon_world.specs.Draws.{drawn, drawn_rest}
-use Rattle.damon_world.proofs.world.draw.Given as goal
+use Rattle.sampler.specs.Draws.{drawn, drawn_rest}
+use Rattle.sampler.proofs.drawing.draw_words.Given as goal
 
 abbrev pub invariant-fours : goal.invariant-fours
 invariant-fours g l = record {

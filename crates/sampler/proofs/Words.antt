@@ -1,7 +1,8 @@
 -- Random words one after another.
-use Rattle.std.proofs.Common.{◌≡◌, ℕ, zero, suc, ◌+◌, [], ◌∷◌, ◌++◌, length, refl, ap, ◌∙◌, arith}
+use Rattle.std.proofs.Common.{◌≡◌, ℕ, zero, suc, ◌+◌, ◌<◌, [], ◌∷◌, ◌++◌, length, Some, refl, ap, sym, ◌∙◌, arith}
+use Rattle.std.specs.Prelude.{slice_get}
 use Rattle.rand_core.specs.Stream.{Stream, next_u32}
-use Rattle.damon_world.specs.Draws.{drawn, drawn_rest}
+use Rattle.sampler.specs.Draws.{drawn, drawn_rest}
 
 -- one word
 pub drawn-one : (w : ℕ) (s t : Stream) → (w, t) ≡ next_u32 s → w ∷ [] ≡ drawn 1 s
@@ -26,3 +27,19 @@ drawn_rest-append zero m s = let none : 0 + m ≡ m = omega arith in ap (λ k. d
 drawn_rest-append (suc n) m s =
     let one : suc n + m ≡ suc (n + m) = omega arith in
     ap (λ k. drawn_rest k s) one ∙ drawn_rest-append n m (next_u32 s).1
+
+-- a word of those that are drawn
+pub drawn-get : (n k : ℕ) (s : Stream) → k < n → slice_get (drawn n s) k ≡ Some (next_u32 (drawn_rest k s)).0
+drawn-get zero k s below = absurd (omega arith)
+drawn-get (suc n) zero s below = refl
+drawn-get (suc n) (suc k) s below = drawn-get n k (next_u32 s).1 (omega arith)
+
+-- the next word, where some are drawn
+pub drawn-next : (n k : ℕ) (s here left : Stream) (w : ℕ) → k < n → here ≡ drawn_rest k s → (w, left) ≡ next_u32 here → slice_get (drawn n s) k ≡ Some w
+drawn-next n k s here left w below at next =
+    drawn-get n k s below ∙ ap (λ t. Some (next_u32 t).0) (sym at) ∙ ap (λ (x : ℕ × Stream). Some x.0) (sym next)
+
+-- what is left after one word more
+pub drawn_rest-next : (k j : ℕ) (s here left : Stream) (w : ℕ) → j ≡ k + 1 → here ≡ drawn_rest k s → (w, left) ≡ next_u32 here → left ≡ drawn_rest j s
+drawn_rest-next k j s here left w more at next =
+    drawn_rest-one w here left next ∙ ap (drawn_rest 1) at ∙ sym (drawn_rest-append k 1 s) ∙ ap (λ i. drawn_rest i s) (sym more)

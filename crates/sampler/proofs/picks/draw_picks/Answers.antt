@@ -1,0 +1,24 @@
+use Rattle.std.proofs.Common.{length, ap, sym, ◌∙◌, arith}
+use Rattle.std.proofs.lemmas.List.{length-replicate}
+use Rattle.sampler.proofs.Picking.{length-picks_of}
+use Rattle.sampler.proofs.Words.{length-drawn}
+use Rattle.sampler.proofs.picks.draw_picks.Goals as goal
+
+pub invariant_of-picks : goal.invariant_of-picks
+invariant_of-picks g c =
+    let kept = c.picks.invariant in
+    let rows = c.args.regions.now.rows in
+    let pages = ap length c.pick_drawn.ensures.pages ∙ length-picks_of rows _ (length-drawn (length rows) _) in
+    let bits = ap length c.clear_bits.ensures.bits ∙ length-replicate _ _ in
+    record {
+      same = bits ∙ c.len.ensures.len ∙ sym pages;
+      room = omega (arith, pages, c.requires, ap (λ p. p.cap) c.picks.view_is);
+      small = kept.small;
+      pages_reserved = omega (arith, c.pick_drawn.ensures.capacity, kept.pages_reserved);
+      bits_reserved = omega (arith, c.clear_bits.ensures.capacity, kept.bits_reserved);
+      reciprocals_kept = omega (arith, c.renew_at.ensures, ap length c.deref_mut.ensures.value, kept.reciprocals_kept);
+      few_passes = omega arith;
+    }
+
+pub returns-clause-each : goal.returns-clause-each
+returns-clause-each g c = length-drawn (length c.args.regions.now.rows) (g.R.Rng.stream c.args.source.now)
