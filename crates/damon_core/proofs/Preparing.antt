@@ -1,4 +1,4 @@
--- A pass is prepared, by words that are given or drawn.
+-- A pass is prepared.
 use Rattle.std.proofs.Common.{◌≡◌, ◌≤◌, ℕ, List, [], ◌∷◌, Bool, false, length, refl, ap, sym, subst, ◌∙◌, arith}
 use Rattle.std.specs.Prelude.{replicate}
 use Rattle.std.proofs.lemmas.List.{length-replicate}
@@ -66,6 +66,6 @@ monitor_prepared space attrs old new clock totals report engine ws kept idle uni
 -- the event, for the monitor that shows what is shown after it
 pub prepare_is_made : (m new : MonitorView) (ws : List ℕ) → m.core.phase ≡ Idle → length ws ≡ row_count m.core → new ≡ after_prepare ws m → Makes Stands m new (prepare ws ∷ [])
 prepare_is_made m new ws idle each shows s reached stands = (
-      (prepare_fits m s ws stands idle each, tt),
-      subst (λ (x : MonitorView). Stands x (after s (prepare ws))) (sym shows) (prepare_stands m s ws reached stands idle),
-    )
+  (prepare_fits m s ws stands idle each, tt),
+  subst (λ (x : MonitorView). Stands x (after s (prepare ws))) (sym shows) (prepare_stands m s ws reached stands idle),
+)

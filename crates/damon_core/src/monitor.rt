@@ -207,22 +207,9 @@ impl Monitor {
         self.sampling.picks()
     }
 
-    /// Prepares a pass: picks a page of each row, that of row i by word i. No pass is under way and no
-    /// aggregation is due, and there are as many words as rows.
-    pub fn prepare(&mut self, words: &[u32])
-        requires idle { self.old.core.phase ≡ Phase.Idle }
-        requires words { length words.now ≡ row_count self.old.core }
-        ensures core { self.new.core ≡ prepared_core words.now self.old.core }
-        ensures event { Makes Stands self.old self.new (prepare_event words.now ∷ []) }
-    {
-        // For its clauses alone: the rows tile their ranges and are within their limits.
-        let _rows = self.sampling.regions().len();
-        self.sampling.prepare(words);
-    }
-
-    /// The same by the next random words of a source, one for each row: they are drawn where the pages are
-    /// picked. No pass is under way and no aggregation is due.
-    pub fn prepare_drawn<R: Rng>(&mut self, source: &mut R)
+    /// Prepares a pass: picks a page of each row by the next random words of a source, one for each. No pass
+    /// is under way and no aggregation is due.
+    pub fn prepare<R: Rng>(&mut self, source: &mut R)
         requires { self.old.core.phase ≡ Phase.Idle }
         ensures core { self.new.core
             ≡ prepared_core (drawn (row_count self.old.core) (R.stream source.old)) self.old.core }
@@ -235,7 +222,7 @@ impl Monitor {
     {
         // For its clauses alone: the rows tile their ranges and are within their limits.
         let _rows = self.sampling.regions().len();
-        self.sampling.prepare_drawn(source);
+        self.sampling.prepare(source);
     }
 
     /// The page of pick `k`, one for each row, of the pass under way.

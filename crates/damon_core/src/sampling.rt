@@ -30,7 +30,7 @@ use rand_core::Rng;
 use region_list::{Regions, RowBuf, same_spans};
 use region_merge::merge_all;
 use region_split::split_all;
-use sampler::{Marks, Picks, draw_picks, set_picks};
+use sampler::{Marks, Picks, draw_picks};
 use scheme_engine::Engine;
 use std::alloc::{AllocError, Global};
 use std::marker::Model;
@@ -122,24 +122,8 @@ impl Sampling {
         &self.picks
     }
 
-    // Prepares a pass: picks a page of each row, that of row i by word i.
-    pub(crate) fn prepare(&mut self, words: &[u32])
-        requires { length words.now ≡ length self.old.regions.rows }
-        ensures { self.new ≡ record self.old {
-          phase = variant.Clearing 0;
-          picks = picks_of self.old.regions.rows words.now;
-          bits = replicate (length self.old.regions.rows) false;
-        } }
-    {
-        // For its clauses alone: there are at most `cap` rows.
-        let _rows = self.regions.len();
-        set_picks(&self.regions, words, &mut self.picks);
-        self.hits_so_far = 0;
-        self.phase = Phase::Clearing { next: 0 };
-    }
-
-    // The same by the next random words of a source, one for each row.
-    pub(crate) fn prepare_drawn<R: Rng>(&mut self, source: &mut R)
+    // Prepares a pass: picks a page of each row by the next random words of a source, one for each.
+    pub(crate) fn prepare<R: Rng>(&mut self, source: &mut R)
         ensures prepared { self.new ≡ record self.old {
           phase = variant.Clearing 0;
           picks = picks_of self.old.regions.rows

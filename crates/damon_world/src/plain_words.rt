@@ -108,7 +108,15 @@ impl PlainWords {
         let word = 2 * pass;
         let pages = self.pages;
         let any_swept = self.any_swept;
-        settle_picks(&mut self.lows, &mut self.swept, any_swept, pages, picks, from, to);
+        settle_picks(
+            &mut self.lows,
+            &mut self.swept,
+            any_swept,
+            pages,
+            picks,
+            from,
+            to,
+        );
         put_lows(&mut self.lows, picks, from, to, (word % LOWS) as u16);
         put_highs_if_any(
             &mut self.highs,

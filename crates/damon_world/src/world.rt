@@ -214,7 +214,7 @@ impl<R: Rng + Drop> World<R> {
         ensures one { result ≡ 1 }
         ensures advance { IsAdvance R.stream self.old self.new 1 }
     {
-        self.monitor.prepare_drawn(&mut self.source);
+        self.monitor.prepare(&mut self.source);
         1
     }
 

@@ -53,6 +53,3 @@ fn raised_count(count: u32, hit: bool) -> u32
 {
     if hit { count + 1 } else { count }
 }
-
-#[cfg(test)]
-mod tests;

@@ -145,25 +145,9 @@ fn load_bits<M: Marks>(pages: &[u32], bits: &mut [bool], from: u32, count: u32, 
     hits
 }
 
-/// Picks a page of each row: of row `i` the page `start + word i mod pages`. No check is a hit so far.
-/// There are as many words as rows, and room for as many picks.
-pub fn set_picks(regions: &Regions, words: &[u32], picks: &mut Picks)
-    requires words { length words.now ≡ length regions.now.rows }
-    requires room { length regions.now.rows ≤ picks.old.cap }
-    ensures { picks.new
-        ≡ record picks.old {
-          pages = picks_of regions.now.rows words.now;
-          bits = replicate (length regions.now.rows) false;
-        } }
-{
-    picks.passes = (picks.passes + 1) % RENEWAL;
-    renew_at(picks.passes, regions, &mut picks.reciprocals);
-    pick_pages(regions, words, &picks.reciprocals, &mut picks.pages);
-    clear_bits(&mut picks.bits, regions.len());
-}
-
-/// The same by the next random words of a source, one for each row. One loop draws and picks, so that the
-/// processor does both at once.
+/// Picks a page of each row by the next random words of a source, one for each row: of row `i` the page
+/// `start + word i mod pages`. No check is a hit so far. There is room for as many picks as rows. One loop
+/// draws and picks, so that the processor does both at once.
 pub fn draw_picks<R: Rng>(regions: &Regions, source: &mut R, picks: &mut Picks)
     requires { length regions.now.rows ≤ picks.old.cap }
     ensures picks { picks.new
@@ -229,21 +213,6 @@ fn pick_at(regions: &Regions, reciprocals: &[Reciprocal], index: u32, word: u32)
     let row = regions.row(index);
     let offset = remainder(word, row.pages, &reciprocals[index as usize]);
     row.start + offset
-}
-
-// Picks a page of each row by its word. It is kept apart, so that its loop has the registers.
-#[inline(never)]
-fn pick_pages(regions: &Regions, words: &[u32], reciprocals: &[Reciprocal], pages: &mut Vec<u32>)
-    requires reciprocals { length regions.now.rows ≤ length reciprocals.now }
-    requires words { length words.now ≡ length regions.now.rows }
-    requires room { length regions.now.rows ≤ vec_capacity pages.old }
-    ensures pages { pages.new.items ≡ picks_of regions.now.rows words.now }
-    ensures capacity { vec_capacity pages.new ≡ vec_capacity pages.old }
-{
-    pages.clear();
-    for index in 0..regions.len() {
-        pages.push_reserved(pick_at(regions, reciprocals, index, words[index as usize]));
-    }
 }
 
 // Picks a page of each row by the next random words. It is kept apart, so that its loop has the registers.
