@@ -3,7 +3,7 @@
 
     tests/measure.py TURNS PROGRAM [PROGRAM ...] [--only NAME] [--growth FILE.svg]
 
-Each PROGRAM is run on each workload (`workloads.py`), TURNS times, in turn with the others. A line has the
+Each PROGRAM is run on each workload (`speed_workloads.py`), TURNS times, in turn with the others. A line has the
 name of the workload and, for each program, its best time in milliseconds and its greatest resident set in
 MiB; for each program but the last also its time divided by that of the last one. `--only` takes the
 workloads whose names begin with NAME.
@@ -20,7 +20,7 @@ from contextlib import contextmanager
 from math import log10
 from typing import IO, Dict, Iterator, List, Sequence, Tuple
 
-from workloads import WORKLOADS, Workload
+from speed_workloads import WORKLOADS, Workload
 
 COLOURS = ("#1b6ca8", "#c1440e", "#2e7d32", "#6a1b9a", "#b8860b", "#00838f", "#ad1457", "#5d4037", "#455a64", "#7cb342", "#000000")
 
