@@ -163,7 +163,8 @@ impl Scene {
         served_slots_are_kept();
         let _count = self.regions.len();
         let _targets = self.space.targets();
-        self.engine.run(&mut self.regions, &self.space, 20, 20, &mut self.applied);
+        self.engine
+            .run(&mut self.regions, &self.space, 20, 20, &mut self.applied);
     }
 }
 

@@ -6,8 +6,8 @@ use std::alloc::Global;
 use std::process::Abort;
 use std::test::Fail;
 
-// The setup with an aggregation after this number of passes.
-pub fn three_pages(alloc: Global, aggr: u32) -> Result<Setup, Fail> {
+// The setup, with an aggregation after five passes.
+pub fn three_pages(alloc: Global) -> Result<Setup, Fail> {
     let target = Target {
         base: 0x1_0000,
         pages: 3,
@@ -15,7 +15,7 @@ pub fn three_pages(alloc: Global, aggr: u32) -> Result<Setup, Fail> {
     let attrs = Attrs {
         min: 3,
         max: 8,
-        aggr,
+        aggr: 5,
     };
     let range = RangeSpec {
         target: 0,
