@@ -5,8 +5,15 @@
 
 Without words it runs `rt ci --anew` at the top of the checkout, which proves everything from nothing. The
 processes of the prover below this one are looked at twice a second, and the time of each is counted for its
-crate and its kind: the proof of a crate, the proof of its tests, or its must-fail edits. What a process did
-after the last look at it is not counted, so each number is a little low.
+crate and its kind:
+
+    proof    the proof of the crate
+    tests    the proof of the crate with its tests
+    base     the crate as it stands, proved once more for its must-fail edits, each of which begins with what
+             this has proved
+    edits    the must-fail edits themselves
+
+What a process did after the last look at it is not counted, so each number is a little low.
 
 The output of the command goes to standard error, the table to standard output. The exit status is that of
 the command.
@@ -20,7 +27,7 @@ from pathlib import Path
 from typing import Dict, Iterator, Optional, Tuple
 
 TOP = Path(__file__).resolve().parent.parent
-KINDS = ("proof", "tests", "edits")
+KINDS = ("proof", "tests", "base", "edits")
 TICKS = os.sysconf("SC_CLK_TCK")
 Job = Tuple[str, str]
 
@@ -40,8 +47,11 @@ def job_of(pid: int) -> Optional[Job]:
     crate = words[words.index("--crate-name") + 1]
     if "--test" in words:
         return crate, "tests"
-    # Each edit is tried on a copy of the crate in a folder of its own.
-    return crate, "edits" if "rt-edit" in os.readlink(f"/proc/{pid}/cwd") else "proof"
+    # Each edit is tried on a copy of the crate in a folder of its own, and so is what they begin with.
+    if "rt-edit" not in os.readlink(f"/proc/{pid}/cwd"):
+        return crate, "proof"
+    kept = words[words.index("--incremental") + 1] if "--incremental" in words else ""
+    return crate, "base" if Path(kept).name == "seed" else "edits"
 
 
 def processes() -> Iterator[Tuple[int, int, float, Optional[Job]]]:

@@ -26,13 +26,7 @@ mod space;
 /// Streams over readers and writers of std.
 mod standard;
 /// Inputs and outputs of bytes.
-#[cfg(test)]
-mod scheme_tests;
 mod stream;
-#[cfg(test)]
-mod stream_tests;
-#[cfg(test)]
-mod value_tests;
 
 pub use attrs::{Attrs, AttrsFault, MAX_AGGR, MIN_REGIONS};
 pub use faulty::{FaultSink, FaultSource};

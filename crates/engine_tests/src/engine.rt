@@ -1,12 +1,13 @@
-// Runs of schemes that were computed by hand, over three rows of two pages whose ages are 50, 50 and 90.
-ghost use Rattle.std.specs.Prelude.{◌≡◌, ◌+◌, ◌≤◌, [], ◌∷◌, IfOk};
+// A run of a scheme that was computed by hand, over three rows of two pages whose ages are 50, 50 and 90.
+// Quotas, windows, filters and inactive slots are in the examples of scheme_engine and in whole runs.
+ghost use Rattle.std.specs.Prelude.{◌≡◌, [], ◌∷◌, IfOk};
 ghost use Rattle.std.specs.List.{AllByRecursion};
 ghost use Rattle.damon_types.specs.Within.{AreWithin};
 ghost use Rattle.scheme_engine.specs.Kept.{CountsWithin, StartBy};
 
 use damon_types::{
-    Action, Filter, FilterKind, Filters, Marks, Pattern, Prefer, Quota, Range, Ranges, Row, Scheme,
-    SlotChange, Space, Span, Target, Weights,
+    Action, Filters, Pattern, Prefer, Quota, Range, Ranges, Row, Scheme, SlotChange, Space, Span,
+    Target, Weights,
 };
 use quota_charge::Window;
 use region_list::{Regions, RowBuf, divide};
@@ -20,16 +21,19 @@ const ANY: Span = Span {
     high: u32::MAX,
 };
 
-// A scheme for all rows, in which older ones come first, with a quota of this many bytes in 40 ticks.
-fn oldest_first(action: Action, bytes: u64) -> Scheme {
+// A scheme for all rows, in which older ones come first, with a quota of three pages and a byte in 40 ticks.
+fn oldest_first() -> Scheme {
     Scheme {
-        action,
+        action: Action::Pageout,
         pattern: Pattern {
             size: ANY,
             count: ANY,
             age: ANY,
         },
-        quota: Some(Quota { bytes, reset: 40 }),
+        quota: Some(Quota {
+            bytes: 12_289,
+            reset: 40,
+        }),
         weights: Weights {
             size: 0,
             count: 0,
@@ -63,18 +67,7 @@ fn run(start: u32, pages: u32, score: u32) -> AppliedRun {
     }
 }
 
-// A choice of slot 3.
-fn choice(left: u64, taken: u64, lowest: Option<u32>) -> SlotChoice {
-    SlotChoice {
-        slot: 3,
-        active: true,
-        left: Some(left),
-        taken,
-        lowest,
-    }
-}
-
-// What the tests run on: the space, the regions and the engine, and what the last run was applied to.
+// What the test runs on: the space, the regions and the engine, and what the last run was applied to.
 #[derive(Drop)]
 struct Scene {
     space: Space,
@@ -98,10 +91,8 @@ fn six_pages(alloc: Global) -> Result<Ranges, Fail>
     Ok(ranges)
 }
 
-// The three rows, where `max` rows are allowed.
-fn three_rows(rt: &impl Abort, alloc: Global, max: u32) -> Result<Regions, Fail>
-    requires least { 3 ≤ max }
-    requires most { max ≤ 9 }
+// The three rows, where four are allowed.
+fn three_rows(rt: &impl Abort, alloc: Global) -> Result<Regions, Fail>
     ensures ranges { IfOk result
         (λ r. r.ranges ≡ record { target = 0; first = 0; pages = 6; class = 0 } ∷ []) }
     ensures cap { IfOk result (λ r. r.cap ≡ 9) }
@@ -111,7 +102,7 @@ fn three_rows(rt: &impl Abort, alloc: Global, max: u32) -> Result<Regions, Fail>
     divide(&ranges, 1, 3, &mut rows);
     assert_eq!(rt; rows.len(), 3);
     let mut regions = Regions::new(alloc, 1, 9, 9)?;
-    regions.replace(&ranges, &rows, max);
+    regions.replace(&ranges, &rows, 4);
     regions.set_values(0, 0, 0, 50);
     regions.set_values(1, 0, 0, 50);
     regions.set_values(2, 0, 0, 90);
@@ -119,9 +110,7 @@ fn three_rows(rt: &impl Abort, alloc: Global, max: u32) -> Result<Regions, Fail>
 }
 
 // The three rows, and an engine whose slots are empty.
-fn new_scene(rt: &impl Abort, alloc: Global, max: u32) -> Result<Scene, Fail>
-    requires least { 3 ≤ max }
-    requires most { max ≤ 9 }
+fn new_scene(rt: &impl Abort, alloc: Global) -> Result<Scene, Fail>
     ensures within { IfOk result (λ s. AreWithin s.space s.regions.ranges) }
     ensures regions { IfOk result (λ s. s.regions.cap ≡ 9) }
     ensures engine { IfOk result (λ s. s.engine.cap ≡ 9) }
@@ -130,7 +119,7 @@ fn new_scene(rt: &impl Abort, alloc: Global, max: u32) -> Result<Scene, Fail>
     ensures windows { IfOk result (λ s. StartBy 0 s.engine.slots) }
 {
     let space = Space::new(alloc, &[Target { base: 0, pages: 6 }])?;
-    let regions = three_rows(rt, alloc, max)?;
+    let regions = three_rows(rt, alloc)?;
     let engine = Engine::new(alloc, 9)?;
     let applied = Applied::new(alloc, 9)?;
     Ok(Scene {
@@ -142,12 +131,12 @@ fn new_scene(rt: &impl Abort, alloc: Global, max: u32) -> Result<Scene, Fail>
 }
 
 impl Scene {
-    // Sets slot 3 to a scheme, or drops it, after this many runs, the last of which was at this tick.
-    fn change(&mut self, runs: u32, last: u64, scheme: Option<Scheme>)
-        requires counts { AllByRecursion (CountsWithin runs) self.old.engine.slots }
-        requires windows { StartBy last self.old.engine.slots }
-        ensures counts { AllByRecursion (CountsWithin runs) self.new.engine.slots }
-        ensures windows { StartBy last self.new.engine.slots }
+    // Sets slot 3, before the first run.
+    fn set(&mut self, scheme: Scheme)
+        requires counts { AllByRecursion (CountsWithin 0) self.old.engine.slots }
+        requires windows { StartBy 0 self.old.engine.slots }
+        ensures counts { AllByRecursion (CountsWithin 0) self.new.engine.slots }
+        ensures windows { StartBy 0 self.new.engine.slots }
         ensures engine { self.new.engine.cap ≡ self.old.engine.cap }
         ensures space { self.new.space ≡ self.old.space }
         ensures regions { self.new.regions ≡ self.old.regions }
@@ -155,46 +144,49 @@ impl Scene {
     {
         // For its clauses alone: there is a slot 3.
         let _cap = self.engine.cap();
-        self.engine.change(&SlotChange { slot: 3, scheme });
+        self.engine.change(&SlotChange {
+            slot: 3,
+            scheme: Some(scheme),
+        });
     }
 
-    // Runs the engine at a tick, after this many runs, the last of which was at this tick.
-    fn run(&mut self, runs: u32, last: u64, tick: u64)
-        requires few { runs ≤ 1000 }
-        requires later { last ≤ tick }
+    // The first run of the engine, at tick 20.
+    fn run(&mut self)
         requires within { AreWithin self.old.space self.old.regions.ranges }
         requires regions { self.old.regions.cap ≡ 9 }
         requires engine { self.old.engine.cap ≡ 9 }
         requires applied { self.old.applied.cap ≡ 9 }
-        requires counts { AllByRecursion (CountsWithin runs) self.old.engine.slots }
-        requires windows { StartBy last self.old.engine.slots }
-        ensures within { AreWithin self.new.space self.new.regions.ranges }
-        ensures regions { self.new.regions.cap ≡ 9 }
-        ensures engine { self.new.engine.cap ≡ 9 }
-        ensures applied { self.new.applied.cap ≡ 9 }
-        ensures counts { AllByRecursion (CountsWithin (runs + 1)) self.new.engine.slots }
-        ensures windows { StartBy tick self.new.engine.slots }
+        requires counts { AllByRecursion (CountsWithin 0) self.old.engine.slots }
+        requires windows { StartBy 0 self.old.engine.slots }
     {
         // For their clauses alone: the numbers stay small.
         served_slots_are_kept();
         let _count = self.regions.len();
         let _targets = self.space.targets();
-        self.engine.run(&mut self.regions, &self.space, 20, tick, &mut self.applied);
+        self.engine
+            .run(&mut self.regions, &self.space, 20, 20, &mut self.applied);
     }
 }
 
 #[test]
 fn the_oldest_pages_are_taken_first(rt: HostRuntime) -> Result<(), Fail> {
-    let mut scene = new_scene(&rt, rt.alloc(), 4)?;
-    scene.change(0, 0, Some(oldest_first(Action::Pageout, 12_289)));
-    scene.run(0, 0, 20);
+    let mut scene = new_scene(&rt, rt.alloc())?;
+    scene.set(oldest_first());
+    scene.run();
     assert_eq!(rt;
         scene.applied.runs(),
         [run(4, 2, 90), run(0, 1, 50)].as_slice()
     );
     assert_eq!(rt;
         scene.applied.choices(),
-        [choice(3, 3, Some(50))].as_slice()
+        [SlotChoice {
+            slot: 3,
+            active: true,
+            left: Some(3),
+            taken: 3,
+            lowest: Some(50),
+        }]
+        .as_slice()
     );
     assert_eq!(rt;
         scene.regions.rows(),
@@ -214,147 +206,5 @@ fn the_oldest_pages_are_taken_first(rt: HostRuntime) -> Result<(), Fail> {
             exceeds: 1,
         })
     );
-    Ok(())
-}
-
-#[test]
-fn no_row_is_cut_without_room(rt: HostRuntime) -> Result<(), Fail> {
-    let mut scene = new_scene(&rt, rt.alloc(), 3)?;
-    scene.change(0, 0, Some(oldest_first(Action::Pageout, 12_289)));
-    scene.run(0, 0, 20);
-    assert_eq!(rt;
-        scene.applied.runs(),
-        [run(4, 2, 90), run(0, 1, 50)].as_slice()
-    );
-    assert_eq!(rt;
-        scene.regions.rows(),
-        [row(0, 2, 50), row(2, 2, 50), row(4, 2, 0)].as_slice()
-    );
-    Ok(())
-}
-
-#[test]
-fn stat_leaves_rows_as_they_are(rt: HostRuntime) -> Result<(), Fail> {
-    let mut scene = new_scene(&rt, rt.alloc(), 4)?;
-    scene.change(0, 0, Some(oldest_first(Action::Stat, 12_289)));
-    scene.run(0, 0, 20);
-    assert_eq!(rt;
-        scene.applied.choices(),
-        [choice(3, 3, Some(50))].as_slice()
-    );
-    assert_eq!(rt;
-        scene.regions.rows(),
-        [row(0, 2, 50), row(2, 2, 50), row(4, 2, 90)].as_slice()
-    );
-    Ok(())
-}
-
-// Pages 0 and 4 do not pass, so the three pages are one of each row.
-#[test]
-fn rejected_pages_are_not_charged(rt: HostRuntime) -> Result<(), Fail> {
-    let mut filters = Filters::new();
-    for page in [0, 4] {
-        let filter = Filter {
-            allow: false,
-            matching: true,
-            kind: FilterKind::Addr {
-                from: 4096 * page,
-                to: 4096 * (page + 1),
-            },
-        };
-        assert!(rt; filters.push(filter).is_ok());
-    }
-    let mut scene = new_scene(&rt, rt.alloc(), 9)?;
-    scene.change(
-        0,
-        0,
-        Some(Scheme {
-            filters,
-            ..oldest_first(Action::Pageout, 12_289)
-        }),
-    );
-    scene.run(0, 0, 20);
-    assert_eq!(rt;
-        scene.applied.runs(),
-        [run(5, 1, 90), run(1, 1, 50), run(2, 1, 50)].as_slice()
-    );
-    assert_eq!(rt;
-        scene.regions.rows(),
-        [row(0, 2, 0), row(2, 1, 0), row(3, 1, 50), row(4, 2, 0)].as_slice()
-    );
-    Ok(())
-}
-
-#[test]
-fn a_window_survives_a_drop(rt: HostRuntime) -> Result<(), Fail> {
-    let mut scene = new_scene(&rt, rt.alloc(), 3)?;
-    scene.change(0, 0, Some(oldest_first(Action::Stat, 12_289)));
-    scene.run(0, 0, 20);
-    assert_eq!(rt;
-        scene.applied.choices(),
-        [choice(3, 3, Some(50))].as_slice()
-    );
-    // A lower quota takes nothing back.
-    scene.change(1, 20, Some(oldest_first(Action::Stat, 8_192)));
-    scene.run(1, 20, 30);
-    assert_eq!(rt; scene.applied.choices(), [choice(0, 0, None)].as_slice());
-    scene.change(2, 30, None);
-    assert!(rt; scene.engine.slot(3).is_none());
-    scene.change(2, 30, Some(oldest_first(Action::Stat, 8_192)));
-    scene.run(2, 30, 40);
-    assert_eq!(rt;
-        scene.applied.choices(),
-        [choice(2, 2, Some(90))].as_slice()
-    );
-    assert_eq!(rt;
-        scene.engine.slot(3),
-        Some(SlotView {
-            action: Action::Stat,
-            active: true,
-            window: Window {
-                start: 40,
-                charged: 2,
-            },
-            tried: 3,
-            applied: 2,
-            exceeds: 1,
-        })
-    );
-    Ok(())
-}
-
-#[test]
-fn an_inactive_slot_takes_nothing(rt: HostRuntime) -> Result<(), Fail> {
-    let mut scene = new_scene(&rt, rt.alloc(), 3)?;
-    let marks = Marks {
-        high: 500,
-        mid: 400,
-        low: 200,
-    };
-    scene.change(
-        0,
-        0,
-        Some(Scheme {
-            marks: Some(marks),
-            ..oldest_first(Action::Pageout, 12_289)
-        }),
-    );
-    scene.run(0, 0, 20);
-    assert_eq!(rt; scene.applied.runs(), [].as_slice());
-    assert_eq!(rt;
-        scene.applied.choices(),
-        [SlotChoice {
-            slot: 3,
-            active: false,
-            left: None,
-            taken: 0,
-            lowest: None,
-        }]
-        .as_slice()
-    );
-    scene.engine.metric(399);
-    assert!(rt; scene.engine.slot(3).is_some_and(|slot| slot.active));
-    scene.engine.metric(501);
-    assert!(rt; scene.engine.slot(3).is_some_and(|slot| !slot.active));
     Ok(())
 }

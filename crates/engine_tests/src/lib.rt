@@ -1,6 +1,6 @@
-//! Tests of the scheme engine. They stand in a crate of their own, since a crate with tests is proved twice.
+//! A test of the scheme engine. It stands in a crate of its own, since a crate with tests is proved twice.
 #![tactic(auto)]
 
-/// Schemes that are run on rows without a monitor.
+/// A scheme that is run on rows without a monitor.
 #[cfg(test)]
 mod engine;

@@ -18,8 +18,6 @@ mod line;
 mod number;
 /// The parts of bytes between separators, and plain lines.
 mod parts;
-#[cfg(test)]
-mod tests;
 
 pub use address::{address_before, read_address};
 pub use bytes::{COLON, COMMA, DASH, EQUALS, LF, SPACE};

@@ -17,7 +17,6 @@ use Rattle.target_ranges.specs.declared.fault.RangeFault.{RangeFault}
 use Rattle.target_ranges.specs.Checked.{checked_ranges}
 use Rattle.live_commit.specs.declared.fault.CommitFault.{CommitFault}
 use Rattle.live_commit.specs.declared.fault.CommitFault.TheVariants.{BadAttrs, BadRange, BadScheme}
-use Rattle.live_commit.specs.declared.fault.SetupFault.{SetupFault}
 use Rattle.live_commit.specs.declared.phase.Phase.{Phase}
 use Rattle.live_commit.specs.declared.phase.Phase.TheVariants.{Idle, Clearing, Armed, Checking, Void, Due}
 use Rattle.live_commit.specs.declared.view.View.{View}

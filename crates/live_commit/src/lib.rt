@@ -15,8 +15,6 @@ mod phase;
 mod setup;
 /// The slots of a setup.
 mod slots;
-#[cfg(test)]
-mod tests;
 /// The check of a commit.
 mod validation;
 /// What a commit is checked against.

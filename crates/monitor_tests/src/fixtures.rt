@@ -6,8 +6,8 @@ use std::alloc::Global;
 use std::process::Abort;
 use std::test::Fail;
 
-// The setup with an aggregation after this number of passes.
-pub fn three_pages(alloc: Global, aggr: u32) -> Result<Setup, Fail> {
+// The setup, with an aggregation after five passes.
+pub fn three_pages(alloc: Global) -> Result<Setup, Fail> {
     let target = Target {
         base: 0x1_0000,
         pages: 3,
@@ -15,7 +15,7 @@ pub fn three_pages(alloc: Global, aggr: u32) -> Result<Setup, Fail> {
     let attrs = Attrs {
         min: 3,
         max: 8,
-        aggr,
+        aggr: 5,
     };
     let range = RangeSpec {
         target: 0,
@@ -29,7 +29,7 @@ pub fn three_pages(alloc: Global, aggr: u32) -> Result<Setup, Fail> {
 }
 
 // Prepares a pass of three rows.
-pub fn prepare(rt: &impl Abort, monitor: &mut Monitor) {
+fn prepare(rt: &impl Abort, monitor: &mut Monitor) {
     let Phase::Idle = monitor.phase() else {
         panic!(rt; "no pass comes next");
     };
@@ -76,46 +76,9 @@ pub fn end_pass(rt: &impl Abort, monitor: &mut Monitor) {
     monitor.observe();
 }
 
-// Makes a pass of three rows with these results of its loads.
-pub fn make_pass(rt: &impl Abort, monitor: &mut Monitor, hits: [bool; 3]) {
-    begin_pass(rt, monitor);
-    for hit in hits {
-        load(rt, monitor, hit);
-    }
-    end_pass(rt, monitor);
-}
-
-// Carries out the aggregation that is due, with 16 random words.
-pub fn aggregate(rt: &impl Abort, monitor: &mut Monitor) {
-    let Phase::Due = monitor.phase() else {
-        panic!(rt; "no aggregation is due");
-    };
-    assert_eq!(rt; monitor.attrs().max, 8);
-    monitor.aggregate(&[0; 16]);
-}
-
 // The counts of three rows.
 pub fn counts(rt: &impl Abort, monitor: &Monitor) -> [u32; 3] {
     let rows = monitor.rows();
     assert_eq!(rt; rows.len(), 3);
     [rows.row(0).count, rows.row(1).count, rows.row(2).count]
-}
-
-// The last counts and ages of three rows.
-pub fn lasts_and_ages(rt: &impl Abort, monitor: &Monitor) -> [(u32, u32); 3] {
-    let rows = monitor.rows();
-    assert_eq!(rt; rows.len(), 3);
-    let (first, second, third) = (rows.row(0), rows.row(1), rows.row(2));
-    [
-        (first.last, first.age),
-        (second.last, second.age),
-        (third.last, third.age),
-    ]
-}
-
-// The counts that the last aggregation reported of three rows.
-pub fn reported(rt: &impl Abort, monitor: &Monitor) -> [u32; 3] {
-    let rows = monitor.report().rows();
-    assert_eq!(rt; rows.len(), 3);
-    [rows[0].count, rows[1].count, rows[2].count]
 }

@@ -1,8 +1,12 @@
--- Worked examples of shrinking, of comparing rows and of finding one, reckoned by hand.
+-- Worked examples of dividing ranges, of joining, cutting and shrinking rows, of comparing them and of finding
+-- one, reckoned by hand.
 use Rattle.std.proofs.Common.{◌≡◌, ℕ, true, false, Some, None, [], ◌∷◌, refl}
 use Rattle.damon_types.specs.declared.range.Range.{Range}
 use Rattle.damon_types.specs.declared.row.Row.{Row}
 use Rattle.damon_types.specs.Span.{spans}
+use Rattle.region_list.specs.Division.{divided, fresh}
+use Rattle.region_list.specs.Join.{join}
+use Rattle.region_list.specs.Rows.{cut_after}
 use Rattle.region_list.specs.Shrink.{closest, shrunk}
 use Rattle.region_list.specs.Same.{same_spans}
 use Rattle.region_list.specs.Find.{row_index}
@@ -14,6 +18,22 @@ row start pages count = record { target = 0; start = start; pages = pages; count
 -- a range of the first target
 abbrev range : ℕ → ℕ → Range
 range first pages = record { target = 0; first = first; pages = pages; class = 0 }
+
+-- a share of half a row is one row, and the last row takes the rest
+shares : divided 1 10 (range 0 5 ∷ range 7 36 ∷ []) ≡ fresh 0 0 5 ∷ fresh 0 7 4 ∷ fresh 0 11 4 ∷ fresh 0 15 4 ∷ fresh 0 19 4 ∷ fresh 0 23 4 ∷ fresh 0 27 4 ∷ fresh 0 31 4 ∷ fresh 0 35 8 ∷ []
+shares = refl
+
+-- no row is smaller than the unit
+unit_is_least : divided 2 10 (range 0 5 ∷ []) ≡ fresh 0 0 2 ∷ fresh 0 2 3 ∷ []
+unit_is_least = refl
+
+-- each number of a joined row is an average weighted by pages, rounded down: 4 of 4, 31 of 4 and 9 of 4
+averages : join (record { target = 2; start = 7; pages = 1; count = 4; last = 7; age = 0 }) (record { target = 2; start = 8; pages = 3; count = 0; last = 8; age = 3 }) ≡ record { target = 2; start = 7; pages = 4; count = 1; last = 7; age = 2 }
+averages = refl
+
+-- a row that is cut keeps its values on both sides, and the rows around it stay
+cut_in_two : cut_after (row 0 2 1 ∷ row 2 5 7 ∷ row 7 1 3 ∷ []) 1 2 ≡ row 0 2 1 ∷ row 2 2 7 ∷ row 4 3 7 ∷ row 7 1 3 ∷ []
+cut_in_two = refl
 
 -- the closest rows are joined
 closest_is_joined : shrunk (range 0 4 ∷ []) 3 (row 0 1 0 ∷ row 1 1 5 ∷ row 2 1 6 ∷ row 3 1 20 ∷ []) ≡ row 0 1 0 ∷ row 1 2 5 ∷ row 3 1 20 ∷ []

@@ -77,6 +77,3 @@ fn fresh_row(target: u32, start: u32, pages: u32) -> Row
         age: 0,
     }
 }
-
-#[cfg(test)]
-mod tests;

@@ -244,6 +244,3 @@ impl Regions {
         row.age = age;
     }
 }
-
-#[cfg(test)]
-mod tests;

@@ -18,6 +18,3 @@ fn same_span(a: &Row, b: &Row) -> bool
 {
     a.target == b.target && a.start == b.start && a.pages == b.pages
 }
-
-#[cfg(test)]
-mod tests;

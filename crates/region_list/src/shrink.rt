@@ -128,6 +128,3 @@ fn closer(first: Option<Pair>, next: Pair) -> Pair
         _ => next,
     }
 }
-
-#[cfg(test)]
-mod tests;

@@ -2,12 +2,12 @@
 //! since a crate with tests is proved twice.
 #![tactic(auto)]
 
+/// Runs whose input or output fails.
+#[cfg(test)]
+mod failing_runs;
 /// A sink that tells how it was used.
 #[cfg(test)]
 mod fakes;
 /// Reading and writing in pieces.
 #[cfg(test)]
 mod streams;
-/// Whole runs.
-#[cfg(test)]
-mod whole_runs;

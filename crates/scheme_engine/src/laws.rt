@@ -47,8 +47,8 @@ pub fn outcome_rows_are_kept()
 }
 
 /// The runs of a scheme have as many pages together as are taken, at most what is left of its quota.
-/// Each has a page and lies in a row, and so in the space where the ranges do. No more rows match and no more pages are
-/// taken than a space may have pages.
+/// Each has a page and lies in a row, and so in the space where the ranges do. No more rows match and no
+/// more pages are taken than a space may have pages.
 pub fn outcome_runs_are_taken()
     ensures sum { (slot aggr : ℕ) (space : List target) (scheme : scheme_type) (left : Option ℕ)
         (regions : RegionList) → AreTiled regions

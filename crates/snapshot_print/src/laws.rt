@@ -35,8 +35,8 @@ pub fn json_lines_are_read()
         → read (compact_text (end_json p)) ≡ Some (end_json p) }
 {}
 
-/// The text of a value whose numbers have at most 64 bits has no line end. So each line of a report as JSON is
-/// one line of the text.
+/// The text of a value whose numbers have at most 64 bits has no line end. So each line of a report as JSON
+/// is one line of the text.
 pub fn json_lines_are_one_line()
     ensures { (d : Data) → HasWords d → IsOneLine (compact_text d) }
 {}

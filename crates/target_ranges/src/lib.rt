@@ -10,8 +10,6 @@ mod fault;
 mod fill;
 /// How checking relates to longer lists, and to the pages.
 mod laws;
-#[cfg(test)]
-mod tests;
 
 pub use check::{check_next, check_ranges};
 pub use fault::{RangeFault, RangeWhy};

@@ -1,6 +1,6 @@
-use super::*;
-use crate::{divide, range_end};
-use damon_types::Range;
+// Rows that tile their ranges, through all calls; the expected values were reckoned by hand.
+use damon_types::{Range, Ranges, Row, append_reserved};
+use region_list::{Regions, RowBuf, RowPass, divide, range_end};
 use std::test::Fail;
 
 // A pass that keeps every row.
