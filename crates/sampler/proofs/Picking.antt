@@ -1,6 +1,7 @@
 -- The picks of rows.
-use Rattle.std.proofs.Common.{◌≡◌, ℕ, zero, suc, List, [], ◌∷◌, ◌++◌, length, take, Some, refl, ap, sym, ◌∙◌, arith}
+use Rattle.std.proofs.Common.{◌≡◌, ℕ, zero, suc, ◌+◌, ◌<◌, List, [], ◌∷◌, ◌++◌, length, set, take, Some, refl, ap, sym, ◌∙◌, arith}
 use Rattle.std.specs.Prelude.{slice_get}
+use Rattle.std.proofs.lemmas.Grind.{take-set_at}
 use Rattle.damon_types.specs.declared.row.Row.{Row}
 use Rattle.sampler.specs.Pick.{pick, picks_of}
 
@@ -17,7 +18,8 @@ length-picks_of [] ws same = refl
 length-picks_of (r ∷ rows) [] same = absurd (omega arith)
 length-picks_of (r ∷ rows) (w ∷ ws) same = ap suc (length-picks_of rows ws (omega arith))
 
--- the picks so far, and that of one row more
-pub picks-next : (rows : List Row) (ws : List ℕ) (i j p : ℕ) (before after : List ℕ) → before ≡ picks_of (take i rows) ws → picks_of (take (suc i) rows) ws ≡ picks_of (take i rows) ws ++ p ∷ [] → after ≡ before ++ p ∷ [] → j ≡ suc i → after ≡ picks_of (take j rows) ws
-picks-next rows ws i j p before after so_far more pushed next =
-    pushed ∙ ap (λ b. b ++ p ∷ []) so_far ∙ sym more ∙ ap (λ k. picks_of (take k rows) ws) (sym next)
+-- the picks so far, and that of one row more stored behind them
+pub picks-next : (rows : List Row) (ws : List ℕ) (i j p : ℕ) (before after : List ℕ) → take i before ≡ picks_of (take i rows) ws → picks_of (take (suc i) rows) ws ≡ picks_of (take i rows) ws ++ p ∷ [] → after ≡ set before i p → i < length before → j ≡ i + 1 → take j after ≡ picks_of (take j rows) ws
+picks-next rows ws i j p before after so_far more stored here next =
+    let last : j ≡ suc i = omega (arith, next) in
+    ap (take j) stored ∙ take-set_at before i j p next here ∙ ap (λ b. b ++ p ∷ []) so_far ∙ sym more ∙ ap (λ k. picks_of (take k rows) ws) (sym last)

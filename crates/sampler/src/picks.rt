@@ -163,6 +163,7 @@ pub fn draw_picks<R: Rng>(regions: &Regions, source: &mut R, picks: &mut Picks)
 {
     picks.passes = (picks.passes + 1) % RENEWAL;
     renew_at(picks.passes, regions, &mut picks.reciprocals);
+    set_count(&mut picks.pages, regions.len());
     pick_drawn(regions, source, &picks.reciprocals, &mut picks.pages);
     clear_bits(&mut picks.bits, regions.len());
 }
@@ -221,24 +222,22 @@ fn pick_drawn<R: Rng>(
     regions: &Regions,
     source: &mut R,
     reciprocals: &[Reciprocal],
-    pages: &mut Vec<u32>,
+    pages: &mut [u32],
 )
     requires reciprocals { length regions.now.rows ≤ length reciprocals.now }
-    requires room { length regions.now.rows ≤ vec_capacity pages.old }
-    ensures pages { pages.new.items
+    requires each { length pages.old ≡ length regions.now.rows }
+    ensures pages { pages.new
         ≡ picks_of regions.now.rows (drawn (length regions.now.rows) (R.stream source.old)) }
     ensures rest { R.stream source.new
         ≡ drawn_rest (length regions.now.rows) (R.stream source.old) }
-    ensures capacity { vec_capacity pages.new ≡ vec_capacity pages.old }
 {
-    pages.clear();
     let rows = regions.len();
     'fours: for four in 0..rows / 4 {
         pick_four(regions, source, reciprocals, 4 * four, pages);
     }
     'others: for index in rows / 4 * 4..rows {
         let word = source.next_u32();
-        pages.push_reserved(pick_at(regions, reciprocals, index, word));
+        pages[index as usize] = pick_at(regions, reciprocals, index, word);
     }
 }
 
@@ -251,19 +250,18 @@ fn pick_four<R: Rng>(
     source: &mut R,
     reciprocals: &[Reciprocal],
     from: u32,
-    pages: &mut Vec<u32>,
+    pages: &mut [u32],
 )
     requires reciprocals { length regions.now.rows ≤ length reciprocals.now }
     requires within { from + 4 ≤ length regions.now.rows }
-    requires room { vec_len pages.old + 4 ≤ vec_capacity pages.old }
+    requires each { length pages.old ≡ length regions.now.rows }
     ensures pages { (s : Stream) → R.stream source.old ≡ drawn_rest from s
-        → pages.old.items
+        → take from pages.old
         ≡ picks_of (take from regions.now.rows) (drawn (length regions.now.rows) s)
-        → pages.new.items
+        → take (from + 4) pages.new
         ≡ picks_of (take (from + 4) regions.now.rows) (drawn (length regions.now.rows) s) }
     ensures rest { R.stream source.new ≡ drawn_rest 4 (R.stream source.old) }
-    ensures len { vec_len pages.new ≡ vec_len pages.old + 4 }
-    ensures capacity { vec_capacity pages.new ≡ vec_capacity pages.old }
+    ensures each { length pages.new ≡ length pages.old }
 {
     // For its clauses alone: the number of rows is a u32.
     let _rows = regions.len();
@@ -271,10 +269,23 @@ fn pick_four<R: Rng>(
     let second = source.next_u32();
     let third = source.next_u32();
     let fourth = source.next_u32();
-    pages.push_reserved(pick_at(regions, reciprocals, from, first));
-    pages.push_reserved(pick_at(regions, reciprocals, from + 1, second));
-    pages.push_reserved(pick_at(regions, reciprocals, from + 2, third));
-    pages.push_reserved(pick_at(regions, reciprocals, from + 3, fourth));
+    let index = from as usize;
+    pages[index] = pick_at(regions, reciprocals, from, first);
+    pages[index + 1] = pick_at(regions, reciprocals, from + 1, second);
+    pages[index + 2] = pick_at(regions, reciprocals, from + 2, third);
+    pages[index + 3] = pick_at(regions, reciprocals, from + 3, fourth);
+}
+
+// Makes the list one of `count` pages, whatever they are.
+fn set_count(pages: &mut Vec<u32>, count: u32)
+    requires { count ≤ vec_capacity pages.old }
+    ensures len { vec_len pages.new ≡ count }
+    ensures capacity { vec_capacity pages.new ≡ vec_capacity pages.old }
+{
+    pages.truncate(count as usize);
+    for _ in pages.len()..count as usize {
+        pages.push_reserved(0);
+    }
 }
 
 // Makes the list `count` bits that are all false.

@@ -1,5 +1,5 @@
 use Rattle.std.proofs.Common.{length, ap, sym, ◌∙◌, arith}
-use Rattle.std.proofs.lemmas.List.{length-replicate}
+use Rattle.std.proofs.lemmas.List.{length-replicate, with_items_is}
 use Rattle.sampler.proofs.Picking.{length-picks_of}
 use Rattle.sampler.proofs.Words.{length-drawn}
 use Rattle.sampler.proofs.picks.draw_picks.Goals as goal
@@ -9,12 +9,13 @@ invariant_of-picks g c =
     let kept = c.picks.invariant in
     let rows = c.args.regions.now.rows in
     let pages = ap length c.pick_drawn.ensures.pages ∙ length-picks_of rows _ (length-drawn (length rows) _) in
+    let stored = with_items_is c.set_count.new.pages c.pick_drawn.new.pages (pages ∙ sym (c.set_count.ensures.len ∙ c.len.ensures.len)) in
     let bits = ap length c.clear_bits.ensures.bits ∙ length-replicate _ _ in
     record {
-      same = bits ∙ c.len.ensures.len ∙ sym pages;
-      room = omega (arith, pages, c.requires, ap (λ p. p.cap) c.picks.view_is);
+      same = bits ∙ c.len-2.ensures.len ∙ sym (ap length stored ∙ pages);
+      room = omega (arith, ap length stored, pages, c.requires, ap (λ p. p.cap) c.picks.view_is);
       small = kept.small;
-      pages_reserved = omega (arith, c.pick_drawn.ensures.capacity, kept.pages_reserved);
+      pages_reserved = omega (arith, c.set_count.ensures.capacity, kept.pages_reserved);
       bits_reserved = omega (arith, c.clear_bits.ensures.capacity, kept.bits_reserved);
       reciprocals_kept = omega (arith, c.renew_at.ensures, ap length c.deref_mut.ensures.value, kept.reciprocals_kept);
       few_passes = omega arith;

@@ -1,4 +1,5 @@
-use Rattle.std.proofs.Common.{◌≡◌, ℕ, ◌+◌, ◌*◌, ◌<◌, take, length, ap, sym, ◌∙◌, arith}
+use Rattle.std.proofs.Common.{◌≡◌, ℕ, ◌+◌, ◌*◌, ◌<◌, take, length, set, refl, ap, sym, ◌∙◌, arith}
+use Rattle.std.proofs.lemmas.List.{length-set}
 use Rattle.rand_core.specs.Stream.{Stream}
 use Rattle.sampler.specs.Draws.{drawn, drawn_rest}
 use Rattle.sampler.specs.Pick.{picks_of}
@@ -14,10 +15,9 @@ fours-preserved g c =
     let kept = c.fours.invariant in
     let more : n + 4 ≡ 4 * (c.fours.four + 1) = omega arith in
     record {
-      pages = c.pick_four.ensures.pages s kept.rest kept.pages ∙ ap (λ k. picks_of (take k rows) (drawn (length rows) s)) more;
+      pages = ap (λ k. take k c.pick_four.new.pages) (sym more) ∙ c.pick_four.ensures.pages s kept.rest kept.pages ∙ ap (λ k. picks_of (take k rows) (drawn (length rows) s)) more;
       rest = c.pick_four.ensures.rest ∙ ap (drawn_rest 4) kept.rest ∙ sym (drawn_rest-append n 4 s) ∙ ap (λ k. drawn_rest k s) more;
-      len = omega (arith, c.pick_four.ensures.len, kept.len);
-      capacity = c.pick_four.ensures.capacity ∙ kept.capacity;
+      each = c.pick_four.ensures.each ∙ kept.each;
     }
 
 pub others-preserved : goal.others-preserved
@@ -32,8 +32,7 @@ others-preserved g c =
     let below : i < length rows = omega (arith, c.others-test.true, c.len-rows.ensures.len) in
     let got = drawn-next (length rows) i s here there word.result below kept.rest word.ensures in
     record {
-      pages = picks-next rows (drawn (length rows) s) i (i + 1) c.pick_at.result c.others.pages.items c.push_reserved.new.self.items kept.pages (c.pick_at.ensures (drawn (length rows) s) got) c.push_reserved.ensures.items (omega arith);
+      pages = picks-next rows (drawn (length rows) s) i (i + 1) c.pick_at.result c.others.pages (set c.others.pages i c.pick_at.result) kept.pages (c.pick_at.ensures (drawn (length rows) s) got) refl (omega (arith, below, kept.each)) (omega arith);
       rest = drawn_rest-next i (i + 1) s here there word.result (omega arith) kept.rest word.ensures;
-      len = omega (arith, c.push_reserved.ensures.len, kept.len);
-      capacity = c.push_reserved.ensures.capacity ∙ kept.capacity;
+      each = length-set c.others.pages i c.pick_at.result ∙ kept.each;
     }

@@ -1,4 +1,5 @@
-use Rattle.std.proofs.Common.{ℕ, ◌+◌, length, arith}
+use Rattle.std.proofs.Common.{ℕ, ◌+◌, length, set, refl, arith}
+use Rattle.std.proofs.lemmas.List.{length-set}
 use Rattle.rand_core.specs.Stream.{Stream}
 use Rattle.sampler.specs.Draws.{drawn}
 use Rattle.sampler.proofs.Picking.{picks-next}
@@ -29,7 +30,15 @@ returns-clause-pages g c s at so_far =
     let got1 = drawn-next n (i + 1) s s1 s2 x.result (omega (arith, within)) at1 x.ensures in
     let got2 = drawn-next n (i + 2) s s2 s3 y.result (omega (arith, within)) at2 y.ensures in
     let got3 = drawn-next n (i + 3) s s3 s4 z.result (omega (arith, within)) at3 z.ensures in
-    let p0 = picks-next rows ws i (i + 1) c.pick_at.result c.args.pages.now.items c.push_reserved.new.self.items so_far (c.pick_at.ensures ws got0) c.push_reserved.ensures.items (omega arith) in
-    let p1 = picks-next rows ws (i + 1) (i + 2) c.pick_at-2.result c.push_reserved.new.self.items c.push_reserved-2.new.self.items p0 (c.pick_at-2.ensures ws got1) c.push_reserved-2.ensures.items (omega arith) in
-    let p2 = picks-next rows ws (i + 2) (i + 3) c.pick_at-3.result c.push_reserved-2.new.self.items c.push_reserved-3.new.self.items p1 (c.pick_at-3.ensures ws got2) c.push_reserved-3.ensures.items (omega arith) in
-    picks-next rows ws (i + 3) (i + 4) c.pick_at-4.result c.push_reserved-3.new.self.items c.push_reserved-4.new.self.items p2 (c.pick_at-4.ensures ws got3) c.push_reserved-4.ensures.items (omega arith)
+    let b0 = c.args.pages.now in
+    let b1 = set b0 i c.pick_at.result in
+    let b2 = set b1 (i + 1) c.pick_at-2.result in
+    let b3 = set b2 (i + 2) c.pick_at-3.result in
+    let b4 = set b3 (i + 3) c.pick_at-4.result in
+    let l1 = length-set b0 i c.pick_at.result in
+    let l2 = length-set b1 (i + 1) c.pick_at-2.result in
+    let l3 = length-set b2 (i + 2) c.pick_at-3.result in
+    let p1 = picks-next rows ws i (i + 1) c.pick_at.result b0 b1 so_far (c.pick_at.ensures ws got0) refl (omega (arith, within, c.requires.each)) (omega arith) in
+    let p2 = picks-next rows ws (i + 1) (i + 2) c.pick_at-2.result b1 b2 p1 (c.pick_at-2.ensures ws got1) refl (omega (arith, within, c.requires.each, l1)) (omega arith) in
+    let p3 = picks-next rows ws (i + 2) (i + 3) c.pick_at-3.result b2 b3 p2 (c.pick_at-3.ensures ws got2) refl (omega (arith, within, c.requires.each, l1, l2)) (omega arith) in
+    picks-next rows ws (i + 3) (i + 4) c.pick_at-4.result b3 b4 p3 (c.pick_at-4.ensures ws got3) refl (omega (arith, within, c.requires.each, l1, l2, l3)) (omega arith)
