@@ -2,8 +2,8 @@ ghost use Rattle.std.specs.Prelude.{◌≡◌, ◌≢◌, ◌≤◌, ◌↔◌, 
 ghost use Rattle.std.specs.Io.KnownBytes.{Appends, IsAtEnd};
 ghost use Rattle.damon_types.specs.Causes.{Rose};
 ghost use Rattle.damon_types.specs.Space.{pages_of};
-ghost use Rattle.damon_control.specs.Command.{command_value, work_of};
-ghost use Rattle.damon_control.specs.Limits.{EachIsWithin};
+ghost use Rattle.script_lines.specs.Command.{command_value, work_of};
+ghost use Rattle.script_lines.specs.Limits.{EachIsWithin};
 ghost use Rattle.damon_control.specs.ScriptView.{said_by};
 ghost use Rattle.script_run.specs.Report.{report};
 ghost use Rattle.damon_app.specs.Given.{GaveOver};

@@ -9,22 +9,24 @@ use Rattle.damon_types.specs.declared.space.Target.{Target}
 use Rattle.live_commit.specs.Commit.{CommitValue}
 use Rattle.live_commit.specs.Setup.{SetupValue}
 use Rattle.target_ranges.specs.Made.{ranges_of}
-use Rattle.damon_control.specs.declared.fault.ScriptKind.TheVariants.{TooMuch}
+use Rattle.script_lines.specs.declared.kind.ScriptKind.TheVariants.{TooMuch}
 use Rattle.damon_control.specs.declared.grammar.Grammar.TheVariants.{OfLive}
-use Rattle.damon_control.specs.declared.live.TheConstants.{MAX_CALLS, MAX_CONTROLLERS, MAX_PASSES, MAX_TOUCHES, MAX_WORKERS}
-use Rattle.damon_control.specs.Body.{command_line, no_commit, step_line, word_line}
-use Rattle.damon_control.specs.Command.{Arm, CommandValue, Finish, Show, Step, Sweep, Touch}
-use Rattle.damon_control.specs.Head.{limited}
-use Rattle.damon_control.specs.Laws.{WordLaws}
-use Rattle.damon_control.specs.Live.{CallValue, CommitCall, LiveValue, ShowCall, call_within, count_all, live_begun, to_last, touched, touches_within, touching, with_call}
+use Rattle.damon_control.specs.declared.live.TheConstants.{MAX_CALLS, MAX_CONTROLLERS, MAX_WORKERS}
+use Rattle.script_lines.specs.declared.blocks.TheConstants.{MAX_PASSES, MAX_TOUCHES}
+use Rattle.script_lines.specs.Body.{command_line, no_commit, step_line, word_line}
+use Rattle.script_lines.specs.Command.{Arm, CommandValue, Finish, Show, Step, Sweep, Touch}
+use Rattle.script_lines.specs.Head.{limited}
+use Rattle.script_lines.specs.Laws.{WordLaws}
+use Rattle.damon_control.specs.Live.{CallValue, CommitCall, LiveValue, ShowCall, call_within, count_all, live_begun, to_last, with_call}
+use Rattle.script_lines.specs.Blocks.{touched, touches_within, touching}
 use Rattle.damon_control.specs.LiveText.{IsLiveText, SayCall, SayController, SayWorker, SaysPages}
 use Rattle.damon_control.specs.LiveView.{with_controllers, with_workers}
-use Rattle.damon_control.specs.ReadBack.{LinesReadBack}
-use Rattle.damon_control.specs.Refusal.{◌>>=◌, only_if}
+use Rattle.script_lines.specs.ReadBack.{LinesReadBack}
+use Rattle.script_lines.specs.Refusal.{◌>>=◌, only_if}
 use Rattle.damon_control.specs.Script.{AtEnd, AtHeader, InBody, InCommit, live_of, live_within, place_after}
-use Rattle.damon_control.specs.Spelling.{spelled_passes}
+use Rattle.script_lines.specs.Spelling.{spelled_passes}
 use Rattle.damon_control.specs.Text.{AreCommit, EachSays, all_lines}
-use Rattle.damon_control.specs.Words.{alone, arguments, begins_with, number_32, one_word}
+use Rattle.script_lines.specs.Words.{alone, arguments, begins_with, number_32, one_word}
 use Rattle.damon_control.proofs.Leading.{LeadLaws, Opens, either_true, else_way, led_read, parts_lead, setup_leads, then_way}
 use Rattle.damon_control.proofs.Leads.{leads, leads-line}
 use Rattle.damon_control.proofs.LineWords.{begins_other, passes_begins}

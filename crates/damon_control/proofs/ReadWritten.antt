@@ -17,18 +17,21 @@ use Rattle.live_commit.specs.Checked.{checked_limits}
 use Rattle.live_commit.specs.Commit.{CommitValue}
 use Rattle.live_commit.specs.Setup.{IsSetup, SetupValue}
 use Rattle.damon_control.specs.declared.grammar.Grammar.TheVariants.{OfScript}
-use Rattle.damon_control.specs.declared.commit.Part.{Part}
-use Rattle.damon_control.specs.declared.commit.Part.TheVariants.{Attrs as AttrsPart, Range as RangePart, Slot, Metric}
-use Rattle.damon_control.specs.Body.{no_commit}
-use Rattle.damon_control.specs.Command.{Commit}
-use Rattle.damon_control.specs.Fits.{FitsAttrs, FitsRange}
-use Rattle.damon_control.specs.Laws.{GivesScheme, IsPart}
-use Rattle.damon_control.specs.Refusal.{◌>>=◌}
+use Rattle.script_lines.specs.declared.part.Part.{Part}
+use Rattle.script_lines.specs.declared.part.Part.TheVariants.{Attrs as AttrsPart, Range as RangePart, Slot, Metric}
+use Rattle.script_lines.specs.Body.{no_commit}
+use Rattle.script_lines.specs.Command.{Commit}
+use Rattle.script_lines.specs.Fits.{FitsAttrs, FitsRange}
+use Rattle.script_lines.specs.Laws.{GivesScheme, IsPart}
+use Rattle.script_lines.specs.Refusal.{◌>>=◌}
 use Rattle.damon_control.specs.Script.{AtHeader, Body, InBody, InCommit, Place, at, begun, place_after, reads, script_of, with_command}
-use Rattle.damon_control.specs.Spelling.{spelled_range, spelled_target}
-use Rattle.damon_control.specs.Text.{EachSays, SaySetup, come_in_order, lines_text, number_lines, with_parts}
-use Rattle.damon_control.specs.WriteBack.{FitsChange, FitsCommit, IsWritable, SpellsRanges}
-use Rattle.damon_control.specs.Written.{change_text, commit_text, part_given, part_text, parts_of, ranges_given, setup_text, spec_of, written_commit, written_setup}
+use Rattle.script_lines.specs.Spelling.{spelled_range, spelled_target}
+use Rattle.damon_control.specs.Text.{EachSays, SaySetup, come_in_order, number_lines, with_parts}
+use Rattle.script_lines.specs.Lines.{lines_text}
+use Rattle.script_lines.specs.Fits.{FitsChange}
+use Rattle.damon_control.specs.WriteBack.{FitsCommit, IsWritable, SpellsRanges}
+use Rattle.script_lines.specs.WrittenLine.{change_text}
+use Rattle.damon_control.specs.Written.{commit_text, part_given, part_text, parts_of, ranges_given, setup_text, spec_of, written_commit, written_setup}
 use Rattle.damon_control.proofs.Leading.{LeadLaws, parts_lead, setup_leads}
 use Rattle.damon_control.proofs.LeadingScript.{begin_opens}
 use Rattle.damon_control.proofs.Leads.{leads, leads-line}

@@ -5,19 +5,22 @@ use Rattle.std.proofs.lemmas.List.{append-nil, length-append}
 use Rattle.std.proofs.lemmas.List.Folds.{concat-append}
 use Rattle.std.proofs.lemmas.List.Sums.{sum_by-cons}
 use Rattle.damon_types.specs.declared.space.Target.{Target}
-use Rattle.damon_control.specs.declared.fault.ScriptKind.TheVariants.{Limit, TooMuch}
+use Rattle.script_lines.specs.declared.kind.ScriptKind.TheVariants.{Limit, TooMuch}
 use Rattle.damon_control.specs.declared.grammar.Grammar.TheVariants.{OfLive}
-use Rattle.damon_control.specs.declared.live.TheConstants.{MAX_CALLS, MAX_CONTROLLERS, MAX_TOUCHES, MAX_WORKERS}
-use Rattle.damon_control.specs.Body.{no_commit}
-use Rattle.damon_control.specs.Command.{CommandValue}
-use Rattle.damon_control.specs.Laws.{WordLaws}
-use Rattle.damon_control.specs.Live.{CallValue, LiveValue, ShowCall, block_line, call_within, controller_line, count_all, has_controller, show_line, to_last, touched, touches_line, touches_within, touching, with_call, worker_line}
+use Rattle.damon_control.specs.declared.live.TheConstants.{MAX_CALLS, MAX_CONTROLLERS, MAX_WORKERS}
+use Rattle.script_lines.specs.declared.blocks.TheConstants.{MAX_TOUCHES}
+use Rattle.script_lines.specs.Body.{no_commit}
+use Rattle.script_lines.specs.Command.{CommandValue}
+use Rattle.script_lines.specs.Laws.{WordLaws}
+use Rattle.damon_control.specs.Live.{CallValue, LiveValue, ShowCall, call_within, controller_line, count_all, has_controller, show_line, to_last, touches_line, with_call, worker_line}
+use Rattle.script_lines.specs.Blocks.{block_line, touched, touches_within, touching}
 use Rattle.damon_control.specs.LiveText.{SayCall, SayController, SayWorker, SaysPages}
-use Rattle.damon_control.specs.Refusal.{◌>>=◌}
+use Rattle.script_lines.specs.Refusal.{◌>>=◌}
 use Rattle.damon_control.specs.Script.{AtEnd, InBody, InCommit, Place, after_live, live_within}
-use Rattle.damon_control.specs.Spelling.{spelled_passes}
-use Rattle.damon_control.specs.Text.{EachSays, all_lines, lines_text}
-use Rattle.damon_control.specs.Words.{alone, begins_with}
+use Rattle.script_lines.specs.Spelling.{spelled_passes}
+use Rattle.damon_control.specs.Text.{EachSays, all_lines}
+use Rattle.script_lines.specs.Lines.{lines_text}
+use Rattle.script_lines.specs.Words.{alone, begins_with}
 use Rattle.damon_control.proofs.LiveLemmas.{count_all-more, none_of, some_of}
 use Rattle.damon_control.proofs.SayPlaces.{SayBlocks, Says, TextLaws, all_lines-more, both_ways, each_more, read_to}
 use Rattle.damon_control.proofs.SpellCommands.{sweep_line-pages, touch_line-page}

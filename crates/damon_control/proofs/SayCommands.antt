@@ -1,15 +1,16 @@
 -- What a line adds to what the lines of a script's body before it say.
 use Rattle.std.proofs.Common.{◌≡◌, ◌∷◌, [], ◌+◌, ◌≤◌, inl, ℕ, nat_le, List, ◌++◌, codes, Ok, refl, sym, ap, subst, ◌∙◌, append_assoc, arith}
 use Rattle.std.proofs.lemmas.Bool.Decides.{nat_tests}
-use Rattle.damon_control.specs.declared.fault.ScriptKind.TheVariants.{TooMuch}
+use Rattle.script_lines.specs.declared.kind.ScriptKind.TheVariants.{TooMuch}
 use Rattle.damon_control.specs.declared.grammar.Grammar.TheVariants.{OfScript}
 use Rattle.damon_control.specs.declared.script.TheConstants.{MAX_WORK}
-use Rattle.damon_control.specs.Body.{command_line, no_commit}
-use Rattle.damon_control.specs.Command.{CommandValue, weight}
-use Rattle.damon_control.specs.Refusal.{◌>>=◌}
+use Rattle.script_lines.specs.Body.{command_line, no_commit}
+use Rattle.script_lines.specs.Command.{CommandValue, weight}
+use Rattle.script_lines.specs.Refusal.{◌>>=◌}
 use Rattle.damon_control.specs.Script.{AtEnd, Body, InBody, InCommit, Place, after_body, with_command}
-use Rattle.damon_control.specs.Text.{SayCommand, all_lines, lines_text}
-use Rattle.damon_control.specs.Words.{alone, begins_with}
+use Rattle.damon_control.specs.Text.{SayCommand, all_lines}
+use Rattle.script_lines.specs.Lines.{lines_text}
+use Rattle.script_lines.specs.Words.{alone, begins_with}
 use Rattle.damon_control.proofs.SayPlaces.{SayBody, Says, TextLaws, all_lines-more, each_more, read_to, work-more}
 use Rattle.damon_control.proofs.SpellCommands.{command_line-Ok}
 use Rattle.damon_control.proofs.SpellSteps.{bind-Ok, either_way, only_if-Ok}

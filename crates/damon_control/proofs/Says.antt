@@ -9,21 +9,22 @@ use Rattle.damon_types.specs.declared.space.Target.{Target}
 use Rattle.line_text.specs.Parts.{parts}
 use Rattle.live_commit.specs.Commit.{CommitValue}
 use Rattle.target_ranges.specs.Checked.{fault_at}
-use Rattle.damon_control.specs.declared.fault.ScriptKind.TheVariants.{Header}
+use Rattle.script_lines.specs.declared.kind.ScriptKind.TheVariants.{Header}
 use Rattle.damon_control.specs.declared.grammar.Grammar.{Grammar}
 use Rattle.damon_control.specs.declared.grammar.Grammar.TheVariants.{OfScript, OfLive}
-use Rattle.damon_control.specs.declared.head.Frame.{Frame}
-use Rattle.damon_control.specs.Body.{no_commit, part_line, with_part}
-use Rattle.damon_control.specs.Command.{Commit}
-use Rattle.damon_control.specs.Head.{attrs_line, cap_line, range_line, scheme_line, seed_line, setup_said, target_line, unit_line}
-use Rattle.damon_control.specs.Laws.{GivesScheme, IsPart, may_come}
-use Rattle.damon_control.specs.Live.{CommitCall, LiveValue, live_begun, passes_line}
+use Rattle.script_lines.specs.declared.setup.Frame.{Frame}
+use Rattle.script_lines.specs.Body.{no_commit, part_line, with_part}
+use Rattle.script_lines.specs.Command.{Commit}
+use Rattle.script_lines.specs.Head.{attrs_line, cap_line, range_line, scheme_line, seed_line, setup_said, target_line, unit_line}
+use Rattle.script_lines.specs.Laws.{GivesScheme, IsPart, may_come}
+use Rattle.damon_control.specs.Live.{CommitCall, LiveValue, live_begun}
+use Rattle.script_lines.specs.Blocks.{passes_line}
 use Rattle.damon_control.specs.LiveText.{IsLiveText}
-use Rattle.damon_control.specs.Refusal.{◌>>=◌}
+use Rattle.script_lines.specs.Refusal.{◌>>=◌}
 use Rattle.damon_control.specs.Script.{AtAttrs, AtCap, AtEnd, AtHeader, AtRanges, AtSchemes, AtSeed, AtTargets, AtUnit, InBody, InCommit, Place, Said, ScriptValue, Within, after_commit, after_ranges, after_schemes, after_setup, after_targets, after_within, header_of, live_of, opened, place_after, reads, script_of, with_commit}
-use Rattle.damon_control.specs.Spelling.{spelled_range, spelled_target}
+use Rattle.script_lines.specs.Spelling.{spelled_range, spelled_target}
 use Rattle.damon_control.specs.Text.{AreCommit, IsText, setup_lines}
-use Rattle.damon_control.specs.Words.{alone, arguments, begins_with, number_32, one_word, same_word}
+use Rattle.script_lines.specs.Words.{alone, arguments, begins_with, number_32, one_word, same_word}
 use Rattle.damon_control.proofs.Leads.{leads, read-Lead}
 use Rattle.damon_control.proofs.LineLimits.{cap_sound, limits_sound, range_follows, scheme_sound, seed_fits, target_sound, unit_sound}
 use Rattle.damon_control.proofs.SayBlocks.{in_blocks, more_call}

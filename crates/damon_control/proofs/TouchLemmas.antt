@@ -5,15 +5,15 @@ use Rattle.damon_types.specs.declared.space.Target.{Target}
 use Rattle.line_text.specs.Address.{spelled_address}
 use Rattle.line_text.specs.Laws.{PutsPartsTogether, TakesApartPieces}
 use Rattle.line_text.specs.Parts.{IsPiece, joined, parts}
-use Rattle.damon_control.specs.Command.{CommandValue, Touch}
-use Rattle.damon_control.specs.Laws.{WordLaws}
-use Rattle.damon_control.specs.Body.{command_line}
+use Rattle.script_lines.specs.Command.{CommandValue, Touch}
+use Rattle.script_lines.specs.Laws.{WordLaws}
+use Rattle.script_lines.specs.Body.{command_line}
 use Rattle.damon_control.specs.declared.grammar.Grammar.TheVariants.{OfScript}
-use Rattle.damon_control.specs.Refusal.{◌>>=◌}
+use Rattle.script_lines.specs.Refusal.{◌>>=◌}
 use Rattle.damon_control.specs.Script.{Body, InBody, after_body, at, reads, with_command}
-use Rattle.damon_control.specs.Spelling.{spelled_touch}
-use Rattle.damon_control.specs.Touches.{BeginsWithTouch}
-use Rattle.damon_control.specs.Words.{begins_with}
+use Rattle.script_lines.specs.Spelling.{spelled_touch}
+use Rattle.script_lines.specs.Touches.{BeginsWithTouch}
+use Rattle.script_lines.specs.Words.{begins_with}
 use Rattle.damon_control.proofs.LineWords.{BeginsNeither, command_begins, plain-IsPiece}
 use Rattle.damon_control.proofs.PartLemmas.{parts-some, reads_line}
 use Rattle.damon_control.proofs.ReadCommands.{command_line-said}
@@ -50,11 +50,3 @@ reads_touch laws space text page rest begins n b same =
     ∙ ap (reads OfScript n (InBody b)) (parts_line laws.parts laws.pieces line rest (plain-IsPiece line neither.plain))
     ∙ reads_line OfScript n (InBody b) line rest
     ∙ ap (λ r. at n r >>= λ next. reads OfScript (n + 1) next (parts 10 rest)) (after_command b line (Touch page) neither (ap (λ targets. command_line targets line) same ∙ said))
-
--- the words of a touch, and then an LF, begin a text
-pub spelled_front : (target addr : ℕ) (text words end rest : List ℕ) → text ≡ codes "touch " ++ (decimal target ++ (codes " " ++ words)) → words ≡ spelled_address addr ++ end → end ≡ 10 ∷ rest
-    → text ≡ spelled_touch target addr ++ 10 ∷ rest
-spelled_front target addr text words end rest first second third =
-    first
-    ∙ ap (λ ws. codes "touch " ++ (decimal target ++ (codes " " ++ ws))) (second ∙ ap (λ e. spelled_address addr ++ e) third)
-    ∙ ap (λ ws. codes "touch " ++ ws) (sym (append_assoc (decimal target) (codes " " ++ spelled_address addr) (10 ∷ rest)))

@@ -2,7 +2,7 @@
 use Rattle.std.specs.Prelude.{map}
 use Rattle.live_commit.specs.SetupView.{value_of}
 use Rattle.damon_control.specs.declared.script.Script.{Script}
-use Rattle.damon_control.specs.Command.{command_value}
+use Rattle.script_lines.specs.Command.{command_value}
 use Rattle.damon_control.specs.Script.{ScriptValue}
 
 -- what a script says, without the proof of its limits

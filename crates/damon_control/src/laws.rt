@@ -3,15 +3,15 @@
 ghost use Rattle.std.specs.Prelude.{ℕ, List};
 ghost use Rattle.damon_types.specs.declared.range.RangeSpec.{RangeSpec};
 ghost use Rattle.damon_types.specs.declared.space.Target.{Target};
-ghost use Rattle.damon_control.specs.declared.head.Frame.{Frame};
-ghost use Rattle.damon_control.specs.Fields.{attrs_in, range_in};
-ghost use Rattle.damon_control.specs.Head.{attrs_line, cap_line, one_target, range_line, seed_line, unit_line};
-ghost use Rattle.damon_control.specs.Keys.{setting_of};
-ghost use Rattle.damon_control.specs.Laws.{NamesActions, ReadsOnly, ReadsOnlyCommands, ReadsOnlyParts, ReadsOnlySchemes, WordLaws};
+ghost use Rattle.script_lines.specs.declared.setup.Frame.{Frame};
+ghost use Rattle.script_lines.specs.Fields.{attrs_in, range_in};
+ghost use Rattle.script_lines.specs.Head.{attrs_line, cap_line, one_target, range_line, seed_line, unit_line};
+ghost use Rattle.script_lines.specs.Keys.{setting_of};
+ghost use Rattle.script_lines.specs.Laws.{NamesActions, ReadsOnly, ReadsOnlyCommands, ReadsOnlyParts, ReadsOnlySchemes, WordLaws};
 ghost use Rattle.damon_control.specs.LiveText.{LiveTextsAreRead};
-ghost use Rattle.damon_control.specs.ReadBack.{LinesReadBack};
+ghost use Rattle.script_lines.specs.ReadBack.{LinesReadBack};
 ghost use Rattle.damon_control.specs.Sound.{ScriptsAreSound};
-ghost use Rattle.damon_control.specs.Spelling.{attrs_words, range_words, spelled_attrs, spelled_cap, spelled_range, spelled_seed, spelled_setting, spelled_target, spelled_unit};
+ghost use Rattle.script_lines.specs.Spelling.{attrs_words, range_words, spelled_attrs, spelled_cap, spelled_range, spelled_seed, spelled_setting, spelled_target, spelled_unit};
 ghost use Rattle.damon_control.specs.Text.{TextsAreRead};
 ghost use Rattle.damon_control.specs.WriteBack.{CommitsAreReadBack, SetupsAreReadBack};
 

@@ -1,11 +1,11 @@
 ghost use Rattle.std.specs.Prelude.{ℕ, List, ◌≡◌, ◌+◌, ◌<◌, ◌≤◌, length, IfOk, IfErr, IfNone, IfSome, OnOk, Ok, Err};
 ghost use Rattle.damon_types.specs.Space.{pages_of};
-ghost use Rattle.damon_control.specs.Command.{Touch};
+ghost use Rattle.script_lines.specs.Command.{Touch};
 ghost use Rattle.damon_control.specs.Left.{IsOpen, IsShort, first_begins, reads_command, reads_on, reads_left};
 ghost use Rattle.damon_control.specs.Script.{AtEnd, Body, InBody, Place, Said, at};
 ghost use Rattle.damon_control.specs.declared.grammar.Grammar.{Grammar as grammar};
 ghost use Rattle.damon_control.specs.declared.grammar.Grammar.TheVariants.{OfScript as of_script};
-ghost use Rattle.damon_control.specs.Words.{begins_with};
+ghost use Rattle.script_lines.specs.Words.{begins_with};
 
 use crate::laws::words_have_laws;
 use crate::touches::leading_touch;

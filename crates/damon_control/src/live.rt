@@ -1,17 +1,11 @@
 use damon_types::PlainList;
 use live_commit::{Commit, Setup};
 
-/// The most passes of a live script.
-pub const MAX_PASSES: u32 = 1_000_000;
-
 /// The most workers of a live script.
 pub const MAX_WORKERS: u32 = 16;
 
 /// The most controllers of a live script.
 pub const MAX_CONTROLLERS: u32 = 4;
-
-/// The most touches of all workers of a live script; a sweep counts its pages.
-pub const MAX_TOUCHES: u32 = 1_048_576;
 
 /// The most calls of all controllers of a live script.
 pub const MAX_CALLS: u32 = 65_536;

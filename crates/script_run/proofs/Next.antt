@@ -5,8 +5,8 @@ use Rattle.std.proofs.Math.Seq.{drop-cons}
 use Rattle.std.proofs.lemmas.Option.{get_or_from_slice_get}
 use Rattle.std.proofs.lemmas.List.Sums.{sum_by-cons}
 use Rattle.damon_types.specs.Space.{pages_of}
-use Rattle.damon_control.specs.declared.script.Command.{Command}
-use Rattle.damon_control.specs.Command.{command_value}
+use Rattle.script_lines.specs.declared.command.Command.{Command}
+use Rattle.script_lines.specs.Command.{command_value}
 use Rattle.damon_world.specs.Stands.{WorldView}
 use Rattle.script_run.specs.Part.{Part}
 use Rattle.script_run.specs.Part as part

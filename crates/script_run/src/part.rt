@@ -1,5 +1,5 @@
 ghost use Rattle.std.specs.Prelude.{◌≡◌};
-ghost use Rattle.damon_control.specs.Command.{command_value};
+ghost use Rattle.script_lines.specs.Command.{command_value};
 ghost use Rattle.script_run.specs.Kept.{is_done};
 ghost use Rattle.script_run.specs.Part.{part_value, start_value};
 ghost use Rattle.script_run.specs.Parts.{part_of, stops_at};

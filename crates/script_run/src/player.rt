@@ -2,8 +2,8 @@ ghost use Rattle.std.specs.Prelude.{◌≡◌, ◌≢◌, ◌+◌, ◌<◌, ◌�
 ghost use Rattle.rand_core.specs.Steps.{stream_of, steps_u32};
 ghost use Rattle.rand_pcg.specs.Pcg.{pcg32};
 ghost use Rattle.damon_types.specs.Space.{pages_of};
-ghost use Rattle.damon_control.specs.Command.{Touch as TouchCommand, command_value, work_of};
-ghost use Rattle.damon_control.specs.Limits.{EachIsWithin};
+ghost use Rattle.script_lines.specs.Command.{Touch as TouchCommand, command_value, work_of};
+ghost use Rattle.script_lines.specs.Limits.{EachIsWithin};
 ghost use Rattle.damon_control.specs.ScriptView.{said_by};
 ghost use Rattle.damon_core.specs.Commit.{commit_answer};
 ghost use Rattle.damon_core.specs.Event.{commit as commit_event};
@@ -58,7 +58,7 @@ pub struct Player<R: Rng> {
 
 impl<R: Rng> Model for Player<R> {
     ghost use Rattle.std.specs.Prelude.{◌∷◌, drop, map};
-    ghost use Rattle.damon_control.specs.Command.{command_value};
+    ghost use Rattle.script_lines.specs.Command.{command_value};
     ghost use Rattle.script_run.specs.Kept.{IsPlayer};
     ghost use Rattle.script_run.specs.Part.{part_value};
     ghost use Rattle.script_run.specs.Parts.{parts_of};

@@ -2,10 +2,10 @@
 use Rattle.std.proofs.Common.{◌≡◌, ℕ, zero, suc, ◌+◌, ◌*◌, ◌/◌, ◌%◌, ◌^◌, ◌<◌, ◌≤◌, List, [], ◌∷◌, ◌++◌, length, map, refl, sym, ap, ◌∙◌, arith, add-one, append-nil, append_assoc, length-append}
 use Rattle.std.proofs.lemmas.List.{length-map, map-append}
 use Rattle.std.proofs.lemmas.List.Sums.{sum_by-append, sum_by-cons}
-use Rattle.damon_control.specs.declared.script.Command.{Command}
-use Rattle.damon_control.specs.declared.script.Command.TheVariants.{Touch as TouchCommand}
-use Rattle.damon_control.specs.Command.{Arm, CommandValue, Finish, Sweep, Touch, command_value, weight, work_of}
-use Rattle.damon_control.specs.Limits.{AreCommandsWithin}
+use Rattle.script_lines.specs.declared.command.Command.{Command}
+use Rattle.script_lines.specs.declared.command.Command.TheVariants.{Touch as TouchCommand}
+use Rattle.script_lines.specs.Command.{Arm, CommandValue, Finish, Sweep, Touch, command_value, weight, work_of}
+use Rattle.script_lines.specs.Limits.{AreCommandsWithin}
 use Rattle.trace_gen.specs.declared.access.Access.{Access}
 use Rattle.trace_gen.specs.declared.access.Access.TheVariants.{Sequential, Stride, HotSpot, Phases}
 use Rattle.trace_gen.specs.Gen.{block, blocks, strides, touches}

@@ -9,9 +9,9 @@ use Rattle.damon_types.specs.Ranges.{InOrder}
 use Rattle.damon_types.specs.Space.{IsSpace, IsTarget, pages_of}
 use Rattle.damon_types.specs.Within.{LiesInTarget}
 use Rattle.live_commit.specs.Setup.{IsSetup, SetupValue}
-use Rattle.damon_control.specs.declared.script.Command.{Command}
-use Rattle.damon_control.specs.Command.{CommandValue, command_value, work_of}
-use Rattle.damon_control.specs.Limits.{AreCommandsWithin, EachIsWithin, IsCommandWithin}
+use Rattle.script_lines.specs.declared.command.Command.{Command}
+use Rattle.script_lines.specs.Command.{CommandValue, command_value, work_of}
+use Rattle.script_lines.specs.Limits.{AreCommandsWithin, EachIsWithin, IsCommandWithin}
 use Rattle.damon_control.specs.Sound.{IsSound}
 use Rattle.trace_gen.specs.Gen.{access_of, blocks, gen, gen_setup, zone_of}
 use Rattle.trace_gen.proofs.BlockLemmas.{blocks_within, work-blocks}

@@ -1,5 +1,5 @@
 ghost use Rattle.std.specs.Prelude.{◌≡◌, ◌≤◌, ◌<◌, ◌+◌, ◌*◌, ◌%◌, ◌^◌, ◌++◌, ◌∷◌, [], length, map, IfOk, OnOk};
-ghost use Rattle.damon_control.specs.Command.{command_value, Touch};
+ghost use Rattle.script_lines.specs.Command.{command_value, Touch};
 ghost use Rattle.trace_gen.specs.Gen.{access_of, block, blocks, strides, sweep, touches, zone_of};
 
 use crate::access::{Access, zone_of};

@@ -1,7 +1,7 @@
 ghost use Rattle.std.specs.Prelude.{◌≡◌, ◌≤◌, map, IfOk};
 ghost use Rattle.damon_types.specs.Space.{pages_of};
-ghost use Rattle.damon_control.specs.Command.{command_value, work_of};
-ghost use Rattle.damon_control.specs.Limits.{EachIsWithin};
+ghost use Rattle.script_lines.specs.Command.{command_value, work_of};
+ghost use Rattle.script_lines.specs.Limits.{EachIsWithin};
 ghost use Rattle.damon_control.specs.ScriptView.{said_by};
 ghost use Rattle.trace_gen.specs.Gen.{gen};
 

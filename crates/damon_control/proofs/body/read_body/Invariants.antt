@@ -3,9 +3,9 @@ use Rattle.damon_types.specs.Space.{pages_of}
 use Rattle.live_commit.specs.SetupView.{value_of}
 use Rattle.damon_control.specs.declared.grammar.Grammar.TheVariants.{OfScript}
 use Rattle.damon_control.specs.declared.script.TheConstants.{MAX_WORK}
-use Rattle.damon_control.specs.Command.{command_value, work_of}
+use Rattle.script_lines.specs.Command.{command_value, work_of}
 use Rattle.damon_control.specs.BodyLine.{body_at}
-use Rattle.damon_control.specs.Limits.{EachIsWithin}
+use Rattle.script_lines.specs.Limits.{EachIsWithin}
 use Rattle.damon_control.specs.Left.{IsShort, reads_left}
 use Rattle.damon_control.specs.Script.{InBody, begun}
 use Rattle.damon_control.proofs.body.read_body.Given as goal

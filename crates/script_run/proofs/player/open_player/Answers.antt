@@ -6,9 +6,9 @@ use Rattle.std.proofs.lemmas.List.{length-map}
 use Rattle.rand_core.specs.Steps.{stream_of, steps_u32}
 use Rattle.rand_pcg.specs.Pcg.{pcg32}
 use Rattle.damon_types.specs.Space.{pages_of}
-use Rattle.damon_control.specs.declared.script.Command.{Command}
-use Rattle.damon_control.specs.Command.{CommandValue, Touch, Sweep, Step, Arm, Finish, Show, Commit, command_value, weight, work_of}
-use Rattle.damon_control.specs.Limits.{IsCommandWithin}
+use Rattle.script_lines.specs.declared.command.Command.{Command}
+use Rattle.script_lines.specs.Command.{CommandValue, Touch, Sweep, Step, Arm, Finish, Show, Commit, command_value, weight, work_of}
+use Rattle.script_lines.specs.Limits.{IsCommandWithin}
 use Rattle.script_run.specs.Part as part
 use Rattle.script_run.specs.Kept.{ArePartsWithin}
 use Rattle.script_run.specs.Player.{left_in, left_of}

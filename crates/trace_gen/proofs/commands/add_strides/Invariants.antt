@@ -1,5 +1,5 @@
 use Rattle.std.proofs.Common.{◌≡◌, ◌+◌, ◌++◌, length, map}
-use Rattle.damon_control.specs.Command.{command_value}
+use Rattle.script_lines.specs.Command.{command_value}
 use Rattle.trace_gen.specs.Gen.{strides}
 use Rattle.trace_gen.proofs.commands.add_strides.Given as goal
 

@@ -1,5 +1,5 @@
 use Rattle.std.proofs.Common.{◌≡◌, map}
-use Rattle.damon_control.specs.Command.{command_value}
+use Rattle.script_lines.specs.Command.{command_value}
 use Rattle.trace_gen.specs.Gen.{blocks}
 use Rattle.trace_gen.proofs.commands.make_commands.Given as goal
 

@@ -1,5 +1,5 @@
 use Rattle.std.proofs.Common.{◌+◌, ◌<◌, length, drop, map, refl, sym, ap, subst, ◌∙◌, arith}
-use Rattle.damon_control.specs.Command.{command_value}
+use Rattle.script_lines.specs.Command.{command_value}
 use Rattle.damon_core.specs.Makes.{Makes}
 use Rattle.damon_world.specs.Stands.{StandsFor}
 use Rattle.damon_world.specs.Touches.{touches}
