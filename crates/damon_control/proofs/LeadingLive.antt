@@ -16,7 +16,6 @@ use Rattle.script_lines.specs.declared.blocks.TheConstants.{MAX_PASSES, MAX_TOUC
 use Rattle.script_lines.specs.Body.{command_line, no_commit, step_line, word_line}
 use Rattle.script_lines.specs.Command.{Arm, CommandValue, Finish, Show, Step, Sweep, Touch}
 use Rattle.script_lines.specs.Head.{limited}
-use Rattle.script_lines.specs.Laws.{WordLaws}
 use Rattle.damon_control.specs.Live.{CallValue, CommitCall, LiveValue, ShowCall, call_within, count_all, live_begun, to_last, with_call}
 use Rattle.script_lines.specs.Blocks.{touched, touches_within, touching}
 use Rattle.damon_control.specs.LiveText.{IsLiveText, SayCall, SayController, SayWorker, SaysPages}
@@ -31,9 +30,8 @@ use Rattle.damon_control.proofs.Leading.{LeadLaws, Opens, either_true, else_way,
 use Rattle.damon_control.proofs.Leads.{leads, leads-line}
 use Rattle.damon_control.proofs.LineWords.{begins_other, passes_begins}
 use Rattle.damon_control.proofs.LiveLemmas.{count_all-more, some_more, to_last-more, touches_after}
-use Rattle.damon_control.proofs.ReadLines.{passes_line-spelled}
 use Rattle.damon_control.proofs.SayPlaces.{both_ways}
-use Rattle.damon_control.proofs.SpellSteps.{bind-Ok, either_way}
+use Rattle.damon_control.proofs.Steps.{bind-Ok, either_way}
 
 -- ---- touches
 
@@ -233,9 +231,9 @@ controllers_lead back v cs (group ∷ groups) [] lines each few sum = absurd eac
 -- ---- a whole text
 
 -- `passes N` opens the blocks of a live script
-passes_opens : WordLaws → (seed : ℕ) (setup : SetupValue) (n : ℕ) → 1 ≤ n → n ≤ MAX_PASSES → Opens OfLive seed setup (spelled_passes n) (live_begun seed setup n)
-passes_opens laws seed setup n some few =
-    let read = passes_line-spelled laws n some few in
+passes_opens : LinesReadBack → (seed : ℕ) (setup : SetupValue) (n : ℕ) → 1 ≤ n → n ≤ MAX_PASSES → Opens OfLive seed setup (spelled_passes n) (live_begun seed setup n)
+passes_opens back seed setup n some few =
+    let read = back.passes n some few in
     let begins = passes_begins (spelled_passes n) n read in
     record {
       no_range = begins_other (codes "passes") (codes "range") (spelled_passes n) begins.begins refl;
@@ -251,14 +249,14 @@ live_lines text v says =
     codes "damon live 1" ∷ (says.setup ++ spelled_passes v.passes ∷ (all_lines says.workers ++ (all_lines says.controllers ++ codes "end" ∷ [])))
 
 -- lines that say a live script lead to its end
-lines_lead : LeadLaws → WordLaws → (text : List ℕ) (v : LiveValue) (says : IsLiveText text v) → leads OfLive AtHeader (live_lines text v says) ≡ Ok (AtEnd v)
-lines_lead laws words text v says =
+lines_lead : LeadLaws → (text : List ℕ) (v : LiveValue) (says : IsLiveText text v) → leads OfLive AtHeader (live_lines text v says) ≡ Ok (AtEnd v)
+lines_lead laws text v says =
     let ends = codes "end" ∷ [] in
     setup_leads laws OfLive v.seed v.setup says.setup (spelled_passes v.passes) (live_begun v.seed v.setup v.passes) (all_lines says.workers ++ (all_lines says.controllers ++ ends)) says.says_setup
-    (passes_opens words v.seed v.setup v.passes says.limits.some_pass says.limits.passes)
+    (passes_opens laws.lines v.seed v.setup v.passes says.limits.some_pass says.limits.passes)
     ∙ workers_lead laws.lines v [] says.workers v.workers (all_lines says.controllers ++ ends) says.say_workers says.limits.workers says.limits.touches
     ∙ controllers_lead laws.lines v [] says.controllers v.controllers ends says.say_controllers says.limits.controllers says.limits.calls
 
 -- a text that says a live script is read as it
-pub IsLiveText-live_of : LeadLaws → WordLaws → (text : List ℕ) (v : LiveValue) → IsLiveText text v → live_of text ≡ Ok v
-IsLiveText-live_of laws words text v says = ap live_of says.spelled ∙ led_read laws.apart OfLive (live_lines text v says) v (lines_lead laws words text v says)
+pub IsLiveText-live_of : LeadLaws → (text : List ℕ) (v : LiveValue) → IsLiveText text v → live_of text ≡ Ok v
+IsLiveText-live_of laws text v says = ap live_of says.spelled ∙ led_read laws.apart OfLive (live_lines text v says) v (lines_lead laws text v says)

@@ -11,7 +11,7 @@ use Rattle.script_lines.specs.Refusal.{◌>>=◌}
 use Rattle.damon_control.specs.Script.{AtAttrs, AtCap, AtEnd, AtHeader, AtRanges, AtSchemes, AtSeed, AtTargets, AtUnit, InBody, InCommit, Place, Said, at, at_text_end, place_after, reads}
 use Rattle.script_lines.specs.Lines.{lines_text}
 use Rattle.damon_control.proofs.PartLemmas.{reads_more}
-use Rattle.damon_control.proofs.SpellSteps.{bind-Ok}
+use Rattle.damon_control.proofs.Steps.{bind-Ok}
 
 -- the place to which lines lead from another
 abbrev pub leads : (g : Grammar) → Place g → List (List ℕ) → Result (Place g) ScriptKind

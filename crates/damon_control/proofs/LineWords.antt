@@ -28,7 +28,7 @@ use Rattle.script_lines.specs.Refusal.{◌>>=◌}
 use Rattle.damon_control.specs.Script.{AtAttrs, AtCap, AtEnd, AtHeader, AtRanges, AtSchemes, AtSeed, AtTargets, AtUnit, Body, InBody, InCommit, Place, Within, after_body, after_commit, after_live, after_ranges, after_schemes, after_setup, after_targets, after_within, header_of, place_after}
 use Rattle.script_lines.specs.Words.{alone, arguments, begins_with, no_word, number_8, number_32, number_64, one_word, same_word}
 use Rattle.damon_control.proofs.Leads.{leads}
-use Rattle.damon_control.proofs.SpellSteps.{bind-Ok, either_way, only_if-Ok}
+use Rattle.damon_control.proofs.Steps.{bind-Ok, either_way, only_if-Ok}
 
 -- a well-formed line that begins with this word
 pub record BeginsPlain (word line : List ℕ) : Type 0 where

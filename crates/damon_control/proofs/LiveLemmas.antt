@@ -10,18 +10,14 @@ use Rattle.damon_types.specs.Listed.{Listed}
 use Rattle.damon_control.specs.declared.live.Call.{Call}
 use Rattle.damon_control.specs.declared.fault.ScriptFault.{ScriptFault}
 use Rattle.script_lines.specs.declared.kind.ScriptKind.{ScriptKind}
-use Rattle.script_lines.specs.declared.kind.ScriptKind.TheVariants.{TooMuch}
 use Rattle.damon_control.specs.declared.grammar.Grammar.TheVariants.{OfLive}
 use Rattle.damon_control.specs.declared.lines.Lines.{Lines}
-use Rattle.script_lines.specs.declared.blocks.TheConstants.{MAX_TOUCHES}
 use Rattle.script_lines.specs.Body.{no_commit}
-use Rattle.script_lines.specs.Command.{CommandValue}
 use Rattle.damon_control.specs.Left.{first_begins, reads_left, reads_on}
 use Rattle.damon_control.specs.Live.{CallValue, LiveValue, ShowCall, call_within, count_all, to_last, with_call}
-use Rattle.script_lines.specs.Blocks.{touched, touches_within}
+use Rattle.script_lines.specs.Blocks.{touches_within}
 use Rattle.damon_control.specs.LiveView.{NoBlock, NoCall, NoWorker, call_value, calls_of, reads_call, reads_touches, with_controllers, with_workers}
-use Rattle.script_lines.specs.Blocks.{touched_of}
-use Rattle.script_lines.specs.Refusal.{◌>>=◌, only_if}
+use Rattle.script_lines.specs.Refusal.{◌>>=◌}
 use Rattle.damon_control.specs.Script.{InBody, InCommit, Place, after_live, at, live_within}
 use Rattle.script_lines.specs.Words.{alone, begins_with, same_word}
 use Rattle.damon_control.proofs.LineWords.{begins_other}

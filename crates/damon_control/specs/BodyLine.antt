@@ -5,7 +5,7 @@ use Rattle.damon_control.specs.declared.body.BodyLine.TheVariants.{End, Commit, 
 use Rattle.script_lines.specs.declared.kind.ScriptKind.{ScriptKind}
 use Rattle.damon_control.specs.declared.grammar.Grammar.TheVariants.{OfScript}
 use Rattle.script_lines.specs.declared.command.Command.{Command}
-use Rattle.script_lines.specs.Command.{CommandValue, command_value}
+use Rattle.script_lines.specs.Command.{command_value}
 use Rattle.live_commit.specs.Setup.{SetupValue}
 use Rattle.script_lines.specs.Body.{no_commit}
 use Rattle.script_lines.specs.Limits.{IsCommandWithin}

@@ -1,18 +1,13 @@
 -- What a live script says, and the lines of its body.
 use Rattle.std.specs.Prelude.{ℕ, ◌+◌, ◌-◌, ◌==◌, Bool, not, nat_le, nat_lt, List, [], ◌∷◌, ◌++◌, length, sum_by, codes, Result, Ok, Err, if◌then◌else◌}
 use Rattle.std.specs.List.{range_with_len}
-use Rattle.damon_types.specs.declared.space.Target.{Target}
 use Rattle.live_commit.specs.Commit.{CommitValue}
 use Rattle.live_commit.specs.Setup.{SetupValue}
 use Rattle.script_lines.specs.declared.kind.ScriptKind.{ScriptKind}
-use Rattle.script_lines.specs.declared.kind.ScriptKind.TheVariants.{Limit, TooMuch, Word}
+use Rattle.script_lines.specs.declared.kind.ScriptKind.TheVariants.{TooMuch, Word}
 use Rattle.damon_control.specs.declared.live.TheConstants.{MAX_CALLS, MAX_CONTROLLERS, MAX_WORKERS}
-use Rattle.script_lines.specs.declared.blocks.TheConstants.{MAX_PASSES, MAX_TOUCHES}
-use Rattle.script_lines.specs.Body.{sweep_line, touch_line}
-use Rattle.script_lines.specs.Command.{CommandValue, Sweep, Touch}
-use Rattle.script_lines.specs.Head.{limited}
 use Rattle.script_lines.specs.Refusal.{◌>>=◌, only_if}
-use Rattle.script_lines.specs.Words.{alone, arguments, begins_with, number_32, one_word}
+use Rattle.script_lines.specs.Words.{alone}
 
 -- what a call of a controller says
 pub data CallValue : Type 0 where

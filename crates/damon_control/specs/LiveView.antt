@@ -4,19 +4,16 @@ use Rattle.std.specs.List.{range_with_len}
 use Rattle.damon_types.specs.Listed.{Listed}
 use Rattle.live_commit.specs.Commit.{commit_value}
 use Rattle.live_commit.specs.SetupView.{value_of}
-use Rattle.script_lines.specs.declared.kind.ScriptKind.{ScriptKind}
 use Rattle.damon_control.specs.declared.live.Call.{Call}
 use Rattle.damon_control.specs.declared.live.Call.TheVariants.{Show, Commit}
 use Rattle.damon_control.specs.declared.live.LiveScript.{LiveScript}
-use Rattle.script_lines.specs.declared.blocks.Pages.{Pages}
 use Rattle.damon_control.specs.declared.fault.ScriptFault.{ScriptFault}
 use Rattle.damon_control.specs.declared.grammar.Grammar.TheVariants.{OfLive}
 use Rattle.damon_control.specs.declared.lines.Lines.{Lines}
 use Rattle.damon_control.specs.declared.live.TheConstants.{MAX_CONTROLLERS, MAX_WORKERS}
-use Rattle.script_lines.specs.Command.{CommandValue}
 use Rattle.damon_control.specs.Left.{first_begins, reads_left}
 use Rattle.damon_control.specs.Live.{CallValue, CommitCall, LiveValue, ShowCall, call_within, count_all, has_controller}
-use Rattle.script_lines.specs.Blocks.{block_line, touched, touches_within}
+use Rattle.script_lines.specs.Blocks.{block_line, touches_within}
 use Rattle.script_lines.specs.Refusal.{◌>>=◌}
 use Rattle.damon_control.specs.Script.{AtEnd, InBody, at}
 use Rattle.script_lines.specs.Words.{alone}

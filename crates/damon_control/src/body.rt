@@ -1,30 +1,23 @@
 ghost use Rattle.std.specs.Prelude.{◌≡◌, ℕ, All, IfSome, ◌≤◌, ◌<◌, ◌+◌, ◌-◌, ◌^◌, IfOk, OnOk, Ok, Err, Some, None, [], length, map, nat_le};
 ghost use Rattle.std.specs.Option.{ok_or};
-ghost use Rattle.damon_types.specs.Space.{page_of, pages_of};
+ghost use Rattle.damon_types.specs.Space.{pages_of};
 ghost use Rattle.live_commit.specs.SetupView.{value_of};
-ghost use Rattle.script_lines.specs.Body.{are_swept, command_line, step_line, sweep_line, touch_line, word_line};
 ghost use Rattle.damon_control.specs.BodyLine.{LineIsWithin, body_at, body_said, script_at};
-ghost use Rattle.script_lines.specs.Command.{command_said};
 ghost use Rattle.script_lines.specs.Command.{command_value, weight, work_of};
 ghost use Rattle.damon_control.specs.Left.{FaultOf, IsShort, MovesTo, reads_command, reads_left};
 ghost use Rattle.script_lines.specs.Limits.{EachIsWithin, IsCommandWithin};
 ghost use Rattle.script_lines.specs.Refusal.{only_if};
 ghost use Rattle.damon_control.specs.Script.{AtEnd, Body, InBody, after_body, begun};
-ghost use Rattle.script_lines.specs.Words.{begins_with};
 ghost use Rattle.damon_control.specs.declared.grammar.Grammar.TheVariants.{OfScript as of_script};
-ghost use Rattle.script_lines.specs.declared.kind.ScriptKind.TheVariants.{Outside, TooMuch};
+ghost use Rattle.script_lines.specs.declared.kind.ScriptKind.TheVariants.{TooMuch};
 
+use crate::ReadFail;
 use crate::commit::read_commit;
-use crate::head::limited;
 use crate::lines::Lines;
-use crate::script::{MAX_STEPS, MAX_WORK};
-use crate::words::{
-    alone, arguments, first_word, one_word, read_32, read_byte_address, same_word, three_words,
-    two_words,
-};
-use crate::{Command, Commands, ReadFail, ScriptKind};
-use damon_types::{PAGE_SIZE, Space, pages_rise};
+use crate::script::{Commands, MAX_WORK};
+use damon_types::Space;
 use live_commit::Setup;
+use script_lines::{Command, ScriptKind, alone, first_word, read_command, same_word};
 use std::alloc::Global;
 
 // What a line of a body says.

@@ -1,18 +1,15 @@
 ghost use Rattle.std.specs.Prelude.{◌≡◌, ◌≤◌, ◌<◌, ◌+◌, ◌-◌, ◌^◌, IfOk, IfSome, OnOk, Ok, Err, Some, None, option_map, length, Result};
-ghost use Rattle.live_commit.specs.Commit.{commit_value, CommitValue};
-ghost use Rattle.script_lines.specs.Body.{change_line, drop_line, no_commit, part_line, wants_attrs, wants_slot, with_range};
+ghost use Rattle.live_commit.specs.Commit.{commit_value};
+ghost use Rattle.script_lines.specs.Body.{no_commit, with_range};
 ghost use Rattle.damon_control.specs.declared.grammar.Grammar.{Grammar as grammar};
 ghost use Rattle.damon_control.specs.Left.{FaultOf, IsShort, reads_commit, reads_left};
 ghost use Rattle.damon_control.specs.Script.{InCommit, Within};
-ghost use Rattle.script_lines.specs.Words.{begins_with};
 
-use crate::fields::{read_attrs, read_range};
-use crate::keys::read_scheme;
+use crate::ReadFail;
 use crate::lines::Lines;
-use crate::words::{alone, arguments, first_word, one_word, read_8, read_32, same_word};
-use crate::{ReadFail, ScriptKind};
-use damon_types::{Attrs, RangeSpec, RangeSpecs, SlotChange};
+use damon_types::{RangeSpec, RangeSpecs};
 use live_commit::Commit;
+use script_lines::{Part, alone, first_word, read_part, same_word};
 use std::alloc::{AllocError, Global};
 
 // Reads the lines of a commit after its first, up to the line `apply`.

@@ -1,31 +1,28 @@
 ghost use Rattle.std.specs.Prelude.{◌≡◌, ◌≤◌, ◌<◌, ◌^◌, Ok, Err, Some, true, false, IfOk, IfErr, OnOk, is_ok, [], ◌∷◌, ◌++◌, ◌+◌, ◌-◌, codes, length};
-ghost use Rattle.damon_types.specs.declared.space.Target.{Target as target_row};
-ghost use Rattle.damon_types.specs.Space.{IsSpace, checked};
-ghost use Rattle.target_ranges.specs.Checked.{checked_next, checked_ranges};
-ghost use Rattle.script_lines.specs.Head.{attrs_line, cap_line, is_changed, limited, range_line, one_target, scheme_line, seed_line, target_in, target_line, unit_line};
+ghost use Rattle.damon_types.specs.Space.{checked};
+ghost use Rattle.target_ranges.specs.Checked.{checked_ranges};
 ghost use Rattle.script_lines.specs.declared.setup.Frame.{Frame as frame};
 ghost use Rattle.live_commit.specs.Checked.{checked_cap, checked_unit};
-ghost use Rattle.live_commit.specs.Slots.{checked_slot, checked_slots, has_scheme, kept_slots};
+ghost use Rattle.live_commit.specs.Slots.{checked_slots, kept_slots};
 ghost use Rattle.script_lines.specs.Limits.{AreLimits};
 ghost use Rattle.damon_control.specs.Left.{FaultOf, IsShort, IsWanted, MovesTo, first_begins, reads_left};
 ghost use Rattle.damon_control.specs.Script.{AtAttrs, AtHeader, AtRanges, AtSchemes, AtTargets, header_of};
 ghost use Rattle.damon_control.specs.declared.grammar.Grammar.{Grammar as grammar};
 ghost use Rattle.script_lines.specs.Refusal.{only_if};
-ghost use Rattle.script_lines.specs.Words.{same_word, words_in};
+ghost use Rattle.script_lines.specs.Words.{same_word};
 ghost use Rattle.script_lines.specs.declared.kind.ScriptKind.TheVariants.{Header, Limit};
 
-use crate::fields::{read_attrs, read_range};
 use crate::grammar::Grammar;
-use crate::keys::read_scheme;
 use crate::lines::Lines;
-use crate::words::{
-    Words, arguments, one_word, read_32, read_64, read_byte_address, same_word, two_words,
+use crate::{MAX_BYTES, ReadFail, ScriptFault};
+use damon_types::{RangeSpecs, SlotChanges, Space, Target};
+use live_commit::{MAX_CAP, slots_are_checked_in_turn};
+use script_lines::{
+    Frame, ScriptKind, read_attrs_line, read_cap, read_range_line, read_scheme_line, read_seed,
+    read_target_line, read_unit, same_word,
 };
-use crate::{MAX_BYTES, ReadFail, ScriptFault, ScriptKind};
-use damon_types::{Attrs, RangeSpec, RangeSpecs, SlotChange, SlotChanges, Space, Target};
-use live_commit::{MAX_CAP, MAX_UNIT, MIN_CAP, slots_are_checked_in_turn};
 use std::alloc::Global;
-use target_ranges::{accepted_has_room, check_next, next_decides};
+use target_ranges::{accepted_has_room, next_decides};
 
 // Reads the lines before the targets.
 pub fn read_frame(lines: &mut Lines, form: Grammar) -> Result<Frame, ScriptFault>

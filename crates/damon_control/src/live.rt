@@ -37,9 +37,9 @@ pub type CallLists = PlainList<CallList>;
 pub struct LiveScript {
     pub seed: u64,
     pub setup: Setup,
-    /// The passes, from 1 to [`MAX_PASSES`].
+    /// The passes, from 1 to [`MAX_PASSES`](crate::MAX_PASSES).
     pub passes: u32,
-    /// At most [`MAX_WORKERS`] traces, with at most [`MAX_TOUCHES`] pages in all.
+    /// At most [`MAX_WORKERS`] traces, with at most [`MAX_TOUCHES`](crate::MAX_TOUCHES) pages in all.
     pub workers: Traces,
     /// At most [`MAX_CONTROLLERS`] lists, with at most [`MAX_CALLS`] calls in all.
     pub controllers: CallLists,

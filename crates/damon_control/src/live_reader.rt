@@ -5,33 +5,26 @@ ghost use Rattle.damon_types.specs.declared.scheme.SlotChange.{SlotChange as cha
 ghost use Rattle.damon_types.specs.declared.space.Target.{Target as target};
 ghost use Rattle.damon_types.specs.Space.{pages_of};
 ghost use Rattle.live_commit.specs.SetupView.{value_of};
-ghost use Rattle.script_lines.specs.declared.kind.ScriptKind.TheVariants.{Limit, TooMuch};
 ghost use Rattle.damon_control.specs.declared.reader.TheConstants.{MAX_BYTES};
 ghost use Rattle.damon_control.specs.declared.live.TheConstants.{MAX_CALLS, MAX_CONTROLLERS};
 ghost use Rattle.damon_control.specs.declared.grammar.Grammar.TheVariants.{OfLive as of_live};
 ghost use Rattle.script_lines.specs.declared.setup.Frame.{Frame as frame};
-ghost use Rattle.script_lines.specs.Command.{command_said};
-ghost use Rattle.script_lines.specs.Command.{command_value};
-ghost use Rattle.script_lines.specs.Limits.{IsCommandWithin};
 ghost use Rattle.script_lines.specs.Head.{setup_said};
 ghost use Rattle.damon_control.specs.Left.{FaultOf, IsShort, MovesTo, first_begins, reads_left};
-ghost use Rattle.damon_control.specs.Live.{LiveValue as live, count_all, has_controller, live_begun};
-ghost use Rattle.script_lines.specs.Blocks.{block_line, touches_within, passes_line, touched, touching};
+ghost use Rattle.damon_control.specs.Live.{LiveValue as live, count_all, live_begun};
+ghost use Rattle.script_lines.specs.Blocks.{page_list};
 ghost use Rattle.damon_control.specs.LiveView.{NoBlock, NoTouch, NoWorker, calls_of, live_said, reads_end, reads_touches, reads_worker, traces_of, with_workers};
-ghost use Rattle.script_lines.specs.Blocks.{page_list, pages_said, touched_of};
 ghost use Rattle.damon_control.specs.Script.{AtEnd, AtHeader, AtSchemes, InBody, live_of};
 
-use crate::body::{read_sweep, read_touch};
 use crate::calls::read_controllers;
 use crate::grammar::Grammar;
-use crate::head::limited;
 use crate::lines::Lines;
-use crate::live::{LiveScript, MAX_PASSES, MAX_TOUCHES, MAX_WORKERS, Trace, Traces};
+use crate::live::{LiveScript, MAX_WORKERS, Trace, Traces};
 use crate::reader::{make_setup, read_head};
-use crate::words::{alone, arguments, first_word, one_word, read_32, same_word};
-use crate::{Command, ReadFail, ScriptFault, ScriptKind};
+use crate::{ReadFail, ScriptFault};
 use damon_types::Space;
 use live_commit::Setup;
+use script_lines::{MAX_PASSES, MAX_TOUCHES, Pages, alone, read_block, read_passes, read_touches};
 use std::alloc::{AllocError, Global};
 
 /// Reads a live script of at most [`MAX_BYTES`](crate::MAX_BYTES) bytes. For any other text, returns the

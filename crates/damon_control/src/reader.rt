@@ -12,19 +12,18 @@ ghost use Rattle.script_lines.specs.Head.{setup_said};
 ghost use Rattle.damon_control.specs.Left.{FaultOf, IsShort, MovesTo, first_begins, reads_left};
 ghost use Rattle.script_lines.specs.Limits.{EachIsWithin};
 ghost use Rattle.damon_control.specs.Script.{AtHeader, AtSchemes, InBody, begun, opened, script_of};
-ghost use Rattle.damon_control.specs.declared.grammar.Grammar.{Grammar as grammar};
 ghost use Rattle.damon_control.specs.declared.grammar.Grammar.TheVariants.{OfScript as of_script};
 ghost use Rattle.damon_control.specs.ScriptView.{said_by};
 
 use crate::body::read_body;
 use crate::grammar::Grammar;
-use crate::head::{Frame, read_frame, read_ranges, read_slots, read_targets};
+use crate::head::{read_frame, read_ranges, read_slots, read_targets};
 use crate::lines::Lines;
 use crate::script::MAX_WORK;
-use crate::words::alone;
 use crate::{ReadFail, Script, ScriptFault};
 use damon_types::{RangeSpecs, SlotChanges, Space, Target};
 use live_commit::Setup;
+use script_lines::{Frame, alone};
 use std::alloc::Global;
 
 /// The most bytes of a text that is read as a script.

@@ -1,8 +1,6 @@
-ghost use Rattle.std.specs.Prelude.{◌≡◌, ◌<◌, ◌^◌};
-ghost use Rattle.script_lines.specs.Command.{command_value, weight};
-
 use damon_types::PlainList;
-use live_commit::{Commit, Setup};
+use live_commit::Setup;
+use script_lines::Command;
 
 /// The most work that the commands of a script may be in all.
 pub const MAX_WORK: u64 = 16_777_216;

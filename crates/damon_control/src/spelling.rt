@@ -4,9 +4,8 @@ ghost use Rattle.std.specs.Fmt.{decimal};
 ghost use Rattle.damon_types.specs.Space.{pages_of};
 ghost use Rattle.live_commit.specs.Commit.{commit_value};
 ghost use Rattle.live_commit.specs.SetupView.{value_of};
-ghost use Rattle.line_text.specs.Address.{spelled_address};
 ghost use Rattle.script_lines.specs.Kept.{KeepsFront};
-ghost use Rattle.script_lines.specs.Spelling.{range_words, spelled_attrs, spelled_cap, spelled_range, spelled_seed, spelled_target, spelled_unit};
+ghost use Rattle.script_lines.specs.Spelling.{spelled_range, spelled_target};
 ghost use Rattle.script_lines.specs.Lines.{lines_text};
 ghost use Rattle.damon_control.specs.Text.{number_lines};
 ghost use Rattle.damon_control.specs.WriteBack.{SpellsRanges};
@@ -14,11 +13,9 @@ ghost use Rattle.script_lines.specs.WrittenLine.{change_text};
 ghost use Rattle.damon_control.specs.Written.{commit_text, part_given, part_text, ranges_given, setup_text, spec_of};
 ghost use Rattle.script_lines.specs.declared.part.Part.TheVariants.{Attrs as attrs_part, Slot as slot_part, Metric as metric_part};
 
-use crate::written::{end_line, write_address, write_change, write_field};
-use damon_types::{
-    Attrs, PAGE_SIZE, Range, RangeSpec, RangeSpecs, Ranges, SlotChange, Space, Target,
-};
+use damon_types::{Attrs, PAGE_SIZE, Range, RangeSpec, RangeSpecs, Ranges, SlotChange, Space};
 use live_commit::{Commit, Setup};
+use script_lines::{write_attrs, write_change_line, write_number_line, write_range, write_target};
 use std::alloc::{AllocError, Global};
 
 /// Appends the lines of a seed and a setup, as they stand in a script between its first line and
