@@ -33,6 +33,7 @@ pub mod LeadingScript
 pub mod LeadingLive
 mod SpellExamples
 mod LiveExamples
+pub mod EntryLemmas
 pub mod WorkLemmas
 pub mod Appending
 pub mod WrittenLemmas

@@ -1,5 +1,7 @@
 -- What the lines of a body say to the program.
-use Rattle.std.specs.Prelude.{ℕ, List, map, Result, Ok, Err}
+use Rattle.std.specs.Prelude.{ℕ, List, Result, Ok, Err}
+use Rattle.std.specs.Global.{Box}
+use Rattle.live_commit.specs.declared.commit.Commit.{Commit as CommitOfCode}
 use Rattle.damon_control.specs.declared.body.BodyLine.{BodyLine}
 use Rattle.damon_control.specs.declared.body.BodyLine.TheVariants.{End, Commit, Say}
 use Rattle.damon_control.specs.declared.fault.ScriptKind.{ScriptKind}
@@ -12,7 +14,7 @@ use Rattle.damon_control.specs.Limits.{IsCommandWithin}
 use Rattle.damon_control.specs.Script.{AtEnd, Body, InCommit, Place, ScriptValue, with_command}
 
 -- what a command that was read says, or why it was rejected
-abbrev pub command_said : Result Command ScriptKind → Result CommandValue ScriptKind
+abbrev pub command_said : Result (Command (Box CommitOfCode)) ScriptKind → Result CommandValue ScriptKind
 command_said (Ok command) = Ok (command_value command)
 command_said (Err kind) = Err kind
 
@@ -30,9 +32,9 @@ LineIsWithin pages Commit = Unit {0}
 LineIsWithin pages (Say command) = IsCommandWithin pages (command_value command)
 
 -- a script with these commands
-abbrev pub script_at : ℕ → SetupValue → List Command → ScriptValue
-script_at seed setup commands = record { seed = seed; setup = setup; commands = map command_value commands }
+abbrev pub script_at : ℕ → SetupValue → List CommandValue → ScriptValue
+script_at seed setup commands = record { seed = seed; setup = setup; commands = commands }
 
 -- a body with these commands, and this work of theirs
-abbrev pub body_at : ℕ → SetupValue → List Command → ℕ → Body
+abbrev pub body_at : ℕ → SetupValue → List CommandValue → ℕ → Body
 body_at seed setup commands work = record { said = script_at seed setup commands; work = work }

@@ -1,5 +1,8 @@
 -- The commands of a script, and their work.
 use Rattle.std.specs.Prelude.{ℕ, ◌+◌, ◌-◌, ◌*◌, List, sum_by}
+use Rattle.std.specs.Global.{Box}
+use denote.Ref.{Bor}
+use Rattle.live_commit.specs.declared.commit.Commit.{Commit as CommitOfCode}
 use Rattle.live_commit.specs.Commit.{CommitValue, commit_value}
 use Rattle.damon_control.specs.declared.script.Command.{Command}
 use Rattle.damon_control.specs.declared.script.Command.TheVariants.{Touch as TouchCommand, Sweep as SweepCommand, Step as StepCommand, Arm as ArmCommand, Finish as FinishCommand, Show as ShowCommand, Commit as CommitCommand}
@@ -14,15 +17,23 @@ pub data CommandValue : Type 0 where
   Show : CommandValue
   Commit : CommitValue → CommandValue
 
--- what a command of the program says
-abbrev pub command_value : Command → CommandValue
-command_value (TouchCommand page) = Touch page
-command_value (SweepCommand from to) = Sweep from to
-command_value (StepCommand times) = Step times
-command_value ArmCommand = Arm
-command_value FinishCommand = Finish
-command_value ShowCommand = Show
-command_value (CommitCommand commit) = Commit (commit_value commit.value)
+-- what a command of the program says, with the parts of its commit by how that is held
+abbrev pub value_by : {C : Type 0} → (C → CommitValue) → Command C → CommandValue
+value_by parts (TouchCommand page) = Touch page
+value_by parts (SweepCommand from to) = Sweep from to
+value_by parts (StepCommand times) = Step times
+value_by parts ArmCommand = Arm
+value_by parts FinishCommand = Finish
+value_by parts ShowCommand = Show
+value_by parts (CommitCommand commit) = Commit (parts commit)
+
+-- what a command says that was read
+abbrev pub command_value : Command (Box CommitOfCode) → CommandValue
+command_value command = value_by (λ commit. commit_value commit.value) command
+
+-- what a command says that a list lends
+abbrev pub lent_value : Command (Bor CommitOfCode) → CommandValue
+lent_value command = value_by (λ commit. commit_value commit.now) command
 
 -- the work of a command under a cap: its touches, or the steps that it may need, or one show or commit
 abbrev pub weight : ℕ → CommandValue → ℕ

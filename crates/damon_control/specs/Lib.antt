@@ -7,6 +7,7 @@ pub mod Keys
 pub mod Head
 pub mod Command
 pub mod Body
+pub mod Commands
 pub mod Live
 pub mod Script
 pub mod ScriptView

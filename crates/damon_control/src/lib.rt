@@ -4,6 +4,8 @@
 
 /// The lines of a body: its commands.
 mod body;
+/// The list of a script's commands.
+mod commands;
 /// The lines of a commit.
 mod commit;
 /// What is wrong with a text.
@@ -39,6 +41,7 @@ mod words;
 /// Appending fields, and the words of a scheme.
 mod written;
 
+pub use commands::Commands;
 pub use fault::{ReadFail, ScriptFault, ScriptKind};
 pub use laws::{
     body_lines_are_spelled, commits_are_read_back, fields_are_spelled, live_texts_are_exactly_read,
@@ -51,5 +54,5 @@ pub use live::{
 };
 pub use live_reader::read_live;
 pub use reader::{MAX_BYTES, read_script};
-pub use script::{Command, Commands, MAX_STEPS, MAX_WORK, Script};
+pub use script::{Command, MAX_STEPS, MAX_WORK, Script};
 pub use spelling::{write_commit, write_setup};

@@ -1,7 +1,7 @@
 ghost use Rattle.std.specs.Prelude.{◌≡◌, ◌<◌, ◌^◌};
 ghost use Rattle.damon_control.specs.Command.{command_value, weight};
 
-use damon_types::PlainList;
+use crate::commands::Commands;
 use live_commit::{Commit, Setup};
 
 /// The most work that the commands of a script may be in all.
@@ -10,9 +10,10 @@ pub const MAX_WORK: u64 = 16_777_216;
 /// The most steps of one command.
 pub const MAX_STEPS: u32 = 1_000_000;
 
-/// One command of a script.
+/// One command of a script. `C` is how its commit is held: in a box, as it is read, since a commit has
+/// room for a whole scheme; lent, as [`Commands::get`] returns it.
 #[derive(Drop)]
-pub enum Command {
+pub enum Command<C = Box<Commit>> {
     /// One touch of the page.
     Touch { page: u32 },
     /// One touch of each page from `from` to before `to`, ascending.
@@ -25,9 +26,8 @@ pub enum Command {
     Finish,
     /// One show: a line of the state, and a line for each region and each slot.
     Show,
-    /// One commit. It is boxed: a commit has room for a whole scheme, and a list has a million
-    /// touches for each commit.
-    Commit { commit: Box<Commit> },
+    /// One commit.
+    Commit { commit: C },
 }
 
 impl Command {
@@ -46,9 +46,6 @@ impl Command {
         }
     }
 }
-
-/// Commands in order.
-pub type Commands = PlainList<Command>;
 
 /// A script: the seed of its random words, what its monitor is started with, and its commands.
 #[derive(Drop)]
