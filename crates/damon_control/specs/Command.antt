@@ -17,7 +17,7 @@ pub data CommandValue : Type 0 where
   Show : CommandValue
   Commit : CommitValue → CommandValue
 
--- what a command of the program says, with the parts of its commit by how that is held
+-- what a command of the program says, where `parts` gives the parts of its commit as it is held
 abbrev pub value_by : {C : Type 0} → (C → CommitValue) → Command C → CommandValue
 value_by parts (TouchCommand page) = Touch page
 value_by parts (SweepCommand from to) = Sweep from to
@@ -27,11 +27,11 @@ value_by parts FinishCommand = Finish
 value_by parts ShowCommand = Show
 value_by parts (CommitCommand commit) = Commit (parts commit)
 
--- what a command says that was read
+-- what a command says whose commit is in a box, as it is read
 abbrev pub command_value : Command (Box CommitOfCode) → CommandValue
 command_value command = value_by (λ commit. commit_value commit.value) command
 
--- what a command says that a list lends
+-- what a command says whose commit is lent
 abbrev pub lent_value : Command (Bor CommitOfCode) → CommandValue
 lent_value command = value_by (λ commit. commit_value commit.now) command
 

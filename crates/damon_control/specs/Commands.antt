@@ -1,4 +1,4 @@
--- How the commands of a script are stored.
+-- How the commands of a script are stored. No public clause cites this file.
 use Rattle.std.specs.Prelude.{◌≡◌, ℕ, ◌<◌, List, length, map, option_map, slice_get, unwrap_or}
 use Rattle.std.specs.Global.{Box}
 use Rattle.live_commit.specs.declared.commit.Commit.{Commit}
