@@ -22,7 +22,7 @@ pub enum InputFault {
 }
 
 impl From<AllocError> for InputFault {
-    ghost use Rattle.damon_app.specs.declared.input.InputFault.TheVariants.{Memory, Fault};
+    ghost use Rattle.damon_app.specs.declared.input.InputFault.TheVariants.{Memory};
 
     ghost from_gives = { λ _ fault. fault ≡ Memory };
 
@@ -32,6 +32,7 @@ impl From<AllocError> for InputFault {
 }
 
 impl From<Failed> for InputFault {
+    ghost use Rattle.damon_app.specs.declared.input.InputFault.TheVariants.{Fault};
 
     ghost from_gives = { λ _ fault. fault ≡ Fault };
 

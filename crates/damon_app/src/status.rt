@@ -60,7 +60,7 @@ impl fmt::Display for Status {
 
 impl From<InputFault> for Status {
     ghost use Rattle.std.specs.Prelude.{◌≡◌};
-    ghost use Rattle.damon_app.specs.Causes.{input_status, read_status};
+    ghost use Rattle.damon_app.specs.Causes.{input_status};
 
     ghost from_gives = { λ fault status. status ≡ input_status fault };
 
@@ -74,6 +74,8 @@ impl From<InputFault> for Status {
 }
 
 impl From<ReadFail> for Status {
+    ghost use Rattle.std.specs.Prelude.{◌≡◌};
+    ghost use Rattle.damon_app.specs.Causes.{read_status};
 
     ghost from_gives = { λ fail status. status ≡ read_status fail };
 
@@ -89,7 +91,8 @@ impl From<ReadFail> for Status {
 }
 
 impl From<AllocError> for Status {
-    ghost use Rattle.damon_app.specs.declared.status.Status.TheVariants.{Memory, WriteFault};
+    ghost use Rattle.std.specs.Prelude.{◌≡◌};
+    ghost use Rattle.damon_app.specs.declared.status.Status.TheVariants.{Memory};
 
     ghost from_gives = { λ _ status. status ≡ Memory };
 
@@ -99,6 +102,8 @@ impl From<AllocError> for Status {
 }
 
 impl From<Failed> for Status {
+    ghost use Rattle.std.specs.Prelude.{◌≡◌};
+    ghost use Rattle.damon_app.specs.declared.status.Status.TheVariants.{WriteFault};
 
     ghost from_gives = { λ _ status. status ≡ WriteFault };
 

@@ -16,6 +16,7 @@ pub mod Leading
 pub mod LeadingScript
 pub mod LeadingLive
 mod LiveExamples
+pub mod EntryLemmas
 pub mod WorkLemmas
 pub mod Appending
 pub mod WrittenLemmas

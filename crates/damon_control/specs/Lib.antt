@@ -1,3 +1,4 @@
+pub mod Commands
 pub mod Live
 pub mod Script
 pub mod ScriptView

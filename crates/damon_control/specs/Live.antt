@@ -6,6 +6,7 @@ use Rattle.live_commit.specs.Setup.{SetupValue}
 use Rattle.script_lines.specs.declared.kind.ScriptKind.{ScriptKind}
 use Rattle.script_lines.specs.declared.kind.ScriptKind.TheVariants.{TooMuch, Word}
 use Rattle.damon_control.specs.declared.live.TheConstants.{MAX_CALLS, MAX_CONTROLLERS, MAX_WORKERS}
+use Rattle.script_lines.specs.Blocks.{block_line, touches_within}
 use Rattle.script_lines.specs.Refusal.{◌>>=◌, only_if}
 use Rattle.script_lines.specs.Words.{alone}
 

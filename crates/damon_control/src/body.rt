@@ -1,11 +1,11 @@
-ghost use Rattle.std.specs.Prelude.{◌≡◌, ℕ, All, IfSome, ◌≤◌, ◌<◌, ◌+◌, ◌-◌, ◌^◌, IfOk, OnOk, Ok, Err, Some, None, [], length, map, nat_le};
+ghost use Rattle.std.specs.Prelude.{◌≡◌, ℕ, All, IfSome, ◌≤◌, ◌<◌, ◌+◌, ◌-◌, ◌^◌, IfOk, OnOk, Ok, Err, Some, None, [], length, nat_le};
 ghost use Rattle.std.specs.Option.{ok_or};
 ghost use Rattle.damon_types.specs.Space.{pages_of};
 ghost use Rattle.live_commit.specs.SetupView.{value_of};
 ghost use Rattle.damon_control.specs.BodyLine.{LineIsWithin, body_at, body_said, script_at};
 ghost use Rattle.script_lines.specs.Command.{command_value, weight, work_of};
 ghost use Rattle.damon_control.specs.Left.{FaultOf, IsShort, MovesTo, reads_command, reads_left};
-ghost use Rattle.script_lines.specs.Limits.{EachIsWithin, IsCommandWithin};
+ghost use Rattle.script_lines.specs.Limits.{AreCommandsWithin, IsCommandWithin};
 ghost use Rattle.script_lines.specs.Refusal.{only_if};
 ghost use Rattle.damon_control.specs.Script.{AtEnd, Body, InBody, after_body, begun};
 ghost use Rattle.damon_control.specs.declared.grammar.Grammar.TheVariants.{OfScript as of_script};
@@ -14,7 +14,8 @@ ghost use Rattle.script_lines.specs.declared.kind.ScriptKind.TheVariants.{TooMuc
 use crate::ReadFail;
 use crate::commit::read_commit;
 use crate::lines::Lines;
-use crate::script::{Commands, MAX_WORK};
+use crate::commands::Commands;
+use crate::script::MAX_WORK;
 use damon_types::Space;
 use live_commit::Setup;
 use script_lines::{Command, ScriptKind, alone, first_word, read_command, same_word};
@@ -35,13 +36,13 @@ pub fn read_body(alloc: Global, lines: &mut Lines, setup: &Setup) -> Result<Comm
     requires { IsShort lines.old }
     ensures ok { IfOk result (λ commands. (seed : ℕ) →
         MovesTo of_script (InBody (begun seed (value_of setup.now))) lines.old
-        (AtEnd (script_at seed (value_of setup.now) commands.list)) lines.new) }
+        (AtEnd (script_at seed (value_of setup.now) commands)) lines.new) }
     ensures fault { (seed : ℕ) →
         FaultOf result (reads_left of_script (InBody (begun seed (value_of setup.now))) lines.old) }
     ensures within { IfOk result (λ commands.
-        EachIsWithin (pages_of setup.now.space) commands.list) }
+        AreCommandsWithin (pages_of setup.now.space) commands) }
     ensures work { IfOk result (λ commands.
-        work_of setup.now.cap (map command_value commands.list) ≤ MAX_WORK) }
+        work_of setup.now.cap commands ≤ MAX_WORK) }
     ensures small { IsShort lines.new }
 {
     let mut commands = Commands::new(alloc);
@@ -53,7 +54,7 @@ pub fn read_body(alloc: Global, lines: &mut Lines, setup: &Setup) -> Result<Comm
 }
 
 // Reads one more command, and gives the work of all so far; or None where the script ends.
-#[tactic(auto, using(crate::proofs::WorkLemmas::work_of_more))]
+#[tactic(auto, using(crate::proofs::WorkLemmas::work_of_more, crate::proofs::WorkLemmas::within_more))]
 fn take_command(
     alloc: Global,
     lines: &mut Lines,
@@ -62,25 +63,25 @@ fn take_command(
     work: u64,
 ) -> Result<Option<u64>, ReadFail>
     requires small { IsShort lines.old }
-    requires few { length commands.old.list ≤ lines.old.taken }
+    requires few { length commands.old ≤ lines.old.taken }
     requires most { work ≤ MAX_WORK }
     ensures more { IfOk result (λ answer. IfSome answer (λ sum. (seed : ℕ) →
-        MovesTo of_script (InBody (body_at seed (value_of setup.now) commands.old.list work)) lines.old
-        (InBody (body_at seed (value_of setup.now) commands.new.list sum)) lines.new)) }
+        MovesTo of_script (InBody (body_at seed (value_of setup.now) commands.old work)) lines.old
+        (InBody (body_at seed (value_of setup.now) commands.new sum)) lines.new)) }
     ensures end { IfOk result (λ answer. answer ≡ None → (seed : ℕ) →
-        MovesTo of_script (InBody (body_at seed (value_of setup.now) commands.old.list work)) lines.old
-        (AtEnd (script_at seed (value_of setup.now) commands.new.list)) lines.new) }
+        MovesTo of_script (InBody (body_at seed (value_of setup.now) commands.old work)) lines.old
+        (AtEnd (script_at seed (value_of setup.now) commands.new)) lines.new) }
     ensures fault { (seed : ℕ) →
-        let body = body_at seed (value_of setup.now) commands.old.list work in
+        let body = body_at seed (value_of setup.now) commands.old work in
         FaultOf result (reads_left of_script (InBody body) lines.old) }
     ensures sum { IfOk result (λ answer. IfSome answer (λ sum.
-        sum + work_of setup.now.cap (map command_value commands.old.list)
-        ≡ work + work_of setup.now.cap (map command_value commands.new.list))) }
+        sum + work_of setup.now.cap commands.old
+        ≡ work + work_of setup.now.cap commands.new)) }
     ensures same { IfOk result (λ answer.
-        answer ≡ None → commands.new.list ≡ commands.old.list) }
-    ensures within { OnOk result (EachIsWithin (pages_of setup.now.space) commands.old.list
-        → EachIsWithin (pages_of setup.now.space) commands.new.list) }
-    ensures few { OnOk result (length commands.new.list ≤ lines.new.taken) }
+        answer ≡ None → commands.new ≡ commands.old) }
+    ensures within { OnOk result (AreCommandsWithin (pages_of setup.now.space) commands.old
+        → AreCommandsWithin (pages_of setup.now.space) commands.new) }
+    ensures few { OnOk result (length commands.new ≤ lines.new.taken) }
     ensures most { IfOk result (λ answer. IfSome answer (λ sum. sum ≤ MAX_WORK)) }
     ensures small { IsShort lines.new }
     ensures shorter { OnOk result (length lines.new.rest.now < length lines.old.rest.now) }

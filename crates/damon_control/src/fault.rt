@@ -37,7 +37,7 @@ impl fmt::Display for ScriptFault {
 }
 
 impl From<ScriptFault> for ReadFail {
-    ghost use Rattle.damon_control.specs.declared.fault.ReadFail.TheVariants.{Script, Memory};
+    ghost use Rattle.damon_control.specs.declared.fault.ReadFail.TheVariants.{Script};
 
     ghost from_gives = { λ fault e. e ≡ Script fault };
 
@@ -47,6 +47,8 @@ impl From<ScriptFault> for ReadFail {
 }
 
 impl From<AllocError> for ReadFail {
+    ghost use Rattle.damon_control.specs.declared.fault.ReadFail.TheVariants.{Memory};
+
     ghost from_gives = { λ _ e. e ≡ Memory };
 
     fn from(_error: AllocError) -> ReadFail {
@@ -55,6 +57,8 @@ impl From<AllocError> for ReadFail {
 }
 
 impl<T: Drop> From<AllocFailed<T>> for ReadFail {
+    ghost use Rattle.damon_control.specs.declared.fault.ReadFail.TheVariants.{Memory};
+
     ghost from_gives = { λ _ e. e ≡ Memory };
 
     fn from(_error: AllocFailed<T>) -> ReadFail {

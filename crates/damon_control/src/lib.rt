@@ -4,6 +4,8 @@
 
 /// The lines of a body: its commands.
 mod body;
+/// The list of a script's commands.
+mod commands;
 /// The lines of a commit.
 mod commit;
 /// What is wrong with a text.
@@ -29,6 +31,7 @@ mod script;
 /// Appending a setup and a commit.
 mod spelling;
 
+pub use commands::Commands;
 pub use fault::{ReadFail, ScriptFault};
 pub use laws::{
     commits_are_read_back, live_texts_are_exactly_read, scripts_are_sound, setups_are_read_back,
@@ -39,7 +42,7 @@ pub use live::{
 };
 pub use live_reader::read_live;
 pub use reader::{MAX_BYTES, read_script};
-pub use script::{Commands, MAX_WORK, Script};
+pub use script::{MAX_WORK, Script};
 pub use script_lines::{
     Command, MAX_PASSES, MAX_STEPS, MAX_TOUCHES, ScriptKind, body_lines_are_spelled,
     fields_are_spelled, schemes_are_spelled, setup_lines_are_spelled, spelled_lines_are_read,

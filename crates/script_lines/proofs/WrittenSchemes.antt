@@ -17,10 +17,9 @@ use Rattle.script_lines.specs.declared.keys.Key.{Key}
 use Rattle.script_lines.specs.declared.keys.Key.TheVariants.{Filter as FilterKey}
 use Rattle.script_lines.specs.declared.keys.Setting.{Setting}
 use Rattle.script_lines.specs.declared.keys.Setting.TheVariants.{Size as SizeOf, Count as CountOf, Age as AgeOf, Quota as QuotaOf, Weights as WeightsOf, Prefer as PreferOf, Marks as MarksOf, Filter as FilterOf}
-use Rattle.script_lines.specs.Fits.{FitSettings, FitsKind, FitsMarks, FitsQuota, FitsSetting}
+use Rattle.script_lines.specs.Fits.{FitSettings, FitsKind, FitsMarks, FitsQuota, FitsSetting, FitsChange, FitsScheme}
 use Rattle.script_lines.specs.Laws.{EmptiesSlot, GivesScheme}
 use Rattle.script_lines.specs.Settings.{AreInOrder, MayFollow, default_scheme, key_of, key_place, settled}
-use Rattle.script_lines.specs.Fits.{FitsChange, FitsScheme}
 use Rattle.script_lines.specs.WrittenLine.{are_even, change_text, is_any, marks_given, prefer_given, quota_given, settings_given, slot_line, unless}
 
 -- ---- the settings fit

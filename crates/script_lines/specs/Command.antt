@@ -1,5 +1,8 @@
 -- The commands of a script, and their work.
 use Rattle.std.specs.Prelude.{ℕ, ◌+◌, ◌-◌, ◌*◌, List, Result, Ok, Err, sum_by}
+use Rattle.std.specs.Global.{Box}
+use denote.Ref.{Bor}
+use Rattle.live_commit.specs.declared.commit.Commit.{Commit as CommitOfCode}
 use Rattle.live_commit.specs.Commit.{CommitValue, commit_value}
 use Rattle.script_lines.specs.declared.command.Command.{Command}
 use Rattle.script_lines.specs.declared.command.Command.TheVariants.{Touch as TouchCommand, Sweep as SweepCommand, Step as StepCommand, Arm as ArmCommand, Finish as FinishCommand, Show as ShowCommand, Commit as CommitCommand}
@@ -15,18 +18,26 @@ pub data CommandValue : Type 0 where
   Show : CommandValue
   Commit : CommitValue → CommandValue
 
--- what a command of the program says
-abbrev pub command_value : Command → CommandValue
-command_value (TouchCommand page) = Touch page
-command_value (SweepCommand from to) = Sweep from to
-command_value (StepCommand times) = Step times
-command_value ArmCommand = Arm
-command_value FinishCommand = Finish
-command_value ShowCommand = Show
-command_value (CommitCommand commit) = Commit (commit_value commit.value)
+-- what a command of the program says, where `parts` gives the parts of its commit as it is held
+abbrev pub value_by : {C : Type 0} → (C → CommitValue) → Command C → CommandValue
+value_by parts (TouchCommand page) = Touch page
+value_by parts (SweepCommand from to) = Sweep from to
+value_by parts (StepCommand times) = Step times
+value_by parts ArmCommand = Arm
+value_by parts FinishCommand = Finish
+value_by parts ShowCommand = Show
+value_by parts (CommitCommand commit) = Commit (parts commit)
+
+-- what a command says whose commit is in a box, as it is read
+abbrev pub command_value : Command (Box CommitOfCode) → CommandValue
+command_value command = value_by (λ commit. commit_value commit.value) command
+
+-- what a command says whose commit is lent
+abbrev pub lent_value : Command (Bor CommitOfCode) → CommandValue
+lent_value command = value_by (λ commit. commit_value commit.now) command
 
 -- what a command that was read says, or why it was rejected
-abbrev pub command_said : Result Command ScriptKind → Result CommandValue ScriptKind
+abbrev pub command_said : Result (Command (Box CommitOfCode)) ScriptKind → Result CommandValue ScriptKind
 command_said (Ok command) = Ok (command_value command)
 command_said (Err kind) = Err kind
 

@@ -1,11 +1,10 @@
 -- What parts of a script keep.
-use Rattle.std.specs.Prelude.{◌≡◌, ℕ, ◌<◌, ◌≤◌, All, List, Ok}
+use Rattle.std.specs.Prelude.{◌≡◌, ℕ, ◌<◌, ◌≤◌, List, Ok}
 use Rattle.std.specs.List.{AllByRecursion}
 use Rattle.live_commit.specs.Checked.{checked_limits}
 use Rattle.script_lines.specs.declared.setup.Frame.{Frame}
-use Rattle.script_lines.specs.declared.command.Command.{Command}
 use Rattle.script_lines.specs.declared.command.TheConstants.{MAX_STEPS}
-use Rattle.script_lines.specs.Command.{CommandValue, command_value, Touch, Sweep, Step, Arm, Finish, Show, Commit}
+use Rattle.script_lines.specs.Command.{CommandValue, Touch, Sweep, Step, Arm, Finish, Show, Commit}
 
 -- the numbers of a frame are those of a setup
 abbrev pub AreLimits : Frame → Type 0
@@ -24,7 +23,3 @@ IsCommandWithin pages (Commit commit) = Unit {0}
 -- each command is within these limits
 abbrev pub AreCommandsWithin : ℕ → List CommandValue → Type 0
 AreCommandsWithin pages commands = AllByRecursion (IsCommandWithin pages) commands
-
--- the same of the commands of the program
-abbrev pub EachIsWithin : ℕ → List Command → Type 0
-EachIsWithin pages commands = All (λ c. IsCommandWithin pages (command_value c)) commands

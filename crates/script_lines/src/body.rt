@@ -2,7 +2,7 @@
 ghost use Rattle.std.specs.Prelude.{◌≡◌, ℕ, ◌<◌, ◌+◌, ◌-◌, IfOk, Ok, Err, Some, None};
 ghost use Rattle.std.specs.Option.{ok_or};
 ghost use Rattle.damon_types.specs.Space.{page_of, pages_of};
-ghost use Rattle.script_lines.specs.Body.{are_swept, command_line, step_line, sweep_line, touch_line, word_line};
+ghost use Rattle.script_lines.specs.Body.{command_line, step_line, sweep_line, touch_line};
 ghost use Rattle.script_lines.specs.Command.{command_said, command_value};
 ghost use Rattle.script_lines.specs.Limits.{IsCommandWithin};
 ghost use Rattle.script_lines.specs.declared.kind.ScriptKind.TheVariants.{Outside};

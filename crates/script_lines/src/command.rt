@@ -6,9 +6,10 @@ use live_commit::Commit;
 /// The most steps of one command.
 pub const MAX_STEPS: u32 = 1_000_000;
 
-/// One command of a script.
+/// One command of a script. `C` is how its commit is held: in a box, as it is read, since a commit has
+/// room for a whole scheme; lent, as a list of commands returns it.
 #[derive(Drop)]
-pub enum Command {
+pub enum Command<C = Box<Commit>> {
     /// One touch of the page.
     Touch { page: u32 },
     /// One touch of each page from `from` to before `to`, ascending.
@@ -21,9 +22,8 @@ pub enum Command {
     Finish,
     /// One show: a line of the state, and a line for each region and each slot.
     Show,
-    /// One commit. It is boxed: a commit has room for a whole scheme, and a list has a million
-    /// touches for each commit.
-    Commit { commit: Box<Commit> },
+    /// One commit.
+    Commit { commit: C },
 }
 
 impl Command {

@@ -1,6 +1,5 @@
-ghost use Rattle.std.specs.Prelude.{◌≡◌, ◌<◌, Ok, Err, Option, Some, None};
+ghost use Rattle.std.specs.Prelude.{◌≡◌, ◌<◌, Ok, Err, Option, Some, None, option_map};
 ghost use Rattle.std.specs.Option.{ok_or};
-ghost use Rattle.std.specs.Prelude.{option_map};
 ghost use Rattle.script_lines.specs.Words.{words_in};
 ghost use Rattle.script_lines.specs.Keys.{action_of, addr_of, answer_of, are_formed, filter_of, is_misformed, key_and_value, key_named, kind_of, marks_of, may_follow, plain_name, prefer_of, quota_of, scheme_in, setting_for, setting_of, span_in, weights_of, with_settings};
 ghost use Rattle.script_lines.specs.KeyViews.{view_key, view_name};

@@ -14,14 +14,14 @@ use line_text::{
 // The words after the first of a line, as text. None if there are none.
 pub type Words<'a> = Option<&'a [u8]>;
 
-// Whether two words are the same.
+/// Whether two words are the same.
 pub fn same_word(word: &[u8], text: &[u8]) -> bool
     ensures { result ≡ same_word word.now text.now }
 {
     word == text
 }
 
-// The first word of a line, up to a space or the line's end.
+/// The first word of a line, up to a space or the line's end.
 pub fn first_word(line: &[u8]) -> &[u8]
     ensures { (word : List ℕ) → begins_with word line.now ≡ same_word result.now word }
 {
@@ -43,7 +43,7 @@ pub fn arguments<'a>(word: &[u8], line: &'a [u8]) -> Result<Words<'a>, ScriptKin
     Ok(rest)
 }
 
-// Reads a line of this word alone.
+/// Reads a line of this word alone.
 #[tactic(auto, using(crate::proofs::WordLemmas::no_word_parts))]
 pub fn alone(word: &[u8], line: &[u8]) -> Result<(), ScriptKind>
     ensures { result ≡ alone word.now line.now }

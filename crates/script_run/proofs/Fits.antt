@@ -162,7 +162,7 @@ part_within cap pages Finish within = tt
 part_within cap pages Show within = tt
 part_within cap pages (Commit parts) within = tt
 
-parts_within : (cap pages : ℕ) (cs : List CommandValue) → AreCommandsWithin pages cs → ArePartsWithin pages (parts_of cap cs)
+pub parts_within : (cap pages : ℕ) (cs : List CommandValue) → AreCommandsWithin pages cs → ArePartsWithin pages (parts_of cap cs)
 parts_within cap pages [] within = tt
 parts_within cap pages (c ∷ cs) within = (part_within cap pages c within.0, parts_within cap pages cs within.1)
 

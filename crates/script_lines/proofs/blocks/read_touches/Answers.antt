@@ -2,8 +2,7 @@ use Rattle.std.proofs.Common.{◌≡◌, refl, ◌-◌, ◌+◌, sym, nat_le, tr
 use Rattle.std.proofs.lemmas.Bool.Decides.{nat_tests}
 use Rattle.std.proofs.lemmas.List.FromFn.{length-range_with_len}
 use Rattle.std.proofs.lemmas.Result.{err_from_is_err_and}
-use Rattle.script_lines.specs.Blocks.{touching}
-use Rattle.script_lines.specs.Blocks.{page_list}
+use Rattle.script_lines.specs.Blocks.{touching, page_list}
 use Rattle.script_lines.proofs.BlockLemmas.{counted-Err, counted-Ok}
 use Rattle.script_lines.proofs.blocks.read_touches.Goals as goal
 
