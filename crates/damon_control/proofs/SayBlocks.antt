@@ -170,7 +170,7 @@ block_line-Ok : (laws : LineLaws) (word line : List ℕ) (count most : ℕ) (t :
 block_line-Ok laws word line count most t e =
     let word_is = bind-Ok (alone word line) _ t e in
     let passes = only_if-Ok (nat_lt count most) Limit (tt {0}) t word_is.2 in
-    record { is = alone-Ok laws word line word_is.1; few = grind (arith, nat_tests, passes.0) }
+    record { is = laws.word word line word_is.1; few = grind (arith, nat_tests, passes.0) }
 
 more_workers : (laws : TextLaws) (lines : List (List ℕ)) (v : LiveValue) (line : List ℕ) (w : LiveValue) → SayBlocks lines v → has_controller v ≡ false → worker_line v line ≡ Ok w → SayBlocks (lines ++ line ∷ []) w
 more_workers laws lines v line w before none =

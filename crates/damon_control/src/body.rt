@@ -12,9 +12,9 @@ ghost use Rattle.damon_control.specs.declared.grammar.Grammar.TheVariants.{OfScr
 ghost use Rattle.script_lines.specs.declared.kind.ScriptKind.TheVariants.{TooMuch};
 
 use crate::ReadFail;
+use crate::commands::Commands;
 use crate::commit::read_commit;
 use crate::lines::Lines;
-use crate::commands::Commands;
 use crate::script::MAX_WORK;
 use damon_types::Space;
 use live_commit::Setup;

@@ -6,7 +6,7 @@ use Rattle.std.specs.Prelude.{codes}
 use Rattle.std.specs.Fmt.{decimal}
 use Rattle.damon_types.specs.declared.scheme.Action.{Action}
 use Rattle.script_lines.specs.declared.keys.Setting.{Setting}
-use Rattle.script_lines.specs.Kept.{keys_text}
+use Rattle.script_lines.specs.KeysText.{keys_text}
 use Rattle.script_lines.specs.Spelling.{spaced, spelled_action, spelled_scheme, spelled_setting}
 
 -- the keys of settings and others are the keys of both

@@ -20,4 +20,5 @@ pub mod Within
 pub mod Touches
 pub mod WrittenLine
 pub mod Kept
+pub mod KeysText
 pub mod WriteBack

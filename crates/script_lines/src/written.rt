@@ -2,7 +2,8 @@
 ghost use Rattle.std.specs.Prelude.{◌≡◌, ◌+◌, ◌≤◌, [], ◌∷◌, ◌++◌, map, length, codes, OnOk};
 ghost use Rattle.std.specs.Fmt.{decimal};
 ghost use Rattle.line_text.specs.Address.{spelled_address};
-ghost use Rattle.script_lines.specs.Kept.{KeepsFront, keys_text};
+ghost use Rattle.script_lines.specs.Kept.{KeepsFront};
+ghost use Rattle.script_lines.specs.KeysText.{keys_text};
 ghost use Rattle.script_lines.specs.Separators.{colon};
 ghost use Rattle.script_lines.specs.Spelling.{kind_name, kind_value, listed, spelled_action, spelled_answer, spelled_filter, spelled_scheme, spelled_setting, spelled_side, spelled_span};
 ghost use Rattle.script_lines.specs.WrittenLine.{are_even, change_text, is_any, marks_given, pattern_given, prefer_given, quota_given, settings_given, unless};

@@ -1,6 +1,7 @@
 use Rattle.std.proofs.Common.{◌≡◌, ◌++◌, drop, map}
 use Rattle.script_lines.specs.declared.keys.Setting.TheVariants.{Filter}
-use Rattle.script_lines.specs.Kept.{KeepsFront, keys_text}
+use Rattle.script_lines.specs.Kept.{KeepsFront}
+use Rattle.script_lines.specs.KeysText.{keys_text}
 use Rattle.script_lines.proofs.written.write_filters.Given as goal
 
 abbrev pub invariant-loop-filter : goal.invariant-loop-filter

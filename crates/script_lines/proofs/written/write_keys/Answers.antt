@@ -2,7 +2,7 @@ use Rattle.std.proofs.Common.{◌≡◌, ◌∙◌, ◌++◌, ap, map, List}
 use Rattle.damon_types.specs.declared.filter.Filter.{Filter as FilterRow}
 use Rattle.std.proofs.lemmas.Result.{IfOk-equal}
 use Rattle.script_lines.specs.declared.keys.Setting.TheVariants.{Filter, Weights}
-use Rattle.script_lines.specs.Kept.{keys_text}
+use Rattle.script_lines.specs.KeysText.{keys_text}
 use Rattle.script_lines.specs.WrittenLine.{are_even, marks_given, pattern_given, prefer_given, quota_given, settings_given, unless}
 use Rattle.script_lines.proofs.WrittenKeys.{keys_added}
 use Rattle.script_lines.proofs.written.write_keys.Goals as goal

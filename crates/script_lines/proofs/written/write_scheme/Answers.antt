@@ -1,7 +1,7 @@
 use Rattle.std.proofs.Common.{◌≡◌, ◌∙◌, ◌++◌, sym, append_assoc, ap, codes, List, ℕ}
 use Rattle.std.specs.Fmt.{decimal}
 use Rattle.std.proofs.lemmas.Result.{IfOk-equal}
-use Rattle.script_lines.specs.Kept.{keys_text}
+use Rattle.script_lines.specs.KeysText.{keys_text}
 use Rattle.script_lines.specs.Spelling.{spelled_action, spelled_scheme}
 use Rattle.script_lines.specs.WrittenLine.{settings_given}
 use Rattle.script_lines.proofs.WrittenKeys.{scheme_spelled}
