@@ -44,7 +44,7 @@ pub enum Start<'a> {
 
 // What a command begins with, under a cap.
 pub fn start_of<'a>(cap: u32, command: Command<&'a Commit>) -> Start<'a>
-    ensures { start_value result ≡ part_of cap (lent_value command) }
+    ensures { start_value result ≡ part_of cap (lent_value command.entry) }
 {
     // The most steps that the arming or the finishing of a pass takes.
     let pass_limit = 2 * u64::from(cap) + 3;

@@ -277,7 +277,7 @@ impl<R: Rng + Drop> Player<R> {
 
 // The page that a command touches, if it is a touch of a single page.
 fn touched_page(command: Command<&Commit>) -> Option<u32>
-    ensures { IfSome result (λ page. lent_value command ≡ TouchCommand page) }
+    ensures { IfSome result (λ page. lent_value command.entry ≡ TouchCommand page) }
 {
     match command {
         Command::Touch { page } => Some(page),
