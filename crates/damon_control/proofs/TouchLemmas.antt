@@ -1,5 +1,5 @@
 -- A touch line at the front of a text is read as a touch.
-use Rattle.std.proofs.Common.{◌≡◌, ℕ, ◌+◌, ◌<◌, List, [], ◌∷◌, ◌++◌, length, codes, decimal, append_assoc, Ok, refl, sym, ap, ◌∙◌, arith}
+use Rattle.std.proofs.Common.{◌≡◌, ℕ, ◌+◌, ◌<◌, List, [], ◌∷◌, ◌++◌, length, codes, Ok, refl, sym, ap, ◌∙◌, arith}
 use Rattle.std.proofs.lemmas.List.Elements.{All-cons}
 use Rattle.damon_types.specs.declared.space.Target.{Target}
 use Rattle.line_text.specs.Laws.{PutsPartsTogether, TakesApartPieces}

@@ -1,6 +1,5 @@
 -- What a live script and its parts show.
-use Rattle.std.specs.Prelude.{◌≡◌, ◌≤◌, ℕ, ◌+◌, ◌-◌, true, false, List, [], ◌∷◌, ◌++◌, length, map, codes, Result, Ok, Err}
-use Rattle.std.specs.List.{range_with_len}
+use Rattle.std.specs.Prelude.{◌≡◌, ◌≤◌, ℕ, ◌+◌, true, false, List, [], ◌∷◌, ◌++◌, length, map, codes, Result}
 use Rattle.damon_types.specs.Listed.{Listed}
 use Rattle.live_commit.specs.Commit.{commit_value}
 use Rattle.live_commit.specs.SetupView.{value_of}
