@@ -52,10 +52,10 @@ pub record IsTaken (limit : ℕ) (source source' : Ends) (script : ScriptValue) 
   pub few : length bytes ≤ limit
   pub spells : script_of bytes ≡ Ok script
 
--- what a status says where no script was read: for each form of a report and each sink, the sink was left alone
+-- what a status says where no script was read: it is right for a report of each form, and for each sink that was left alone
 abbrev pub IsRefused : ℕ → Ends → Ends → Status → Type 0
 IsRefused limit source source' status =
-    (form : Form) (sink : Ends) (same : Type 0) → same → IsReport limit form source source' sink sink same status
+    (form : Form) (sink : Ends) → IsReport limit form source source' sink sink (Unit {0}) status
 
 -- what a status says of what was asked for, where `alone` and `same` are that the source and the sink were left alone
 pub record IsAnswer (limit : ℕ) (request : Option Request) (source source' sink sink' : Ends) (alone same : Type 0) (status : Status) : Type 0 where

@@ -1,15 +1,19 @@
 use Rattle.std.proofs.Common.{◌≡◌, Err, ap, refl}
 use Rattle.std.proofs.lemmas.Result.{err_from_is_err_and}
 use Rattle.damon_control.specs.ScriptView.{said_by}
+use Rattle.damon_app.specs.Answers.{Ends}
 use Rattle.damon_app.specs.declared.input.TheConstants.{INPUT_LIMIT}
-use Rattle.damon_app.proofs.Answering.{not_run, replayed}
+use Rattle.damon_app.proofs.Answering.{left_alone, not_run, replayed}
 use Rattle.damon_app.proofs.replay.replay.Goals as goal
 
 pub returns-in_err-script : goal.returns-in_err-script
 returns-in_err-script g c =
     let p = err_from_is_err_and c.from_residual.result c.from_residual.ensures.1 in
-    let sink = record { bytes = g.K.Sink.taken c.args.sink.now; faults = g.K.Sink.faults c.args.sink.now } in
-    rw (p.1, p.2) (c.in_err-script.ensures.refused c.args.form sink (c.args.sink.now ≡ c.args.sink.now) refl)
+    let sink : Ends = record { bytes = g.K.Sink.taken c.args.sink.now; faults = g.K.Sink.faults c.args.sink.now } in
+    rw (p.1, p.2) (left_alone INPUT_LIMIT c.args.form
+    (record { bytes = g.S.Source.left c.args.source.now; faults = g.S.Source.faults c.args.source.now })
+    (record { bytes = g.S.Source.left c.take_script.new.source; faults = g.S.Source.faults c.take_script.new.source })
+    sink (c.args.sink.now ≡ c.args.sink.now) c.in_err-script.field-0.0 refl (c.in_err-script.ensures.refused c.args.form sink))
 
 pub returns-in_err-write_report : goal.returns-in_err-write_report
 returns-in_err-write_report g c =
