@@ -7,7 +7,7 @@ use Rattle.damon_control.specs.Script.{ScriptValue, script_of}
 use Rattle.damon_control.specs.declared.fault.ReadFail.{ReadFail}
 use Rattle.damon_control.specs.declared.fault.ReadFail.TheVariants as reads
 use Rattle.damon_control.specs.declared.fault.ScriptFault.{ScriptFault}
-use Rattle.damon_control.specs.declared.fault.ScriptKind.{ScriptKind}
+use Rattle.script_lines.specs.declared.kind.ScriptKind.{ScriptKind}
 use Rattle.snapshot_print.specs.declared.form.Form.{Form}
 use Rattle.script_run.specs.Report.{report}
 use Rattle.damon_app.specs.declared.input.InputFault.{InputFault}
@@ -41,6 +41,21 @@ same_fault f g line kind = ap (λ (n : ℕ). record f { line = n }) line ∙ ap 
 -- the sink was left alone
 alone : (form : Form) (a : Option (List ℕ)) (old new : Option (List ℕ)) (same : Type 0) → same → IfSome a (λ bytes. same ⊎ WritesPrefix form bytes old new)
 alone form a old new same is = untold (λ bytes. same ⊎ WritesPrefix form bytes old new) a (λ bytes. inl is)
+
+-- what a status says of a sink that was left alone, in other words for that
+pub left_alone : (limit : ℕ) (form : Form) (source source' sink : Ends) (same : Type 0) (status : Status) → same → IsReport limit form source source' sink sink (Unit {0}) status → IsReport limit form source source' sink sink same status
+left_alone limit form source source' sink same status is report = record {
+  ok = report.ok;
+  end = report.end;
+  complete = report.complete;
+  too_long = report.too_long;
+  script = report.script;
+  read = report.read;
+  write = report.write;
+  asked = report.asked;
+  unwritten = λ yes. is;
+  prefix = alone form source.bytes sink.bytes sink.bytes same is;
+}
 
 module _ (limit : ℕ) (form : Form) (source source' sink sink' : Ends) (same : Type 0) where
   -- the status is the one of the bytes, or a failure

@@ -1,7 +1,8 @@
 -- The clauses of the top call in one record, for the private functions below it. No public clause cites this file.
-use Rattle.std.specs.Prelude.{◌≡◌, ◌≢◌, ◌⊎◌, ◌↔◌, ℕ, List, Option, None, Result, Ok, Err, IfSome, IsSome}
-use Rattle.std.specs.Io.KnownBytes.{IsAtEnd}
+use Rattle.std.specs.Prelude.{◌≡◌, ◌≢◌, ◌⊎◌, ◌↔◌, ℕ, ◌≤◌, List, length, Option, None, Result, Ok, Err, IfSome, IsSome}
+use Rattle.std.specs.Io.KnownBytes.{Consumes, IsAtEnd}
 use Rattle.damon_types.specs.Causes.{Rose}
+use Rattle.damon_control.specs.Script.{ScriptValue, script_of}
 use Rattle.snapshot_print.specs.declared.form.Form.{Form}
 use Rattle.damon_app.specs.declared.request.Request.{Request}
 use Rattle.damon_app.specs.declared.status.Status.{Status}
@@ -42,6 +43,19 @@ pub record IsReport (limit : ℕ) (form : Form) (source source' sink sink' : End
   pub asked : status ≢ statuses.Usage
   pub unwritten : IsUnwritten status → same
   pub prefix : IfSome source.bytes (λ bytes. same ⊎ WritesPrefix form bytes sink.bytes sink'.bytes)
+
+-- the source was read to its end, and its bytes spell this script
+pub record IsTaken (limit : ℕ) (source source' : Ends) (script : ScriptValue) : Type 0 where
+  pub bytes : List ℕ
+  pub all : Consumes source.bytes source'.bytes bytes
+  pub end : IsAtEnd source'.bytes
+  pub few : length bytes ≤ limit
+  pub spells : script_of bytes ≡ Ok script
+
+-- what a status says where no script was read: it is right for a report of each form, and for each sink that was left alone
+abbrev pub IsRefused : ℕ → Ends → Ends → Status → Type 0
+IsRefused limit source source' status =
+    (form : Form) (sink : Ends) → IsReport limit form source source' sink sink (Unit {0}) status
 
 -- what a status says of what was asked for, where `alone` and `same` are that the source and the sink were left alone
 pub record IsAnswer (limit : ℕ) (request : Option Request) (source source' sink sink' : Ends) (alone same : Type 0) (status : Status) : Type 0 where

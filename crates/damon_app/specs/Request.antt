@@ -3,7 +3,7 @@ use Rattle.std.specs.Prelude.{ℕ, ◌-◌, ◌^◌, List, [], ◌∷◌, Option
 use Rattle.std.specs.Option.{option_map}
 use Rattle.std.specs.declared.alloc.Global.{Global}
 use Rattle.line_text.specs.Number.{number}
-use Rattle.damon_control.specs.Words.{same_word}
+use Rattle.script_lines.specs.Words.{same_word}
 use Rattle.snapshot_print.specs.declared.form.Form.TheVariants.{Text, Json}
 use Rattle.damon_app.specs.declared.request.Request.{Request}
 use Rattle.damon_app.specs.declared.request.Request.TheVariants.{Report, Generate}

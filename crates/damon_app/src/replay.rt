@@ -1,9 +1,9 @@
-ghost use Rattle.std.specs.Prelude.{◌≡◌, ◌≢◌, ◌≤◌, ◌↔◌, None, Some, IfErr, IfSome, IsSome, IsErrOf, OnOk, map};
+ghost use Rattle.std.specs.Prelude.{◌≡◌, ◌≢◌, ◌≤◌, ◌↔◌, None, Some, IfErr, IfOk, IfSome, IsSome, IsErrOf, OnOk};
 ghost use Rattle.std.specs.Io.KnownBytes.{Appends, IsAtEnd};
 ghost use Rattle.damon_types.specs.Causes.{Rose};
 ghost use Rattle.damon_types.specs.Space.{pages_of};
-ghost use Rattle.damon_control.specs.Command.{command_value, work_of};
-ghost use Rattle.damon_control.specs.Limits.{EachIsWithin};
+ghost use Rattle.script_lines.specs.Command.{work_of};
+ghost use Rattle.script_lines.specs.Limits.{AreCommandsWithin};
 ghost use Rattle.damon_control.specs.ScriptView.{said_by};
 ghost use Rattle.script_run.specs.Report.{report};
 ghost use Rattle.damon_app.specs.Given.{GaveOver};
@@ -12,7 +12,7 @@ ghost use Rattle.damon_app.specs.Request.{ReadsInput, asked};
 ghost use Rattle.damon_app.specs.Generated.{gen_text};
 ghost use Rattle.damon_app.specs.Runs.{EachRunChoosesBest, EachRunIsBound};
 ghost use Rattle.damon_app.specs.Replay.{IsBegun, IsDone, IsExpected, IsRead, IsUnwritten, TellsFault};
-ghost use Rattle.damon_app.specs.Answers.{EndsRun, IsAnswer, IsReport, status_of};
+ghost use Rattle.damon_app.specs.Answers.{EndsRun, IsAnswer, IsRefused, IsReport, IsTaken, status_of};
 
 use crate::laws::{each_run_chooses_best, each_run_is_bound};
 use crate::request::read_request;
@@ -136,10 +136,31 @@ fn replay<S: Source, K: Sink>(
         (record { bytes = K.taken sink.new; faults = K.faults sink.new })
         (sink.new ≡ sink.old) (status_of result) }
 {
-    let bytes = read_all(alloc, source)?;
-    let script = read_script(alloc, &bytes)?;
+    let script = take_script(alloc, source)?;
     write_report(alloc, script, form, sink)?;
     Ok(())
+}
+
+// Reads a source to its end, and returns the script that its bytes spell. The bytes are dropped at the end
+// of this function: the run needs only the script, and does not keep the memory of both.
+fn take_script<S: Source>(alloc: Global, source: &mut S) -> Result<Script, Status>
+    ensures taken { IfOk result (λ script. IsTaken INPUT_LIMIT
+        (record { bytes = S.left source.old; faults = S.faults source.old })
+        (record { bytes = S.left source.new; faults = S.faults source.new })
+        (said_by script)) }
+    ensures refused { IfErr result (IsRefused INPUT_LIMIT
+        (record { bytes = S.left source.old; faults = S.faults source.old })
+        (record { bytes = S.left source.new; faults = S.faults source.new })) }
+
+    // What the player of a script needs.
+    ensures within { IfOk result (λ script.
+        AreCommandsWithin (pages_of script.setup.space) script.commands) }
+    ensures work { IfOk result (λ script.
+        work_of script.setup.cap script.commands ≤ MAX_WORK) }
+{
+    let bytes = read_all(alloc, source)?;
+    let script = read_script(alloc, &bytes)?;
+    Ok(script)
 }
 
 // Plays a script, and hands its report to the sink a piece at a time.
@@ -149,8 +170,8 @@ fn write_report<K: Sink>(
     form: Form,
     sink: &mut K,
 ) -> Result<(), Status>
-    requires within { EachIsWithin (pages_of script.setup.space) script.commands.list }
-    requires work { work_of script.setup.cap (map command_value script.commands.list) ≤ MAX_WORK }
+    requires within { AreCommandsWithin (pages_of script.setup.space) script.commands }
+    requires work { work_of script.setup.cap script.commands ≤ MAX_WORK }
 
     // The sink gained the report of the script.
     ensures all { OnOk result

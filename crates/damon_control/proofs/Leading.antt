@@ -25,19 +25,20 @@ use Rattle.target_ranges.specs.Laws.{ChecksOneMore, KeepsFault}
 use Rattle.target_ranges.specs.Made.{ranges_of}
 use Rattle.damon_control.specs.declared.grammar.Grammar.{Grammar}
 use Rattle.damon_control.specs.declared.grammar.Grammar.TheVariants.{OfScript, OfLive}
-use Rattle.damon_control.specs.declared.commit.Part.{Part}
-use Rattle.damon_control.specs.declared.fault.ScriptKind.{ScriptKind}
-use Rattle.damon_control.specs.declared.head.Frame.{Frame}
-use Rattle.damon_control.specs.Body.{part_line, with_part}
-use Rattle.damon_control.specs.Fits.{FitsAttrs}
-use Rattle.damon_control.specs.Head.{attrs_line, cap_line, is_changed, range_line, scheme_line, seed_line, target_line, unit_line}
-use Rattle.damon_control.specs.Laws.{GivesScheme, IsPart, may_come}
-use Rattle.damon_control.specs.ReadBack.{LinesReadBack}
-use Rattle.damon_control.specs.Refusal.{◌>>=◌}
+use Rattle.script_lines.specs.declared.part.Part.{Part}
+use Rattle.script_lines.specs.declared.kind.ScriptKind.{ScriptKind}
+use Rattle.script_lines.specs.declared.setup.Frame.{Frame}
+use Rattle.script_lines.specs.Body.{part_line, with_part}
+use Rattle.script_lines.specs.Fits.{FitsAttrs}
+use Rattle.script_lines.specs.Head.{attrs_line, cap_line, is_changed, range_line, scheme_line, seed_line, target_line, unit_line}
+use Rattle.script_lines.specs.Laws.{GivesScheme, IsPart, may_come}
+use Rattle.script_lines.specs.ReadBack.{LinesReadBack}
+use Rattle.script_lines.specs.Refusal.{◌>>=◌}
 use Rattle.damon_control.specs.Script.{AtAttrs, AtCap, AtEnd, AtHeader, AtRanges, AtSchemes, AtSeed, AtTargets, AtUnit, InBody, InCommit, Place, Said, Within, after_setup, header_of, place_after, reads}
-use Rattle.damon_control.specs.Spelling.{spelled_attrs, spelled_cap, spelled_range, spelled_seed, spelled_target, spelled_unit}
-use Rattle.damon_control.specs.Text.{EachSays, SaySetup, come_in_order, lines_text, with_parts}
-use Rattle.damon_control.specs.Words.{begins_with}
+use Rattle.script_lines.specs.Spelling.{spelled_attrs, spelled_cap, spelled_range, spelled_seed, spelled_target, spelled_unit}
+use Rattle.damon_control.specs.Text.{EachSays, SaySetup, come_in_order, with_parts}
+use Rattle.script_lines.specs.Lines.{lines_text}
+use Rattle.script_lines.specs.Words.{begins_with}
 use Rattle.damon_control.proofs.Leads.{leads, leads-line, leads-read, lines_apart}
 use Rattle.damon_control.proofs.LineWords.{begins_other, both_true, leads-IsPiece, part_begins, range_begins, scheme_begins, target_begins}
 use Rattle.damon_control.proofs.SetupLimits.{checked-Limits}

@@ -9,29 +9,29 @@ use Rattle.damon_types.specs.declared.space.Target.{Target}
 use Rattle.live_commit.specs.Commit.{CommitValue}
 use Rattle.live_commit.specs.Setup.{SetupValue}
 use Rattle.target_ranges.specs.Made.{ranges_of}
-use Rattle.damon_control.specs.declared.fault.ScriptKind.TheVariants.{TooMuch}
+use Rattle.script_lines.specs.declared.kind.ScriptKind.TheVariants.{TooMuch}
 use Rattle.damon_control.specs.declared.grammar.Grammar.TheVariants.{OfLive}
-use Rattle.damon_control.specs.declared.live.TheConstants.{MAX_CALLS, MAX_CONTROLLERS, MAX_PASSES, MAX_TOUCHES, MAX_WORKERS}
-use Rattle.damon_control.specs.Body.{command_line, no_commit, step_line, word_line}
-use Rattle.damon_control.specs.Command.{Arm, CommandValue, Finish, Show, Step, Sweep, Touch}
-use Rattle.damon_control.specs.Head.{limited}
-use Rattle.damon_control.specs.Laws.{WordLaws}
-use Rattle.damon_control.specs.Live.{CallValue, CommitCall, LiveValue, ShowCall, call_within, count_all, live_begun, to_last, touched, touches_within, touching, with_call}
+use Rattle.damon_control.specs.declared.live.TheConstants.{MAX_CALLS, MAX_CONTROLLERS, MAX_WORKERS}
+use Rattle.script_lines.specs.declared.blocks.TheConstants.{MAX_PASSES, MAX_TOUCHES}
+use Rattle.script_lines.specs.Body.{command_line, no_commit, step_line, word_line}
+use Rattle.script_lines.specs.Command.{Arm, CommandValue, Finish, Show, Step, Sweep, Touch}
+use Rattle.script_lines.specs.Head.{limited}
+use Rattle.damon_control.specs.Live.{CallValue, CommitCall, LiveValue, ShowCall, call_within, count_all, live_begun, to_last, with_call}
+use Rattle.script_lines.specs.Blocks.{touched, touches_within, touching}
 use Rattle.damon_control.specs.LiveText.{IsLiveText, SayCall, SayController, SayWorker, SaysPages}
 use Rattle.damon_control.specs.LiveView.{with_controllers, with_workers}
-use Rattle.damon_control.specs.ReadBack.{LinesReadBack}
-use Rattle.damon_control.specs.Refusal.{◌>>=◌, only_if}
+use Rattle.script_lines.specs.ReadBack.{LinesReadBack}
+use Rattle.script_lines.specs.Refusal.{◌>>=◌, only_if}
 use Rattle.damon_control.specs.Script.{AtEnd, AtHeader, InBody, InCommit, live_of, live_within, place_after}
-use Rattle.damon_control.specs.Spelling.{spelled_passes}
+use Rattle.script_lines.specs.Spelling.{spelled_passes}
 use Rattle.damon_control.specs.Text.{AreCommit, EachSays, all_lines}
-use Rattle.damon_control.specs.Words.{alone, arguments, begins_with, number_32, one_word}
+use Rattle.script_lines.specs.Words.{alone, arguments, begins_with, number_32, one_word}
 use Rattle.damon_control.proofs.Leading.{LeadLaws, Opens, either_true, else_way, led_read, parts_lead, setup_leads, then_way}
 use Rattle.damon_control.proofs.Leads.{leads, leads-line}
 use Rattle.damon_control.proofs.LineWords.{begins_other, passes_begins}
 use Rattle.damon_control.proofs.LiveLemmas.{count_all-more, some_more, to_last-more, touches_after}
-use Rattle.damon_control.proofs.ReadLines.{passes_line-spelled}
 use Rattle.damon_control.proofs.SayPlaces.{both_ways}
-use Rattle.damon_control.proofs.SpellSteps.{bind-Ok, either_way}
+use Rattle.damon_control.proofs.Steps.{bind-Ok, either_way}
 
 -- ---- touches
 
@@ -231,9 +231,9 @@ controllers_lead back v cs (group ∷ groups) [] lines each few sum = absurd eac
 -- ---- a whole text
 
 -- `passes N` opens the blocks of a live script
-passes_opens : WordLaws → (seed : ℕ) (setup : SetupValue) (n : ℕ) → 1 ≤ n → n ≤ MAX_PASSES → Opens OfLive seed setup (spelled_passes n) (live_begun seed setup n)
-passes_opens laws seed setup n some few =
-    let read = passes_line-spelled laws n some few in
+passes_opens : LinesReadBack → (seed : ℕ) (setup : SetupValue) (n : ℕ) → 1 ≤ n → n ≤ MAX_PASSES → Opens OfLive seed setup (spelled_passes n) (live_begun seed setup n)
+passes_opens back seed setup n some few =
+    let read = back.passes n some few in
     let begins = passes_begins (spelled_passes n) n read in
     record {
       no_range = begins_other (codes "passes") (codes "range") (spelled_passes n) begins.begins refl;
@@ -249,14 +249,14 @@ live_lines text v says =
     codes "damon live 1" ∷ (says.setup ++ spelled_passes v.passes ∷ (all_lines says.workers ++ (all_lines says.controllers ++ codes "end" ∷ [])))
 
 -- lines that say a live script lead to its end
-lines_lead : LeadLaws → WordLaws → (text : List ℕ) (v : LiveValue) (says : IsLiveText text v) → leads OfLive AtHeader (live_lines text v says) ≡ Ok (AtEnd v)
-lines_lead laws words text v says =
+lines_lead : LeadLaws → (text : List ℕ) (v : LiveValue) (says : IsLiveText text v) → leads OfLive AtHeader (live_lines text v says) ≡ Ok (AtEnd v)
+lines_lead laws text v says =
     let ends = codes "end" ∷ [] in
     setup_leads laws OfLive v.seed v.setup says.setup (spelled_passes v.passes) (live_begun v.seed v.setup v.passes) (all_lines says.workers ++ (all_lines says.controllers ++ ends)) says.says_setup
-    (passes_opens words v.seed v.setup v.passes says.limits.some_pass says.limits.passes)
+    (passes_opens laws.lines v.seed v.setup v.passes says.limits.some_pass says.limits.passes)
     ∙ workers_lead laws.lines v [] says.workers v.workers (all_lines says.controllers ++ ends) says.say_workers says.limits.workers says.limits.touches
     ∙ controllers_lead laws.lines v [] says.controllers v.controllers ends says.say_controllers says.limits.controllers says.limits.calls
 
 -- a text that says a live script is read as it
-pub IsLiveText-live_of : LeadLaws → WordLaws → (text : List ℕ) (v : LiveValue) → IsLiveText text v → live_of text ≡ Ok v
-IsLiveText-live_of laws words text v says = ap live_of says.spelled ∙ led_read laws.apart OfLive (live_lines text v says) v (lines_lead laws words text v says)
+pub IsLiveText-live_of : LeadLaws → (text : List ℕ) (v : LiveValue) → IsLiveText text v → live_of text ≡ Ok v
+IsLiveText-live_of laws text v says = ap live_of says.spelled ∙ led_read laws.apart OfLive (live_lines text v says) v (lines_lead laws text v says)

@@ -8,14 +8,14 @@ use Rattle.live_commit.specs.Commit.{CommitValue}
 use Rattle.live_commit.specs.Setup.{SetupValue}
 use Rattle.damon_control.specs.declared.grammar.Grammar.TheVariants.{OfScript}
 use Rattle.damon_control.specs.declared.script.TheConstants.{MAX_WORK}
-use Rattle.damon_control.specs.Body.{no_commit}
-use Rattle.damon_control.specs.Command.{CommandValue, Commit, weight, work_of}
-use Rattle.damon_control.specs.Laws.{IsCommand}
-use Rattle.damon_control.specs.ReadBack.{LinesReadBack}
-use Rattle.damon_control.specs.Refusal.{◌>>=◌}
+use Rattle.script_lines.specs.Body.{no_commit}
+use Rattle.script_lines.specs.Command.{CommandValue, Commit, weight, work_of}
+use Rattle.script_lines.specs.Laws.{IsCommand}
+use Rattle.script_lines.specs.ReadBack.{LinesReadBack}
+use Rattle.script_lines.specs.Refusal.{◌>>=◌}
 use Rattle.damon_control.specs.Script.{AtEnd, AtHeader, Body, InBody, InCommit, ScriptValue, begun, place_after, script_of, with_command}
 use Rattle.damon_control.specs.Text.{AreCommit, EachSays, IsText, SayCommand, all_lines}
-use Rattle.damon_control.specs.Words.{begins_with}
+use Rattle.script_lines.specs.Words.{begins_with}
 use Rattle.damon_control.proofs.Leading.{LeadLaws, Opens, else_way, led_read, parts_lead, setup_leads, then_way}
 use Rattle.damon_control.proofs.Leads.{leads, leads-line}
 use Rattle.damon_control.proofs.LineWords.{command_begins}

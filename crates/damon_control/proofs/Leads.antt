@@ -6,12 +6,12 @@ use Rattle.std.proofs.lemmas.List.Elements.{All-append, All-from_recursion, All-
 use Rattle.line_text.specs.Laws.{TakesApartPieces}
 use Rattle.line_text.specs.Parts.{IsPiece, joined, parts}
 use Rattle.damon_control.specs.declared.grammar.Grammar.{Grammar}
-use Rattle.damon_control.specs.declared.fault.ScriptKind.{ScriptKind}
-use Rattle.damon_control.specs.Refusal.{◌>>=◌}
+use Rattle.script_lines.specs.declared.kind.ScriptKind.{ScriptKind}
+use Rattle.script_lines.specs.Refusal.{◌>>=◌}
 use Rattle.damon_control.specs.Script.{AtAttrs, AtCap, AtEnd, AtHeader, AtRanges, AtSchemes, AtSeed, AtTargets, AtUnit, InBody, InCommit, Place, Said, at, at_text_end, place_after, reads}
-use Rattle.damon_control.specs.Text.{lines_text}
+use Rattle.script_lines.specs.Lines.{lines_text}
 use Rattle.damon_control.proofs.PartLemmas.{reads_more}
-use Rattle.damon_control.proofs.SpellSteps.{bind-Ok}
+use Rattle.damon_control.proofs.Steps.{bind-Ok}
 
 -- the place to which lines lead from another
 abbrev pub leads : (g : Grammar) → Place g → List (List ℕ) → Result (Place g) ScriptKind

@@ -11,23 +11,24 @@ use Rattle.line_text.specs.Parts.{IsPiece, is_plain, is_printable, is_word, part
 use Rattle.live_commit.specs.Commit.{CommitValue}
 use Rattle.damon_control.specs.declared.grammar.Grammar.{Grammar}
 use Rattle.damon_control.specs.declared.grammar.Grammar.TheVariants.{OfScript, OfLive}
-use Rattle.damon_control.specs.declared.commit.Part.{Part}
-use Rattle.damon_control.specs.declared.commit.Part.TheVariants.{Attrs, Range, Slot, Metric}
-use Rattle.damon_control.specs.declared.fault.ScriptKind.{ScriptKind}
-use Rattle.damon_control.specs.declared.fault.ScriptKind.TheVariants.{Form, Header, Word}
+use Rattle.script_lines.specs.declared.part.Part.{Part}
+use Rattle.script_lines.specs.declared.part.Part.TheVariants.{Attrs, Range, Slot, Metric}
+use Rattle.script_lines.specs.declared.kind.ScriptKind.{ScriptKind}
+use Rattle.script_lines.specs.declared.kind.ScriptKind.TheVariants.{Form, Header, Word}
 use Rattle.damon_control.specs.declared.live.TheConstants.{MAX_CONTROLLERS, MAX_WORKERS}
-use Rattle.damon_control.specs.declared.head.Frame.{Frame}
-use Rattle.damon_control.specs.Body.{change_line, command_line, drop_line, part_line, step_line, wants_attrs, wants_slot, word_line}
-use Rattle.damon_control.specs.Command.{Arm, CommandValue, Finish, Show}
-use Rattle.damon_control.specs.Fields.{attrs_in, range_in}
-use Rattle.damon_control.specs.Head.{attrs_line, cap_line, limited, one_target, range_line, scheme_line, seed_line, target_line, unit_line}
-use Rattle.damon_control.specs.Keys.{scheme_in}
-use Rattle.damon_control.specs.Live.{LiveValue, block_line, count_all, controller_line, has_controller, passes_line, show_line, touches_line, touches_within, touching, worker_line}
-use Rattle.damon_control.specs.Refusal.{◌>>=◌}
+use Rattle.script_lines.specs.declared.setup.Frame.{Frame}
+use Rattle.script_lines.specs.Body.{change_line, command_line, drop_line, part_line, step_line, wants_attrs, wants_slot, word_line}
+use Rattle.script_lines.specs.Command.{Arm, CommandValue, Finish, Show}
+use Rattle.script_lines.specs.Fields.{attrs_in, range_in}
+use Rattle.script_lines.specs.Head.{attrs_line, cap_line, limited, one_target, range_line, scheme_line, seed_line, target_line, unit_line}
+use Rattle.script_lines.specs.Keys.{scheme_in}
+use Rattle.damon_control.specs.Live.{LiveValue, count_all, controller_line, has_controller, show_line, touches_line, worker_line}
+use Rattle.script_lines.specs.Blocks.{block_line, passes_line, touches_within, touching}
+use Rattle.script_lines.specs.Refusal.{◌>>=◌}
 use Rattle.damon_control.specs.Script.{AtAttrs, AtCap, AtEnd, AtHeader, AtRanges, AtSchemes, AtSeed, AtTargets, AtUnit, Body, InBody, InCommit, Place, Within, after_body, after_commit, after_live, after_ranges, after_schemes, after_setup, after_targets, after_within, header_of, place_after}
-use Rattle.damon_control.specs.Words.{alone, arguments, begins_with, no_word, number_8, number_32, number_64, one_word, same_word}
+use Rattle.script_lines.specs.Words.{alone, arguments, begins_with, no_word, number_8, number_32, number_64, one_word, same_word}
 use Rattle.damon_control.proofs.Leads.{leads}
-use Rattle.damon_control.proofs.SpellSteps.{bind-Ok, either_way, only_if-Ok}
+use Rattle.damon_control.proofs.Steps.{bind-Ok, either_way, only_if-Ok}
 
 -- a well-formed line that begins with this word
 pub record BeginsPlain (word line : List ℕ) : Type 0 where

@@ -4,9 +4,9 @@ use Rattle.std.proofs.Common.{◌≡◌, inl, lit<, arith, ◌∷◌, [], ◌++�
 use Rattle.std.specs.Fmt.{digits}
 use Rattle.damon_types.specs.declared.space.Target.{Target}
 use Rattle.live_commit.specs.Setup.{SetupValue}
-use Rattle.damon_control.specs.declared.fault.ScriptKind.{ScriptKind}
-use Rattle.damon_control.specs.declared.fault.ScriptKind.TheVariants.{Limit, Outside, Word}
-use Rattle.damon_control.specs.Laws.{IsTouch}
+use Rattle.script_lines.specs.declared.kind.ScriptKind.{ScriptKind}
+use Rattle.script_lines.specs.declared.kind.ScriptKind.TheVariants.{Limit, Outside, Word}
+use Rattle.script_lines.specs.Laws.{IsTouch}
 use Rattle.damon_control.specs.Live.{CommitCall, LiveValue, ShowCall}
 use Rattle.damon_control.specs.LiveText.{IsLiveText, KeepsLimits, SayController, SayWorker, SaysPages}
 use Rattle.damon_control.specs.Script.{live_of}

@@ -1,5 +1,5 @@
 -- The lines of the blocks of a live script.
-use Rattle.std.proofs.Common.{◌≡◌, ◌∷◌, [], ◌==◌, ◌||◌, ◌+◌, ◌-◌, ◌<◌, ◌≤◌, ℕ, zero, suc, Bool, true, false, not, nat_le, List, ◌++◌, length, map, codes, Ok, Err, refl, sym, ap, ◌∙◌, arith}
+use Rattle.std.proofs.Common.{◌≡◌, ◌∷◌, [], ◌==◌, ◌||◌, ◌+◌, ◌-◌, ◌<◌, ◌≤◌, ℕ, zero, suc, Bool, true, false, not, List, ◌++◌, length, map, codes, Ok, Err, refl, sym, ap, ◌∙◌, arith}
 use Rattle.std.specs.Prelude.{All, Result}
 use Rattle.std.specs.List.{AllByRecursion, range_with_len}
 use Rattle.std.proofs.lemmas.Bool.Decides.{nat_tests}
@@ -9,19 +9,17 @@ use Rattle.std.proofs.lemmas.List.Sums.{sum_by-append, sum_by-cons}
 use Rattle.damon_types.specs.Listed.{Listed}
 use Rattle.damon_control.specs.declared.live.Call.{Call}
 use Rattle.damon_control.specs.declared.fault.ScriptFault.{ScriptFault}
-use Rattle.damon_control.specs.declared.fault.ScriptKind.{ScriptKind}
-use Rattle.damon_control.specs.declared.fault.ScriptKind.TheVariants.{TooMuch}
+use Rattle.script_lines.specs.declared.kind.ScriptKind.{ScriptKind}
 use Rattle.damon_control.specs.declared.grammar.Grammar.TheVariants.{OfLive}
 use Rattle.damon_control.specs.declared.lines.Lines.{Lines}
-use Rattle.damon_control.specs.declared.live.TheConstants.{MAX_TOUCHES}
-use Rattle.damon_control.specs.Body.{no_commit}
-use Rattle.damon_control.specs.Command.{CommandValue}
+use Rattle.script_lines.specs.Body.{no_commit}
 use Rattle.damon_control.specs.Left.{first_begins, reads_left, reads_on}
-use Rattle.damon_control.specs.Live.{CallValue, LiveValue, ShowCall, call_within, count_all, to_last, touched, touches_within, with_call}
-use Rattle.damon_control.specs.LiveView.{NoBlock, NoCall, NoWorker, call_value, calls_of, reads_call, reads_touches, touched_of, with_controllers, with_workers}
-use Rattle.damon_control.specs.Refusal.{◌>>=◌, only_if}
+use Rattle.damon_control.specs.Live.{CallValue, LiveValue, ShowCall, call_within, count_all, to_last, with_call}
+use Rattle.script_lines.specs.Blocks.{touches_within}
+use Rattle.damon_control.specs.LiveView.{NoBlock, NoCall, NoWorker, call_value, calls_of, reads_call, reads_touches, with_controllers, with_workers}
+use Rattle.script_lines.specs.Refusal.{◌>>=◌}
 use Rattle.damon_control.specs.Script.{InBody, InCommit, Place, after_live, at, live_within}
-use Rattle.damon_control.specs.Words.{alone, begins_with, same_word}
+use Rattle.script_lines.specs.Words.{alone, begins_with, same_word}
 use Rattle.damon_control.proofs.LineWords.{begins_other}
 
 pub to_last-more : {A : Type 0} (lists : List (List A)) (last items : List A) → to_last (lists ++ last ∷ []) items ≡ lists ++ (last ++ items) ∷ []
@@ -65,22 +63,6 @@ pub touches_read : (v : LiveValue) (ws : List (List ℕ)) (t line : List ℕ) (l
 touches_read v ws t line lines is =
     ap (λ r. at lines.taken r >>= λ next. reads_left OfLive next lines) (touches_after v ws t line is)
     ∙ joined lines.taken (touches_within v.setup.space line (count_all ws + length t)) (λ pages. with_workers v (ws ++ (t ++ pages) ∷ [])) (λ next. reads_left OfLive next lines)
-
--- the touches of a command that was read, or why it was rejected, after this number of touches
-abbrev counted : ℕ → Result CommandValue ScriptKind → Result (List ℕ) ScriptKind
-counted before said = said >>= λ command. only_if (nat_le (before + length (touched command)) MAX_TOUCHES) TooMuch (touched command)
-
-pub counted-Ok : (said : Result CommandValue ScriptKind) (before : ℕ) (pages : List ℕ) → Ok pages ≡ touched_of said
-    → (said >>= λ command. only_if (nat_le (before + length (touched command)) MAX_TOUCHES) TooMuch (touched command)) ≡ only_if (nat_le (before + length pages) MAX_TOUCHES) TooMuch pages
-counted-Ok (Ok command) before pages is =
-    let same : pages ≡ touched command = cc in
-    ap (λ ps. only_if (nat_le (before + length ps) MAX_TOUCHES) TooMuch ps) (sym same)
-counted-Ok (Err kind) before pages is = absurd cc
-
-pub counted-Err : (said : Result CommandValue ScriptKind) (before : ℕ) (kind : ScriptKind) → Err kind ≡ touched_of said
-    → (said >>= λ command. only_if (nat_le (before + length (touched command)) MAX_TOUCHES) TooMuch (touched command)) ≡ Err kind
-counted-Err (Ok command) before kind is = absurd cc
-counted-Err (Err other) before kind is = let same : kind ≡ other = cc in ap (λ k. Err k) (sym same)
 
 -- ---- pages in order
 

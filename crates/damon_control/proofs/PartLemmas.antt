@@ -1,33 +1,17 @@
 -- The parts of a text are some.
-use Rattle.std.proofs.Common.{◌≡◌, ◌≢◌, ℕ, ◌+◌, ◌<◌, ◌==◌, List, [], ◌∷◌, length, Err, None, refl, sym, arith}
+use Rattle.std.proofs.Common.{◌≡◌, ◌≢◌, ℕ, ◌+◌, ◌<◌, ◌==◌, List, [], ◌∷◌, length, Err, refl, sym, arith}
 use Rattle.std.proofs.lemmas.List.Splits.{join_with_byte-slice_split, length-slice_split}
 use Rattle.std.specs.List.{join_with_byte}
-use Rattle.line_text.specs.Parts.{one_of, parts}
+use Rattle.line_text.specs.Parts.{parts}
 use Rattle.damon_control.specs.declared.grammar.Grammar.{Grammar}
-use Rattle.damon_control.specs.declared.fault.ScriptKind.TheVariants.{After, Form}
+use Rattle.script_lines.specs.declared.kind.ScriptKind.TheVariants.{After}
 use Rattle.damon_control.specs.Left.{begins_lines}
-use Rattle.damon_control.specs.Refusal.{◌>>=◌}
+use Rattle.script_lines.specs.Refusal.{◌>>=◌}
 use Rattle.damon_control.specs.Script.{AtEnd, Place, Said, place_after, at, reads}
-use Rattle.damon_control.specs.Words.{begins_with, no_word}
+use Rattle.script_lines.specs.Words.{begins_with}
 
 pub parts-some : (separator : ℕ) (bytes : List ℕ) → 0 < length (parts separator bytes)
 parts-some separator bytes = omega (arith, length-slice_split (λ c. c == separator) bytes)
-
--- some bytes at least are a word
-pub no_word_parts : (bytes : List ℕ) → no_word (parts 32 bytes) ≡ Err Form
-no_word_parts bytes = by (parts 32 bytes) (parts-some 32 bytes)
-  where
-    by : (words : List (List ℕ)) → 0 < length words → no_word words ≡ Err Form
-    by [] some = absurd (omega arith)
-    by (word ∷ words) some = refl
-
--- a word and the parts after it are more than one
-pub one_of_parts : (word bytes : List ℕ) → one_of (word ∷ parts 32 bytes) ≡ None
-one_of_parts word bytes = by (parts 32 bytes) (parts-some 32 bytes)
-  where
-    by : (words : List (List ℕ)) → 0 < length words → one_of (word ∷ words) ≡ None
-    by [] some = absurd (omega arith)
-    by (next ∷ words) some = refl
 
 -- a line with lines after it is read, and then these
 pub reads_more : (g : Grammar) (n : ℕ) (place : Place g) (line : List ℕ) (lines : List (List ℕ)) → 0 < length lines

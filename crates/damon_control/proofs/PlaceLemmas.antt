@@ -4,9 +4,9 @@ use Rattle.std.proofs.lemmas.Bool.Decides.{nat_tests}
 use Rattle.damon_types.specs.declared.range.RangeSpec.{RangeSpec}
 use Rattle.damon_types.specs.declared.space.Target.{Target}
 use Rattle.damon_control.specs.declared.grammar.Grammar.{Grammar}
-use Rattle.damon_control.specs.declared.head.Frame.{Frame}
+use Rattle.script_lines.specs.declared.setup.Frame.{Frame}
 use Rattle.damon_control.specs.Left.{begins_lines}
-use Rattle.damon_control.specs.Refusal.{◌>>=◌}
+use Rattle.script_lines.specs.Refusal.{◌>>=◌}
 use Rattle.damon_control.specs.Script.{AtRanges, AtSchemes, AtTargets, place_after, at, reads}
 
 some_is_not_none : (n : ℕ) → 1 ≤ n → (n == 0) ≡ false

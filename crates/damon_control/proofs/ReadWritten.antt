@@ -17,27 +17,29 @@ use Rattle.live_commit.specs.Checked.{checked_limits}
 use Rattle.live_commit.specs.Commit.{CommitValue}
 use Rattle.live_commit.specs.Setup.{IsSetup, SetupValue}
 use Rattle.damon_control.specs.declared.grammar.Grammar.TheVariants.{OfScript}
-use Rattle.damon_control.specs.declared.commit.Part.{Part}
-use Rattle.damon_control.specs.declared.commit.Part.TheVariants.{Attrs as AttrsPart, Range as RangePart, Slot, Metric}
-use Rattle.damon_control.specs.Body.{no_commit}
-use Rattle.damon_control.specs.Command.{Commit}
-use Rattle.damon_control.specs.Fits.{FitsAttrs, FitsRange}
-use Rattle.damon_control.specs.Laws.{GivesScheme, IsPart}
-use Rattle.damon_control.specs.Refusal.{◌>>=◌}
+use Rattle.script_lines.specs.declared.part.Part.{Part}
+use Rattle.script_lines.specs.declared.part.Part.TheVariants.{Attrs as AttrsPart, Range as RangePart, Slot, Metric}
+use Rattle.script_lines.specs.Body.{no_commit}
+use Rattle.script_lines.specs.Command.{Commit}
+use Rattle.script_lines.specs.Fits.{FitsAttrs, FitsRange, FitsChange}
+use Rattle.script_lines.specs.Laws.{GivesScheme, IsPart}
+use Rattle.script_lines.specs.Refusal.{◌>>=◌}
 use Rattle.damon_control.specs.Script.{AtHeader, Body, InBody, InCommit, Place, at, begun, place_after, reads, script_of, with_command}
-use Rattle.damon_control.specs.Spelling.{spelled_range, spelled_target}
-use Rattle.damon_control.specs.Text.{EachSays, SaySetup, come_in_order, lines_text, number_lines, with_parts}
-use Rattle.damon_control.specs.WriteBack.{FitsChange, FitsCommit, IsWritable, SpellsRanges}
-use Rattle.damon_control.specs.Written.{change_text, commit_text, part_given, part_text, parts_of, ranges_given, setup_text, spec_of, written_commit, written_setup}
+use Rattle.script_lines.specs.Spelling.{spelled_range, spelled_target}
+use Rattle.damon_control.specs.Text.{EachSays, SaySetup, come_in_order, number_lines, with_parts}
+use Rattle.script_lines.specs.Lines.{lines_text}
+use Rattle.script_lines.specs.WriteBack.{ChangesAreReadBack}
+use Rattle.damon_control.specs.WriteBack.{FitsCommit, IsWritable, SpellsRanges}
+use Rattle.script_lines.specs.WrittenLine.{change_text}
+use Rattle.damon_control.specs.Written.{commit_text, part_given, part_text, parts_of, ranges_given, setup_text, spec_of, written_commit, written_setup}
 use Rattle.damon_control.proofs.Leading.{LeadLaws, parts_lead, setup_leads}
 use Rattle.damon_control.proofs.LeadingScript.{begin_opens}
 use Rattle.damon_control.proofs.Leads.{leads, leads-line}
 use Rattle.damon_control.proofs.LineWords.{leads-IsPiece, plain-IsPiece}
 use Rattle.damon_control.proofs.PartLemmas.{parts-some, reads_line, reads_more}
-use Rattle.damon_control.proofs.SpellSteps.{bind-Ok}
+use Rattle.damon_control.proofs.Steps.{bind-Ok}
 use Rattle.damon_control.proofs.WrittenLemmas.{lines_text-append}
 use Rattle.damon_control.proofs.WrittenRanges.{checked_written, ranges_again}
-use Rattle.damon_control.proofs.WrittenSchemes.{change_empties, change_gives}
 
 -- ---- the limits of a setup, as checks
 
@@ -68,24 +70,24 @@ space_checked ts is =
     let total : nat_le (pages_of ts) 1048576 ≡ true = grind (arith, nat_tests, is.total) in
     rw (some, few, targets_checked 0 ts is.each, total) refl
 
-changes_give : (changes : List SlotChange) → All (λ c. IsSome c.scheme) changes → All FitsChange changes → EachSays GivesScheme (map change_text changes) changes
-changes_give [] set fit = tt
-changes_give (c ∷ changes) set fit = (
+changes_give : ChangesAreReadBack → (changes : List SlotChange) → All (λ c. IsSome c.scheme) changes → All FitsChange changes → EachSays GivesScheme (map change_text changes) changes
+changes_give back [] set fit = tt
+changes_give back (c ∷ changes) set fit = (
   by c.scheme refl (All-head (λ (d : SlotChange). IsSome d.scheme) c changes set),
-  changes_give changes (All-tail (λ (d : SlotChange). IsSome d.scheme) c changes set) (All-tail FitsChange c changes fit),
+  changes_give back changes (All-tail (λ (d : SlotChange). IsSome d.scheme) c changes set) (All-tail FitsChange c changes fit),
 )
   where
     by : (scheme : Option Scheme) → c.scheme ≡ scheme → IsSome scheme → GivesScheme (change_text c) c
     by None is some = absurd cc
-    by (Some s) is some = change_gives c s is (All-head FitsChange c changes fit)
+    by (Some s) is some = back.gives c s is (All-head FitsChange c changes fit)
 
 map_both : {A B C : Type 0} (f : B → C) (g : A → B) (xs : List A) → map (λ x. f (g x)) xs ≡ map f (map g xs)
 map_both f g [] = refl
 map_both f g (x ∷ xs) = ap (λ ys. f (g x) ∷ ys) (map_both f g xs)
 
 -- the lines that are written of a setup say it
-written-SaySetup : (seed : ℕ) (s : SetupValue) → IsWritable seed s → SaySetup (written_setup seed s) seed s
-written-SaySetup seed s is =
+written-SaySetup : ChangesAreReadBack → (seed : ℕ) (s : SetupValue) → IsWritable seed s → SaySetup (written_setup seed s) seed s
+written-SaySetup back seed s is =
     let setup = is.setup in
     let specs = map (spec_of s.space) s.ranges in
     let count : length specs ≡ length s.ranges = length-map s.ranges (spec_of s.space) in
@@ -104,7 +106,7 @@ written-SaySetup seed s is =
       few_ranges = omega (arith, count, setup.ranges_most);
       watched = ranges_again s.space s.unit is.space setup.unit_some s.ranges setup.within setup.wide;
       slots = setup.slots;
-      give = changes_give s.slots setup.set is.changes;
+      give = changes_give back s.slots setup.set is.changes;
     }
 
 -- ---- lines before others in a text
@@ -145,12 +147,12 @@ reads_led n place (line ∷ lines) pieces next some e =
 -- ---- a setup
 
 -- the lines of a setup up to `begin` lead to its body
-pub setup_read_back : LeadLaws → PutsPartsTogether → (seed : ℕ) (s : SetupValue) (body : List ℕ) → IsWritable seed s
+pub setup_read_back : LeadLaws → ChangesAreReadBack → PutsPartsTogether → (seed : ℕ) (s : SetupValue) (body : List ℕ) → IsWritable seed s
     → script_of (codes "damon script 1\n" ++ (setup_text seed s ++ (codes "begin\n" ++ body))) ≡ reads OfScript (3 + length (written_setup seed s)) (InBody (begun seed s)) (parts 10 body)
-setup_read_back laws together seed s body is =
+setup_read_back laws back together seed s body is =
     let written = written_setup seed s in
     let lines = codes "damon script 1" ∷ (written ++ codes "begin" ∷ []) in
-    let lead : leads OfScript AtHeader lines ≡ Ok (InBody (begun seed s)) = setup_leads laws OfScript seed s written (codes "begin") (begun seed s) [] (written-SaySetup seed s is) (begin_opens seed s) in
+    let lead : leads OfScript AtHeader lines ≡ Ok (InBody (begun seed s)) = setup_leads laws OfScript seed s written (codes "begin") (begun seed s) [] (written-SaySetup back seed s is) (begin_opens seed s) in
     let text : codes "damon script 1\n" ++ (setup_text seed s ++ (codes "begin\n" ++ body)) ≡ lines_text lines ++ body =
     ap (λ t. codes "damon script 1\n" ++ t) (sym (append_assoc (lines_text written) (codes "begin\n") body) ∙ ap (λ t. t ++ body) (sym (lines_text-append written (codes "begin" ∷ []))))
     in
@@ -186,27 +188,27 @@ ranges_said : (ranges : Option (List RangeSpec)) → IfSome ranges (λ rs. All F
 ranges_said None fit = tt
 ranges_said (Some ranges) fit = each_range_said ranges fit
 
-slot_said : (slot : Option SlotChange) → IfSome slot FitsChange → AllByRecursion IsSaid (part_given (λ c. Slot c) slot)
-slot_said None fits = tt
-slot_said (Some c) fits = (by c.scheme refl, tt)
+slot_said : ChangesAreReadBack → (slot : Option SlotChange) → IfSome slot FitsChange → AllByRecursion IsSaid (part_given (λ c. Slot c) slot)
+slot_said back None fits = tt
+slot_said back (Some c) fits = (by c.scheme refl, tt)
   where
     by : (scheme : Option Scheme) → c.scheme ≡ scheme → IsSaid (Slot c)
-    by None is = inr (change_empties c is fits)
-    by (Some s) is = inl (change_gives c s is fits)
+    by None is = inr (back.empties c is fits)
+    by (Some s) is = inl (back.gives c s is fits)
 
 metric_said : (metric : Option ℕ) → IfSome metric (λ m. m < 2 ^ 32) → AllByRecursion IsSaid (part_given (λ m. Metric m) metric)
 metric_said None fits = tt
 metric_said (Some m) fits = ((refl, fits), tt)
 
-parts_said : (c : CommitValue) → FitsCommit c → AllByRecursion IsSaid (parts_of c)
-parts_said c fits =
+parts_said : ChangesAreReadBack → (c : CommitValue) → FitsCommit c → AllByRecursion IsSaid (parts_of c)
+parts_said back c fits =
     let attrs = part_given (λ a. AttrsPart a) c.attrs in
     let ranges = ranges_given c.ranges in
     let slot = part_given (λ s. Slot s) c.slot in
     let metric = part_given (λ m. Metric m) c.metric in
     said-append attrs (ranges ++ (slot ++ metric)) (attrs_said c.attrs fits.attrs_fit)
     (said-append ranges (slot ++ metric) (ranges_said c.ranges fits.ranges_fit)
-    (said-append slot metric (slot_said c.slot fits.slot_fits) (metric_said c.metric fits.metric_fits)))
+    (said-append slot metric (slot_said back c.slot fits.slot_fits) (metric_said c.metric fits.metric_fits)))
 
 -- a commit with attributes and ranges alone
 abbrev with_ranges : Option Attrs → Option (List RangeSpec) → CommitValue
@@ -253,18 +255,18 @@ parts_in (Some a) (Some (r ∷ ranges)) slot metric some =
     record { in_order = others.in_order; made = others.made }
 
 -- the text of a commit is read as it
-pub commit_read_back : LeadLaws → PutsPartsTogether → (b : Body) (c : CommitValue) (n : ℕ) (rest : List ℕ) → FitsCommit c → SpellsRanges c
+pub commit_read_back : LeadLaws → ChangesAreReadBack → PutsPartsTogether → (b : Body) (c : CommitValue) (n : ℕ) (rest : List ℕ) → FitsCommit c → SpellsRanges c
     → let last = n + (1 + length (written_commit c)) in
     reads OfScript n (InBody b) (parts 10 (codes "commit\n" ++ (commit_text c ++ (codes "apply\n" ++ rest))))
     ≡ (at last (with_command b (Commit c)) >>= λ next. reads OfScript (last + 1) next (parts 10 rest))
-commit_read_back laws together b c n rest fits some =
+commit_read_back laws back together b c n rest fits some =
     let written = written_commit c in
     let lines = codes "commit" ∷ written in
     let are = parts_in c.attrs c.ranges c.slot c.metric some in
     let lead : leads OfScript (InBody b) lines ≡ Ok (InCommit b c) =
     leads-line OfScript (InBody b) (InCommit b no_commit) (codes "commit") written refl
     ∙ ap (leads OfScript (InCommit b no_commit)) (sym (append-nil written))
-    ∙ parts_lead laws.lines OfScript b no_commit written (parts_of c) [] (each_said (parts_of c) (parts_said c fits)) are.in_order
+    ∙ parts_lead laws.lines OfScript b no_commit written (parts_of c) [] (each_said (parts_of c) (parts_said back c fits)) are.in_order
     ∙ ap (λ d. Ok (InCommit b d)) are.made
     in
     let last = n + (1 + length written) in

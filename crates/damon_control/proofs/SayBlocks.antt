@@ -5,24 +5,25 @@ use Rattle.std.proofs.lemmas.List.{append-nil, length-append}
 use Rattle.std.proofs.lemmas.List.Folds.{concat-append}
 use Rattle.std.proofs.lemmas.List.Sums.{sum_by-cons}
 use Rattle.damon_types.specs.declared.space.Target.{Target}
-use Rattle.damon_control.specs.declared.fault.ScriptKind.TheVariants.{Limit, TooMuch}
+use Rattle.script_lines.specs.declared.kind.ScriptKind.TheVariants.{Limit, TooMuch}
 use Rattle.damon_control.specs.declared.grammar.Grammar.TheVariants.{OfLive}
-use Rattle.damon_control.specs.declared.live.TheConstants.{MAX_CALLS, MAX_CONTROLLERS, MAX_TOUCHES, MAX_WORKERS}
-use Rattle.damon_control.specs.Body.{no_commit}
-use Rattle.damon_control.specs.Command.{CommandValue}
-use Rattle.damon_control.specs.Laws.{WordLaws}
-use Rattle.damon_control.specs.Live.{CallValue, LiveValue, ShowCall, block_line, call_within, controller_line, count_all, has_controller, show_line, to_last, touched, touches_line, touches_within, touching, with_call, worker_line}
+use Rattle.damon_control.specs.declared.live.TheConstants.{MAX_CALLS, MAX_CONTROLLERS, MAX_WORKERS}
+use Rattle.script_lines.specs.declared.blocks.TheConstants.{MAX_TOUCHES}
+use Rattle.script_lines.specs.Body.{no_commit}
+use Rattle.script_lines.specs.Command.{CommandValue}
+use Rattle.damon_control.specs.LineLaws.{LineLaws}
+use Rattle.damon_control.specs.Live.{CallValue, LiveValue, ShowCall, call_within, controller_line, count_all, has_controller, show_line, to_last, touches_line, with_call, worker_line}
+use Rattle.script_lines.specs.Blocks.{block_line, touched, touches_within, touching}
 use Rattle.damon_control.specs.LiveText.{SayCall, SayController, SayWorker, SaysPages}
-use Rattle.damon_control.specs.Refusal.{◌>>=◌}
+use Rattle.script_lines.specs.Refusal.{◌>>=◌}
 use Rattle.damon_control.specs.Script.{AtEnd, InBody, InCommit, Place, after_live, live_within}
-use Rattle.damon_control.specs.Spelling.{spelled_passes}
-use Rattle.damon_control.specs.Text.{EachSays, all_lines, lines_text}
-use Rattle.damon_control.specs.Words.{alone, begins_with}
+use Rattle.script_lines.specs.Spelling.{spelled_passes}
+use Rattle.damon_control.specs.Text.{EachSays, all_lines}
+use Rattle.script_lines.specs.Lines.{lines_text}
+use Rattle.script_lines.specs.Words.{alone, begins_with}
 use Rattle.damon_control.proofs.LiveLemmas.{count_all-more, none_of, some_of}
 use Rattle.damon_control.proofs.SayPlaces.{SayBlocks, Says, TextLaws, all_lines-more, both_ways, each_more, read_to}
-use Rattle.damon_control.proofs.SpellCommands.{sweep_line-pages, touch_line-page}
-use Rattle.damon_control.proofs.SpellSteps.{bind-Ok, either_way, only_if-Ok}
-use Rattle.damon_control.proofs.SpellWords.{alone-Ok}
+use Rattle.damon_control.proofs.Steps.{bind-Ok, either_way, only_if-Ok}
 
 -- ---- the last of some lists
 
@@ -82,18 +83,18 @@ more_lines lines setup passes blocks more is =
 -- ---- workers
 
 -- a line that is read as touches says their pages
-touching-Ok : (laws : WordLaws) (space : List Target) (line : List ℕ) (c : CommandValue) → touching space line ≡ Ok c → SaysPages space line (touched c)
+touching-Ok : (laws : LineLaws) (space : List Target) (line : List ℕ) (c : CommandValue) → touching space line ≡ Ok c → SaysPages space line (touched c)
 touching-Ok laws space line c e =
     either_way (begins_with (codes "touch") line) _ _ _
-    (λ read. let said = touch_line-page laws space line c read in inl (said.0, sym (ap touched said.1), said.2))
-    (λ read. let said = sweep_line-pages laws space line c read in inr (said.0, said.1, sym (ap touched said.2), said.3)) e
+    (λ read. let said = laws.touch space line c read in inl (said.0, sym (ap touched said.1), said.2))
+    (λ read. let said = laws.sweep space line c read in inr (said.0, said.1, sym (ap touched said.2), said.3)) e
 
 -- a line that is read as touches within the limit of all touches
 record SayTouches (space : List Target) (line : List ℕ) (before : ℕ) (pages : List ℕ) : Type 0 where
   says : SaysPages space line pages
   few : before + length pages ≤ MAX_TOUCHES
 
-touches_within-Ok : (laws : WordLaws) (space : List Target) (line : List ℕ) (before : ℕ) (pages : List ℕ) → touches_within space line before ≡ Ok pages → SayTouches space line before pages
+touches_within-Ok : (laws : LineLaws) (space : List Target) (line : List ℕ) (before : ℕ) (pages : List ℕ) → touches_within space line before ≡ Ok pages → SayTouches space line before pages
 touches_within-Ok laws space line before pages e =
     let command = bind-Ok (touching space line) _ pages e in
     let passes = only_if-Ok (nat_le (before + length (touched command.0)) MAX_TOUCHES) TooMuch (touched command.0) pages command.2 in
@@ -136,7 +137,7 @@ more_touches laws lines v line w before none e = both_ways (length v.workers == 
     past : (length v.workers == 0) ≡ false → (touches_within v.setup.space line (count_all v.workers) >>= λ pages. Ok (record v { workers = to_last v.workers pages })) ≡ Ok w
         → SayBlocks (lines ++ line ∷ []) w
     past some = read_to (SayBlocks (lines ++ line ∷ [])) (touches_within v.setup.space line (count_all v.workers)) (λ pages. record v { workers = to_last v.workers pages }) w (λ pages read.
-        let said = touches_within-Ok laws.words v.setup.space line (count_all v.workers) pages read in
+        let said = touches_within-Ok laws.lines v.setup.space line (count_all v.workers) pages read in
         let at_least = some_workers v some in
         let groups : 1 ≤ length before.workers = omega (arith, at_least, same_number (SayWorker v.setup.space) before.workers v.workers before.say_workers) in
         record {
@@ -165,16 +166,16 @@ record BeginsBlock (word line : List ℕ) (count most : ℕ) : Type 0 where
   is : line ≡ word
   few : count < most
 
-block_line-Ok : (laws : WordLaws) (word line : List ℕ) (count most : ℕ) (t : Unit {0}) → block_line word line count most ≡ Ok t → BeginsBlock word line count most
+block_line-Ok : (laws : LineLaws) (word line : List ℕ) (count most : ℕ) (t : Unit {0}) → block_line word line count most ≡ Ok t → BeginsBlock word line count most
 block_line-Ok laws word line count most t e =
     let word_is = bind-Ok (alone word line) _ t e in
     let passes = only_if-Ok (nat_lt count most) Limit (tt {0}) t word_is.2 in
-    record { is = alone-Ok laws word line word_is.1; few = grind (arith, nat_tests, passes.0) }
+    record { is = laws.word word line word_is.1; few = grind (arith, nat_tests, passes.0) }
 
 more_workers : (laws : TextLaws) (lines : List (List ℕ)) (v : LiveValue) (line : List ℕ) (w : LiveValue) → SayBlocks lines v → has_controller v ≡ false → worker_line v line ≡ Ok w → SayBlocks (lines ++ line ∷ []) w
 more_workers laws lines v line w before none =
     read_to (SayBlocks (lines ++ line ∷ [])) (block_line (codes "worker") line (length v.workers) MAX_WORKERS) (λ _. record v { workers = v.workers ++ [] ∷ [] }) w (λ t read.
-    let begins = block_line-Ok laws.words (codes "worker") line (length v.workers) MAX_WORKERS t read in
+    let begins = block_line-Ok laws.lines (codes "worker") line (length v.workers) MAX_WORKERS t read in
     record {
       setup = before.setup;
       workers = before.workers ++ (line ∷ []) ∷ [];
@@ -202,7 +203,7 @@ more_workers laws lines v line w before none =
 more_controllers : (laws : TextLaws) (lines : List (List ℕ)) (v : LiveValue) (line : List ℕ) (w : LiveValue) → SayBlocks lines v → controller_line v line ≡ Ok w → SayBlocks (lines ++ line ∷ []) w
 more_controllers laws lines v line w before =
     read_to (SayBlocks (lines ++ line ∷ [])) (block_line (codes "controller") line (length v.controllers) MAX_CONTROLLERS) (λ _. record v { controllers = v.controllers ++ [] ∷ [] }) w (λ t read.
-    let begins = block_line-Ok laws.words (codes "controller") line (length v.controllers) MAX_CONTROLLERS t read in
+    let begins = block_line-Ok laws.lines (codes "controller") line (length v.controllers) MAX_CONTROLLERS t read in
     record {
       setup = before.setup;
       workers = before.workers;
@@ -283,7 +284,7 @@ in_blocks laws lines v line next before e =
       workers = before.workers;
       controllers = before.controllers;
       spelled =
-          ap lines_text (ap (λ l. lines ++ l ∷ []) (alone-Ok laws.words (codes "end") line read)
+          ap lines_text (ap (λ l. lines ++ l ∷ []) (laws.lines.word (codes "end") line read)
           ∙ more_lines lines before.setup v.passes (all_lines before.workers ++ all_lines before.controllers) (codes "end" ∷ []) before.spelled
           ∙ ap (live_lines before.setup v.passes) (append_assoc (all_lines before.workers) (all_lines before.controllers) (codes "end" ∷ [])));
       says_setup = before.says_setup;
@@ -297,7 +298,7 @@ in_blocks laws lines v line next before e =
       front = lines;
       between = [];
       parts = [];
-      spelled = λ i. lines ++ alone-Ok laws.words (codes "commit") line read i ∷ [];
+      spelled = λ i. lines ++ laws.lines.word (codes "commit") line read i ∷ [];
       body = before;
       begins = has_one;
       each = tt;
@@ -310,4 +311,4 @@ in_blocks laws lines v line next before e =
         let shown = bind-Ok (show_line v line) (λ w. Ok (InBody w)) next read in
         let word = bind-Ok (alone (codes "show") line) (λ _. with_call v ShowCall) shown.0 shown.1 in
         let called : live_within (with_call v ShowCall) ≡ Ok next = ap live_within word.2 ∙ shown.2 in
-        more_call (lines ++ line ∷ []) lines v (line ∷ []) ShowCall next before has_one refl (ap (λ l. l ∷ []) (alone-Ok laws.words (codes "show") line word.1)) called
+        more_call (lines ++ line ∷ []) lines v (line ∷ []) ShowCall next before has_one refl (ap (λ l. l ∷ []) (laws.lines.word (codes "show") line word.1)) called

@@ -1,19 +1,18 @@
 -- What a line adds to what the lines of a script's body before it say.
 use Rattle.std.proofs.Common.{◌≡◌, ◌∷◌, [], ◌+◌, ◌≤◌, inl, ℕ, nat_le, List, ◌++◌, codes, Ok, refl, sym, ap, subst, ◌∙◌, append_assoc, arith}
 use Rattle.std.proofs.lemmas.Bool.Decides.{nat_tests}
-use Rattle.damon_control.specs.declared.fault.ScriptKind.TheVariants.{TooMuch}
+use Rattle.script_lines.specs.declared.kind.ScriptKind.TheVariants.{TooMuch}
 use Rattle.damon_control.specs.declared.grammar.Grammar.TheVariants.{OfScript}
 use Rattle.damon_control.specs.declared.script.TheConstants.{MAX_WORK}
-use Rattle.damon_control.specs.Body.{command_line, no_commit}
-use Rattle.damon_control.specs.Command.{CommandValue, weight}
-use Rattle.damon_control.specs.Refusal.{◌>>=◌}
+use Rattle.script_lines.specs.Body.{command_line, no_commit}
+use Rattle.script_lines.specs.Command.{CommandValue, weight}
+use Rattle.script_lines.specs.Refusal.{◌>>=◌}
 use Rattle.damon_control.specs.Script.{AtEnd, Body, InBody, InCommit, Place, after_body, with_command}
-use Rattle.damon_control.specs.Text.{SayCommand, all_lines, lines_text}
-use Rattle.damon_control.specs.Words.{alone, begins_with}
+use Rattle.damon_control.specs.Text.{SayCommand, all_lines}
+use Rattle.script_lines.specs.Lines.{lines_text}
+use Rattle.script_lines.specs.Words.{alone, begins_with}
 use Rattle.damon_control.proofs.SayPlaces.{SayBody, Says, TextLaws, all_lines-more, each_more, read_to, work-more}
-use Rattle.damon_control.proofs.SpellCommands.{command_line-Ok}
-use Rattle.damon_control.proofs.SpellSteps.{bind-Ok, either_way, only_if-Ok}
-use Rattle.damon_control.proofs.SpellWords.{alone-Ok}
+use Rattle.damon_control.proofs.Steps.{bind-Ok, either_way, only_if-Ok}
 
 pub more_command : (lines front : List (List ℕ)) (b : Body) (group : List (List ℕ)) (command : CommandValue) (next : Place OfScript) → SayBody front b → lines ≡ front ++ group → SayCommand b.said.setup.space group command
     → with_command b command ≡ Ok next → Says OfScript lines next
@@ -44,7 +43,7 @@ in_body laws lines b line next before e =
       setup = before.setup;
       commands = before.commands;
       spelled =
-          ap lines_text ((λ i. before.spelled i ++ alone-Ok laws.words (codes "end") line read i ∷ [])
+          ap lines_text ((λ i. before.spelled i ++ laws.lines.word (codes "end") line read i ∷ [])
           ∙ ap (λ ls. codes "damon script 1" ∷ ls) (append_assoc before.setup (codes "begin" ∷ all_lines before.commands) (codes "end" ∷ [])));
       says_setup = before.says_setup;
       say_commands = before.say_commands;
@@ -56,7 +55,7 @@ in_body laws lines b line next before e =
       front = lines;
       between = [];
       parts = [];
-      spelled = λ i. lines ++ alone-Ok laws.words (codes "commit") line read i ∷ [];
+      spelled = λ i. lines ++ laws.lines.word (codes "commit") line read i ∷ [];
       body = before;
       begins = tt;
       each = tt;
@@ -67,5 +66,5 @@ in_body laws lines b line next before e =
     at_command : (command_line b.said.setup.space line >>= with_command b) ≡ Ok next → Says OfScript (lines ++ line ∷ []) next
     at_command read =
         let command = bind-Ok (command_line b.said.setup.space line) (with_command b) (next) read in
-        let says = command_line-Ok laws.words b.said.setup.space line command.0 command.1 in
+        let says = laws.lines.command b.said.setup.space line command.0 command.1 in
         more_command (lines ++ line ∷ []) lines b (line ∷ []) command.0 next before refl (inl (line, refl, says)) command.2

@@ -12,27 +12,29 @@ use Rattle.live_commit.specs.Laws.{ChecksInTurn}
 use Rattle.live_commit.specs.Setup.{SetupValue}
 use Rattle.target_ranges.specs.Checked.{checked_ranges}
 use Rattle.target_ranges.specs.Laws.{ChecksOneMore}
-use Rattle.damon_control.specs.declared.commit.Part.{Part}
-use Rattle.damon_control.specs.declared.fault.ScriptKind.{ScriptKind}
+use Rattle.script_lines.specs.declared.part.Part.{Part}
+use Rattle.script_lines.specs.declared.kind.ScriptKind.{ScriptKind}
 use Rattle.damon_control.specs.declared.grammar.Grammar.{Grammar}
 use Rattle.damon_control.specs.declared.grammar.Grammar.TheVariants.{OfScript, OfLive}
-use Rattle.damon_control.specs.declared.head.Frame.{Frame}
+use Rattle.script_lines.specs.declared.setup.Frame.{Frame}
 use Rattle.damon_control.specs.declared.script.TheConstants.{MAX_WORK}
-use Rattle.damon_control.specs.Body.{no_commit, with_part}
-use Rattle.damon_control.specs.Command.{CommandValue, weight, work_of}
-use Rattle.damon_control.specs.Head.{setup_said}
-use Rattle.damon_control.specs.Laws.{IsPart, WordLaws, may_come}
+use Rattle.script_lines.specs.Body.{no_commit, with_part}
+use Rattle.script_lines.specs.Command.{CommandValue, weight, work_of}
+use Rattle.script_lines.specs.Head.{setup_said}
+use Rattle.script_lines.specs.Laws.{IsPart, may_come}
+use Rattle.damon_control.specs.LineLaws.{LineLaws}
 use Rattle.damon_control.specs.Live.{LiveValue, has_controller}
 use Rattle.damon_control.specs.LiveText.{IsLiveText, KeepsLimits, SayController, SayWorker}
-use Rattle.damon_control.specs.Refusal.{◌>>=◌}
+use Rattle.script_lines.specs.Refusal.{◌>>=◌}
 use Rattle.damon_control.specs.Script.{AtAttrs, AtCap, AtEnd, AtHeader, AtRanges, AtSchemes, AtSeed, AtTargets, AtUnit, Body, InBody, InCommit, Place, Said, Within, header_of}
-use Rattle.damon_control.specs.Spelling.{spelled_attrs, spelled_cap, spelled_passes, spelled_range, spelled_seed, spelled_target, spelled_unit}
-use Rattle.damon_control.specs.Text.{EachSays, IsText, SayCommand, SaySetup, all_lines, come_in_order, lines_text, with_parts}
-use Rattle.damon_control.proofs.SpellSteps.{bind-Ok}
+use Rattle.script_lines.specs.Spelling.{spelled_attrs, spelled_cap, spelled_passes, spelled_range, spelled_seed, spelled_target, spelled_unit}
+use Rattle.damon_control.specs.Text.{EachSays, IsText, SayCommand, SaySetup, all_lines, come_in_order, with_parts}
+use Rattle.script_lines.specs.Lines.{lines_text}
+use Rattle.damon_control.proofs.Steps.{bind-Ok}
 
--- what is known of words, and of the checks of ranges and slots
+-- what is known of lines, and of the checks of ranges and slots
 pub record TextLaws : Type 0 where
-  pub words : WordLaws
+  pub lines : LineLaws
   pub ranges : ChecksOneMore
   pub slots : ChecksInTurn
 

@@ -9,31 +9,27 @@ use Rattle.damon_types.specs.declared.space.Target.{Target}
 use Rattle.line_text.specs.Parts.{parts}
 use Rattle.live_commit.specs.Commit.{CommitValue}
 use Rattle.target_ranges.specs.Checked.{fault_at}
-use Rattle.damon_control.specs.declared.fault.ScriptKind.TheVariants.{Header}
+use Rattle.script_lines.specs.declared.kind.ScriptKind.TheVariants.{Header}
 use Rattle.damon_control.specs.declared.grammar.Grammar.{Grammar}
 use Rattle.damon_control.specs.declared.grammar.Grammar.TheVariants.{OfScript, OfLive}
-use Rattle.damon_control.specs.declared.head.Frame.{Frame}
-use Rattle.damon_control.specs.Body.{no_commit, part_line, with_part}
-use Rattle.damon_control.specs.Command.{Commit}
-use Rattle.damon_control.specs.Head.{attrs_line, cap_line, range_line, scheme_line, seed_line, setup_said, target_line, unit_line}
-use Rattle.damon_control.specs.Laws.{GivesScheme, IsPart, may_come}
-use Rattle.damon_control.specs.Live.{CommitCall, LiveValue, live_begun, passes_line}
+use Rattle.script_lines.specs.declared.setup.Frame.{Frame}
+use Rattle.script_lines.specs.Body.{no_commit, part_line, with_part}
+use Rattle.script_lines.specs.Command.{Commit}
+use Rattle.script_lines.specs.Head.{attrs_line, cap_line, range_line, scheme_line, seed_line, setup_said, target_line, unit_line}
+use Rattle.script_lines.specs.Laws.{GivesScheme, IsPart, may_come}
+use Rattle.damon_control.specs.Live.{CommitCall, LiveValue, live_begun}
+use Rattle.script_lines.specs.Blocks.{passes_line}
 use Rattle.damon_control.specs.LiveText.{IsLiveText}
-use Rattle.damon_control.specs.Refusal.{◌>>=◌}
+use Rattle.script_lines.specs.Refusal.{◌>>=◌}
 use Rattle.damon_control.specs.Script.{AtAttrs, AtCap, AtEnd, AtHeader, AtRanges, AtSchemes, AtSeed, AtTargets, AtUnit, InBody, InCommit, Place, Said, ScriptValue, Within, after_commit, after_ranges, after_schemes, after_setup, after_targets, after_within, header_of, live_of, opened, place_after, reads, script_of, with_commit}
-use Rattle.damon_control.specs.Spelling.{spelled_range, spelled_target}
+use Rattle.script_lines.specs.Spelling.{spelled_range, spelled_target}
 use Rattle.damon_control.specs.Text.{AreCommit, IsText, setup_lines}
-use Rattle.damon_control.specs.Words.{alone, arguments, begins_with, number_32, one_word, same_word}
+use Rattle.script_lines.specs.Words.{alone, begins_with, same_word}
 use Rattle.damon_control.proofs.Leads.{leads, read-Lead}
-use Rattle.damon_control.proofs.LineLimits.{cap_sound, limits_sound, range_follows, scheme_sound, seed_fits, target_sound, unit_sound}
 use Rattle.damon_control.proofs.SayBlocks.{in_blocks, more_call}
 use Rattle.damon_control.proofs.SayCommands.{in_body, more_command}
 use Rattle.damon_control.proofs.SayPlaces.{IsTextOf, SayCommit, SayRanges, SaySchemes, SayTargets, SayWithin, Says, TextLaws, both_ways, each_more, frame_lines, order-more, read_to, with_parts-more}
-use Rattle.damon_control.proofs.SpellCommands.{part_line-Ok}
-use Rattle.damon_control.proofs.SpellLines.{attrs_line-Ok, cap_line-Ok, limited-bounds, passes_line-Ok, range_line-Ok, seed_line-Ok, target_line-Ok, unit_line-Ok}
-use Rattle.damon_control.proofs.SpellSchemes.{scheme_line-Ok}
-use Rattle.damon_control.proofs.SpellSteps.{bind-Ok, either_way, only_if-Ok}
-use Rattle.damon_control.proofs.SpellWords.{alone-Ok}
+use Rattle.damon_control.proofs.Steps.{bind-Ok, either_way, only_if-Ok}
 
 -- the lines of a commit, when its last line is there
 abbrev group_of : List (List ℕ) → List (List ℕ)
@@ -59,11 +55,11 @@ in_commit laws g lines b commit line next before e = either_way (begins_with (co
     at_apply : (alone (codes "apply") line >>= λ _. with_commit g b commit) ≡ Ok next → Says g (lines ++ line ∷ []) next
     at_apply read =
         let word = bind-Ok (alone (codes "apply") line) (λ _. with_commit g b commit) next read in
-        subst (λ (l : List ℕ). Says g (lines ++ l ∷ []) next) (sym (alone-Ok laws.words (codes "apply") line word.1)) (committed g lines b commit next before word.2)
+        subst (λ (l : List ℕ). Says g (lines ++ l ∷ []) next) (sym (laws.lines.word (codes "apply") line word.1)) (committed g lines b commit next before word.2)
 
     at_part : (part_line commit line >>= λ part. Ok (InCommit b (with_part commit part))) ≡ Ok next → Says g (lines ++ line ∷ []) next
     at_part = read_to (Says g (lines ++ line ∷ [])) (part_line commit line) (λ part. InCommit b (with_part commit part)) next (λ part read.
-        let says = part_line-Ok laws.words commit line part read in
+        let says = laws.lines.part commit line part read in
         record {
           front = before.front;
           between = before.between ++ line ∷ [];
@@ -83,7 +79,7 @@ at_opening laws OfScript lines f targets specs slots line next before =
     read_to (Says OfScript (lines ++ line ∷ [])) (alone (codes "begin") line) (λ _. InBody (opened f targets specs slots)) next (λ t read. record {
       setup = before.others;
       commands = [];
-      spelled = λ i. before.spelled i ++ alone-Ok laws.words (codes "begin") line read i ∷ [];
+      spelled = λ i. before.spelled i ++ laws.lines.word (codes "begin") line read i ∷ [];
       says_setup = before.says;
       say_commands = tt;
       sum = refl;
@@ -91,12 +87,12 @@ at_opening laws OfScript lines f targets specs slots line next before =
     })
 at_opening laws OfLive lines f targets specs slots line next before =
     read_to (Says OfLive (lines ++ line ∷ [])) (passes_line line) (λ n. InBody (live_begun f.seed (setup_said f targets specs slots) n)) next (λ n read.
-    let within = limited-bounds (arguments (codes "passes") line >>= one_word >>= number_32) 1 1000000 n read in
+    let within = laws.lines.within.passes line n read in
     record {
       setup = before.others;
       workers = [];
       controllers = [];
-      spelled = λ i. before.spelled i ++ passes_line-Ok laws.words line n read i ∷ [];
+      spelled = λ i. before.spelled i ++ laws.lines.passes line n read i ∷ [];
       says_setup = before.says;
       say_workers = tt;
       say_controllers = tt;
@@ -131,8 +127,8 @@ at_schemes laws g lines f targets specs slots line next before e = either_way (b
         some_range = before.says.some_range;
         few_ranges = before.says.few_ranges;
         watched = before.says.watched;
-        slots = laws.slots slots change before.says.slots ∙ scheme_sound slots line change read;
-        give = each_more GivesScheme before.says.schemes slots line change before.says.give (scheme_line-Ok laws.words slots line change read);
+        slots = laws.slots slots change before.says.slots ∙ laws.lines.within.scheme slots line change read;
+        give = each_more GivesScheme before.says.schemes slots line change before.says.give (laws.lines.scheme slots line change read);
       };
     })
 
@@ -168,10 +164,10 @@ at_ranges laws g lines f targets specs line next before e = both_ways (begins_wi
   where
     at_range : (range_line f targets specs line >>= λ range. Ok (AtRanges f targets (specs ++ range ∷ []))) ≡ Ok next → Says g (lines ++ line ∷ []) next
     at_range = read_to (Says g (lines ++ line ∷ [])) (range_line f targets specs line) (λ range. AtRanges f targets (specs ++ range ∷ [])) next (λ range read.
-        let follows = range_follows f targets specs line range read in
+        let follows = laws.lines.within.range f targets specs line range read in
         record {
           spelled =
-              (λ i. before.spelled i ++ range_line-Ok laws.words f targets specs line range read i ∷ [])
+              (λ i. before.spelled i ++ laws.lines.range f targets specs line range read i ∷ [])
               ∙ ap (frame_lines g f) (append_assoc (map spelled_target targets) (map spelled_range specs) (spelled_range range ∷ [])
               ∙ ap (λ ls. map spelled_target targets ++ ls) (sym (map-append spelled_range specs (range ∷ []))));
           frame = before.frame;
@@ -190,10 +186,10 @@ at_targets laws g lines f targets line next before e = both_ways (begins_with (c
     at_target : (target_line targets line >>= λ target. Ok (AtTargets f (targets ++ target ∷ []))) ≡ Ok next → Says g (lines ++ line ∷ []) next
     at_target = read_to (Says g (lines ++ line ∷ [])) (target_line targets line) (λ target. AtTargets f (targets ++ target ∷ [])) next (λ target read. record {
       spelled =
-          (λ i. before.spelled i ++ target_line-Ok laws.words targets line target read i ∷ [])
+          (λ i. before.spelled i ++ laws.lines.target targets line target read i ∷ [])
           ∙ ap (frame_lines g f) (sym (map-append spelled_target targets (target ∷ [])));
       frame = before.frame;
-      sound = λ some. target_sound targets line target read;
+      sound = λ some. laws.lines.within.target targets line target read;
     })
 
     past : (begins_with (codes "target") line || (length targets == 0)) ≡ false → after_ranges g f targets [] line ≡ Ok next → Says g (lines ++ line ∷ []) next
@@ -219,17 +215,17 @@ line-Says laws g lines AtHeader line next before e =
     subst (Says g (lines ++ line ∷ [])) only.1 (λ i. before i ++ is i ∷ [])
 line-Says laws g lines AtSeed line next before e =
     read_to (Says g (lines ++ line ∷ [])) (seed_line line) (λ seed. AtUnit seed) next (λ seed read.
-    ((λ i. before i ++ seed_line-Ok laws.words line seed read i ∷ []), seed_fits laws.words line seed read)) e
+    ((λ i. before i ++ laws.lines.seed line seed read i ∷ []), laws.lines.within.seed line seed read)) e
 line-Says laws g lines (AtUnit seed) line next before e =
     read_to (Says g (lines ++ line ∷ [])) (unit_line line) (λ unit. AtCap seed unit) next (λ unit read.
-    ((λ i. before.0 i ++ unit_line-Ok laws.words line unit read i ∷ []), before.1, unit_sound line unit read)) e
+    ((λ i. before.0 i ++ laws.lines.unit line unit read i ∷ []), before.1, laws.lines.within.unit line unit read)) e
 line-Says laws g lines (AtCap seed unit) line next before e =
     read_to (Says g (lines ++ line ∷ [])) (cap_line line) (λ cap. AtAttrs seed unit cap) next (λ cap read.
-    ((λ i. before.0 i ++ cap_line-Ok laws.words line cap read i ∷ []), before.1, before.2, cap_sound line cap read)) e
+    ((λ i. before.0 i ++ laws.lines.cap line cap read i ∷ []), before.1, before.2, laws.lines.within.cap line cap read)) e
 line-Says laws g lines (AtAttrs seed unit cap) line next before e =
     read_to (Says g (lines ++ line ∷ [])) (attrs_line cap line) (λ attrs. AtTargets (record { seed = seed; unit = unit; cap = cap; attrs = attrs }) []) next (λ attrs read. record {
-      spelled = λ i. before.0 i ++ attrs_line-Ok laws.words cap line attrs read i ∷ [];
-      frame = record { seed_fits = before.1; limits = limits_sound line unit cap attrs before.2 before.3 read };
+      spelled = λ i. before.0 i ++ laws.lines.attrs cap line attrs read i ∷ [];
+      frame = record { seed_fits = before.1; limits = laws.lines.within.attrs line unit cap attrs before.2 before.3 read };
       sound = λ some. absurd (omega (arith, some));
     }) e
 line-Says laws g lines (AtTargets f targets) line next before e = at_targets laws g lines f targets line next before e
@@ -253,7 +249,7 @@ leads-Says laws g front place (line ∷ lines) last before e =
 read-IsTextOf : TextLaws → (g : Grammar) (text : List ℕ) (s : Said g) → reads g 1 AtHeader (parts 10 text) ≡ Ok s → IsTextOf g text s
 read-IsTextOf laws g text s e =
     let read = read-Lead g 1 AtHeader (parts 10 text) s e in
-    subst (λ (t : List ℕ). IsTextOf g t s) (sym (sym (laws.words.parts 10 text).0 ∙ read.whole)) (leads-Says laws g [] AtHeader read.lines (AtEnd s) refl read.lead)
+    subst (λ (t : List ℕ). IsTextOf g t s) (sym (sym (laws.lines.together 10 text).0 ∙ read.whole)) (leads-Says laws g [] AtHeader read.lines (AtEnd s) refl read.lead)
 
 -- a text that is read as a script says it
 pub script_of-IsText : TextLaws → (text : List ℕ) (s : ScriptValue) → script_of text ≡ Ok s → IsText text s

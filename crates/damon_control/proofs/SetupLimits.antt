@@ -15,7 +15,7 @@ use Rattle.live_commit.specs.declared.fault.SetupFault.{SetupFault}
 use Rattle.live_commit.specs.Checked.{attrs_fault, checked_cap, checked_limits, checked_max, checked_unit}
 use Rattle.live_commit.specs.Setup.{IsSetup, SetupValue}
 use Rattle.target_ranges.specs.Laws.{MakesEach, MakesInOrder}
-use Rattle.damon_control.specs.Laws.{GivesScheme}
+use Rattle.script_lines.specs.Laws.{GivesScheme}
 use Rattle.damon_control.specs.Text.{EachSays, SaySetup}
 use Rattle.damon_control.proofs.SpaceLimits.{AreMade, accepted-AreMade, checked-IsSpace}
 

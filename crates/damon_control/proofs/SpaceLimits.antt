@@ -20,7 +20,7 @@ use Rattle.target_ranges.specs.declared.fault.RangeWhy.{RangeWhy}
 use Rattle.target_ranges.specs.declared.fault.RangeWhy.TheVariants.{TooMany, Unaligned, Reversed, OutsideSpan, TooSmall, BadClass}
 use Rattle.target_ranges.specs.Checked.{checked_from as checked_ranges_from, checked_range, checked_ranges, checked_within, fault_at, is_aligned, lies_in}
 use Rattle.target_ranges.specs.Made.{IsPlaced, base_of, page_count, range_of, ranges_of}
-use Rattle.damon_control.specs.Fits.{FitsRange}
+use Rattle.script_lines.specs.Fits.{FitsRange}
 
 -- a test that refuses did not hold
 passed : {E : Type 0} (test : Bool) (e : E) (rest : Result (Unit {0}) E) → (if test then Err e else rest) ≡ Ok tt → (test ≡ false) × (rest ≡ Ok tt)

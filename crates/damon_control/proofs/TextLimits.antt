@@ -5,10 +5,10 @@ use Rattle.std.specs.Prelude.{Option, option_map}
 use Rattle.damon_types.specs.declared.space.Target.{Target}
 use Rattle.damon_types.specs.Space.{page_of, pages_of}
 use Rattle.target_ranges.specs.Laws.{MakesEach, MakesInOrder}
-use Rattle.damon_control.specs.Body.{are_swept}
-use Rattle.damon_control.specs.Command.{Arm, CommandValue, Commit, Finish, Show, Step, Sweep, Touch}
-use Rattle.damon_control.specs.Laws.{IsCommand, IsSweep}
-use Rattle.damon_control.specs.Limits.{AreCommandsWithin, IsCommandWithin}
+use Rattle.script_lines.specs.Body.{are_swept}
+use Rattle.script_lines.specs.Command.{Arm, CommandValue, Commit, Finish, Show, Step, Sweep, Touch}
+use Rattle.script_lines.specs.Laws.{IsCommand, IsSweep}
+use Rattle.script_lines.specs.Limits.{AreCommandsWithin, IsCommandWithin}
 use Rattle.damon_control.specs.Script.{ScriptValue}
 use Rattle.damon_control.specs.Sound.{IsSound}
 use Rattle.damon_control.specs.Text.{EachSays, IsText, SayCommand}

@@ -1,23 +1,20 @@
 -- A touch line at the front of a text is read as a touch.
-use Rattle.std.proofs.Common.{◌≡◌, ℕ, ◌+◌, ◌<◌, List, [], ◌∷◌, ◌++◌, length, codes, decimal, append_assoc, Ok, refl, sym, ap, ◌∙◌, arith}
+use Rattle.std.proofs.Common.{◌≡◌, ℕ, ◌+◌, ◌<◌, List, [], ◌∷◌, ◌++◌, length, codes, Ok, refl, sym, ap, ◌∙◌, arith}
 use Rattle.std.proofs.lemmas.List.Elements.{All-cons}
 use Rattle.damon_types.specs.declared.space.Target.{Target}
-use Rattle.line_text.specs.Address.{spelled_address}
 use Rattle.line_text.specs.Laws.{PutsPartsTogether, TakesApartPieces}
 use Rattle.line_text.specs.Parts.{IsPiece, joined, parts}
-use Rattle.damon_control.specs.Command.{CommandValue, Touch}
-use Rattle.damon_control.specs.Laws.{WordLaws}
-use Rattle.damon_control.specs.Body.{command_line}
+use Rattle.script_lines.specs.Command.{CommandValue, Touch}
+use Rattle.damon_control.specs.LineLaws.{LineLaws}
+use Rattle.script_lines.specs.Body.{command_line}
 use Rattle.damon_control.specs.declared.grammar.Grammar.TheVariants.{OfScript}
-use Rattle.damon_control.specs.Refusal.{◌>>=◌}
+use Rattle.script_lines.specs.Refusal.{◌>>=◌}
 use Rattle.damon_control.specs.Script.{Body, InBody, after_body, at, reads, with_command}
-use Rattle.damon_control.specs.Spelling.{spelled_touch}
-use Rattle.damon_control.specs.Touches.{BeginsWithTouch}
-use Rattle.damon_control.specs.Words.{begins_with}
+use Rattle.script_lines.specs.Touches.{BeginsWithTouch}
+use Rattle.script_lines.specs.Words.{begins_with}
 use Rattle.damon_control.proofs.LineWords.{BeginsNeither, command_begins, plain-IsPiece}
 use Rattle.damon_control.proofs.PartLemmas.{parts-some, reads_line}
-use Rattle.damon_control.proofs.ReadCommands.{command_line-said}
-use Rattle.damon_control.proofs.SpellSteps.{passed_over}
+use Rattle.damon_control.proofs.Steps.{passed_over}
 
 -- a line before the others of a text
 joined_line : (line : List ℕ) (others : List (List ℕ)) → 0 < length others → joined 10 (line ∷ others) ≡ line ++ 10 ∷ joined 10 others
@@ -39,22 +36,14 @@ after_command b line command neither said =
     (passed_over (begins_with (codes "commit") line) _ _ _ neither.not_second (ap (λ r. r >>= with_command b) said))
 
 -- a text that begins with a touch is read as the touch and the rest
-pub reads_touch : (laws : WordLaws) (space : List Target) (text : List ℕ) (page : ℕ) (rest : List ℕ) → BeginsWithTouch space text page rest
+pub reads_touch : (laws : LineLaws) (space : List Target) (text : List ℕ) (page : ℕ) (rest : List ℕ) → BeginsWithTouch space text page rest
     → (n : ℕ) (b : Body) → b.said.setup.space ≡ space
     → reads OfScript n (InBody b) (parts 10 text) ≡ (at n (with_command b (Touch page)) >>= λ next. reads OfScript (n + 1) next (parts 10 rest))
 reads_touch laws space text page rest begins n b same =
     let line = begins.line in
-    let said : command_line space line ≡ Ok (Touch page) = command_line-said laws space line (Touch page) begins.touch in
+    let said : command_line space line ≡ Ok (Touch page) = laws.back.command space line (Touch page) begins.touch in
     let neither = command_begins space line (Touch page) said in
     ap (λ bytes. reads OfScript n (InBody b) (parts 10 bytes)) begins.whole
-    ∙ ap (reads OfScript n (InBody b)) (parts_line laws.parts laws.pieces line rest (plain-IsPiece line neither.plain))
+    ∙ ap (reads OfScript n (InBody b)) (parts_line laws.together laws.apart line rest (plain-IsPiece line neither.plain))
     ∙ reads_line OfScript n (InBody b) line rest
     ∙ ap (λ r. at n r >>= λ next. reads OfScript (n + 1) next (parts 10 rest)) (after_command b line (Touch page) neither (ap (λ targets. command_line targets line) same ∙ said))
-
--- the words of a touch, and then an LF, begin a text
-pub spelled_front : (target addr : ℕ) (text words end rest : List ℕ) → text ≡ codes "touch " ++ (decimal target ++ (codes " " ++ words)) → words ≡ spelled_address addr ++ end → end ≡ 10 ∷ rest
-    → text ≡ spelled_touch target addr ++ 10 ∷ rest
-spelled_front target addr text words end rest first second third =
-    first
-    ∙ ap (λ ws. codes "touch " ++ (decimal target ++ (codes " " ++ ws))) (second ∙ ap (λ e. spelled_address addr ++ e) third)
-    ∙ ap (λ ws. codes "touch " ++ ws) (sym (append_assoc (decimal target) (codes " " ++ spelled_address addr) (10 ∷ rest)))

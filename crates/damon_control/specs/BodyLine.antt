@@ -1,20 +1,14 @@
 -- What the lines of a body say to the program.
-use Rattle.std.specs.Prelude.{ℕ, List, map, Result, Ok, Err}
+use Rattle.std.specs.Prelude.{ℕ, List, Result, Ok, Err}
 use Rattle.damon_control.specs.declared.body.BodyLine.{BodyLine}
 use Rattle.damon_control.specs.declared.body.BodyLine.TheVariants.{End, Commit, Say}
-use Rattle.damon_control.specs.declared.fault.ScriptKind.{ScriptKind}
+use Rattle.script_lines.specs.declared.kind.ScriptKind.{ScriptKind}
 use Rattle.damon_control.specs.declared.grammar.Grammar.TheVariants.{OfScript}
-use Rattle.damon_control.specs.declared.script.Command.{Command}
-use Rattle.damon_control.specs.Command.{CommandValue, command_value}
+use Rattle.script_lines.specs.Command.{CommandValue, command_value}
 use Rattle.live_commit.specs.Setup.{SetupValue}
-use Rattle.damon_control.specs.Body.{no_commit}
-use Rattle.damon_control.specs.Limits.{IsCommandWithin}
+use Rattle.script_lines.specs.Body.{no_commit}
+use Rattle.script_lines.specs.Limits.{IsCommandWithin}
 use Rattle.damon_control.specs.Script.{AtEnd, Body, InCommit, Place, ScriptValue, with_command}
-
--- what a command that was read says, or why it was rejected
-abbrev pub command_said : Result Command ScriptKind → Result CommandValue ScriptKind
-command_said (Ok command) = Ok (command_value command)
-command_said (Err kind) = Err kind
 
 -- the place after a line of a body that was read, or why it was rejected
 abbrev pub body_said : Body → Result BodyLine ScriptKind → Result (Place OfScript) ScriptKind
@@ -30,9 +24,9 @@ LineIsWithin pages Commit = Unit {0}
 LineIsWithin pages (Say command) = IsCommandWithin pages (command_value command)
 
 -- a script with these commands
-abbrev pub script_at : ℕ → SetupValue → List Command → ScriptValue
-script_at seed setup commands = record { seed = seed; setup = setup; commands = map command_value commands }
+abbrev pub script_at : ℕ → SetupValue → List CommandValue → ScriptValue
+script_at seed setup commands = record { seed = seed; setup = setup; commands = commands }
 
 -- a body with these commands, and this work of theirs
-abbrev pub body_at : ℕ → SetupValue → List Command → ℕ → Body
+abbrev pub body_at : ℕ → SetupValue → List CommandValue → ℕ → Body
 body_at seed setup commands work = record { said = script_at seed setup commands; work = work }

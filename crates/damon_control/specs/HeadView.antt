@@ -3,7 +3,7 @@ use Rattle.std.specs.Prelude.{◌≡◌, ◌≤◌, length, Ok}
 use Rattle.live_commit.specs.Slots.{checked_slots, kept_slots}
 use Rattle.target_ranges.specs.Checked.{checked_ranges}
 use Rattle.damon_control.specs.declared.reader.Head.{Head}
-use Rattle.damon_control.specs.Limits.{AreLimits}
+use Rattle.script_lines.specs.Limits.{AreLimits}
 
 -- each check of a setup passes
 pub record IsHead (h : Head) : Type 0 where

@@ -9,10 +9,10 @@ use Rattle.damon_control.specs.declared.reader.TheConstants.{MAX_BYTES}
 use Rattle.live_commit.specs.Commit.{CommitValue}
 use Rattle.damon_control.specs.declared.grammar.Grammar.{Grammar}
 use Rattle.damon_control.specs.declared.grammar.Grammar.TheVariants.{OfScript}
-use Rattle.damon_control.specs.Command.{CommandValue}
+use Rattle.script_lines.specs.Command.{CommandValue}
 use Rattle.damon_control.specs.Script.{AtEnd, Body, Place, Said, ScriptValue, Within, at, place_after, reads, with_command, with_commit}
-use Rattle.damon_control.specs.Refusal.{◌>>=◌}
-use Rattle.damon_control.specs.Words.{begins_with}
+use Rattle.script_lines.specs.Refusal.{◌>>=◌}
+use Rattle.script_lines.specs.Words.{begins_with}
 
 -- the lines that were taken and the bytes that are left are together at most MAX_BYTES
 abbrev pub IsShort : Lines → Type 0

@@ -1,17 +1,13 @@
 -- What a live script says, and the lines of its body.
-use Rattle.std.specs.Prelude.{ℕ, ◌+◌, ◌-◌, ◌==◌, Bool, not, nat_le, nat_lt, List, [], ◌∷◌, ◌++◌, length, sum_by, codes, Result, Ok, Err, if◌then◌else◌}
-use Rattle.std.specs.List.{range_with_len}
-use Rattle.damon_types.specs.declared.space.Target.{Target}
+use Rattle.std.specs.Prelude.{ℕ, ◌+◌, ◌==◌, Bool, not, nat_le, List, [], ◌∷◌, ◌++◌, length, sum_by, codes, Result, Ok, Err, if◌then◌else◌}
 use Rattle.live_commit.specs.Commit.{CommitValue}
 use Rattle.live_commit.specs.Setup.{SetupValue}
-use Rattle.damon_control.specs.declared.fault.ScriptKind.{ScriptKind}
-use Rattle.damon_control.specs.declared.fault.ScriptKind.TheVariants.{Limit, TooMuch, Word}
-use Rattle.damon_control.specs.declared.live.TheConstants.{MAX_CALLS, MAX_CONTROLLERS, MAX_PASSES, MAX_TOUCHES, MAX_WORKERS}
-use Rattle.damon_control.specs.Body.{sweep_line, touch_line}
-use Rattle.damon_control.specs.Command.{CommandValue, Sweep, Touch}
-use Rattle.damon_control.specs.Head.{limited}
-use Rattle.damon_control.specs.Refusal.{◌>>=◌, only_if}
-use Rattle.damon_control.specs.Words.{alone, arguments, begins_with, number_32, one_word}
+use Rattle.script_lines.specs.declared.kind.ScriptKind.{ScriptKind}
+use Rattle.script_lines.specs.declared.kind.ScriptKind.TheVariants.{TooMuch, Word}
+use Rattle.damon_control.specs.declared.live.TheConstants.{MAX_CALLS, MAX_CONTROLLERS, MAX_WORKERS}
+use Rattle.script_lines.specs.Blocks.{block_line, touches_within}
+use Rattle.script_lines.specs.Refusal.{◌>>=◌, only_if}
+use Rattle.script_lines.specs.Words.{alone}
 
 -- what a call of a controller says
 pub data CallValue : Type 0 where
@@ -44,14 +40,6 @@ to_last [] items = []
 to_last (last ∷ []) items = (last ++ items) ∷ []
 to_last (list ∷ next ∷ more) items = list ∷ to_last (next ∷ more) items
 
--- `passes N`
-abbrev pub passes_line : List ℕ → Result ℕ ScriptKind
-passes_line line = arguments (codes "passes") line >>= one_word >>= number_32 >>= limited 1 MAX_PASSES
-
--- a line of this word alone, which begins a block: `count` blocks stand before it, and at most `most` are allowed
-abbrev pub block_line : List ℕ → List ℕ → ℕ → ℕ → Result (Unit {0}) ScriptKind
-block_line word line count most = alone word line >>= λ _. only_if (nat_lt count most) Limit (tt {0})
-
 -- `worker`: one more trace
 abbrev pub worker_line : LiveValue → List ℕ → Result LiveValue ScriptKind
 worker_line v line =
@@ -61,22 +49,6 @@ worker_line v line =
 abbrev pub controller_line : LiveValue → List ℕ → Result LiveValue ScriptKind
 controller_line v line =
     block_line (codes "controller") line (length v.controllers) MAX_CONTROLLERS >>= λ _. Ok (record v { controllers = v.controllers ++ [] ∷ [] })
-
--- the pages that a command touches, in order
-abbrev pub touched : CommandValue → List ℕ
-touched (Touch page) = page ∷ []
-touched (Sweep from to) = range_with_len from (to - from)
-touched _ = []
-
--- `touch TARGET ADDRESS` or `sweep TARGET FROM TO`
-abbrev pub touching : List Target → List ℕ → Result CommandValue ScriptKind
-touching space line = if begins_with (codes "touch") line then touch_line space line else sweep_line space line
-
--- the pages of such a line, where they and this number of touches before them are at most MAX_TOUCHES
-abbrev pub touches_within : List Target → List ℕ → ℕ → Result (List ℕ) ScriptKind
-touches_within space line before = do
-  command ← touching space line
-  only_if (nat_le (before + length (touched command)) MAX_TOUCHES) TooMuch (touched command)
 
 -- touches of the last worker, where there is one; all touches are counted
 abbrev pub touches_line : LiveValue → List ℕ → Result LiveValue ScriptKind

@@ -2,12 +2,14 @@
 use Rattle.std.specs.Prelude.{◌≡◌, ◌⊎◌, ℕ, ◌-◌, ◌≤◌, List, [], ◌∷◌, ◌++◌, length, codes, Ok, ◌↔◌}
 use Rattle.std.specs.List.{concat, range_with_len}
 use Rattle.damon_types.specs.declared.space.Target.{Target}
-use Rattle.damon_control.specs.declared.live.TheConstants.{MAX_CALLS, MAX_CONTROLLERS, MAX_PASSES, MAX_TOUCHES, MAX_WORKERS}
-use Rattle.damon_control.specs.Laws.{IsSweep, IsTouch}
+use Rattle.damon_control.specs.declared.live.TheConstants.{MAX_CALLS, MAX_CONTROLLERS, MAX_WORKERS}
+use Rattle.script_lines.specs.declared.blocks.TheConstants.{MAX_PASSES, MAX_TOUCHES}
+use Rattle.script_lines.specs.Laws.{IsSweep, IsTouch}
 use Rattle.damon_control.specs.Live.{CallValue, CommitCall, LiveValue, ShowCall, count_all}
 use Rattle.damon_control.specs.Script.{live_of}
-use Rattle.damon_control.specs.Spelling.{spelled_passes}
-use Rattle.damon_control.specs.Text.{AreCommit, EachSays, SaySetup, all_lines, lines_text}
+use Rattle.script_lines.specs.Spelling.{spelled_passes}
+use Rattle.damon_control.specs.Text.{AreCommit, EachSays, SaySetup, all_lines}
+use Rattle.script_lines.specs.Lines.{lines_text}
 
 -- a line says the pages that it touches, in order: the page of a touch, or those of a sweep
 abbrev pub SaysPages : List Target → List ℕ → List ℕ → Type 0

@@ -1,24 +1,21 @@
 -- What a live script and its parts show.
-use Rattle.std.specs.Prelude.{◌≡◌, ◌≤◌, ℕ, ◌+◌, ◌-◌, true, false, List, [], ◌∷◌, ◌++◌, length, map, codes, Result, Ok, Err}
-use Rattle.std.specs.List.{range_with_len}
+use Rattle.std.specs.Prelude.{◌≡◌, ◌≤◌, ℕ, ◌+◌, true, false, List, [], ◌∷◌, ◌++◌, length, map, codes, Result}
 use Rattle.damon_types.specs.Listed.{Listed}
 use Rattle.live_commit.specs.Commit.{commit_value}
 use Rattle.live_commit.specs.SetupView.{value_of}
-use Rattle.damon_control.specs.declared.fault.ScriptKind.{ScriptKind}
 use Rattle.damon_control.specs.declared.live.Call.{Call}
 use Rattle.damon_control.specs.declared.live.Call.TheVariants.{Show, Commit}
 use Rattle.damon_control.specs.declared.live.LiveScript.{LiveScript}
-use Rattle.damon_control.specs.declared.live_reader.Pages.{Pages}
 use Rattle.damon_control.specs.declared.fault.ScriptFault.{ScriptFault}
 use Rattle.damon_control.specs.declared.grammar.Grammar.TheVariants.{OfLive}
 use Rattle.damon_control.specs.declared.lines.Lines.{Lines}
 use Rattle.damon_control.specs.declared.live.TheConstants.{MAX_CONTROLLERS, MAX_WORKERS}
-use Rattle.damon_control.specs.Command.{CommandValue}
 use Rattle.damon_control.specs.Left.{first_begins, reads_left}
-use Rattle.damon_control.specs.Live.{CallValue, CommitCall, LiveValue, ShowCall, block_line, call_within, count_all, has_controller, touched, touches_within}
-use Rattle.damon_control.specs.Refusal.{◌>>=◌}
+use Rattle.damon_control.specs.Live.{CallValue, CommitCall, LiveValue, ShowCall, call_within, count_all, has_controller}
+use Rattle.script_lines.specs.Blocks.{block_line, touches_within}
+use Rattle.script_lines.specs.Refusal.{◌>>=◌}
 use Rattle.damon_control.specs.Script.{AtEnd, InBody, at}
-use Rattle.damon_control.specs.Words.{alone}
+use Rattle.script_lines.specs.Words.{alone}
 
 -- what a call of the program says
 abbrev pub call_value : Call → CallValue
@@ -43,15 +40,6 @@ live_said s = record {
   controllers = calls_of s.controllers.list;
 }
 
--- consecutive pages
-abbrev pub page_list : Pages → List ℕ
-page_list p = range_with_len p.from (p.to - p.from)
-
--- the pages that were read, or why not
-abbrev pub pages_said : Result Pages ScriptKind → Result (List ℕ) ScriptKind
-pages_said (Ok pages) = Ok (page_list pages)
-pages_said (Err kind) = Err kind
-
 -- a live script with these workers, and no controller
 abbrev pub with_workers : LiveValue → List (List ℕ) → LiveValue
 with_workers v workers = record v { workers = workers; controllers = [] }
@@ -59,10 +47,6 @@ with_workers v workers = record v { workers = workers; controllers = [] }
 -- a live script with these controllers
 abbrev pub with_controllers : LiveValue → List (List CallValue) → LiveValue
 with_controllers v controllers = record v { controllers = controllers }
-
--- the pages that a line touches, or why it is rejected
-abbrev pub touched_of : Result CommandValue ScriptKind → Result (List ℕ) ScriptKind
-touched_of said = said >>= λ command. Ok (touched command)
 
 -- what is said by a line that begins a worker after these, and the lines that are left after it
 abbrev pub reads_worker : LiveValue → List (List ℕ) → List ℕ → Lines → Result LiveValue ScriptFault

@@ -7,18 +7,19 @@ use Rattle.live_commit.specs.Commit.{CommitValue}
 use Rattle.live_commit.specs.Setup.{SetupValue}
 use Rattle.line_text.specs.Parts.{parts}
 use Rattle.damon_control.specs.declared.fault.ScriptFault.{ScriptFault}
-use Rattle.damon_control.specs.declared.fault.ScriptKind.{ScriptKind}
-use Rattle.damon_control.specs.declared.fault.ScriptKind.TheVariants.{After, Cut, Header, TooMuch}
+use Rattle.script_lines.specs.declared.kind.ScriptKind.{ScriptKind}
+use Rattle.script_lines.specs.declared.kind.ScriptKind.TheVariants.{After, Cut, Header, TooMuch}
 use Rattle.damon_control.specs.declared.grammar.Grammar.{Grammar}
 use Rattle.damon_control.specs.declared.grammar.Grammar.TheVariants.{OfScript, OfLive}
-use Rattle.damon_control.specs.declared.head.Frame.{Frame}
+use Rattle.script_lines.specs.declared.setup.Frame.{Frame}
 use Rattle.damon_control.specs.declared.script.TheConstants.{MAX_WORK}
-use Rattle.damon_control.specs.Body.{command_line, no_commit, part_line, with_part}
-use Rattle.damon_control.specs.Command.{CommandValue, Commit, weight}
-use Rattle.damon_control.specs.Head.{attrs_line, cap_line, range_line, scheme_line, seed_line, setup_said, target_line, unit_line}
-use Rattle.damon_control.specs.Live.{CommitCall, LiveValue, controller_line, has_controller, live_begun, passes_line, show_line, touches_line, with_call, worker_line}
-use Rattle.damon_control.specs.Refusal.{◌>>=◌, only_if}
-use Rattle.damon_control.specs.Words.{alone, begins_with, same_word}
+use Rattle.script_lines.specs.Body.{command_line, no_commit, part_line, with_part}
+use Rattle.script_lines.specs.Command.{CommandValue, Commit, weight}
+use Rattle.script_lines.specs.Head.{attrs_line, cap_line, range_line, scheme_line, seed_line, setup_said, target_line, unit_line}
+use Rattle.damon_control.specs.Live.{CommitCall, LiveValue, controller_line, has_controller, live_begun, show_line, touches_line, with_call, worker_line}
+use Rattle.script_lines.specs.Blocks.{passes_line}
+use Rattle.script_lines.specs.Refusal.{◌>>=◌, only_if}
+use Rattle.script_lines.specs.Words.{alone, begins_with, same_word}
 
 -- what a script says
 pub record ScriptValue : Type 0 where

@@ -4,8 +4,8 @@ use Rattle.damon_types.specs.Ranges.{InOrder}
 use Rattle.damon_types.specs.Space.{IsSpace, pages_of}
 use Rattle.live_commit.specs.Setup.{IsSetup}
 use Rattle.damon_control.specs.declared.script.TheConstants.{MAX_WORK}
-use Rattle.damon_control.specs.Command.{work_of}
-use Rattle.damon_control.specs.Limits.{AreCommandsWithin}
+use Rattle.script_lines.specs.Command.{work_of}
+use Rattle.script_lines.specs.Limits.{AreCommandsWithin}
 use Rattle.damon_control.specs.Script.{ScriptValue, script_of}
 
 -- a script within its limits: those of a space, of a setup with its ranges in order, of each command, and of the work in

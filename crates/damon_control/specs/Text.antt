@@ -10,18 +10,14 @@ use Rattle.live_commit.specs.Setup.{SetupValue}
 use Rattle.live_commit.specs.Slots.{checked_slots}
 use Rattle.target_ranges.specs.Checked.{checked_ranges}
 use Rattle.target_ranges.specs.Made.{ranges_of}
-use Rattle.damon_control.specs.declared.commit.Part.{Part}
+use Rattle.script_lines.specs.declared.part.Part.{Part}
 use Rattle.damon_control.specs.declared.script.TheConstants.{MAX_WORK}
-use Rattle.damon_control.specs.Body.{no_commit, with_part}
-use Rattle.damon_control.specs.Command.{CommandValue, Commit, work_of}
-use Rattle.damon_control.specs.Laws.{GivesScheme, IsCommand, IsPart, may_come}
+use Rattle.script_lines.specs.Body.{no_commit, with_part}
+use Rattle.script_lines.specs.Command.{CommandValue, Commit, work_of}
+use Rattle.script_lines.specs.Lines.{lines_text}
+use Rattle.script_lines.specs.Laws.{GivesScheme, IsCommand, IsPart, may_come}
 use Rattle.damon_control.specs.Script.{ScriptValue, script_of}
-use Rattle.damon_control.specs.Spelling.{spelled_attrs, spelled_cap, spelled_range, spelled_seed, spelled_target, spelled_unit}
-
--- the text of lines, each with its LF
-abbrev pub lines_text : List (List ℕ) → List ℕ
-lines_text [] = []
-lines_text (line ∷ lines) = line ++ 10 ∷ lines_text lines
+use Rattle.script_lines.specs.Spelling.{spelled_attrs, spelled_cap, spelled_range, spelled_seed, spelled_target, spelled_unit}
 
 -- the lines of groups, one group after another
 abbrev pub all_lines : List (List (List ℕ)) → List (List ℕ)

@@ -1,35 +1,16 @@
 -- A setup and a commit that are written are read back as the same, in their places in a script.
 use Rattle.std.specs.Prelude.{◌≡◌, ℕ, ◌+◌, ◌^◌, ◌<◌, ◌≤◌, List, ◌++◌, length, All, IfSome, codes}
-use Rattle.damon_types.specs.declared.filter.TheConstants.{MAX_FILTERS}
-use Rattle.damon_types.specs.declared.scheme.Scheme.{Scheme}
-use Rattle.damon_types.specs.declared.scheme.SlotChange.{SlotChange}
 use Rattle.damon_types.specs.Ranges.{InOrder}
 use Rattle.damon_types.specs.Space.{IsSpace}
 use Rattle.line_text.specs.Parts.{parts}
 use Rattle.live_commit.specs.Commit.{CommitValue}
 use Rattle.live_commit.specs.Setup.{IsSetup, SetupValue}
 use Rattle.damon_control.specs.declared.grammar.Grammar.TheVariants.{OfScript}
-use Rattle.damon_control.specs.Command.{Commit}
-use Rattle.damon_control.specs.Fits.{FitsAttrs, FitsKind, FitsMarks, FitsQuota, FitsRange, FitsSpan, FitsWeights}
-use Rattle.damon_control.specs.Refusal.{◌>>=◌}
+use Rattle.script_lines.specs.Command.{Commit}
+use Rattle.script_lines.specs.Fits.{FitsAttrs, FitsChange, FitsRange}
+use Rattle.script_lines.specs.Refusal.{◌>>=◌}
 use Rattle.damon_control.specs.Script.{Body, InBody, at, begun, reads, script_of, with_command}
 use Rattle.damon_control.specs.Written.{commit_text, setup_text, written_commit, written_setup}
-
--- a scheme as its type has it: each number is within its field, and its filters within their list
-pub record FitsScheme (s : Scheme) : Type 0 where
-  pub size : FitsSpan s.pattern.size
-  pub count : FitsSpan s.pattern.count
-  pub age : FitsSpan s.pattern.age
-  pub quota : IfSome s.quota FitsQuota
-  pub weights : FitsWeights s.weights
-  pub marks : IfSome s.marks FitsMarks
-  pub filters : All (λ f. FitsKind f.kind) s.filters
-  pub few : length s.filters ≤ MAX_FILTERS
-
--- a slot change as its type has it
-pub record FitsChange (c : SlotChange) : Type 0 where
-  pub small : c.slot < 2 ^ 8
-  pub fits : IfSome c.scheme FitsScheme
 
 -- a seed and a setup as their types have them
 pub record IsWritable (seed : ℕ) (s : SetupValue) : Type 0 where

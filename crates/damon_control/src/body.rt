@@ -1,29 +1,24 @@
-ghost use Rattle.std.specs.Prelude.{◌≡◌, ℕ, All, IfSome, ◌≤◌, ◌<◌, ◌+◌, ◌-◌, ◌^◌, IfOk, OnOk, Ok, Err, Some, None, [], length, map, nat_le};
+ghost use Rattle.std.specs.Prelude.{◌≡◌, ℕ, All, IfSome, ◌≤◌, ◌<◌, ◌+◌, ◌-◌, ◌^◌, IfOk, OnOk, Ok, Err, Some, None, [], length, nat_le};
 ghost use Rattle.std.specs.Option.{ok_or};
-ghost use Rattle.damon_types.specs.Space.{page_of, pages_of};
+ghost use Rattle.damon_types.specs.Space.{pages_of};
 ghost use Rattle.live_commit.specs.SetupView.{value_of};
-ghost use Rattle.damon_control.specs.Body.{are_swept, command_line, step_line, sweep_line, touch_line, word_line};
-ghost use Rattle.damon_control.specs.BodyLine.{LineIsWithin, body_at, body_said, command_said, script_at};
-ghost use Rattle.damon_control.specs.Command.{command_value, weight, work_of};
+ghost use Rattle.damon_control.specs.BodyLine.{LineIsWithin, body_at, body_said, script_at};
+ghost use Rattle.script_lines.specs.Command.{command_value, weight, work_of};
 ghost use Rattle.damon_control.specs.Left.{FaultOf, IsShort, MovesTo, reads_command, reads_left};
-ghost use Rattle.damon_control.specs.Limits.{EachIsWithin, IsCommandWithin};
-ghost use Rattle.damon_control.specs.Refusal.{only_if};
+ghost use Rattle.script_lines.specs.Limits.{AreCommandsWithin, IsCommandWithin};
+ghost use Rattle.script_lines.specs.Refusal.{only_if};
 ghost use Rattle.damon_control.specs.Script.{AtEnd, Body, InBody, after_body, begun};
-ghost use Rattle.damon_control.specs.Words.{begins_with};
 ghost use Rattle.damon_control.specs.declared.grammar.Grammar.TheVariants.{OfScript as of_script};
-ghost use Rattle.damon_control.specs.declared.fault.ScriptKind.TheVariants.{Outside, TooMuch};
+ghost use Rattle.script_lines.specs.declared.kind.ScriptKind.TheVariants.{TooMuch};
 
+use crate::ReadFail;
+use crate::commands::Commands;
 use crate::commit::read_commit;
-use crate::head::limited;
 use crate::lines::Lines;
-use crate::script::{MAX_STEPS, MAX_WORK};
-use crate::words::{
-    alone, arguments, first_word, one_word, read_32, read_byte_address, same_word, three_words,
-    two_words,
-};
-use crate::{Command, Commands, ReadFail, ScriptKind};
-use damon_types::{PAGE_SIZE, Space, pages_rise};
+use crate::script::MAX_WORK;
+use damon_types::Space;
 use live_commit::Setup;
+use script_lines::{Command, ScriptKind, alone, first_word, read_command, same_word};
 use std::alloc::Global;
 
 // What a line of a body says.
@@ -41,13 +36,13 @@ pub fn read_body(alloc: Global, lines: &mut Lines, setup: &Setup) -> Result<Comm
     requires { IsShort lines.old }
     ensures ok { IfOk result (λ commands. (seed : ℕ) →
         MovesTo of_script (InBody (begun seed (value_of setup.now))) lines.old
-        (AtEnd (script_at seed (value_of setup.now) commands.list)) lines.new) }
+        (AtEnd (script_at seed (value_of setup.now) commands)) lines.new) }
     ensures fault { (seed : ℕ) →
         FaultOf result (reads_left of_script (InBody (begun seed (value_of setup.now))) lines.old) }
     ensures within { IfOk result (λ commands.
-        EachIsWithin (pages_of setup.now.space) commands.list) }
+        AreCommandsWithin (pages_of setup.now.space) commands) }
     ensures work { IfOk result (λ commands.
-        work_of setup.now.cap (map command_value commands.list) ≤ MAX_WORK) }
+        work_of setup.now.cap commands ≤ MAX_WORK) }
     ensures small { IsShort lines.new }
 {
     let mut commands = Commands::new(alloc);
@@ -59,7 +54,7 @@ pub fn read_body(alloc: Global, lines: &mut Lines, setup: &Setup) -> Result<Comm
 }
 
 // Reads one more command, and gives the work of all so far; or None where the script ends.
-#[tactic(auto, using(crate::proofs::WorkLemmas::work_of_more))]
+#[tactic(auto, using(crate::proofs::WorkLemmas::work_of_more, crate::proofs::WorkLemmas::within_more))]
 fn take_command(
     alloc: Global,
     lines: &mut Lines,
@@ -68,25 +63,25 @@ fn take_command(
     work: u64,
 ) -> Result<Option<u64>, ReadFail>
     requires small { IsShort lines.old }
-    requires few { length commands.old.list ≤ lines.old.taken }
+    requires few { length commands.old ≤ lines.old.taken }
     requires most { work ≤ MAX_WORK }
     ensures more { IfOk result (λ answer. IfSome answer (λ sum. (seed : ℕ) →
-        MovesTo of_script (InBody (body_at seed (value_of setup.now) commands.old.list work)) lines.old
-        (InBody (body_at seed (value_of setup.now) commands.new.list sum)) lines.new)) }
+        MovesTo of_script (InBody (body_at seed (value_of setup.now) commands.old work)) lines.old
+        (InBody (body_at seed (value_of setup.now) commands.new sum)) lines.new)) }
     ensures end { IfOk result (λ answer. answer ≡ None → (seed : ℕ) →
-        MovesTo of_script (InBody (body_at seed (value_of setup.now) commands.old.list work)) lines.old
-        (AtEnd (script_at seed (value_of setup.now) commands.new.list)) lines.new) }
+        MovesTo of_script (InBody (body_at seed (value_of setup.now) commands.old work)) lines.old
+        (AtEnd (script_at seed (value_of setup.now) commands.new)) lines.new) }
     ensures fault { (seed : ℕ) →
-        let body = body_at seed (value_of setup.now) commands.old.list work in
+        let body = body_at seed (value_of setup.now) commands.old work in
         FaultOf result (reads_left of_script (InBody body) lines.old) }
     ensures sum { IfOk result (λ answer. IfSome answer (λ sum.
-        sum + work_of setup.now.cap (map command_value commands.old.list)
-        ≡ work + work_of setup.now.cap (map command_value commands.new.list))) }
+        sum + work_of setup.now.cap commands.old
+        ≡ work + work_of setup.now.cap commands.new)) }
     ensures same { IfOk result (λ answer.
-        answer ≡ None → commands.new.list ≡ commands.old.list) }
-    ensures within { OnOk result (EachIsWithin (pages_of setup.now.space) commands.old.list
-        → EachIsWithin (pages_of setup.now.space) commands.new.list) }
-    ensures few { OnOk result (length commands.new.list ≤ lines.new.taken) }
+        answer ≡ None → commands.new ≡ commands.old) }
+    ensures within { OnOk result (AreCommandsWithin (pages_of setup.now.space) commands.old
+        → AreCommandsWithin (pages_of setup.now.space) commands.new) }
+    ensures few { OnOk result (length commands.new ≤ lines.new.taken) }
     ensures most { IfOk result (λ answer. IfSome answer (λ sum. sum ≤ MAX_WORK)) }
     ensures small { IsShort lines.new }
     ensures shorter { OnOk result (length lines.new.rest.now < length lines.old.rest.now) }
@@ -176,89 +171,6 @@ fn read_body_line(space: &Space, line: &[u8]) -> Result<BodyLine, ScriptKind>
     } else {
         Ok(BodyLine::Say(read_command(space, line)?))
     }
-}
-
-// Reads a command of one line.
-fn read_command(space: &Space, line: &[u8]) -> Result<Command, ScriptKind>
-    ensures exact { command_said result ≡ command_line space.now line.now }
-    ensures within { IfOk result (λ c. IsCommandWithin (pages_of space.now) (command_value c)) }
-{
-    let word = first_word(line);
-    if same_word(word, b"touch") {
-        read_touch(space, line)
-    } else if same_word(word, b"sweep") {
-        read_sweep(space, line)
-    } else if same_word(word, b"step") {
-        read_step(line)
-    } else if same_word(word, b"arm") {
-        alone(b"arm", line)?;
-        Ok(Command::Arm)
-    } else if same_word(word, b"finish") {
-        alone(b"finish", line)?;
-        Ok(Command::Finish)
-    } else if same_word(word, b"show") {
-        alone(b"show", line)?;
-        Ok(Command::Show)
-    } else {
-        Err(ScriptKind::Word)
-    }
-}
-
-// Reads `touch TARGET ADDRESS`.
-pub fn read_touch(space: &Space, line: &[u8]) -> Result<Command, ScriptKind>
-    ensures exact { command_said result ≡ touch_line space.now line.now }
-    ensures within { IfOk result (λ c. IsCommandWithin (pages_of space.now) (command_value c)) }
-{
-    let (target, addr) = two_words(arguments(b"touch", line)?)?;
-    let target = read_32(target)?;
-    let addr = read_byte_address(addr)?;
-    let page = read_page(space, target, addr)?;
-    Ok(Command::Touch { page })
-}
-
-// The page that holds a byte.
-fn read_page(space: &Space, target: u32, addr: u64) -> Result<u32, ScriptKind>
-    ensures exact { result ≡ ok_or (page_of space.now target addr) Outside }
-    ensures below { IfOk result (λ page. page < pages_of space.now) }
-{
-    pages_rise();
-    match space.page_of(target, addr) {
-        Some(page) => Ok(page),
-        None => Err(ScriptKind::Outside),
-    }
-}
-
-// Reads `sweep TARGET FROM TO`.
-pub fn read_sweep(space: &Space, line: &[u8]) -> Result<Command, ScriptKind>
-    ensures exact { command_said result ≡ sweep_line space.now line.now }
-    ensures within { IfOk result (λ c. IsCommandWithin (pages_of space.now) (command_value c)) }
-{
-    pages_rise();
-    // There are at most 1,048,576 pages.
-    let _targets = space.targets();
-    let (target, from, to) = three_words(arguments(b"sweep", line)?)?;
-    let target = read_32(target)?;
-    let from = read_byte_address(from)?;
-    let to = read_byte_address(to)?;
-    if from % PAGE_SIZE != 0 || to % PAGE_SIZE != 0 || from >= to {
-        return Err(ScriptKind::Limit);
-    }
-    let first = read_page(space, target, from)?;
-    let last = read_page(space, target, to - PAGE_SIZE)?;
-    Ok(Command::Sweep {
-        from: first,
-        to: last + 1,
-    })
-}
-
-// Reads `step TIMES`.
-fn read_step(line: &[u8]) -> Result<Command, ScriptKind>
-    ensures exact { command_said result ≡ step_line line.now }
-    ensures within { (pages : ℕ) → IfOk result (λ c. IsCommandWithin pages (command_value c)) }
-{
-    let times = read_32(one_word(arguments(b"step", line)?)?)?;
-    let times = limited(1, MAX_STEPS, times)?;
-    Ok(Command::Step { times })
 }
 
 // The work so far and that of one more command, where both are within the limit.

@@ -2,16 +2,15 @@
 ghost use Rattle.std.specs.Prelude.{◌≡◌, ℕ, List, [], ◌∷◌, ◌++◌, ◌≤◌, ◌<◌, ◌+◌, ◌||◌, true, false, Ok, Err, IfOk, IfErr, OnOk, codes, length, map};
 ghost use Rattle.damon_control.specs.declared.grammar.Grammar.TheVariants.{OfLive as of_live};
 ghost use Rattle.damon_control.specs.Left.{FaultOf, IsShort, MovesTo, first_begins, reads_left};
-ghost use Rattle.damon_control.specs.Live.{CallValue, LiveValue as live, ShowCall, call_within, count_all};
+ghost use Rattle.damon_control.specs.Live.{CallValue, LiveValue as live, call_within, count_all};
 ghost use Rattle.damon_control.specs.LiveView.{NoCall, call_value, calls_of, reads_call, reads_controller, with_controllers};
 ghost use Rattle.damon_control.specs.Script.{InBody};
 
 use crate::commit::read_commit;
 use crate::lines::Lines;
 use crate::live::{Call, CallList, CallLists, MAX_CALLS, MAX_CONTROLLERS};
-use crate::live_reader::read_block;
-use crate::words::{alone, first_word, same_word};
-use crate::{ReadFail, ScriptFault, ScriptKind};
+use crate::{ReadFail, ScriptFault};
+use script_lines::{ScriptKind, alone, first_word, read_block, same_word};
 use std::alloc::Global;
 
 // Reads the blocks of the controllers.

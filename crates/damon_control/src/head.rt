@@ -1,153 +1,28 @@
 ghost use Rattle.std.specs.Prelude.{◌≡◌, ◌≤◌, ◌<◌, ◌^◌, Ok, Err, Some, true, false, IfOk, IfErr, OnOk, is_ok, [], ◌∷◌, ◌++◌, ◌+◌, ◌-◌, codes, length};
-ghost use Rattle.damon_types.specs.declared.space.Target.{Target as target_row};
-ghost use Rattle.damon_types.specs.Space.{IsSpace, checked};
-ghost use Rattle.target_ranges.specs.Checked.{checked_next, checked_ranges};
-ghost use Rattle.damon_control.specs.Head.{attrs_line, cap_line, is_changed, limited, range_line, one_target, scheme_line, seed_line, target_in, target_line, unit_line};
-ghost use Rattle.damon_control.specs.declared.head.Frame.{Frame as frame};
+ghost use Rattle.damon_types.specs.Space.{checked};
+ghost use Rattle.target_ranges.specs.Checked.{checked_ranges};
+ghost use Rattle.script_lines.specs.declared.setup.Frame.{Frame as frame};
 ghost use Rattle.live_commit.specs.Checked.{checked_cap, checked_unit};
-ghost use Rattle.live_commit.specs.Slots.{checked_slot, checked_slots, has_scheme, kept_slots};
-ghost use Rattle.damon_control.specs.Limits.{AreLimits};
+ghost use Rattle.live_commit.specs.Slots.{checked_slots, kept_slots};
+ghost use Rattle.script_lines.specs.Limits.{AreLimits};
 ghost use Rattle.damon_control.specs.Left.{FaultOf, IsShort, IsWanted, MovesTo, first_begins, reads_left};
 ghost use Rattle.damon_control.specs.Script.{AtAttrs, AtHeader, AtRanges, AtSchemes, AtTargets, header_of};
 ghost use Rattle.damon_control.specs.declared.grammar.Grammar.{Grammar as grammar};
-ghost use Rattle.damon_control.specs.Refusal.{only_if};
-ghost use Rattle.damon_control.specs.Words.{same_word, words_in};
-ghost use Rattle.damon_control.specs.declared.fault.ScriptKind.TheVariants.{Header, Limit};
+ghost use Rattle.script_lines.specs.Refusal.{only_if};
+ghost use Rattle.script_lines.specs.Words.{same_word};
+ghost use Rattle.script_lines.specs.declared.kind.ScriptKind.TheVariants.{Header, Limit};
 
-use crate::fields::{read_attrs, read_range};
 use crate::grammar::Grammar;
-use crate::keys::read_scheme;
 use crate::lines::Lines;
-use crate::words::{
-    Words, arguments, one_word, read_32, read_64, read_byte_address, same_word, two_words,
+use crate::{MAX_BYTES, ReadFail, ScriptFault};
+use damon_types::{RangeSpecs, SlotChanges, Space, Target};
+use live_commit::{MAX_CAP, slots_are_checked_in_turn};
+use script_lines::{
+    Frame, ScriptKind, read_attrs_line, read_cap, read_range_line, read_scheme_line, read_seed,
+    read_target_line, read_unit, same_word,
 };
-use crate::{MAX_BYTES, ReadFail, ScriptFault, ScriptKind};
-use damon_types::{Attrs, RangeSpec, RangeSpecs, SlotChange, SlotChanges, Space, Target};
-use live_commit::{MAX_CAP, MAX_UNIT, MIN_CAP, slots_are_checked_in_turn};
 use std::alloc::Global;
-use target_ranges::{accepted_has_room, check_next, next_decides};
-
-// What the lines of a setup say before its targets.
-#[derive(Clone, Copy)]
-pub struct Frame {
-    pub seed: u64,
-    pub unit: u32,
-    pub cap: u32,
-    pub attrs: Attrs,
-}
-
-// Reads `seed N`.
-fn read_seed(line: &[u8]) -> Result<u64, ScriptKind>
-    ensures { result ≡ seed_line line.now }
-{
-    read_64(one_word(arguments(b"seed", line)?)?)
-}
-
-// Reads `unit PAGES`.
-fn read_unit(line: &[u8]) -> Result<u32, ScriptKind>
-    ensures { result ≡ unit_line line.now }
-{
-    let unit = read_32(one_word(arguments(b"unit", line)?)?)?;
-    limited(1, MAX_UNIT, unit)
-}
-
-// Reads `cap REGIONS`.
-fn read_cap(line: &[u8]) -> Result<u32, ScriptKind>
-    ensures { result ≡ cap_line line.now }
-{
-    let cap = read_32(one_word(arguments(b"cap", line)?)?)?;
-    limited(MIN_CAP, MAX_CAP, cap)
-}
-
-// The number, where it is within these limits.
-pub fn limited(least: u32, most: u32, number: u32) -> Result<u32, ScriptKind>
-    ensures { result ≡ limited least most number }
-{
-    if least <= number && number <= most {
-        Ok(number)
-    } else {
-        Err(ScriptKind::Limit)
-    }
-}
-
-// Reads `attrs MIN MAX AGGR`, where max is at most cap.
-fn read_attrs_line(cap: u32, line: &[u8]) -> Result<Attrs, ScriptKind>
-    ensures { result ≡ attrs_line cap line.now }
-{
-    let attrs = read_attrs(arguments(b"attrs", line)?)?;
-    attrs.check().map_err(|why| ScriptKind::Attrs { why })?;
-    if attrs.max > cap {
-        return Err(ScriptKind::OverCap);
-    }
-    Ok(attrs)
-}
-
-// Reads `target BASE PAGES`.
-fn read_target_line(line: &[u8]) -> Result<Target, ScriptKind>
-    ensures { result ≡ one_target line.now }
-{
-    read_target(arguments(b"target", line)?)
-}
-
-// Reads `BASE PAGES`.
-fn read_target(words: Words) -> Result<Target, ScriptKind>
-    ensures { result ≡ target_in (words_in words.entry) }
-{
-    let (base, pages) = two_words(words)?;
-    Ok(Target {
-        base: read_byte_address(base)?,
-        pages: read_32(pages)?,
-    })
-}
-
-// Reads `range TARGET FROM TO CLASS` after other ranges.
-fn read_range_line(
-    frame: &Frame,
-    space: &Space,
-    before: &[RangeSpec],
-    line: &[u8],
-) -> Result<RangeSpec, ScriptKind>
-    ensures exact { result ≡ range_line frame.now space.now before.now line.now }
-    ensures accepted { IfOk result (λ s.
-        checked_next space.now frame.now.unit frame.now.cap before.now s ≡ Ok tt) }
-    ensures room { OnOk result (length before.now < frame.now.attrs.max) }
-{
-    let range = read_range(arguments(b"range", line)?)?;
-    check_next(space, frame.unit, frame.cap, before, &range).map_err(|why| ScriptKind::Range {
-        why,
-    })?;
-    if before.len() >= frame.attrs.max as usize {
-        return Err(ScriptKind::RangesOverMax);
-    }
-    Ok(range)
-}
-
-// Reads `scheme SLOT ACTION KEYS` after other schemes.
-#[tactic(auto, using(crate::proofs::SlotLemmas::checked_slot_accepted))]
-fn read_scheme_line(before: &[SlotChange], line: &[u8]) -> Result<SlotChange, ScriptKind>
-    ensures exact { result ≡ scheme_line before.now line.now }
-    ensures accepted { IfOk result (λ c. checked_slot (length before.now) before.now c ≡ Ok tt) }
-    ensures set { IfOk result (λ c. has_scheme c ≡ true) }
-{
-    let (slot, scheme) = read_scheme(arguments(b"scheme", line)?)?;
-    scheme
-        .check(slot)
-        .map_err(|why| ScriptKind::Scheme { why })?;
-    if is_changed(slot, before) {
-        return Err(ScriptKind::Repeated);
-    }
-    Ok(SlotChange {
-        slot,
-        scheme: Some(scheme),
-    })
-}
-
-// Whether one of these changes is of this slot.
-fn is_changed(slot: u8, changes: &[SlotChange]) -> bool
-    ensures { result ≡ is_changed slot changes.now }
-{
-    changes.iter().any(|change| change.slot == slot)
-}
+use target_ranges::{accepted_has_room, next_decides};
 
 // Reads the lines before the targets.
 pub fn read_frame(lines: &mut Lines, form: Grammar) -> Result<Frame, ScriptFault>

@@ -1,93 +1,31 @@
-// Laws of the definitions that the contracts cite: a line that is read says what was read, and a line
-// that says something is read as that. These functions do nothing.
-ghost use Rattle.std.specs.Prelude.{ℕ, List};
-ghost use Rattle.damon_types.specs.declared.range.RangeSpec.{RangeSpec};
-ghost use Rattle.damon_types.specs.declared.space.Target.{Target};
-ghost use Rattle.damon_control.specs.declared.head.Frame.{Frame};
-ghost use Rattle.damon_control.specs.Fields.{attrs_in, range_in};
-ghost use Rattle.damon_control.specs.Head.{attrs_line, cap_line, one_target, range_line, seed_line, unit_line};
-ghost use Rattle.damon_control.specs.Keys.{setting_of};
-ghost use Rattle.damon_control.specs.Laws.{NamesActions, ReadsOnly, ReadsOnlyCommands, ReadsOnlyParts, ReadsOnlySchemes, WordLaws};
+// Laws of the definitions that the contracts cite: a text is read as a script exactly where it says that
+// script. These functions do nothing.
+ghost use Rattle.damon_control.specs.LineLaws.{LineLaws};
 ghost use Rattle.damon_control.specs.LiveText.{LiveTextsAreRead};
-ghost use Rattle.damon_control.specs.ReadBack.{LinesReadBack};
 ghost use Rattle.damon_control.specs.Sound.{ScriptsAreSound};
-ghost use Rattle.damon_control.specs.Spelling.{attrs_words, range_words, spelled_attrs, spelled_cap, spelled_range, spelled_seed, spelled_setting, spelled_target, spelled_unit};
 ghost use Rattle.damon_control.specs.Text.{TextsAreRead};
 ghost use Rattle.damon_control.specs.WriteBack.{CommitsAreReadBack, SetupsAreReadBack};
 
 use damon_types::pages_rise;
-use line_text::{
-    address_is_spelled, decimal_has_digits, decimal_is_read, number_is_decimal, parts_are_pieces,
-    pieces_are_parts, spelled_address_has_digits, spelled_address_is_read,
-    stripped_front_was_first,
-};
+use line_text::{parts_are_pieces, pieces_are_parts};
 use live_commit::slots_are_checked_in_turn;
+use script_lines::{
+    accepted_lines_are_within, body_lines_are_spelled, schemes_are_spelled,
+    setup_lines_are_spelled, spelled_lines_are_read, written_changes_are_read_back,
+};
 use target_ranges::{fault_stays, made_in_order, next_decides};
 
-// The laws of `line_text` on words, numbers and addresses, in one record.
-pub(crate) fn words_have_laws()
-    ensures laws { WordLaws }
+// The laws of the crates below on lines, in one record.
+pub(crate) fn lines_have_laws()
+    ensures laws { LineLaws }
 {
     parts_are_pieces();
     pieces_are_parts();
-    number_is_decimal();
-    decimal_is_read();
-    decimal_has_digits();
-    address_is_spelled();
-    spelled_address_is_read();
-    spelled_address_has_digits();
-    stripped_front_was_first();
-}
-
-/// The words after `attrs` and `range` that are accepted, in a setup and in a commit, are the
-/// spelling of what is read from them.
-pub fn fields_are_spelled()
-    ensures attrs { ReadsOnly attrs_in attrs_words }
-    ensures range { ReadsOnly range_in range_words }
-{
-    words_have_laws();
-}
-
-/// A line of a setup that is accepted is the spelling of what it says.
-pub fn setup_lines_are_spelled()
-    ensures seed { ReadsOnly seed_line spelled_seed }
-    ensures unit { ReadsOnly unit_line spelled_unit }
-    ensures cap { ReadsOnly cap_line spelled_cap }
-    ensures attrs { (cap : ℕ) → ReadsOnly (attrs_line cap) spelled_attrs }
-    ensures target { ReadsOnly one_target spelled_target }
-    ensures range { (f : Frame) (targets : List Target) (before : List RangeSpec)
-        → ReadsOnly (range_line f targets before) spelled_range }
-{
-    words_have_laws();
-}
-
-/// A line of a setup that gives a slot a scheme is the spelling of a slot, an action and settings in
-/// order, which turn the action's default into that scheme. A word that is read as an action or a
-/// setting is its spelling.
-pub fn schemes_are_spelled()
-    ensures actions { NamesActions }
-    ensures settings { ReadsOnly setting_of spelled_setting }
-    ensures schemes { ReadsOnlySchemes }
-{
-    words_have_laws();
-}
-
-/// A line of a body that is accepted says the command that is read from it. A line of a commit that
-/// is accepted says the part that is read from it, and that part may come there.
-pub fn body_lines_are_spelled()
-    ensures commands { ReadsOnlyCommands }
-    ensures parts { ReadsOnlyParts }
-{
-    words_have_laws();
-}
-
-/// Each line of a script that says something, with each number within its field and its limits, is
-/// read as what it says. With `body_lines_are_spelled`, a line of a body is read as a command exactly
-/// where it says that command, and a line of a commit likewise.
-pub fn spelled_lines_are_read()
-    ensures lines { LinesReadBack }
-{
-    words_have_laws();
+    setup_lines_are_spelled();
+    schemes_are_spelled();
+    body_lines_are_spelled();
+    accepted_lines_are_within();
+    spelled_lines_are_read();
 }
 
 /// A text is read as a script exactly where it says it, line by line, each within its limits: the
@@ -96,8 +34,7 @@ pub fn spelled_lines_are_read()
 pub fn texts_are_exactly_read()
     ensures texts { TextsAreRead }
 {
-    words_have_laws();
-    spelled_lines_are_read();
+    lines_have_laws();
     next_decides();
     fault_stays();
     slots_are_checked_in_turn();
@@ -109,8 +46,7 @@ pub fn texts_are_exactly_read()
 pub fn live_texts_are_exactly_read()
     ensures texts { LiveTextsAreRead }
 {
-    words_have_laws();
-    spelled_lines_are_read();
+    lines_have_laws();
     next_decides();
     fault_stays();
     slots_are_checked_in_turn();
@@ -132,8 +68,8 @@ pub fn scripts_are_sound()
 pub fn setups_are_read_back()
     ensures back { SetupsAreReadBack }
 {
-    words_have_laws();
-    spelled_lines_are_read();
+    lines_have_laws();
+    written_changes_are_read_back();
     next_decides();
     fault_stays();
 }
@@ -143,8 +79,8 @@ pub fn setups_are_read_back()
 pub fn commits_are_read_back()
     ensures back { CommitsAreReadBack }
 {
-    words_have_laws();
-    spelled_lines_are_read();
+    lines_have_laws();
+    written_changes_are_read_back();
     next_decides();
     fault_stays();
 }

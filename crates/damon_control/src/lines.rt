@@ -1,18 +1,17 @@
 ghost use Rattle.std.specs.Prelude.{ℕ, List, ◌≡◌, ◌+◌, ◌<◌, ◌≤◌, length, IfOk, IfErr, IfNone, IfSome, OnOk, Ok, Err};
 ghost use Rattle.damon_types.specs.Space.{pages_of};
-ghost use Rattle.damon_control.specs.Command.{Touch};
+ghost use Rattle.script_lines.specs.Command.{Touch};
 ghost use Rattle.damon_control.specs.Left.{IsOpen, IsShort, first_begins, reads_command, reads_on, reads_left};
 ghost use Rattle.damon_control.specs.Script.{AtEnd, Body, InBody, Place, Said, at};
 ghost use Rattle.damon_control.specs.declared.grammar.Grammar.{Grammar as grammar};
 ghost use Rattle.damon_control.specs.declared.grammar.Grammar.TheVariants.{OfScript as of_script};
-ghost use Rattle.damon_control.specs.Words.{begins_with};
+ghost use Rattle.script_lines.specs.Words.{begins_with};
 
-use crate::laws::words_have_laws;
-use crate::touches::leading_touch;
-use crate::words::{first_word, same_word};
-use crate::{ScriptFault, ScriptKind};
+use crate::ScriptFault;
+use crate::laws::lines_have_laws;
 use damon_types::Space;
 use line_text::split_front;
+use script_lines::{ScriptKind, first_word, leading_touch, same_word};
 
 // A text that is read line by line.
 #[derive(Drop)]
@@ -77,7 +76,7 @@ impl<'a> Lines<'a> {
         ensures small { IsShort self.new }
     {
         // For its clause alone: how lines are read.
-        words_have_laws();
+        lines_have_laws();
         let (page, rest) = leading_touch(space, self.rest)?;
         self.rest = rest;
         self.taken += 1;

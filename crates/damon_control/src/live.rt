@@ -1,17 +1,11 @@
 use damon_types::PlainList;
 use live_commit::{Commit, Setup};
 
-/// The most passes of a live script.
-pub const MAX_PASSES: u32 = 1_000_000;
-
 /// The most workers of a live script.
 pub const MAX_WORKERS: u32 = 16;
 
 /// The most controllers of a live script.
 pub const MAX_CONTROLLERS: u32 = 4;
-
-/// The most touches of all workers of a live script; a sweep counts its pages.
-pub const MAX_TOUCHES: u32 = 1_048_576;
 
 /// The most calls of all controllers of a live script.
 pub const MAX_CALLS: u32 = 65_536;
@@ -43,9 +37,9 @@ pub type CallLists = PlainList<CallList>;
 pub struct LiveScript {
     pub seed: u64,
     pub setup: Setup,
-    /// The passes, from 1 to [`MAX_PASSES`].
+    /// The passes, from 1 to [`MAX_PASSES`](crate::MAX_PASSES).
     pub passes: u32,
-    /// At most [`MAX_WORKERS`] traces, with at most [`MAX_TOUCHES`] pages in all.
+    /// At most [`MAX_WORKERS`] traces, with at most [`MAX_TOUCHES`](crate::MAX_TOUCHES) pages in all.
     pub workers: Traces,
     /// At most [`MAX_CONTROLLERS`] lists, with at most [`MAX_CALLS`] calls in all.
     pub controllers: CallLists,

@@ -5,31 +5,26 @@ ghost use Rattle.damon_types.specs.declared.scheme.SlotChange.{SlotChange as cha
 ghost use Rattle.damon_types.specs.declared.space.Target.{Target as target};
 ghost use Rattle.damon_types.specs.Space.{pages_of};
 ghost use Rattle.live_commit.specs.SetupView.{value_of};
-ghost use Rattle.damon_control.specs.declared.fault.ScriptKind.TheVariants.{Limit, TooMuch};
 ghost use Rattle.damon_control.specs.declared.reader.TheConstants.{MAX_BYTES};
 ghost use Rattle.damon_control.specs.declared.live.TheConstants.{MAX_CALLS, MAX_CONTROLLERS};
 ghost use Rattle.damon_control.specs.declared.grammar.Grammar.TheVariants.{OfLive as of_live};
-ghost use Rattle.damon_control.specs.declared.head.Frame.{Frame as frame};
-ghost use Rattle.damon_control.specs.BodyLine.{command_said};
-ghost use Rattle.damon_control.specs.Command.{command_value};
-ghost use Rattle.damon_control.specs.Limits.{IsCommandWithin};
-ghost use Rattle.damon_control.specs.Head.{setup_said};
+ghost use Rattle.script_lines.specs.declared.setup.Frame.{Frame as frame};
+ghost use Rattle.script_lines.specs.Head.{setup_said};
 ghost use Rattle.damon_control.specs.Left.{FaultOf, IsShort, MovesTo, first_begins, reads_left};
-ghost use Rattle.damon_control.specs.Live.{LiveValue as live, block_line, count_all, touches_within, has_controller, live_begun, passes_line, touched, touching};
-ghost use Rattle.damon_control.specs.LiveView.{NoBlock, NoTouch, NoWorker, calls_of, live_said, page_list, pages_said, reads_end, reads_touches, reads_worker, touched_of, traces_of, with_workers};
+ghost use Rattle.damon_control.specs.Live.{LiveValue as live, count_all, live_begun};
+ghost use Rattle.script_lines.specs.Blocks.{page_list};
+ghost use Rattle.damon_control.specs.LiveView.{NoBlock, NoTouch, NoWorker, calls_of, live_said, reads_end, reads_touches, reads_worker, traces_of, with_workers};
 ghost use Rattle.damon_control.specs.Script.{AtEnd, AtHeader, AtSchemes, InBody, live_of};
 
-use crate::body::{read_sweep, read_touch};
 use crate::calls::read_controllers;
 use crate::grammar::Grammar;
-use crate::head::limited;
 use crate::lines::Lines;
-use crate::live::{LiveScript, MAX_PASSES, MAX_TOUCHES, MAX_WORKERS, Trace, Traces};
+use crate::live::{LiveScript, MAX_WORKERS, Trace, Traces};
 use crate::reader::{make_setup, read_head};
-use crate::words::{alone, arguments, first_word, one_word, read_32, same_word};
-use crate::{Command, ReadFail, ScriptFault, ScriptKind};
+use crate::{ReadFail, ScriptFault};
 use damon_types::Space;
 use live_commit::Setup;
+use script_lines::{MAX_PASSES, MAX_TOUCHES, Pages, alone, read_block, read_passes, read_touches};
 use std::alloc::{AllocError, Global};
 
 /// Reads a live script of at most [`MAX_BYTES`](crate::MAX_BYTES) bytes. For any other text, returns the
@@ -115,16 +110,6 @@ fn take_passes(lines: &mut Lines) -> Result<u32, ScriptFault>
     lines.refuse(read_passes(line))
 }
 
-// Reads `passes N`.
-fn read_passes(line: &[u8]) -> Result<u32, ScriptKind>
-    ensures exact { result ≡ passes_line line.now }
-    ensures some { IfOk result (λ n. 1 ≤ n) }
-    ensures most { IfOk result (λ n. n ≤ MAX_PASSES) }
-{
-    let passes = read_32(one_word(arguments(b"passes", line)?)?)?;
-    limited(1, MAX_PASSES, passes)
-}
-
 // Reads the blocks of the workers.
 fn read_workers(alloc: Global, lines: &mut Lines, space: &Space) -> Result<Traces, ReadFail>
     requires { IsShort lines.old }
@@ -180,20 +165,6 @@ fn take_worker<'a>(lines: &mut Lines<'a>) -> Result<&'a [u8], ScriptFault>
 {
     let line = lines.take_line()?;
     Ok(line)
-}
-
-// Reads a line of this word alone, which begins a block: `count` blocks stand before it, and at most
-// `most` are allowed.
-pub fn read_block(word: &[u8], line: &[u8], count: u32, most: u32) -> Result<(), ScriptKind>
-    ensures exact { result ≡ block_line word.now line.now count most }
-    ensures few { OnOk result (count < most) }
-{
-    alone(word, line)?;
-    if count < most {
-        Ok(())
-    } else {
-        Err(ScriptKind::Limit)
-    }
 }
 
 // Reads the touches of a worker, where those before it and its own are counted.
@@ -262,13 +233,6 @@ fn is_touched(lines: &Lines) -> bool
     lines.next_is(b"touch") || lines.next_is(b"sweep")
 }
 
-// The pages from one to before another.
-#[derive(Clone, Copy)]
-pub struct Pages {
-    pub from: u32,
-    pub to: u32,
-}
-
 // Reads one more touch or sweep, after this many touches.
 fn take_touches(lines: &mut Lines, space: &Space, touches: u32) -> Result<Pages, ScriptFault>
     requires wanted { (first_begins (codes "touch") lines.old.rest.now
@@ -307,66 +271,6 @@ fn take_touch<'a>(lines: &mut Lines<'a>) -> Result<&'a [u8], ScriptFault>
 {
     let line = lines.take_line()?;
     Ok(line)
-}
-
-// Reads the pages of a touch or a sweep.
-fn read_pages(space: &Space, line: &[u8]) -> Result<Pages, ScriptKind>
-    ensures exact { pages_said result ≡ touched_of (touching space.now line.now) }
-    ensures rise { IfOk result (λ p. p.from ≤ p.to) }
-    ensures within { IfOk result (λ p. p.to ≤ pages_of space.now) }
-{
-    let command = read_touching(space, line)?;
-    Ok(command_pages(space, &command))
-}
-
-// Reads a touch or a sweep.
-fn read_touching(space: &Space, line: &[u8]) -> Result<Command, ScriptKind>
-    ensures exact { command_said result ≡ touching space.now line.now }
-    ensures within { IfOk result (λ c. IsCommandWithin (pages_of space.now) (command_value c)) }
-{
-    if same_word(first_word(line), b"touch") {
-        read_touch(space, line)
-    } else {
-        read_sweep(space, line)
-    }
-}
-
-// The pages that a command touches: none, but for a touch or a sweep.
-fn command_pages(space: &Space, command: &Command) -> Pages
-    requires { IsCommandWithin (pages_of space.now) (command_value command.now) }
-    ensures exact { page_list result ≡ touched (command_value command.now) }
-    ensures rise { result.from ≤ result.to }
-    ensures within { result.to ≤ pages_of space.now }
-{
-    // There are at most 1,048,576 pages.
-    let _targets = space.targets();
-    match command {
-        Command::Touch { page } => Pages {
-            from: *page,
-            to: *page + 1,
-        },
-        Command::Sweep { from, to } => Pages {
-            from: *from,
-            to: *to,
-        },
-        _ => Pages { from: 0, to: 0 },
-    }
-}
-
-// Reads a touch or a sweep, after this many touches.
-fn read_touches(space: &Space, line: &[u8], touches: u32) -> Result<Pages, ScriptKind>
-    requires { touches ≤ MAX_TOUCHES }
-    ensures exact { pages_said result ≡ touches_within space.now line.now touches }
-    ensures rise { IfOk result (λ p. p.from ≤ p.to) }
-    ensures most { IfOk result (λ p. touches + (p.to - p.from) ≤ MAX_TOUCHES) }
-    ensures within { IfOk result (λ p. p.to ≤ pages_of space.now) }
-{
-    let pages = read_pages(space, line)?;
-    if pages.to - pages.from <= MAX_TOUCHES - touches {
-        Ok(pages)
-    } else {
-        Err(ScriptKind::TooMuch)
-    }
 }
 
 // Appends pages to a trace.

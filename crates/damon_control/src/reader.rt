@@ -1,30 +1,29 @@
-ghost use Rattle.std.specs.Prelude.{◌≡◌, All, ◌≤◌, ◌<◌, ◌+◌, ◌^◌, List, Ok, Err, IfOk, IfErr, OnOk, codes, false, length, map};
+ghost use Rattle.std.specs.Prelude.{◌≡◌, All, ◌≤◌, ◌<◌, ◌+◌, ◌^◌, List, Ok, Err, IfOk, IfErr, OnOk, codes, false, length};
 ghost use Rattle.damon_types.specs.Space.{checked, pages_of};
 ghost use Rattle.live_commit.specs.SetupView.{value_of};
 ghost use Rattle.damon_control.specs.HeadView.{IsHead};
 ghost use Rattle.damon_types.specs.declared.range.RangeSpec.{RangeSpec as spec};
 ghost use Rattle.damon_types.specs.declared.scheme.SlotChange.{SlotChange as change};
 ghost use Rattle.damon_types.specs.declared.space.Target.{Target as target};
-ghost use Rattle.damon_control.specs.declared.head.Frame.{Frame as frame};
+ghost use Rattle.script_lines.specs.declared.setup.Frame.{Frame as frame};
 ghost use Rattle.damon_control.specs.declared.fault.ReadFail.TheVariants.{Memory};
-ghost use Rattle.damon_control.specs.Command.{command_value, work_of};
-ghost use Rattle.damon_control.specs.Head.{setup_said};
+ghost use Rattle.script_lines.specs.Command.{work_of};
+ghost use Rattle.script_lines.specs.Head.{setup_said};
 ghost use Rattle.damon_control.specs.Left.{FaultOf, IsShort, MovesTo, first_begins, reads_left};
-ghost use Rattle.damon_control.specs.Limits.{EachIsWithin};
+ghost use Rattle.script_lines.specs.Limits.{AreCommandsWithin};
 ghost use Rattle.damon_control.specs.Script.{AtHeader, AtSchemes, InBody, begun, opened, script_of};
-ghost use Rattle.damon_control.specs.declared.grammar.Grammar.{Grammar as grammar};
 ghost use Rattle.damon_control.specs.declared.grammar.Grammar.TheVariants.{OfScript as of_script};
 ghost use Rattle.damon_control.specs.ScriptView.{said_by};
 
 use crate::body::read_body;
 use crate::grammar::Grammar;
-use crate::head::{Frame, read_frame, read_ranges, read_slots, read_targets};
+use crate::head::{read_frame, read_ranges, read_slots, read_targets};
 use crate::lines::Lines;
 use crate::script::MAX_WORK;
-use crate::words::alone;
 use crate::{ReadFail, Script, ScriptFault};
 use damon_types::{RangeSpecs, SlotChanges, Space, Target};
 use live_commit::Setup;
+use script_lines::{Frame, alone};
 use std::alloc::Global;
 
 /// The most bytes of a text that is read as a script.
@@ -42,9 +41,9 @@ pub fn read_script(alloc: Global, text: &[u8]) -> Result<Script, ReadFail>
     ensures script { IfOk result (λ s. script_of text.now ≡ Ok (said_by s)) }
     ensures fault { FaultOf result (script_of text.now) }
     ensures within { IfOk result (λ s.
-        EachIsWithin (pages_of s.setup.space) s.commands.list) }
+        AreCommandsWithin (pages_of s.setup.space) s.commands) }
     ensures work { IfOk result (λ s.
-        work_of s.setup.cap (map command_value s.commands.list) ≤ MAX_WORK) }
+        work_of s.setup.cap s.commands ≤ MAX_WORK) }
 {
     let mut lines = Lines::new(text);
     let Opening { seed, setup } = read_opening(alloc, &mut lines)?;

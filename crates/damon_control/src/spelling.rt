@@ -4,19 +4,18 @@ ghost use Rattle.std.specs.Fmt.{decimal};
 ghost use Rattle.damon_types.specs.Space.{pages_of};
 ghost use Rattle.live_commit.specs.Commit.{commit_value};
 ghost use Rattle.live_commit.specs.SetupView.{value_of};
-ghost use Rattle.line_text.specs.Address.{spelled_address};
-ghost use Rattle.damon_control.specs.Kept.{KeepsFront};
-ghost use Rattle.damon_control.specs.Spelling.{range_words, spelled_attrs, spelled_cap, spelled_range, spelled_seed, spelled_target, spelled_unit};
-ghost use Rattle.damon_control.specs.Text.{lines_text, number_lines};
+ghost use Rattle.script_lines.specs.Kept.{KeepsFront};
+ghost use Rattle.script_lines.specs.Spelling.{spelled_range, spelled_target};
+ghost use Rattle.script_lines.specs.Lines.{lines_text};
+ghost use Rattle.damon_control.specs.Text.{number_lines};
 ghost use Rattle.damon_control.specs.WriteBack.{SpellsRanges};
-ghost use Rattle.damon_control.specs.Written.{change_text, commit_text, part_given, part_text, ranges_given, setup_text, spec_of};
-ghost use Rattle.damon_control.specs.declared.commit.Part.TheVariants.{Attrs as attrs_part, Slot as slot_part, Metric as metric_part};
+ghost use Rattle.script_lines.specs.WrittenLine.{change_text};
+ghost use Rattle.damon_control.specs.Written.{commit_text, part_given, part_text, ranges_given, setup_text, spec_of};
+ghost use Rattle.script_lines.specs.declared.part.Part.TheVariants.{Attrs as attrs_part, Slot as slot_part, Metric as metric_part};
 
-use crate::written::{end_line, write_address, write_change, write_field};
-use damon_types::{
-    Attrs, PAGE_SIZE, Range, RangeSpec, RangeSpecs, Ranges, SlotChange, Space, Target,
-};
+use damon_types::{Attrs, PAGE_SIZE, Range, RangeSpec, RangeSpecs, Ranges, SlotChange, Space};
 use live_commit::{Commit, Setup};
+use script_lines::{write_attrs, write_change_line, write_number_line, write_range, write_target};
 use std::alloc::{AllocError, Global};
 
 /// Appends the lines of a seed and a setup, as they stand in a script between its first line and
@@ -109,30 +108,6 @@ fn write_numbers(
     write_attrs(out, attrs)
 }
 
-// Appends a line of a word and a number.
-#[tactic(auto, using(crate::proofs::Appending::appends))]
-fn write_number_line(out: &mut Vec<u8>, name: &[u8], value: u64) -> Result<(), AllocError>
-    ensures ok { OnOk result (out.new.items
-        ≡ out.old.items ++ lines_text ((name.now ++ decimal value) ∷ [])) }
-    ensures kept { KeepsFront out.old.items out.new.items }
-{
-    write_field(out, name, value)?;
-    end_line(out)
-}
-
-// Appends `attrs MIN MAX AGGR`.
-#[tactic(auto, using(crate::proofs::Appending::appends))]
-fn write_attrs(out: &mut Vec<u8>, attrs: &Attrs) -> Result<(), AllocError>
-    ensures ok { OnOk result (out.new.items
-        ≡ out.old.items ++ lines_text (spelled_attrs attrs.now ∷ [])) }
-    ensures kept { KeepsFront out.old.items out.new.items }
-{
-    write_field(out, b"attrs ", u64::from(attrs.min))?;
-    write_field(out, b" ", u64::from(attrs.max))?;
-    write_field(out, b" ", u64::from(attrs.aggr))?;
-    end_line(out)
-}
-
 // Appends the lines of the targets.
 fn write_targets(out: &mut Vec<u8>, space: &Space) -> Result<(), AllocError>
     ensures ok { OnOk result (out.new.items
@@ -143,18 +118,6 @@ fn write_targets(out: &mut Vec<u8>, space: &Space) -> Result<(), AllocError>
         write_target(out, &space.target(index))?;
     }
     Ok(())
-}
-
-// Appends `target BASE PAGES`.
-#[tactic(auto, using(crate::proofs::Appending::appends))]
-fn write_target(out: &mut Vec<u8>, target: &Target) -> Result<(), AllocError>
-    ensures ok { OnOk result (out.new.items
-        ≡ out.old.items ++ lines_text (spelled_target target.now ∷ [])) }
-    ensures kept { KeepsFront out.old.items out.new.items }
-{
-    write_address(out, b"target ", target.base)?;
-    write_field(out, b" ", u64::from(target.pages))?;
-    end_line(out)
 }
 
 // Appends the lines of ranges of pages.
@@ -185,20 +148,6 @@ fn spec_of(space: &Space, range: Range) -> RangeSpec
     }
 }
 
-// Appends `range TARGET FROM TO CLASS`.
-#[tactic(auto, using(crate::proofs::Appending::appends))]
-fn write_range(out: &mut Vec<u8>, range: &RangeSpec) -> Result<(), AllocError>
-    ensures ok { OnOk result (out.new.items
-        ≡ out.old.items ++ lines_text (spelled_range range.now ∷ [])) }
-    ensures kept { KeepsFront out.old.items out.new.items }
-{
-    write_field(out, b"range ", u64::from(range.target))?;
-    write_address(out, b" ", range.from)?;
-    write_address(out, b" ", range.to)?;
-    write_field(out, b" ", u64::from(range.class))?;
-    end_line(out)
-}
-
 // Appends the lines of slot changes.
 fn write_changes(out: &mut Vec<u8>, changes: &[SlotChange]) -> Result<(), AllocError>
     ensures ok { OnOk result (out.new.items
@@ -209,17 +158,6 @@ fn write_changes(out: &mut Vec<u8>, changes: &[SlotChange]) -> Result<(), AllocE
         write_change_line(out, change)?;
     }
     Ok(())
-}
-
-// Appends the line of a slot change.
-#[tactic(auto, using(crate::proofs::Appending::appends))]
-fn write_change_line(out: &mut Vec<u8>, change: &SlotChange) -> Result<(), AllocError>
-    ensures ok { OnOk result (out.new.items
-        ≡ out.old.items ++ lines_text (change_text change.now ∷ [])) }
-    ensures kept { KeepsFront out.old.items out.new.items }
-{
-    write_change(out, change)?;
-    end_line(out)
 }
 
 // Appends the lines of the parts of a commit.

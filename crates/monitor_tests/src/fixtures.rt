@@ -2,6 +2,7 @@
 use damon_core::Monitor;
 use damon_types::{Attrs, RangeSpec, Space, Target};
 use live_commit::{Phase, Setup};
+use rand_pcg::Lcg64Xsh32;
 use std::alloc::Global;
 use std::process::Abort;
 use std::test::Fail;
@@ -28,13 +29,13 @@ pub fn three_pages(alloc: Global) -> Result<Setup, Fail> {
     Ok(setup)
 }
 
-// Prepares a pass of three rows.
+// Prepares a pass of three rows. A row has one page, so any random word picks it.
 fn prepare(rt: &impl Abort, monitor: &mut Monitor) {
     let Phase::Idle = monitor.phase() else {
         panic!(rt; "no pass comes next");
     };
     assert_eq!(rt; monitor.rows().len(), 3);
-    monitor.prepare(&[0, 0, 0]);
+    monitor.prepare(&mut Lcg64Xsh32::new(1, 1));
 }
 
 // Clears the next pick, whose page is this one.

@@ -26,7 +26,7 @@ use Rattle.sampler.specs.Draws.{drawn}
 use Rattle.damon_world.specs.Moment.{Moment, along, event_in, moved, next_event}
 use Rattle.damon_world.specs.Plays.{Reached-along, along-state}
 use Rattle.damon_world.specs.Touches.{touches}
-use Rattle.damon_control.specs.Command.{CommandValue, Touch, Sweep, Step, Arm, Finish, Show, Commit}
+use Rattle.script_lines.specs.Command.{CommandValue, Touch, Sweep, Step, Arm, Finish, Show, Commit}
 use Rattle.script_run.specs.Part.{Part}
 use Rattle.script_run.specs.Part as part
 use Rattle.script_run.specs.declared.part.Until.{Until}
@@ -34,7 +34,7 @@ use Rattle.script_run.specs.BoundAlong.{EachScriptIsBound}
 use Rattle.script_run.specs.Choices.{EachChoiceIsBest}
 use Rattle.script_run.specs.Kept.{ArePartsWithin, IsPartWithin}
 use Rattle.script_run.specs.Parts.{part_of, parts_of, stops_at}
-use Rattle.damon_control.specs.Limits.{AreCommandsWithin, IsCommandWithin}
+use Rattle.script_lines.specs.Limits.{AreCommandsWithin, IsCommandWithin}
 use Rattle.script_run.specs.Unfold.{part_events, parts_events, start, steps_until, unfold_script}
 use Rattle.script_run.specs.Way.{Reached-start}
 use Rattle.script_run.proofs.Hits.{AllByHit-prefix, by_hit-parts}
@@ -162,7 +162,7 @@ part_within cap pages Finish within = tt
 part_within cap pages Show within = tt
 part_within cap pages (Commit parts) within = tt
 
-parts_within : (cap pages : ℕ) (cs : List CommandValue) → AreCommandsWithin pages cs → ArePartsWithin pages (parts_of cap cs)
+pub parts_within : (cap pages : ℕ) (cs : List CommandValue) → AreCommandsWithin pages cs → ArePartsWithin pages (parts_of cap cs)
 parts_within cap pages [] within = tt
 parts_within cap pages (c ∷ cs) within = (part_within cap pages c within.0, parts_within cap pages cs within.1)
 

@@ -1,12 +1,11 @@
 -- The next command of a player as a part.
-use Rattle.std.proofs.Common.{◌≡◌, ℕ, ◌+◌, ◌<◌, ◌≤◌, suc, List, ◌∷◌, length, drop, map, Some, add-one, sym, ap, ◌∙◌, subst, arith}
+use Rattle.std.proofs.Common.{◌≡◌, ℕ, ◌+◌, ◌<◌, ◌≤◌, suc, List, ◌∷◌, length, drop, Some, add-one, sym, ap, ◌∙◌, subst, arith}
 use Rattle.std.specs.Prelude.{slice_get}
 use Rattle.std.proofs.Math.Seq.{drop-cons}
 use Rattle.std.proofs.lemmas.Option.{get_or_from_slice_get}
 use Rattle.std.proofs.lemmas.List.Sums.{sum_by-cons}
 use Rattle.damon_types.specs.Space.{pages_of}
-use Rattle.damon_control.specs.declared.script.Command.{Command}
-use Rattle.damon_control.specs.Command.{command_value}
+use Rattle.script_lines.specs.Command.{CommandValue}
 use Rattle.damon_world.specs.Stands.{WorldView}
 use Rattle.script_run.specs.Part.{Part}
 use Rattle.script_run.specs.Part as part
@@ -15,23 +14,23 @@ use Rattle.script_run.specs.Player.{left_in, left_of}
 use Rattle.script_run.specs.Parts.{part_of, parts_of}
 
 -- the commands that are left begin with the next one, as a part
-pub next_part : (cap i : ℕ) (cs : List Command) (c : Command) (q : Part) → i < length cs → slice_get cs i ≡ Some c → q ≡ part_of cap (command_value c) → parts_of cap (map command_value (drop i cs)) ≡ q ∷ parts_of cap (map command_value (drop (i + 1) cs))
+pub next_part : (cap i : ℕ) (cs : List CommandValue) (c : CommandValue) (q : Part) → i < length cs → slice_get cs i ≡ Some c → q ≡ part_of cap c → parts_of cap (drop i cs) ≡ q ∷ parts_of cap (drop (i + 1) cs)
 next_part cap i cs c q here is value =
-    ap (λ ds. parts_of cap (map command_value ds)) (drop-cons cs i c here)
-    ∙ ap (λ d. part_of cap (command_value d) ∷ parts_of cap (map command_value (drop (suc i) cs))) (get_or_from_slice_get cs i c c is)
-    ∙ ap (λ n. part_of cap (command_value c) ∷ parts_of cap (map command_value (drop n cs))) (sym (add-one i))
-    ∙ ap (λ p. p ∷ parts_of cap (map command_value (drop (i + 1) cs))) (sym value)
+    ap (parts_of cap) (drop-cons cs i c here)
+    ∙ ap (λ d. part_of cap d ∷ parts_of cap (drop (suc i) cs)) (get_or_from_slice_get cs i c c is)
+    ∙ ap (λ n. part_of cap c ∷ parts_of cap (drop n cs)) (sym (add-one i))
+    ∙ ap (λ p. p ∷ parts_of cap (drop (i + 1) cs)) (sym value)
 
 pub less_left : (p : Part) (ps : List Part) → left_in (p ∷ ps) ≡ 1 + left_of p + left_in ps
 less_left p ps = sum_by-cons (λ q. 1 + left_of q) p ps
 
 -- what a player keeps holds once the next command is the part under way
-pub player-next : {R : Type 0} (w : WorldView R) (p q : Part) (cap i : ℕ) (cs : List Command) (c : Command) → i < length cs → slice_get cs i ≡ Some c → q ≡ part_of cap (command_value c) → IsPlayer w (p ∷ parts_of cap (map command_value (drop i cs))) → IsPlayer w (q ∷ parts_of cap (map command_value (drop (i + 1) cs)))
+pub player-next : {R : Type 0} (w : WorldView R) (p q : Part) (cap i : ℕ) (cs : List CommandValue) (c : CommandValue) → i < length cs → slice_get cs i ≡ Some c → q ≡ part_of cap c → IsPlayer w (p ∷ parts_of cap (drop i cs)) → IsPlayer w (q ∷ parts_of cap (drop (i + 1) cs))
 player-next w p q cap i cs c here get value kept =
     let is = next_part cap i cs c q here get value in
     record {
       within = subst (ArePartsWithin (pages_of w.monitor.core.space)) is kept.within.1;
-      work = omega (arith, kept.work, less_left p (parts_of cap (map command_value (drop i cs))), ap left_in is);
+      work = omega (arith, kept.work, less_left p (parts_of cap (drop i cs)), ap left_in is);
     }
 
 -- the same once the part under way is done, at one event that changes neither the space nor the ticks

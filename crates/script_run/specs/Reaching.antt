@@ -4,7 +4,7 @@ use Rattle.live_commit.specs.declared.phase.Phase.{Phase}
 use Rattle.live_commit.specs.declared.phase.Phase.TheVariants.{Idle, Armed}
 use Rattle.damon_core.specs.Reached.{Reached}
 use Rattle.damon_world.specs.Moment.{Moment, along}
-use Rattle.damon_control.specs.Command.{CommandValue, Arm, Finish}
+use Rattle.script_lines.specs.Command.{CommandValue, Arm, Finish}
 use Rattle.script_run.specs.Parts.{part_of}
 use Rattle.script_run.specs.Unfold.{part_events}
 

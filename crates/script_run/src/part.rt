@@ -1,5 +1,5 @@
 ghost use Rattle.std.specs.Prelude.{◌≡◌};
-ghost use Rattle.damon_control.specs.Command.{command_value};
+ghost use Rattle.script_lines.specs.Command.{lent_value};
 ghost use Rattle.script_run.specs.Kept.{is_done};
 ghost use Rattle.script_run.specs.Part.{part_value, start_value};
 ghost use Rattle.script_run.specs.Parts.{part_of, stops_at};
@@ -43,23 +43,20 @@ pub enum Start<'a> {
 }
 
 // What a command begins with, under a cap.
-pub fn start_of(cap: u32, command: &Command) -> Start<'_>
-    ensures { start_value result ≡ part_of cap (command_value command.now) }
+pub fn start_of<'a>(cap: u32, command: Command<&'a Commit>) -> Start<'a>
+    ensures { start_value result ≡ part_of cap (lent_value command.entry) }
 {
     // The most steps that the arming or the finishing of a pass takes.
     let pass_limit = 2 * u64::from(cap) + 3;
     let part = match command {
-        Command::Touch { page } => Part::Touches {
-            page: *page,
-            count: 1,
-        },
+        Command::Touch { page } => Part::Touches { page, count: 1 },
         Command::Sweep { from, to } => Part::Touches {
-            page: *from,
-            count: to.saturating_sub(*from),
+            page: from,
+            count: to.saturating_sub(from),
         },
         Command::Step { times } => Part::Steps {
             until: Until::Count,
-            most: u64::from(*times),
+            most: u64::from(times),
         },
         Command::Arm => Part::Steps {
             until: Until::Armed,

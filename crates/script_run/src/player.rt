@@ -1,9 +1,9 @@
-ghost use Rattle.std.specs.Prelude.{◌≡◌, ◌≢◌, ◌+◌, ◌<◌, ◌≤◌, ◌^◌, ◌∷◌, ◌++◌, [], Ok, Some, IfOk, IfSome, OnErr, OnOk, true, false, length, map, ℕ, List, vec_len};
+ghost use Rattle.std.specs.Prelude.{◌≡◌, ◌≢◌, ◌+◌, ◌<◌, ◌≤◌, ◌^◌, ◌∷◌, ◌++◌, [], Ok, Some, IfOk, IfSome, OnErr, OnOk, true, false, length, ℕ, List, vec_len};
 ghost use Rattle.rand_core.specs.Steps.{stream_of, steps_u32};
 ghost use Rattle.rand_pcg.specs.Pcg.{pcg32};
 ghost use Rattle.damon_types.specs.Space.{pages_of};
-ghost use Rattle.damon_control.specs.Command.{Touch as TouchCommand, command_value, work_of};
-ghost use Rattle.damon_control.specs.Limits.{EachIsWithin};
+ghost use Rattle.script_lines.specs.Command.{Touch as TouchCommand, lent_value, work_of};
+ghost use Rattle.script_lines.specs.Limits.{AreCommandsWithin};
 ghost use Rattle.damon_control.specs.ScriptView.{said_by};
 ghost use Rattle.damon_core.specs.Commit.{commit_answer};
 ghost use Rattle.damon_core.specs.Event.{commit as commit_event};
@@ -57,8 +57,7 @@ pub struct Player<R: Rng> {
 }
 
 impl<R: Rng> Model for Player<R> {
-    ghost use Rattle.std.specs.Prelude.{◌∷◌, drop, map};
-    ghost use Rattle.damon_control.specs.Command.{command_value};
+    ghost use Rattle.std.specs.Prelude.{◌∷◌, drop};
     ghost use Rattle.script_run.specs.Kept.{IsPlayer};
     ghost use Rattle.script_run.specs.Part.{part_value};
     ghost use Rattle.script_run.specs.Parts.{parts_of};
@@ -70,12 +69,12 @@ impl<R: Rng> Model for Player<R> {
       world = p.world;
       form = p.form;
       part = part_value p.part;
-      later = parts_of p.cap (map command_value (drop p.begun p.commands.list));
+      later = parts_of p.cap (drop p.begun p.commands);
     } };
 
     ghost invariant = { λ p.
         IsPlayer p.world
-        (part_value p.part ∷ parts_of p.cap (map command_value (drop p.begun p.commands.list))) };
+        (part_value p.part ∷ parts_of p.cap (drop p.begun p.commands)) };
 }
 
 impl<R: Rng + Drop> Player<R> {
@@ -277,11 +276,11 @@ impl<R: Rng + Drop> Player<R> {
 }
 
 // The page that a command touches, if it is a touch of a single page.
-fn touched_page(command: &Command) -> Option<u32>
-    ensures { IfSome result (λ page. command_value command.now ≡ TouchCommand page) }
+fn touched_page(command: Command<&Commit>) -> Option<u32>
+    ensures { IfSome result (λ page. lent_value command.entry ≡ TouchCommand page) }
 {
     match command {
-        Command::Touch { page } => Some(*page),
+        Command::Touch { page } => Some(page),
         _ => None,
     }
 }
@@ -332,8 +331,8 @@ pub fn open_player(
     script: Script,
     form: Form,
 ) -> Result<Player<Lcg64Xsh32>, AllocError>
-    requires within { EachIsWithin (pages_of script.setup.space) script.commands.list }
-    requires work { work_of script.setup.cap (map command_value script.commands.list) ≤ MAX_WORK }
+    requires within { AreCommandsWithin (pages_of script.setup.space) script.commands }
+    requires work { work_of script.setup.cap script.commands ≤ MAX_WORK }
     ensures { IfOk result (λ p.
         IsOnItsWay (stream_of (steps_u32 pcg32)) (said_by script) form p []) }
 {
@@ -357,8 +356,8 @@ pub fn open_player(
 /// A player after the last event of a script, whose text is not kept. The pages of the commands are pages
 /// of the script's space, and their work is at most [`MAX_WORK`]. Takes memory.
 pub fn play_to_end(alloc: Global, script: Script) -> Result<Player<Lcg64Xsh32>, AllocError>
-    requires within { EachIsWithin (pages_of script.setup.space) script.commands.list }
-    requires work { work_of script.setup.cap (map command_value script.commands.list) ≤ MAX_WORK }
+    requires within { AreCommandsWithin (pages_of script.setup.space) script.commands }
+    requires work { work_of script.setup.cap script.commands ≤ MAX_WORK }
     ensures { IfOk result (λ p. Stands p.world.monitor (last_state (said_by script))) }
 {
     let mut player = open_player(alloc, script, Form::Text)?;

@@ -294,8 +294,8 @@ fn commands_are_read(rt: HostRuntime) -> Result<(), Fail> {
         b"sweep 0 0x11000 0x13000\narm\nfinish\ncommit\nrange 0 0x10000 0x12000 9\ndrop 5\nmetric 300\napply";
     let script = script_of(&rt, &text_with(rt.alloc(), 10, body)?);
     let mut said = String::new(rt.alloc());
-    for command in script.commands.as_slice() {
-        said.push(match command {
+    for index in 0..script.commands.len() {
+        said.push(match script.commands.get(index) {
             Command::Touch { .. } => 't',
             Command::Sweep { from: 1, to: 3 } => 'w',
             Command::Sweep { .. } => '?',

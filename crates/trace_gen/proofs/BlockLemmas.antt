@@ -1,11 +1,8 @@
 -- The commands of generated scripts: their number, their limits and their work.
-use Rattle.std.proofs.Common.{◌≡◌, ℕ, zero, suc, ◌+◌, ◌*◌, ◌/◌, ◌%◌, ◌^◌, ◌<◌, ◌≤◌, List, [], ◌∷◌, ◌++◌, length, map, refl, sym, ap, ◌∙◌, arith, add-one, append-nil, append_assoc, length-append}
-use Rattle.std.proofs.lemmas.List.{length-map, map-append}
+use Rattle.std.proofs.Common.{◌≡◌, ℕ, zero, suc, ◌+◌, ◌*◌, ◌/◌, ◌%◌, ◌^◌, ◌<◌, ◌≤◌, List, [], ◌∷◌, ◌++◌, length, refl, sym, ap, ◌∙◌, arith, add-one, append-nil, append_assoc, length-append}
 use Rattle.std.proofs.lemmas.List.Sums.{sum_by-append, sum_by-cons}
-use Rattle.damon_control.specs.declared.script.Command.{Command}
-use Rattle.damon_control.specs.declared.script.Command.TheVariants.{Touch as TouchCommand}
-use Rattle.damon_control.specs.Command.{Arm, CommandValue, Finish, Sweep, Touch, command_value, weight, work_of}
-use Rattle.damon_control.specs.Limits.{AreCommandsWithin}
+use Rattle.script_lines.specs.Command.{Arm, CommandValue, Finish, Sweep, Touch, weight, work_of}
+use Rattle.script_lines.specs.Limits.{AreCommandsWithin}
 use Rattle.trace_gen.specs.declared.access.Access.{Access}
 use Rattle.trace_gen.specs.declared.access.Access.TheVariants.{Sequential, Stride, HotSpot, Phases}
 use Rattle.trace_gen.specs.Gen.{block, blocks, strides, touches}
@@ -13,28 +10,27 @@ use Rattle.trace_gen.specs.Gen.{block, blocks, strides, touches}
 -- ---- what a loop appends
 
 module _ (access : Access) (zone : ℕ) where
-  pub blocks_none : (cs : List Command) → cs ≡ [] → map command_value cs ≡ blocks access zone 0
+  pub blocks_none : (cs : List CommandValue) → cs ≡ [] → cs ≡ blocks access zone 0
   unfolding blocks
-  blocks_none cs none = ap (λ xs. map command_value xs) none
+  blocks_none cs none = none
 
-  pub blocks_more : (t : ℕ) (cs ds : List Command) → map command_value cs ≡ blocks access zone t → map command_value ds ≡ map command_value cs ++ block access zone t → map command_value ds ≡ blocks access zone (t + 1)
+  pub blocks_more : (t : ℕ) (cs ds : List CommandValue) → cs ≡ blocks access zone t → ds ≡ cs ++ block access zone t → ds ≡ blocks access zone (t + 1)
   unfolding blocks
   blocks_more t cs ds before more = rw add-one (more ∙ ap (λ xs. xs ++ block access zone t) before)
 
-module _ (t : ℕ) (cs : List Command) where
-  pub strides_none : map command_value cs ≡ map command_value cs ++ strides t 0
+module _ (t : ℕ) (cs : List CommandValue) where
+  pub strides_none : cs ≡ cs ++ strides t 0
   unfolding strides
-  strides_none = sym (append-nil (map command_value cs))
+  strides_none = sym (append-nil cs)
 
-  pub strides_more : (j page : ℕ) (ds es : List Command) → map command_value ds ≡ map command_value cs ++ strides t j → es ≡ ds ++ TouchCommand page ∷ [] → page ≡ (8 * j + t) % 1024 → map command_value es ≡ map command_value cs ++ strides t (j + 1)
+  pub strides_more : (j page : ℕ) (ds es : List CommandValue) → ds ≡ cs ++ strides t j → es ≡ ds ++ Touch page ∷ [] → page ≡ (8 * j + t) % 1024 → es ≡ cs ++ strides t (j + 1)
   unfolding strides
   strides_more j page ds es before one is =
       let touch : CommandValue = Touch ((8 * j + t) % 1024) in
-      rw add-one (ap (λ xs. map command_value xs) one
-      ∙ map-append command_value ds (TouchCommand page ∷ [])
+      rw add-one (one
       ∙ ap (λ xs. xs ++ Touch page ∷ []) before
-      ∙ ap (λ (p : ℕ). (map command_value cs ++ strides t j) ++ Touch p ∷ []) is
-      ∙ append_assoc (map command_value cs) (strides t j) (touch ∷ []))
+      ∙ ap (λ (p : ℕ). (cs ++ strides t j) ++ Touch p ∷ []) is
+      ∙ append_assoc cs (strides t j) (touch ∷ []))
 
 -- ---- their number
 
@@ -56,12 +52,12 @@ length_blocks access zone (suc t) =
     omega (arith, length-append (blocks access zone t) (block access zone t), length-append (touches access zone t) (Finish ∷ []), length-touches access zone t, length_blocks access zone t)
 
 -- one command more
-pub one_more : (cs ds : List Command) (c : Command) (before j : ℕ) → ds ≡ cs ++ c ∷ [] → length cs ≡ before + j → length ds ≡ before + (j + 1)
+pub one_more : (cs ds : List CommandValue) (c : CommandValue) (before j : ℕ) → ds ≡ cs ++ c ∷ [] → length cs ≡ before + j → length ds ≡ before + (j + 1)
 one_more cs ds c before j is count = omega (arith, ap length is, length-append cs (c ∷ []), count)
 
 -- commands that say the first t blocks are few
-pub few_blocks : (access : Access) (zone t : ℕ) (cs : List Command) → map command_value cs ≡ blocks access zone t → t ≤ 2000 → length cs ≤ 2 ^ 31
-few_blocks access zone t cs say most = omega (arith, ap length say, length-map cs command_value, length_blocks access zone t, most)
+pub few_blocks : (access : Access) (zone t : ℕ) (cs : List CommandValue) → cs ≡ blocks access zone t → t ≤ 2000 → length cs ≤ 2 ^ 31
+few_blocks access zone t cs say most = omega (arith, ap length say, length_blocks access zone t, most)
 
 -- ---- their limits
 

@@ -1,7 +1,7 @@
 -- The definitions on examples.
 use Rattle.std.proofs.Common.{◌≡◌, [], ◌∷◌, codes, Ok, Some, refl}
-use Rattle.damon_control.specs.Command.{Arm, Finish, Sweep, Touch}
-use Rattle.damon_control.specs.Head.{scheme_line, target_line}
+use Rattle.script_lines.specs.Command.{Arm, Finish, Sweep, Touch}
+use Rattle.script_lines.specs.Head.{scheme_line, target_line}
 use Rattle.trace_gen.specs.declared.access.Access.TheVariants.{Sequential, Stride, HotSpot, Phases}
 use Rattle.trace_gen.specs.Gen.{access_of, block, blocks, gen_scheme, strides, touches, zone_of}
 

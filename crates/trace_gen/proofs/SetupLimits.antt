@@ -1,17 +1,15 @@
 -- The setup of generated scripts is within its limits, and so is each generated script.
-use Rattle.std.proofs.Common.{◌≡◌, ℕ, ◌≤◌, [], ◌∷◌, List, map, refl, sym, ap, subst, arith}
+use Rattle.std.proofs.Common.{◌≡◌, ℕ, ◌≤◌, List, refl, sym, ap, subst, arith}
 use Rattle.std.specs.Prelude.{IsSome}
 use Rattle.std.proofs.lemmas.List.Elements.{All-from_recursion}
-use Rattle.std.specs.List.{AllByRecursion}
 use Rattle.damon_types.specs.declared.range.Range.{Range}
 use Rattle.damon_types.specs.declared.scheme.SlotChange.{SlotChange}
 use Rattle.damon_types.specs.Ranges.{InOrder}
 use Rattle.damon_types.specs.Space.{IsSpace, IsTarget, pages_of}
 use Rattle.damon_types.specs.Within.{LiesInTarget}
 use Rattle.live_commit.specs.Setup.{IsSetup, SetupValue}
-use Rattle.damon_control.specs.declared.script.Command.{Command}
-use Rattle.damon_control.specs.Command.{CommandValue, command_value, work_of}
-use Rattle.damon_control.specs.Limits.{AreCommandsWithin, EachIsWithin, IsCommandWithin}
+use Rattle.script_lines.specs.Command.{CommandValue, work_of}
+use Rattle.script_lines.specs.Limits.{AreCommandsWithin}
 use Rattle.damon_control.specs.Sound.{IsSound}
 use Rattle.trace_gen.specs.Gen.{access_of, blocks, gen, gen_setup, zone_of}
 use Rattle.trace_gen.proofs.BlockLemmas.{blocks_within, work-blocks}
@@ -58,19 +56,14 @@ gen-IsSound n =
 
 -- ---- the commands of the program
 
-each_by_value : (P : CommandValue → Type 0) (cs : List Command) → AllByRecursion P (map command_value cs) → AllByRecursion (λ c. P (command_value c)) cs
-each_by_value P [] all = tt
-each_by_value P (c ∷ cs) all = (all.0, each_by_value P cs all.1)
-
-module _ (n : ℕ) (v : SetupValue) (cs : List Command) (is : v ≡ gen_setup) (say : map command_value cs ≡ blocks (access_of n) (zone_of n) 2000) where
-  pub gen_within : EachIsWithin (pages_of v.space) cs
+module _ (n : ℕ) (v : SetupValue) (cs : List CommandValue) (is : v ≡ gen_setup) (say : cs ≡ blocks (access_of n) (zone_of n) 2000) where
+  pub gen_within : AreCommandsWithin (pages_of v.space) cs
   gen_within =
       let within = subst (AreCommandsWithin 1024) (sym say) (blocks_within (access_of n) (zone_of n) 2000 (omega arith)) in
-      let all : EachIsWithin 1024 cs = All-from_recursion (λ c. IsCommandWithin 1024 (command_value c)) cs (each_by_value (IsCommandWithin 1024) cs within) in
-      subst (λ (v : SetupValue). EachIsWithin (pages_of v.space) cs) (sym is) all
+      subst (λ (v : SetupValue). AreCommandsWithin (pages_of v.space) cs) (sym is) within
 
-  pub gen_work : work_of v.cap (map command_value cs) ≤ 16777216
+  pub gen_work : work_of v.cap cs ≤ 16777216
   gen_work =
       let work = work-blocks (access_of n) (zone_of n) 2000 in
-      let most : work_of 100 (map command_value cs) ≤ 16777216 = omega (arith, work, ap (work_of 100) say) in
-      subst (λ (v : SetupValue). work_of v.cap (map command_value cs) ≤ 16777216) (sym is) most
+      let most : work_of 100 cs ≤ 16777216 = omega (arith, work, ap (work_of 100) say) in
+      subst (λ (v : SetupValue). work_of v.cap cs ≤ 16777216) (sym is) most

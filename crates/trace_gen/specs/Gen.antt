@@ -5,7 +5,7 @@ use Rattle.damon_types.specs.declared.scheme.Prefer.TheVariants.{Cold}
 use Rattle.damon_types.specs.declared.scheme.Scheme.{Scheme}
 use Rattle.damon_types.specs.declared.scheme.Span.{Span}
 use Rattle.live_commit.specs.Setup.{SetupValue}
-use Rattle.damon_control.specs.Command.{Arm, CommandValue, Finish, Sweep, Touch}
+use Rattle.script_lines.specs.Command.{Arm, CommandValue, Finish, Sweep, Touch}
 use Rattle.damon_control.specs.Script.{ScriptValue}
 use Rattle.trace_gen.specs.declared.access.Access.{Access}
 use Rattle.trace_gen.specs.declared.access.Access.TheVariants.{Sequential, Stride, HotSpot, Phases}

@@ -1,7 +1,7 @@
-ghost use Rattle.std.specs.Prelude.{◌≡◌, ◌≤◌, map, IfOk};
+ghost use Rattle.std.specs.Prelude.{◌≡◌, ◌≤◌, IfOk};
 ghost use Rattle.damon_types.specs.Space.{pages_of};
-ghost use Rattle.damon_control.specs.Command.{command_value, work_of};
-ghost use Rattle.damon_control.specs.Limits.{EachIsWithin};
+ghost use Rattle.script_lines.specs.Command.{work_of};
+ghost use Rattle.script_lines.specs.Limits.{AreCommandsWithin};
 ghost use Rattle.damon_control.specs.ScriptView.{said_by};
 ghost use Rattle.trace_gen.specs.Gen.{gen};
 
@@ -19,9 +19,9 @@ pub fn generate(alloc: Global, n: u64) -> Result<Script, AllocError>
 
     // What the player of a script needs.
     ensures within { IfOk result (λ s.
-        EachIsWithin (pages_of s.setup.space) s.commands.list) }
+        AreCommandsWithin (pages_of s.setup.space) s.commands) }
     ensures work { IfOk result (λ s.
-        work_of s.setup.cap (map command_value s.commands.list) ≤ MAX_WORK) }
+        work_of s.setup.cap s.commands ≤ MAX_WORK) }
 {
     let setup = make_setup(alloc)?;
     let commands = make_commands(alloc, n)?;

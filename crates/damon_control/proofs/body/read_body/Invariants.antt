@@ -1,11 +1,11 @@
-use Rattle.std.proofs.Common.{◌≡◌, ℕ, ◌≤◌, length, map}
+use Rattle.std.proofs.Common.{◌≡◌, ℕ, ◌≤◌, length}
 use Rattle.damon_types.specs.Space.{pages_of}
 use Rattle.live_commit.specs.SetupView.{value_of}
 use Rattle.damon_control.specs.declared.grammar.Grammar.TheVariants.{OfScript}
 use Rattle.damon_control.specs.declared.script.TheConstants.{MAX_WORK}
-use Rattle.damon_control.specs.Command.{command_value, work_of}
+use Rattle.script_lines.specs.Command.{work_of}
 use Rattle.damon_control.specs.BodyLine.{body_at}
-use Rattle.damon_control.specs.Limits.{EachIsWithin}
+use Rattle.script_lines.specs.Limits.{AreCommandsWithin}
 use Rattle.damon_control.specs.Left.{IsShort, reads_left}
 use Rattle.damon_control.specs.Script.{InBody, begun}
 use Rattle.damon_control.proofs.body.read_body.Given as goal
@@ -13,10 +13,10 @@ use Rattle.damon_control.proofs.body.read_body.Given as goal
 abbrev pub invariant-lines : goal.invariant-lines
 invariant-lines l = record {
   said : (seed : ℕ) → reads_left OfScript (InBody (begun seed (value_of l.setup))) l.fn.lines
-      ≡ reads_left OfScript (InBody (body_at seed (value_of l.setup) l.commands.list l.work)) l.lines;
-  within : EachIsWithin (pages_of l.setup.space) l.commands.list;
-  few : length l.commands.list ≤ l.lines.taken;
-  sum : l.work ≡ work_of l.setup.cap (map command_value l.commands.list);
+      ≡ reads_left OfScript (InBody (body_at seed (value_of l.setup) l.commands l.work)) l.lines;
+  within : AreCommandsWithin (pages_of l.setup.space) l.commands;
+  few : length l.commands ≤ l.lines.taken;
+  sum : l.work ≡ work_of l.setup.cap l.commands;
   most : l.work ≤ MAX_WORK;
   small : IsShort l.lines;
 }

@@ -2,13 +2,13 @@ use Rattle.std.proofs.Common.{◌≡◌, ◌∙◌, ◌||◌, ◌∷◌, [], ◌
 use Rattle.damon_control.specs.declared.grammar.Grammar.TheVariants.{OfLive}
 use Rattle.live_commit.specs.declared.commit.Commit.{Commit}
 use Rattle.live_commit.specs.Commit.{commit_value}
-use Rattle.damon_control.specs.Body.{no_commit}
+use Rattle.script_lines.specs.Body.{no_commit}
 use Rattle.damon_control.specs.Left.{reads_left}
 use Rattle.damon_control.specs.Live.{CommitCall, ShowCall}
 use Rattle.damon_control.specs.LiveView.{reads_call, with_controllers}
-use Rattle.damon_control.specs.Refusal.{◌>>=◌}
+use Rattle.script_lines.specs.Refusal.{◌>>=◌}
 use Rattle.damon_control.specs.Script.{InBody, InCommit, at}
-use Rattle.damon_control.specs.Words.{alone, begins_with}
+use Rattle.script_lines.specs.Words.{alone, begins_with}
 use Rattle.damon_control.proofs.Leads.{at_ok}
 use Rattle.damon_control.proofs.LiveLemmas.{call_read, commit_after, show_after, taken_alone}
 use Rattle.damon_control.proofs.calls.take_call.Goals as goal

@@ -1,7 +1,7 @@
 use Rattle.std.proofs.Common.{◌≡◌, ◌≤◌, IfSome, length}
 use Rattle.live_commit.specs.Commit.{commit_value}
 use Rattle.damon_control.specs.declared.grammar.Grammar.{Grammar}
-use Rattle.damon_control.specs.Body.{no_commit}
+use Rattle.script_lines.specs.Body.{no_commit}
 use Rattle.damon_control.specs.Left.{IsShort, reads_left}
 use Rattle.damon_control.specs.Script.{InCommit, Within}
 use Rattle.damon_control.proofs.commit.read_commit.Given as goal

@@ -4,11 +4,11 @@ use Rattle.damon_control.proofs.laws.live_texts_are_exactly_read.Goals as goal
 
 pub returns : goal.returns
 returns c =
-    let words = c.words_have_laws.ensures.laws in
+    let lines = c.lines_have_laws.ensures.laws in
     let ranges = c.next_decides.ensures.next in
     record {
       texts = λ text v. (
-        live_of-IsLiveText (record { words = words; ranges = ranges; slots = c.slots_are_checked_in_turn.ensures.next }) text v,
-        IsLiveText-live_of (record { lines = c.spelled_lines_are_read.ensures.lines; one_more = ranges; keeps_fault = c.fault_stays.ensures.first; apart = words.pieces }) words text v,
+        live_of-IsLiveText (record { lines = lines; ranges = ranges; slots = c.slots_are_checked_in_turn.ensures.next }) text v,
+        IsLiveText-live_of (record { lines = lines.back; one_more = ranges; keeps_fault = c.fault_stays.ensures.first; apart = lines.apart }) text v,
       );
     }

@@ -3,12 +3,12 @@ use Rattle.damon_control.proofs.laws.setups_are_read_back.Goals as goal
 
 pub returns : goal.returns
 returns c =
-    let words = c.words_have_laws.ensures.laws in
+    let lines = c.lines_have_laws.ensures.laws in
     record {
       back = setup_read_back (record {
-        lines = c.spelled_lines_are_read.ensures.lines;
+        lines = lines.back;
         one_more = c.next_decides.ensures.next;
         keeps_fault = c.fault_stays.ensures.first;
-        apart = words.pieces;
-      }) words.parts;
+        apart = lines.apart;
+      }) c.written_changes_are_read_back.ensures.changes lines.together;
     }

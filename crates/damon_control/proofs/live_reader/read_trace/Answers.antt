@@ -4,7 +4,8 @@ use Rattle.std.proofs.lemmas.List.FromFn.{length-range_with_len}
 use Rattle.damon_types.specs.Space.{pages_of}
 use Rattle.damon_control.specs.declared.grammar.Grammar.TheVariants.{OfLive}
 use Rattle.damon_control.specs.Left.{reads_left}
-use Rattle.damon_control.specs.LiveView.{page_list, with_workers}
+use Rattle.script_lines.specs.Blocks.{page_list}
+use Rattle.damon_control.specs.LiveView.{with_workers}
 use Rattle.damon_control.specs.Script.{InBody}
 use Rattle.damon_control.proofs.live_reader.read_trace.Goals as goal
 

@@ -2,7 +2,8 @@ use Rattle.std.proofs.Common.{◌≡◌, ◌≤◌, ◌<◌, [], length}
 use Rattle.std.specs.Prelude.{All}
 use Rattle.damon_types.specs.Space.{pages_of}
 use Rattle.damon_control.specs.declared.grammar.Grammar.TheVariants.{OfLive}
-use Rattle.damon_control.specs.declared.live.TheConstants.{MAX_TOUCHES, MAX_WORKERS}
+use Rattle.script_lines.specs.declared.blocks.TheConstants.{MAX_TOUCHES}
+use Rattle.damon_control.specs.declared.live.TheConstants.{MAX_WORKERS}
 use Rattle.damon_control.specs.Left.{IsShort, reads_left}
 use Rattle.damon_control.specs.Live.{LiveValue, count_all}
 use Rattle.damon_control.specs.LiveView.{NoTouch, traces_of, with_workers}

@@ -1,7 +1,7 @@
 use Rattle.std.proofs.Common.{◌≡◌, ◌++◌, drop, map}
-use Rattle.damon_control.specs.Kept.{KeepsFront}
-use Rattle.damon_control.specs.Text.{lines_text}
-use Rattle.damon_control.specs.Written.{change_text}
+use Rattle.script_lines.specs.Kept.{KeepsFront}
+use Rattle.script_lines.specs.Lines.{lines_text}
+use Rattle.script_lines.specs.WrittenLine.{change_text}
 use Rattle.damon_control.proofs.spelling.write_changes.Given as goal
 
 abbrev pub invariant-loop-change : goal.invariant-loop-change

@@ -1,7 +1,7 @@
 use Rattle.std.proofs.Common.{◌≡◌, ◌++◌, ap, sym, map}
 use Rattle.std.proofs.lemmas.Result.{IfOk-equal}
-use Rattle.damon_control.specs.Spelling.{spelled_range}
-use Rattle.damon_control.specs.Text.{lines_text}
+use Rattle.script_lines.specs.Spelling.{spelled_range}
+use Rattle.script_lines.specs.Lines.{lines_text}
 use Rattle.damon_control.specs.Written.{part_text, ranges_given}
 use Rattle.std.specs.Prelude.{option_map}
 use Rattle.damon_control.proofs.WrittenLemmas.{range_parts}

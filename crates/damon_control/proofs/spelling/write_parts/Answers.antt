@@ -1,8 +1,8 @@
 use Rattle.std.proofs.Common.{◌≡◌, ◌∙◌, ◌++◌, map}
 use Rattle.std.proofs.lemmas.Result.{IfOk-equal}
 use Rattle.live_commit.specs.Commit.{commit_value}
-use Rattle.damon_control.specs.declared.commit.Part.TheVariants.{Attrs, Slot, Metric}
-use Rattle.damon_control.specs.Text.{lines_text}
+use Rattle.script_lines.specs.declared.part.Part.TheVariants.{Attrs, Slot, Metric}
+use Rattle.script_lines.specs.Lines.{lines_text}
 use Rattle.damon_control.specs.Written.{commit_text, part_given, part_text, ranges_given}
 use Rattle.damon_control.proofs.WrittenLemmas.{parts_added}
 use Rattle.damon_control.proofs.spelling.write_parts.Goals as goal

@@ -1,8 +1,8 @@
 use Rattle.std.proofs.Common.{◌∙◌, ◌+◌, ◌++◌, ◌∷◌, [], ap, drop, map}
 use Rattle.damon_types.specs.declared.range.Range.{Range}
 use Rattle.damon_types.specs.declared.range.RangeSpec.{RangeSpec}
-use Rattle.damon_control.specs.Spelling.{spelled_range}
-use Rattle.damon_control.specs.Text.{lines_text}
+use Rattle.script_lines.specs.Spelling.{spelled_range}
+use Rattle.script_lines.specs.Lines.{lines_text}
 use Rattle.damon_control.specs.Written.{spec_of}
 use Rattle.damon_control.proofs.Appending.{keeps_through}
 use Rattle.damon_control.proofs.WrittenLemmas.{line_written}

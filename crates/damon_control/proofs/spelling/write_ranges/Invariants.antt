@@ -1,7 +1,7 @@
 use Rattle.std.proofs.Common.{◌≡◌, ◌++◌, drop, map}
-use Rattle.damon_control.specs.Kept.{KeepsFront}
-use Rattle.damon_control.specs.Spelling.{spelled_range}
-use Rattle.damon_control.specs.Text.{lines_text}
+use Rattle.script_lines.specs.Kept.{KeepsFront}
+use Rattle.script_lines.specs.Spelling.{spelled_range}
+use Rattle.script_lines.specs.Lines.{lines_text}
 use Rattle.damon_control.specs.Written.{spec_of}
 use Rattle.damon_control.proofs.spelling.write_ranges.Given as goal
 

@@ -1,19 +1,14 @@
-use Rattle.std.proofs.Common.{◌≡◌, ℕ, ◌+◌, ◌≤◌, List, [], ◌∷◌, length, map, refl, sym, ap, ◌∙◌, subst, arith}
-use Rattle.std.specs.List.{AllByRecursion}
-use Rattle.std.proofs.lemmas.List.Elements.{recursion_from_All}
+use Rattle.std.proofs.Common.{◌≡◌, ℕ, ◌+◌, ◌≤◌, List, [], ◌∷◌, length, refl, sym, ap, ◌∙◌, subst, arith}
 use Rattle.std.proofs.lemmas.List.Sums.{sum_by-cons}
-use Rattle.std.proofs.lemmas.List.{length-map}
 use Rattle.rand_core.specs.Steps.{stream_of, steps_u32}
 use Rattle.rand_pcg.specs.Pcg.{pcg32}
 use Rattle.damon_types.specs.Space.{pages_of}
-use Rattle.damon_control.specs.declared.script.Command.{Command}
-use Rattle.damon_control.specs.Command.{CommandValue, Touch, Sweep, Step, Arm, Finish, Show, Commit, command_value, weight, work_of}
-use Rattle.damon_control.specs.Limits.{IsCommandWithin}
+use Rattle.script_lines.specs.Command.{CommandValue, Touch, Sweep, Step, Arm, Finish, Show, Commit, weight, work_of}
 use Rattle.script_run.specs.Part as part
 use Rattle.script_run.specs.Kept.{ArePartsWithin}
 use Rattle.script_run.specs.Player.{left_in, left_of}
 use Rattle.script_run.specs.Parts.{part_of, parts_of}
-use Rattle.script_run.proofs.Fits.{part_within}
+use Rattle.script_run.proofs.Fits.{parts_within}
 use Rattle.script_run.proofs.player.open_player.Goals as goal
 
 left_of-part : (cap : ℕ) (c : CommandValue) → left_of (part_of cap c) ≤ weight cap c
@@ -30,22 +25,18 @@ left_in-parts cap [] = omega arith
 left_in-parts cap (c ∷ cs) =
     omega (arith, left_of-part cap c, left_in-parts cap cs, sum_by-cons (λ q. 1 + left_of q) (part_of cap c) (parts_of cap cs), sum_by-cons (weight cap) c cs)
 
-parts_within : (cap pages : ℕ) (cs : List Command) → AllByRecursion (λ c. IsCommandWithin pages (command_value c)) cs → ArePartsWithin pages (parts_of cap (map command_value cs))
-parts_within cap pages [] within = tt
-parts_within cap pages (c ∷ cs) within = (part_within cap pages (command_value c) within.0, parts_within cap pages cs within.1)
-
 pub invariant_of-result : goal.invariant_of-result
 invariant_of-result c =
     let s = c.args.script in
-    let cs = map command_value s.commands.list in
+    let cs = s.commands in
     let space : s.setup.space ≡ c.in_ok-world.world.monitor.core.space = ap (λ x. x.space) (sym c.in_ok-world.ensures.core) in
     record {
       within = (
         omega arith,
         subst (λ sp. ArePartsWithin (pages_of sp) (parts_of s.setup.cap cs)) space
-            (parts_within s.setup.cap (pages_of s.setup.space) s.commands.list (recursion_from_All (λ c. IsCommandWithin (pages_of s.setup.space) (command_value c)) s.commands.list c.requires.within)),
+            (parts_within s.setup.cap (pages_of s.setup.space) cs c.requires.within),
       );
-      work = omega (arith, left_in-parts s.setup.cap cs, sum_by-cons (λ q. 1 + left_of q) (part.Touches 0 0) (parts_of s.setup.cap cs), c.requires.work, length-map s.commands.list command_value, c.len-commands.ensures, c.len-commands.auto.0, ap (λ x. x.ticks) c.in_ok-world.ensures.core);
+      work = omega (arith, left_in-parts s.setup.cap cs, sum_by-cons (λ q. 1 + left_of q) (part.Touches 0 0) (parts_of s.setup.cap cs), c.requires.work, c.len-commands.ensures, c.len-commands.auto.0, ap (λ x. x.ticks) c.in_ok-world.ensures.core);
     }
 
 pub returns : goal.returns

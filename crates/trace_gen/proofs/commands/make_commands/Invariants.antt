@@ -1,7 +1,6 @@
-use Rattle.std.proofs.Common.{◌≡◌, map}
-use Rattle.damon_control.specs.Command.{command_value}
+use Rattle.std.proofs.Common.{◌≡◌}
 use Rattle.trace_gen.specs.Gen.{blocks}
 use Rattle.trace_gen.proofs.commands.make_commands.Given as goal
 
 abbrev pub invariant-passes : goal.invariant-passes
-invariant-passes l = map command_value l.commands.list ≡ blocks l.access l.zone l.t
+invariant-passes l = l.commands ≡ blocks l.access l.zone l.t

@@ -4,4 +4,4 @@ use Rattle.damon_control.proofs.lines.Lines.take_touch.Goals as goal
 
 pub returns-clause-said : goal.returns-clause-said
 returns-clause-said c = λ b same.
-    reads_touch c.words_have_laws.ensures.laws _ _ _ _ c.in_ok-page.ensures.line (c.args.self.now.taken + 1) b same
+    reads_touch c.lines_have_laws.ensures.laws _ _ _ _ c.in_ok-page.ensures.line (c.args.self.now.taken + 1) b same

@@ -1,7 +1,0 @@
-use Rattle.damon_control.proofs.SpellLines.{attrs_in-Ok, range_in-Ok}
-use Rattle.damon_control.proofs.laws.fields_are_spelled.Goals as goal
-
-pub returns : goal.returns
-returns c =
-    let laws = c.words_have_laws.ensures.laws in
-    record { attrs = attrs_in-Ok laws; range = range_in-Ok laws }

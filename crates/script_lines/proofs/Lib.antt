@@ -1,0 +1,23 @@
+pub mod WordLemmas
+pub mod SlotLemmas
+pub mod SettingLemmas
+pub mod SpellSteps
+pub mod SpellWords
+pub mod PlainWords
+pub mod SpellFits
+pub mod ReadFields
+pub mod ReadKeys
+pub mod ReadSchemes
+pub mod ReadLines
+pub mod ReadCommands
+pub mod SpellLines
+pub mod SpellKeys
+pub mod SpellSchemes
+pub mod SpellCommands
+pub mod LineLimits
+pub mod BlockLemmas
+pub mod TouchFront
+mod SpellExamples
+pub mod Appending
+pub mod WrittenKeys
+pub mod WrittenSchemes

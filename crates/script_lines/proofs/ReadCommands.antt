@@ -1,0 +1,218 @@
+-- A line of a body or a commit that says something is read as that.
+use Rattle.std.proofs.Common.{◌≡◌, inl, inr, ◌≤◌, ◌^◌, ◌-◌, ◌+◌, ◌<◌, ◌∷◌, [], ◌&&◌, ℕ, Bool, true, false, List, codes, Some, None, Ok, refl, sym, ap, ◌∙◌, decimal, arith}
+use Rattle.std.specs.Prelude.{Option, is_none, option_map}
+use Rattle.std.specs.Cmp.Derive.{both_true}
+use Rattle.std.specs.List.{list_all}
+use Rattle.std.specs.Option.{ok_or}
+use Rattle.damon_types.specs.declared.attrs.Attrs.{Attrs as AttrsValue}
+use Rattle.damon_types.specs.declared.range.RangeSpec.{RangeSpec}
+use Rattle.damon_types.specs.declared.scheme.SlotChange.{SlotChange}
+use Rattle.damon_types.specs.declared.space.Target.{Target}
+use Rattle.damon_types.specs.Space.{page_of}
+use Rattle.line_text.specs.Address.{spelled_address}
+use Rattle.line_text.specs.Parts.{joined}
+use Rattle.live_commit.specs.Commit.{CommitValue}
+use Rattle.script_lines.specs.declared.part.Part.{Part}
+use Rattle.script_lines.specs.declared.part.Part.TheVariants.{Attrs, Range, Slot, Metric}
+use Rattle.script_lines.specs.declared.kind.ScriptKind.TheVariants.{Limit, Outside}
+use Rattle.script_lines.specs.Body.{are_swept, change_line, command_line, drop_line, part_line, step_line, sweep_line, touch_line, wants_attrs, wants_slot}
+use Rattle.script_lines.specs.Command.{CommandValue, Touch, Sweep, Step, Arm, Finish, Show, Commit}
+use Rattle.script_lines.specs.Fields.{attrs_in, range_in}
+use Rattle.script_lines.specs.Fits.{FitsAttrs, FitsRange}
+use Rattle.script_lines.specs.Head.{limited}
+use Rattle.script_lines.specs.Keys.{scheme_in}
+use Rattle.script_lines.specs.Laws.{GivesScheme, IsCommand, IsPart, IsSweep, WordLaws, may_come}
+use Rattle.script_lines.specs.Refusal.{◌>>=◌, only_if}
+use Rattle.script_lines.specs.Spelling.{attrs_words, range_words, scheme_words, spelled_attrs, spelled_drop, spelled_metric, spelled_range, spelled_step, spelled_sweep, spelled_touch}
+use Rattle.script_lines.specs.Words.{arguments, begins_with, byte_address, number_8, number_32, one_word, same_word}
+use Rattle.script_lines.proofs.PlainWords.{address_field, begins_with-spaced, field_8, field_32, field_word, is_plain_word}
+use Rattle.script_lines.proofs.ReadFields.{attrs_in-words, byte_address-spelled, number_8-decimal, number_32-decimal, range_in-words}
+use Rattle.script_lines.proofs.ReadLines.{arguments-read, attrs_words-plain, limited-within, number_line, one_word-read, range_words-plain, scheme-read}
+use Rattle.script_lines.proofs.ReadSchemes.{scheme_words-plain}
+use Rattle.script_lines.proofs.SpellSteps.{chosen, passed_over, then-Ok}
+
+-- a line that begins with `touch` is read as a touch
+touch_way : (space : List Target) (line : List ℕ) (command : CommandValue) → begins_with (codes "touch") line ≡ true → touch_line space line ≡ Ok command → command_line space line ≡ Ok command
+touch_way space line command here read = chosen (begins_with (codes "touch") line) _ _ (Ok command) here read
+
+-- a line that begins with `sweep` is read as a sweep
+sweep_way : (space : List Target) (line : List ℕ) (command : CommandValue) → begins_with (codes "touch") line ≡ false → begins_with (codes "sweep") line ≡ true
+    → sweep_line space line ≡ Ok command → command_line space line ≡ Ok command
+sweep_way space line command no_touch here read =
+    passed_over (begins_with (codes "touch") line) _ _ (Ok command) no_touch (chosen (begins_with (codes "sweep") line) _ _ (Ok command) here read)
+
+-- a line that begins with `step` is read as steps
+step_way : (space : List Target) (line : List ℕ) (command : CommandValue) → begins_with (codes "touch") line ≡ false → begins_with (codes "sweep") line ≡ false
+    → begins_with (codes "step") line ≡ true → step_line line ≡ Ok command → command_line space line ≡ Ok command
+step_way space line command no_touch no_sweep here read =
+    passed_over (begins_with (codes "touch") line) _ _ (Ok command) no_touch
+    (passed_over (begins_with (codes "sweep") line) _ _ (Ok command) no_sweep (chosen (begins_with (codes "step") line) _ _ (Ok command) here read))
+
+touch_line-spelled : (laws : WordLaws) (space : List Target) (target addr page : ℕ) → target < 2 ^ 32 → addr < 2 ^ 64 → page_of space target addr ≡ Some page
+    → command_line space (spelled_touch target addr) ≡ Ok (Touch page)
+touch_line-spelled laws space target addr page target_fits addr_fits holds =
+    let words = decimal target ∷ spelled_address addr ∷ [] in
+    let plain : list_all is_plain_word words ≡ true =
+    both_true (field_word (decimal target) (field_32 laws target target_fits)) (both_true (field_word (spelled_address addr) (address_field laws addr addr_fits)) refl) in
+    touch_way space (spelled_touch target addr) (Touch page) (begins_with-spaced laws (codes "touch") (codes "touch") words plain)
+    (arguments-read laws (codes "touch") words _ (Ok (Touch page)) refl plain
+    (then-Ok (number_32 (decimal target)) _ target _ (number_32-decimal laws target target_fits)
+    (then-Ok (byte_address (spelled_address addr)) _ addr _ (byte_address-spelled laws addr addr_fits)
+    (then-Ok (ok_or (page_of space target addr) Outside) _ page _ (ap (λ o. ok_or o Outside) holds) refl))))
+
+-- the page after the last is the end of a sweep
+swept_end : (o : Option ℕ) (first end : ℕ) → option_map (λ last. last + 1) o ≡ Some end → (ok_or o Outside >>= λ last. Ok (Sweep first (last + 1))) ≡ Ok (Sweep first end)
+swept_end None first end e = absurd cc
+swept_end (Some last) first end e = let same : last + 1 ≡ end = cc in ap (λ n. Ok (Sweep first n)) same
+
+sweep_line-spelled : (laws : WordLaws) (space : List Target) (line : List ℕ) (first end : ℕ) (is : IsSweep space line first end)
+    → command_line space (spelled_sweep is.target is.from is.to) ≡ Ok (Sweep first end)
+sweep_line-spelled laws space line first end is =
+    let target = is.target in
+    let from = is.from in
+    let to = is.to in
+    let words = decimal target ∷ spelled_address from ∷ spelled_address to ∷ [] in
+    let said = spelled_sweep target from to in
+    let plain : list_all is_plain_word words ≡ true =
+    both_true (field_word (decimal target) (field_32 laws target is.target_fits))
+    (both_true (field_word (spelled_address from) (address_field laws from is.from_fits)) (both_true (field_word (spelled_address to) (address_field laws to is.to_fits)) refl)) in
+    sweep_way space said (Sweep first end) (begins_with-spaced laws (codes "touch") (codes "sweep") words plain) (begins_with-spaced laws (codes "sweep") (codes "sweep") words plain)
+    (arguments-read laws (codes "sweep") words _ (Ok (Sweep first end)) refl plain
+    (then-Ok (number_32 (decimal target)) _ target _ (number_32-decimal laws target is.target_fits)
+    (then-Ok (byte_address (spelled_address from)) _ from _ (byte_address-spelled laws from is.from_fits)
+    (then-Ok (byte_address (spelled_address to)) _ to _ (byte_address-spelled laws to is.to_fits)
+    (then-Ok (only_if (are_swept from to) Limit (tt {0})) _ tt _ (ap (λ t. only_if t Limit (tt {0})) is.whole)
+    (then-Ok (ok_or (page_of space target from) Outside) _ first _ (ap (λ o. ok_or o Outside) is.begins)
+    (swept_end (page_of space target (to - 4096)) first end is.ends)))))))
+
+step_line-spelled : (laws : WordLaws) (space : List Target) (times : ℕ) → 1 ≤ times → times ≤ 1000000 → command_line space (spelled_step times) ≡ Ok (Step times)
+step_line-spelled laws space times low high =
+    let said = spelled_step times in
+    let words = decimal times ∷ [] in
+    let plain : list_all is_plain_word words ≡ true = both_true (field_word (decimal times) (field_32 laws times (omega arith))) refl in
+    step_way space said (Step times) (begins_with-spaced laws (codes "touch") (codes "step") words plain) (begins_with-spaced laws (codes "sweep") (codes "step") words plain)
+    (begins_with-spaced laws (codes "step") (codes "step") words plain)
+    (then-Ok (arguments (codes "step") said >>= one_word >>= number_32 >>= limited 1 1000000) _ times _
+    (then-Ok (arguments (codes "step") said >>= one_word >>= number_32) (limited 1 1000000) times _ (number_line laws (codes "step") times refl refl (omega arith)) (limited-within 1 1000000 times low high))
+    refl)
+
+-- a line that says a command is read as that command
+pub command_line-said : (laws : WordLaws) (space : List Target) (line : List ℕ) (command : CommandValue) → IsCommand space line command → command_line space line ≡ Ok command
+command_line-said laws space line (Touch page) is =
+    ap (command_line space) is.spelled ∙ touch_line-spelled laws space is.target is.addr page is.target_fits is.addr_fits is.holds
+command_line-said laws space line (Sweep first end) is = ap (command_line space) is.spelled ∙ sweep_line-spelled laws space line first end is
+command_line-said laws space line (Step times) is = ap (command_line space) is.0 ∙ step_line-spelled laws space times is.1 is.2
+command_line-said laws space line Arm is = ap (command_line space) is
+command_line-said laws space line Finish is = ap (command_line space) is
+command_line-said laws space line Show is = ap (command_line space) is
+command_line-said laws space line (Commit commit) is = absurd is
+
+-- a line with another first word fails a test for this word, wherever it stands
+other_word : (laws : WordLaws) (word first : List ℕ) (others : List (List ℕ)) (wanted : Bool) → list_all is_plain_word (first ∷ others) ≡ true → same_word first word ≡ false
+    → (begins_with word (joined 32 (first ∷ others)) && wanted) ≡ false
+other_word laws word first others wanted plain other = ap (λ b. b && wanted) (begins_with-spaced laws word first others plain ∙ other)
+
+-- a line with this first word passes the test for it, where it may come
+this_word : (laws : WordLaws) (word : List ℕ) (others : List (List ℕ)) (wanted : Bool) → list_all is_plain_word (word ∷ others) ≡ true → same_word word word ≡ true → wanted ≡ true
+    → (begins_with word (joined 32 (word ∷ others)) && wanted) ≡ true
+this_word laws word others wanted plain same comes = both_true (begins_with-spaced laws word word others plain ∙ same) comes
+
+-- a line that begins with `range` is read as a range, after the test for attributes
+range_way : (before : CommitValue) (line : List ℕ) (part : Part) → (begins_with (codes "attrs") line && wants_attrs before) ≡ false → (begins_with (codes "range") line && wants_slot before) ≡ true
+    → (arguments (codes "range") line >>= range_in >>= λ range. Ok (Range range)) ≡ Ok part → part_line before line ≡ Ok part
+range_way before line part no_attrs here read =
+    passed_over (begins_with (codes "attrs") line && wants_attrs before) _ _ (Ok part) no_attrs (chosen (begins_with (codes "range") line && wants_slot before) _ _ (Ok part) here read)
+
+-- a line that begins with `scheme` is read as a scheme, after the tests before it
+scheme_way : (before : CommitValue) (line : List ℕ) (part : Part) → (begins_with (codes "attrs") line && wants_attrs before) ≡ false → (begins_with (codes "range") line && wants_slot before) ≡ false
+    → (begins_with (codes "scheme") line && wants_slot before) ≡ true → (change_line line >>= λ change. Ok (Slot change)) ≡ Ok part → part_line before line ≡ Ok part
+scheme_way before line part no_attrs no_range here read =
+    passed_over (begins_with (codes "attrs") line && wants_attrs before) _ _ (Ok part) no_attrs
+    (passed_over (begins_with (codes "range") line && wants_slot before) _ _ (Ok part) no_range (chosen (begins_with (codes "scheme") line && wants_slot before) _ _ (Ok part) here read))
+
+-- a line that begins with `drop` is read as an emptied slot, after the tests before it
+drop_way : (before : CommitValue) (line : List ℕ) (part : Part) → (begins_with (codes "attrs") line && wants_attrs before) ≡ false → (begins_with (codes "range") line && wants_slot before) ≡ false
+    → (begins_with (codes "scheme") line && wants_slot before) ≡ false → (begins_with (codes "drop") line && wants_slot before) ≡ true
+    → (drop_line line >>= λ change. Ok (Slot change)) ≡ Ok part → part_line before line ≡ Ok part
+drop_way before line part no_attrs no_range no_scheme here read =
+    passed_over (begins_with (codes "attrs") line && wants_attrs before) _ _ (Ok part) no_attrs
+    (passed_over (begins_with (codes "range") line && wants_slot before) _ _ (Ok part) no_range
+    (passed_over (begins_with (codes "scheme") line && wants_slot before) _ _ (Ok part) no_scheme (chosen (begins_with (codes "drop") line && wants_slot before) _ _ (Ok part) here read)))
+
+-- a line that begins with `metric` is read as a metric, after the tests before it
+metric_way : (before : CommitValue) (line : List ℕ) (part : Part) → (begins_with (codes "attrs") line && wants_attrs before) ≡ false → (begins_with (codes "range") line && wants_slot before) ≡ false
+    → (begins_with (codes "scheme") line && wants_slot before) ≡ false → (begins_with (codes "drop") line && wants_slot before) ≡ false
+    → (begins_with (codes "metric") line && is_none before.metric) ≡ true
+    → (arguments (codes "metric") line >>= one_word >>= number_32 >>= λ value. Ok (Metric value)) ≡ Ok part → part_line before line ≡ Ok part
+metric_way before line part no_attrs no_range no_scheme no_drop here read =
+    passed_over (begins_with (codes "attrs") line && wants_attrs before) _ _ (Ok part) no_attrs
+    (passed_over (begins_with (codes "range") line && wants_slot before) _ _ (Ok part) no_range
+    (passed_over (begins_with (codes "scheme") line && wants_slot before) _ _ (Ok part) no_scheme
+    (passed_over (begins_with (codes "drop") line && wants_slot before) _ _ (Ok part) no_drop
+    (chosen (begins_with (codes "metric") line && is_none before.metric) _ _ (Ok part) here read))))
+
+attrs_part-said : (laws : WordLaws) (before : CommitValue) (a : AttrsValue) → wants_attrs before ≡ true → FitsAttrs a → part_line before (spelled_attrs a) ≡ Ok (Attrs a)
+attrs_part-said laws before a comes fits =
+    let plain = attrs_words-plain laws a fits in
+    chosen (begins_with (codes "attrs") (spelled_attrs a) && wants_attrs before) _ _ (Ok (Attrs a)) (this_word laws (codes "attrs") (attrs_words a) (wants_attrs before) plain refl comes)
+    (then-Ok (arguments (codes "attrs") (spelled_attrs a) >>= attrs_in) _ a _ (arguments-read laws (codes "attrs") (attrs_words a) attrs_in (Ok a) refl plain (attrs_in-words laws a fits)) refl)
+
+range_part-said : (laws : WordLaws) (before : CommitValue) (r : RangeSpec) → wants_slot before ≡ true → FitsRange r → part_line before (spelled_range r) ≡ Ok (Range r)
+range_part-said laws before r comes fits =
+    let plain = range_words-plain laws r fits in
+    range_way before (spelled_range r) (Range r) (other_word laws (codes "attrs") (codes "range") (range_words r) (wants_attrs before) plain refl)
+    (this_word laws (codes "range") (range_words r) (wants_slot before) plain refl comes)
+    (then-Ok (arguments (codes "range") (spelled_range r) >>= range_in) _ r _ (arguments-read laws (codes "range") (range_words r) range_in (Ok r) refl plain (range_in-words laws r fits)) refl)
+
+change_line-said : (laws : WordLaws) (line : List ℕ) (change : SlotChange) → GivesScheme line change → change_line line ≡ Ok change
+change_line-said laws line change gives =
+    then-Ok (arguments (codes "scheme") line >>= scheme_in) _ (change.slot, gives.0) _
+    (scheme-read laws line change.slot gives.0 scheme_in (Ok (change.slot, gives.0)) gives.2 (λ words said. said))
+    (ap (λ s. Ok (record { slot = change.slot; scheme = s })) (sym gives.1))
+
+scheme_part-said : (laws : WordLaws) (before : CommitValue) (line : List ℕ) (change : SlotChange) → wants_slot before ≡ true → GivesScheme line change
+    → part_line before line ≡ Ok (Slot change)
+scheme_part-said laws before line change comes gives =
+    let is = gives.2 in
+    let words = scheme_words change.slot is.action is.settings in
+    let plain = scheme_words-plain laws change.slot is.action is.settings is.small is.fit in
+    scheme_way before line (Slot change)
+    (ap (λ l. begins_with (codes "attrs") l && wants_attrs before) is.spelled ∙ other_word laws (codes "attrs") (codes "scheme") words (wants_attrs before) plain refl)
+    (ap (λ l. begins_with (codes "range") l && wants_slot before) is.spelled ∙ other_word laws (codes "range") (codes "scheme") words (wants_slot before) plain refl)
+    (ap (λ l. begins_with (codes "scheme") l && wants_slot before) is.spelled ∙ this_word laws (codes "scheme") words (wants_slot before) plain refl comes)
+    (then-Ok (change_line line) _ change _ (change_line-said laws line change gives) refl)
+
+drop_line-spelled : (laws : WordLaws) (slot : ℕ) → slot < 2 ^ 8 → drop_line (spelled_drop slot) ≡ Ok (record { slot = slot; scheme = None })
+drop_line-spelled laws slot small =
+    then-Ok (arguments (codes "drop") (spelled_drop slot) >>= one_word >>= number_8) _ slot _
+    (one_word-read laws (codes "drop") (decimal slot) number_8 (Ok slot) refl (both_true (field_word (decimal slot) (field_8 laws slot small)) refl) (number_8-decimal laws slot small)) refl
+
+drop_part-said : (laws : WordLaws) (before : CommitValue) (slot : ℕ) → wants_slot before ≡ true → slot < 2 ^ 8
+    → part_line before (spelled_drop slot) ≡ Ok (Slot (record { slot = slot; scheme = None }))
+drop_part-said laws before slot comes small =
+    let said = spelled_drop slot in
+    let words = decimal slot ∷ [] in
+    let plain : list_all is_plain_word words ≡ true = both_true (field_word (decimal slot) (field_8 laws slot small)) refl in
+    let change : SlotChange = record { slot = slot; scheme = None } in
+    drop_way before said (Slot change) (other_word laws (codes "attrs") (codes "drop") words (wants_attrs before) plain refl)
+    (other_word laws (codes "range") (codes "drop") words (wants_slot before) plain refl) (other_word laws (codes "scheme") (codes "drop") words (wants_slot before) plain refl)
+    (this_word laws (codes "drop") words (wants_slot before) plain refl comes) (then-Ok (drop_line said) _ change _ (drop_line-spelled laws slot small) refl)
+
+metric_part-said : (laws : WordLaws) (before : CommitValue) (value : ℕ) → is_none before.metric ≡ true → value < 2 ^ 32 → part_line before (spelled_metric value) ≡ Ok (Metric value)
+metric_part-said laws before value comes small =
+    let said = spelled_metric value in
+    let words = decimal value ∷ [] in
+    let plain : list_all is_plain_word words ≡ true = both_true (field_word (decimal value) (field_32 laws value small)) refl in
+    metric_way before said (Metric value) (other_word laws (codes "attrs") (codes "metric") words (wants_attrs before) plain refl)
+    (other_word laws (codes "range") (codes "metric") words (wants_slot before) plain refl) (other_word laws (codes "scheme") (codes "metric") words (wants_slot before) plain refl)
+    (other_word laws (codes "drop") (codes "metric") words (wants_slot before) plain refl) (this_word laws (codes "metric") words (is_none before.metric) plain refl comes)
+    (then-Ok (arguments (codes "metric") said >>= one_word >>= number_32) _ value _ (number_line laws (codes "metric") value refl refl small) refl)
+
+-- a line that says a part, where it may come, is read as that part
+pub part_line-said : (laws : WordLaws) (before : CommitValue) (line : List ℕ) (part : Part) → may_come before part ≡ true → IsPart line part → part_line before line ≡ Ok part
+part_line-said laws before line (Attrs attrs) comes is = ap (part_line before) is.0 ∙ attrs_part-said laws before attrs comes is.1
+part_line-said laws before line (Range range) comes is = ap (part_line before) is.0 ∙ range_part-said laws before range comes is.1
+part_line-said laws before line (Slot change) comes (inl gives) = scheme_part-said laws before line change comes gives
+part_line-said laws before line (Slot change) comes (inr empties) =
+    ap (part_line before) empties.1 ∙ drop_part-said laws before change.slot comes empties.2 ∙ ap (λ s. Ok (Slot (record { slot = change.slot; scheme = s }))) (sym empties.0)
+part_line-said laws before line (Metric value) comes is = ap (part_line before) is.0 ∙ metric_part-said laws before value comes is.1

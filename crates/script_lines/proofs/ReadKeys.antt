@@ -1,0 +1,203 @@
+-- The spelling of a setting is read as it.
+use Rattle.std.proofs.Common.{◌≡◌, ◌<◌, ◌+◌, ◌∷◌, [], ◌==◌, nat_lt, ℕ, Bool, true, false, not, ◌&&◌, List, ◌++◌, length, take, drop, map, Ok, refl, ap, ◌∙◌, decimal, arith}
+use Rattle.std.specs.Prelude.{Result}
+use Rattle.std.specs.List.{list_all, position_or_len}
+use Rattle.std.specs.Option.{ok_or}
+use Rattle.std.proofs.lemmas.Bool.Decides.{nat_tests}
+use Rattle.std.proofs.lemmas.List.Elements.{All-from_recursion}
+use Rattle.damon_types.specs.declared.filter.Filter.{Filter}
+use Rattle.damon_types.specs.declared.filter.FilterKind.{FilterKind}
+use Rattle.damon_types.specs.declared.filter.FilterKind.TheVariants.{Addr, Target, Class}
+use Rattle.damon_types.specs.declared.scheme.Marks.{Marks}
+use Rattle.damon_types.specs.declared.scheme.Prefer.{Prefer}
+use Rattle.damon_types.specs.declared.scheme.Prefer.TheVariants.{Hot, Cold}
+use Rattle.damon_types.specs.declared.scheme.Quota.{Quota}
+use Rattle.damon_types.specs.declared.scheme.Span.{Span}
+use Rattle.damon_types.specs.declared.scheme.Weights.{Weights}
+use Rattle.line_text.specs.Address.{spelled_address}
+use Rattle.line_text.specs.Line.{split_at_byte}
+use Rattle.line_text.specs.Parts.{IsPiece, joined, parts, two_of, three_of}
+use Rattle.script_lines.specs.declared.kind.ScriptKind.{ScriptKind}
+use Rattle.script_lines.specs.declared.kind.ScriptKind.TheVariants.{Form}
+use Rattle.script_lines.specs.declared.keys.Key.{Key}
+use Rattle.script_lines.specs.declared.keys.Setting.{Setting}
+use Rattle.script_lines.specs.declared.keys.Setting.TheVariants.{Size as SizeOf, Count as CountOf, Age as AgeOf, Quota as QuotaOf, Weights as WeightsOf, Prefer as PreferOf, Marks as MarksOf, Filter as FilterOf}
+use Rattle.script_lines.specs.Fits.{FitSettings, FitsKind, FitsMarks, FitsQuota, FitsSetting, FitsSpan, FitsWeights}
+use Rattle.script_lines.specs.Keys.{answer_of, filter_of, key_and_value, key_named, kind_of, marks_of, plain_name, prefer_of, quota_of, setting_for, setting_of, settings_of, span_in, weights_of}
+use Rattle.script_lines.specs.Laws.{WordLaws}
+use Rattle.script_lines.specs.Refusal.{◌>>=◌}
+use Rattle.script_lines.specs.Separators.{colon, comma, dash, equals_sign}
+use Rattle.script_lines.specs.Spelling.{kind_name, kind_value, spelled_answer, spelled_filter, spelled_marks, spelled_prefer, spelled_quota, spelled_setting, spelled_side, spelled_span, spelled_weights}
+use Rattle.script_lines.specs.Words.{byte_address, number_8, number_16, number_32, number_64}
+use Rattle.script_lines.specs.Settings.{key_of}
+use Rattle.script_lines.proofs.PlainWords.{IsField, is_word_byte, address_field, decimal_field, field_8, field_16, field_32, field_piece, is_field_byte, lacks, list_all-both, list_all-weaker}
+use Rattle.script_lines.proofs.ReadFields.{byte_address-spelled, number_8-decimal, number_16-decimal, number_32-decimal, number_64-decimal}
+use Rattle.script_lines.proofs.SpellSteps.{then-Ok}
+
+-- two fields with a separator between them are taken apart again
+two_parts-joined : (laws : WordLaws) (separator : ℕ) → is_field_byte separator ≡ false → (a b : List ℕ) → IsField a → IsField b
+    → ok_or (two_of (parts separator (joined separator (a ∷ b ∷ [])))) Form ≡ Ok (a, b)
+two_parts-joined laws separator other a b first second =
+    ap (λ pieces. ok_or (two_of pieces) Form)
+    (laws.pieces separator a (b ∷ [])
+    (All-from_recursion (IsPiece separator) (a ∷ b ∷ []) (field_piece separator other a first, (field_piece separator other b second, tt))))
+
+-- three fields with a separator between each two are taken apart again
+three_parts-joined : (laws : WordLaws) (separator : ℕ) → is_field_byte separator ≡ false → (a b c : List ℕ) → IsField a → IsField b → IsField c
+    → ok_or (three_of (parts separator (joined separator (a ∷ b ∷ c ∷ [])))) Form ≡ Ok (a, b, c)
+three_parts-joined laws separator other a b c first second third =
+    ap (λ pieces. ok_or (three_of pieces) Form)
+    (laws.pieces separator a (b ∷ c ∷ [])
+    (All-from_recursion (IsPiece separator) (a ∷ b ∷ c ∷ [])
+    (field_piece separator other a first, (field_piece separator other b second, (field_piece separator other c third, tt)))))
+
+span_in-spelled : (laws : WordLaws) (s : Span) → FitsSpan s → span_in (spelled_span s) ≡ Ok s
+span_in-spelled laws s fits =
+    then-Ok (ok_or (two_of (parts comma (spelled_span s))) Form) _ (decimal s.low, decimal s.high) _
+    (two_parts-joined laws comma refl (decimal s.low) (decimal s.high) (field_32 laws s.low fits.0) (field_32 laws s.high fits.1))
+    (then-Ok (number_32 (decimal s.low)) _ s.low _ (number_32-decimal laws s.low fits.0)
+    (then-Ok (number_32 (decimal s.high)) _ s.high _ (number_32-decimal laws s.high fits.1) refl))
+
+quota_of-spelled : (laws : WordLaws) (q : Quota) → FitsQuota q → quota_of (spelled_quota q) ≡ Ok q
+quota_of-spelled laws q fits =
+    then-Ok (ok_or (two_of (parts comma (spelled_quota q))) Form) _ (decimal q.bytes, decimal q.reset) _
+    (two_parts-joined laws comma refl (decimal q.bytes) (decimal q.reset) (decimal_field laws q.bytes fits.0) (field_32 laws q.reset fits.1))
+    (then-Ok (number_64 (decimal q.bytes)) _ q.bytes _ (number_64-decimal laws q.bytes fits.0)
+    (then-Ok (number_32 (decimal q.reset)) _ q.reset _ (number_32-decimal laws q.reset fits.1) refl))
+
+weights_of-spelled : (laws : WordLaws) (w : Weights) → FitsWeights w → weights_of (spelled_weights w) ≡ Ok w
+weights_of-spelled laws w fits =
+    then-Ok (ok_or (three_of (parts comma (spelled_weights w))) Form) _ (decimal w.size, decimal w.count, decimal w.age) _
+    (three_parts-joined laws comma refl (decimal w.size) (decimal w.count) (decimal w.age) (field_16 laws w.size fits.0) (field_16 laws w.count fits.1) (field_16 laws w.age fits.2))
+    (then-Ok (number_16 (decimal w.size)) _ w.size _ (number_16-decimal laws w.size fits.0)
+    (then-Ok (number_16 (decimal w.count)) _ w.count _ (number_16-decimal laws w.count fits.1)
+    (then-Ok (number_16 (decimal w.age)) _ w.age _ (number_16-decimal laws w.age fits.2) refl)))
+
+prefer_of-spelled : (p : Prefer) → prefer_of (spelled_prefer p) ≡ Ok p
+prefer_of-spelled Hot = refl
+prefer_of-spelled Cold = refl
+
+marks_of-spelled : (laws : WordLaws) (m : Marks) → FitsMarks m → marks_of (spelled_marks m) ≡ Ok m
+marks_of-spelled laws m fits =
+    then-Ok (ok_or (three_of (parts comma (spelled_marks m))) Form) _ (decimal m.high, decimal m.mid, decimal m.low) _
+    (three_parts-joined laws comma refl (decimal m.high) (decimal m.mid) (decimal m.low) (field_32 laws m.high fits.0) (field_32 laws m.mid fits.1) (field_32 laws m.low fits.2))
+    (then-Ok (number_32 (decimal m.high)) _ m.high _ (number_32-decimal laws m.high fits.0)
+    (then-Ok (number_32 (decimal m.mid)) _ m.mid _ (number_32-decimal laws m.mid fits.1)
+    (then-Ok (number_32 (decimal m.low)) _ m.low _ (number_32-decimal laws m.low fits.2) refl)))
+
+answer_of-spelled : (allow : Bool) → answer_of (spelled_answer allow) ≡ Ok allow
+answer_of-spelled true = refl
+answer_of-spelled false = refl
+
+-- the name of a kind and its `not-`, if any, are taken apart again
+plain_name-spelled : (matching : Bool) (kind : FilterKind) → plain_name (spelled_side matching ++ kind_name kind) ≡ (matching, kind_name kind)
+plain_name-spelled true (Addr from to) = refl
+plain_name-spelled true (Target target) = refl
+plain_name-spelled true (Class class) = refl
+plain_name-spelled false (Addr from to) = refl
+plain_name-spelled false (Target target) = refl
+plain_name-spelled false (Class class) = refl
+
+kind_of-spelled : (laws : WordLaws) (kind : FilterKind) → FitsKind kind → kind_of (kind_name kind) (kind_value kind) ≡ Ok kind
+kind_of-spelled laws (Addr from to) fits =
+    then-Ok (ok_or (two_of (parts dash (kind_value (Addr from to)))) Form) _ (spelled_address from, spelled_address to) _
+    (two_parts-joined laws dash refl (spelled_address from) (spelled_address to) (address_field laws from fits.0) (address_field laws to fits.1))
+    (then-Ok (byte_address (spelled_address from)) _ from _ (byte_address-spelled laws from fits.0)
+    (then-Ok (byte_address (spelled_address to)) _ to _ (byte_address-spelled laws to fits.1) refl))
+kind_of-spelled laws (Target target) fits = then-Ok (number_32 (decimal target)) _ target _ (number_32-decimal laws target fits) refl
+kind_of-spelled laws (Class class) fits = then-Ok (number_8 (decimal class)) _ class _ (number_8-decimal laws class fits) refl
+
+-- a byte of a part of a filter: a byte of a word, but no colon
+abbrev pub is_part_byte : ℕ → Bool
+is_part_byte c = is_word_byte c && not (c == colon)
+
+pub answer_part : (allow : Bool) → list_all is_part_byte (spelled_answer allow) ≡ true
+answer_part true = refl
+answer_part false = refl
+
+pub name_part : (matching : Bool) (kind : FilterKind) → list_all is_part_byte (spelled_side matching ++ kind_name kind) ≡ true
+name_part true (Addr from to) = refl
+name_part true (Target target) = refl
+name_part true (Class class) = refl
+name_part false (Addr from to) = refl
+name_part false (Target target) = refl
+name_part false (Class class) = refl
+
+field_part : (word : List ℕ) → IsField word → list_all is_part_byte word ≡ true
+field_part word field = list_all-weaker is_field_byte is_part_byte (λ c passes. grind (arith, nat_tests)) word field.bytes
+
+pub value_part : (laws : WordLaws) (kind : FilterKind) → FitsKind kind → list_all is_part_byte (kind_value kind) ≡ true
+value_part laws (Addr from to) fits =
+    list_all-both is_part_byte (spelled_address from) (dash ∷ spelled_address to) (field_part (spelled_address from) (address_field laws from fits.0))
+    (field_part (spelled_address to) (address_field laws to fits.1))
+value_part laws (Target target) fits = field_part (decimal target) (field_32 laws target fits)
+value_part laws (Class class) fits = field_part (decimal class) (field_8 laws class fits)
+
+-- the three parts of a filter are taken apart again
+filter_parts : (laws : WordLaws) (f : Filter) → FitsKind f.kind
+    → ok_or (three_of (parts colon (spelled_filter f))) Form ≡ Ok (spelled_answer f.allow, spelled_side f.matching ++ kind_name f.kind, kind_value f.kind)
+filter_parts laws f fits =
+    let name = spelled_side f.matching ++ kind_name f.kind in
+    let piece = lacks is_part_byte colon refl in
+    ap (λ pieces. ok_or (three_of pieces) Form)
+    (laws.pieces colon (spelled_answer f.allow) (name ∷ kind_value f.kind ∷ [])
+    (All-from_recursion (IsPiece colon) (spelled_answer f.allow ∷ name ∷ kind_value f.kind ∷ [])
+    (piece (spelled_answer f.allow) (answer_part f.allow), (piece name (name_part f.matching f.kind), (piece (kind_value f.kind) (value_part laws f.kind fits), tt)))))
+
+filter_of-spelled : (laws : WordLaws) (f : Filter) → FitsKind f.kind → filter_of (spelled_filter f) ≡ Ok f
+filter_of-spelled laws f fits =
+    let name = spelled_side f.matching ++ kind_name f.kind in
+    let plain = plain_name-spelled f.matching f.kind in
+    then-Ok (ok_or (three_of (parts colon (spelled_filter f))) Form) _ (spelled_answer f.allow, name, kind_value f.kind) _ (filter_parts laws f fits)
+    (then-Ok (answer_of (spelled_answer f.allow)) _ f.allow _ (answer_of-spelled f.allow)
+    (then-Ok (kind_of (plain_name name).1 (kind_value f.kind)) _ f.kind _
+    (ap (λ (n : Bool × List ℕ). kind_of n.1 (kind_value f.kind)) plain ∙ kind_of-spelled laws f.kind fits)
+    (ap (λ (n : Bool × List ℕ). Ok (record { allow = f.allow; matching = n.0; kind = f.kind })) plain)))
+
+-- the value of a setting, as a word spells it
+abbrev pub setting_value : Setting → List ℕ
+setting_value (SizeOf span) = spelled_span span
+setting_value (CountOf span) = spelled_span span
+setting_value (AgeOf span) = spelled_span span
+setting_value (QuotaOf quota) = spelled_quota quota
+setting_value (WeightsOf weights) = spelled_weights weights
+setting_value (PreferOf prefer) = spelled_prefer prefer
+setting_value (MarksOf marks) = spelled_marks marks
+setting_value (FilterOf filter) = spelled_filter filter
+
+pub setting_for-spelled : (laws : WordLaws) (x : Setting) → FitsSetting x → setting_for (key_of x) (setting_value x) ≡ Ok x
+setting_for-spelled laws (SizeOf span) fits = then-Ok (span_in (spelled_span span)) _ span _ (span_in-spelled laws span fits) refl
+setting_for-spelled laws (CountOf span) fits = then-Ok (span_in (spelled_span span)) _ span _ (span_in-spelled laws span fits) refl
+setting_for-spelled laws (AgeOf span) fits = then-Ok (span_in (spelled_span span)) _ span _ (span_in-spelled laws span fits) refl
+setting_for-spelled laws (QuotaOf quota) fits = then-Ok (quota_of (spelled_quota quota)) _ quota _ (quota_of-spelled laws quota fits) refl
+setting_for-spelled laws (WeightsOf weights) fits = then-Ok (weights_of (spelled_weights weights)) _ weights _ (weights_of-spelled laws weights fits) refl
+setting_for-spelled laws (PreferOf prefer) fits = then-Ok (prefer_of (spelled_prefer prefer)) _ prefer _ (prefer_of-spelled prefer) refl
+setting_for-spelled laws (MarksOf marks) fits = then-Ok (marks_of (spelled_marks marks)) _ marks _ (marks_of-spelled laws marks fits) refl
+setting_for-spelled laws (FilterOf filter) fits = then-Ok (filter_of (spelled_filter filter)) _ filter _ (filter_of-spelled laws filter fits) refl
+
+-- a word whose first equals sign is at this index is read as the key before it and the value after it
+keyed : (word : List ℕ) (at : ℕ) (said : Result (Key × List ℕ) ScriptKind) → position_or_len (λ c. c == equals_sign) word ≡ at → at < length word
+    → (ok_or (key_named (take at word)) Form >>= λ key. Ok (key, drop (at + 1) word)) ≡ said → key_and_value word ≡ said
+keyed word at said is within read =
+    let here : nat_lt at (length word) ≡ true = grind (arith, nat_tests) in
+    then-Ok (ok_or (split_at_byte equals_sign word) Form) _ (take at word, drop (at + 1) word) said (rw (is, here) refl) read
+
+-- the spelling of a setting is read as its key and its value
+pub key_and_value-spelled : (x : Setting) → key_and_value (spelled_setting x) ≡ Ok (key_of x, setting_value x)
+key_and_value-spelled (SizeOf span) = keyed (spelled_setting (SizeOf span)) 4 _ refl (omega arith) refl
+key_and_value-spelled (CountOf span) = keyed (spelled_setting (CountOf span)) 5 _ refl (omega arith) refl
+key_and_value-spelled (AgeOf span) = keyed (spelled_setting (AgeOf span)) 3 _ refl (omega arith) refl
+key_and_value-spelled (QuotaOf quota) = keyed (spelled_setting (QuotaOf quota)) 5 _ refl (omega arith) refl
+key_and_value-spelled (WeightsOf weights) = keyed (spelled_setting (WeightsOf weights)) 7 _ refl (omega arith) refl
+key_and_value-spelled (PreferOf prefer) = keyed (spelled_setting (PreferOf prefer)) 6 _ refl (omega arith) refl
+key_and_value-spelled (MarksOf marks) = keyed (spelled_setting (MarksOf marks)) 5 _ refl (omega arith) refl
+key_and_value-spelled (FilterOf filter) = keyed (spelled_setting (FilterOf filter)) 6 _ refl (omega arith) refl
+
+pub setting_of-spelled : (laws : WordLaws) (x : Setting) → FitsSetting x → setting_of (spelled_setting x) ≡ Ok x
+setting_of-spelled laws x fits = then-Ok (key_and_value (spelled_setting x)) _ (key_of x, setting_value x) _ (key_and_value-spelled x) (setting_for-spelled laws x fits)
+
+pub settings_of-spelled : (laws : WordLaws) (xs : List Setting) → FitSettings xs → settings_of (map spelled_setting xs) ≡ Ok xs
+settings_of-spelled laws [] fit = refl
+settings_of-spelled laws (x ∷ xs) fit =
+    then-Ok (setting_of (spelled_setting x)) _ x _ (setting_of-spelled laws x fit.0)
+    (then-Ok (settings_of (map spelled_setting xs)) _ xs _ (settings_of-spelled laws xs fit.1) refl)

@@ -1,0 +1,176 @@
+-- The spelling of a scheme is read as it.
+use Rattle.std.proofs.Common.{◌≡◌, inl, inr, ◌^◌, ◌<◌, ◌∷◌, [], ◌==◌, ◌&&◌, ◌||◌, nat_lt, ℕ, Bool, true, false, not, List, ◌++◌, map, Option, Some, None, Ok, refl, sym, ap, ◌∙◌, decimal, arith}
+use Rattle.std.specs.Cmp.Derive.{both_true}
+use Rattle.std.specs.List.{list_all}
+use Rattle.std.specs.Option.{ok_or}
+use Rattle.std.proofs.lemmas.Bool.Decides.{nat_tests}
+use Rattle.damon_types.specs.declared.scheme.Action.{Action}
+use Rattle.damon_types.specs.declared.scheme.Action.TheVariants.{Stat, Willneed, Cold as ColdAction, Pageout, Hugepage, Nohugepage, LruPrio, LruDeprio}
+use Rattle.damon_types.specs.declared.scheme.Prefer.{Prefer}
+use Rattle.damon_types.specs.declared.scheme.Prefer.TheVariants.{Hot, Cold}
+use Rattle.damon_types.specs.declared.scheme.Scheme.{Scheme}
+use Rattle.script_lines.specs.declared.kind.ScriptKind.TheVariants.{Form}
+use Rattle.script_lines.specs.declared.keys.Key.{Key}
+use Rattle.script_lines.specs.declared.keys.Key.TheVariants.{Size, Count, Age, Quota as QuotaKey, Weights as WeightsKey, Prefer as PreferKey, Marks as MarksKey, Filter as FilterKey}
+use Rattle.script_lines.specs.declared.keys.Setting.{Setting}
+use Rattle.script_lines.specs.declared.keys.Setting.TheVariants.{Size as SizeOf, Count as CountOf, Age as AgeOf, Quota as QuotaOf, Weights as WeightsOf, Prefer as PreferOf, Marks as MarksOf, Filter as FilterOf}
+use Rattle.script_lines.specs.Fits.{FitSettings, FitsSetting}
+use Rattle.script_lines.specs.Keys.{action_of, are_formed, is_formed, is_misformed, key_and_value, may_follow, place_in, scheme_in, settings_of, with_settings}
+use Rattle.script_lines.specs.Laws.{WordLaws}
+use Rattle.script_lines.specs.Refusal.{only_if}
+use Rattle.script_lines.specs.Separators.{colon, comma}
+use Rattle.script_lines.specs.Spelling.{kind_name, kind_value, scheme_words, spelled_action, spelled_answer, spelled_prefer, spelled_setting, spelled_side}
+use Rattle.script_lines.specs.Words.{number_8}
+use Rattle.script_lines.specs.Settings.{AreInOrder, MayFollow, default_scheme, key_of, key_place, settled}
+use Rattle.script_lines.proofs.PlainWords.{IsField, decimal_field, field_8, field_16, field_32, field_bytes, field_word, is_plain_word, is_word_byte, list_all-both, list_all-weaker}
+use Rattle.script_lines.proofs.ReadFields.{number_8-decimal}
+use Rattle.script_lines.proofs.ReadKeys.{answer_part, is_part_byte, key_and_value-spelled, name_part, setting_for-spelled, setting_value, settings_of-spelled, value_part}
+use Rattle.script_lines.proofs.SpellSteps.{first_true, second_true, then-Ok}
+
+action_of-spelled : (action : Action) → action_of (spelled_action action) ≡ Some action
+action_of-spelled Stat = refl
+action_of-spelled Willneed = refl
+action_of-spelled ColdAction = refl
+action_of-spelled Pageout = refl
+action_of-spelled Hugepage = refl
+action_of-spelled Nohugepage = refl
+action_of-spelled LruPrio = refl
+action_of-spelled LruDeprio = refl
+
+-- only the filter has the last place
+last_place : (key : Key) → (key_place key == 7) ≡ true → key ≡ FilterKey
+last_place Size e = absurd cc
+last_place Count e = absurd cc
+last_place Age e = absurd cc
+last_place QuotaKey e = absurd cc
+last_place WeightsKey e = absurd cc
+last_place PreferKey e = absurd cc
+last_place MarksKey e = absurd cc
+last_place FilterKey e = refl
+
+-- a setting that may follow another passes the test of its key
+may_follow-after : (earlier later : Setting) → MayFollow earlier later → may_follow (Some (key_place (key_of earlier))) (key_of later) ≡ true
+may_follow-after earlier later (inl less) =
+    let rises : nat_lt (key_place (key_of earlier)) (key_place (key_of later)) ≡ true = grind (arith, nat_tests) in
+    ap (λ t. t || ((key_place (key_of earlier) == 7) && (key_place (key_of later) == 7))) rises
+may_follow-after earlier later (inr (first, second)) = λ i. may_follow (Some (key_place (first i))) (second i)
+
+-- a setting whose key passes the test may follow the other
+after_may_follow : (earlier later : Setting) → may_follow (Some (key_place (key_of earlier))) (key_of later) ≡ true → MayFollow earlier later
+after_may_follow earlier later e = by (nat_lt (key_place (key_of earlier)) (key_place (key_of later))) refl e
+  where
+    by : (rises : Bool) → nat_lt (key_place (key_of earlier)) (key_place (key_of later)) ≡ rises
+        → (rises || ((key_place (key_of earlier) == 7) && (key_place (key_of later) == 7))) ≡ true → MayFollow earlier later
+    by true is passes = let less : key_place (key_of earlier) < key_place (key_of later) = grind (arith, nat_tests) in inl less
+    by false is both =
+        inr (last_place (key_of earlier) (first_true (key_place (key_of earlier) == 7) _ both), last_place (key_of later) (second_true (key_place (key_of earlier) == 7) _ both))
+
+-- the spelling of a setting that may follow has the right form
+is_formed-spelled : (laws : WordLaws) (last : Option ℕ) (x : Setting) → FitsSetting x → may_follow last (key_of x) ≡ true → is_formed last (key_and_value (spelled_setting x)) ≡ true
+is_formed-spelled laws last x fits follows =
+    ap (is_formed last) (key_and_value-spelled x) ∙ both_true follows (ap (λ r. not (is_misformed r)) (setting_for-spelled laws x fits))
+
+are_formed_after : (laws : WordLaws) (last : Setting) (xs : List Setting) → AreInOrder (last ∷ xs) → FitSettings xs
+    → are_formed (Some (key_place (key_of last))) (map spelled_setting xs) ≡ true
+are_formed_after laws last [] order fit = refl
+are_formed_after laws last (x ∷ xs) order fit =
+    both_true (is_formed-spelled laws (Some (key_place (key_of last))) x fit.0 (may_follow-after last x order.0))
+    (ap (λ r. are_formed (place_in r) (map spelled_setting xs)) (key_and_value-spelled x) ∙ are_formed_after laws x xs order.1 fit.1)
+
+-- the spellings of settings in order have the right form
+are_formed-spelled : (laws : WordLaws) (xs : List Setting) → AreInOrder xs → FitSettings xs → are_formed None (map spelled_setting xs) ≡ true
+are_formed-spelled laws [] order fit = refl
+are_formed-spelled laws (x ∷ xs) order fit =
+    both_true (is_formed-spelled laws None x fit.0 refl)
+    (ap (λ r. are_formed (place_in r) (map spelled_setting xs)) (key_and_value-spelled x) ∙ are_formed_after laws x xs order fit.1)
+
+in_order_after : (last : Setting) (xs : List Setting) → are_formed (Some (key_place (key_of last))) (map spelled_setting xs) ≡ true → AreInOrder (last ∷ xs)
+in_order_after last [] formed = tt
+in_order_after last (x ∷ xs) formed =
+    let said = key_and_value-spelled x in
+    let first = first_true (is_formed (Some (key_place (key_of last))) (key_and_value (spelled_setting x))) _ formed in
+    let others = second_true (is_formed (Some (key_place (key_of last))) (key_and_value (spelled_setting x))) _ formed in
+    let follows = first_true (may_follow (Some (key_place (key_of last))) (key_of x)) _ (sym (ap (is_formed (Some (key_place (key_of last)))) said) ∙ first) in
+    (after_may_follow last x follows, in_order_after x xs (sym (ap (λ r. are_formed (place_in r) (map spelled_setting xs)) said) ∙ others))
+
+-- spellings of settings that have the right form are in order
+pub in_order-formed : (xs : List Setting) → are_formed None (map spelled_setting xs) ≡ true → AreInOrder xs
+in_order-formed [] formed = tt
+in_order-formed (x ∷ xs) formed =
+    in_order_after x xs
+    (sym (ap (λ r. are_formed (place_in r) (map spelled_setting xs)) (key_and_value-spelled x)) ∙ second_true (is_formed None (key_and_value (spelled_setting x))) _ formed)
+
+-- the words of a scheme are read as that scheme
+pub scheme_in-words : (laws : WordLaws) (slot : ℕ) (action : Action) (settings : List Setting) (scheme : Scheme) → slot < 2 ^ 8 → FitSettings settings → AreInOrder settings
+    → settled (default_scheme action) settings ≡ Ok scheme → scheme_in (scheme_words slot action settings) ≡ Ok (slot, scheme)
+scheme_in-words laws slot action settings scheme small fit order made =
+    let keys = map spelled_setting settings in
+    then-Ok (ok_or (action_of (spelled_action action)) Form) _ action _ (ap (λ o. ok_or o Form) (action_of-spelled action))
+    (then-Ok (only_if (are_formed None keys) Form (tt {0})) _ tt _ (ap (λ t. only_if t Form (tt {0})) (are_formed-spelled laws settings order fit))
+    (then-Ok (number_8 (decimal slot)) _ slot _ (number_8-decimal laws slot small)
+    (then-Ok (with_settings (default_scheme action) keys) _ scheme _
+    (then-Ok (settings_of keys) (settled (default_scheme action)) settings _ (settings_of-spelled laws settings fit) made) refl)))
+
+action_word : (action : Action) → is_plain_word (spelled_action action) ≡ true
+action_word Stat = refl
+action_word Willneed = refl
+action_word ColdAction = refl
+action_word Pageout = refl
+action_word Hugepage = refl
+action_word Nohugepage = refl
+action_word LruPrio = refl
+action_word LruDeprio = refl
+
+-- two parts with a separator between them have bytes of a word only
+between : (a : List ℕ) (byte : ℕ) (b : List ℕ) → list_all is_word_byte a ≡ true → is_word_byte byte ≡ true → list_all is_word_byte b ≡ true
+    → list_all is_word_byte (a ++ byte ∷ b) ≡ true
+between a byte b first separator second = list_all-both is_word_byte a (byte ∷ b) first (both_true separator second)
+
+two_bytes : (a : List ℕ) (byte : ℕ) (b : List ℕ) → is_word_byte byte ≡ true → IsField a → IsField b → list_all is_word_byte (a ++ byte ∷ b) ≡ true
+two_bytes a byte b separator first second = between a byte b (field_bytes a first) separator (field_bytes b second)
+
+three_bytes : (a b c : List ℕ) → IsField a → IsField b → IsField c → list_all is_word_byte (a ++ comma ∷ (b ++ comma ∷ c)) ≡ true
+three_bytes a b c first second third = between a comma (b ++ comma ∷ c) (field_bytes a first) refl (two_bytes b comma c refl second third)
+
+-- the bytes of a part of a filter are bytes of a word
+part_bytes : (part : List ℕ) → list_all is_part_byte part ≡ true → list_all is_word_byte part ≡ true
+part_bytes part all = list_all-weaker is_part_byte is_word_byte (λ c passes. first_true (is_word_byte c) (not (c == colon)) passes) part all
+
+prefer_bytes : (prefer : Prefer) → list_all is_word_byte (spelled_prefer prefer) ≡ true
+prefer_bytes Hot = refl
+prefer_bytes Cold = refl
+
+value_bytes : (laws : WordLaws) (x : Setting) → FitsSetting x → list_all is_word_byte (setting_value x) ≡ true
+value_bytes laws (SizeOf span) fits = two_bytes (decimal span.low) comma (decimal span.high) refl (field_32 laws span.low fits.0) (field_32 laws span.high fits.1)
+value_bytes laws (CountOf span) fits = two_bytes (decimal span.low) comma (decimal span.high) refl (field_32 laws span.low fits.0) (field_32 laws span.high fits.1)
+value_bytes laws (AgeOf span) fits = two_bytes (decimal span.low) comma (decimal span.high) refl (field_32 laws span.low fits.0) (field_32 laws span.high fits.1)
+value_bytes laws (QuotaOf q) fits = two_bytes (decimal q.bytes) comma (decimal q.reset) refl (decimal_field laws q.bytes fits.0) (field_32 laws q.reset fits.1)
+value_bytes laws (WeightsOf w) fits =
+    three_bytes (decimal w.size) (decimal w.count) (decimal w.age) (field_16 laws w.size fits.0) (field_16 laws w.count fits.1) (field_16 laws w.age fits.2)
+value_bytes laws (PreferOf prefer) fits = prefer_bytes prefer
+value_bytes laws (MarksOf m) fits =
+    three_bytes (decimal m.high) (decimal m.mid) (decimal m.low) (field_32 laws m.high fits.0) (field_32 laws m.mid fits.1) (field_32 laws m.low fits.2)
+value_bytes laws (FilterOf f) fits =
+    between (spelled_answer f.allow) colon ((spelled_side f.matching ++ kind_name f.kind) ++ colon ∷ kind_value f.kind) (part_bytes (spelled_answer f.allow) (answer_part f.allow)) refl
+    (between (spelled_side f.matching ++ kind_name f.kind) colon (kind_value f.kind) (part_bytes (spelled_side f.matching ++ kind_name f.kind) (name_part f.matching f.kind))
+    refl (part_bytes (kind_value f.kind) (value_part laws f.kind fits)))
+
+setting_word : (laws : WordLaws) (x : Setting) → FitsSetting x → is_plain_word (spelled_setting x) ≡ true
+setting_word laws (SizeOf span) fits = value_bytes laws (SizeOf span) fits
+setting_word laws (CountOf span) fits = value_bytes laws (CountOf span) fits
+setting_word laws (AgeOf span) fits = value_bytes laws (AgeOf span) fits
+setting_word laws (QuotaOf quota) fits = value_bytes laws (QuotaOf quota) fits
+setting_word laws (WeightsOf weights) fits = value_bytes laws (WeightsOf weights) fits
+setting_word laws (PreferOf prefer) fits = value_bytes laws (PreferOf prefer) fits
+setting_word laws (MarksOf marks) fits = value_bytes laws (MarksOf marks) fits
+setting_word laws (FilterOf filter) fits = value_bytes laws (FilterOf filter) fits
+
+setting_words : (laws : WordLaws) (xs : List Setting) → FitSettings xs → list_all is_plain_word (map spelled_setting xs) ≡ true
+setting_words laws [] fit = refl
+setting_words laws (x ∷ xs) fit = both_true (setting_word laws x fit.0) (setting_words laws xs fit.1)
+
+-- the words of a scheme are plain
+pub scheme_words-plain : (laws : WordLaws) (slot : ℕ) (action : Action) (settings : List Setting) → slot < 2 ^ 8 → FitSettings settings
+    → list_all is_plain_word (scheme_words slot action settings) ≡ true
+scheme_words-plain laws slot action settings small fit =
+    both_true (field_word (decimal slot) (field_8 laws slot small)) (both_true (action_word action) (setting_words laws settings fit))

@@ -1,0 +1,143 @@
+-- What each line says, and that a line that is read says what was read.
+use Rattle.std.specs.Prelude.{◌≡◌, ◌⊎◌, ℕ, ◌+◌, ◌-◌, ◌^◌, ◌<◌, ◌≤◌, Bool, true, List, codes, Some, None, option_map, Result, Ok, is_none}
+use Rattle.damon_types.specs.declared.scheme.Action.{Action}
+use Rattle.damon_types.specs.declared.scheme.Scheme.{Scheme}
+use Rattle.damon_types.specs.declared.scheme.SlotChange.{SlotChange}
+use Rattle.damon_types.specs.declared.space.TheConstants.{PAGE_SIZE}
+use Rattle.damon_types.specs.declared.space.Target.{Target}
+use Rattle.damon_types.specs.Space.{page_of}
+use Rattle.line_text.specs.Laws.{PutsPartsTogether, ReadsDecimal, ReadsOnlyDecimal, ReadsOnlySpelledAddress, ReadsSpelledAddress, SpellsDigits, SpellsHexDigits, StripsOnlyFront, TakesApartPieces}
+use Rattle.live_commit.specs.Commit.{CommitValue}
+use Rattle.script_lines.specs.declared.part.Part.{Part}
+use Rattle.script_lines.specs.declared.part.Part.TheVariants.{Attrs, Range, Slot, Metric}
+use Rattle.script_lines.specs.declared.kind.ScriptKind.{ScriptKind}
+use Rattle.script_lines.specs.declared.keys.Setting.{Setting}
+use Rattle.script_lines.specs.Body.{are_swept, command_line, part_line, sweep_line, touch_line, wants_attrs, wants_slot}
+use Rattle.script_lines.specs.Command.{CommandValue, Touch, Sweep, Step, Arm, Finish, Show, Commit}
+use Rattle.script_lines.specs.Head.{scheme_line}
+use Rattle.script_lines.specs.Fits.{FitSettings, FitsAttrs, FitsRange}
+use Rattle.script_lines.specs.Keys.{action_of}
+use Rattle.script_lines.specs.Settings.{AreInOrder, default_scheme, settled}
+use Rattle.script_lines.specs.Words.{alone}
+use Rattle.script_lines.specs.Spelling.{spelled_action, spelled_attrs, spelled_drop, spelled_metric, spelled_range, spelled_scheme, spelled_step, spelled_sweep, spelled_touch}
+
+-- what the laws of `line_text` say of words, numbers and addresses
+pub record WordLaws : Type 0 where
+  pub parts : PutsPartsTogether
+  pub pieces : TakesApartPieces
+  pub numbers : ReadsOnlyDecimal
+  pub spelled_numbers : ReadsDecimal
+  pub digits : SpellsDigits
+  pub addresses : ReadsOnlySpelledAddress
+  pub spelled_addresses : ReadsSpelledAddress
+  pub hex_digits : SpellsHexDigits
+  pub prefixes : StripsOnlyFront
+
+-- text that a value is read from is the spelling of that value
+abbrev pub ReadsOnly : {T A : Type 0} → (T → Result A ScriptKind) → (A → T) → Type 0
+ReadsOnly {T} {A} read spelled = (text : T) (x : A) → read text ≡ Ok x → text ≡ spelled x
+
+-- a word that names an action is the name of it
+abbrev pub NamesActions : Type 0
+NamesActions =
+    (name : List ℕ) (action : Action) → action_of name ≡ Some action → name ≡ spelled_action action
+
+-- a line spells a slot, an action and settings in order, which turn the action's default into this scheme
+pub record IsScheme (line : List ℕ) (slot : ℕ) (scheme : Scheme) : Type 0 where
+  pub action : Action
+  pub settings : List Setting
+  pub spelled : line ≡ spelled_scheme slot action settings
+  pub small : slot < 2 ^ 8
+  pub fit : FitSettings settings
+  pub in_order : AreInOrder settings
+  pub made : settled (default_scheme action) settings ≡ Ok scheme
+
+-- a line gives a slot its scheme
+abbrev pub GivesScheme : List ℕ → SlotChange → Type 0
+GivesScheme line change =
+    (scheme : Scheme) × (change.scheme ≡ Some scheme) × IsScheme line change.slot scheme
+
+-- a line empties a slot
+abbrev pub EmptiesSlot : List ℕ → SlotChange → Type 0
+EmptiesSlot line change =
+    (change.scheme ≡ None) × (line ≡ spelled_drop change.slot) × (change.slot < 2 ^ 8)
+
+-- a line says a part of a commit
+abbrev pub IsPart : List ℕ → Part → Type 0
+IsPart line (Attrs attrs) = (line ≡ spelled_attrs attrs) × FitsAttrs attrs
+IsPart line (Range range) = (line ≡ spelled_range range) × FitsRange range
+IsPart line (Slot change) = GivesScheme line change ⊎ EmptiesSlot line change
+IsPart line (Metric value) = (line ≡ spelled_metric value) × (value < 2 ^ 32)
+
+-- whether a part may come next: attributes, ranges, a slot change, a metric; only ranges repeat
+abbrev pub may_come : CommitValue → Part → Bool
+may_come before (Attrs attrs) = wants_attrs before
+may_come before (Range range) = wants_slot before
+may_come before (Slot change) = wants_slot before
+may_come before (Metric value) = is_none before.metric
+
+-- a line touches the page that holds this byte of a target
+pub record IsTouch (space : List Target) (line : List ℕ) (page : ℕ) : Type 0 where
+  pub target : ℕ
+  pub addr : ℕ
+  pub spelled : line ≡ spelled_touch target addr
+  pub target_fits : target < 2 ^ 32
+  pub addr_fits : addr < 2 ^ 64
+  pub holds : page_of space target addr ≡ Some page
+
+-- a line sweeps the pages of a target between two addresses, from `first` to before `end`
+pub record IsSweep (space : List Target) (line : List ℕ) (first end : ℕ) : Type 0 where
+  pub target : ℕ
+  pub from : ℕ
+  pub to : ℕ
+  pub spelled : line ≡ spelled_sweep target from to
+  pub target_fits : target < 2 ^ 32
+  pub from_fits : from < 2 ^ 64
+  pub to_fits : to < 2 ^ 64
+  pub whole : are_swept from to ≡ true
+  pub begins : page_of space target from ≡ Some first
+  pub ends : option_map (λ last. last + 1) (page_of space target (to - PAGE_SIZE)) ≡ Some end
+
+-- a line says a command; a commit has lines of its own
+abbrev pub IsCommand : List Target → List ℕ → CommandValue → Type 0
+IsCommand space line (Touch page) = IsTouch space line page
+IsCommand space line (Sweep first end) = IsSweep space line first end
+IsCommand space line (Step times) = (line ≡ spelled_step times) × (1 ≤ times) × (times ≤ 1000000)
+IsCommand space line Arm = line ≡ codes "arm"
+IsCommand space line Finish = line ≡ codes "finish"
+IsCommand space line Show = line ≡ codes "show"
+IsCommand space line (Commit commit) = ⊥
+
+-- a line that is read as one word is that word
+abbrev pub ReadsOnlyWords : Type 0
+ReadsOnlyWords = (word line : List ℕ) → alone word line ≡ Ok tt → line ≡ word
+
+-- a line that a touch is read from touches a page
+abbrev pub ReadsOnlyTouches : Type 0
+ReadsOnlyTouches =
+    (space : List Target) (line : List ℕ) (command : CommandValue) → touch_line space line ≡ Ok command
+    → (page : ℕ) × (Touch page ≡ command) × IsTouch space line page
+
+-- a line that a sweep is read from sweeps pages
+abbrev pub ReadsOnlySweeps : Type 0
+ReadsOnlySweeps =
+    (space : List Target) (line : List ℕ) (command : CommandValue) → sweep_line space line ≡ Ok command
+    → (first : ℕ) × (end : ℕ) × (Sweep first end ≡ command) × IsSweep space line first end
+
+-- a line that a command is read from says that command
+abbrev pub ReadsOnlyCommands : Type 0
+ReadsOnlyCommands =
+    (space : List Target) (line : List ℕ) (command : CommandValue)
+    → command_line space line ≡ Ok command → IsCommand space line command
+
+-- a line that a part of a commit is read from says that part, and it may come there
+abbrev pub ReadsOnlyParts : Type 0
+ReadsOnlyParts =
+    (before : CommitValue) (line : List ℕ) (part : Part)
+    → part_line before line ≡ Ok part → (may_come before part ≡ true) × IsPart line part
+
+-- a line of a setup that a slot change is read from gives the slot its scheme
+abbrev pub ReadsOnlySchemes : Type 0
+ReadsOnlySchemes =
+    (before : List SlotChange) (line : List ℕ) (change : SlotChange)
+    → scheme_line before line ≡ Ok change → GivesScheme line change
