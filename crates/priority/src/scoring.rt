@@ -90,17 +90,21 @@ pub fn score(row: &Row, total: u32, aggr: u32, scheme: &Scheme) -> u32
 #[derive(Debug, Drop)]
 struct Scale {
     whole: u32,
+    // The parts of smaller numbers are 0.
+    least: u32,
     by_whole: Reciprocal,
 }
 
 impl Model for Scale {
-    ghost use Rattle.std.specs.Prelude.{◌≡◌, ◌≤◌, ℕ};
+    ghost use Rattle.std.specs.Prelude.{◌≡◌, ◌+◌, ◌*◌, ◌≤◌, ◌<◌, ℕ};
+    ghost use Rattle.priority.specs.declared.scoring.TheConstants.{MAX_SCORE};
 
     ghost Value = { ℕ };
 
     ghost view = { λ s. s.whole };
 
-    ghost invariant = { λ s. (1 ≤ s.whole) × (s.by_whole ≡ s.whole) };
+    ghost invariant = { λ s. (1 ≤ s.whole) × (s.by_whole ≡ s.whole)
+        × (s.least * MAX_SCORE < s.whole + MAX_SCORE) };
 }
 
 impl Scale {
@@ -110,6 +114,7 @@ impl Scale {
     {
         Scale {
             whole,
+            least: whole.div_ceil(MAX_SCORE),
             by_whole: Reciprocal::of(whole),
         }
     }
@@ -119,6 +124,10 @@ impl Scale {
         ensures exact { result ≡ scaled number self.now }
         ensures most { result ≤ MAX_SCORE }
     {
+        // Mostly a row has few of all pages and few accesses, and then needs no product.
+        if number < self.least {
+            return 0;
+        }
         let part = number.min(self.whole);
         if self.whole <= u32::MAX / MAX_SCORE {
             self.by_whole.quotient(MAX_SCORE * part)
