@@ -1,4 +1,5 @@
-ghost use Rattle.std.specs.Prelude.{◌≡◌, ◌+◌, ◌≤◌, ◌<◌, ◌^◌, max};
+ghost use Rattle.std.specs.Prelude.{◌≡◌, ◌+◌, ◌≤◌, ◌<◌, ◌^◌, ℕ, true, max, slice_index};
+ghost use Rattle.priority.specs.ByAge.{AreByAge};
 ghost use Rattle.priority.specs.Score.{preferred, scaled, score_by, score_of, weighted_mean};
 
 use damon_types::{Prefer, Row, Scheme, Weights};
@@ -8,8 +9,11 @@ use std::marker::Model;
 /// The greatest score.
 pub const MAX_SCORE: u32 = 99;
 
-/// Scores rows for one scheme. It holds the reciprocals of all divisors, so it is made once for many
-/// rows.
+// The number of ages that make a difference to a score.
+const AGES: usize = MAX_SCORE as usize + 1;
+
+/// Scores rows for one scheme. It holds the reciprocals of all divisors and a list of frequent scores, so
+/// it is made once for many rows.
 #[derive(Debug, Drop)]
 pub struct Scorer {
     pages: Scale,
@@ -18,10 +22,13 @@ pub struct Scorer {
     prefer: Prefer,
     // Of the sum of the weights, or of 1 where that is 0.
     by_sum: Reciprocal,
+    // By age, the scores of rows with few of all pages and few accesses.
+    by_age: [u32; AGES],
 }
 
 impl Model for Scorer {
     ghost use Rattle.std.specs.Prelude.{◌≡◌, ◌+◌, max};
+    ghost use Rattle.priority.specs.ByAge.{AreByAge};
     ghost use Rattle.priority.specs.Score.{Scoring};
 
     ghost Value = { Scoring };
@@ -33,8 +40,8 @@ impl Model for Scorer {
       prefer = s.prefer;
     } };
 
-    ghost invariant = { λ s. s.by_sum
-        ≡ max (s.weights.size + s.weights.count + s.weights.age) 1 };
+    ghost invariant = { λ s. (s.by_sum ≡ max (s.weights.size + s.weights.count + s.weights.age) 1)
+        × AreByAge s.weights s.prefer s.by_age };
 }
 
 impl Scorer {
@@ -51,12 +58,16 @@ impl Scorer {
         } }
     {
         let weights = scheme.weights;
+        let prefer = scheme.prefer;
+        let by_sum = Reciprocal::of(sum_of(weights).max(1));
+        let by_age = scores_by_age(weights, prefer, &by_sum);
         Scorer {
             pages: Scale::of(total),
             counts: Scale::of(aggr),
             weights,
-            prefer: scheme.prefer,
-            by_sum: Reciprocal::of(sum_of(weights).max(1)),
+            prefer,
+            by_sum,
+            by_age,
         }
     }
 
@@ -69,11 +80,37 @@ impl Scorer {
         ensures exact { result ≡ score_by self.now row.now }
         ensures most { result ≤ MAX_SCORE }
     {
+        // Mostly a row has few of all pages and few accesses.
+        if self.pages.is_small(row.pages) && self.counts.is_small(row.count) {
+            return self.by_age[row.age.min(MAX_SCORE) as usize];
+        }
+        self.score_of_parts(row)
+    }
+
+    // The score of any row. It stands by itself, so that a caller's loop keeps its values in registers.
+    #[inline(never)]
+    fn score_of_parts(&self, row: &Row) -> u32
+        ensures exact { result ≡ score_by self.now row.now }
+        ensures most { result ≤ MAX_SCORE }
+    {
         let size = self.pages.scaled(row.pages);
         let count = preferred(self.prefer, self.counts.scaled(row.count));
         let age = row.age.min(MAX_SCORE);
         weighted_mean(self.weights, &self.by_sum, size, count, age)
     }
+}
+
+// By age, the scores of rows whose pages and count are parts of 0.
+fn scores_by_age(weights: Weights, prefer: Prefer, by_sum: &Reciprocal) -> [u32; AGES]
+    requires { by_sum.now ≡ max (weights.size + weights.count + weights.age) 1 }
+    ensures { AreByAge weights prefer result }
+{
+    let count = preferred(prefer, 0);
+    let mut scores = [0; AGES];
+    for age in 0..AGES {
+        scores[age] = weighted_mean(weights, by_sum, 0, count, age as u32);
+    }
+    scores
 }
 
 /// The score of a row for a scheme, as [`Scorer::score`] gives it. For many rows make a [`Scorer`].
@@ -119,13 +156,19 @@ impl Scale {
         }
     }
 
+    // Whether the part of a number is 0 for sure.
+    fn is_small(&self, number: u32) -> bool
+        ensures { result ≡ true → scaled number self.now ≡ 0 }
+    {
+        number < self.least
+    }
+
     // A number as a part of the whole, on a scale from 0 to the greatest score, rounded down.
     fn scaled(&self, number: u32) -> u32
         ensures exact { result ≡ scaled number self.now }
         ensures most { result ≤ MAX_SCORE }
     {
-        // Mostly a row has few of all pages and few accesses, and then needs no product.
-        if number < self.least {
+        if self.is_small(number) {
             return 0;
         }
         let part = number.min(self.whole);

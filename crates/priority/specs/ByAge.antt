@@ -1,0 +1,12 @@
+-- The scores that a scorer keeps. Only proofs need it.
+use Rattle.std.specs.Prelude.{◌≡◌, ℕ, ◌+◌, ◌≤◌, List, length, slice_index}
+use Rattle.damon_types.specs.declared.scheme.Weights.{Weights}
+use Rattle.damon_types.specs.declared.scheme.Prefer.{Prefer}
+use Rattle.priority.specs.declared.scoring.TheConstants.{MAX_SCORE}
+use Rattle.priority.specs.Score.{preferred, weighted_mean}
+
+-- by age, the scores of rows whose pages and count are parts of 0
+pub record AreByAge (weights : Weights) (prefer : Prefer) (scores : List ℕ) : Type 0 where
+  pub all : length scores ≡ MAX_SCORE + 1
+  pub each : (age : ℕ) → age ≤ MAX_SCORE → slice_index scores age ≡ weighted_mean weights 0 (preferred prefer 0) age
+  pub most : (age : ℕ) → age ≤ MAX_SCORE → slice_index scores age ≤ MAX_SCORE
