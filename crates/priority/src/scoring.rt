@@ -1,16 +1,14 @@
-ghost use Rattle.std.specs.Prelude.{◌≡◌, ◌+◌, ◌≤◌, ◌<◌, ◌^◌, ℕ, true, max, slice_index};
-ghost use Rattle.priority.specs.ByAge.{AreByAge};
+ghost use Rattle.std.specs.Prelude.{◌≡◌, ◌+◌, ◌≤◌, ◌<◌, ◌*◌, ◌^◌, max};
+ghost use Rattle.priority.specs.Frequent.{AreFrequent};
 ghost use Rattle.priority.specs.Score.{preferred, scaled, score_by, score_of, weighted_mean};
 
+use crate::frequent::FrequentScores;
 use damon_types::{Prefer, Row, Scheme, Weights};
 use reciprocal::Reciprocal;
 use std::marker::Model;
 
 /// The greatest score.
 pub const MAX_SCORE: u32 = 99;
-
-// The number of ages that make a difference to a score.
-const AGES: usize = MAX_SCORE as usize + 1;
 
 /// Scores rows for one scheme. It holds the reciprocals of all divisors and a list of frequent scores, so
 /// it is made once for many rows.
@@ -22,13 +20,12 @@ pub struct Scorer {
     prefer: Prefer,
     // Of the sum of the weights, or of 1 where that is 0.
     by_sum: Reciprocal,
-    // By age, the scores of rows with few of all pages and few accesses.
-    by_age: [u32; AGES],
+    frequent: FrequentScores,
 }
 
 impl Model for Scorer {
     ghost use Rattle.std.specs.Prelude.{◌≡◌, ◌+◌, max};
-    ghost use Rattle.priority.specs.ByAge.{AreByAge};
+    ghost use Rattle.priority.specs.Frequent.{AreFrequent};
     ghost use Rattle.priority.specs.Score.{Scoring};
 
     ghost Value = { Scoring };
@@ -41,13 +38,14 @@ impl Model for Scorer {
     } };
 
     ghost invariant = { λ s. (s.by_sum ≡ max (s.weights.size + s.weights.count + s.weights.age) 1)
-        × AreByAge s.weights s.prefer s.by_age };
+        × AreFrequent s.pages s.counts s.weights s.prefer s.frequent };
 }
 
 impl Scorer {
     /// What scores rows for a scheme, where `total` is the number of pages of all ranges (at least 1)
-    /// and `aggr` the number of passes of an aggregation (at least 1).
-    pub fn new(total: u32, aggr: u32, scheme: &Scheme) -> Scorer
+    /// and `aggr` the number of passes of an aggregation (at least 1). Only the time that it takes depends
+    /// on `rows`, the number of rows that will be scored.
+    pub fn new(total: u32, aggr: u32, rows: u32, scheme: &Scheme) -> Scorer
         requires total { 1 ≤ total }
         requires aggr { 1 ≤ aggr }
         ensures { result ≡ record {
@@ -59,15 +57,17 @@ impl Scorer {
     {
         let weights = scheme.weights;
         let prefer = scheme.prefer;
+        let pages = Scale::of(total);
+        let counts = Scale::of(aggr);
         let by_sum = Reciprocal::of(sum_of(weights).max(1));
-        let by_age = scores_by_age(weights, prefer, &by_sum);
+        let frequent = FrequentScores::of(rows, &pages, &counts, weights, prefer, &by_sum);
         Scorer {
-            pages: Scale::of(total),
-            counts: Scale::of(aggr),
+            pages,
+            counts,
             weights,
             prefer,
             by_sum,
-            by_age,
+            frequent,
         }
     }
 
@@ -80,9 +80,8 @@ impl Scorer {
         ensures exact { result ≡ score_by self.now row.now }
         ensures most { result ≤ MAX_SCORE }
     {
-        // Mostly a row has few of all pages and few accesses.
-        if self.pages.is_small(row.pages) && self.counts.is_small(row.count) {
-            return self.by_age[row.age.min(MAX_SCORE) as usize];
+        if row.pages < self.frequent.pages && row.count < self.frequent.count {
+            return self.frequent.by_age[row.age.min(MAX_SCORE) as usize];
         }
         self.score_of_parts(row)
     }
@@ -100,19 +99,6 @@ impl Scorer {
     }
 }
 
-// By age, the scores of rows whose pages and count are parts of 0.
-fn scores_by_age(weights: Weights, prefer: Prefer, by_sum: &Reciprocal) -> [u32; AGES]
-    requires { by_sum.now ≡ max (weights.size + weights.count + weights.age) 1 }
-    ensures { AreByAge weights prefer result }
-{
-    let count = preferred(prefer, 0);
-    let mut scores = [0; AGES];
-    for age in 0..AGES {
-        scores[age] = weighted_mean(weights, by_sum, 0, count, age as u32);
-    }
-    scores
-}
-
 /// The score of a row for a scheme, as [`Scorer::score`] gives it. For many rows make a [`Scorer`].
 pub fn score(row: &Row, total: u32, aggr: u32, scheme: &Scheme) -> u32
     requires total { 1 ≤ total }
@@ -120,12 +106,12 @@ pub fn score(row: &Row, total: u32, aggr: u32, scheme: &Scheme) -> u32
     ensures exact { result ≡ score_of row.now total aggr scheme.now }
     ensures most { result ≤ MAX_SCORE }
 {
-    Scorer::new(total, aggr, scheme).score(row)
+    Scorer::new(total, aggr, 1, scheme).score(row)
 }
 
 // Numbers as parts of a whole.
 #[derive(Debug, Drop)]
-struct Scale {
+pub(crate) struct Scale {
     whole: u32,
     // The parts of smaller numbers are 0.
     least: u32,
@@ -156,11 +142,11 @@ impl Scale {
         }
     }
 
-    // Whether the part of a number is 0 for sure.
-    fn is_small(&self, number: u32) -> bool
-        ensures { result ≡ true → scaled number self.now ≡ 0 }
+    // A number below which each number is a part of 0.
+    pub(crate) fn least(&self) -> u32
+        ensures { result * MAX_SCORE < self.now + MAX_SCORE }
     {
-        number < self.least
+        self.least
     }
 
     // A number as a part of the whole, on a scale from 0 to the greatest score, rounded down.
@@ -168,7 +154,7 @@ impl Scale {
         ensures exact { result ≡ scaled number self.now }
         ensures most { result ≤ MAX_SCORE }
     {
-        if self.is_small(number) {
+        if number < self.least {
             return 0;
         }
         let part = number.min(self.whole);
@@ -191,7 +177,7 @@ fn sum_of(weights: Weights) -> u32
 
 // An access count on that scale, or its distance from the greatest score if cold rows are
 // preferred.
-fn preferred(prefer: Prefer, count: u32) -> u32
+pub(crate) fn preferred(prefer: Prefer, count: u32) -> u32
     requires { count ≤ MAX_SCORE }
     ensures exact { result ≡ preferred prefer count }
     ensures most { result ≤ MAX_SCORE }
@@ -203,7 +189,13 @@ fn preferred(prefer: Prefer, count: u32) -> u32
 }
 
 // The mean of three numbers by their weights, rounded down, and 0 where all weights are 0: 0 divided by 1.
-fn weighted_mean(weights: Weights, by_sum: &Reciprocal, size: u32, count: u32, age: u32) -> u32
+pub(crate) fn weighted_mean(
+    weights: Weights,
+    by_sum: &Reciprocal,
+    size: u32,
+    count: u32,
+    age: u32,
+) -> u32
     requires sum { by_sum.now ≡ max (weights.size + weights.count + weights.age) 1 }
     requires size { size ≤ MAX_SCORE }
     requires count { count ≤ MAX_SCORE }

@@ -1,7 +1,7 @@
 use Rattle.std.proofs.Common.{◌≡◌, ◌≤◌, ◌<◌, ℕ, length}
 use Rattle.std.specs.Prelude.{slice_index}
 use Rattle.priority.specs.Score.{preferred, weighted_mean}
-use Rattle.priority.proofs.scoring.scores_by_age.Given as goal
+use Rattle.priority.proofs.frequent.scores_by_age.Given as goal
 
 abbrev pub invariant-loop-age : goal.invariant-loop-age
 invariant-loop-age l = record {
