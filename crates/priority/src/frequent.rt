@@ -18,11 +18,12 @@ const MANY_ROWS: u32 = 256;
 pub(crate) struct FrequentScores {
     pub(crate) pages: u32,
     pub(crate) count: u32,
-    pub(crate) by_age: [u32; AGES],
+    // In bytes, since the list is made for each scheme.
+    pub(crate) by_age: [u8; AGES],
 }
 
 impl FrequentScores {
-    // What is listed where so many rows are to be scored.
+    // The list to score `rows` rows with. It lists no row where they are few.
     pub(crate) fn of(
         rows: u32,
         pages: &Scale,
@@ -50,14 +51,14 @@ impl FrequentScores {
 }
 
 // By age, the scores of rows whose pages and count are parts of 0.
-fn scores_by_age(weights: Weights, prefer: Prefer, by_sum: &Reciprocal) -> [u32; AGES]
+fn scores_by_age(weights: Weights, prefer: Prefer, by_sum: &Reciprocal) -> [u8; AGES]
     requires { by_sum.now ≡ max (weights.size + weights.count + weights.age) 1 }
     ensures { AreByAge weights prefer result }
 {
     let count = preferred(prefer, 0);
     let mut scores = [0; AGES];
     for age in 0..AGES {
-        scores[age] = weighted_mean(weights, by_sum, 0, count, age as u32);
+        scores[age] = weighted_mean(weights, by_sum, 0, count, age as u32) as u8;
     }
     scores
 }

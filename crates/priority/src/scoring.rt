@@ -81,7 +81,7 @@ impl Scorer {
         ensures most { result ≤ MAX_SCORE }
     {
         if row.pages < self.frequent.pages && row.count < self.frequent.count {
-            return self.frequent.by_age[row.age.min(MAX_SCORE) as usize];
+            return u32::from(self.frequent.by_age[row.age.min(MAX_SCORE) as usize]);
         }
         self.score_of_parts(row)
     }
