@@ -1,6 +1,7 @@
 -- A listed score is the score of the row.
-use Rattle.std.proofs.Common.{◌≡◌, ℕ, ◌*◌, ◌+◌, ◌/◌, ◌<◌, ◌≤◌, ap, ◌∙◌, arith}
-use Rattle.std.specs.Prelude.{min, slice_index_or}
+use Rattle.std.proofs.Common.{◌≡◌, true, ℕ, ◌*◌, ◌+◌, ◌/◌, ◌<◌, ◌≤◌, ap, ◌∙◌, arith}
+use Rattle.std.specs.Prelude.{◌&&◌, nat_lt, min, slice_index_or}
+use Rattle.std.proofs.lemmas.Bool.Decides.{nat_tests}
 use Rattle.std.proofs.Math.Nat.{div-eq_of_lt}
 use Rattle.damon_types.specs.declared.row.Row.{Row}
 use Rattle.priority.specs.declared.frequent.FrequentScores.{FrequentScores}
@@ -23,3 +24,10 @@ listed_score by row f age is few rare aged =
     ∙ ap (λ s. weighted_mean w s (preferred p 0) age) (small row.pages by.total f.pages is.pages few)
     ∙ ap (λ n. weighted_mean w (scaled row.pages by.total) (preferred p n) age) (small row.count by.aggr f.count is.count rare)
     ∙ ap (λ a. weighted_mean w (scaled row.pages by.total) (preferred p (scaled row.count by.aggr)) a) aged
+
+-- both of two tests hold
+pub first_less : (a b c d : ℕ) → nat_lt a b && nat_lt c d ≡ true → a < b
+first_less a b c d both = grind (arith, nat_tests)
+
+pub second_less : (a b c d : ℕ) → nat_lt a b && nat_lt c d ≡ true → c < d
+second_less a b c d both = grind (arith, nat_tests)

@@ -80,7 +80,8 @@ impl Scorer {
         ensures exact { result ≡ score_by self.now row.now }
         ensures most { result ≤ MAX_SCORE }
     {
-        if row.pages < self.frequent.pages && row.count < self.frequent.count {
+        // `&` and not `&&`: one branch for two comparisons.
+        if (row.pages < self.frequent.pages) & (row.count < self.frequent.count) {
             return u32::from(self.frequent.by_age[row.age.min(MAX_SCORE) as usize]);
         }
         self.score_of_parts(row)
