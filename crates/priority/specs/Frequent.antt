@@ -6,7 +6,7 @@ use Rattle.priority.specs.declared.frequent.FrequentScores.{FrequentScores}
 use Rattle.priority.specs.declared.scoring.TheConstants.{MAX_SCORE}
 use Rattle.priority.specs.Score.{preferred, weighted_mean}
 
--- by age, the scores of rows whose pages and count are parts of 0
+-- by age, the scores of rows whose pages and count are 0 on the scale of scores
 pub record AreByAge (weights : Weights) (prefer : Prefer) (scores : List ℕ) : Type 0 where
   pub each : (age : ℕ) → age ≤ MAX_SCORE → slice_index scores age ≡ weighted_mean weights 0 (preferred prefer 0) age
   pub most : (age : ℕ) → age ≤ MAX_SCORE → slice_index scores age ≤ MAX_SCORE

@@ -12,8 +12,8 @@ pub(crate) const AGES: usize = MAX_SCORE as usize + 1;
 // For fewer rows it takes longer to list the scores than to find them one by one.
 const MANY_ROWS: u32 = 256;
 
-/// The scores of the rows with fewer than `pages` pages and a count below `count`, by age. All such numbers
-/// are parts of 0 of their wholes. No row is listed where `pages` is 0.
+/// The scores of the rows with fewer than `pages` pages and a count below `count`, by age. Such pages and
+/// counts are 0 on the scale of scores. No row is listed where `pages` is 0.
 #[derive(Debug, Drop)]
 pub(crate) struct FrequentScores {
     pub(crate) pages: u32,
@@ -50,7 +50,7 @@ impl FrequentScores {
     }
 }
 
-// By age, the scores of rows whose pages and count are parts of 0.
+// By age, the scores of rows whose pages and count are 0 on the scale of scores.
 fn scores_by_age(weights: Weights, prefer: Prefer, by_sum: &Reciprocal) -> [u8; AGES]
     requires { by_sum.now ≡ max (weights.size + weights.count + weights.age) 1 }
     ensures { AreByAge weights prefer result }

@@ -114,7 +114,7 @@ pub fn score(row: &Row, total: u32, aggr: u32, scheme: &Scheme) -> u32
 #[derive(Debug, Drop)]
 pub(crate) struct Scale {
     whole: u32,
-    // The parts of smaller numbers are 0.
+    // Smaller numbers are 0 on the scale of scores.
     least: u32,
     by_whole: Reciprocal,
 }
@@ -143,7 +143,7 @@ impl Scale {
         }
     }
 
-    // A number below which each number is a part of 0.
+    // A number below which each number is 0 on that scale.
     pub(crate) fn least(&self) -> u32
         ensures { result * MAX_SCORE < self.now + MAX_SCORE }
     {
