@@ -1,4 +1,5 @@
 pub mod ScaleLemmas
+pub mod FrequentLemmas
 pub mod HistogramLemmas
 pub mod OrderLemmas
 pub mod ShareLemmas

@@ -6,3 +6,4 @@ pub mod Chosen
 pub mod Best
 pub mod Histogram
 pub mod Kept
+pub mod Frequent

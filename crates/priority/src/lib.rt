@@ -6,6 +6,8 @@
 mod candidates;
 /// The order of candidates, and their shares.
 mod choice;
+/// The scores of frequent rows.
+mod frequent;
 /// Sums by an index.
 mod histogram;
 /// Laws of the choice.

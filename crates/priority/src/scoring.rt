@@ -1,6 +1,8 @@
-ghost use Rattle.std.specs.Prelude.{◌≡◌, ◌+◌, ◌≤◌, ◌<◌, ◌^◌, max};
+ghost use Rattle.std.specs.Prelude.{◌≡◌, ◌+◌, ◌≤◌, ◌<◌, ◌*◌, ◌^◌, max};
+ghost use Rattle.priority.specs.Frequent.{AreFrequent};
 ghost use Rattle.priority.specs.Score.{preferred, scaled, score_by, score_of, weighted_mean};
 
+use crate::frequent::FrequentScores;
 use damon_types::{Prefer, Row, Scheme, Weights};
 use reciprocal::Reciprocal;
 use std::marker::Model;
@@ -8,8 +10,8 @@ use std::marker::Model;
 /// The greatest score.
 pub const MAX_SCORE: u32 = 99;
 
-/// Scores rows for one scheme. It holds the reciprocals of all divisors, so it is made once for many
-/// rows.
+/// Scores rows for one scheme. It holds the reciprocals of all divisors and a list of frequent scores, so
+/// it is made once for many rows.
 #[derive(Debug, Drop)]
 pub struct Scorer {
     pages: Scale,
@@ -18,10 +20,12 @@ pub struct Scorer {
     prefer: Prefer,
     // Of the sum of the weights, or of 1 where that is 0.
     by_sum: Reciprocal,
+    frequent: FrequentScores,
 }
 
 impl Model for Scorer {
     ghost use Rattle.std.specs.Prelude.{◌≡◌, ◌+◌, max};
+    ghost use Rattle.priority.specs.Frequent.{AreFrequent};
     ghost use Rattle.priority.specs.Score.{Scoring};
 
     ghost Value = { Scoring };
@@ -33,14 +37,15 @@ impl Model for Scorer {
       prefer = s.prefer;
     } };
 
-    ghost invariant = { λ s. s.by_sum
-        ≡ max (s.weights.size + s.weights.count + s.weights.age) 1 };
+    ghost invariant = { λ s. (s.by_sum ≡ max (s.weights.size + s.weights.count + s.weights.age) 1)
+        × AreFrequent s.pages s.counts s.weights s.prefer s.frequent };
 }
 
 impl Scorer {
     /// What scores rows for a scheme, where `total` is the number of pages of all ranges (at least 1)
-    /// and `aggr` the number of passes of an aggregation (at least 1).
-    pub fn new(total: u32, aggr: u32, scheme: &Scheme) -> Scorer
+    /// and `aggr` the number of passes of an aggregation (at least 1). Only the time that it takes depends
+    /// on `rows`, the number of rows that will be scored.
+    pub fn new(total: u32, aggr: u32, rows: u32, scheme: &Scheme) -> Scorer
         requires total { 1 ≤ total }
         requires aggr { 1 ≤ aggr }
         ensures { result ≡ record {
@@ -51,12 +56,18 @@ impl Scorer {
         } }
     {
         let weights = scheme.weights;
+        let prefer = scheme.prefer;
+        let pages = Scale::of(total);
+        let counts = Scale::of(aggr);
+        let by_sum = Reciprocal::of(sum_of(weights).max(1));
+        let frequent = FrequentScores::of(rows, &pages, &counts, weights, prefer, &by_sum);
         Scorer {
-            pages: Scale::of(total),
-            counts: Scale::of(aggr),
+            pages,
+            counts,
             weights,
-            prefer: scheme.prefer,
-            by_sum: Reciprocal::of(sum_of(weights).max(1)),
+            prefer,
+            by_sum,
+            frequent,
         }
     }
 
@@ -66,6 +77,19 @@ impl Scorer {
     /// all weights 0 the score is 0. The rule is this project's own.
     #[inline]
     pub fn score(&self, row: &Row) -> u32
+        ensures exact { result ≡ score_by self.now row.now }
+        ensures most { result ≤ MAX_SCORE }
+    {
+        // `&` and not `&&`: one branch for two comparisons.
+        if (row.pages < self.frequent.pages) & (row.count < self.frequent.count) {
+            return u32::from(self.frequent.by_age[row.age.min(MAX_SCORE) as usize]);
+        }
+        self.score_of_parts(row)
+    }
+
+    // The score of any row. It stands by itself, so that a caller's loop keeps its values in registers.
+    #[inline(never)]
+    fn score_of_parts(&self, row: &Row) -> u32
         ensures exact { result ≡ score_by self.now row.now }
         ensures most { result ≤ MAX_SCORE }
     {
@@ -83,24 +107,28 @@ pub fn score(row: &Row, total: u32, aggr: u32, scheme: &Scheme) -> u32
     ensures exact { result ≡ score_of row.now total aggr scheme.now }
     ensures most { result ≤ MAX_SCORE }
 {
-    Scorer::new(total, aggr, scheme).score(row)
+    Scorer::new(total, aggr, 1, scheme).score(row)
 }
 
 // Numbers as parts of a whole.
 #[derive(Debug, Drop)]
-struct Scale {
+pub(crate) struct Scale {
     whole: u32,
+    // Smaller numbers are 0 on the scale of scores.
+    least: u32,
     by_whole: Reciprocal,
 }
 
 impl Model for Scale {
-    ghost use Rattle.std.specs.Prelude.{◌≡◌, ◌≤◌, ℕ};
+    ghost use Rattle.std.specs.Prelude.{◌≡◌, ◌+◌, ◌*◌, ◌≤◌, ◌<◌, ℕ};
+    ghost use Rattle.priority.specs.declared.scoring.TheConstants.{MAX_SCORE};
 
     ghost Value = { ℕ };
 
     ghost view = { λ s. s.whole };
 
-    ghost invariant = { λ s. (1 ≤ s.whole) × (s.by_whole ≡ s.whole) };
+    ghost invariant = { λ s. (1 ≤ s.whole) × (s.by_whole ≡ s.whole)
+        × (s.least * MAX_SCORE < s.whole + MAX_SCORE) };
 }
 
 impl Scale {
@@ -110,8 +138,16 @@ impl Scale {
     {
         Scale {
             whole,
+            least: whole.div_ceil(MAX_SCORE),
             by_whole: Reciprocal::of(whole),
         }
+    }
+
+    // A number below which each number is 0 on that scale.
+    pub(crate) fn least(&self) -> u32
+        ensures { result * MAX_SCORE < self.now + MAX_SCORE }
+    {
+        self.least
     }
 
     // A number as a part of the whole, on a scale from 0 to the greatest score, rounded down.
@@ -119,6 +155,9 @@ impl Scale {
         ensures exact { result ≡ scaled number self.now }
         ensures most { result ≤ MAX_SCORE }
     {
+        if number < self.least {
+            return 0;
+        }
         let part = number.min(self.whole);
         if self.whole <= u32::MAX / MAX_SCORE {
             self.by_whole.quotient(MAX_SCORE * part)
@@ -139,7 +178,7 @@ fn sum_of(weights: Weights) -> u32
 
 // An access count on that scale, or its distance from the greatest score if cold rows are
 // preferred.
-fn preferred(prefer: Prefer, count: u32) -> u32
+pub(crate) fn preferred(prefer: Prefer, count: u32) -> u32
     requires { count ≤ MAX_SCORE }
     ensures exact { result ≡ preferred prefer count }
     ensures most { result ≤ MAX_SCORE }
@@ -151,7 +190,13 @@ fn preferred(prefer: Prefer, count: u32) -> u32
 }
 
 // The mean of three numbers by their weights, rounded down, and 0 where all weights are 0: 0 divided by 1.
-fn weighted_mean(weights: Weights, by_sum: &Reciprocal, size: u32, count: u32, age: u32) -> u32
+pub(crate) fn weighted_mean(
+    weights: Weights,
+    by_sum: &Reciprocal,
+    size: u32,
+    count: u32,
+    age: u32,
+) -> u32
     requires sum { by_sum.now ≡ max (weights.size + weights.count + weights.age) 1 }
     requires size { size ≤ MAX_SCORE }
     requires count { count ≤ MAX_SCORE }

@@ -33,7 +33,7 @@ pub(crate) fn gather(
     candidates.clear();
     let ranges = regions.ranges();
     // Without ranges there is no row to score.
-    let scorer = Scorer::new(ranges.total().max(1), context.aggr, scheme);
+    let scorer = Scorer::new(ranges.total().max(1), context.aggr, regions.len(), scheme);
     // Copied, so that the loop can keep it in registers.
     let pattern = scheme.pattern;
     let mut near = RangeRuns::new(&scheme.filters);

@@ -121,7 +121,31 @@ pub fn count_passing(
     if near.is_in_first(start, end) {
         return row.pages;
     }
+    count_apart(filters, space, ranges, row, near)
+}
+
+// The same for a row that is not in the first run of `near`. It stands by itself, so that a caller's loop
+// keeps its values in registers.
+#[inline(never)]
+fn count_apart(
+    filters: &Filters,
+    space: &Space,
+    ranges: &Ranges,
+    row: &Row,
+    near: &mut RangeRuns,
+) -> u32
+    requires within { AreWithin space.now ranges.now.list }
+    requires held { Any (LiesIn (span_of row.now)) ranges.now.list }
+    requires near { AreRunsOf (passes filters.now space.now ranges.now.list) near.old }
+    ensures count { result ≡ length (filter (passes filters.now space.now ranges.now.list)
+        (range_with_len row.now.start row.now.pages)) }
+    ensures near { AreRunsOf (passes filters.now space.now ranges.now.list) near.new }
+{
+    // For its clauses alone: each range ends below page 2^32.
+    let _count = ranges.len();
     reach(filters, space, ranges, row, near);
+    let start = row.start;
+    let end = start + row.pages;
     near.count(start, end)
 }
 

@@ -44,7 +44,7 @@ fn hot_and_cold_rows(rt: HostRuntime) {
     assert_eq!(rt; score(&row, 1000, 20, &scheme([1, 2, 1], Prefer::Hot)), 39);
     assert_eq!(rt; score(&row, 1000, 20, &scheme([1, 2, 1], Prefer::Cold)), 64);
     assert_eq!(rt; score(&row, 1000, 20, &scheme([0, 0, 0], Prefer::Hot)), 0);
-    let scorer = Scorer::new(1000, 20, &scheme([1, 2, 1], Prefer::Cold));
+    let scorer = Scorer::new(1000, 20, 1, &scheme([1, 2, 1], Prefer::Cold));
     assert_eq!(rt; scorer.score(&row), 64);
 }
 
