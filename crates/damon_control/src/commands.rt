@@ -69,7 +69,7 @@ impl Commands {
 
     /// Appends a command. Allocates; on an error the list is unchanged and the command is dropped. The
     /// list must have fewer than 2^32 - 1 commands.
-    #[inline]
+    #[inline(always)]
     pub fn push(&mut self, command: Command) -> Result<(), AllocError>
         requires { length self.old < 2 ^ 32 - 1 }
         ensures ok { OnOk result (self.new ≡ self.old ++ command_value command ∷ []) }
@@ -114,7 +114,7 @@ fn lend<'a>(commits: &'a Commits, entry: &Entry) -> Command<&'a Commit>
 }
 
 // The entry of a command, whose commit is appended to the commits.
-#[inline]
+#[inline(always)]
 fn store(commits: &mut Commits, command: Command) -> Result<Entry, AllocError>
     requires { length commits.old.list < 2 ^ 32 - 1 }
     ensures exact { IfOk result (λ entry. entry_value commits.new.list entry ≡ command_value command) }
