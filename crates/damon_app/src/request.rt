@@ -62,7 +62,7 @@ fn parse(alloc: Global, words: &[String]) -> Result<Option<Request>, AllocError>
     }
 }
 
-// What a failed parse comes to: want of memory, or no request.
+// What a failed parse comes to: out of memory, or no request.
 fn refusal(error: &Error) -> Result<Option<Request>, AllocError>
     ensures { IfOk result (λ request.
         (request ≡ None) × (kind_of error.now ≢ ErrorKind.OutOfMemory)) }

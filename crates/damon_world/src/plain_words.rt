@@ -241,7 +241,8 @@ fn settle_each(lows: &mut [u16], swept: &mut [bool], pages: u32, picks: &Picks, 
     }
 }
 
-// Settles a block: if it is swept, passes its mark on to the lowest bits of its pages. No page's word changes.
+// Settles a block: if it is swept, passes its mark on to the lowest bits of its pages. No page's word
+// changes.
 fn settle_block(lows: &mut [u16], swept: &mut [bool], pages: u32, block: u32)
     requires block { 64 * block < pages }
     requires blocks { pages / 64 < length swept.old }
