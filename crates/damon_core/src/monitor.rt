@@ -273,14 +273,14 @@ impl Monitor {
     /// Records that the pages of the next `count` picks (at least 1) were loaded, each with the mark
     /// of its page as its result. At least `count` picks are left to load, and there is a mark for each
     /// page of the space.
-    pub fn loaded_next<M: Marks>(&mut self, count: u32, marks: &M)
+    pub fn loaded_next<M: Marks + Copy>(&mut self, count: u32, marks: M)
         requires phase { IsLoading self.old.core.phase (row_count self.old.core) }
         requires some { 1 ≤ count }
         requires within { load_index self.old.core.phase + count ≤ row_count self.old.core }
-        requires marks { length (M.marks_of marks.now) ≡ pages_of self.old.core.space }
+        requires marks { length (M.marks_of marks) ≡ pages_of self.old.core.space }
         ensures core { self.new.core ≡ loaded_core count self.old.core }
         ensures events { Makes Stands self.old self.new
-            (loads (M.marks_of marks.now)
+            (loads (M.marks_of marks)
             (next_picks self.old.core.picks (load_index self.old.core.phase) count)) }
     {
         self.sampling.load_next(count, marks);

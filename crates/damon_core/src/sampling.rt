@@ -176,13 +176,13 @@ impl Sampling {
     }
 
     // The next `count` picks are loaded, each with the mark of its page as its result.
-    pub(crate) fn load_next<M: Marks>(&mut self, count: u32, marks: &M)
+    pub(crate) fn load_next<M: Marks + Copy>(&mut self, count: u32, marks: M)
         requires phase { IsLoading self.old.phase (length self.old.regions.rows) }
         requires within { load_index self.old.phase + count ≤ length self.old.regions.rows }
-        requires marks { AllByRecursion (λ p. p < length (M.marks_of marks.now)) self.old.picks }
+        requires marks { AllByRecursion (λ p. p < length (M.marks_of marks)) self.old.picks }
         ensures loaded { self.new ≡ record self.old {
           phase = variant.Checking (load_index self.old.phase + count);
-          bits = loaded_bits (M.marks_of marks.now) self.old.picks (load_index self.old.phase) count
+          bits = loaded_bits (M.marks_of marks) self.old.picks (load_index self.old.phase) count
               self.old.bits;
         } }
         ensures each { length self.old.bits ≡ length self.old.regions.rows }

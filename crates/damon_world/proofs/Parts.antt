@@ -6,7 +6,7 @@ use Rattle.std.proofs.lemmas.Bool.Decides.{nat_tests}
 use Rattle.std.proofs.lemmas.List.{length-append, length-replicate}
 use Rattle.std.specs.List.{range_with_len}
 use Rattle.std.proofs.lemmas.List.FromFn.{fill_by_all, get_or-map-range_with_len, length-map-range_with_len}
-use Rattle.damon_world.specs.Words.{Puts, low_in, word, word_in, words_in, touched_word, is_touched_word}
+use Rattle.damon_world.specs.Words.{Puts, low_in, mark_in, word, word_in, words_in, touched_word, is_touched_word}
 
 -- the words of pages by a function, one by one
 pub view_at : (f : ℕ → ℕ) (n p : ℕ) → p < n → slice_index (map f (range_with_len 0 n)) p ≡ f p
@@ -92,8 +92,8 @@ pub touched_again : (l : ℕ) → touched_word (touched_word l) ≡ touched_word
 touched_again l = omega arith
 
 -- the mark of a page by what is stored
-pub mark_in : (swept : List Bool) (lows highs : List ℕ) (p : ℕ) → (slice_index_or swept (p / 64) false || slice_index lows p % 2 == 1) ≡ is_touched_word (word_in swept lows highs p)
-mark_in swept lows highs p =
+pub mark_is : (swept : List Bool) (lows highs : List ℕ) (p : ℕ) → mark_in swept lows p ≡ is_touched_word (word_in swept lows highs p)
+mark_is swept lows highs p =
     let l = slice_index lows p in
     let h = slice_index highs p in
     let odd : word (touched_word l) h % 2 ≡ 1 = omega arith in
@@ -136,3 +136,8 @@ pub settled_word : (swept settled : List Bool) (lows grown highs : List ℕ) (n 
 settled_word swept settled lows grown highs n page here off same =
     view_at (word_in swept lows highs) n page here
     ∙ ap (λ l. word l (slice_index highs page)) (sym (same page here) ∙ low_unswept settled grown page off)
+
+-- marks of words, one by one
+pub marks_are : (f : ℕ → Bool) (g : ℕ → ℕ) (ps : List ℕ) → ((p : ℕ) → f p ≡ is_touched_word (g p)) → map f ps ≡ map is_touched_word (map g ps)
+marks_are f g [] each = refl
+marks_are f g (p ∷ ps) each = ap (λ b. b ∷ map f ps) (each p) ∙ ap (λ bs. is_touched_word (g p) ∷ bs) (marks_are f g ps each)

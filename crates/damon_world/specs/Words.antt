@@ -1,5 +1,5 @@
 -- The words of pages.
-use Rattle.std.specs.Prelude.{◌≡◌, ℕ, zero, suc, ◌+◌, ◌*◌, ◌/◌, ◌%◌, ◌^◌, ◌≤◌, ◌<◌, Bool, false, ◌==◌, List, length, map, slice_index, slice_index_or, slice_set, if◌then◌else◌}
+use Rattle.std.specs.Prelude.{◌≡◌, ℕ, zero, suc, ◌+◌, ◌*◌, ◌/◌, ◌%◌, ◌^◌, ◌≤◌, ◌<◌, Bool, false, ◌==◌, ◌||◌, List, length, map, slice_index, slice_index_or, slice_set, if◌then◌else◌}
 use Rattle.std.specs.List.{range_with_len}
 
 -- the word after a touch
@@ -33,6 +33,14 @@ word_in swept lows highs p = word (low_in swept lows p) (slice_index highs p)
 -- the words of this many pages
 abbrev pub words_in : ℕ → List Bool → List ℕ → List ℕ → List ℕ
 words_in pages swept lows highs = map (word_in swept lows highs) (range_with_len 0 pages)
+
+-- the mark of a page by what is stored
+abbrev pub mark_in : List Bool → List ℕ → ℕ → Bool
+mark_in swept lows p = slice_index_or swept (p / 64) false || slice_index lows p % 2 == 1
+
+-- the marks of this many pages
+abbrev pub marks_in : ℕ → List Bool → List ℕ → List Bool
+marks_in pages swept lows = map (mark_in swept lows) (range_with_len 0 pages)
 
 -- each page has a block, no block is swept before the first sweep, and there is room for the parts of all words
 pub record IsStored (pages : ℕ) (swept : List Bool) (any_swept : Bool) (low_room high_room : ℕ) : Type 0 where

@@ -1,5 +1,5 @@
-ghost use Rattle.std.specs.Prelude.{◌≡◌, ◌+◌, ◌-◌, ◌*◌, ◌/◌, ◌^◌, ◌≤◌, ◌<◌, ◌++◌, ◌&&◌, ℕ, true, false, nat_le, nat_lt, length, replicate, slice_index, slice_index_or, slice_set, if◌then◌else◌, IfOk, vec_capacity};
-ghost use Rattle.damon_world.specs.Words.{cleared_words, low_in, touched_word};
+ghost use Rattle.std.specs.Prelude.{◌≡◌, ◌+◌, ◌-◌, ◌*◌, ◌/◌, ◌^◌, ◌≤◌, ◌<◌, ◌++◌, ◌&&◌, ℕ, true, false, map, nat_le, nat_lt, length, replicate, slice_index, slice_index_or, slice_set, if◌then◌else◌, IfOk, vec_capacity};
+ghost use Rattle.damon_world.specs.Words.{cleared_words, is_touched_word, low_in, mark_in, marks_in, touched_word};
 
 use damon_types::append_reserved;
 use sampler::{Marks, Picks};
@@ -96,6 +96,13 @@ impl PlainWords {
         self.any_swept = true;
     }
 
+    /// The marks of the pages: whether each was touched since it was cleared last, or ever.
+    pub fn marks(&self) -> StoredMarks<'_>
+        ensures { marks_in result.pages result.swept.now result.lows.now ≡ map is_touched_word self.now }
+    {
+        marks_of(self.pages, &self.lows, &self.swept, self.any_swept)
+    }
+
     /// Clears in this pass, which is below 2^47, the pages of the picks from `from` to before `to`.
     pub fn clear(&mut self, picks: &Picks, from: u32, to: u32, pass: u64)
         requires order { from ≤ to }
@@ -129,25 +136,52 @@ impl PlainWords {
     }
 }
 
-impl Marks for PlainWords {
-    ghost use Rattle.std.specs.Prelude.{map};
-    ghost use Rattle.damon_world.specs.Words.{is_touched_word};
+/// The marks of the pages of one thread, as they are stored. It is handed over by value, so that a loop
+/// which stores its results keeps these parts in registers.
+#[derive(Clone, Copy)]
+pub struct StoredMarks<'a> {
+    pages: u32,
+    lows: &'a [u16],
+    // Empty where no block is swept.
+    swept: &'a [bool],
+}
 
-    ghost marks_of = { λ words. map is_touched_word words };
+impl Marks for StoredMarks<'_> {
+    ghost use Rattle.damon_world.specs.Words.{marks_in};
+
+    ghost marks_of = { λ m. marks_in m.pages m.swept.now m.lows.now };
 
     fn is_marked(&self, page: u32) -> bool {
-        is_swept(&self.swept, self.any_swept, page) | (low_at(&self.lows, page) % 2 == 1)
+        is_swept(self.swept, page) | (low_at(self.lows, page) % 2 == 1)
     }
 }
 
-// Whether the block of a page is swept. None is unless `any_swept`.
-fn is_swept(swept: &[bool], any_swept: bool, page: u32) -> bool
-    requires block { page / 64 < length swept.now }
-    requires unswept { any_swept ≡ false
-        → (b : ℕ) → slice_index_or swept.now b false ≡ false }
+// The marks of pages that are stored so. No block is swept unless `any_swept`.
+fn marks_of<'a>(pages: u32, lows: &'a [u16], swept: &'a [bool], any_swept: bool) -> StoredMarks<'a>
+    requires { any_swept ≡ false → (b : ℕ) → slice_index_or swept.now b false ≡ false }
+    ensures pages { result.pages ≡ pages }
+    ensures marks { (p : ℕ) → mark_in result.swept.now result.lows.now p
+        ≡ mark_in swept.now lows.now p }
+{
+    if any_swept {
+        StoredMarks { pages, lows, swept }
+    } else {
+        StoredMarks {
+            pages,
+            lows,
+            swept: &[],
+        }
+    }
+}
+
+// Whether the block of a page is swept.
+fn is_swept(swept: &[bool], page: u32) -> bool
     ensures { result ≡ slice_index_or swept.now (page / 64) false }
 {
-    any_swept && swept[(page / BLOCK) as usize]
+    match swept.get((page / BLOCK) as usize) {
+        Some(swept) => *swept,
+        None => false,
+    }
 }
 
 // Stores the lowest bits of all pages, and settles the block of one. No page's word changes.

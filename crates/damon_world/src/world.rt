@@ -204,7 +204,7 @@ impl<R: Rng + Drop> World<R> {
         ensures { (s : State) → Reached s → StandsFor self.now s → Tells s.core.phase s result }
     {
         let page = self.monitor.pick(next);
-        let hit = self.words.is_marked(page);
+        let hit = self.words.marks().is_marked(page);
         Stepped::Loaded { page, hit }
     }
 
@@ -260,7 +260,7 @@ impl<R: Rng + Drop> World<R> {
         // For its clauses alone: each pick is a page of the space, and those to be loaded are cleared.
         let _picks = self.monitor.picks();
         let count = at_most(self.monitor.rows().len() - next, most);
-        self.monitor.loaded_next(count, &self.words);
+        self.monitor.loaded_next(count, self.words.marks());
         u64::from(count)
     }
 

@@ -109,14 +109,14 @@ impl Picks {
     /// Records the checks of the `count` picks that begin with pick `from`, each with the mark of its page
     /// as its result, and returns how many are hits. There are at least `from + count` picks, and each of
     /// their pages has a mark.
-    pub fn load<M: Marks>(&mut self, from: u32, count: u32, marks: &M) -> u32
+    pub fn load<M: Marks + Copy>(&mut self, from: u32, count: u32, marks: M) -> u32
         requires within { from + count ≤ length self.old.pages }
-        requires marks { AllByRecursion (λ p. p < length (M.marks_of marks.now)) self.old.pages }
+        requires marks { AllByRecursion (λ p. p < length (M.marks_of marks)) self.old.pages }
         ensures bits { self.new
             ≡ record self.old {
-              bits = loaded_bits (M.marks_of marks.now) self.old.pages from count self.old.bits;
+              bits = loaded_bits (M.marks_of marks) self.old.pages from count self.old.bits;
             } }
-        ensures hits { result ≡ loaded_hits (M.marks_of marks.now) self.old.pages from count }
+        ensures hits { result ≡ loaded_hits (M.marks_of marks) self.old.pages from count }
         ensures few { result ≤ count }
     {
         load_bits(&self.pages, &mut self.bits, from, count, marks)
@@ -126,14 +126,20 @@ impl Picks {
 // Sets the bits of the `count` picks that begin with pick `from` to the marks of their pages, and returns
 // how many are true. It is kept apart, so that its loop has the registers.
 #[inline(never)]
-fn load_bits<M: Marks>(pages: &[u32], bits: &mut [bool], from: u32, count: u32, marks: &M) -> u32
+fn load_bits<M: Marks + Copy>(
+    pages: &[u32],
+    bits: &mut [bool],
+    from: u32,
+    count: u32,
+    marks: M,
+) -> u32
     requires within { from + count ≤ length pages.now }
     requires small { length pages.now < 2 ^ 32 }
     requires each { length bits.old ≡ length pages.now }
-    requires marks { AllByRecursion (λ p. p < length (M.marks_of marks.now)) pages.now }
+    requires marks { AllByRecursion (λ p. p < length (M.marks_of marks)) pages.now }
     ensures len { length bits.new ≡ length bits.old }
-    ensures bits { bits.new ≡ loaded_bits (M.marks_of marks.now) pages.now from count bits.old }
-    ensures hits { result ≡ loaded_hits (M.marks_of marks.now) pages.now from count }
+    ensures bits { bits.new ≡ loaded_bits (M.marks_of marks) pages.now from count bits.old }
+    ensures hits { result ≡ loaded_hits (M.marks_of marks) pages.now from count }
     ensures few { result ≤ count }
 {
     let mut hits = 0;

@@ -16,7 +16,7 @@ bool_byte-few false = omega arith
 
 pub loop-index-preserved : goal.loop-index-preserved
 loop-index-preserved g c =
-    let marks = g.M.Marks.marks_of c.args.marks.now in
+    let marks = g.M.Marks.marks_of c.args.marks in
     let picks = c.args.pages.now in
     let from = c.args.from in
     let i = c.loop-index.index in

@@ -13,7 +13,7 @@ pub returns-clause-events : goal.returns-clause-events
 returns-clause-events g c =
     let i = c.self.inside in
     let m = c.args.self.now in
-    let marks = g.M.Marks.marks_of c.args.marks.now in
+    let marks = g.M.Marks.marks_of c.args.marks in
     let n = c.args.count in
     let is : shown i.space i.attrs c.load_next.new.self i.clock i.totals i.report.value i.engine.slots ≡ after_loads marks n m =
     ap (λ x. shown i.space i.attrs x i.clock i.totals i.report.value i.engine.slots) c.load_next.ensures.loaded ∙ ap (after_loads marks n) c.self.view_is in

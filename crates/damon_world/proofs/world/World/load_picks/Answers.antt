@@ -3,6 +3,10 @@ use Rattle.std.specs.Prelude.{slice_index}
 use Rattle.region_list.specs.Regions.{RegionList}
 use Rattle.damon_core.specs.Event.{IsLoading, load_index}
 use Rattle.damon_core.specs.State.{row_count}
+use Rattle.damon_core.specs.Makes.{Makes}
+use Rattle.damon_core.specs.Several.{loads}
+use Rattle.damon_core.specs.Stands.{Stands}
+use Rattle.sampler.specs.Loaded.{next_picks}
 use Rattle.damon_world.specs.Stands.{WorldView}
 use Rattle.damon_world.specs.Kept.{IsAdvance}
 use Rattle.damon_world.specs.Words.{is_touched_word}
@@ -40,7 +44,9 @@ returns-clause-advance g c =
     let done = c.picks-picks.ensures.cleared s reached stands j (omega (arith, here, ready.1)) in
     mark_of_page inside.words page (omega (arith, in_space, c.self.invariant.each))
     ∙ lowest_is_hit s.notes page (slice_index inside.words page) (words page in_space) done) in
-    let made = loads_advance stream m c.loaded_next.new.self inside.words inside.source marks from n loading refl within (c.picks-picks.ensures.each ready.0) c.loaded_next.ensures.core c.loaded_next.ensures.events true_marks in
+    let events : Makes Stands m c.loaded_next.new.self (loads marks (next_picks m.core.picks from n)) =
+    subst (λ bs. Makes Stands m c.loaded_next.new.self (loads bs (next_picks m.core.picks from n))) c.marks.ensures c.loaded_next.ensures.events in
+    let made = loads_advance stream m c.loaded_next.new.self inside.words inside.source marks from n loading refl within (c.picks-picks.ensures.each ready.0) c.loaded_next.ensures.core events true_marks in
     let old : WorldView g.row.R.Denot = record { monitor = m; words = inside.words; source = inside.source } in
     let new : WorldView g.row.R.Denot = record { monitor = c.loaded_next.new.self; words = inside.words; source = inside.source } in
     subst (λ x. IsAdvance stream x new c.from.result) c.self.view_is
