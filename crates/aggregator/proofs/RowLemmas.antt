@@ -4,6 +4,7 @@ use Rattle.std.specs.List.{AllByRecursion}
 use Rattle.std.proofs.lemmas.List.{length-map, get_or_default}
 use Rattle.std.proofs.lemmas.List.Edits.{map_over_more}
 use Rattle.damon_types.specs.declared.row.Row.{Row}
+use Rattle.damon_types.specs.declared.scheme.Version.{Version}
 use Rattle.damon_types.specs.Span.{span_of, spans}
 use Rattle.region_list.specs.Regions.{RegionList}
 use Rattle.region_list.specs.Rows.{no_row, row_at}
@@ -19,17 +20,17 @@ changed_more f old was new i here so_far now =
     ∙ ap (λ (r : RegionList). record r { rows = set r.rows i (f (row_at r.rows i)) }) so_far
     ∙ ap (λ rs. record old { rows = rs }) (map_over_more f old.rows rows i (row_at rows i) here refl (get_or_default rows i no_row (row_at rows i) within))
 
-pub spans-aged : (threshold : ℕ) (rows : List Row) → spans (aged threshold rows) ≡ spans rows
-spans-aged threshold [] = refl
-spans-aged threshold (r ∷ rows) = ap (λ ss. span_of r ∷ ss) (spans-aged threshold rows)
+pub spans-aged : (threshold : ℕ) (version : Version) (rows : List Row) → spans (aged threshold version rows) ≡ spans rows
+spans-aged threshold version [] = refl
+spans-aged threshold version (r ∷ rows) = ap (λ ss. span_of r ∷ ss) (spans-aged threshold version rows)
 
 pub spans-cleared : (rows : List Row) → spans (cleared rows) ≡ spans rows
 spans-cleared [] = refl
 spans-cleared (r ∷ rows) = ap (λ ss. span_of r ∷ ss) (spans-cleared rows)
 
-pub counts-aged : (threshold most : ℕ) (rows : List Row) → AllByRecursion (λ r. r.count ≤ most) rows → AllByRecursion (λ r. r.count ≤ most) (aged threshold rows)
-counts-aged threshold most [] few = few
-counts-aged threshold most (r ∷ rows) few = (few.0, counts-aged threshold most rows few.1)
+pub counts-aged : (threshold most : ℕ) (version : Version) (rows : List Row) → AllByRecursion (λ r. r.count ≤ most) rows → AllByRecursion (λ r. r.count ≤ most) (aged threshold version rows)
+counts-aged threshold most version [] few = few
+counts-aged threshold most version (r ∷ rows) few = (few.0, counts-aged threshold most version rows few.1)
 
 pub counts-cleared : (rows : List Row) → AllByRecursion (λ r. r.count ≤ 0) (cleared rows)
 counts-cleared [] = tt

@@ -1,4 +1,4 @@
-ghost use Rattle.std.specs.Prelude.{◌≡◌, ◌<◌, length, slice_set};
+ghost use Rattle.std.specs.Prelude.{◌≡◌, ◌<◌, length, slice_set, fold, max};
 ghost use Rattle.region_list.specs.Rows.{row_at};
 ghost use Rattle.aggregator.specs.Threshold.{threshold as threshold_of};
 ghost use Rattle.aggregator.specs.Cleared.{cleared, cleared_row};
@@ -11,11 +11,16 @@ use region_list::Regions;
 pub fn threshold(regions: &Regions) -> u32
     ensures { result ≡ threshold_of regions.now.rows }
 {
-    let highest = regions
-        .rows()
+    highest(regions.rows().counts()) / 10
+}
+
+// The highest of these numbers, 0 where there are none.
+fn highest(counts: &[u32]) -> u32
+    ensures { result ≡ fold (λ most n. max most n) 0 counts.now }
+{
+    counts
         .iter()
-        .fold(0, |highest, row| row.count.max(highest));
-    highest / 10
+        .fold(0, |highest, count| (*count).max(highest))
 }
 
 /// Clears the counts at the end of an aggregation: the count of each row becomes its last count,

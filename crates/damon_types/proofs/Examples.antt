@@ -75,7 +75,7 @@ abbrev scheme : Span → ℕ → ℕ → List Filter → Scheme
 scheme size reset mid filters = record {
   action = Pageout;
   pattern = record { size = size; count = span 0 9; age = span 2 3 };
-  quota = Some (record { bytes = 0; reset = reset });
+  quota = Some (record { bytes = 0; reset = reset; time = None });
   weights = record { size = 1; count = 1; age = 1 };
   prefer = Hot;
   marks = Some (record { high = 5; mid = mid; low = 5 });

@@ -11,8 +11,10 @@ use Rattle.damon_types.specs.declared.scheme.Marks.{Marks}
 use Rattle.damon_types.specs.declared.scheme.Pattern.{Pattern}
 use Rattle.damon_types.specs.declared.scheme.Quota.{Quota}
 use Rattle.damon_types.specs.declared.scheme.Scheme.{Scheme}
+use Rattle.damon_types.specs.declared.scheme.Version.{Version}
+use Rattle.damon_types.specs.declared.scheme.Version.TheVariants.{One, Two}
 use Rattle.damon_types.specs.declared.scheme.SchemeFault.{SchemeFault}
-use Rattle.damon_types.specs.declared.scheme.SchemeFault.TheVariants.{SlotOutOfRange, PatternReversed, ZeroReset, MarksOutOfOrder, BadFilter}
+use Rattle.damon_types.specs.declared.scheme.SchemeFault.TheVariants.{SlotOutOfRange, PatternReversed, ZeroReset, MarksOutOfOrder, BadFilter, TimeInOne}
 
 -- the first part of a pattern whose ends are reversed
 abbrev pub checked_pattern : Pattern → Result (Unit {0}) SchemeFault
@@ -53,3 +55,17 @@ checked_scheme slot s =
     if nat_lt MAX_SLOT slot then Err (SlotOutOfRange slot)
     else result_and (checked_pattern s.pattern)
     (result_and (checked_quota s.quota) (result_and (checked_marks s.marks) (filter_fault (bad_filter s.filters))))
+
+-- a quota has no time in version One
+abbrev pub timed_in : Version → Option ℕ → Result (Unit {0}) SchemeFault
+timed_in Two time = Ok tt
+timed_in One None = Ok tt
+timed_in One (Some time) = Err TimeInOne
+
+abbrev pub checked_time : Version → Option Quota → Result (Unit {0}) SchemeFault
+checked_time version None = Ok tt
+checked_time version (Some q) = timed_in version q.time
+
+-- the first limit that a scheme for a slot breaks in a version: its time comes last
+abbrev pub checked_in : Version → ℕ → Scheme → Result (Unit {0}) SchemeFault
+checked_in version slot s = result_and (checked_scheme slot s) (checked_time version s.quota)

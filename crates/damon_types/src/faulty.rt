@@ -1,5 +1,5 @@
 // Streams over memory that limit the bytes of a call, and fail at stated calls.
-ghost use Rattle.std.specs.Prelude.{◌≡◌, ◌⊎◌, ◌-◌, ◌≤◌, ◌<◌, ◌↔◌, [], length, min, Some, true, IfOk, IsErr, is_err, if◌then◌else◌};
+ghost use Rattle.std.specs.Prelude.{◌≡◌, ◌⊎◌, ◌-◌, ◌≤◌, ◌<◌, ◌↔◌, [], length, min, Some, true, IfOk, OnErr, IsErr, is_err, if◌then◌else◌};
 ghost use Rattle.std.specs.Io.{ReadsAtMost, WritesAtMost};
 ghost use Rattle.std.specs.Io.KnownBytes.{ReadConsumes, WriteAppends};
 ghost use Rattle.damon_types.specs.Causes.{HasCause};
@@ -83,6 +83,7 @@ impl Source for FaultSource<'_> {
         ensures fails { is_err result ≡ is_listed (next_count self.old.calls) self.old.fails }
         ensures count { IfOk result (λ n.
             n ≡ min (min (length self.old.bytes) (length buf.old)) self.old.piece) }
+        ensures kept { OnErr result (buf.new ≡ buf.old) }
         ensures calls { self.new.calls ≡ next_count self.old.calls }
         ensures faults { self.new.faults
             ≡ (if is_err result then next_count self.old.faults else self.old.faults) }

@@ -38,7 +38,8 @@ pub use range::{MAX_CLASS, Range, RangeSpec, Ranges};
 pub use reserved::append_reserved;
 pub use row::Row;
 pub use scheme::{
-    Action, MAX_SLOT, Marks, Pattern, Prefer, Quota, Scheme, SchemeFault, SlotChange, Span, Weights,
+    Action, CostPart, MAX_SLOT, Marks, Pattern, Prefer, Quota, Scheme, SchemeFault, SlotChange,
+    Span, Version, Weights,
 };
 pub use space::{ADDRESS_END, MAX_PAGES, MAX_TARGETS, PAGE_SIZE, Place, Space, SpaceFault, Target};
 pub use standard::{StdSink, StdSource};

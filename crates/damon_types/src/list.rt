@@ -77,10 +77,10 @@ impl<T: Drop> PlainList<T> {
     pub fn push(&mut self, item: T) -> Result<(), AllocError>
         requires { length self.old.list < 2 ^ 32 - 1 }
         ensures ok { OnOk result (self.new.list ≡ self.old.list ++ item ∷ []) }
-        ensures err { OnErr result (self.new.list ≡ self.old.list) }
-        ensures spare { OnErr result (self.old.spare ≤ self.new.spare) }
+        ensures err { OnErr result (self.new ≡ self.old) }
     {
-        self.items.push(item)?;
+        self.items.reserve(1)?;
+        self.items.push_reserved(item);
         Ok(())
     }
 
@@ -98,6 +98,7 @@ impl<T: Drop> PlainList<T> {
         ensures list { self.new.list ≡ self.old.list }
         ensures ok { OnOk result (extra ≤ self.new.spare) }
         ensures spare { self.old.spare ≤ self.new.spare }
+        ensures err { OnErr result (self.new ≡ self.old) }
     {
         self.items.reserve(extra as usize)
     }

@@ -1,5 +1,5 @@
 ghost use Rattle.std.specs.Prelude.{◌≡◌, ◌<◌, IfSome, length};
-ghost use Rattle.damon_types.specs.Scheme.{is_filter, bad_filter, filter_fault, checked_marks, checked_pattern, checked_quota, checked_scheme};
+ghost use Rattle.damon_types.specs.Scheme.{is_filter, bad_filter, filter_fault, checked_marks, checked_pattern, checked_in, checked_quota, checked_scheme, checked_time};
 
 use crate::{Filter, FilterKind, Filters, MAX_CLASS, PAGE_SIZE};
 
@@ -50,6 +50,9 @@ pub struct Quota {
     pub bytes: u64,
     /// The reset interval in ticks, at least 1.
     pub reset: u32,
+    /// The most nanoseconds in each reset interval, by the costs measured so far; `None` for no such
+    /// limit.
+    pub time: Option<u64>,
 }
 
 /// The weights of a region's size, access count and age in its priority.
@@ -104,6 +107,24 @@ pub struct SlotChange {
     pub scheme: Option<Scheme>,
 }
 
+/// The version of the rules that a monitor keeps.
+#[derive(Clone, Copy, Debug, PartialEq, Eq)]
+pub enum Version {
+    /// No time quotas and no costs.
+    One,
+    /// Time quotas, costs, and ages that begin anew where a row comes into use or falls out of it.
+    Two,
+}
+
+/// A cost that was measured.
+#[derive(Clone, Copy, Debug, PartialEq, Eq)]
+pub struct CostPart {
+    /// The number of the slot, at most [`MAX_SLOT`].
+    pub slot: u8,
+    /// The nanoseconds.
+    pub nanos: u64,
+}
+
 /// The first limit that a scheme for a slot breaks, in the order of the variants.
 #[derive(Clone, Copy, Debug, PartialEq, Eq)]
 pub enum SchemeFault {
@@ -118,6 +139,8 @@ pub enum SchemeFault {
     /// The filter with this index is the first with an address that is no multiple of
     /// [`PAGE_SIZE`], with `from` not below `to`, or with a class above [`MAX_CLASS`].
     BadFilter { index: u32 },
+    /// The quota has a time, and the version has none. Only [`Scheme::check_in`] says so.
+    TimeInOne,
 }
 
 impl Scheme {
@@ -133,6 +156,15 @@ impl Scheme {
         check_quota(self.quota)?;
         check_marks(self.marks)?;
         check_filters(&self.filters)
+    }
+
+    /// Checks the limits of the scheme and of the number of its slot, and then that a version without
+    /// time quotas has none.
+    pub fn check_in(&self, version: Version, slot: u8) -> Result<(), SchemeFault>
+        ensures exact { result ≡ checked_in version slot self.now }
+    {
+        self.check(slot)?;
+        check_time(version, self.quota)
     }
 }
 
@@ -160,6 +192,15 @@ fn check_quota(quota: Option<Quota>) -> Result<(), SchemeFault>
 {
     match quota {
         Some(Quota { reset: 0, .. }) => Err(SchemeFault::ZeroReset),
+        _ => Ok(()),
+    }
+}
+
+fn check_time(version: Version, quota: Option<Quota>) -> Result<(), SchemeFault>
+    ensures { result ≡ checked_time version quota }
+{
+    match (version, quota) {
+        (Version::One, Some(Quota { time: Some(_), .. })) => Err(SchemeFault::TimeInOne),
         _ => Ok(()),
     }
 }

@@ -8,11 +8,14 @@ use Rattle.damon_types.specs.declared.attrs.Attrs.{Attrs}
 use Rattle.damon_types.specs.declared.range.RangeSpec.{RangeSpec}
 use Rattle.damon_types.specs.declared.scheme.Scheme.{Scheme}
 use Rattle.damon_types.specs.declared.scheme.SchemeFault.{SchemeFault}
+use Rattle.damon_types.specs.declared.scheme.Version.{Version}
+use Rattle.damon_types.specs.declared.scheme.Version.TheVariants.{One, Two}
+use Rattle.damon_types.specs.declared.scheme.CostPart.{CostPart}
 use Rattle.damon_types.specs.declared.scheme.SlotChange.{SlotChange}
 use Rattle.damon_types.specs.declared.scheme.TheConstants.{MAX_SLOT}
 use Rattle.damon_types.specs.declared.space.Target.{Target}
 use Rattle.damon_types.specs.Attrs.{IsAttrs, checked_attrs}
-use Rattle.damon_types.specs.Scheme.{checked_scheme}
+use Rattle.damon_types.specs.Scheme.{checked_in, checked_scheme, checked_time}
 use Rattle.target_ranges.specs.declared.fault.RangeFault.{RangeFault}
 use Rattle.target_ranges.specs.Checked.{checked_ranges}
 use Rattle.live_commit.specs.declared.fault.CommitFault.{CommitFault}
@@ -21,7 +24,7 @@ use Rattle.live_commit.specs.declared.phase.Phase.{Phase}
 use Rattle.live_commit.specs.declared.phase.Phase.TheVariants.{Idle, Clearing, Armed, Checking, Void, Due}
 use Rattle.live_commit.specs.declared.view.View.{View}
 use Rattle.live_commit.specs.Accepted.{AllowsCommit, IsAccepted}
-use Rattle.live_commit.specs.Accepts.{checked_commit, checked_new_attrs, checked_new_max, checked_new_ranges, checked_for_slot, checked_new_slot, checked_number, checked_phase, fault_as, max_after, ranges_after}
+use Rattle.live_commit.specs.Accepts.{checked_commit, checked_cost, checked_new_attrs, checked_new_max, checked_new_ranges, checked_for_slot, checked_new_slot, checked_number, checked_phase, fault_as, max_after, ranges_after}
 use Rattle.live_commit.specs.Commit.{CommitValue}
 use Rattle.live_commit.specs.Setup.{SetupValue, IsSetup}
 use Rattle.live_commit.specs.Slots.{checked_after, checked_free, checked_set, checked_slot, is_set, scheme_fault}
@@ -65,30 +68,37 @@ attrs_accepted cap a ok =
 scheme_slot : (slot : ℕ) (s : Scheme) → checked_scheme slot s ≡ Ok tt → slot ≤ MAX_SLOT
 scheme_slot slot s ok = grind (arith, nat_tests)
 
-slot_accepted : (slot : ℕ) (scheme : Option Scheme) → checked_for_slot slot scheme ≡ Ok tt → slot ≤ MAX_SLOT
-slot_accepted slot None ok = grind (arith, nat_tests)
-slot_accepted slot (Some s) ok = scheme_slot slot s ok
+scheme_in_slot : (version : Version) (slot : ℕ) (s : Scheme) → checked_in version slot s ≡ Ok tt → slot ≤ MAX_SLOT
+scheme_in_slot version slot s ok = scheme_slot slot s (both_ok (checked_scheme slot s) (checked_time version s.quota) ok).0
 
-change_accepted : (change : SlotChange) → checked_new_slot (Some change) ≡ Ok tt → change.slot ≤ MAX_SLOT
-change_accepted change ok = slot_accepted change.slot change.scheme (fault_as_ok BadScheme (checked_for_slot change.slot change.scheme) ok)
+slot_accepted : (version : Version) (slot : ℕ) (scheme : Option Scheme) → checked_for_slot version slot scheme ≡ Ok tt → slot ≤ MAX_SLOT
+slot_accepted version slot None ok = grind (arith, nat_tests)
+slot_accepted version slot (Some s) ok = scheme_in_slot version slot s ok
+
+change_accepted : (version : Version) (change : SlotChange) → checked_new_slot version (Some change) ≡ Ok tt → change.slot ≤ MAX_SLOT
+change_accepted version change ok = slot_accepted version change.slot change.scheme (fault_as_ok BadScheme (checked_for_slot version change.slot change.scheme) ok)
+
+cost_accepted : (version : Version) (part : CostPart) → checked_cost version (Some part) ≡ Ok tt → (version ≡ Two) × (part.slot ≤ MAX_SLOT)
+cost_accepted One part ok = absurd (cc)
+cost_accepted Two part ok = (refl, grind (arith, nat_tests))
 
 scheme_fault_ok : (index : ℕ) (r : Result (Unit {0}) SchemeFault) → scheme_fault index r ≡ Ok tt → r ≡ Ok tt
 scheme_fault_ok index (Ok t) ok = refl
 scheme_fault_ok index (Err why) ok = absurd (cc)
 
-set_accepted : (index : ℕ) (set : Bool) (slot : ℕ) (scheme : Option Scheme) → IsSome scheme → checked_set index set slot scheme ≡ Ok tt → slot ≤ MAX_SLOT
-set_accepted index set slot None some ok = absurd (cc some)
-set_accepted index set slot (Some s) some ok =
-    scheme_slot slot s (scheme_fault_ok index (checked_scheme slot s) (both_ok (scheme_fault index (checked_scheme slot s)) (checked_free index set) ok).0)
+set_accepted : (version : Version) (index : ℕ) (set : Bool) (slot : ℕ) (scheme : Option Scheme) → IsSome scheme → checked_set version index set slot scheme ≡ Ok tt → slot ≤ MAX_SLOT
+set_accepted version index set slot None some ok = absurd (cc some)
+set_accepted version index set slot (Some s) some ok =
+    scheme_in_slot version slot s (scheme_fault_ok index (checked_in version slot s) (both_ok (scheme_fault index (checked_in version slot s)) (checked_free index set) ok).0)
 
-slots_accepted : (before changes : List SlotChange) → AllByRecursion (λ c. IsSome c.scheme) changes → checked_after before changes ≡ Ok tt → AllByRecursion (λ c. c.slot ≤ MAX_SLOT) changes
-slots_accepted before [] set ok = tt
-slots_accepted before (c ∷ changes) set ok =
-    let both = both_ok (checked_slot (length before) before c) (checked_after (before ++ c ∷ []) changes) ok in
-    (set_accepted (length before) (is_set c.slot before) c.slot c.scheme set.0 both.0, slots_accepted (before ++ c ∷ []) changes set.1 both.1)
+slots_accepted : (version : Version) (before changes : List SlotChange) → AllByRecursion (λ c. IsSome c.scheme) changes → checked_after version before changes ≡ Ok tt → AllByRecursion (λ c. c.slot ≤ MAX_SLOT) changes
+slots_accepted version before [] set ok = tt
+slots_accepted version before (c ∷ changes) set ok =
+    let both = both_ok (checked_slot version (length before) before c) (checked_after version (before ++ c ∷ []) changes) ok in
+    (set_accepted version (length before) (is_set c.slot before) c.slot c.scheme set.0 both.0, slots_accepted version (before ++ c ∷ []) changes set.1 both.1)
 
 pub setup_accepted : (v : SetupValue) → IsSetup v → AllByRecursion (λ c. c.slot ≤ MAX_SLOT) v.slots
-setup_accepted v is = slots_accepted [] v.slots (recursion_from_All (λ (c : SlotChange). IsSome c.scheme) v.slots is.set) is.slots
+setup_accepted v is = slots_accepted v.version [] v.slots (recursion_from_All (λ (c : SlotChange). IsSome c.scheme) v.slots is.set) is.slots
 
 pub commit_accepted :
     (space : List Target) (v : View) (c : CommitValue) → checked_commit space v c ≡ Ok tt → IsAccepted space v c
@@ -96,14 +106,17 @@ commit_accepted space v c ok =
     let phase = both_ok (checked_phase v.phase v.rows) _ ok in
     let ranges = both_ok (checked_new_ranges space v.unit v.cap c.ranges) _ phase.1 in
     let number = both_ok (checked_number (ranges_after c.ranges v.ranges) (max_after c.attrs v.max)) _ ranges.1 in
-    let attrs = both_ok (checked_new_attrs v.cap c.attrs) (checked_new_slot c.slot) number.1 in
+    let attrs = both_ok (checked_new_attrs v.cap c.attrs) _ number.1 in
+    let slot = both_ok (checked_new_slot v.version c.slot) (checked_cost v.version c.cost) attrs.1 in
     let Ranges : Option (List RangeSpec) → Type 0 = λ o. checked_new_ranges space v.unit v.cap o ≡ Ok tt in
     let Given : Option Attrs → Type 0 = λ o. checked_new_attrs v.cap o ≡ Ok tt in
-    let Changed : Option SlotChange → Type 0 = λ o. checked_new_slot o ≡ Ok tt in
+    let Costs : Option CostPart → Type 0 = λ o. checked_cost v.version o ≡ Ok tt in
+    let Changed : Option SlotChange → Type 0 = λ o. checked_new_slot v.version o ≡ Ok tt in
     record {
       phase = phase_allows v.phase v.rows phase.0;
       attrs = λ a given. attrs_accepted v.cap a (subst Given given attrs.0);
       ranges = λ specs given. ranges_accepted space v.unit v.cap specs (subst Ranges given ranges.0);
       few = number_fits (ranges_after c.ranges v.ranges) (max_after c.attrs v.max) number.0;
-      slot = λ change given. change_accepted change (subst Changed given attrs.1);
+      slot = λ change given. change_accepted v.version change (subst Changed given slot.0);
+      cost = λ part given. cost_accepted v.version part (subst Costs given slot.1);
     }

@@ -7,8 +7,9 @@ use Rattle.std.proofs.lemmas.List.{append_assoc, append-nil}
 use Rattle.std.proofs.lemmas.List.Elements.{filter-append}
 use Rattle.damon_types.specs.declared.scheme.Scheme.{Scheme}
 use Rattle.damon_types.specs.declared.scheme.SchemeFault.{SchemeFault}
+use Rattle.damon_types.specs.declared.scheme.Version.{Version}
 use Rattle.damon_types.specs.declared.scheme.SlotChange.{SlotChange}
-use Rattle.damon_types.specs.Scheme.{checked_scheme}
+use Rattle.damon_types.specs.Scheme.{checked_in}
 use Rattle.live_commit.specs.Slots.{checked_after, checked_free, checked_set, checked_slot, checked_slots, has_scheme, kept_slots, scheme_fault, sets}
 
 -- two checks that succeed
@@ -26,9 +27,9 @@ free_at i j false (Ok t) ok = refl
 free_at i j true (Ok t) ok = absurd (cc)
 free_at i j set (Err why) ok = absurd (cc)
 
-index_free : (i j : ℕ) (set : Bool) (slot : ℕ) (o : Option Scheme) → checked_set i set slot o ≡ Ok tt → checked_set j set slot o ≡ Ok tt
-index_free i j set slot None ok = refl
-index_free i j set slot (Some s) ok = free_at i j set (checked_scheme slot s) ok
+index_free : (version : Version) (i j : ℕ) (set : Bool) (slot : ℕ) (o : Option Scheme) → checked_set version i set slot o ≡ Ok tt → checked_set version j set slot o ≡ Ok tt
+index_free version i j set slot None ok = refl
+index_free version i j set slot (Some s) ok = free_at i j set (checked_in version slot s) ok
 
 -- the first change is kept or left out
 kept_first : (c : SlotChange) (changes : List SlotChange) → has_scheme c ≡ true → kept_slots (c ∷ changes) ≡ c ∷ kept_slots changes
@@ -47,34 +48,34 @@ sets_kept slot [] = refl
 sets_kept slot (c ∷ changes) = sets_kept_by slot c changes (has_scheme c) refl (sets_kept slot changes)
 
 -- a change that is accepted after some changes is accepted after those of them that are kept
-slot_kept : (before : List SlotChange) (c : SlotChange) → checked_slot (length before) before c ≡ Ok tt → checked_slot (length (kept_slots before)) (kept_slots before) c ≡ Ok tt
-slot_kept before c ok = index_free (length before) (length (kept_slots before)) (list_any (sets c.slot) (kept_slots before)) c.slot c.scheme (rw (sets_kept c.slot before) ok)
+slot_kept : (version : Version) (before : List SlotChange) (c : SlotChange) → checked_slot version (length before) before c ≡ Ok tt → checked_slot version (length (kept_slots before)) (kept_slots before) c ≡ Ok tt
+slot_kept version before c ok = index_free version (length before) (length (kept_slots before)) (list_any (sets c.slot) (kept_slots before)) c.slot c.scheme (rw (sets_kept c.slot before) ok)
 
 -- of changes that are accepted, those that are kept are accepted
-behind_kept_by : (before : List SlotChange) (c : SlotChange) (changes : List SlotChange) (b : Bool) → has_scheme c ≡ b → checked_slot (length before) before c ≡ Ok tt → checked_after (kept_slots (before ++ c ∷ [])) (kept_slots changes) ≡ Ok tt → checked_after (kept_slots before) (kept_slots (c ∷ changes)) ≡ Ok tt
-behind_kept_by before c changes true is here rest =
+behind_kept_by : (version : Version) (before : List SlotChange) (c : SlotChange) (changes : List SlotChange) (b : Bool) → has_scheme c ≡ b → checked_slot version (length before) before c ≡ Ok tt → checked_after version (kept_slots (before ++ c ∷ [])) (kept_slots changes) ≡ Ok tt → checked_after version (kept_slots before) (kept_slots (c ∷ changes)) ≡ Ok tt
+behind_kept_by version before c changes true is here rest =
     let parts : kept_slots (before ++ c ∷ []) ≡ kept_slots before ++ c ∷ [] = filter-append has_scheme before (c ∷ []) ∙ ap (λ cs. kept_slots before ++ cs) (kept_first c [] is) in
-    rw (kept_first c changes is, slot_kept before c here) (subst (λ (cs : List SlotChange). checked_after cs (kept_slots changes) ≡ Ok tt) parts rest)
-behind_kept_by before c changes false is here rest =
+    rw (kept_first c changes is, slot_kept version before c here) (subst (λ (cs : List SlotChange). checked_after version cs (kept_slots changes) ≡ Ok tt) parts rest)
+behind_kept_by version before c changes false is here rest =
     let parts : kept_slots (before ++ c ∷ []) ≡ kept_slots before = filter-append has_scheme before (c ∷ []) ∙ ap (λ cs. kept_slots before ++ cs) (dropped_first c [] is) ∙ append-nil (kept_slots before) in
-    rw (dropped_first c changes is) (subst (λ (cs : List SlotChange). checked_after cs (kept_slots changes) ≡ Ok tt) parts rest)
+    rw (dropped_first c changes is) (subst (λ (cs : List SlotChange). checked_after version cs (kept_slots changes) ≡ Ok tt) parts rest)
 
-behind_kept : (before changes : List SlotChange) → checked_after before changes ≡ Ok tt → checked_after (kept_slots before) (kept_slots changes) ≡ Ok tt
-behind_kept before [] ok = refl
-behind_kept before (c ∷ changes) ok =
-    let both = both_ok (checked_slot (length before) before c) (checked_after (before ++ c ∷ []) changes) ok in
-    behind_kept_by before c changes (has_scheme c) refl both.0 (behind_kept (before ++ c ∷ []) changes both.1)
+behind_kept : (version : Version) (before changes : List SlotChange) → checked_after version before changes ≡ Ok tt → checked_after version (kept_slots before) (kept_slots changes) ≡ Ok tt
+behind_kept version before [] ok = refl
+behind_kept version before (c ∷ changes) ok =
+    let both = both_ok (checked_slot version (length before) before c) (checked_after version (before ++ c ∷ []) changes) ok in
+    behind_kept_by version before c changes (has_scheme c) refl both.0 (behind_kept version (before ++ c ∷ []) changes both.1)
 
-pub slots_kept : (changes : List SlotChange) → checked_slots changes ≡ Ok tt → checked_slots (kept_slots changes) ≡ Ok tt
-slots_kept changes ok = behind_kept [] changes ok
+pub slots_kept : (version : Version) (changes : List SlotChange) → checked_slots version changes ≡ Ok tt → checked_slots version (kept_slots changes) ≡ Ok tt
+slots_kept version changes ok = behind_kept version [] changes ok
 
 -- with one change more after changes that are accepted, only that one can be rejected
-behind-push : (front before : List SlotChange) (c : SlotChange) → checked_after front before ≡ Ok tt → checked_after front (before ++ c ∷ []) ≡ checked_slot (length (front ++ before)) (front ++ before) c
-behind-push front [] c ok = rw (append-nil front) (and_ok (checked_slot (length front) front c))
-behind-push front (b ∷ before) c ok =
-    let both = both_ok (checked_slot (length front) front b) (checked_after (front ++ b ∷ []) before) ok in
+behind-push : (version : Version) (front before : List SlotChange) (c : SlotChange) → checked_after version front before ≡ Ok tt → checked_after version front (before ++ c ∷ []) ≡ checked_slot version (length (front ++ before)) (front ++ before) c
+behind-push version front [] c ok = rw (append-nil front) (and_ok (checked_slot version (length front) front c))
+behind-push version front (b ∷ before) c ok =
+    let both = both_ok (checked_slot version (length front) front b) (checked_after version (front ++ b ∷ []) before) ok in
     let same : (front ++ b ∷ []) ++ before ≡ front ++ b ∷ before = append_assoc front (b ∷ []) before in
-    rw (both.0) (behind-push (front ++ b ∷ []) before c both.1 ∙ ap (λ cs. checked_slot (length cs) cs c) same)
+    rw (both.0) (behind-push version (front ++ b ∷ []) before c both.1 ∙ ap (λ cs. checked_slot version (length cs) cs c) same)
 
-pub checked_slots-push : (before : List SlotChange) (c : SlotChange) → checked_slots before ≡ Ok tt → checked_slots (before ++ c ∷ []) ≡ checked_slot (length before) before c
-checked_slots-push before c ok = behind-push [] before c ok
+pub checked_slots-push : (version : Version) (before : List SlotChange) (c : SlotChange) → checked_slots version before ≡ Ok tt → checked_slots version (before ++ c ∷ []) ≡ checked_slot version (length before) before c
+checked_slots-push version before c ok = behind-push version [] before c ok

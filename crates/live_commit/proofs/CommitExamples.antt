@@ -3,9 +3,10 @@ use Rattle.std.proofs.Common.{◌≡◌, ℕ, ◌+◌, ◌*◌, List, [], ◌∷
 use Rattle.damon_types.specs.declared.attrs.AttrsFault.TheVariants.{MinTooSmall}
 use Rattle.damon_types.specs.declared.range.RangeSpec.{RangeSpec}
 use Rattle.damon_types.specs.declared.scheme.SchemeFault.TheVariants.{SlotOutOfRange}
+use Rattle.damon_types.specs.declared.scheme.Version.TheVariants.{One, Two}
 use Rattle.damon_types.specs.declared.space.Target.{Target}
 use Rattle.target_ranges.specs.declared.fault.RangeWhy.TheVariants.{TooSmall}
-use Rattle.live_commit.specs.declared.fault.CommitFault.TheVariants.{Busy, NoRange, BadRange, RangesOverMax, BadAttrs, OverCap, BadScheme}
+use Rattle.live_commit.specs.declared.fault.CommitFault.TheVariants.{Busy, NoRange, BadRange, RangesOverMax, BadAttrs, OverCap, BadScheme, BadCost}
 use Rattle.live_commit.specs.declared.phase.Phase.{Phase}
 use Rattle.live_commit.specs.declared.phase.Phase.TheVariants.{Idle, Clearing, Armed, Checking}
 use Rattle.live_commit.specs.declared.view.View.{View}
@@ -18,7 +19,7 @@ space = record { base = 65536; pages = 16 } ∷ []
 
 -- a monitor with four rows in three ranges, of at least two pages each, and with at most eight rows
 abbrev view : Phase → View
-view phase = record { phase = phase; rows = 4; ranges = 3; unit = 2; cap = 8; max = 8 }
+view phase = record { version = One; phase = phase; rows = 4; ranges = 3; unit = 2; cap = 8; max = 8 }
 
 -- new attributes alone
 abbrev attrs : ℕ → ℕ → CommitValue
@@ -27,11 +28,12 @@ attrs min max = record {
   ranges = None;
   slot = None;
   metric = None;
+  cost = None;
 }
 
 -- new ranges alone
 abbrev ranges : List RangeSpec → CommitValue
-ranges specs = record { attrs = None; ranges = Some specs; slot = None; metric = None }
+ranges specs = record { attrs = None; ranges = Some specs; slot = None; metric = None; cost = None }
 
 -- the first pages of the target
 abbrev first_pages : ℕ → RangeSpec
@@ -44,6 +46,7 @@ emptied slot = record {
   ranges = None;
   slot = Some (record { slot = slot; scheme = None });
   metric = None;
+  cost = None;
 }
 
 clears_are_counted : checked_commit space (view (Clearing 1)) (ranges []) ≡ Err (Busy 1)
@@ -78,3 +81,19 @@ slot_16_is_refused = refl
 
 slot_15_is_emptied : checked_commit space (view Idle) (emptied 15) ≡ Ok tt
 slot_15_is_emptied = refl
+
+-- a cost alone
+abbrev cost : ℕ → CommitValue
+cost slot = record { attrs = None; ranges = None; slot = None; metric = None; cost = Some (record { slot = slot; nanos = 7 }) }
+
+abbrev view_two : View
+view_two = record { version = Two; phase = Idle; rows = 4; ranges = 3; unit = 2; cap = 8; max = 8 }
+
+no_cost_in_one : checked_commit space (view Idle) (cost 3) ≡ Err (BadCost 3)
+no_cost_in_one = refl
+
+cost_in_two : checked_commit space view_two (cost 15) ≡ Ok tt
+cost_in_two = refl
+
+no_such_slot : checked_commit space view_two (cost 16) ≡ Err (BadCost 16)
+no_such_slot = refl

@@ -7,6 +7,7 @@ use Rattle.damon_types.specs.declared.scheme.Action.TheVariants.{Stat}
 use Rattle.damon_types.specs.declared.scheme.Prefer.TheVariants.{Hot}
 use Rattle.damon_types.specs.declared.scheme.Scheme.{Scheme}
 use Rattle.damon_types.specs.declared.scheme.SchemeFault.TheVariants.{SlotOutOfRange, PatternReversed}
+use Rattle.damon_types.specs.declared.scheme.Version.TheVariants.{One, Two}
 use Rattle.damon_types.specs.declared.scheme.SlotChange.{SlotChange}
 use Rattle.damon_types.specs.declared.space.Target.{Target}
 use Rattle.target_ranges.specs.declared.fault.RangeWhy.TheVariants.{Overlap}
@@ -43,37 +44,37 @@ set slot size = record { slot = slot; scheme = Some (up_to size) }
 abbrev emptied : ℕ → SlotChange
 emptied slot = record { slot = slot; scheme = None }
 
-unit_comes_first : checked_setup space 0 2 (attrs 1 2) [] [] ≡ Err (BadUnit 0)
+unit_comes_first : checked_setup One space 0 2 (attrs 1 2) [] [] ≡ Err (BadUnit 0)
 unit_comes_first = refl
 
-attributes_come_before_the_cap : checked_setup space 1 8 (attrs 1 9) [] [] ≡ Err (BadAttrs (MinTooSmall 1))
+attributes_come_before_the_cap : checked_setup One space 1 8 (attrs 1 9) [] [] ≡ Err (BadAttrs (MinTooSmall 1))
 attributes_come_before_the_cap = refl
 
-cap_is_above_the_most_regions : checked_setup space 1 8 (attrs 3 9) [] [] ≡ Err (OverCap 9 8)
+cap_is_above_the_most_regions : checked_setup One space 1 8 (attrs 3 9) [] [] ≡ Err (OverCap 9 8)
 cap_is_above_the_most_regions = refl
 
-nothing_is_refused : checked_setup space 1 8 (attrs 3 3) [] [] ≡ Err NoRange
+nothing_is_refused : checked_setup One space 1 8 (attrs 3 3) [] [] ≡ Err NoRange
 nothing_is_refused = refl
 
-bad_range_comes_before_their_number : checked_setup space 2 8 (attrs 3 3) (two_pages 65536 ∷ two_pages 73728 ∷ two_pages 81920 ∷ two_pages 65536 ∷ []) [] ≡ Err (BadRange 3 Overlap)
+bad_range_comes_before_their_number : checked_setup One space 2 8 (attrs 3 3) (two_pages 65536 ∷ two_pages 73728 ∷ two_pages 81920 ∷ two_pages 65536 ∷ []) [] ≡ Err (BadRange 3 Overlap)
 bad_range_comes_before_their_number = refl
 
-four_ranges_are_too_many_for_three_regions : checked_setup space 2 8 (attrs 3 3) (two_pages 65536 ∷ two_pages 73728 ∷ two_pages 81920 ∷ two_pages 90112 ∷ []) [] ≡ Err (RangesOverMax 4 3)
+four_ranges_are_too_many_for_three_regions : checked_setup One space 2 8 (attrs 3 3) (two_pages 65536 ∷ two_pages 73728 ∷ two_pages 81920 ∷ two_pages 90112 ∷ []) [] ≡ Err (RangesOverMax 4 3)
 four_ranges_are_too_many_for_three_regions = refl
 
-slots_come_last : checked_setup space 2 8 (attrs 3 3) (two_pages 65536 ∷ []) (set 3 2 ∷ set 3 2 ∷ []) ≡ Err (RepeatedSlot 1)
+slots_come_last : checked_setup One space 2 8 (attrs 3 3) (two_pages 65536 ∷ []) (set 3 2 ∷ set 3 2 ∷ []) ≡ Err (RepeatedSlot 1)
 slots_come_last = refl
 
-first_bad_scheme_is_refused : checked_slots (set 16 2 ∷ set 3 1 ∷ []) ≡ Err (BadScheme 0 (SlotOutOfRange 16))
+first_bad_scheme_is_refused : checked_slots One (set 16 2 ∷ set 3 1 ∷ []) ≡ Err (BadScheme 0 (SlotOutOfRange 16))
 first_bad_scheme_is_refused = refl
 
-scheme_comes_before_its_slot : checked_slots (set 3 2 ∷ set 3 1 ∷ []) ≡ Err (BadScheme 1 (PatternReversed 0))
+scheme_comes_before_its_slot : checked_slots One (set 3 2 ∷ set 3 1 ∷ []) ≡ Err (BadScheme 1 (PatternReversed 0))
 scheme_comes_before_its_slot = refl
 
-emptied_slot_stays_set : checked_slots (set 3 2 ∷ emptied 3 ∷ set 3 2 ∷ []) ≡ Err (RepeatedSlot 2)
+emptied_slot_stays_set : checked_slots One (set 3 2 ∷ emptied 3 ∷ set 3 2 ∷ []) ≡ Err (RepeatedSlot 2)
 emptied_slot_stays_set = refl
 
-change_without_scheme_is_passed_over : checked_slots (emptied 16 ∷ set 3 2 ∷ []) ≡ Ok tt
+change_without_scheme_is_passed_over : checked_slots One (emptied 16 ∷ set 3 2 ∷ []) ≡ Ok tt
 change_without_scheme_is_passed_over = refl
 
 changes_with_a_scheme_are_kept : kept_slots (set 3 2 ∷ emptied 4 ∷ set 5 2 ∷ []) ≡ set 3 2 ∷ set 5 2 ∷ []

@@ -7,6 +7,7 @@ use Rattle.damon_types.specs.declared.attrs.Attrs.{Attrs}
 use Rattle.damon_types.specs.declared.range.RangeSpec.{RangeSpec}
 use Rattle.damon_types.specs.declared.space.Target.{Target}
 use Rattle.damon_types.specs.declared.attrs.AttrsFault.{AttrsFault}
+use Rattle.damon_types.specs.declared.scheme.Version.{Version}
 use Rattle.damon_types.specs.declared.scheme.SlotChange.{SlotChange}
 use Rattle.damon_types.specs.Attrs.{IsAttrs, checked_attrs}
 use Rattle.target_ranges.specs.declared.fault.RangeFault.{RangeFault}
@@ -77,13 +78,13 @@ watched_kept space unit cap max specs ok =
     (some, count_kept (length specs) max both.1, ranges_checked (checked_ranges space unit cap specs) both.0)
 
 -- the three checks of a setup
-pub record AreChecked (space : List Target) (unit cap : ℕ) (a : Attrs) (specs : List RangeSpec) (slots : List SlotChange) : Type 0 where
+pub record AreChecked (version : Version) (space : List Target) (unit cap : ℕ) (a : Attrs) (specs : List RangeSpec) (slots : List SlotChange) : Type 0 where
   pub limits : checked_limits unit cap a ≡ Ok tt
   pub watched : checked_watched space unit cap a.max specs ≡ Ok tt
-  pub slots_ok : checked_slots slots ≡ Ok tt
+  pub slots_ok : checked_slots version slots ≡ Ok tt
 
-pub setup_checked : (space : List Target) (unit cap : ℕ) (a : Attrs) (specs : List RangeSpec) (slots : List SlotChange) → checked_setup space unit cap a specs slots ≡ Ok tt → AreChecked space unit cap a specs slots
-setup_checked space unit cap a specs slots ok =
-    let first = both_ok (checked_limits unit cap a) (result_and (checked_watched space unit cap a.max specs) (checked_slots slots)) ok in
-    let second = both_ok (checked_watched space unit cap a.max specs) (checked_slots slots) first.1 in
+pub setup_checked : (version : Version) (space : List Target) (unit cap : ℕ) (a : Attrs) (specs : List RangeSpec) (slots : List SlotChange) → checked_setup version space unit cap a specs slots ≡ Ok tt → AreChecked version space unit cap a specs slots
+setup_checked version space unit cap a specs slots ok =
+    let first = both_ok (checked_limits unit cap a) (result_and (checked_watched space unit cap a.max specs) (checked_slots version slots)) ok in
+    let second = both_ok (checked_watched space unit cap a.max specs) (checked_slots version slots) first.1 in
     record { limits = first.0; watched = second.0; slots_ok = second.1 }

@@ -2,6 +2,8 @@
 use Rattle.std.specs.Prelude.{◌≡◌, ◌<◌, ◌≤◌, List, length, Some, Ok}
 use Rattle.damon_types.specs.declared.attrs.Attrs.{Attrs}
 use Rattle.damon_types.specs.declared.range.RangeSpec.{RangeSpec}
+use Rattle.damon_types.specs.declared.scheme.CostPart.{CostPart}
+use Rattle.damon_types.specs.declared.scheme.Version.TheVariants.{Two}
 use Rattle.damon_types.specs.declared.scheme.SlotChange.{SlotChange}
 use Rattle.damon_types.specs.declared.scheme.TheConstants.{MAX_SLOT}
 use Rattle.damon_types.specs.declared.space.Target.{Target}
@@ -28,3 +30,4 @@ pub record IsAccepted (space : List Target) (v : View) (c : CommitValue) : Type 
       → (0 < length specs) × (checked_ranges space v.unit v.cap specs ≡ Ok tt)
   pub few : ranges_after c.ranges v.ranges ≤ max_after c.attrs v.max
   pub slot : (change : SlotChange) → c.slot ≡ Some change → change.slot ≤ MAX_SLOT
+  pub cost : (part : CostPart) → c.cost ≡ Some part → (v.version ≡ Two) × (part.slot ≤ MAX_SLOT)

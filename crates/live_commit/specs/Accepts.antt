@@ -1,5 +1,5 @@
 -- Which commits are accepted, and the first check of the others that fails.
-use Rattle.std.specs.Prelude.{ℕ, ◌+◌, ◌==◌, nat_lt, List, length, Option, Some, None, Result, Ok, Err, if◌then◌else◌}
+use Rattle.std.specs.Prelude.{ℕ, ◌+◌, ◌==◌, nat_le, nat_lt, List, length, Option, Some, None, Result, Ok, Err, if◌then◌else◌}
 use Rattle.std.specs.Result.{result_and}
 use Rattle.damon_types.specs.declared.attrs.Attrs.{Attrs}
 use Rattle.damon_types.specs.declared.range.RangeSpec.{RangeSpec}
@@ -7,15 +7,18 @@ use Rattle.damon_types.specs.declared.scheme.TheConstants.{MAX_SLOT}
 use Rattle.damon_types.specs.declared.scheme.Scheme.{Scheme}
 use Rattle.damon_types.specs.declared.scheme.SchemeFault.{SchemeFault}
 use Rattle.damon_types.specs.declared.scheme.SchemeFault.TheVariants.{SlotOutOfRange}
+use Rattle.damon_types.specs.declared.scheme.CostPart.{CostPart}
+use Rattle.damon_types.specs.declared.scheme.Version.{Version}
+use Rattle.damon_types.specs.declared.scheme.Version.TheVariants.{One, Two}
 use Rattle.damon_types.specs.declared.scheme.SlotChange.{SlotChange}
 use Rattle.damon_types.specs.declared.space.Target.{Target}
 use Rattle.damon_types.specs.Attrs.{checked_attrs}
-use Rattle.damon_types.specs.Scheme.{checked_scheme}
+use Rattle.damon_types.specs.Scheme.{checked_in}
 use Rattle.target_ranges.specs.Checked.{checked_ranges}
 use Rattle.live_commit.specs.declared.phase.Phase.{Phase}
 use Rattle.live_commit.specs.declared.phase.Phase.TheVariants.{Clearing, Checking}
 use Rattle.live_commit.specs.declared.fault.CommitFault.{CommitFault}
-use Rattle.live_commit.specs.declared.fault.CommitFault.TheVariants.{Busy, NoRange, BadRange, RangesOverMax, BadAttrs, OverCap, BadScheme}
+use Rattle.live_commit.specs.declared.fault.CommitFault.TheVariants.{Busy, NoRange, BadRange, RangesOverMax, BadAttrs, OverCap, BadScheme, BadCost}
 use Rattle.live_commit.specs.declared.view.View.{View}
 use Rattle.live_commit.specs.Commit.{CommitValue}
 
@@ -67,19 +70,29 @@ checked_new_attrs cap None = Ok tt
 checked_new_attrs cap (Some a) = result_and (fault_as BadAttrs (checked_attrs a)) (checked_new_max a.max cap)
 
 -- the slot exists, and its new scheme, if it gets one, is within its limits
-abbrev pub checked_for_slot : ℕ → Option Scheme → Result (Unit {0}) SchemeFault
-checked_for_slot slot None = if nat_lt MAX_SLOT slot then Err (SlotOutOfRange slot) else Ok tt
-checked_for_slot slot (Some s) = checked_scheme slot s
+abbrev pub checked_for_slot : Version → ℕ → Option Scheme → Result (Unit {0}) SchemeFault
+checked_for_slot version slot None = if nat_lt MAX_SLOT slot then Err (SlotOutOfRange slot) else Ok tt
+checked_for_slot version slot (Some s) = checked_in version slot s
 
 -- the first limit that a slot change breaks, as a fault of the commit
-abbrev pub checked_new_slot : Option SlotChange → Result (Unit {0}) CommitFault
-checked_new_slot None = Ok tt
-checked_new_slot (Some c) = fault_as BadScheme (checked_for_slot c.slot c.scheme)
+abbrev pub checked_new_slot : Version → Option SlotChange → Result (Unit {0}) CommitFault
+checked_new_slot version None = Ok tt
+checked_new_slot version (Some c) = fault_as BadScheme (checked_for_slot version c.slot c.scheme)
 
--- the first check of a commit that fails: of the phase, the ranges, their number, the attributes, and the slot
+-- a cost is of a slot that exists, in version Two
+abbrev pub checked_cost_of : Version → ℕ → Result (Unit {0}) CommitFault
+checked_cost_of One slot = Err (BadCost slot)
+checked_cost_of Two slot = if nat_le slot MAX_SLOT then Ok tt else Err (BadCost slot)
+
+abbrev pub checked_cost : Version → Option CostPart → Result (Unit {0}) CommitFault
+checked_cost version None = Ok tt
+checked_cost version (Some p) = checked_cost_of version p.slot
+
+-- the first check of a commit that fails: of the phase, the ranges, their number, the attributes, the slot, and the cost
 abbrev pub checked_commit : List Target → View → CommitValue → Result (Unit {0}) CommitFault
 checked_commit space v c =
     result_and (checked_phase v.phase v.rows)
     (result_and (checked_new_ranges space v.unit v.cap c.ranges)
     (result_and (checked_number (ranges_after c.ranges v.ranges) (max_after c.attrs v.max))
-    (result_and (checked_new_attrs v.cap c.attrs) (checked_new_slot c.slot))))
+    (result_and (checked_new_attrs v.cap c.attrs)
+    (result_and (checked_new_slot v.version c.slot) (checked_cost v.version c.cost)))))

@@ -4,6 +4,7 @@ use Rattle.std.specs.Result.{result_and}
 use Rattle.damon_types.specs.declared.attrs.Attrs.{Attrs}
 use Rattle.damon_types.specs.declared.attrs.AttrsFault.{AttrsFault}
 use Rattle.damon_types.specs.declared.range.RangeSpec.{RangeSpec}
+use Rattle.damon_types.specs.declared.scheme.Version.{Version}
 use Rattle.damon_types.specs.declared.scheme.SlotChange.{SlotChange}
 use Rattle.damon_types.specs.declared.space.Target.{Target}
 use Rattle.damon_types.specs.Attrs.{checked_attrs}
@@ -53,10 +54,10 @@ checked_watched space unit cap max specs =
     else result_and (range_fault (checked_ranges space unit cap specs)) (checked_count (length specs) max)
 
 -- the first check of a setup that fails: of the numbers, then of the ranges, then of the slots
-abbrev pub checked_setup : List Target → ℕ → ℕ → Attrs → List RangeSpec → List SlotChange → Result (Unit {0}) SetupFault
-checked_setup space unit cap a specs slots =
+abbrev pub checked_setup : Version → List Target → ℕ → ℕ → Attrs → List RangeSpec → List SlotChange → Result (Unit {0}) SetupFault
+checked_setup version space unit cap a specs slots =
     result_and (checked_limits unit cap a)
-    (result_and (checked_watched space unit cap a.max specs) (checked_slots slots))
+    (result_and (checked_watched space unit cap a.max specs) (checked_slots version slots))
 
 -- something is made only if the check succeeds; an error is that of the check, or Memory if the check succeeds
 abbrev pub AnswersAs : {T : Type 0} → Result (Unit {0}) SetupFault → Result T SetupFault → Type 0

@@ -3,6 +3,7 @@ use Rattle.std.specs.Prelude.{◌≡◌, ℕ, ◌≤◌, List, length, All, IsSo
 use Rattle.damon_types.specs.declared.range.TheConstants.{MAX_CLASS}
 use Rattle.damon_types.specs.declared.space.Target.{Target}
 use Rattle.damon_types.specs.declared.range.Range.{Range}
+use Rattle.damon_types.specs.declared.scheme.Version.{Version}
 use Rattle.damon_types.specs.declared.scheme.SlotChange.{SlotChange}
 use Rattle.damon_types.specs.declared.attrs.Attrs.{Attrs}
 use Rattle.damon_types.specs.Attrs.{IsAttrs}
@@ -12,6 +13,7 @@ use Rattle.live_commit.specs.Slots.{checked_slots}
 
 -- the parts of a setup
 pub record SetupValue : Type 0 where
+  pub version : Version
   pub space : List Target
   pub unit : ℕ
   pub cap : ℕ
@@ -33,4 +35,4 @@ pub record IsSetup (v : SetupValue) : Type 0 where
   pub classes : All (λ g. g.class ≤ MAX_CLASS) v.ranges
   pub within : AreWithin v.space v.ranges
   pub set : All (λ c. IsSome c.scheme) v.slots
-  pub slots : checked_slots v.slots ≡ Ok tt
+  pub slots : checked_slots v.version v.slots ≡ Ok tt

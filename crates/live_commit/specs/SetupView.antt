@@ -2,6 +2,7 @@
 use Rattle.std.specs.Prelude.{ℕ, List}
 use Rattle.damon_types.specs.declared.attrs.Attrs.{Attrs}
 use Rattle.damon_types.specs.declared.range.RangeSpec.{RangeSpec}
+use Rattle.damon_types.specs.declared.scheme.Version.{Version}
 use Rattle.damon_types.specs.declared.scheme.SlotChange.{SlotChange}
 use Rattle.damon_types.specs.declared.space.Target.{Target}
 use Rattle.target_ranges.specs.Made.{ranges_of}
@@ -12,6 +13,7 @@ use Rattle.live_commit.specs.Slots.{kept_slots}
 -- the parts of a setup, without the proof of their limits
 abbrev pub value_of : Setup → SetupValue
 value_of s = record {
+  version = s.version;
   space = s.space;
   unit = s.unit;
   cap = s.cap;
@@ -21,8 +23,9 @@ value_of s = record {
 }
 
 -- the setup of these parts: the pages of the range specs, and the slot changes that have a scheme
-abbrev pub setup_of : List Target → ℕ → ℕ → Attrs → List RangeSpec → List SlotChange → SetupValue
-setup_of space unit cap a specs slots = record {
+abbrev pub setup_of : Version → List Target → ℕ → ℕ → Attrs → List RangeSpec → List SlotChange → SetupValue
+setup_of version space unit cap a specs slots = record {
+  version = version;
   space = space;
   unit = unit;
   cap = cap;

@@ -5,8 +5,9 @@ use Rattle.std.specs.Option.{is_some}
 use Rattle.std.specs.Result.{result_and}
 use Rattle.damon_types.specs.declared.scheme.Scheme.{Scheme}
 use Rattle.damon_types.specs.declared.scheme.SchemeFault.{SchemeFault}
+use Rattle.damon_types.specs.declared.scheme.Version.{Version}
 use Rattle.damon_types.specs.declared.scheme.SlotChange.{SlotChange}
-use Rattle.damon_types.specs.Scheme.{checked_scheme}
+use Rattle.damon_types.specs.Scheme.{checked_in}
 use Rattle.live_commit.specs.declared.fault.SetupFault.{SetupFault}
 use Rattle.live_commit.specs.declared.fault.SetupFault.TheVariants.{BadScheme, RepeatedSlot}
 
@@ -35,22 +36,22 @@ scheme_fault index (Err why) = Err (BadScheme index why)
 abbrev pub checked_free : ℕ → Bool → Result (Unit {0}) SetupFault
 checked_free index set = if set then Err (RepeatedSlot index) else Ok tt
 
--- a slot may get a scheme where the scheme is within its limits, and the slot is not set yet
-abbrev pub checked_set : ℕ → Bool → ℕ → Option Scheme → Result (Unit {0}) SetupFault
-checked_set index set slot None = Ok tt
-checked_set index set slot (Some s) =
-    result_and (scheme_fault index (checked_scheme slot s)) (checked_free index set)
+-- a slot may get a scheme where the scheme is within the limits of the version, and the slot is not set yet
+abbrev pub checked_set : Version → ℕ → Bool → ℕ → Option Scheme → Result (Unit {0}) SetupFault
+checked_set version index set slot None = Ok tt
+checked_set version index set slot (Some s) =
+    result_and (scheme_fault index (checked_in version slot s)) (checked_free index set)
 
 -- the fault of a change with this index, after these changes
-abbrev pub checked_slot : ℕ → List SlotChange → SlotChange → Result (Unit {0}) SetupFault
-checked_slot index before c = checked_set index (is_set c.slot before) c.slot c.scheme
+abbrev pub checked_slot : Version → ℕ → List SlotChange → SlotChange → Result (Unit {0}) SetupFault
+checked_slot version index before c = checked_set version index (is_set c.slot before) c.slot c.scheme
 
 -- the first fault of changes that come after these
-abbrev pub checked_after : List SlotChange → List SlotChange → Result (Unit {0}) SetupFault
-checked_after before [] = Ok tt
-checked_after before (c ∷ changes) =
-    result_and (checked_slot (length before) before c) (checked_after (before ++ c ∷ []) changes)
+abbrev pub checked_after : Version → List SlotChange → List SlotChange → Result (Unit {0}) SetupFault
+checked_after version before [] = Ok tt
+checked_after version before (c ∷ changes) =
+    result_and (checked_slot version (length before) before c) (checked_after version (before ++ c ∷ []) changes)
 
 -- the first fault of changes
-abbrev pub checked_slots : List SlotChange → Result (Unit {0}) SetupFault
-checked_slots changes = checked_after [] changes
+abbrev pub checked_slots : Version → List SlotChange → Result (Unit {0}) SetupFault
+checked_slots version changes = checked_after version [] changes

@@ -1,4 +1,4 @@
-use damon_types::{Attrs, RangeSpecs, SlotChange};
+use damon_types::{Attrs, CostPart, RangeSpecs, SlotChange};
 
 /// Changes of a running monitor. They take effect in the order of the fields; `None` changes
 /// nothing.
@@ -12,4 +12,6 @@ pub struct Commit {
     pub slot: Option<SlotChange>,
     /// The new value of the metric that watermarks are compared with.
     pub metric: Option<u32>,
+    /// A cost that was measured for a slot.
+    pub cost: Option<CostPart>,
 }

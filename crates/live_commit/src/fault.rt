@@ -70,4 +70,6 @@ pub enum CommitFault {
     OverCap { max: u32, cap: u32 },
     /// The scheme of the slot change breaks a limit, or there is no such slot.
     BadScheme { why: SchemeFault },
+    /// The commit has a cost, and there is no such slot or the version has no costs.
+    BadCost { slot: u8 },
 }

@@ -4,7 +4,7 @@ ghost use Rattle.live_commit.specs.SetupView.{setup_of, value_of};
 
 use crate::slots::{check_slots, keep_slots};
 use crate::{MAX_CAP, MAX_UNIT, MIN_CAP, Setup, SetupFault};
-use damon_types::{Attrs, RangeSpec, Ranges, SlotChange, Space};
+use damon_types::{Attrs, RangeSpec, Ranges, SlotChange, Space, Version};
 use std::alloc::{AllocError, Global};
 use target_ranges::{check_ranges, fill_checked};
 
@@ -15,6 +15,7 @@ impl Setup {
     /// Allocates.
     pub fn new(
         alloc: Global,
+        version: Version,
         space: Space,
         unit: u32,
         cap: u32,
@@ -24,15 +25,15 @@ impl Setup {
     ) -> Result<Setup, SetupFault>
         requires ranges { length specs.now < 2 ^ 32 }
         requires slots { length slots.now < 2 ^ 32 }
-        ensures exact { AnswersAs (checked_setup space unit cap attrs specs.now slots.now) result }
+        ensures exact { AnswersAs (checked_setup version space unit cap attrs specs.now slots.now) result }
         ensures made { IfOk result (λ s.
-            value_of s ≡ setup_of space unit cap attrs specs.now slots.now) }
+            value_of s ≡ setup_of version space unit cap attrs specs.now slots.now) }
         ensures room { IfOk result (λ s. s.ranges.cap ≡ cap) }
     {
         check_limits(unit, cap, &attrs)?;
         check_watched(&space, unit, cap, attrs.max, specs)?;
-        check_slots(slots)?;
-        let setup = Setup::of_checked(alloc, space, unit, cap, attrs, specs, slots)?;
+        check_slots(version, slots)?;
+        let setup = Setup::of_checked(alloc, version, space, unit, cap, attrs, specs, slots)?;
         Ok(setup)
     }
 
@@ -40,6 +41,7 @@ impl Setup {
     /// slot changes. Allocates; the only error is out of memory.
     pub fn of_checked(
         alloc: Global,
+        version: Version,
         space: Space,
         unit: u32,
         cap: u32,
@@ -48,15 +50,16 @@ impl Setup {
         slots: &[SlotChange],
     ) -> Result<Setup, AllocError>
         requires slots { length slots.now < 2 ^ 32 }
-        requires checked { checked_setup space unit cap attrs specs.now slots.now ≡ Ok tt }
+        requires checked { checked_setup version space unit cap attrs specs.now slots.now ≡ Ok tt }
         ensures made { IfOk result (λ s.
-            value_of s ≡ setup_of space unit cap attrs specs.now slots.now) }
+            value_of s ≡ setup_of version space unit cap attrs specs.now slots.now) }
         ensures room { IfOk result (λ s. s.ranges.cap ≡ cap) }
     {
         let mut ranges = Ranges::new(alloc, cap)?;
         fill_checked(&mut ranges, &space, specs);
         let slots = keep_slots(alloc, slots)?;
         Ok(Setup {
+            version,
             space,
             unit,
             cap,

@@ -1,6 +1,6 @@
 ghost use Rattle.live_commit.specs.Setup.{IsSetup};
 
-use damon_types::{Attrs, Ranges, SlotChanges, Space};
+use damon_types::{Attrs, Ranges, SlotChanges, Space, Version};
 
 /// The most pages that the least size of a region may be.
 pub const MAX_UNIT: u32 = 1_048_576;
@@ -14,6 +14,8 @@ pub const MAX_CAP: u32 = 4_096;
 /// What a monitor is started with. Its type guarantees the limits of its parts.
 #[derive(Debug, Drop)]
 pub struct Setup {
+    /// The version of the rules.
+    pub version: Version,
     /// The targets whose pages can be watched.
     pub space: Space,
     /// The least size of a region in pages, from 1 to [`MAX_UNIT`].
@@ -28,6 +30,7 @@ pub struct Setup {
     /// The slots that hold a scheme, each slot at most once and each scheme within its limits.
     pub slots: SlotChanges,
     pub ghost sound: { IsSetup (record {
+      version = version;
       space = space;
       unit = unit;
       cap = cap;

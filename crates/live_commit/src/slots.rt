@@ -3,31 +3,35 @@ ghost use Rattle.std.specs.Prelude.{◌≡◌, ◌<◌, ◌^◌, ◌-◌, [], �
 ghost use Rattle.live_commit.specs.Slots.{checked_slot, checked_slots, is_set, kept_slots};
 
 use crate::SetupFault;
-use damon_types::{SlotChange, SlotChanges};
+use damon_types::{SlotChange, SlotChanges, Version};
 use std::alloc::{AllocError, Global};
 
 // Checks changes, each after those before it.
-pub fn check_slots(changes: &[SlotChange]) -> Result<(), SetupFault>
+pub fn check_slots(version: Version, changes: &[SlotChange]) -> Result<(), SetupFault>
     requires { length changes.now < 2 ^ 32 }
-    ensures exact { result ≡ checked_slots changes.now }
+    ensures exact { result ≡ checked_slots version changes.now }
 {
     for (index, change) in changes.iter().enumerate() {
-        check_slot(&changes[..index], change)?;
+        check_slot(version, &changes[..index], change)?;
     }
     Ok(())
 }
 
 // Checks one change after others.
-fn check_slot(before: &[SlotChange], change: &SlotChange) -> Result<(), SetupFault>
+fn check_slot(
+    version: Version,
+    before: &[SlotChange],
+    change: &SlotChange,
+) -> Result<(), SetupFault>
     requires { length before.now < 2 ^ 32 }
-    ensures exact { result ≡ checked_slot (length before.now) before.now change.now }
+    ensures exact { result ≡ checked_slot version (length before.now) before.now change.now }
 {
     let Some(scheme) = &change.scheme else {
         return Ok(());
     };
     let index = before.len() as u32;
     scheme
-        .check(change.slot)
+        .check_in(version, change.slot)
         .map_err(|why| SetupFault::BadScheme { index, why })?;
     if is_set(before, change.slot) {
         return Err(SetupFault::RepeatedSlot { index });

@@ -1,10 +1,12 @@
 ghost use Rattle.std.specs.Prelude.{◌≡◌, ◌<◌, ◌^◌};
 ghost use Rattle.std.specs.Option.{option_map};
 ghost use Rattle.live_commit.specs.Commit.{commit_value};
-ghost use Rattle.live_commit.specs.Accepts.{checked_commit, checked_for_slot, checked_new_attrs, checked_new_ranges, checked_new_slot, checked_number, checked_phase, max_after, ranges_after, steps_made};
+ghost use Rattle.live_commit.specs.Accepts.{checked_commit, checked_for_slot, checked_new_attrs, checked_new_ranges, checked_new_slot, checked_number, checked_phase, max_after, ranges_after, steps_made, checked_cost, checked_cost_of};
 
 use crate::{Commit, CommitFault, Phase, View};
-use damon_types::{Attrs, MAX_SLOT, RangeSpecs, Scheme, SchemeFault, SlotChange, Space};
+use damon_types::{
+    Attrs, CostPart, MAX_SLOT, RangeSpecs, Scheme, SchemeFault, SlotChange, Space, Version,
+};
 use target_ranges::check_ranges;
 
 /// Checks whether a monitor with this space and this view accepts the commit; an error is the first
@@ -12,7 +14,7 @@ use target_ranges::check_ranges;
 /// nor `Checking`; new ranges are at least one, and each is accepted; the ranges after the commit
 /// are no more than the regions that are allowed after it; new attributes are within their limits,
 /// and allow at most `cap` regions; a slot that is changed exists, and its new scheme is within its
-/// limits. The clears and loads that the pass has made must be fewer than 2^32.
+/// limits; a cost is of a slot that exists, in a version that has costs. The clears and loads that the pass has made must be fewer than 2^32.
 pub fn validate(commit: &Commit, space: &Space, view: &View) -> Result<(), CommitFault>
     requires few { steps_made view.now.phase view.now.rows < 2 ^ 32 }
     ensures exact { result ≡ checked_commit space.now view.now (commit_value commit.now) }
@@ -24,7 +26,8 @@ pub fn validate(commit: &Commit, space: &Space, view: &View) -> Result<(), Commi
         max_after(commit.attrs, view.max),
     )?;
     check_new_attrs(view.cap, commit.attrs)?;
-    check_new_slot(&commit.slot)
+    check_new_slot(view.version, &commit.slot)?;
+    check_cost(view.version, commit.cost)
 }
 
 // Refuses the phases Clearing and Checking.
@@ -103,22 +106,44 @@ fn check_new_attrs(cap: u32, attrs: Option<Attrs>) -> Result<(), CommitFault>
 }
 
 // Refuses a change of a slot that does not exist, or by a scheme that breaks a limit.
-fn check_new_slot(change: &Option<SlotChange>) -> Result<(), CommitFault>
-    ensures { result ≡ checked_new_slot change.now }
+fn check_new_slot(version: Version, change: &Option<SlotChange>) -> Result<(), CommitFault>
+    ensures { result ≡ checked_new_slot version change.now }
 {
     let Some(change) = change else {
         return Ok(());
     };
-    check_for_slot(change.slot, &change.scheme).map_err(|why| CommitFault::BadScheme { why })
+    check_for_slot(version, change.slot, &change.scheme).map_err(|why| CommitFault::BadScheme {
+        why,
+    })
 }
 
 // The first limit that a scheme for a slot breaks; without a scheme, whether the slot exists.
-fn check_for_slot(slot: u8, scheme: &Option<Scheme>) -> Result<(), SchemeFault>
-    ensures { result ≡ checked_for_slot slot scheme.now }
+fn check_for_slot(version: Version, slot: u8, scheme: &Option<Scheme>) -> Result<(), SchemeFault>
+    ensures { result ≡ checked_for_slot version slot scheme.now }
 {
     match scheme {
-        Some(scheme) => scheme.check(slot),
+        Some(scheme) => scheme.check_in(version, slot),
         None if slot > MAX_SLOT => Err(SchemeFault::SlotOutOfRange { slot }),
         None => Ok(()),
+    }
+}
+
+// Refuses a cost of a slot that does not exist, or in a version without costs.
+fn check_cost(version: Version, cost: Option<CostPart>) -> Result<(), CommitFault>
+    ensures { result ≡ checked_cost version cost }
+{
+    match cost {
+        Some(cost) => check_cost_part(version, cost.slot),
+        None => Ok(()),
+    }
+}
+
+// The same for a cost that is there.
+fn check_cost_part(version: Version, slot: u8) -> Result<(), CommitFault>
+    ensures { result ≡ checked_cost_of version slot }
+{
+    match version {
+        Version::Two if slot <= MAX_SLOT => Ok(()),
+        _ => Err(CommitFault::BadCost { slot }),
     }
 }

@@ -1,8 +1,11 @@
 use crate::Phase;
+use damon_types::Version;
 
 /// What a commit is checked against beside the space: the phase of a monitor, and its numbers.
 #[derive(Clone, Copy, Debug, PartialEq, Eq)]
 pub struct View {
+    /// The version of the rules.
+    pub version: Version,
     /// The phase.
     pub phase: Phase,
     /// The number of rows.

@@ -1,16 +1,26 @@
 -- Quotas in pages.
-use Rattle.std.specs.Prelude.{ℕ, ◌-◌, ◌/◌, Bool, nat_le, Option}
+use Rattle.std.specs.Prelude.{ℕ, ◌-◌, ◌*◌, ◌/◌, Bool, ◌&&◌, min, nat_le, nat_lt, Option, Some, None, if◌then◌else◌}
 use Rattle.std.specs.Option.{option_map}
 use Rattle.damon_types.specs.declared.space.TheConstants.{PAGE_SIZE}
 use Rattle.damon_types.specs.declared.scheme.Quota.{Quota}
+use Rattle.quota_charge.specs.declared.cost.Cost.{Cost}
 
--- the effective quota: the whole pages of a quota
-abbrev pub effective_pages : Quota → ℕ
-effective_pages q = q.bytes / PAGE_SIZE
+-- whether a cost says how long a page takes: it has both pages and nanoseconds
+abbrev pub is_measured : Cost → Bool
+is_measured cost = nat_lt 0 cost.pages && nat_lt 0 cost.nanos
+
+-- a number of pages, or as many as a time allows at this cost where these are fewer
+abbrev pub within_time : Option ℕ → Cost → ℕ → ℕ
+within_time None cost pages = pages
+within_time (Some time) cost pages = if is_measured cost then min pages (time * cost.pages / cost.nanos) else pages
+
+-- the effective quota: its whole pages, or those that its time allows where these are fewer
+abbrev pub effective_pages : Quota → Cost → ℕ
+effective_pages q cost = within_time q.time cost (q.bytes / PAGE_SIZE)
 
 -- the pages that are left of a quota once some are charged, 0 where these are more than it allows; None without a quota
-abbrev pub left_of : Option Quota → ℕ → Option ℕ
-left_of quota charged = option_map (λ q. effective_pages q - charged) quota
+abbrev pub left_of : Option Quota → Cost → ℕ → Option ℕ
+left_of quota cost charged = option_map (λ q. effective_pages q cost - charged) quota
 
 -- whether a window that began at tick `start` has ended at a tick: at least the quota's reset interval has passed
 abbrev pub has_ended : Quota → ℕ → ℕ → Bool

@@ -2,7 +2,10 @@
 //! window began. The rules of windows are this project's own.
 #![tactic(auto)]
 
+/// What applying a scheme has taken.
+mod cost;
 /// Windows, to which pages are charged.
 mod window;
 
+pub use cost::Cost;
 pub use window::{Window, effective};

@@ -1,8 +1,9 @@
-ghost use Rattle.std.specs.Prelude.{◌≡◌, ◌+◌, ◌≤◌, ◌<◌, ◌^◌, IfSome};
+ghost use Rattle.std.specs.Prelude.{◌≡◌, ◌+◌, ◌≤◌, ◌<◌, ◌^◌, Some, IfSome};
 ghost use Rattle.std.specs.Option.{option_copied};
-ghost use Rattle.quota_charge.specs.Quota.{effective_pages, left_of};
+ghost use Rattle.quota_charge.specs.Quota.{effective_pages, left_of, within_time};
 ghost use Rattle.quota_charge.specs.Window.{turned};
 
+use crate::Cost;
 use damon_types::{PAGE_SIZE, Quota};
 
 /// The pages that were charged to a slot since a tick. Each slot has a window, also while its
@@ -15,11 +16,29 @@ pub struct Window {
     pub charged: u64,
 }
 
-/// The effective quota in pages: the whole pages of a quota. One of less than a page allows none.
-pub fn effective(quota: &Quota) -> u64
-    ensures { result ≡ effective_pages quota.now }
+/// The effective quota in pages: the whole pages of a quota, or as many as its time allows at this
+/// cost per page where these are fewer. Without both pages and nanoseconds in the cost the time allows
+/// all. A quota of less than a page allows none.
+pub fn effective(quota: &Quota, cost: &Cost) -> u64
+    ensures { result ≡ effective_pages quota.now cost.now }
 {
-    quota.bytes / PAGE_SIZE
+    let pages = quota.bytes / PAGE_SIZE;
+    match quota.time {
+        Some(time) => within(time, cost, pages),
+        None => pages,
+    }
+}
+
+// These pages, or as many as a time allows at this cost where these are fewer.
+fn within(time: u64, cost: &Cost, pages: u64) -> u64
+    ensures { result ≡ within_time (Some time) cost.now pages }
+{
+    if cost.pages > 0 && cost.nanos > 0 {
+        let timed = u128::from(time) * u128::from(cost.pages) / u128::from(cost.nanos);
+        timed.min(u128::from(pages)) as u64
+    } else {
+        pages
+    }
 }
 
 impl Window {
@@ -50,25 +69,25 @@ impl Window {
 
     /// How many pages are left: the effective quota less the pages that were charged, and 0 if more
     /// were charged, before the quota was lowered. `None` exactly if there is no quota.
-    pub fn left(&self, quota: Option<&Quota>) -> Option<u64>
-        ensures { result ≡ left_of (option_copied quota.entry) self.now.charged }
+    pub fn left(&self, quota: Option<&Quota>, cost: &Cost) -> Option<u64>
+        ensures { result ≡ left_of (option_copied quota.entry) cost.now self.now.charged }
     {
-        quota.map(|quota| effective(quota).saturating_sub(self.charged))
+        quota.map(|quota| effective(quota, cost).saturating_sub(self.charged))
     }
 
     /// Charges pages that a scheme was applied to, with a quota or without. They are at most what
     /// is left, and the sum fits in 64 bits. So after at least one page is charged, the sum is at
     /// most the effective quota.
-    pub fn charge(&mut self, quota: Option<&Quota>, pages: u64)
-        requires left { IfSome (left_of (option_copied quota) self.old.charged)
+    pub fn charge(&mut self, quota: Option<&Quota>, cost: &Cost, pages: u64)
+        requires left { IfSome (left_of (option_copied quota) cost.now self.old.charged)
             (λ left. pages ≤ left) }
         requires fits { self.old.charged + pages < 2 ^ 64 }
         ensures window { self.new
             ≡ record self.old { charged = self.old.charged + pages } }
         ensures within { 1 ≤ pages
-            → IfSome (option_copied quota.entry) (λ q. self.new.charged ≤ effective_pages q) }
+            → IfSome (option_copied quota.entry) (λ q. self.new.charged ≤ effective_pages q cost.now) }
     {
-        // The quota stands in the conditions alone.
+        // The quota and the cost stand in the conditions alone.
         self.charged += pages;
     }
 }

@@ -5,17 +5,20 @@ ghost use Rattle.range_update.specs.Order.{EndBy, RowsInOrder, row_end as row_en
 ghost use Rattle.range_update.specs.Updated.{covering_row as covering_row_of};
 
 use damon_types::Row;
+use region_list::RowBuf;
 
 // The first index at or after `from` whose row ends after the page, or the number of rows.
-pub(crate) fn skip_rows(rows: &[Row], page: u32, from: usize) -> usize
-    requires order { RowsInOrder 0 rows.now }
-    requires within { from ≤ length rows.now }
-    requires past { EndBy page rows.now from }
-    ensures within { result ≤ length rows.now }
-    ensures past { EndBy page rows.now result }
+pub(crate) fn skip_rows(rows: &RowBuf, page: u32, from: usize) -> usize
+    requires order { RowsInOrder 0 rows.now.rows }
+    requires within { from ≤ length rows.now.rows }
+    requires past { EndBy page rows.now.rows from }
+    ensures within { result ≤ length rows.now.rows }
+    ensures past { EndBy page rows.now.rows result }
     ensures forward { from ≤ result }
-    ensures next { result < length rows.now → page < row_end_of (row_at rows.now result) }
+    ensures next { result < length rows.now.rows → page < row_end_of (row_at rows.now.rows result) }
 {
+    // For its clauses alone: the number of rows is a u32.
+    let _count = rows.len();
     let mut index = from;
     'ended: while ends_by(rows, index, page) {
         index += 1;
@@ -24,46 +27,47 @@ pub(crate) fn skip_rows(rows: &[Row], page: u32, from: usize) -> usize
 }
 
 // Whether there is a row with this index, and it ends by the page.
-pub(crate) fn ends_by(rows: &[Row], index: usize, page: u32) -> bool
-    requires order { RowsInOrder 0 rows.now }
+pub(crate) fn ends_by(rows: &RowBuf, index: usize, page: u32) -> bool
+    requires order { RowsInOrder 0 rows.now.rows }
     ensures yes { result ≡ true
-        → (index < length rows.now) × (row_end_of (row_at rows.now index) ≤ page) }
+        → (index < length rows.now.rows) × (row_end_of (row_at rows.now.rows index) ≤ page) }
     ensures no { result ≡ false
-        → index < length rows.now → page < row_end_of (row_at rows.now index) }
+        → index < length rows.now.rows → page < row_end_of (row_at rows.now.rows index) }
 {
-    index < rows.len() && row_end(rows, index) <= page
+    index < rows.count() && row_end(rows, index) <= page
 }
 
 // The page after the last page of the row with this index.
-pub(crate) fn row_end(rows: &[Row], index: usize) -> u32
-    requires here { index < length rows.now }
-    requires order { RowsInOrder 0 rows.now }
-    ensures { result ≡ row_end_of (row_at rows.now index) }
+pub(crate) fn row_end(rows: &RowBuf, index: usize) -> u32
+    requires here { index < length rows.now.rows }
+    requires order { RowsInOrder 0 rows.now.rows }
+    ensures { result ≡ row_end_of (row_at rows.now.rows index) }
 {
-    rows[index].start + rows[index].pages
+    let row = rows.at(index);
+    row.start + row.pages
 }
 
 // The row that covers the page. The rows before the index end by the page, and the row with the index
 // ends after it, so no other row can.
-pub(crate) fn covering_row(rows: &[Row], index: usize, page: u32) -> Option<Row>
-    requires order { RowsInOrder 0 rows.now }
-    requires past { EndBy page rows.now index }
-    requires next { index < length rows.now → page < row_end_of (row_at rows.now index) }
-    ensures { result ≡ covering_row_of rows.now page }
+pub(crate) fn covering_row(rows: &RowBuf, index: usize, page: u32) -> Option<Row>
+    requires order { RowsInOrder 0 rows.now.rows }
+    requires past { EndBy page rows.now.rows index }
+    requires next { index < length rows.now.rows → page < row_end_of (row_at rows.now.rows index) }
+    ensures { result ≡ covering_row_of rows.now.rows page }
 {
     if starts_by(rows, index, page) {
-        Some(rows[index])
+        Some(rows.at(index))
     } else {
         None
     }
 }
 
 // Whether there is a row with this index, and it starts by the page.
-fn starts_by(rows: &[Row], index: usize, page: u32) -> bool
+fn starts_by(rows: &RowBuf, index: usize, page: u32) -> bool
     ensures yes { result ≡ true
-        → (index < length rows.now) × ((row_at rows.now index).start ≤ page) }
+        → (index < length rows.now.rows) × ((row_at rows.now.rows index).start ≤ page) }
     ensures no { result ≡ false
-        → index < length rows.now → page < (row_at rows.now index).start }
+        → index < length rows.now.rows → page < (row_at rows.now.rows index).start }
 {
-    index < rows.len() && rows[index].start <= page
+    index < rows.count() && rows.at(index).start <= page
 }

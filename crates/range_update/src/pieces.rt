@@ -13,25 +13,27 @@ use region_list::RowBuf;
 // Appends the pieces of a new range. The rows before the index `from` end by its first page. Those
 // before the result end by its end, so the next range can go on there.
 pub(crate) fn cut_range(
-    rows: &[Row],
+    rows: &RowBuf,
     range: Range,
     unit: u32,
     from: usize,
     made: &mut RowBuf,
 ) -> usize
-    requires order { RowsInOrder 0 rows.now }
+    requires order { RowsInOrder 0 rows.now.rows }
     requires unit { 1 ≤ unit }
-    requires within { from ≤ length rows.now }
-    requires past { EndBy range.first rows.now from }
+    requires within { from ≤ length rows.now.rows }
+    requires past { EndBy range.first rows.now.rows from }
     requires end { end_of range < 2 ^ 32 }
-    requires room { length made.old.rows + length (range_pieces unit rows.now range) ≤ made.old.cap }
+    requires room { length made.old.rows + length (range_pieces unit rows.now.rows range) ≤ made.old.cap }
     ensures made { made.new
-        ≡ record made.old { rows = made.old.rows ++ range_pieces unit rows.now range } }
-    ensures within { result ≤ length rows.now }
-    ensures past { EndBy (end_of range) rows.now result }
+        ≡ record made.old { rows = made.old.rows ++ range_pieces unit rows.now.rows range } }
+    ensures within { result ≤ length rows.now.rows }
+    ensures past { EndBy (end_of range) rows.now.rows result }
     ensures forward { from ≤ result }
 {
     let end = range.first + range.pages;
+    // For its clauses alone: the number of rows is a u32.
+    let _len = rows.len();
     let mut index = skip_rows(rows, range.first, from);
     let first = covering_row(rows, index, range.first);
     let mut current = begin_piece(range.target, range.first, first);
@@ -55,39 +57,41 @@ struct Progress {
 // Appends the rows from the index `from` on that are pieces as they are, up to the first that is not.
 // Most rows of a range are such, and a copy takes a third of the time of two looks at boundaries.
 fn push_whole_rows(
-    rows: &[Row],
+    rows: &RowBuf,
     from: usize,
     end: u32,
     unit: u32,
     current: Row,
     made: &mut RowBuf,
 ) -> Progress
-    requires order { RowsInOrder 0 rows.now }
+    requires order { RowsInOrder 0 rows.now.rows }
     requires unit { 1 ≤ unit }
-    requires open { IsOpenPiece rows.now current }
-    requires within { from ≤ length rows.now }
-    requires past { EndBy end rows.now from }
+    requires open { IsOpenPiece rows.now.rows current }
+    requires within { from ≤ length rows.now.rows }
+    requires past { EndBy end rows.now.rows from }
     requires room { length made.old.rows
-        + length (pieces_from rows.now current.target unit end current.start
-        (boundaries (drop from rows.now))) ≤ made.old.cap }
-    ensures within { result.next ≤ length rows.now }
+        + length (pieces_from rows.now.rows current.target unit end current.start
+        (boundaries (drop from rows.now.rows))) ≤ made.old.cap }
+    ensures within { result.next ≤ length rows.now.rows }
     ensures forward { from ≤ result.next }
-    ensures past { EndBy end rows.now result.next }
-    ensures open { IsOpenPiece rows.now result.current }
+    ensures past { EndBy end rows.now.rows result.next }
+    ensures open { IsOpenPiece rows.now.rows result.current }
     ensures target { result.current.target ≡ current.target }
     ensures start { current.start ≤ end → result.current.start ≤ end }
     ensures cap { made.new.cap ≡ made.old.cap }
-    ensures made { made.new.rows ++ pieces_from rows.now current.target unit end result.current.start
-        (boundaries (drop result.next rows.now))
-        ≡ made.old.rows ++ pieces_from rows.now current.target unit end current.start
-        (boundaries (drop from rows.now)) }
+    ensures made { made.new.rows ++ pieces_from rows.now.rows current.target unit end result.current.start
+        (boundaries (drop result.next rows.now.rows))
+        ≡ made.old.rows ++ pieces_from rows.now.rows current.target unit end current.start
+        (boundaries (drop from rows.now.rows)) }
 {
+    // For its clauses alone: the number of rows is a u32.
+    let _count = rows.len();
     let mut next = from;
     let mut start = current.start;
     'whole: while is_whole(rows, next, end, unit, current.target, start) {
         // Before the push, so that what was read for the test is not read again.
         start = row_end(rows, next);
-        made.push(rows[next]);
+        made.push(rows.at(next));
         next += 1;
     }
     if next == from {
@@ -102,17 +106,17 @@ fn push_whole_rows(
 
 // Whether there is a row with this index that is a piece as it is: it has the target, it begins at the
 // page `start`, where the current piece does, and its end may be kept.
-fn is_whole(rows: &[Row], index: usize, end: u32, unit: u32, target: u32, start: u32) -> bool
-    requires order { RowsInOrder 0 rows.now }
-    ensures here { result ≡ true → index < length rows.now }
-    ensures target { result ≡ true → (row_at rows.now index).target ≡ target }
-    ensures start { result ≡ true → (row_at rows.now index).start ≡ start }
+fn is_whole(rows: &RowBuf, index: usize, end: u32, unit: u32, target: u32, start: u32) -> bool
+    requires order { RowsInOrder 0 rows.now.rows }
+    ensures here { result ≡ true → index < length rows.now.rows }
+    ensures target { result ≡ true → (row_at rows.now.rows index).target ≡ target }
+    ensures start { result ≡ true → (row_at rows.now.rows index).start ≡ start }
     ensures end { result ≡ true
-        → may_keep_at unit end start (row_end_of (row_at rows.now index)) ≡ true }
+        → may_keep_at unit end start (row_end_of (row_at rows.now.rows index)) ≡ true }
 {
-    index < rows.len()
-        && rows[index].target == target
-        && rows[index].start == start
+    index < rows.count()
+        && rows.at(index).target == target
+        && rows.at(index).start == start
         && may_keep(unit, end, start, row_end(rows, index))
 }
 
@@ -177,53 +181,55 @@ fn cut_at(x: u32, end: u32, unit: u32, row: Option<Row>, current: Row, made: &mu
 
 // Cuts at the start of the row with this index, where it may be kept.
 fn cut_at_start(
-    rows: &[Row],
+    rows: &RowBuf,
     index: usize,
     end: u32,
     unit: u32,
     current: Row,
     made: &mut RowBuf,
 ) -> Row
-    requires here { index < length rows.now }
-    requires order { RowsInOrder 0 rows.now }
-    requires open { IsOpenPiece rows.now current }
+    requires here { index < length rows.now.rows }
+    requires order { RowsInOrder 0 rows.now.rows }
+    requires open { IsOpenPiece rows.now.rows current }
     requires room { length made.old.rows < made.old.cap }
-    ensures open { IsOpenPiece rows.now result }
+    ensures open { IsOpenPiece rows.now.rows result }
     ensures target { result.target ≡ current.target }
     ensures within { current.start ≤ end → result.start ≤ end }
     ensures cap { made.new.cap ≡ made.old.cap }
     ensures made { (xs : List ℕ)
-        → made.new.rows ++ pieces_from rows.now current.target unit end result.start xs
-        ≡ made.old.rows ++ pieces_from rows.now current.target unit end current.start
-        ((row_at rows.now index).start ∷ xs) }
+        → made.new.rows ++ pieces_from rows.now.rows current.target unit end result.start xs
+        ≡ made.old.rows ++ pieces_from rows.now.rows current.target unit end current.start
+        ((row_at rows.now.rows index).start ∷ xs) }
 {
-    let row = rows[index];
+    let row = rows.at(index);
     cut_at(row.start, end, unit, Some(row), current, made)
 }
 
 // Cuts at the end of the row with this index, where it may be kept. The next row covers that page where
 // it starts there.
 fn cut_at_end(
-    rows: &[Row],
+    rows: &RowBuf,
     index: usize,
     end: u32,
     unit: u32,
     current: Row,
     made: &mut RowBuf,
 ) -> Row
-    requires here { index < length rows.now }
-    requires order { RowsInOrder 0 rows.now }
-    requires open { IsOpenPiece rows.now current }
+    requires here { index < length rows.now.rows }
+    requires order { RowsInOrder 0 rows.now.rows }
+    requires open { IsOpenPiece rows.now.rows current }
     requires room { length made.old.rows < made.old.cap }
-    ensures open { IsOpenPiece rows.now result }
+    ensures open { IsOpenPiece rows.now.rows result }
     ensures target { result.target ≡ current.target }
     ensures within { current.start ≤ end → result.start ≤ end }
     ensures cap { made.new.cap ≡ made.old.cap }
     ensures made { (xs : List ℕ)
-        → made.new.rows ++ pieces_from rows.now current.target unit end result.start xs
-        ≡ made.old.rows ++ pieces_from rows.now current.target unit end current.start
-        (row_end_of (row_at rows.now index) ∷ xs) }
+        → made.new.rows ++ pieces_from rows.now.rows current.target unit end result.start xs
+        ≡ made.old.rows ++ pieces_from rows.now.rows current.target unit end current.start
+        (row_end_of (row_at rows.now.rows index) ∷ xs) }
 {
+    // For its clauses alone: the number of rows is a u32.
+    let _count = rows.len();
     let x = row_end(rows, index);
     let row = covering_row(rows, index + 1, x);
     cut_at(x, end, unit, row, current, made)
@@ -231,27 +237,27 @@ fn cut_at_end(
 
 // Cuts at the start and at the end of the row with this index, where they may be kept.
 fn cut_at_row(
-    rows: &[Row],
+    rows: &RowBuf,
     index: usize,
     end: u32,
     unit: u32,
     current: Row,
     made: &mut RowBuf,
 ) -> Row
-    requires here { index < length rows.now }
-    requires order { RowsInOrder 0 rows.now }
-    requires open { IsOpenPiece rows.now current }
+    requires here { index < length rows.now.rows }
+    requires order { RowsInOrder 0 rows.now.rows }
+    requires open { IsOpenPiece rows.now.rows current }
     requires room { length made.old.rows
-        + length (pieces_from rows.now current.target unit end current.start
-        (boundaries (drop index rows.now))) ≤ made.old.cap }
-    ensures open { IsOpenPiece rows.now result }
+        + length (pieces_from rows.now.rows current.target unit end current.start
+        (boundaries (drop index rows.now.rows))) ≤ made.old.cap }
+    ensures open { IsOpenPiece rows.now.rows result }
     ensures target { result.target ≡ current.target }
     ensures within { current.start ≤ end → result.start ≤ end }
     ensures cap { made.new.cap ≡ made.old.cap }
-    ensures made { made.new.rows ++ pieces_from rows.now current.target unit end result.start
-        (boundaries (drop (index + 1) rows.now))
-        ≡ made.old.rows ++ pieces_from rows.now current.target unit end current.start
-        (boundaries (drop index rows.now)) }
+    ensures made { made.new.rows ++ pieces_from rows.now.rows current.target unit end result.start
+        (boundaries (drop (index + 1) rows.now.rows))
+        ≡ made.old.rows ++ pieces_from rows.now.rows current.target unit end current.start
+        (boundaries (drop index rows.now.rows)) }
 {
     let current = cut_at_start(rows, index, end, unit, current, made);
     cut_at_end(rows, index, end, unit, current, made)
@@ -259,22 +265,22 @@ fn cut_at_row(
 
 // Appends the last pieces. The row with this index, if any, ends after the range, so only its start may
 // still be kept.
-fn push_last(rows: &[Row], index: usize, end: u32, unit: u32, current: Row, made: &mut RowBuf)
-    requires order { RowsInOrder 0 rows.now }
+fn push_last(rows: &RowBuf, index: usize, end: u32, unit: u32, current: Row, made: &mut RowBuf)
+    requires order { RowsInOrder 0 rows.now.rows }
     requires unit { 1 ≤ unit }
-    requires open { IsOpenPiece rows.now current }
-    requires next { index < length rows.now → end < row_end_of (row_at rows.now index) }
+    requires open { IsOpenPiece rows.now.rows current }
+    requires next { index < length rows.now.rows → end < row_end_of (row_at rows.now.rows index) }
     requires start { current.start ≤ end }
     requires room { length made.old.rows
-        + length (pieces_from rows.now current.target unit end current.start
-        (boundaries (drop index rows.now))) ≤ made.old.cap }
+        + length (pieces_from rows.now.rows current.target unit end current.start
+        (boundaries (drop index rows.now.rows))) ≤ made.old.cap }
     ensures { made.new ≡ record made.old {
       rows = made.old.rows
-          ++ pieces_from rows.now current.target unit end current.start
-          (boundaries (drop index rows.now));
+          ++ pieces_from rows.now.rows current.target unit end current.start
+          (boundaries (drop index rows.now.rows));
     } }
 {
-    if index < rows.len() {
+    if index < rows.count() {
         let last = cut_at_start(rows, index, end, unit, current, made);
         push_piece(last, end, made);
     } else {

@@ -41,12 +41,12 @@ pub fn update(regions: &mut Regions, ranges: &Ranges, max: u32, scratch: &mut Ro
 }
 
 // Makes the list the pieces of all new ranges.
-fn cut_ranges(rows: &[Row], ranges: &Ranges, unit: u32, made: &mut RowBuf)
-    requires order { RowsInOrder 0 rows.now }
+fn cut_ranges(rows: &RowBuf, ranges: &Ranges, unit: u32, made: &mut RowBuf)
+    requires order { RowsInOrder 0 rows.now.rows }
     requires unit { 1 ≤ unit }
     requires wide { AllByRecursion (λ g. unit ≤ g.pages) ranges.now.list }
-    requires room { length ranges.now.list + 2 * length rows.now ≤ made.old.cap }
-    ensures made { made.new ≡ record made.old { rows = all_pieces unit rows.now ranges.now.list } }
+    requires room { length ranges.now.list + 2 * length rows.now.rows ≤ made.old.cap }
+    ensures made { made.new ≡ record made.old { rows = all_pieces unit rows.now.rows ranges.now.list } }
     ensures tiling { Tiling unit ranges.now.list (spans made.new.rows) }
 {
     made.clear();

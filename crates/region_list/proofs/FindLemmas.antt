@@ -1,5 +1,5 @@
 -- Finding the row that holds a page.
-use Rattle.std.proofs.Common.{◌≡◌, ◌⊎◌, inl, inr, ℕ, zero, suc, ◌+◌, ◌≤◌, ◌<◌, Bool, true, false, List, [], ◌∷◌, Some, None, length, get_or, leb, arith}
+use Rattle.std.proofs.Common.{◌≡◌, ◌⊎◌, inl, inr, ℕ, zero, suc, ◌+◌, ◌≤◌, ◌<◌, Bool, true, false, List, [], ◌∷◌, Some, None, length, map, get_or, leb, refl, arith}
 use Rattle.std.specs.Prelude.{position}
 use Rattle.std.specs.List.{position_or_len}
 use Rattle.std.specs.List.Sorted.{IsNonDecreasingBy, IsPartitionedBy}
@@ -7,6 +7,7 @@ use Rattle.std.proofs.lemmas.Bool.{cases_lt}
 use Rattle.std.proofs.lemmas.Bool.Decides.{nat_tests}
 use Rattle.std.proofs.lemmas.List.Sorted.{IsPartitionedBy-leb}
 use Rattle.std.proofs.lemmas.List.Sums.{position_or_len_is}
+use Rattle.std.proofs.lemmas.List.{length-map}
 use Rattle.damon_types.specs.declared.row.Row.{Row}
 use Rattle.region_list.specs.Rows.{no_row, row_at}
 use Rattle.region_list.specs.Find.{holds_page, row_index, AscendFrom}
@@ -32,6 +33,24 @@ starts_rise rows ascending i j d low within = by (cases_lt i j)
     by : (i < j) ⊎ (j ≤ i) → (get_or rows i d).start ≤ (get_or rows j d).start
     by (inl later) = omega (arith, ends_before 0 rows i j d ascending later within)
     by (inr over) = let same : i ≡ j = omega arith in rw same (omega arith)
+
+-- the starts as a column
+start_at : (rows : List Row) (i d : ℕ) → i < length rows → get_or (map (λ r. r.start) rows) i d ≡ (row_at rows i).start
+start_at [] i d within = absurd (omega arith)
+start_at (r ∷ rows) zero d within = refl
+start_at (r ∷ rows) (suc i) d within = start_at rows i d (omega arith)
+
+column_rises : (rows : List Row) → AscendFrom 0 rows → IsNonDecreasingBy (λ n. n) (map (λ r. r.start) rows)
+column_rises rows ascending i j d low within =
+    let here : j < length rows = omega (arith, within, length-map rows (λ (r : Row). r.start)) in
+    rw (start_at rows i d (omega arith), start_at rows j d here) (starts_rise rows ascending i j no_row low here)
+
+pub column_parted : (rows : List Row) (page : ℕ) → AscendFrom 0 rows → IsPartitionedBy (λ n. leb n page) (map (λ r. r.start) rows)
+column_parted rows page ascending = IsPartitionedBy-leb (λ n. n) (map (λ r. r.start) rows) page (column_rises rows ascending)
+
+-- what a partition point of the column says of the rows
+pub starts_before : (rows : List Row) (i : ℕ) → i < length rows → get_or (map (λ r. r.start) rows) i 0 ≡ (row_at rows i).start
+starts_before rows i within = start_at rows i 0 within
 
 pub starts_parted : (rows : List Row) (page : ℕ) → AscendFrom 0 rows → IsPartitionedBy (λ r. leb r.start page) rows
 starts_parted rows page ascending = IsPartitionedBy-leb (λ r. r.start) rows page (starts_rise rows ascending)

@@ -1,20 +1,40 @@
 -- Comparing where rows lie.
-use Rattle.std.proofs.Common.{◌≡◌, List, [], ◌∷◌, length, refl, ap, arith}
-use Rattle.std.specs.Prelude.{◌&&◌, zip}
+use Rattle.std.proofs.Common.{◌≡◌, Bool, true, false, List, [], ◌∷◌, length, map, refl, ap, ◌∙◌, arith}
+use Rattle.std.specs.Prelude.{◌&&◌, nat_eq}
+use Rattle.std.specs.Cmp.Lexicographic.{pointwise}
 use Rattle.std.specs.Bool.{Decides}
-use Rattle.std.specs.List.{list_all}
 use Rattle.std.proofs.lemmas.Bool.Decides.{nat_tests}
 use Rattle.std.proofs.lemmas.Slice.Eq.{slice_eq-Decides}
 use Rattle.damon_types.specs.declared.row.Row.{Row}
 use Rattle.damon_types.specs.Span.{Span, span_of, spans}
 use Rattle.region_list.specs.Same.{same_span, same_spans}
 
--- of two lists of one length it is enough to compare pairs
-pub same_zipped : (a b : List Row) → length a ≡ length b → list_all (λ p. same_span (span_of p.0) (span_of p.1)) (zip a b) ≡ same_spans (spans a) (spans b)
-same_zipped [] [] even = refl
-same_zipped [] (y ∷ ys) even = absurd (omega arith)
-same_zipped (x ∷ xs) [] even = absurd (omega arith)
-same_zipped (x ∷ xs) (y ∷ ys) even = ap (λ t. same_span (span_of x) (span_of y) && t) (same_zipped xs ys (omega arith))
+-- equal columns make equal spans
+pub same_columns : (a b : List Row) → (pointwise nat_eq (map (λ r. r.start) a) (map (λ r. r.start) b) && (pointwise nat_eq (map (λ r. r.pages) a) (map (λ r. r.pages) b) && pointwise nat_eq (map (λ r. r.target) a) (map (λ r. r.target) b))) ≡ same_spans (spans a) (spans b)
+same_columns [] [] = refl
+same_columns [] (y ∷ ys) = refl
+same_columns (x ∷ xs) [] = refl
+same_columns (x ∷ xs) (y ∷ ys) =
+    regroup (nat_eq x.start y.start) _ (nat_eq x.pages y.pages) _ (nat_eq x.target y.target) _
+    ∙ ap (λ t. same_span (span_of x) (span_of y) && t) (same_columns xs ys)
+  where
+    regroup : (s ss p ps t ts : Bool) → ((s && ss) && ((p && ps) && (t && ts))) ≡ ((t && (s && p)) && (ss && (ps && ts)))
+    regroup true ss true ps true ts = refl
+    regroup true ss true ps false ts = by ss ps
+      where
+        by : (x y : Bool) → (x && (y && false)) ≡ false
+        by true true = refl
+        by true false = refl
+        by false y = refl
+    regroup true ss false ps t ts = by ss t
+      where
+        by : (x t : Bool) → (x && false) ≡ ((t && false) && (x && (ps && ts)))
+        by true true = refl
+        by true false = refl
+        by false true = refl
+        by false false = refl
+    regroup false ss p ps true ts = refl
+    regroup false ss p ps false ts = refl
 
 -- equal parts make equal spans
 span_decides : (s t : Span) → Decides (same_span s t) (s ≡ t)

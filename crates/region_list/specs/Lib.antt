@@ -1,4 +1,5 @@
 pub mod Rows
+pub mod Columns
 pub mod Tiles
 pub mod Tiling
 pub mod Division

@@ -1,11 +1,12 @@
 // Passes that replace a whole list of rows.
-ghost use Rattle.std.specs.Prelude.{◌≡◌, ◌≤◌, [], List, length, vec_capacity};
+ghost use Rattle.std.specs.Prelude.{◌≡◌, ◌≤◌, [], List, length};
 ghost use Rattle.damon_types.specs.declared.range.Range.{Range as range};
 ghost use Rattle.damon_types.specs.declared.row.Row.{Row as row};
 ghost use Rattle.damon_types.specs.Span.{spans};
 ghost use Rattle.region_list.specs.Tiling.{Tiling};
 
-use damon_types::{Ranges, Row};
+use crate::RowBuf;
+use damon_types::Ranges;
 
 /// A pass over rows that tile some ranges: it reads them and produces the rows that replace them.
 /// `Regions::remake` runs it.
@@ -18,11 +19,10 @@ pub trait RowPass {
 
     /// Pushes the new rows onto `made`, which is empty and has the capacity for them. The pass takes
     /// no memory.
-    fn run(&self, ranges: &Ranges, rows: &[Row], made: &mut Vec<Row>)
-        requires tiling { Tiling 1 ranges.now.list (spans rows.now) }
-        requires can { can_run self.now rows.now }
-        requires empty { made.old.items ≡ [] }
-        requires room { length (rows_of self.now ranges.now.list rows.now) ≤ vec_capacity made.old }
-        ensures rows { made.new.items ≡ rows_of self.now ranges.now.list rows.now }
-        ensures capacity { vec_capacity made.old ≤ vec_capacity made.new };
+    fn run(&self, ranges: &Ranges, rows: &RowBuf, made: &mut RowBuf)
+        requires tiling { Tiling 1 ranges.now.list (spans rows.now.rows) }
+        requires can { can_run self.now rows.now.rows }
+        requires empty { made.old.rows ≡ [] }
+        requires room { length (rows_of self.now ranges.now.list rows.now.rows) ≤ made.old.cap }
+        ensures { made.new ≡ record made.old { rows = rows_of self.now ranges.now.list rows.now.rows } };
 }

@@ -8,9 +8,9 @@ ghost use Rattle.region_list.specs.Shrink.{shrunk};
 ghost use Rattle.region_list.specs.Find.{row_index};
 
 use crate::find::find_row;
-use crate::shrink::shrink_vec;
+use crate::shrink::shrink_buf;
 use crate::{RowBuf, RowPass};
-use damon_types::{Ranges, Row, append_reserved};
+use damon_types::{Ranges, Row};
 use std::alloc::{AllocError, Global};
 use std::marker::Model;
 use std::mem;
@@ -21,24 +21,24 @@ use std::mem;
 #[derive(Drop)]
 pub struct Regions {
     ranges: Ranges,
-    rows: Vec<Row>,
+    rows: RowBuf,
     // Where a pass puts its rows, which are then swapped in. Its contents mean nothing between calls.
-    spare: Vec<Row>,
+    spare: RowBuf,
     unit: u32,
     cap: u32,
     max: u32,
 }
 
 impl Model for Regions {
-    ghost use Rattle.std.specs.Prelude.{◌≡◌, ◌≤◌, vec_capacity};
+    ghost use Rattle.std.specs.Prelude.{◌≡◌};
     ghost use Rattle.region_list.specs.Regions.{RegionList, IsRegionList};
 
     ghost Value = { RegionList };
 
-    ghost view = { λ r. record { ranges = r.ranges.list; rows = r.rows.items; unit = r.unit; cap = r.cap; max = r.max } };
+    ghost view = { λ r. record { ranges = r.ranges.list; rows = r.rows.rows; unit = r.unit; cap = r.cap; max = r.max } };
 
-    ghost invariant = { λ r. IsRegionList (record { ranges = r.ranges.list; rows = r.rows.items; unit = r.unit; cap = r.cap; max = r.max })
-        × (r.ranges.cap ≡ r.cap) × (r.cap ≤ vec_capacity r.rows) × (r.cap ≤ vec_capacity r.spare) };
+    ghost invariant = { λ r. IsRegionList (record { ranges = r.ranges.list; rows = r.rows.rows; unit = r.unit; cap = r.cap; max = r.max })
+        × (r.ranges.cap ≡ r.cap) × (r.rows.cap ≡ r.cap) × (r.spare.cap ≡ r.cap) };
 }
 
 impl Regions {
@@ -53,8 +53,8 @@ impl Regions {
             r ≡ record { ranges = []; rows = []; unit = unit; cap = cap; max = max }) }
     {
         let ranges = Ranges::new(alloc, cap)?;
-        let rows = Vec::with_capacity(alloc, cap as usize)?;
-        let spare = Vec::with_capacity(alloc, cap as usize)?;
+        let rows = RowBuf::new(alloc, cap)?;
+        let spare = RowBuf::new(alloc, cap)?;
         Ok(Regions {
             ranges,
             rows,
@@ -80,8 +80,7 @@ impl Regions {
         } }
     {
         self.ranges.copy_from(ranges);
-        self.rows.clear();
-        append_reserved(&mut self.rows, rows.as_slice());
+        self.rows.copy_from(rows);
         self.max = max;
     }
 
@@ -96,7 +95,7 @@ impl Regions {
           max = max;
         } }
     {
-        shrink_vec(&mut self.rows, &self.ranges, max);
+        shrink_buf(&mut self.rows, &self.ranges, max);
         self.max = max;
     }
 
@@ -147,11 +146,8 @@ impl Regions {
         ensures { self.new ≡ record self.old { rows = with_two self.old.rows index first second } }
     {
         let index = index as usize;
-        self.rows[index] = first;
-        // There is room for `cap` rows, so no memory is taken.
-        if self.rows.insert(index + 1, second).is_err() {
-            unreachable!();
-        }
+        self.rows.set(index, first);
+        self.rows.insert(index + 1, second);
     }
 
     /// The number of rows. Its clauses also say what holds of every region list.
@@ -165,7 +161,7 @@ impl Regions {
         ensures tiling { Tiling self.now.unit self.now.ranges (spans self.now.rows) }
         ensures tiles { Tiles self.now.ranges (spans self.now.rows) self.now.unit }
     {
-        self.rows.len() as u32
+        self.rows.len()
     }
 
     /// The most rows allowed now.
@@ -193,7 +189,7 @@ impl Regions {
     pub fn room(&self) -> u32
         ensures { result ≡ self.now.max - length self.now.rows }
     {
-        self.max - self.rows.len() as u32
+        self.max - self.rows.len()
     }
 
     /// The ranges that the rows tile.
@@ -205,8 +201,9 @@ impl Regions {
     }
 
     /// The rows in order of their pages.
-    pub fn rows(&self) -> &[Row]
-        ensures { result.now ≡ self.now.rows }
+    pub fn rows(&self) -> &RowBuf
+        ensures rows { result.now.rows ≡ self.now.rows }
+        ensures cap { result.now.cap ≡ self.now.cap }
     {
         &self.rows
     }
@@ -220,7 +217,7 @@ impl Regions {
         ensures some { 1 ≤ result.pages }
         ensures end { result.start + result.pages < 2 ^ 32 }
     {
-        self.rows[index as usize]
+        self.rows.get(index)
     }
 
     /// The index of the row that holds the page, or `None` where no row holds it. The search is binary.
@@ -238,9 +235,6 @@ impl Regions {
           rows = with_values self.old.rows index count last age;
         } }
     {
-        let row = &mut self.rows[index as usize];
-        row.count = count;
-        row.last = last;
-        row.age = age;
+        self.rows.set_values(index as usize, count, last, age);
     }
 }

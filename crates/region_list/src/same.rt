@@ -1,20 +1,23 @@
-ghost use Rattle.std.specs.Prelude.{◌≡◌, ◌&&◌, ◌==◌};
-ghost use Rattle.damon_types.specs.Span.{span_of, spans};
-ghost use Rattle.region_list.specs.Same.{same_span as same_span_of, same_spans as same_spans_of};
+ghost use Rattle.std.specs.Prelude.{◌≡◌, ◌&&◌};
+ghost use Rattle.damon_types.specs.Span.{spans};
+ghost use Rattle.region_list.specs.Same.{same_spans as same_spans_of};
 
-use damon_types::Row;
+use crate::RowBuf;
 
 /// Whether the rows have the same targets and pages, one by one; their counts and ages are not
 /// compared.
-pub fn same_spans(a: &[Row], b: &[Row]) -> bool
-    ensures { result ≡ same_spans_of (spans a.now) (spans b.now) }
+pub fn same_spans(a: &RowBuf, b: &RowBuf) -> bool
+    ensures { result ≡ same_spans_of (spans a.now.rows) (spans b.now.rows) }
 {
-    a.len() == b.len() && a.iter().zip(b).all(|(x, y)| same_span(x, y))
+    let starts = a.starts() == b.starts();
+    let pages = a.pages() == b.pages();
+    let targets = a.targets() == b.targets();
+    all_three(starts, pages, targets)
 }
 
-// Whether two rows have the same target and the same pages.
-fn same_span(a: &Row, b: &Row) -> bool
-    ensures { result ≡ same_span_of (span_of a.now) (span_of b.now) }
+// Whether all three are true.
+fn all_three(first: bool, second: bool, third: bool) -> bool
+    ensures { result ≡ (first && (second && third)) }
 {
-    a.target == b.target && a.start == b.start && a.pages == b.pages
+    first && second && third
 }

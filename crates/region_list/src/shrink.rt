@@ -1,4 +1,4 @@
-ghost use Rattle.std.specs.Prelude.{◌≡◌, ◌⊎◌, ℕ, ◌+◌, ◌^◌, ◌≤◌, ◌<◌, length, slice_get, vec_capacity, nat_le, IfNone, IfSome, if◌then◌else◌};
+ghost use Rattle.std.specs.Prelude.{◌≡◌, ◌⊎◌, ℕ, ◌+◌, ◌^◌, ◌≤◌, ◌<◌, length, slice_get, nat_le, IfNone, IfSome, if◌then◌else◌};
 ghost use Rattle.damon_types.specs.Ranges.{InOrder};
 ghost use Rattle.damon_types.specs.Span.{spans};
 ghost use Rattle.region_list.specs.Tiling.{Tiling};
@@ -7,7 +7,7 @@ ghost use Rattle.region_list.specs.Shrink.{closest as closest_of, differences, l
 
 use crate::level::join_level;
 use crate::{RowBuf, range_end};
-use damon_types::{Ranges, Row};
+use damon_types::Ranges;
 
 /// Shrinks the list: while there are more than `to` rows, joins the adjacent pair of one range whose
 /// counts differ least, the first such pair where several differ equally. The rows tile the ranges,
@@ -22,24 +22,24 @@ pub fn shrink_rows(rows: &mut RowBuf, ranges: &Ranges, to: u32)
         → Tiling unit ranges.now.list (spans rows.old.rows)
         → Tiling unit ranges.now.list (spans rows.new.rows) }
 {
-    rows.shrink(ranges, to);
+    shrink_buf(rows, ranges, to);
 }
 
-// Shrinks a vector of rows, as `shrink_rows` says. Its capacity stays.
-pub(crate) fn shrink_vec(rows: &mut Vec<Row>, ranges: &Ranges, to: u32)
-    requires tiling { Tiling 1 ranges.now.list (spans rows.old.items) }
+// Shrinks the list, as `shrink_rows` says.
+pub(crate) fn shrink_buf(rows: &mut RowBuf, ranges: &Ranges, to: u32)
+    requires tiling { Tiling 1 ranges.now.list (spans rows.old.rows) }
     requires enough { length ranges.now.list ≤ to }
-    ensures rows { rows.new.items ≡ shrunk ranges.now.list to rows.old.items }
-    ensures few { length rows.new.items ≤ to }
+    ensures rows { rows.new.rows ≡ shrunk ranges.now.list to rows.old.rows }
+    ensures few { length rows.new.rows ≤ to }
     ensures tiling { (unit : ℕ)
-        → Tiling unit ranges.now.list (spans rows.old.items)
-        → Tiling unit ranges.now.list (spans rows.new.items) }
-    ensures capacity { vec_capacity rows.new ≡ vec_capacity rows.old }
+        → Tiling unit ranges.now.list (spans rows.old.rows)
+        → Tiling unit ranges.now.list (spans rows.new.rows) }
+    ensures capacity { rows.new.cap ≡ rows.old.cap }
 {
     // For its clauses alone: the ranges are in order.
     let _count = ranges.len();
     // Each round joins all pairs that differ least, and those that come to differ as little by a join.
-    'levels: while rows.len() > to as usize {
+    'levels: while rows.len() > to {
         let level = least_difference(rows, ranges);
         join_pairs(rows, ranges, level, to);
     }
@@ -47,33 +47,33 @@ pub(crate) fn shrink_vec(rows: &mut Vec<Row>, ranges: &Ranges, to: u32)
 
 // Joins closest pairs, in the order that shrinking takes them, until the counts of each adjacent pair
 // of one range differ by more than `level`, or at most `to` rows are left.
-fn join_pairs(rows: &mut Vec<Row>, ranges: &Ranges, level: u32, to: u32)
-    requires tiling { Tiling 1 ranges.now.list (spans rows.old.items) }
-    requires some { 0 < length rows.old.items }
+fn join_pairs(rows: &mut RowBuf, ranges: &Ranges, level: u32, to: u32)
+    requires tiling { Tiling 1 ranges.now.list (spans rows.old.rows) }
+    requires some { 0 < length rows.old.rows }
     requires enough { length ranges.now.list ≤ to }
-    requires low { DifferBy ranges.now.list level rows.old.items }
-    ensures capacity { vec_capacity rows.new ≡ vec_capacity rows.old }
-    ensures same { shrunk ranges.now.list to rows.new.items
-        ≡ shrunk ranges.now.list to rows.old.items }
+    requires low { DifferBy ranges.now.list level rows.old.rows }
+    ensures capacity { rows.new.cap ≡ rows.old.cap }
+    ensures same { shrunk ranges.now.list to rows.new.rows
+        ≡ shrunk ranges.now.list to rows.old.rows }
     ensures tiles { (unit : ℕ)
-        → Tiling unit ranges.now.list (spans rows.old.items)
-        → Tiling unit ranges.now.list (spans rows.new.items) }
-    ensures done { (length rows.new.items ≤ to)
-        ⊎ DifferBy ranges.now.list (level + 1) rows.new.items }
+        → Tiling unit ranges.now.list (spans rows.old.rows)
+        → Tiling unit ranges.now.list (spans rows.new.rows) }
+    ensures done { (length rows.new.rows ≤ to)
+        ⊎ DifferBy ranges.now.list (level + 1) rows.new.rows }
 {
     let kept = join_level(rows, ranges, level, to as usize);
     rows.truncate(kept);
 }
 
 // The least difference of the counts of an adjacent pair of one range.
-fn least_difference(rows: &[Row], ranges: &Ranges) -> u32
-    requires tiling { Tiling 1 ranges.now.list (spans rows.now) }
-    requires more { length ranges.now.list < length rows.now }
-    ensures { result ≡ least (differences ranges.now.list rows.now) }
+fn least_difference(rows: &RowBuf, ranges: &Ranges) -> u32
+    requires tiling { Tiling 1 ranges.now.list (spans rows.now.rows) }
+    requires more { length ranges.now.list < length rows.now.rows }
+    ensures { result ≡ least (differences ranges.now.list rows.now.rows) }
 {
     let first = closest(rows, ranges);
-    prove!(first < rows.len() - 1);
-    rows[first].count.abs_diff(rows[first + 1].count)
+    prove!(first < rows.count() - 1);
+    rows.at(first).count.abs_diff(rows.at(first + 1).count)
 }
 
 // An adjacent pair: the index of its first row, and the difference of the counts.
@@ -84,10 +84,10 @@ struct Pair {
 }
 
 // The index of the first row of the adjacent pair of one range whose counts differ least.
-fn closest(rows: &[Row], ranges: &Ranges) -> usize
-    requires tiling { Tiling 1 ranges.now.list (spans rows.now) }
-    requires more { length ranges.now.list < length rows.now }
-    ensures first { result ≡ closest_of ranges.now.list rows.now }
+fn closest(rows: &RowBuf, ranges: &Ranges) -> usize
+    requires tiling { Tiling 1 ranges.now.list (spans rows.now.rows) }
+    requires more { length ranges.now.list < length rows.now.rows }
+    ensures first { result ≡ closest_of ranges.now.list rows.now.rows }
     ensures order { InOrder ranges.now.list }
 {
     // For its clauses alone: the ranges are in order, and their number is a u32.
@@ -95,13 +95,13 @@ fn closest(rows: &[Row], ranges: &Ranges) -> usize
     let mut range = 0;
     let mut end = range_end(ranges, range);
     let mut best: Option<Pair> = None;
-    'rows: for index in 0..rows.len() - 1 {
-        let row = rows[index];
+    'rows: for index in 0..rows.count() - 1 {
+        let row = rows.at(index);
         if row.start + row.pages == end {
             range += 1;
             end = range_end(ranges, range);
         } else {
-            let difference = row.count.abs_diff(rows[index + 1].count);
+            let difference = row.count.abs_diff(rows.at(index + 1).count);
             if difference == 0 {
                 return index;
             }

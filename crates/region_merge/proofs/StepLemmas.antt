@@ -60,3 +60,13 @@ merged_next gs threshold limit a rows i within may = rw (drop_next rows i within
 -- where the ends differ, as a row that is joined shows
 pub ends_differ : (u v : ℕ) (p : Bool) → (not (u == v) && p) ≡ true → u ≡ v → ⊥
 ends_differ u v p is same = absurd (grind (arith, nat_tests))
+
+-- the same steps, where the next row is known by what is left
+pub begins_row : (gs : List Range) (a b : Row) (left rows : List Row) (k end : ℕ) → left ≡ b ∷ rows → BeginsIn gs (a ∷ left) k end → BeginsIn gs (a ∷ b ∷ rows) k end
+begins_row gs a b left rows k end is here = subst (λ rs. BeginsIn gs (a ∷ rs) k end) is here
+
+pub joined_row : (gs : List Range) (threshold limit : ℕ) (a b : Row) (left rows : List Row) → left ≡ b ∷ rows → may_join gs threshold limit a b ≡ true → merged_from gs threshold limit a left ≡ merged_from gs threshold limit (join a b) rows
+joined_row gs threshold limit a b left rows is may = rw (is, may) refl
+
+pub next_row : (gs : List Range) (threshold limit : ℕ) (a b : Row) (left rows : List Row) → left ≡ b ∷ rows → may_join gs threshold limit a b ≡ false → merged_from gs threshold limit a left ≡ a ∷ merged_from gs threshold limit b rows
+next_row gs threshold limit a b left rows is may = rw (is, may) refl

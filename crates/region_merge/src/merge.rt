@@ -6,7 +6,7 @@ ghost use Rattle.region_merge.specs.Grouping.{IsMerged};
 
 use crate::{merged_rows_are_kept, merged_rows_are_the_grouping};
 use damon_types::{Ranges, Row};
-use region_list::{Regions, RowPass, join_rows, range_end, rows_follow_ranges};
+use region_list::{Regions, RowBuf, RowPass, join_rows, range_end, rows_follow_ranges};
 
 /// Merges the rows of a monitor from left to right. Within one range each row is joined to the row
 /// merged so far where their counts differ by at most `threshold` (passes) and they have at most
@@ -40,27 +40,28 @@ impl RowPass for MergePass {
 
     ghost can_run = { λ pass rows. Unit {0} };
 
-    fn run(&self, ranges: &Ranges, rows: &[Row], made: &mut Vec<Row>) {
+    fn run(&self, ranges: &Ranges, rows: &RowBuf, made: &mut RowBuf) {
         // For their clauses alone: the ranges are in order, and the rows follow them.
         let _count = ranges.len();
         rows_follow_ranges();
-        let Some((first, others)) = rows.split_first() else {
+        if rows.len() == 0 {
             return;
-        };
+        }
         let mut group = OpenGroup {
-            row: *first,
+            row: rows.next(0),
             range: 0,
             end: range_end(ranges, 0),
         };
-        for row in others {
-            if self.joins(&group, row) {
-                group.row = join_rows(&group.row, row);
+        for index in 1..rows.len() {
+            let row = rows.next(index);
+            if self.joins(&group, &row) {
+                group.row = join_rows(&group.row, &row);
             } else {
-                made.push_reserved(group.row);
-                group = group.next_group(ranges, row);
+                made.push(group.row);
+                group = group.next_group(ranges, &row);
             }
         }
-        made.push_reserved(group.row);
+        made.push(group.row);
     }
 }
 

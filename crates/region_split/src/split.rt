@@ -1,10 +1,10 @@
-ghost use Rattle.std.specs.Prelude.{◌≡◌, ◌+◌, ◌-◌, ◌*◌, ◌≤◌, ◌<◌, ◌^◌, ◌++◌, length, vec_len, vec_capacity};
+ghost use Rattle.std.specs.Prelude.{◌≡◌, ◌+◌, ◌-◌, ◌*◌, ◌≤◌, ◌<◌, ◌^◌, ◌++◌, length};
 ghost use Rattle.region_split.specs.Split.{wants_three as wants_three_of, two_parts, three_parts, split_from, split_rows};
 
 use crate::cut::{Limits, cut_place, left, may_cut, right};
 use crate::laws::split_rows_are_kept;
 use damon_types::{Ranges, Row};
-use region_list::{Regions, RowPass, tiled_rows_fit};
+use region_list::{Regions, RowBuf, RowPass, tiled_rows_fit};
 
 /// Splits the rows at random places, from left to right. Row `i` is split by the words `2 i` and
 /// `2 i + 1`, so there are two words for each row.
@@ -62,19 +62,19 @@ impl RowPass for Split<'_> {
 
     ghost can_run = { λ s rows. 2 * length rows ≤ length s.words.now };
 
-    fn run(&self, ranges: &Ranges, rows: &[Row], made: &mut Vec<Row>) {
+    fn run(&self, ranges: &Ranges, rows: &RowBuf, made: &mut RowBuf) {
         // For their clauses alone: each row ends below page 2^32.
         let _count = ranges.len();
         tiled_rows_fit();
         // The number of rows now.
-        let mut count = rows.len();
+        let mut count = rows.len() as usize;
         for index in 0..rows.len() {
-            let first = self.words[2 * index];
-            let second = self.words[2 * index + 1];
+            let first = self.words[2 * index as usize];
+            let second = self.words[2 * index as usize + 1];
             count = if self.three {
-                push_three_parts(self.limits, count, rows[index], first, second, made)
+                push_three_parts(self.limits, count, rows.next(index), first, second, made)
             } else {
-                push_two_parts(self.limits, count, rows[index], first, made)
+                push_two_parts(self.limits, count, rows.next(index), first, made)
             };
         }
     }
@@ -82,21 +82,20 @@ impl RowPass for Split<'_> {
 
 // Pushes a row, or its two parts where it may be cut. `count` is the number of rows now, and the
 // result the number after the cut.
-fn push_two_parts(limits: Limits, count: usize, row: Row, word: u32, made: &mut Vec<Row>) -> usize
+fn push_two_parts(limits: Limits, count: usize, row: Row, word: u32, made: &mut RowBuf) -> usize
     requires end { row.start + row.pages < 2 ^ 32 }
-    requires room { vec_len made.old + length (two_parts limits count word row)
-        ≤ vec_capacity made.old }
-    ensures rows { made.new.items ≡ made.old.items ++ two_parts limits count word row }
-    ensures capacity { vec_capacity made.new ≡ vec_capacity made.old }
+    requires room { length made.old.rows + length (two_parts limits count word row)
+        ≤ made.old.cap }
+    ensures rows { made.new ≡ record made.old { rows = made.old.rows ++ two_parts limits count word row } }
     ensures count { result ≡ count + length (two_parts limits count word row) - 1 }
 {
     let at = cut_place(row.pages, word);
     if may_cut(limits, count, row.pages, at) {
-        made.push_reserved(left(&row, at));
-        made.push_reserved(right(&row, at));
+        made.push(left(&row, at));
+        made.push(right(&row, at));
         count + 1
     } else {
-        made.push_reserved(row);
+        made.push(row);
         count
     }
 }
@@ -109,21 +108,20 @@ fn push_three_parts(
     row: Row,
     first: u32,
     second: u32,
-    made: &mut Vec<Row>,
+    made: &mut RowBuf,
 ) -> usize
     requires end { row.start + row.pages < 2 ^ 32 }
-    requires room { vec_len made.old + length (three_parts limits count first second row)
-        ≤ vec_capacity made.old }
-    ensures rows { made.new.items ≡ made.old.items ++ three_parts limits count first second row }
-    ensures capacity { vec_capacity made.new ≡ vec_capacity made.old }
+    requires room { length made.old.rows + length (three_parts limits count first second row)
+        ≤ made.old.cap }
+    ensures rows { made.new ≡ record made.old { rows = made.old.rows ++ three_parts limits count first second row } }
     ensures count { result ≡ count + length (three_parts limits count first second row) - 1 }
 {
     let at = cut_place(row.pages, first);
     if may_cut(limits, count, row.pages, at) {
-        made.push_reserved(left(&row, at));
+        made.push(left(&row, at));
         push_two_parts(limits, count + 1, right(&row, at), second, made)
     } else {
-        made.push_reserved(row);
+        made.push(row);
         count
     }
 }

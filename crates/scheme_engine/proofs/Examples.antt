@@ -13,7 +13,7 @@ use Rattle.damon_types.specs.declared.space.Target.{Target}
 use Rattle.region_list.specs.Regions.{RegionList}
 use Rattle.scheme_engine.specs.declared.applied.AppliedRun.{AppliedRun}
 use Rattle.scheme_engine.specs.Outcome.{Outcome, outcome_of}
-use Rattle.scheme_engine.specs.Served.{slot_served, slots_served}
+use Rattle.scheme_engine.specs.Served.{left_in, slot_served, slots_served}
 use Rattle.scheme_engine.specs.Slots.{SlotValue, changed, set_scheme, empty_slot}
 
 -- a row that nothing has touched
@@ -117,8 +117,9 @@ some_pages_rejected = refl
 abbrev quota_slot : ℕ → ℕ → SlotValue
 quota_slot bytes charged =
     record {
-      set = Some (record (set_scheme (oldest_first Pageout (Some (record { bytes = bytes; reset = 40 })) [])) { tried = 1; applied = charged; exceeds = 1 });
+      set = Some (record (set_scheme (oldest_first Pageout (Some (record { bytes = bytes; reset = 40; time = None })) [])) { tried = 1; applied = charged; exceeds = 1 });
       window = record { start = 0; charged = charged };
+      cost = record { pages = charged; nanos = 0 };
     }
 
 -- The quota was lowered to two pages after three were charged: before tick 40 none is left, and nothing is taken.
@@ -127,15 +128,26 @@ lowered_quota = refl
 
 -- at tick 40 the window begins anew, and two pages are left
 new_window : (slot_served 3 space 20 40 (three_rows 4) (quota_slot 8192 3)).slot ≡ record {
-  set = Some (record (set_scheme (oldest_first Pageout (Some (record { bytes = 8192; reset = 40 })) [])) { tried = 4; applied = 5; exceeds = 2 });
+  set = Some (record (set_scheme (oldest_first Pageout (Some (record { bytes = 8192; reset = 40; time = None })) [])) { tried = 4; applied = 5; exceeds = 2 });
   window = record { start = 40; charged = 2 };
+  cost = record { pages = 5; nanos = 0 };
 }
 new_window = refl
 
 -- dropping the slot and setting it again leaves the charge, and clears the statistics
-set_again : changed (Some (oldest_first Stat None [])) (changed None (quota_slot 8192 3)) ≡ record { set = Some (set_scheme (oldest_first Stat None [])); window = record { start = 0; charged = 3 } }
+set_again : changed (Some (oldest_first Stat None [])) (changed None (quota_slot 8192 3)) ≡ record { set = Some (set_scheme (oldest_first Stat None [])); window = record { start = 0; charged = 3 }; cost = record { pages = 3; nanos = 0 } }
 set_again = refl
 
 -- The second slot finds the rows as the first leaves them: the oldest row is new now.
 two_slots : (slots_served 3 space 20 30 (three_rows 3) (quota_slot 8192 0 ∷ empty_slot ∷ quota_slot 4096 0 ∷ [])).runs ≡ run 4 2 90 ∷ record { slot = 5; target = 0; start = 0; pages = 1; score = 50 } ∷ []
 two_slots = refl
+
+-- with a time of 1,000 ns and 10,000 ns for 100 pages, ten pages are left of a hundred
+abbrev timed_slot : SlotValue
+timed_slot = record (quota_slot 409600 0) {
+  set = Some (set_scheme (oldest_first Pageout (Some (record { bytes = 409600; reset = 20; time = Some 1000 })) []));
+  cost = record { pages = 100; nanos = 10000 };
+}
+
+time_left : left_in timed_slot ≡ Some 10
+time_left = refl

@@ -173,6 +173,7 @@ one_more n s is = record {
   applied = if_same (λ h. h.applied ≤ MAX_PAGES * n) (λ h. h.applied ≤ MAX_PAGES * (n + 1)) s.set (λ h few. omega (arith, few)) is.applied;
   exceeds = if_same (λ h. h.exceeds ≤ n) (λ h. h.exceeds ≤ n + 1) s.set (λ h few. omega (arith, few)) is.exceeds;
   charged = omega (arith, is.charged);
+  cost = omega (arith, is.cost);
 }
 
 one_run : (n tried taken : ℕ) (exceeds : Bool) (s : SlotValue) → tried ≤ MAX_PAGES → taken ≤ MAX_PAGES → CountsWithin n s → CountsWithin (n + 1) (slot_counted tried taken exceeds s)
@@ -181,6 +182,7 @@ one_run n tried taken exceeds s rows pages is = record {
   applied = if_map f (λ h. h.applied ≤ MAX_PAGES * n) (λ h. h.applied ≤ MAX_PAGES * (n + 1)) s.set (λ h few. omega (arith, few, pages)) is.applied;
   exceeds = if_map f (λ h. h.exceeds ≤ n) (λ h. h.exceeds ≤ n + 1) s.set (λ h few. once exceeds h few) is.exceeds;
   charged = omega (arith, is.charged, pages);
+  cost = omega (arith, is.cost, pages);
 }
   where
     f : SetScheme → SetScheme
@@ -191,7 +193,7 @@ one_run n tried taken exceeds s rows pages is = record {
     once false h few = omega (arith, few)
 
 turned_counts : (n tick : ℕ) (s : SlotValue) → CountsWithin n s → CountsWithin n (turned_slot tick s)
-turned_counts n tick s is = record { tried = is.tried; applied = is.applied; exceeds = is.exceeds; charged = omega (arith, is.charged, window_charged tick (quota_of s) s.window) }
+turned_counts n tick s is = record { tried = is.tried; applied = is.applied; exceeds = is.exceeds; charged = omega (arith, is.charged, window_charged tick (quota_of s) s.window); cost = is.cost }
 
 pub slots_bounded : OutcomeLaws → (slot aggr tick n : ℕ) (space : List Target) (regions : RegionList) (slots : List SlotValue) → AreTiled regions → AreWithin space regions.ranges → IsSpace space → AllByRecursion (CountsWithin n) slots → AllByRecursion (CountsWithin (n + 1)) (slots_served slot space aggr tick regions slots).slots
 slots_bounded laws slot aggr tick n space regions [] tiled within sound all = tt
@@ -216,6 +218,7 @@ counts_fit n (s ∷ ss) few all = (
     applied = if_same (λ h. h.applied ≤ MAX_PAGES * n) (λ h. h.applied < 2 ^ 64) s.set (λ h is. omega (arith, is, few)) all.0.applied;
     exceeds = if_same (λ h. h.exceeds ≤ n) (λ h. h.exceeds < 2 ^ 64) s.set (λ h is. omega (arith, is, few)) all.0.exceeds;
     charged = omega (arith, all.0.charged, few);
+    cost = omega (arith, all.0.cost, few);
   },
   counts_fit n ss few all.1,
 )
@@ -236,11 +239,11 @@ start_changed tick i scheme slots start =
     all_set (λ s. s.window.start ≤ tick) slots i (changed scheme (get_or slots i empty_slot)) start (all_at (λ s. s.window.start ≤ tick) slots i start (omega arith))
 
 counts_empty : (n : ℕ) → CountsWithin n empty_slot
-counts_empty n = record { tried = tt; applied = tt; exceeds = tt; charged = omega arith }
+counts_empty n = record { tried = tt; applied = tt; exceeds = tt; charged = omega arith; cost = omega arith }
 
 counts_changed_slot : (n : ℕ) (scheme : Option Scheme) (s : SlotValue) → CountsWithin n s → CountsWithin n (changed scheme s)
-counts_changed_slot n None s is = record { tried = tt; applied = tt; exceeds = tt; charged = is.charged }
-counts_changed_slot n (Some x) s is = record { tried = omega arith; applied = omega arith; exceeds = omega arith; charged = is.charged }
+counts_changed_slot n None s is = record { tried = tt; applied = tt; exceeds = tt; charged = is.charged; cost = is.cost }
+counts_changed_slot n (Some x) s is = record { tried = omega arith; applied = omega arith; exceeds = omega arith; charged = is.charged; cost = is.cost }
 
 pub counts_changed : (n i : ℕ) (scheme : Option Scheme) (slots : List SlotValue) → AllByRecursion (CountsWithin n) slots → AllByRecursion (CountsWithin n) (set slots i (changed scheme (get_or slots i empty_slot)))
 counts_changed n i scheme slots all =

@@ -18,3 +18,4 @@ pub record FitsSlot (s : SlotValue) : Type 0 where
   pub applied : IfSome s.set (λ h. h.applied < 2 ^ 64)
   pub exceeds : IfSome s.set (λ h. h.exceeds < 2 ^ 64)
   pub charged : s.window.charged < 2 ^ 64
+  pub cost : s.cost.pages < 2 ^ 64

@@ -49,3 +49,4 @@ pub record CountsWithin (t : ℕ) (s : SlotValue) : Type 0 where
   pub applied : IfSome s.set (λ h. h.applied ≤ MAX_PAGES * t)
   pub exceeds : IfSome s.set (λ h. h.exceeds ≤ t)
   pub charged : s.window.charged ≤ MAX_PAGES * t
+  pub cost : s.cost.pages ≤ MAX_PAGES * t

@@ -34,6 +34,7 @@ abbrev pub slot_counted : ℕ → ℕ → Bool → SlotValue → SlotValue
 slot_counted tried taken exceeds s = record {
   set = option_map (scheme_counted tried taken exceeds) s.set;
   window = record s.window { charged = s.window.charged + taken };
+  cost = record s.cost { pages = s.cost.pages + taken };
 }
 
 -- a slot whose scheme is run, where `left` is what is left of its quota
@@ -42,7 +43,7 @@ slot_run slot left s o = record { slot = slot_counted o.tried o.taken o.exceeds 
 
 -- what is left of the quota of a slot, if it has one
 abbrev pub left_in : SlotValue → Option ℕ
-left_in s = left_of (quota_of s) s.window.charged
+left_in s = left_of (quota_of s) s.cost s.window.charged
 
 -- a slot with this scheme, if any, that is served: an active one runs its scheme
 abbrev pub scheme_served : ℕ → List Target → ℕ → RegionList → SlotValue → Option SetScheme → ServedSlot

@@ -4,6 +4,8 @@ use Rattle.std.specs.Option.{option_map, option_and_then}
 use Rattle.damon_types.specs.declared.scheme.Quota.{Quota}
 use Rattle.damon_types.specs.declared.scheme.Scheme.{Scheme}
 use Rattle.quota_charge.specs.declared.window.Window.{Window}
+use Rattle.quota_charge.specs.declared.cost.Cost.{Cost}
+use Rattle.quota_charge.specs.Cost.{more_nanos}
 use Rattle.quota_charge.specs.Window.{turned}
 use Rattle.watermarks.specs.Active.{after_metric, is_active}
 use Rattle.watermarks.specs.Gauge.{GaugeValue}
@@ -18,14 +20,15 @@ pub record SetScheme : Type 0 where
   pub applied : ℕ
   pub exceeds : ℕ
 
--- A slot: its scheme, if it is set, and its window, which stays when the slot is set or dropped.
+-- A slot: its scheme, if it is set, and its window and cost, which stay when the slot is set or dropped.
 pub record SlotValue : Type 0 where
   pub set : Option SetScheme
   pub window : Window
+  pub cost : Cost
 
 -- a slot that was never set
 abbrev pub empty_slot : SlotValue
-empty_slot = record { set = None; window = record { start = 0; charged = 0 } }
+empty_slot = record { set = None; window = record { start = 0; charged = 0 }; cost = record { pages = 0; nanos = 0 } }
 
 -- a scheme as it is set: no metric was seen, and its statistics are 0
 abbrev pub set_scheme : Scheme → SetScheme
@@ -42,6 +45,10 @@ scheme_metered value h = record h { gauge = record h.gauge { active = after_metr
 -- the slot after a metric
 abbrev pub metered : ℕ → SlotValue → SlotValue
 metered value s = record s { set = option_map (scheme_metered value) s.set }
+
+-- the slot after a cost was measured
+abbrev pub costed : ℕ → SlotValue → SlotValue
+costed nanos s = record s { cost = record s.cost { nanos = more_nanos s.cost.nanos nanos } }
 
 -- the quota of the slot's scheme, if there is one
 abbrev pub quota_of : SlotValue → Option Quota

@@ -3,7 +3,7 @@ ghost use Rattle.std.specs.List.{AllByRecursion};
 ghost use Rattle.damon_types.specs.Within.{AreWithin};
 ghost use Rattle.scheme_engine.specs.Engine.{BeginBy, FitsSlot};
 ghost use Rattle.scheme_engine.specs.Served.{slots_served};
-ghost use Rattle.scheme_engine.specs.Slots.{changed, empty_slot, metered, view_of};
+ghost use Rattle.scheme_engine.specs.Slots.{changed, costed, empty_slot, metered, view_of};
 
 use crate::pages::Context;
 use crate::serve::serve;
@@ -78,6 +78,19 @@ impl Engine {
             let slot = &mut self.slots[number];
             slot.metric(value);
         }
+    }
+
+    /// Adds nanoseconds that were measured for a slot, set or not. The sum stops at 2^64 - 1. The number of
+    /// the slot is at most [`MAX_SLOT`].
+    pub fn cost(&mut self, slot: u8, nanos: u64)
+        requires { slot ≤ MAX_SLOT }
+        ensures { self.new ≡ record self.old {
+          slots = slice_set self.old.slots slot
+              (costed nanos (slice_index_or self.old.slots slot empty_slot));
+        } }
+    {
+        let slot = &mut self.slots[usize::from(slot)];
+        slot.add_cost(nanos);
     }
 
     /// What the slot with this number shows, at most [`MAX_SLOT`]; `None` exactly if it is empty.

@@ -1,10 +1,10 @@
 ghost use Rattle.std.specs.Prelude.{◌≡◌, ◌+◌, ◌≤◌, ◌<◌, ◌^◌, Some, IsSome, IfSome};
 ghost use Rattle.scheme_engine.specs.Engine.{FitsSlot};
 ghost use Rattle.scheme_engine.specs.Served.{left_in, slot_counted};
-ghost use Rattle.scheme_engine.specs.Slots.{changed, empty_slot, metered, quota_of, turned_slot, view_of};
+ghost use Rattle.scheme_engine.specs.Slots.{changed, costed, empty_slot, metered, quota_of, turned_slot, view_of};
 
 use damon_types::{Action, MAX_SLOT, Quota, Scheme};
-use quota_charge::Window;
+use quota_charge::{Cost, Window};
 use std::marker::Model;
 use watermarks::Gauge;
 
@@ -65,6 +65,7 @@ impl Model for SetScheme {
 pub(crate) struct Slot {
     set: Option<SetScheme>,
     window: Window,
+    cost: Cost,
 }
 
 impl Model for Slot {
@@ -72,9 +73,9 @@ impl Model for Slot {
 
     ghost Value = { SlotValue };
 
-    ghost view = { λ s. record { set = s.set; window = s.window } };
+    ghost view = { λ s. record { set = s.set; window = s.window; cost = s.cost } };
 
-    ghost inverse = { λ s. record { set = s.set; window = s.window } };
+    ghost inverse = { λ s. record { set = s.set; window = s.window; cost = s.cost } };
 }
 
 impl Slot {
@@ -85,6 +86,7 @@ impl Slot {
         Slot {
             set: None,
             window: Window::new(),
+            cost: Cost::new(),
         }
     }
 
@@ -108,6 +110,13 @@ impl Slot {
         if let Some(set) = &mut self.set {
             set.gauge.metric(value);
         }
+    }
+
+    // Adds nanoseconds that were measured.
+    pub(crate) fn add_cost(&mut self, nanos: u64)
+        ensures { self.new ≡ costed nanos self.old }
+    {
+        self.cost.add_nanos(nanos);
     }
 
     // What the slot shows, if it is set.
@@ -140,7 +149,7 @@ impl Slot {
     pub(crate) fn left(&self) -> Option<u64>
         ensures { result ≡ left_in self.now }
     {
-        self.window.left(self.quota().as_ref())
+        self.window.left(self.quota().as_ref(), &self.cost)
     }
 
     // Adds a run to the statistics of the scheme, and charges the pages that were taken: at most what is
@@ -151,7 +160,8 @@ impl Slot {
         ensures { self.new ≡ slot_counted tried taken exceeds self.old }
     {
         let quota = self.quota();
-        self.window.charge(quota.as_ref(), taken);
+        self.window.charge(quota.as_ref(), &self.cost, taken);
+        self.cost.add_pages(taken);
         if let Some(set) = &mut self.set {
             set.tried += u64::from(tried);
             set.applied += taken;

@@ -6,6 +6,6 @@ use Rattle.aggregator.proofs.laws.aged_rows_are_kept.Goals as goal
 pub returns : goal.returns
 returns c = record {
   spans = spans-aged;
-  len = λ threshold rows. length-map rows (aged_row threshold);
+  len = λ threshold version rows. length-map rows (aged_row threshold version);
   counts = counts-aged;
 }

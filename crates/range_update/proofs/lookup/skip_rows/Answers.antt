@@ -5,4 +5,4 @@ use Rattle.range_update.proofs.lookup.skip_rows.Goals as goal
 pub ended-preserved : goal.ended-preserved
 ended-preserved c =
     let here = c.ended-test.ensures.yes refl in
-    record { within = omega (arith, here.0); forward = omega (arith, c.ended.invariant.forward); past = past_more c.args.page c.args.rows.now c.ended.index c.ended.invariant.past here.1 }
+    record { within = omega (arith, here.0); forward = omega (arith, c.ended.invariant.forward); past = past_more c.args.page c.args.rows.now.rows c.ended.index c.ended.invariant.past here.1 }

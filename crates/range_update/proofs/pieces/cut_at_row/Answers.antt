@@ -9,11 +9,11 @@ use Rattle.range_update.proofs.pieces.cut_at_row.Goals as goal
 
 pub cut_at_start-current-requires-clause-room : goal.cut_at_start-current-requires-clause-room
 cut_at_start-current-requires-clause-room c =
-    omega (arith, c.requires.room, pieces_some c.args.rows.now c.args.current.target c.args.unit c.args.end c.args.current.start (boundaries (drop c.args.index c.args.rows.now)))
+    omega (arith, c.requires.room, pieces_some c.args.rows.now.rows c.args.current.target c.args.unit c.args.end c.args.current.start (boundaries (drop c.args.index c.args.rows.now.rows)))
 
 pub cut_at_end-requires-clause-room : goal.cut_at_end-requires-clause-room
 cut_at_end-requires-clause-room c =
-    let rows = c.args.rows.now in
+    let rows = c.args.rows.now.rows in
     let next = drop_row c.args.index rows c.requires.here in
     let xs = row_end (row_at rows c.args.index) ∷ boundaries (drop (c.args.index + 1) rows) in
     let same = c.cut_at_start-current.ensures.made xs ∙ ap (λ rs. c.args.made.now.rows ++ pieces_from rows c.args.current.target c.args.unit c.args.end c.args.current.start (boundaries rs)) (sym next) in
@@ -22,7 +22,7 @@ cut_at_end-requires-clause-room c =
 
 pub returns-clause-made : goal.returns-clause-made
 returns-clause-made c =
-    let rows = c.args.rows.now in
+    let rows = c.args.rows.now.rows in
     let next = drop_row c.args.index rows c.requires.here in
     let rest = boundaries (drop (c.args.index + 1) rows) in
     let xs = row_end (row_at rows c.args.index) ∷ rest in

@@ -8,7 +8,7 @@ use Rattle.range_update.proofs.pieces.cut_range.Goals as goal
 
 pub rows-init : goal.rows-init
 rows-init c =
-    let rows = c.args.rows.now in
+    let rows = c.args.rows.now.rows in
     let g = c.args.range in
     let i = c.skip_rows-index.result in
     let same = kept_skip c.args.unit (end_of g) g.first rows i c.requires.unit c.skip_rows-index.ensures.past in
@@ -27,25 +27,25 @@ rows-init c =
 
 pub cut_at_row-cut-requires-clause-room : goal.cut_at_row-cut-requires-clause-room
 cut_at_row-cut-requires-clause-room c =
-    let rows = c.args.rows.now in
+    let rows = c.args.rows.now.rows in
     let g = c.args.range in
     let k = c.rows.invariant in
     room_here rows c.args.unit (end_of g) g.target c.rows.current (boundaries (drop c.rows.index rows)) c.rows.made.rows (c.args.made.now.rows ++ range_pieces c.args.unit rows g) c.rows.made.cap k.target k.so_far (omega (arith, c.requires.room, length-append c.args.made.now.rows (range_pieces c.args.unit rows g), k.cap))
 
 pub push_last-requires-clause-room : goal.push_last-requires-clause-room
 push_last-requires-clause-room c =
-    let rows = c.args.rows.now in
+    let rows = c.args.rows.now.rows in
     let g = c.args.range in
     let k = c.rows.invariant in
     room_here rows c.args.unit (end_of g) g.target c.rows.current (boundaries (drop c.rows.index rows)) c.rows.made.rows (c.args.made.now.rows ++ range_pieces c.args.unit rows g) c.rows.made.cap k.target k.so_far (omega (arith, c.requires.room, length-append c.args.made.now.rows (range_pieces c.args.unit rows g), k.cap))
 
 pub push_whole_rows-progress-requires-clause-past : goal.push_whole_rows-progress-requires-clause-past
 push_whole_rows-progress-requires-clause-past c =
-    past_more (end_of c.args.range) c.args.rows.now c.rows.index c.rows.invariant.past (c.rows-test.ensures.yes refl).1
+    past_more (end_of c.args.range) c.args.rows.now.rows c.rows.index c.rows.invariant.past (c.rows-test.ensures.yes refl).1
 
 pub push_whole_rows-progress-requires-clause-room : goal.push_whole_rows-progress-requires-clause-room
 push_whole_rows-progress-requires-clause-room c =
-    let rows = c.args.rows.now in
+    let rows = c.args.rows.now.rows in
     let g = c.args.range in
     let k = c.rows.invariant in
     let cut = c.cut_at_row-cut in
@@ -56,7 +56,7 @@ push_whole_rows-progress-requires-clause-room c =
 
 pub rows-preserved : goal.rows-preserved
 rows-preserved c =
-    let rows = c.args.rows.now in
+    let rows = c.args.rows.now.rows in
     let g = c.args.range in
     let k = c.rows.invariant in
     let here = c.rows-test.ensures.yes refl in

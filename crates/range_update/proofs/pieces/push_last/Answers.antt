@@ -9,20 +9,20 @@ use Rattle.range_update.proofs.pieces.push_last.Goals as goal
 
 pub cut_at_start-last-requires-clause-room : goal.cut_at_start-last-requires-clause-room
 cut_at_start-last-requires-clause-room c =
-    omega (arith, c.requires.room, pieces_some c.args.rows.now c.args.current.target c.args.unit c.args.end c.args.current.start (boundaries (drop c.args.index c.args.rows.now)))
+    omega (arith, c.requires.room, pieces_some c.args.rows.now.rows c.args.current.target c.args.unit c.args.end c.args.current.start (boundaries (drop c.args.index c.args.rows.now.rows)))
 
 pub push_piece-requires-clause-room : goal.push_piece-requires-clause-room
 push_piece-requires-clause-room c =
-    let rows = c.args.rows.now in
+    let rows = c.args.rows.now.rows in
     let next = drop_row c.args.index rows (omega arith) in
     let xs = row_end (row_at rows c.args.index) ∷ boundaries (drop (c.args.index + 1) rows) in
     let same = c.cut_at_start-last.ensures.made xs ∙ ap (λ rs. c.args.made.now.rows ++ pieces_from rows c.args.current.target c.args.unit c.args.end c.args.current.start (boundaries rs)) (sym next) in
     let t = c.cut_at_start-last.result in
     omega (arith, room_on c.args.made.now.rows c.cut_at_start-last.new.made.rows (pieces_from rows c.args.current.target c.args.unit c.args.end t.start xs) (pieces_from rows c.args.current.target c.args.unit c.args.end c.args.current.start (boundaries (drop c.args.index rows))) c.args.made.now.cap same c.requires.room (pieces_some rows c.args.current.target c.args.unit c.args.end t.start xs), c.cut_at_start-last.ensures.cap)
 
-pub returns-then-index-rows : goal.returns-then-index-rows
-returns-then-index-rows c =
-    let rows = c.args.rows.now in
+pub returns-then-index-count : goal.returns-then-index-count
+returns-then-index-count c =
+    let rows = c.args.rows.now.rows in
     let i = c.args.index in
     let next = drop_row i rows (omega arith) in
     let xs = row_end (row_at rows i) ∷ boundaries (drop (i + 1) rows) in

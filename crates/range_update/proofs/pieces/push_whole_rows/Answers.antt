@@ -9,7 +9,7 @@ use Rattle.range_update.proofs.pieces.push_whole_rows.Goals as goal
 
 pub push-requires : goal.push-requires
 push-requires c =
-    let rows = c.args.rows.now in
+    let rows = c.args.rows.now.rows in
     let t = c.args.current.target in
     let more = pieces_from rows t c.args.unit c.args.end c.whole.start (boundaries (drop c.whole.next rows)) in
     let rest = pieces_from rows t c.args.unit c.args.end c.args.current.start (boundaries (drop c.args.from rows)) in
@@ -17,7 +17,7 @@ push-requires c =
 
 pub whole-preserved : goal.whole-preserved
 whole-preserved c =
-    let rows = c.args.rows.now in
+    let rows = c.args.rows.now.rows in
     let t = c.args.current.target in
     let k = c.whole.invariant in
     let i = c.whole.next in
@@ -40,6 +40,7 @@ whole-preserved c =
       so_far =
           ap (λ n. c.push.new.self.rows ++ pieces_from rows t c.args.unit c.args.end n (boundaries (drop (i + 1) rows))) c.row_end-start.ensures
           ∙ ap (λ (b : RowList). b.rows ++ rest) c.push.ensures
+          ∙ ap (λ r. (c.whole.made.rows ++ r ∷ []) ++ rest) c.at.ensures
           ∙ append_assoc c.whole.made.rows (row_at rows i ∷ []) rest
           ∙ ap (λ rs. c.whole.made.rows ++ rs) (sym next)
           ∙ k.so_far;

@@ -7,16 +7,16 @@ use Rattle.range_update.proofs.pieces.push_whole_rows.Given as goal
 
 abbrev pub invariant-whole : goal.invariant-whole
 invariant-whole l = record {
-  within : l.next ≤ length l.rows;
+  within : l.next ≤ length l.rows.rows;
   forward : l.from ≤ l.next;
-  past : EndBy l.end l.rows l.next;
+  past : EndBy l.end l.rows.rows l.next;
   none : l.next ≡ l.from → l.start ≡ l.current.start;
-  before : l.from < l.next → EndBy l.start l.rows l.next;
-  after : l.from < l.next → l.next < length l.rows → l.start < row_end (row_at l.rows l.next);
+  before : l.from < l.next → EndBy l.start l.rows.rows l.next;
+  after : l.from < l.next → l.next < length l.rows.rows → l.start < row_end (row_at l.rows.rows l.next);
   low : l.current.start ≤ l.end → l.start ≤ l.end;
   cap : l.made.cap ≡ l.fn.made.cap;
-  so_far : l.made.rows ++ pieces_from l.rows l.current.target l.unit l.end l.start (boundaries (drop l.next l.rows)) ≡ l.fn.made.rows ++ pieces_from l.rows l.current.target l.unit l.end l.current.start (boundaries (drop l.from l.rows));
+  so_far : l.made.rows ++ pieces_from l.rows.rows l.current.target l.unit l.end l.start (boundaries (drop l.next l.rows.rows)) ≡ l.fn.made.rows ++ pieces_from l.rows.rows l.current.target l.unit l.end l.current.start (boundaries (drop l.from l.rows.rows));
 }
 
 abbrev pub decreases-whole : goal.decreases-whole
-decreases-whole l = length l.rows - l.next
+decreases-whole l = length l.rows.rows - l.next

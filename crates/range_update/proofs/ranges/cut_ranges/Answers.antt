@@ -13,16 +13,16 @@ use Rattle.range_update.proofs.ranges.cut_ranges.Goals as goal
 pub each-init : goal.each-init
 each-init c = record {
   within = omega arith;
-  ready = ready_start c.args.rows.now c.args.ranges.now.list;
+  ready = ready_start c.args.rows.now.rows c.args.ranges.now.list;
   cap = ap (λ (b : RowList). b.cap) c.clear.ensures;
-  so_far = ap (λ (b : RowList). b.rows ++ all_pieces c.args.unit c.args.rows.now c.args.ranges.now.list) c.clear.ensures;
+  so_far = ap (λ (b : RowList). b.rows ++ all_pieces c.args.unit c.args.rows.now.rows c.args.ranges.now.list) c.clear.ensures;
 }
 
 pub cut_range-from-requires-clause-past : goal.cut_range-from-requires-clause-past
 cut_range-from-requires-clause-past c =
     let gs = c.args.ranges.now.list in
     let next = drop_next gs c.each.index c.get.result (omega (arith, c.len-index-end.ensures.len)) c.get.ensures in
-    subst (λ hs. IsReady c.args.rows.now c.each.from hs) next c.each.invariant.ready
+    subst (λ hs. IsReady c.args.rows.now.rows c.each.from hs) next c.each.invariant.ready
 
 pub cut_range-from-requires-clause-end : goal.cut_range-from-requires-clause-end
 cut_range-from-requires-clause-end c = end_at 0 0 c.args.ranges.now.list c.each.index c.get.result c.len-index-end.ensures.order c.get.ensures
@@ -30,7 +30,7 @@ cut_range-from-requires-clause-end c = end_at 0 0 c.args.ranges.now.list c.each.
 pub cut_range-from-requires-clause-room : goal.cut_range-from-requires-clause-room
 cut_range-from-requires-clause-room c =
     let gs = c.args.ranges.now.list in
-    let rows = c.args.rows.now in
+    let rows = c.args.rows.now.rows in
     let g = c.get.result in
     let i = c.each.index in
     let next = drop_next gs i g (omega (arith, c.len-index-end.ensures.len)) c.get.ensures in
@@ -48,7 +48,7 @@ cut_range-from-requires-clause-room c =
 pub each-preserved : goal.each-preserved
 each-preserved c =
     let gs = c.args.ranges.now.list in
-    let rows = c.args.rows.now in
+    let rows = c.args.rows.now.rows in
     let g = c.get.result in
     let i = c.each.index in
     let rest = all_pieces c.args.unit rows (drop (i + 1) gs) in
@@ -67,7 +67,7 @@ each-preserved c =
 pub returns-clause-tiling : goal.returns-clause-tiling
 returns-clause-tiling c =
     let gs = c.args.ranges.now.list in
-    let rows = c.args.rows.now in
+    let rows = c.args.rows.now.rows in
     let none = ap (λ hs. all_pieces c.args.unit rows hs) (drop_all c.each.index gs (omega (arith, c.each-test.false, c.len-index-end.ensures.len))) in
     let all = sym (append-nil c.each.made.rows) ∙ ap (λ rs. c.each.made.rows ++ rs) (sym none) ∙ c.each.invariant.so_far in
     subst (λ rs. Tiling c.args.unit gs (spans rs)) (sym all) (all_pieces_tiling c.args.unit rows gs c.requires.wide)

@@ -7,7 +7,7 @@ pub cut_ranges-requires-clause-order : goal.cut_ranges-requires-clause-order
 cut_ranges-requires-clause-order c =
     let gs = c.args.regions.now.ranges in
     let rows = c.args.regions.now.rows in
-    rw c.rows.ensures (rows_in_order gs rows c.len-count.ensures.order (tiling_weaker 1 c.args.regions.now.unit gs (spans rows) c.len-count.ensures.unit c.len-count.ensures.tiling))
+    rw c.rows.ensures.rows (rows_in_order gs rows c.len-count.ensures.order (tiling_weaker 1 c.args.regions.now.unit gs (spans rows) c.len-count.ensures.unit c.len-count.ensures.tiling))
 
 pub cut_ranges-requires-clause-wide : goal.cut_ranges-requires-clause-wide
 cut_ranges-requires-clause-wide c = rw c.unit.ensures c.requires.wide

@@ -1,4 +1,4 @@
-use Rattle.std.proofs.Common.{◌≡◌, ℕ, Bool, cond, ap, sym, subst, arith}
+use Rattle.std.proofs.Common.{◌≡◌, ℕ, Bool, cond, refl, ap, sym, subst, arith}
 use Rattle.damon_types.specs.Span.{spans}
 use Rattle.region_list.specs.Tiling.{Tiling}
 use Rattle.region_list.specs.Shrink.{shrunk}
@@ -10,11 +10,12 @@ counted b = cond b 1 0
 
 pub moves-init : goal.moves-init
 moves-init c = record {
-  sweep = sweep_begin _ _ _ _ _ c.len-count.ensures.order c.requires.tiling c.requires.some c.range_end.ensures c.requires.low;
+  sweep = rw c.at.ensures (sweep_begin _ _ _ _ _ c.len-count.ensures.order c.requires.tiling c.requires.some c.range_end.ensures c.requires.low);
   ahead = omega arith;
+  cap = refl;
   within = omega (arith, c.requires.some);
-  same = ap (λ rs. shrunk c.args.ranges.now.list c.args.to rs) (rows_whole c.args.rows.now c.requires.some);
-  tiles = λ unit before. subst (λ rs. Tiling unit c.args.ranges.now.list (spans rs)) (sym (rows_whole c.args.rows.now c.requires.some)) before;
+  same = rw c.at.ensures (ap (λ rs. shrunk c.args.ranges.now.list c.args.to rs) (rows_whole c.args.rows.now.rows c.requires.some));
+  tiles = λ unit before. rw c.at.ensures (subst (λ rs. Tiling unit c.args.ranges.now.list (spans rs)) (sym (rows_whole c.args.rows.now.rows c.requires.some)) before);
   last = λ never. absurd (cc);
   done = λ never. absurd (cc);
 }

@@ -11,14 +11,14 @@ use Rattle.live_commit.proofs.setup.Setup.of_checked.Goals as goal
 
 pub fill_checked-requires : goal.fill_checked-requires
 fill_checked-requires c =
-    let checked = setup_checked c.args.space c.args.unit c.args.cap c.args.attrs c.args.specs.now c.args.slots.now c.requires.checked in
+    let checked = setup_checked c.args.version c.args.space c.args.unit c.args.cap c.args.attrs c.args.specs.now c.args.slots.now c.requires.checked in
     let watched = watched_kept c.args.space c.args.unit c.args.cap c.args.attrs.max c.args.specs.now checked.watched in
     (c.args.unit, rw c.in_ok-ranges.ensures watched.2)
 
 pub invariant_of-result : goal.invariant_of-result
 invariant_of-result c =
     let specs = c.args.specs.now in
-    let checked = setup_checked c.args.space c.args.unit c.args.cap c.args.attrs specs c.args.slots.now c.requires.checked in
+    let checked = setup_checked c.args.version c.args.space c.args.unit c.args.cap c.args.attrs specs c.args.slots.now c.requires.checked in
     let limits = limits_kept c.args.unit c.args.cap c.args.attrs checked.limits in
     let watched = watched_kept c.args.space c.args.unit c.args.cap c.args.attrs.max specs checked.watched in
     let accepted : checked_ranges c.args.space c.args.unit c.in_ok-ranges.ranges.cap specs ≡ Ok tt = rw c.in_ok-ranges.ensures watched.2 in
@@ -37,6 +37,6 @@ invariant_of-result c =
         classes = c.fill_checked.ensures.classes;
         within = c.fill_checked.ensures.within;
         set = rw c.in_ok-slots.ensures.exact (filter_passes has_scheme c.args.slots.now);
-        slots = rw c.in_ok-slots.ensures.exact (slots_kept c.args.slots.now checked.slots_ok);
+        slots = rw c.in_ok-slots.ensures.exact (slots_kept c.args.version c.args.slots.now checked.slots_ok);
       };
     }

@@ -6,9 +6,9 @@ use Rattle.region_list.proofs.regions.Regions.row.Goals as goal
 
 pub returns-clause-size : goal.returns-clause-size
 returns-clause-size c =
-    let rows = c.self.inside.rows.items in
+    let rows = c.self.inside.rows.rows in
     let here : c.args.index < length rows = omega (arith, c.requires, ap (λ (r : RegionList). length r.rows) c.self.view_is) in
-    let is = slice_get_read rows (length rows) c.args.index c.index.result.now refl here c.index.ensures in
+    let is = c.get.ensures in
     omega (arith, row_size _ _ rows c.args.index _ c.self.invariant.0.tiling is, ap (λ (r : RegionList). r.unit) c.self.view_is)
 
 pub returns-clause-some : goal.returns-clause-some
@@ -16,7 +16,7 @@ returns-clause-some c = omega (arith, returns-clause-size c, c.self.invariant.0.
 
 pub returns-clause-end : goal.returns-clause-end
 returns-clause-end c =
-    let rows = c.self.inside.rows.items in
+    let rows = c.self.inside.rows.rows in
     let here : c.args.index < length rows = omega (arith, c.requires, ap (λ (r : RegionList). length r.rows) c.self.view_is) in
-    let is = slice_get_read rows (length rows) c.args.index c.index.result.now refl here c.index.ensures in
+    let is = c.get.ensures in
     row_end _ _ rows c.args.index _ c.self.invariant.0.order c.self.invariant.0.tiling is

@@ -1,0 +1,16 @@
+use Rattle.std.proofs.Common.{◌≡◌, ℕ, List, [], ◌∷◌, ◌++◌, length, refl, sym, ap, ◌∙◌, arith, rules}
+use Rattle.std.specs.List.{insert}
+use Rattle.region_list.specs.Rows.{RowList}
+use Rattle.region_list.proofs.ColumnLemmas.{columns_put, columns_are, length_zipped, zipped_is}
+use Rattle.region_list.proofs.row_buf.RowBuf.insert.Goals as goal
+
+pub invariant_of-self : goal.invariant_of-self
+invariant_of-self c =
+    let new = columns_put c.args.index c.args.row _ _ _ _ _ _ _ _ _ _ _ _ _ c.self.invariant.0 c.insert_reserved.ensures.items c.insert_reserved-2.ensures.items c.insert_reserved-3.ensures.items c.insert_reserved-4.ensures.items c.insert_reserved-5.ensures.items c.insert_reserved-6.ensures.items in
+    (columns_are _ _ _ _ _ _ _ new, omega (arith, c.requires.room, c.insert_reserved.ensures.len, ap (λ (b : RowList). length b.rows) c.self.view_is, ap (λ (b : RowList). b.cap) c.self.view_is, length_zipped c.self.inside.targets.items c.self.inside.starts.items c.self.inside.pages.items c.self.inside.counts.items c.self.inside.lasts.items c.self.inside.ages.items), search rules, search rules, search rules, search rules, search rules, search rules, search rules)
+
+pub returns : goal.returns
+returns c =
+    let new = columns_put c.args.index c.args.row _ _ _ _ _ _ _ _ _ _ _ _ _ c.self.invariant.0 c.insert_reserved.ensures.items c.insert_reserved-2.ensures.items c.insert_reserved-3.ensures.items c.insert_reserved-4.ensures.items c.insert_reserved-5.ensures.items c.insert_reserved-6.ensures.items in
+    let put : RowList → RowList = λ b. record b { rows = insert b.rows c.args.index c.args.row } in
+    ap (λ rs. record { rows = rs; cap = c.self.inside.cap }) (zipped_is _ _ _ _ _ _ _ new) ∙ ap put c.self.view_is
