@@ -78,6 +78,24 @@ columns_put i r rows ts ss ps cs ls gs ts' ss' ps' cs' ls' gs' is t s p c l g = 
   age = g ∙ ap (λ xs. insert xs i r.age) is.age ∙ inserted (λ r. r.age) i r rows;
 }
 
+-- columns with one number less
+removed : (f : Row → ℕ) (i : ℕ) (rows : List Row) → take i (map f rows) ++ drop (i + 1) (map f rows) ≡ map f (take i rows ++ drop (i + 1) rows)
+removed f i rows = ap2 (λ front back. front ++ back) (take-map f i rows) (drop-map f (i + 1) rows) ∙ sym (map-append f (take i rows) (drop (i + 1) rows))
+  where
+    ap2 : (g : List ℕ → List ℕ → List ℕ) {a b c d : List ℕ} → a ≡ b → c ≡ d → g a c ≡ g b d
+    ap2 g p q = rw (p, q) refl
+
+-- the row with this index is taken out
+pub columns_removed : (i : ℕ) (rows : List Row) (ts ss ps cs ls gs ts' ss' ps' cs' ls' gs' : List ℕ) → AreColumns rows ts ss ps cs ls gs → ts' ≡ take i ts ++ drop (i + 1) ts → ss' ≡ take i ss ++ drop (i + 1) ss → ps' ≡ take i ps ++ drop (i + 1) ps → cs' ≡ take i cs ++ drop (i + 1) cs → ls' ≡ take i ls ++ drop (i + 1) ls → gs' ≡ take i gs ++ drop (i + 1) gs → AreColumns (take i rows ++ drop (i + 1) rows) ts' ss' ps' cs' ls' gs'
+columns_removed i rows ts ss ps cs ls gs ts' ss' ps' cs' ls' gs' is t s p c l g = record {
+  target = t ∙ ap (λ xs. take i xs ++ drop (i + 1) xs) is.target ∙ removed (λ r. r.target) i rows;
+  start = s ∙ ap (λ xs. take i xs ++ drop (i + 1) xs) is.start ∙ removed (λ r. r.start) i rows;
+  size = p ∙ ap (λ xs. take i xs ++ drop (i + 1) xs) is.size ∙ removed (λ r. r.pages) i rows;
+  count = c ∙ ap (λ xs. take i xs ++ drop (i + 1) xs) is.count ∙ removed (λ r. r.count) i rows;
+  last = l ∙ ap (λ xs. take i xs ++ drop (i + 1) xs) is.last ∙ removed (λ r. r.last) i rows;
+  age = g ∙ ap (λ xs. take i xs ++ drop (i + 1) xs) is.age ∙ removed (λ r. r.age) i rows;
+}
+
 -- a row keeps its span, and gets other values
 pub columns_valued : (i n l a : ℕ) (rows : List Row) (ts ss ps cs ls gs : List ℕ) → AreColumns rows ts ss ps cs ls gs → AreColumns (with_values rows i n l a) ts ss ps (set cs i n) (set ls i l) (set gs i a)
 columns_valued i n l a rows ts ss ps cs ls gs is =

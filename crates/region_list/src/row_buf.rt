@@ -210,6 +210,21 @@ impl RowBuf {
         insert_reserved(&mut self.ages, index, row.age);
     }
 
+    // Takes out the row with this index, which is below the number of rows.
+    pub(crate) fn remove(&mut self, index: usize)
+        requires { index < length self.old.rows }
+        ensures { self.new ≡ record self.old {
+          rows = take index self.old.rows ++ drop (index + 1) self.old.rows;
+        } }
+    {
+        self.targets.remove(index);
+        self.starts.remove(index);
+        self.pages.remove(index);
+        self.counts.remove(index);
+        self.lasts.remove(index);
+        self.ages.remove(index);
+    }
+
     // Keeps the first `count` rows.
     pub(crate) fn truncate(&mut self, count: usize)
         ensures { self.new ≡ record self.old { rows = take count self.old.rows } }
