@@ -9,7 +9,7 @@ ghost use Rattle.region_list.specs.Find.{row_index};
 
 use crate::find::find_row;
 use crate::shrink::shrink_buf;
-use crate::{RowBuf, RowPass, join_rows};
+use crate::{RowBuf, RowPass, ValuePass, join_rows};
 use damon_types::{Ranges, Row};
 use std::alloc::{AllocError, Global};
 use std::marker::Model;
@@ -113,6 +113,16 @@ impl Regions {
         self.spare.clear();
         pass.run(&self.ranges, &self.rows, &mut self.spare);
         mem::swap(&mut self.rows, &mut self.spare);
+    }
+
+    /// Gives all rows the values that a pass makes of them: their counts, last counts and ages. The pages
+    /// of the rows stay.
+    pub fn revalue<P: ValuePass>(&mut self, pass: &P)
+        requires can { P.can_run pass.now self.old.rows }
+        requires spans { spans (P.values_of pass.now self.old.rows) ≡ spans self.old.rows }
+        ensures { self.new ≡ record self.old { rows = P.values_of pass.now self.old.rows } }
+    {
+        self.rows.revalue(pass);
     }
 
     /// Cuts the row with this index, which is below the number of rows, after `pages` of its pages. Both
