@@ -19,7 +19,7 @@ use Rattle.damon_core.proofs.monitor.Monitor.accept.Goals as goal
 pub commit-void-requires-clause-can : goal.commit-void-requires-clause-can
 commit-void-requires-clause-can c =
     let i = c.self.inside in
-    let core : Core = (shown i.space i.attrs i.sampling i.clock i.totals i.report.value i.engine.slots).core in
+    let core : Core = (shown i.version i.space i.attrs i.sampling i.clock i.totals i.report.value i.engine.slots).core in
     let v : CommitValue = commit_value c.args.commit.now in
     let ok = subst (λ (m : MonitorView). check_of v m.core ≡ Ok tt) (sym c.self.view_is) c.requires in
     let most = subst (λ (m : MonitorView). m.core.attrs.max ≤ m.core.regions.cap) (sym c.self.view_is) c.attrs.ensures.max in
@@ -31,7 +31,7 @@ pub invariant_of-self : goal.invariant_of-self
 invariant_of-self c =
     let i = c.self.inside in
     let inv = c.self.invariant in
-    let core : Core = (shown i.space i.attrs i.sampling i.clock i.totals i.report.value i.engine.slots).core in
+    let core : Core = (shown i.version i.space i.attrs i.sampling i.clock i.totals i.report.value i.engine.slots).core in
     let v : CommitValue = commit_value c.args.commit.now in
     let ok = subst (λ (m : MonitorView). check_of v m.core ≡ Ok tt) (sym c.self.view_is) c.requires in
     let most = subst (λ (m : MonitorView). m.core.attrs.max ≤ m.core.regions.cap) (sym c.self.view_is) c.attrs.ensures.max in

@@ -101,7 +101,7 @@ returns-clause-event c =
     let m = c.args.self.now in
     let i = c.self.inside in
     let ws = c.args.words.now in
-    let core : Core = (shown i.space i.attrs i.sampling i.clock i.totals i.report.value i.engine.slots).core in
+    let core : Core = (shown i.version i.space i.attrs i.sampling i.clock i.totals i.report.value i.engine.slots).core in
     let len = c.len-merged.ensures in
     let limit : c.merge_limit-limit.result ≡ merge_limit core = c.merge_limit-limit.ensures ∙ ap (λ (x : RegionList). max x.unit (page_total x.ranges / i.attrs.min)) c.regions.ensures.regions in
     let merged = merged_is core c.merge-threshold.new.self.regions c.merge-threshold.result c.merge_limit-limit.result (ap (λ (s : SamplingView). s.regions) c.merge-threshold.ensures.merged) c.merge-threshold.ensures.threshold limit in
@@ -109,7 +109,7 @@ returns-clause-event c =
     let here = subst (λ (x : MonitorView). AreTiled (merged_regions x.core)) c.self.view_is tiled in
     let laws : OutcomeLaws = record { tiled = c.outcome_rows_are_kept.ensures.tiled; sum = c.outcome_runs_are_taken.ensures.sum } in
     let told = c.rows.ensures ∙ ap (λ (x : RegionList). x.rows) c.regions-rows.ensures.regions in
-    let after = aggregated_view i.space i.attrs i.clock i.totals ws i.sampling c.merge-threshold.new.self c.serve.new.self c.split.new.self i.report.value c.serve.new.report.value c.set.new.self.value i.engine.slots c.serve.new.engine.slots c.merge-threshold.result
+    let after = aggregated_view i.version i.space i.attrs i.clock i.totals ws i.sampling c.merge-threshold.new.self c.serve.new.self c.split.new.self i.report.value c.serve.new.report.value c.set.new.self.value i.engine.slots c.serve.new.engine.slots c.merge-threshold.result
     (c.merge-threshold.ensures.merged ∙ ap (λ (r : RegionList). record i.sampling { regions = r }) (sym (ap (λ (s : SamplingView). s.regions) c.merge-threshold.ensures.merged) ∙ merged))
     c.serve.ensures.rows
     (ap (λ (e : EngineValue). e.slots) c.serve.ensures.slots)
