@@ -7,7 +7,8 @@ use Rattle.std.proofs.Math.Seq.{drop-cons, map-set_same}
 use Rattle.std.proofs.lemmas.Option.{get_or_from_slice_get}
 use Rattle.damon_types.specs.declared.row.Row.{Row}
 use Rattle.region_list.specs.Rows.{no_row, row_at, with_values}
-use Rattle.region_list.specs.Columns.{zipped, AreColumns}
+use Rattle.damon_types.specs.Span.{Span, span_of, spans}
+use Rattle.region_list.specs.Columns.{zipped, AreColumns, AreValues}
 
 -- the columns of rows, put together, are the rows
 pub zipped_map : (rows : List Row) → zipped (map (λ r. r.target) rows) (map (λ r. r.start) rows) (map (λ r. r.pages) rows) (map (λ r. r.count) rows) (map (λ r. r.last) rows) (map (λ r. r.age) rows) ≡ rows
@@ -78,6 +79,24 @@ columns_put i r rows ts ss ps cs ls gs ts' ss' ps' cs' ls' gs' is t s p c l g = 
   age = g ∙ ap (λ xs. insert xs i r.age) is.age ∙ inserted (λ r. r.age) i r rows;
 }
 
+-- columns with one number less
+removed : (f : Row → ℕ) (i : ℕ) (rows : List Row) → take i (map f rows) ++ drop (i + 1) (map f rows) ≡ map f (take i rows ++ drop (i + 1) rows)
+removed f i rows = ap2 (λ front back. front ++ back) (take-map f i rows) (drop-map f (i + 1) rows) ∙ sym (map-append f (take i rows) (drop (i + 1) rows))
+  where
+    ap2 : (g : List ℕ → List ℕ → List ℕ) {a b c d : List ℕ} → a ≡ b → c ≡ d → g a c ≡ g b d
+    ap2 g p q = rw (p, q) refl
+
+-- the row with this index is taken out
+pub columns_removed : (i : ℕ) (rows : List Row) (ts ss ps cs ls gs ts' ss' ps' cs' ls' gs' : List ℕ) → AreColumns rows ts ss ps cs ls gs → ts' ≡ take i ts ++ drop (i + 1) ts → ss' ≡ take i ss ++ drop (i + 1) ss → ps' ≡ take i ps ++ drop (i + 1) ps → cs' ≡ take i cs ++ drop (i + 1) cs → ls' ≡ take i ls ++ drop (i + 1) ls → gs' ≡ take i gs ++ drop (i + 1) gs → AreColumns (take i rows ++ drop (i + 1) rows) ts' ss' ps' cs' ls' gs'
+columns_removed i rows ts ss ps cs ls gs ts' ss' ps' cs' ls' gs' is t s p c l g = record {
+  target = t ∙ ap (λ xs. take i xs ++ drop (i + 1) xs) is.target ∙ removed (λ r. r.target) i rows;
+  start = s ∙ ap (λ xs. take i xs ++ drop (i + 1) xs) is.start ∙ removed (λ r. r.start) i rows;
+  size = p ∙ ap (λ xs. take i xs ++ drop (i + 1) xs) is.size ∙ removed (λ r. r.pages) i rows;
+  count = c ∙ ap (λ xs. take i xs ++ drop (i + 1) xs) is.count ∙ removed (λ r. r.count) i rows;
+  last = l ∙ ap (λ xs. take i xs ++ drop (i + 1) xs) is.last ∙ removed (λ r. r.last) i rows;
+  age = g ∙ ap (λ xs. take i xs ++ drop (i + 1) xs) is.age ∙ removed (λ r. r.age) i rows;
+}
+
 -- a row keeps its span, and gets other values
 pub columns_valued : (i n l a : ℕ) (rows : List Row) (ts ss ps cs ls gs : List ℕ) → AreColumns rows ts ss ps cs ls gs → AreColumns (with_values rows i n l a) ts ss ps (set cs i n) (set ls i l) (set gs i a)
 columns_valued i n l a rows ts ss ps cs ls gs is =
@@ -96,3 +115,29 @@ pub drop_row : (rows : List Row) (i : ℕ) (r : Row) → i < length rows → sli
 drop_row rows i r here is =
     let next : suc i ≡ i + 1 = omega arith in
     drop-cons rows i r here ∙ ap (λ x. x ∷ drop (suc i) rows) (get_or_from_slice_get rows i r r is) ∙ ap (λ n. r ∷ drop n rows) next
+
+-- one row more of those that are gathered
+pub gathered_more : (i : ℕ) (rows old : List Row) → i < length rows → i < length old → set (take i rows ++ drop i old) i (row_at rows i) ≡ take (suc i) rows ++ drop (suc i) old
+gathered_more i [] old within room = absurd (omega arith)
+gathered_more i (r ∷ rows) [] within room = absurd (omega arith)
+gathered_more zero (r ∷ rows) (p ∷ old) within room = refl
+gathered_more (suc i) (r ∷ rows) (p ∷ old) within room = ap (λ rs. r ∷ rs) (gathered_more i rows old (omega arith) (omega arith))
+
+-- rows with the same spans have the same column of a field of spans
+same_column : (f : Span → ℕ) (rows others : List Row) → spans others ≡ spans rows → map (λ r. f (span_of r)) others ≡ map (λ r. f (span_of r)) rows
+same_column f rows others same = sym (mapped f others) ∙ ap (map f) same ∙ mapped f rows
+  where
+    mapped : (f : Span → ℕ) (rows : List Row) → map f (spans rows) ≡ map (λ r. f (span_of r)) rows
+    mapped f [] = refl
+    mapped f (r ∷ rows) = ap (λ ns. f (span_of r) ∷ ns) (mapped f rows)
+
+-- all rows get other values, and their spans stay
+pub columns_revalued : (rows others : List Row) (ts ss ps cs ls gs cs' ls' gs' : List ℕ) → AreColumns rows ts ss ps cs ls gs → spans others ≡ spans rows → AreValues others cs' ls' gs' → AreColumns others ts ss ps cs' ls' gs'
+columns_revalued rows others ts ss ps cs ls gs cs' ls' gs' is same values = record {
+  target = is.target ∙ sym (same_column (λ s. s.target) rows others same);
+  start = is.start ∙ sym (same_column (λ s. s.start) rows others same);
+  size = is.size ∙ sym (same_column (λ s. s.pages) rows others same);
+  count = values.count;
+  last = values.last;
+  age = values.age;
+}

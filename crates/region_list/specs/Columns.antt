@@ -17,3 +17,9 @@ pub record AreColumns (rows : List Row) (targets starts pages counts lasts ages 
   pub count : counts ≡ map (λ r. r.count) rows
   pub last : lasts ≡ map (λ r. r.last) rows
   pub age : ages ≡ map (λ r. r.age) rows
+
+-- these are the counts, the last counts and the ages of the rows
+pub record AreValues (rows : List Row) (counts lasts ages : List ℕ) : Type 0 where
+  pub count : counts ≡ map (λ r. r.count) rows
+  pub last : lasts ≡ map (λ r. r.last) rows
+  pub age : ages ≡ map (λ r. r.age) rows

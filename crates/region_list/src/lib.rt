@@ -12,7 +12,7 @@ mod join;
 mod laws;
 /// Joining the pairs of one level, for shrinking.
 mod level;
-/// Passes that replace all rows.
+/// Passes that replace all rows, or the values of all rows.
 mod pass;
 /// Rows that tile their ranges.
 mod regions;
@@ -31,7 +31,7 @@ pub use laws::{
     division_tiles, joined_rows_tile, refined_rows_tile, rows_follow_ranges, same_spans_are_equal,
     shrunk_rows_are_kept, shrunk_rows_tile, tiled_rows_fit, tiling_is_per_page,
 };
-pub use pass::RowPass;
+pub use pass::{RowPass, ValuePass};
 pub use regions::Regions;
 pub use row_buf::RowBuf;
 pub use same::same_spans;

@@ -1,15 +1,15 @@
-ghost use Rattle.std.specs.Prelude.{◌≡◌, ◌+◌, ◌-◌, ◌≤◌, ◌<◌, ◌^◌, [], length, slice_get, IfOk};
+ghost use Rattle.std.specs.Prelude.{◌≡◌, ◌+◌, ◌-◌, ◌≤◌, ◌<◌, ◌^◌, [], ◌∷◌, ◌++◌, true, length, take, drop, slice_get, IfOk};
 ghost use Rattle.damon_types.specs.Ranges.{InOrder};
 ghost use Rattle.damon_types.specs.Span.{spans};
 ghost use Rattle.region_list.specs.Rows.{cut_after, row_at, with_two, with_values};
 ghost use Rattle.region_list.specs.Tiles.{Tiles};
 ghost use Rattle.region_list.specs.Tiling.{Tiling};
-ghost use Rattle.region_list.specs.Shrink.{shrunk};
+ghost use Rattle.region_list.specs.Shrink.{in_one_range, joined_at, shrunk};
 ghost use Rattle.region_list.specs.Find.{row_index};
 
 use crate::find::find_row;
 use crate::shrink::shrink_buf;
-use crate::{RowBuf, RowPass};
+use crate::{RowBuf, RowPass, ValuePass, join_rows};
 use damon_types::{Ranges, Row};
 use std::alloc::{AllocError, Global};
 use std::marker::Model;
@@ -115,6 +115,16 @@ impl Regions {
         mem::swap(&mut self.rows, &mut self.spare);
     }
 
+    /// Gives all rows the values that a pass makes of them: their counts, last counts and ages. The pages
+    /// of the rows stay.
+    pub fn revalue<P: ValuePass>(&mut self, pass: &P)
+        requires can { P.can_run pass.now self.old.rows }
+        requires spans { spans (P.values_of pass.now self.old.rows) ≡ spans self.old.rows }
+        ensures { self.new ≡ record self.old { rows = P.values_of pass.now self.old.rows } }
+    {
+        self.rows.revalue(pass);
+    }
+
     /// Cuts the row with this index, which is below the number of rows, after `pages` of its pages. Both
     /// parts have its count, last count and age, and at least `unit` pages; there is room for one row
     /// more. The rows behind it are moved, and no other row is copied.
@@ -148,6 +158,36 @@ impl Regions {
         let index = index as usize;
         self.rows.set(index, first);
         self.rows.insert(index + 1, second);
+    }
+
+    /// Joins the row with this index and the next one, which lie in one range. The joined row has the
+    /// pages of both; its count, last count and age are averages weighted by pages and rounded down.
+    pub fn join(&mut self, index: u32)
+        requires pair { index + 1 < length self.old.rows }
+        requires range { in_one_range self.old.ranges (row_at self.old.rows index)
+            (row_at self.old.rows (index + 1)) ≡ true }
+        ensures { self.new ≡ record self.old { rows = joined_at index self.old.rows } }
+    {
+        // For its clauses alone: the rows tile the ranges, which are in order.
+        let _count = self.len();
+        let first = self.row(index);
+        let second = self.row(index + 1);
+        let joined = join_rows(&first, &second);
+        self.put_one(index, joined);
+    }
+
+    // Puts a row in the place of the one with this index and the next one. The new rows tile the ranges.
+    fn put_one(&mut self, index: u32, row: Row)
+        requires pair { index + 1 < length self.old.rows }
+        requires tiling { Tiling self.old.unit self.old.ranges
+            (spans (take index self.old.rows ++ row ∷ drop (index + 2) self.old.rows)) }
+        ensures { self.new ≡ record self.old {
+          rows = take index self.old.rows ++ row ∷ drop (index + 2) self.old.rows;
+        } }
+    {
+        let index = index as usize;
+        self.rows.remove(index);
+        self.rows.set(index, row);
     }
 
     /// The number of rows. Its clauses also say what holds of every region list.

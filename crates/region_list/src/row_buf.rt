@@ -1,7 +1,9 @@
 ghost use Rattle.std.specs.Prelude.{◌≡◌, ◌+◌, ◌≤◌, ◌<◌, [], ◌∷◌, ◌++◌, length, map, slice_get, slice_set, take, drop, vec_len, vec_capacity, IfOk};
 ghost use Rattle.std.specs.List.{insert};
+ghost use Rattle.damon_types.specs.Span.{spans};
 ghost use Rattle.region_list.specs.Rows.{row_at, with_values};
 
+use crate::ValuePass;
 use damon_types::{Row, append_reserved};
 use std::alloc::{AllocError, Global};
 use std::marker::Model;
@@ -171,6 +173,19 @@ impl RowBuf {
         }
     }
 
+    /// Copies rows into a block, beginning with the row `from`. There are rows for all places of the block.
+    /// A loop that reads all fields of each row is faster over such blocks than over the columns.
+    pub fn gather(&self, from: usize, block: &mut [Row])
+        requires { from + length block.old ≤ length self.now.rows }
+        ensures { block.new ≡ take (length block.old) (drop from self.now.rows) }
+    {
+        // For its clauses alone: the number of rows is a u32.
+        let _count = self.len();
+        for place in 0..block.len() {
+            block[place] = self.at(from + place);
+        }
+    }
+
     // Replaces the row with this index, which is below the number of rows.
     pub(crate) fn set(&mut self, index: usize, row: Row)
         requires { index < length self.old.rows }
@@ -196,6 +211,15 @@ impl RowBuf {
         self.ages[index] = age;
     }
 
+    // Gives all rows the values that a pass makes of them. The pages of the rows stay.
+    pub(crate) fn revalue<P: ValuePass>(&mut self, pass: &P)
+        requires can { P.can_run pass.now self.old.rows }
+        requires spans { spans (P.values_of pass.now self.old.rows) ≡ spans self.old.rows }
+        ensures { self.new ≡ record self.old { rows = P.values_of pass.now self.old.rows } }
+    {
+        pass.run(&mut self.counts, &mut self.lasts, &mut self.ages);
+    }
+
     // Puts a row before the one with this index, or behind all rows. There is room for it.
     pub(crate) fn insert(&mut self, index: usize, row: Row)
         requires within { index ≤ length self.old.rows }
@@ -208,6 +232,21 @@ impl RowBuf {
         insert_reserved(&mut self.counts, index, row.count);
         insert_reserved(&mut self.lasts, index, row.last);
         insert_reserved(&mut self.ages, index, row.age);
+    }
+
+    // Takes out the row with this index, which is below the number of rows.
+    pub(crate) fn remove(&mut self, index: usize)
+        requires { index < length self.old.rows }
+        ensures { self.new ≡ record self.old {
+          rows = take index self.old.rows ++ drop (index + 1) self.old.rows;
+        } }
+    {
+        self.targets.remove(index);
+        self.starts.remove(index);
+        self.pages.remove(index);
+        self.counts.remove(index);
+        self.lasts.remove(index);
+        self.ages.remove(index);
     }
 
     // Keeps the first `count` rows.

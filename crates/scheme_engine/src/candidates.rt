@@ -38,12 +38,14 @@ pub(crate) fn gather(
     let pattern = scheme.pattern;
     let mut near = RangeRuns::new(&scheme.filters);
     let mut tried = 0;
-    for row in regions.rows() {
-        if matches(&pattern, row) {
+    let rows = regions.rows();
+    for index in 0..rows.count() {
+        let row = rows.at(index);
+        if matches(&pattern, &row) {
             tried += 1;
-            let passing = count_passing(&scheme.filters, context.space, ranges, row, &mut near);
+            let passing = count_passing(&scheme.filters, context.space, ranges, &row, &mut near);
             if passing > 0 {
-                let score = scorer.score(row);
+                let score = scorer.score(&row);
                 candidates.push(row.target, row.start, score, passing);
             }
         }

@@ -20,28 +20,26 @@ use Rattle.scheme_engine.proofs.candidates.gather.Goals.{then-matches+then-passi
 
 pub count_passing-passing-requires-clause-held : goal.count_passing-passing-requires-clause-held
 count_passing-passing-requires-clause-held c =
-    let is = c.rows-row-items.ensures in
-    rw (is, c.ranges-ranges.ensures.list) (row_held c.args.regions.now.ranges c.args.regions.now.rows c.loop-row.row-index c.len-count.ensures.tiles.within (omega (arith, c.loop-row-test.true, ap length is)))
+    rw (c.at-row.ensures, c.rows-rows.ensures.rows, c.ranges-ranges.ensures.list) (row_held c.args.regions.now.ranges c.args.regions.now.rows c.loop-index.index c.len-count.ensures.tiles.within (omega (arith, c.loop-index-test.true, c.count-index-end.ensures, ap length c.rows-rows.ensures.rows)))
 
 pub push-requires-clause-room : goal.push-requires-clause-room
 push-requires-clause-room c =
     let rows = c.args.regions.now.rows in
-    let i = c.loop-row.row-index in
+    let i = c.loop-index.index in
     let h = candidate_of c.args.context.now.space.now c.args.regions.now.ranges c.args.context.now.aggr c.args.scheme.now in
     let few = length-filter_map h (take i rows) in
-    omega (arith, few, length-take i rows, ap length c.loop-row.invariant.list, c.loop-row.invariant.cap, c.loop-row-test.true, ap length c.rows-row-items.ensures, c.len-count.ensures.len, c.len-count.ensures.few, c.len-count.ensures.most, c.requires.room)
+    omega (arith, few, length-take i rows, ap length c.loop-index.invariant.list, c.loop-index.invariant.cap, c.loop-index-test.true, c.count-index-end.ensures, ap length c.rows-rows.ensures.rows, c.len-count.ensures.len, c.len-count.ensures.few, c.len-count.ensures.most, c.requires.room)
 
 pub push-requires-clause-distinct : goal.push-requires-clause-distinct
 push-requires-clause-distinct c =
     let rows = c.args.regions.now.rows in
-    let i = c.loop-row.row-index in
-    let is = c.rows-row-items.ensures in
-    let within : i < length rows = omega (arith, c.loop-row-test.true, ap length is) in
+    let i = c.loop-index.index in
+    let within : i < length rows = omega (arith, c.loop-index-test.true, c.count-index-end.ensures, ap length c.rows-rows.ensures.rows) in
     let before = start_before c.args.context.now.space.now c.args.regions.now.ranges c.args.context.now.aggr c.args.scheme.now 0 rows i no_row c.len-count.ensures.tiles.rise within in
-    rw (is, c.loop-row.invariant.list) before
+    rw (c.at-row.ensures, c.rows-rows.ensures.rows, c.loop-index.invariant.list) before
 
-pub loop-row-init : goal.loop-row-init
-loop-row-init c = record {
+pub loop-index-init : goal.loop-index-init
+loop-index-init c = record {
   list = ap (λ (l : CandidateList). l.list) c.clear.ensures;
   cap = ap (λ (l : CandidateList). l.cap) c.clear.ensures;
   tried = refl;
@@ -49,22 +47,21 @@ loop-row-init c = record {
   few = omega arith;
 }
 
-pub loop-row-preserved : goal.loop-row-preserved
-loop-row-preserved c =
+pub loop-index-preserved : goal.loop-index-preserved
+loop-index-preserved c =
     let space = c.args.context.now.space.now in
     let ranges = c.args.regions.now.ranges in
     let aggr = c.args.context.now.aggr in
     let scheme = c.args.scheme.now in
     let rows = c.args.regions.now.rows in
-    let i = c.loop-row.row-index in
-    let is = c.rows-row-items.ensures in
-    let r = get_or c.rows-row-items.result.now i no_row in
-    let here : r ≡ get_or rows i no_row = ap (λ (rs : List Row). get_or rs i no_row) is in
-    let within : i < length rows = omega (arith, c.loop-row-test.true, ap length is) in
-    let kept = c.loop-row.invariant in
+    let i = c.loop-index.index in
+    let r = c.at-row.result in
+    let here : r ≡ get_or rows i no_row = c.at-row.ensures ∙ ap (λ (rs : List Row). get_or rs i no_row) c.rows-rows.ensures.rows in
+    let within : i < length rows = omega (arith, c.loop-index-test.true, c.count-index-end.ensures, ap length c.rows-rows.ensures.rows) in
+    let kept = c.loop-index.invariant in
     let h = candidate_of space ranges aggr scheme in
     let more = filter_map_more h rows i no_row within in
-    let next : (o : Option Candidate) → h r ≡ o → candidates_of space ranges aggr scheme (take (i + 1) rows) ≡ c.loop-row.candidates.list ++ cons_option o [] = λ o gives. more ∙ ap (λ x. candidates_of space ranges aggr scheme (take i rows) ++ cons_option (h x) []) (sym here) ∙ ap (λ x. candidates_of space ranges aggr scheme (take i rows) ++ cons_option x []) gives ∙ ap (λ cs. cs ++ cons_option o []) (sym kept.list) in
+    let next : (o : Option Candidate) → h r ≡ o → candidates_of space ranges aggr scheme (take (i + 1) rows) ≡ c.loop-index.candidates.list ++ cons_option o [] = λ o gives. more ∙ ap (λ x. candidates_of space ranges aggr scheme (take i rows) ++ cons_option (h x) []) (sym here) ∙ ap (λ x. candidates_of space ranges aggr scheme (take i rows) ++ cons_option x []) gives ∙ ap (λ cs. cs ++ cons_option o []) (sym kept.list) in
     let pattern = is_match scheme.pattern in
     let matching = c.matches.ensures in
     let test = passes scheme.filters space c.ranges-ranges.result.now.list in
@@ -90,7 +87,7 @@ loop-row-preserved c =
           let passing = w.count_passing-passing.ensures.count ∙ ap (λ gs. length (passing_pages (passes scheme.filters space gs) (span_of r))) c.ranges-ranges.ensures.list in
           let found = none_passes space ranges aggr scheme r w.count_passing-passing.result matches passing w.if-passing-gt0.false in
           record {
-            list = ap (λ (l : CandidateList). l.list) w.candidates-is ∙ sym (append-nil c.loop-row.candidates.list) ∙ sym (next _ found);
+            list = ap (λ (l : CandidateList). l.list) w.candidates-is ∙ sym (append-nil c.loop-index.candidates.list) ∙ sym (next _ found);
             cap = ap (λ (l : CandidateList). l.cap) w.candidates-is ∙ kept.cap;
             tried = w.tried-is ∙ ap (λ n. n + 1) kept.tried ∙ sym (count_by_more_yes pattern rows i no_row within (ap pattern (sym here) ∙ matches));
             near = subst (AreRunsOf test) (sym w.near-is) w.count_passing-passing.ensures.near;
@@ -99,7 +96,7 @@ loop-row-preserved c =
       | else-matches w ↦
           let other : pattern r ≡ false = sym matching ∙ w.if-matches.false in
           record {
-            list = ap (λ (l : CandidateList). l.list) w.candidates-is ∙ sym (append-nil c.loop-row.candidates.list) ∙ sym (next _ (no_match space ranges aggr scheme r other));
+            list = ap (λ (l : CandidateList). l.list) w.candidates-is ∙ sym (append-nil c.loop-index.candidates.list) ∙ sym (next _ (no_match space ranges aggr scheme r other));
             cap = ap (λ (l : CandidateList). l.cap) w.candidates-is ∙ kept.cap;
             tried = w.tried-is ∙ kept.tried ∙ sym (count_by_more_no pattern rows i no_row within (ap pattern (sym here) ∙ other));
             near = subst (AreRunsOf test) (sym w.near-is) kept.near;

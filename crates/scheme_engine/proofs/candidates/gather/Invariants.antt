@@ -4,11 +4,11 @@ use Rattle.scheme_filter.specs.RangeRuns.{AreRunsOf}
 use Rattle.scheme_engine.specs.Candidates.{candidates_of, tried_of}
 use Rattle.scheme_engine.proofs.candidates.gather.Given as goal
 
-abbrev pub invariant-loop-row : goal.invariant-loop-row
-invariant-loop-row l = record {
-  list : l.candidates.list ≡ candidates_of l.context.space.now l.regions.ranges l.context.aggr l.scheme (take l.row-index l.regions.rows);
+abbrev pub invariant-loop-index : goal.invariant-loop-index
+invariant-loop-index l = record {
+  list : l.candidates.list ≡ candidates_of l.context.space.now l.regions.ranges l.context.aggr l.scheme (take l.index l.regions.rows);
   cap : l.candidates.cap ≡ l.fn.candidates.cap;
-  tried : l.tried ≡ tried_of l.scheme (take l.row-index l.regions.rows);
+  tried : l.tried ≡ tried_of l.scheme (take l.index l.regions.rows);
   near : AreRunsOf (passes l.scheme.filters l.context.space.now l.ranges.list) l.near;
-  few : l.tried ≤ l.row-index;
+  few : l.tried ≤ l.index;
 }
