@@ -3,6 +3,7 @@ use Rattle.std.proofs.Common.{◌≡◌, ℕ, ◌≤◌, ◌<◌, List, length, 
 use Rattle.std.specs.List.{AllByRecursion}
 use Rattle.damon_types.specs.declared.range.Range.{Range}
 use Rattle.damon_types.specs.declared.row.Row.{Row}
+use Rattle.damon_types.specs.declared.scheme.Version.{Version}
 use Rattle.damon_types.specs.Ranges.{InOrder}
 use Rattle.damon_types.specs.Span.{spans}
 use Rattle.region_list.specs.Tiling.{Tiling}
@@ -20,9 +21,9 @@ use Rattle.damon_core.proofs.Served.{KeptByRuns, serve_rows_hold}
 
 -- what the laws of ages, merging, clearing and splitting say of rows
 pub record AdaptLaws : Type 0 where
-  pub aged_spans : (t : ℕ) (rows : List Row) → spans (aged t rows) ≡ spans rows
-  pub aged_len : (t : ℕ) (rows : List Row) → length (aged t rows) ≡ length rows
-  pub aged_counts : (t most : ℕ) (rows : List Row) → AllByRecursion (λ r. r.count ≤ most) rows → AllByRecursion (λ r. r.count ≤ most) (aged t rows)
+  pub aged_spans : (t : ℕ) (version : Version) (rows : List Row) → spans (aged t version rows) ≡ spans rows
+  pub aged_len : (t : ℕ) (version : Version) (rows : List Row) → length (aged t version rows) ≡ length rows
+  pub aged_counts : (t most : ℕ) (version : Version) (rows : List Row) → AllByRecursion (λ r. r.count ≤ most) rows → AllByRecursion (λ r. r.count ≤ most) (aged t version rows)
   pub merged_tiling : (unit : ℕ) (gs : List Range) (t limit : ℕ) (rows : List Row) → 1 ≤ unit → InOrder gs → Tiling unit gs (spans rows) → Tiling unit gs (spans (merged gs t limit rows))
   pub merged_fewer : (gs : List Range) (t limit : ℕ) (rows : List Row) → length (merged gs t limit rows) ≤ length rows
   pub merged_some : (gs : List Range) (t limit : ℕ) (rows : List Row) → 0 < length rows → 0 < length (merged gs t limit rows)
@@ -50,11 +51,11 @@ pub merged_kept : AdaptLaws → (c : Core) → 1 ≤ c.regions.unit → InOrder 
 merged_kept laws c wide order kept =
     let rows = c.regions.rows in
     let t = threshold rows in
-    let same = laws.aged_len t rows in
+    let same = laws.aged_len t c.version rows in
     record {
-      tiling = laws.merged_tiling c.regions.unit c.regions.ranges t (merge_limit c) (aged t rows) wide order (subst (Tiling c.regions.unit c.regions.ranges) (sym (laws.aged_spans t rows)) kept.tiling);
-      some = laws.merged_some c.regions.ranges t (merge_limit c) (aged t rows) (omega (arith, same, kept.some));
-      few = omega (arith, laws.merged_fewer c.regions.ranges t (merge_limit c) (aged t rows), same, kept.few);
+      tiling = laws.merged_tiling c.regions.unit c.regions.ranges t (merge_limit c) (aged t c.version rows) wide order (subst (Tiling c.regions.unit c.regions.ranges) (sym (laws.aged_spans t c.version rows)) kept.tiling);
+      some = laws.merged_some c.regions.ranges t (merge_limit c) (aged t c.version rows) (omega (arith, same, kept.some));
+      few = omega (arith, laws.merged_fewer c.regions.ranges t (merge_limit c) (aged t c.version rows), same, kept.few);
     }
 
 -- the regions as schemes find them
@@ -85,11 +86,11 @@ split_kept laws ws c rows kept =
     }
 
 -- the regions that are merged with the threshold and the limit of a monitor
-pub merged_is : (c : Core) (new : RegionList) (t limit : ℕ) → new ≡ record c.regions { rows = merged c.regions.ranges t limit (aged t c.regions.rows) } → t ≡ threshold c.regions.rows → limit ≡ merge_limit c → new ≡ merged_regions c
+pub merged_is : (c : Core) (new : RegionList) (t limit : ℕ) → new ≡ record c.regions { rows = merged c.regions.ranges t limit (aged t c.version c.regions.rows) } → t ≡ threshold c.regions.rows → limit ≡ merge_limit c → new ≡ merged_regions c
 merged_is c new t limit is thr lim =
     is
-    ∙ ap (λ n. record c.regions { rows = merged c.regions.ranges t n (aged t c.regions.rows) }) lim
-    ∙ ap (λ x. record c.regions { rows = merged c.regions.ranges x (merge_limit c) (aged x c.regions.rows) }) thr
+    ∙ ap (λ n. record c.regions { rows = merged c.regions.ranges t n (aged t c.version c.regions.rows) }) lim
+    ∙ ap (λ x. record c.regions { rows = merged c.regions.ranges x (merge_limit c) (aged x c.version c.regions.rows) }) thr
 
 -- what a list says of its rows
 pub tiled_by_len : (r : RegionList) (count : ℕ) → count ≡ length r.rows → count ≤ r.max → 1 ≤ r.unit → InOrder r.ranges → Tiling r.unit r.ranges (spans r.rows) → AreTiled r

@@ -33,7 +33,7 @@ runs_kept laws within = let rows = rows_kept any_result laws in record {
   };
   committing = λ s c ok h. record {
     rows = rows.committing s c ok h.rows;
-    runs = committed_notes_hold EachRunIsWithin (λ slot scheme notes runs. runs) (λ slot notes runs. runs) (λ value notes runs. runs) c s.notes h.runs;
+    runs = committed_notes_hold EachRunIsWithin (λ slot scheme notes runs. runs) (λ slot notes runs. runs) (λ value notes runs. runs) (λ slot nanos notes runs. runs) c s.notes h.runs;
   };
 }
 

@@ -4,7 +4,6 @@ use Rattle.std.specs.Option.{option_map_or}
 use Rattle.damon_types.specs.declared.scheme.Scheme.{Scheme}
 use Rattle.damon_types.specs.declared.space.Target.{Target}
 use Rattle.region_list.specs.Regions.{RegionList}
-use Rattle.quota_charge.specs.Quota.{left_of}
 use Rattle.scheme_engine.specs.Best.{IsBestRun}
 use Rattle.scheme_engine.specs.Kept.{AreTiled}
 use Rattle.scheme_engine.specs.Outcome.{outcome_of}
@@ -12,9 +11,9 @@ use Rattle.scheme_engine.specs.Served.{no_choice}
 use Rattle.scheme_engine.specs.Slots.{SetScheme}
 use Rattle.damon_core.specs.Note.{Note}
 use Rattle.damon_core.specs.Aggregate.{merged_regions}
-use Rattle.damon_core.specs.Choosing.{AreSlotsServed, IsSlotServed, ServesBest}
+use Rattle.damon_core.specs.Choosing.{AreSlotsServed, IsSlotServed, ServesBest, left_then}
 use Rattle.damon_core.specs.Serve.{Serving, nothing_served, run_served, serve_scheme, serve_slot, with_turn}
-use Rattle.damon_core.specs.Slots.{charged_of, is_active_in, scheme_of, slot_count}
+use Rattle.damon_core.specs.Slots.{is_active_in, scheme_of, slot_count}
 use Rattle.damon_core.specs.State.{State}
 use Rattle.damon_core.proofs.Adapting.{merged_tiled}
 use Rattle.damon_core.proofs.Rows.{HasRows, RowLaws, rows_of}
@@ -29,13 +28,10 @@ RunsAreBest = (slot aggr : ℕ) (space : List Target) (scheme : Scheme) (left : 
 by_scheme : (slot : ℕ) (space : List Target) (aggr tick : ℕ) (regions : RegionList) (notes : List Note) (o : Option Scheme) → scheme_of notes slot ≡ o → serve_slot slot space aggr tick regions notes ≡ option_map_or (serve_scheme slot space aggr tick regions notes) o (nothing_served regions notes)
 by_scheme slot space aggr tick regions notes o is = ap (λ (x : Option Scheme). option_map_or (serve_scheme slot space aggr tick regions notes) x (nothing_served regions notes)) is
 
-abbrev left_at : ℕ → ℕ → List Note → Scheme → Option ℕ
-left_at slot tick notes scheme = left_of scheme.quota (charged_of (with_turn slot tick scheme.quota notes) slot)
-
 abbrev served_if : Bool → ℕ → List Target → ℕ → ℕ → RegionList → List Note → Scheme → Serving
 served_if b slot space aggr tick regions notes scheme =
     let now = with_turn slot tick scheme.quota notes in
-    let left = left_at slot tick notes scheme in
+    let left = left_then slot tick notes scheme in
     cond b (run_served slot tick left now (outcome_of slot space aggr scheme left regions)) (record { rows = regions.rows; notes = now; runs = []; choices = no_choice slot ∷ [] })
 
 by_active : (slot : ℕ) (space : List Target) (aggr tick : ℕ) (regions : RegionList) (notes : List Note) (scheme : Scheme) (b : Bool) → scheme_of notes slot ≡ Some scheme → is_active_in notes slot scheme ≡ b → serve_slot slot space aggr tick regions notes ≡ served_if b slot space aggr tick regions notes scheme
@@ -51,8 +47,8 @@ slot_served_best law slot space aggr tick regions notes tiled = record {
     ap (λ (y : Serving). y.choices) (by_active slot space aggr tick regions notes scheme false is off),
   );
   active = λ scheme is on. record {
-    outcome = outcome_of slot space aggr scheme (left_at slot tick notes scheme) regions;
-    best = law slot aggr space scheme (left_at slot tick notes scheme) regions tiled;
+    outcome = outcome_of slot space aggr scheme (left_then slot tick notes scheme) regions;
+    best = law slot aggr space scheme (left_then slot tick notes scheme) regions tiled;
     runs = ap (λ (y : Serving). y.runs) (by_active slot space aggr tick regions notes scheme true is on);
     choices = ap (λ (y : Serving). y.choices) (by_active slot space aggr tick regions notes scheme true is on);
   };

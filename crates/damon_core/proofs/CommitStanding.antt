@@ -2,6 +2,7 @@
 use Rattle.std.proofs.Common.{◌≡◌, ℕ, ◌≤◌, ◌<◌, List, [], ◌∷◌, get_or, set as put, Option, Some, None, Ok, Err, refl, sym, ap, ◌∙◌}
 use Rattle.std.specs.Prelude.{Result}
 use Rattle.damon_types.specs.declared.row.Row.{Row}
+use Rattle.damon_types.specs.declared.scheme.CostPart.{CostPart}
 use Rattle.damon_types.specs.declared.scheme.Scheme.{Scheme}
 use Rattle.damon_types.specs.declared.scheme.SlotChange.{SlotChange}
 use Rattle.damon_types.specs.declared.scheme.TheConstants.{MAX_SLOT}
@@ -16,21 +17,21 @@ use Rattle.scheme_engine.specs.Slots.{changed, empty_slot}
 use Rattle.damon_core.specs.Note.{Note, was_hit}
 use Rattle.damon_core.specs.Totals.{checks_made, hits_made}
 use Rattle.damon_core.specs.State.{Core, State}
-use Rattle.damon_core.specs.Commit.{check_of, committed, committed_core, committed_notes, committed_slots, core_after_commit, if_accepted, phase_after_commit, slot_note, slots_after_commit, slots_changed, slots_metered, view_of, with_metric, with_slot}
+use Rattle.damon_core.specs.Commit.{check_of, committed, committed_core, committed_notes, committed_slots, core_after_commit, if_accepted, phase_after_commit, slot_note, slots_after_commit, slots_changed, slots_costed, slots_metered, view_of, with_cost, with_metric, with_slot}
 use Rattle.damon_core.specs.Event.{commit}
 use Rattle.damon_core.specs.Slots.{slot_count, slots_of}
 use Rattle.damon_core.specs.Makes.{Makes}
 use Rattle.damon_core.specs.Stands.{MonitorView, Stands, last_pass}
 use Rattle.damon_core.proofs.Committing.{allows_commit, by_phase_after, committed_notes_hold}
 use Rattle.damon_core.proofs.Shown.{after_asked}
-use Rattle.damon_core.proofs.SlotNotes.{DecidesInTurn, slot_counted_below, slots_of-dropped, slots_of-metric, slots_of-set}
+use Rattle.damon_core.proofs.SlotNotes.{DecidesInTurn, slot_counted_below, slots_of-cost, slots_of-dropped, slots_of-metric, slots_of-set}
 use Rattle.damon_core.proofs.Tallying.{was_hit-commit}
 
 checks_made-commit : (c : CommitValue) (notes : List Note) → checks_made (committed_notes c notes) ≡ checks_made notes
-checks_made-commit c notes = committed_notes_hold (λ ns. checks_made ns ≡ checks_made notes) (λ slot scheme ns same. same) (λ slot ns same. same) (λ value ns same. same) c notes refl
+checks_made-commit c notes = committed_notes_hold (λ ns. checks_made ns ≡ checks_made notes) (λ slot scheme ns same. same) (λ slot ns same. same) (λ value ns same. same) (λ slot nanos ns same. same) c notes refl
 
 hits_made-commit : (c : CommitValue) (notes : List Note) → hits_made (committed_notes c notes) ≡ hits_made notes
-hits_made-commit c notes = committed_notes_hold (λ ns. hits_made ns ≡ hits_made notes) (λ slot scheme ns same. same) (λ slot ns same. same) (λ value ns same. same) c notes refl
+hits_made-commit c notes = committed_notes_hold (λ ns. hits_made ns ≡ hits_made notes) (λ slot scheme ns same. same) (λ slot ns same. same) (λ value ns same. same) (λ slot nanos ns same. same) c notes refl
 
 -- a pass that becomes void keeps its number
 last_pass-commit : (ph : Phase) (old new : List Row) (ticks : ℕ) → AllowsCommit ph → last_pass ph ticks ≡ last_pass (phase_after_commit ph old new) ticks
@@ -57,11 +58,17 @@ slots_metric : DecidesInTurn → (value : Option ℕ) (notes : List Note) → sl
 slots_metric law None notes = refl
 slots_metric law (Some value) notes = sym (slots_of-metric law value notes)
 
+slots_cost : (part : Option CostPart) (notes : List Note) → ((x : CostPart) → part ≡ Some x → x.slot ≤ MAX_SLOT) → slots_costed part (slots_of notes) ≡ slots_of (with_cost part notes)
+slots_cost None notes within = refl
+slots_cost (Some x) notes within = sym (slots_of-cost x.slot x.nanos notes (slot_counted_below x.slot (within x refl)))
+
 -- the slots after a commit that is accepted are those that its notes tell of
 slots_committed : SlotLaws → (c : CommitValue) (core : Core) (notes : List Note) → check_of c core ≡ Ok tt → committed_slots c (slots_of notes) ≡ slots_of (committed_notes c notes)
 slots_committed laws c core notes ok =
-    ap (slots_metered c.metric) (slots_slot c.slot notes (laws.accepted core.space (view_of core) c ok).slot)
-    ∙ slots_metric laws.in_turn c.metric (with_slot c.slot notes)
+    let is = laws.accepted core.space (view_of core) c ok in
+    ap (λ ss. slots_costed c.cost (slots_metered c.metric ss)) (slots_slot c.slot notes is.slot)
+    ∙ ap (slots_costed c.cost) (slots_metric laws.in_turn c.metric (with_slot c.slot notes))
+    ∙ slots_cost c.cost (with_metric c.metric (with_slot c.slot notes)) (λ part some. (is.cost part some).1)
 
 -- what the check of the commit leaves
 pub stands_after : SlotLaws → (checked : Result (Unit {0}) CommitFault) (m : MonitorView) (s : State) (c : CommitValue) → check_of c s.core ≡ checked → Stands m s

@@ -13,6 +13,7 @@ use Rattle.damon_types.specs.declared.attrs.Attrs.{Attrs}
 use Rattle.damon_types.specs.declared.range.Range.{Range}
 use Rattle.damon_types.specs.declared.range.RangeSpec.{RangeSpec}
 use Rattle.damon_types.specs.declared.row.Row.{Row}
+use Rattle.damon_types.specs.declared.scheme.CostPart.{CostPart}
 use Rattle.damon_types.specs.declared.scheme.Scheme.{Scheme}
 use Rattle.damon_types.specs.declared.scheme.SlotChange.{SlotChange}
 use Rattle.damon_types.specs.declared.space.Target.{Target}
@@ -35,11 +36,11 @@ use Rattle.live_commit.specs.declared.view.View.{View}
 use Rattle.live_commit.specs.Accepted.{AllowsCommit, IsAccepted}
 use Rattle.live_commit.specs.Accepts.{checked_commit, checked_phase, max_after}
 use Rattle.live_commit.specs.Commit.{CommitValue}
-use Rattle.damon_core.specs.Note.{Note, set, dropped, metric}
+use Rattle.damon_core.specs.Note.{Note, set, dropped, metric, cost}
 use Rattle.damon_core.specs.State.{Core}
 use Rattle.damon_core.specs.Kept.{CanCommit, CountsHits, HasPicks, IsSampling, SinceFew, loaded_so_far}
 use Rattle.damon_core.specs.Pass.{IsPickWithin}
-use Rattle.damon_core.specs.Commit.{check_of, view_of, committed_notes, phase_after_commit, regions_after, slot_note, with_metric, with_slot}
+use Rattle.damon_core.specs.Commit.{check_of, view_of, committed_notes, phase_after_commit, regions_after, slot_note, with_cost, with_metric, with_slot}
 use Rattle.damon_core.proofs.RowFacts.{tiling_of_pages}
 
 -- what the laws of the crates below say of commits, and of the rows after them
@@ -60,8 +61,9 @@ pub committed_notes_hold : (P : List Note → Type 0)
     → ((slot : ℕ) (scheme : Scheme) (notes : List Note) → P notes → P (set slot scheme ∷ notes))
     → ((slot : ℕ) (notes : List Note) → P notes → P (dropped slot ∷ notes))
     → ((value : ℕ) (notes : List Note) → P notes → P (metric value ∷ notes))
+    → ((slot nanos : ℕ) (notes : List Note) → P notes → P (cost slot nanos ∷ notes))
     → (c : CommitValue) (notes : List Note) → P notes → P (committed_notes c notes)
-committed_notes_hold P setting dropping measuring c notes holds = by_metric c.metric (with_slot c.slot notes) (by_slot c.slot)
+committed_notes_hold P setting dropping measuring costing c notes holds = by_cost c.cost (with_metric c.metric (with_slot c.slot notes)) (by_metric c.metric (with_slot c.slot notes) (by_slot c.slot))
   where
     by_scheme : (slot : ℕ) (scheme : Option Scheme) → P (slot_note slot scheme ∷ notes)
     by_scheme slot None = dropping slot notes holds
@@ -74,6 +76,10 @@ committed_notes_hold P setting dropping measuring c notes holds = by_metric c.me
     by_metric : (value : Option ℕ) (after : List Note) → P after → P (with_metric value after)
     by_metric None after holds = holds
     by_metric (Some value) after holds = measuring value after holds
+
+    by_cost : (part : Option CostPart) (after : List Note) → P after → P (with_cost part after)
+    by_cost None after holds = holds
+    by_cost (Some part) after holds = costing part.slot part.nanos after holds
 
 span_decides : (s t : Span) → Decides (same_span s t) (s ≡ t)
 span_decides s t = (λ same. grind (arith, nat_tests), λ is. rw is (grind (arith, nat_tests)))

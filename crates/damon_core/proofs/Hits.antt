@@ -7,7 +7,7 @@ use Rattle.damon_types.specs.declared.row.Row.{Row}
 use Rattle.live_commit.specs.declared.phase.Phase.{Phase}
 use Rattle.live_commit.specs.declared.phase.Phase.TheVariants.{Idle, Clearing, Armed, Checking, Void, Due}
 use Rattle.live_commit.specs.Commit.{CommitValue}
-use Rattle.damon_core.specs.Note.{Note, touched, cleared, checked, finished, voided, set, dropped, metric, turned, ran, is_cleared, is_touched, has_clear, touched_after_clear, hit}
+use Rattle.damon_core.specs.Note.{Note, touched, cleared, checked, finished, voided, set, dropped, metric, turned, ran, cost, is_cleared, is_touched, has_clear, touched_after_clear, hit}
 use Rattle.damon_core.specs.State.{State, row_count}
 use Rattle.damon_core.specs.Event.{IsLoading, load_index, next_hit}
 use Rattle.damon_core.specs.After.{phase_cleared, phase_after_pass, cleared_at, loaded_at}
@@ -75,7 +75,7 @@ clears_after_commit s c ok h = record {
     Each ph = (k : ℕ) → k < cleared_so_far ph (length new) → has_clear (committed_notes c s.notes) (s.core.ticks + 1) k (slice_index s.core.picks k) ≡ true
 
     noted : (k : ℕ) → has_clear s.notes (s.core.ticks + 1) k (slice_index s.core.picks k) ≡ true → has_clear (committed_notes c s.notes) (s.core.ticks + 1) k (slice_index s.core.picks k) ≡ true
-    noted k here = committed_notes_hold (λ notes. has_clear notes (s.core.ticks + 1) k (slice_index s.core.picks k) ≡ true) (λ slot scheme notes has. has) (λ slot notes has. has) (λ value notes has. has) c s.notes here
+    noted k here = committed_notes_hold (λ notes. has_clear notes (s.core.ticks + 1) k (slice_index s.core.picks k) ≡ true) (λ slot scheme notes has. has) (λ slot notes has. has) (λ value notes has. has) (λ slot nanos notes has. has) c s.notes here
 
 -- each step keeps the clears
 pub clears_kept : (Q : State → Bool → Type 0) → Keeps Q HasClears
@@ -110,6 +110,7 @@ is_cleared-from_has_clear (dropped m ∷ notes) n k p has = is_cleared-from_has_
 is_cleared-from_has_clear (metric m ∷ notes) n k p has = is_cleared-from_has_clear notes n k p has
 is_cleared-from_has_clear (turned m t ∷ notes) n k p has = is_cleared-from_has_clear notes n k p has
 is_cleared-from_has_clear (ran m t tried runs exceeds ∷ notes) n k p has = is_cleared-from_has_clear notes n k p has
+is_cleared-from_has_clear (cost m ns ∷ notes) n k p has = is_cleared-from_has_clear notes n k p has
 
 -- in each state that is reached the picks before the one that comes next are cleared
 pub reached_cleared : (s : State) → Reached s → (k : ℕ) → k < cleared_so_far s.core.phase (row_count s.core) → is_cleared s.notes (slice_index s.core.picks k) ≡ true
@@ -141,6 +142,7 @@ touched_after_clear-from_is_touched (dropped m ∷ notes) n k p is has = touched
 touched_after_clear-from_is_touched (metric m ∷ notes) n k p is has = touched_after_clear-from_is_touched notes n k p is has
 touched_after_clear-from_is_touched (turned m t ∷ notes) n k p is has = touched_after_clear-from_is_touched notes n k p is has
 touched_after_clear-from_is_touched (ran m t tried runs exceeds ∷ notes) n k p is has = touched_after_clear-from_is_touched notes n k p is has
+touched_after_clear-from_is_touched (cost m ns ∷ notes) n k p is has = touched_after_clear-from_is_touched notes n k p is has
 
 -- what is kept of the hits
 pub record HasHits (s : State) : Type 0 where
@@ -186,6 +188,6 @@ hits_kept laws = let rows = rows_kept true_result laws in let clears = clears_ke
   committing = λ s c ok h. record {
     rows = rows.committing s c ok h.rows;
     clears = clears.committing s c ok h.clears;
-    rests = committed_notes_hold EachHitRests (λ slot scheme notes rests. rests) (λ slot notes rests. rests) (λ value notes rests. rests) c s.notes h.rests;
+    rests = committed_notes_hold EachHitRests (λ slot scheme notes rests. rests) (λ slot notes rests. rests) (λ value notes rests. rests) (λ slot nanos notes rests. rests) c s.notes h.rests;
   };
 }

@@ -7,7 +7,7 @@ use mathlib.Core.List.{reverse_aux}
 use Rattle.damon_types.specs.declared.scheme.Scheme.{Scheme}
 use Rattle.damon_types.specs.declared.scheme.SlotChange.{SlotChange}
 use Rattle.live_commit.specs.Setup.{SetupValue}
-use Rattle.damon_core.specs.Note.{Note, touched, cleared, checked, finished, voided, set, dropped, metric, turned, ran}
+use Rattle.damon_core.specs.Note.{Note, touched, cleared, checked, finished, voided, set, dropped, metric, turned, ran, cost}
 use Rattle.damon_core.specs.State.{opening_notes, set_note}
 
 -- each note sets a slot
@@ -36,6 +36,7 @@ set_reversed (dropped slot ∷ notes) onto all more = absurd all
 set_reversed (metric v ∷ notes) onto all more = absurd all
 set_reversed (turned slot t ∷ notes) onto all more = absurd all
 set_reversed (ran slot t tried runs exceeds ∷ notes) onto all more = absurd all
+set_reversed (cost slot ns ∷ notes) onto all more = absurd all
 
 of_set_slots : (P : List Note → Type 0) → P [] → ((slot : ℕ) (scheme : Scheme) (notes : List Note) → P notes → P (set slot scheme ∷ notes)) → (notes : List Note) → SetSlots notes → P notes
 of_set_slots P none more [] all = none
@@ -49,6 +50,7 @@ of_set_slots P none more (dropped slot ∷ notes) all = absurd all
 of_set_slots P none more (metric v ∷ notes) all = absurd all
 of_set_slots P none more (turned slot t ∷ notes) all = absurd all
 of_set_slots P none more (ran slot t tried runs exceeds ∷ notes) all = absurd all
+of_set_slots P none more (cost slot ns ∷ notes) all = absurd all
 
 -- what holds of no notes, and with a set slot more, holds of the notes of an opening
 pub opening_holds : (P : List Note → Type 0) → P [] → ((slot : ℕ) (scheme : Scheme) (notes : List Note) → P notes → P (set slot scheme ∷ notes)) → (v : SetupValue) → P (opening_notes v)

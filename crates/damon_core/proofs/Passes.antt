@@ -11,7 +11,7 @@ use Rattle.live_commit.specs.declared.phase.Phase.{Phase}
 use Rattle.live_commit.specs.declared.phase.Phase.TheVariants.{Idle, Clearing, Armed, Checking, Void, Due}
 use Rattle.live_commit.specs.Commit.{CommitValue}
 use Rattle.live_commit.specs.Setup.{SetupValue}
-use Rattle.damon_core.specs.Note.{Note, touched, cleared, checked, finished, voided, set, dropped, metric, turned, ran, clears_of, checks_of}
+use Rattle.damon_core.specs.Note.{Note, touched, cleared, checked, finished, voided, set, dropped, metric, turned, ran, cost, clears_of, checks_of}
 use Rattle.damon_core.specs.State.{State, row_count, opening, opening_notes}
 use Rattle.damon_core.specs.Event.{IsLoading, load_index}
 use Rattle.damon_core.specs.Aggregate.{aggregated, served}
@@ -93,6 +93,7 @@ ends_later m n (dropped i ∷ notes) low ends = ends_later m n notes low ends
 ends_later m n (metric i ∷ notes) low ends = ends_later m n notes low ends
 ends_later m n (turned i t ∷ notes) low ends = ends_later m n notes low ends
 ends_later m n (ran i t tried runs exceeds ∷ notes) low ends = ends_later m n notes low ends
+ends_later m n (cost i ns ∷ notes) low ends = ends_later m n notes low ends
 
 -- a list of all notes with the same clears and checks of the passes up to one
 record SameUpTo (last : ℕ) (old new : List Note) : Type 0 where
@@ -119,6 +120,7 @@ passes_same last old new (dropped i ∷ notes) same ends passes = passes_same la
 passes_same last old new (metric i ∷ notes) same ends passes = passes_same last old new notes same ends passes
 passes_same last old new (turned i t ∷ notes) same ends passes = passes_same last old new notes same ends passes
 passes_same last old new (ran i t tried runs exceeds ∷ notes) same ends passes = passes_same last old new notes same ends passes
+passes_same last old new (cost i ns ∷ notes) same ends passes = passes_same last old new notes same ends passes
 
 -- a clear is one of its own pass alone
 clears_of-here : (notes : List Note) (n k p : ℕ) → clears_of (cleared n k p ∷ notes) n ≡ clears_of notes n ++ (k, p) ∷ []
@@ -327,10 +329,10 @@ passes_aggregate s ws is rows h =
 
 -- the notes of a commit say nothing of clears and checks
 clears_of-commit : (c : CommitValue) (notes : List Note) (n : ℕ) → clears_of (committed_notes c notes) n ≡ clears_of notes n
-clears_of-commit c notes n = committed_notes_hold (λ ns. clears_of ns n ≡ clears_of notes n) (λ slot scheme ns same. same) (λ slot ns same. same) (λ value ns same. same) c notes refl
+clears_of-commit c notes n = committed_notes_hold (λ ns. clears_of ns n ≡ clears_of notes n) (λ slot scheme ns same. same) (λ slot ns same. same) (λ value ns same. same) (λ slot nanos ns same. same) c notes refl
 
 checks_of-commit : (c : CommitValue) (notes : List Note) (n : ℕ) → checks_of (committed_notes c notes) n ≡ checks_of notes n
-checks_of-commit c notes n = committed_notes_hold (λ ns. checks_of ns n ≡ checks_of notes n) (λ slot scheme ns same. same) (λ slot ns same. same) (λ value ns same. same) c notes refl
+checks_of-commit c notes n = committed_notes_hold (λ ns. checks_of ns n ≡ checks_of notes n) (λ slot scheme ns same. same) (λ slot ns same. same) (λ value ns same. same) (λ slot nanos ns same. same) c notes refl
 
 passes_commit : (s : State) (c : CommitValue) → check_of c s.core ≡ Ok tt → HasRows (committed c s) → HasPasses s → HasPasses (committed c s)
 passes_commit s c ok rows h =
@@ -350,8 +352,8 @@ passes_commit s c ok rows h =
       checks = checks_of-commit c s.notes pass ∙ h.checks ∙ ap (λ (n : ℕ). enumerate_from 0 (take n s.core.picks)) (none_loaded ph allows ∙ sym (none_loaded_after ph old new allows));
       no_later_clears = λ n later. clears_of-commit c s.notes n ∙ h.no_later_clears n later;
       no_later_checks = λ n later. checks_of-commit c s.notes n ∙ h.no_later_checks n later;
-      ends = committed_notes_hold (EndsBy s.core.ticks) (λ slot scheme ns ends. ends) (λ slot ns ends. ends) (λ value ns ends. ends) c s.notes h.ends;
-      passes = committed_notes_hold (EachPassChecks notes) (λ slot scheme ns passes. passes) (λ slot ns passes. passes) (λ value ns passes. passes) c s.notes still;
+      ends = committed_notes_hold (EndsBy s.core.ticks) (λ slot scheme ns ends. ends) (λ slot ns ends. ends) (λ value ns ends. ends) (λ slot nanos ns ends. ends) c s.notes h.ends;
+      passes = committed_notes_hold (EachPassChecks notes) (λ slot scheme ns passes. passes) (λ slot ns passes. passes) (λ value ns passes. passes) (λ slot nanos ns passes. passes) c s.notes still;
     }
 
 -- each step keeps the passes

@@ -6,6 +6,7 @@ use Rattle.damon_types.specs.declared.scheme.Quota.{Quota}
 use Rattle.damon_types.specs.declared.scheme.Scheme.{Scheme}
 use Rattle.damon_types.specs.declared.space.Target.{Target}
 use Rattle.region_list.specs.Regions.{RegionList}
+use Rattle.quota_charge.specs.declared.cost.Cost.{Cost}
 use Rattle.quota_charge.specs.Quota.{effective_pages, has_ended, left_of}
 use Rattle.scheme_engine.specs.declared.applied.AppliedRun.{AppliedRun}
 use Rattle.scheme_engine.specs.Kept.{AreTiled}
@@ -16,7 +17,7 @@ use Rattle.damon_core.specs.State.{State}
 use Rattle.damon_core.specs.Aggregate.{merged_regions, served}
 use Rattle.damon_core.specs.Bound.{EachRunIsWithin, IsRunWithin}
 use Rattle.damon_core.specs.Serve.{Serving, nothing_served, run_served, serve_now, serve_scheme, serve_slot, serve_slots, with_turn}
-use Rattle.damon_core.specs.Slots.{charged_of, is_active_in, pages_in, scheme_of, slot_count, start_of}
+use Rattle.damon_core.specs.Slots.{charged_of, cost_of, is_active_in, pages_in, scheme_of, slot_count, start_of}
 use Rattle.damon_core.proofs.Serving.{OutcomeLaws, turn_is}
 
 -- ---- facts of notes
@@ -36,7 +37,7 @@ with_turn_holds P turning slot tick (Some q) notes holds = turn_holds P turning 
 
 now_holds : (P : List Note → Type 0) → KeptByServing P → (slot : ℕ) (space : List Target) (aggr tick : ℕ) (regions : RegionList) (now : List Note) (scheme : Scheme) → P now → P (serve_now slot space aggr tick regions now scheme).notes
 now_holds P kept slot space aggr tick regions now scheme holds =
-    let left = left_of scheme.quota (charged_of now slot) in
+    let left = left_of scheme.quota (cost_of now slot) (charged_of now slot) in
     let o = outcome_of slot space aggr scheme left regions in
     let off : Serving = record { rows = regions.rows; notes = now; runs = []; choices = no_choice slot ∷ [] } in
     elim (is_active_in now slot scheme) as (λ b. P (cond b (run_served slot tick left now o) off).notes) [
@@ -74,7 +75,7 @@ slot_rows_hold P kept slot space aggr tick regions notes holds = by_scheme (sche
     by_scheme None = holds
     by_scheme (Some scheme) =
         let now = with_turn slot tick scheme.quota notes in
-        let left = left_of scheme.quota (charged_of now slot) in
+        let left = left_of scheme.quota (cost_of now slot) (charged_of now slot) in
         let o = outcome_of slot space aggr scheme left regions in
         let off : Serving = record { rows = regions.rows; notes = now; runs = []; choices = no_choice slot ∷ [] } in
         elim (is_active_in now slot scheme) as (λ b. P (record regions { rows = (cond b (run_served slot tick left now o) off).rows })) [
@@ -95,23 +96,23 @@ pub record RunLaws : Type 0 where
   pub outcome : OutcomeLaws
   pub within : (slot aggr : ℕ) (space : List Target) (scheme : Scheme) (left : Option ℕ) (regions : RegionList) → AreTiled regions → IfSome left (λ most. (outcome_of slot space aggr scheme left regions).taken ≤ most)
 
-within_quota : (quota : Option Quota) (charged pages taken : ℕ) → pages ≡ taken → IfSome (left_of quota charged) (λ most. taken ≤ most) → 1 ≤ pages → IfSome quota (λ q. charged + pages ≤ effective_pages q)
-within_quota None charged pages taken same within some = tt
-within_quota (Some q) charged pages taken same within some = omega (arith, within)
+within_quota : (quota : Option Quota) (cost : Cost) (charged pages taken : ℕ) → pages ≡ taken → IfSome (left_of quota cost charged) (λ most. taken ≤ most) → 1 ≤ pages → IfSome quota (λ q. charged + pages ≤ effective_pages q cost)
+within_quota None cost charged pages taken same within some = tt
+within_quota (Some q) cost charged pages taken same within some = omega (arith, within)
 
 slot_within : RunLaws → (slot : ℕ) (space : List Target) (aggr tick : ℕ) (regions : RegionList) (notes : List Note) → AreTiled regions → EachRunIsWithin notes → EachRunIsWithin (serve_slot slot space aggr tick regions notes).notes
 slot_within laws slot space aggr tick regions notes tiled each = by_scheme (scheme_of notes slot) refl
   where
     by_active : (scheme : Scheme) (now : List Note) → scheme_of now slot ≡ Some scheme → EachRunIsWithin now → (b : Bool) → is_active_in now slot scheme ≡ b
-        → EachRunIsWithin (cond b (run_served slot tick (left_of scheme.quota (charged_of now slot)) now (outcome_of slot space aggr scheme (left_of scheme.quota (charged_of now slot)) regions)) (record { rows = regions.rows; notes = now; runs = []; choices = no_choice slot ∷ [] })).notes
+        → EachRunIsWithin (cond b (run_served slot tick (left_of scheme.quota (cost_of now slot) (charged_of now slot)) now (outcome_of slot space aggr scheme (left_of scheme.quota (cost_of now slot) (charged_of now slot)) regions)) (record { rows = regions.rows; notes = now; runs = []; choices = no_choice slot ∷ [] })).notes
     by_active scheme now is each true active =
-        let left = left_of scheme.quota (charged_of now slot) in
+        let left = left_of scheme.quota (cost_of now slot) (charged_of now slot) in
         let o = outcome_of slot space aggr scheme left regions in
         let run : IsRunWithin now slot o.runs = record {
           scheme = scheme;
           is_set = is;
           active = active;
-          within = within_quota scheme.quota (charged_of now slot) (pages_in o.runs) o.taken (laws.outcome.sum slot aggr space scheme left regions tiled) (laws.within slot aggr space scheme left regions tiled);
+          within = within_quota scheme.quota (cost_of now slot) (charged_of now slot) (pages_in o.runs) o.taken (laws.outcome.sum slot aggr space scheme left regions tiled) (laws.within slot aggr space scheme left regions tiled);
         } in
         (run, each)
     by_active scheme now is each false active = each

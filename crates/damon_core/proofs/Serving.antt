@@ -7,6 +7,7 @@ use Rattle.damon_types.specs.declared.scheme.Quota.{Quota}
 use Rattle.damon_types.specs.declared.scheme.Scheme.{Scheme}
 use Rattle.damon_types.specs.declared.space.Target.{Target}
 use Rattle.region_list.specs.Regions.{RegionList}
+use Rattle.quota_charge.specs.declared.cost.Cost.{Cost}
 use Rattle.quota_charge.specs.declared.window.Window.{Window}
 use Rattle.quota_charge.specs.Quota.{has_ended, left_of}
 use Rattle.scheme_engine.specs.Kept.{AreTiled}
@@ -15,7 +16,7 @@ use Rattle.scheme_engine.specs.Served.{ServedSlot, Served, no_choice, slot_count
 use Rattle.scheme_engine.specs.Slots.{SetScheme, SlotValue, window_at}
 use Rattle.damon_core.specs.Note.{Note, turned}
 use Rattle.damon_core.specs.Serve.{Serving, nothing_served, run_served, serve_scheme, serve_slot, serve_slots, with_turn}
-use Rattle.damon_core.specs.Slots.{charged_of, is_active_in, scheme_of, set_scheme_of, slot_of, start_of}
+use Rattle.damon_core.specs.Slots.{charged_of, cost_of, is_active_in, scheme_of, set_scheme_of, slot_of, start_of}
 use Rattle.damon_core.proofs.SlotNotes.{same, ran-other, ran-same, turned-other}
 
 -- what the laws of the engine say of the outcome of a scheme
@@ -30,6 +31,7 @@ window_of notes slot = record { start = start_of notes slot; charged = charged_o
 -- what holds of notes to which that of a window may have been added
 pub record TurnIs (slot : ℕ) (notes now : List Note) (window : Window) : Type 0 where
   pub begins : window_of now slot ≡ window
+  pub cost : cost_of now slot ≡ cost_of notes slot
   pub scheme : scheme_of now slot ≡ scheme_of notes slot
   pub counted : (s : Scheme) → set_scheme_of now slot s ≡ set_scheme_of notes slot s
   pub others : (j : ℕ) → (slot ≡ j → ⊥) → slot_of now j ≡ slot_of notes j
@@ -37,11 +39,12 @@ pub record TurnIs (slot : ℕ) (notes now : List Note) (window : Window) : Type 
 turn_of : (b : Bool) (slot tick : ℕ) (notes : List Note) → TurnIs slot notes (if b then turned slot tick ∷ notes else notes) (if b then record { start = tick; charged = 0 } else window_of notes slot)
 turn_of true slot tick notes = record {
   begins = ap (λ b. record { start = if b then tick else start_of notes slot; charged = if b then 0 else charged_of notes slot }) (same slot);
+  cost = refl;
   scheme = refl;
   counted = λ s. refl;
   others = λ j apart. turned-other slot tick j notes apart;
 }
-turn_of false slot tick notes = record { begins = refl; scheme = refl; counted = λ s. refl; others = λ j apart. refl }
+turn_of false slot tick notes = record { begins = refl; cost = refl; scheme = refl; counted = λ s. refl; others = λ j apart. refl }
 
 pub turn_is : (slot tick : ℕ) (quota : Option Quota) (notes : List Note) → TurnIs slot notes (with_turn slot tick quota notes) (window_at tick quota (window_of notes slot))
 turn_is slot tick None notes = turn_of false slot tick notes
@@ -56,24 +59,25 @@ record AsServed (slot : ℕ) (regions : RegionList) (notes : List Note) (x : Ser
   pub others : (j : ℕ) → (slot ≡ j → ⊥) → slot_of y.notes j ≡ slot_of notes j
   pub tiled : AreTiled (record regions { rows = y.rows })
 
--- a set slot of the engine that is served, by whether it is active and by its window
-abbrev set_served : ℕ → List Target → ℕ → RegionList → Scheme → SetScheme → Bool → Window → ServedSlot
-set_served slot space aggr regions scheme h active window =
-    let s : SlotValue = record { set = Some h; window = window } in
-    if active then slot_run slot (left_of scheme.quota window.charged) s (outcome_of slot space aggr scheme (left_of scheme.quota window.charged) regions)
+-- a set slot of the engine that is served, by whether it is active, and by its window and cost
+abbrev set_served : ℕ → List Target → ℕ → RegionList → Scheme → SetScheme → Bool → Window → Cost → ServedSlot
+set_served slot space aggr regions scheme h active window cost =
+    let s : SlotValue = record { set = Some h; window = window; cost = cost } in
+    let left = left_of scheme.quota cost window.charged in
+    if active then slot_run slot left s (outcome_of slot space aggr scheme left regions)
     else record { slot = s; rows = regions.rows; runs = []; choices = no_choice slot ∷ [] }
 
 -- the same by the notes
 abbrev notes_served : ℕ → List Target → ℕ → ℕ → RegionList → List Note → Scheme → Bool → Serving
 notes_served slot space aggr tick regions now scheme active =
-    let left = left_of scheme.quota (charged_of now slot) in
+    let left = left_of scheme.quota (cost_of now slot) (charged_of now slot) in
     if active then run_served slot tick left now (outcome_of slot space aggr scheme left regions)
     else record { rows = regions.rows; notes = now; runs = []; choices = no_choice slot ∷ [] }
 
 set_alike : OutcomeLaws → (slot : ℕ) (space : List Target) (aggr tick : ℕ) (regions : RegionList) (notes now : List Note) (scheme : Scheme) (window : Window) (active : Bool) → AreTiled regions → scheme_of notes slot ≡ Some scheme → TurnIs slot notes now window
-    → AsServed slot regions notes (set_served slot space aggr regions scheme (set_scheme_of notes slot scheme) active (window_of now slot)) (notes_served slot space aggr tick regions now scheme active)
+    → AsServed slot regions notes (set_served slot space aggr regions scheme (set_scheme_of notes slot scheme) active (window_of now slot) (cost_of now slot)) (notes_served slot space aggr tick regions now scheme active)
 set_alike laws slot space aggr tick regions notes now scheme window true tiled is turn =
-    let left = left_of scheme.quota (charged_of now slot) in
+    let left = left_of scheme.quota (cost_of now slot) (charged_of now slot) in
     let o = outcome_of slot space aggr scheme left regions in
     record {
       slots =
@@ -87,14 +91,14 @@ set_alike laws slot space aggr tick regions notes now scheme window true tiled i
       tiled = laws.tiled slot aggr space scheme left regions tiled;
     }
   where
-    set_here : (slot : ℕ) (notes now : List Note) (scheme : Scheme) (window : Window) → scheme_of notes slot ≡ Some scheme → TurnIs slot notes now window → record { set = Some (set_scheme_of notes slot scheme); window = window_of now slot } ≡ slot_of now slot
+    set_here : (slot : ℕ) (notes now : List Note) (scheme : Scheme) (window : Window) → scheme_of notes slot ≡ Some scheme → TurnIs slot notes now window → record { set = Some (set_scheme_of notes slot scheme); window = window_of now slot; cost = cost_of now slot } ≡ slot_of now slot
     set_here slot notes now scheme window is turn =
-        ap (λ (h : SetScheme). record { set = Some h; window = window_of now slot }) (sym (turn.counted scheme))
-        ∙ ap (λ (o : Option Scheme). record { set = option_map (λ s. set_scheme_of now slot s) o; window = window_of now slot }) (sym (turn.scheme ∙ is))
+        ap (λ (h : SetScheme). record { set = Some h; window = window_of now slot; cost = cost_of now slot }) (sym (turn.counted scheme))
+        ∙ ap (λ (o : Option Scheme). record { set = option_map (λ s. set_scheme_of now slot s) o; window = window_of now slot; cost = cost_of now slot }) (sym (turn.scheme ∙ is))
 set_alike laws slot space aggr tick regions notes now scheme window false tiled is turn = record {
   slots =
-      ap (λ (h : SetScheme). record { set = Some h; window = window_of now slot }) (sym (turn.counted scheme))
-      ∙ ap (λ (o : Option Scheme). record { set = option_map (λ s. set_scheme_of now slot s) o; window = window_of now slot }) (sym (turn.scheme ∙ is));
+      ap (λ (h : SetScheme). record { set = Some h; window = window_of now slot; cost = cost_of now slot }) (sym (turn.counted scheme))
+      ∙ ap (λ (o : Option Scheme). record { set = option_map (λ s. set_scheme_of now slot s) o; window = window_of now slot; cost = cost_of now slot }) (sym (turn.scheme ∙ is));
   rows = refl;
   runs = refl;
   choices = refl;
@@ -104,7 +108,7 @@ set_alike laws slot space aggr tick regions notes now scheme window false tiled 
 
 -- a slot of the engine, by its scheme
 abbrev slot_by : ℕ → List Note → Option Scheme → SlotValue
-slot_by slot notes o = record { set = option_map (λ s. set_scheme_of notes slot s) o; window = window_of notes slot }
+slot_by slot notes o = record { set = option_map (λ s. set_scheme_of notes slot s) o; window = window_of notes slot; cost = cost_of notes slot }
 
 by_scheme : OutcomeLaws → (slot : ℕ) (space : List Target) (aggr tick : ℕ) (regions : RegionList) (notes : List Note) (o : Option Scheme) → AreTiled regions → scheme_of notes slot ≡ o
     → AsServed slot regions notes (slot_served slot space aggr tick regions (slot_by slot notes o)) (option_map_or (serve_scheme slot space aggr tick regions notes) o (nothing_served regions notes))
@@ -121,8 +125,11 @@ by_scheme laws slot space aggr tick regions notes (Some scheme) tiled is =
     let turn = turn_is slot tick scheme.quota notes in
     let active : is_active_in now slot scheme ≡ is_active_in notes slot scheme = ap (λ (h : SetScheme). h.gauge.active) (turn.counted scheme) in
     let alike = set_alike laws slot space aggr tick regions notes now scheme (window_at tick scheme.quota (window_of notes slot)) (is_active_in now slot scheme) tiled is turn in
-    subst (λ (w : Window). AsServed slot regions notes (set_served slot space aggr regions scheme (set_scheme_of notes slot scheme) (is_active_in notes slot scheme) w) (serve_scheme slot space aggr tick regions notes scheme)) turn.begins
-    (subst (λ b. AsServed slot regions notes (set_served slot space aggr regions scheme (set_scheme_of notes slot scheme) b (window_of now slot)) (serve_scheme slot space aggr tick regions notes scheme)) active alike)
+    let served : Bool → Window → Cost → ServedSlot = λ b w cost. set_served slot space aggr regions scheme (set_scheme_of notes slot scheme) b w cost in
+    let AsHere : ServedSlot → Type 0 = λ x. AsServed slot regions notes x (serve_scheme slot space aggr tick regions notes scheme) in
+    subst (λ (w : Window). AsHere (served (is_active_in notes slot scheme) w (cost_of notes slot))) turn.begins
+    (subst (λ (k : Cost). AsHere (served (is_active_in notes slot scheme) (window_of now slot) k)) turn.cost
+    (subst (λ b. AsHere (served b (window_of now slot) (cost_of now slot))) active alike))
 
 one_alike : OutcomeLaws → (slot : ℕ) (space : List Target) (aggr tick : ℕ) (regions : RegionList) (notes : List Note) → AreTiled regions
     → AsServed slot regions notes (slot_served slot space aggr tick regions (slot_of notes slot)) (serve_slot slot space aggr tick regions notes)

@@ -3,6 +3,7 @@ use Rattle.std.specs.Prelude.{◌≡◌, ℕ, ◌+◌, Bool, false, List, length
 use Rattle.std.proofs.Common.{◌∙◌, ap}
 use Rattle.damon_types.specs.declared.attrs.Attrs.{Attrs}
 use Rattle.damon_types.specs.declared.row.Row.{Row}
+use Rattle.damon_types.specs.declared.scheme.Version.{Version}
 use Rattle.damon_types.specs.declared.space.Target.{Target}
 use Rattle.aggregator.specs.Cleared.{cleared}
 use Rattle.aggregator.specs.Threshold.{threshold}
@@ -26,9 +27,10 @@ use Rattle.damon_core.specs.After.{prepared_core, cleared_core, loaded_core, pas
 use Rattle.damon_core.specs.Stands.{MonitorView}
 
 -- what a monitor shows by its parts
-abbrev pub shown : List Target → Attrs → SamplingView → Clock → Totals → ReportValue → List SlotValue → MonitorView
-shown space attrs sampling clock totals report slots = record {
+abbrev pub shown : Version → List Target → Attrs → SamplingView → Clock → Totals → ReportValue → List SlotValue → MonitorView
+shown version space attrs sampling clock totals report slots = record {
   core = record {
+    version = version;
     space = space;
     attrs = attrs;
     regions = sampling.regions;
@@ -119,17 +121,17 @@ abbrev pub serves : List Target → Attrs → Clock → SamplingView → List Sl
 serves space attrs k s slots = slots_served 0 space attrs.aggr k.ticks s.regions slots
 
 -- the parts of a monitor after each step of an aggregation, together
-pub aggregated_view : (space : List Target) (attrs : Attrs) (k : Clock) (totals : Totals) (ws : List ℕ) (s0 s1 s2 s3 : SamplingView) (r0 r1 r2 : ReportValue) (slots0 slots1 : List SlotValue) (t : ℕ)
-    → s1 ≡ record s0 { regions = merged_regions (shown space attrs s0 k totals r0 slots0).core }
+pub aggregated_view : (version : Version) (space : List Target) (attrs : Attrs) (k : Clock) (totals : Totals) (ws : List ℕ) (s0 s1 s2 s3 : SamplingView) (r0 r1 r2 : ReportValue) (slots0 slots1 : List SlotValue) (t : ℕ)
+    → s1 ≡ record s0 { regions = merged_regions (shown version space attrs s0 k totals r0 slots0).core }
     → s2 ≡ with_rows (serves space attrs k s1 slots0).rows s1
     → slots1 ≡ (serves space attrs k s1 slots0).slots
     → r1 ≡ with_applied (serves space attrs k s1 slots0) r0
     → t ≡ threshold s0.regions.rows
     → r2 ≡ with_kept k.ticks t s2.regions.rows r1
     → s3 ≡ split_then ws s2
-    → shown space attrs s3 (record { ticks = k.ticks; since = 0 }) totals r2 slots1 ≡ after_aggregate ws (shown space attrs s0 k totals r0 slots0)
-aggregated_view space attrs k totals ws s0 s1 s2 s3 r0 r1 r2 slots0 slots1 t e1 e2 eslots er1 et er2 e3 =
-    let F : SamplingView → ReportValue → List SlotValue → MonitorView = λ s r slots. shown space attrs s (record { ticks = k.ticks; since = 0 }) totals r slots in
+    → shown version space attrs s3 (record { ticks = k.ticks; since = 0 }) totals r2 slots1 ≡ after_aggregate ws (shown version space attrs s0 k totals r0 slots0)
+aggregated_view version space attrs k totals ws s0 s1 s2 s3 r0 r1 r2 slots0 slots1 t e1 e2 eslots er1 et er2 e3 =
+    let F : SamplingView → ReportValue → List SlotValue → MonitorView = λ s r slots. shown version space attrs s (record { ticks = k.ticks; since = 0 }) totals r slots in
     ap (λ (s : SamplingView). F s r2 slots1) e3
     ∙ ap (λ (r : ReportValue). F (split_then ws s2) r slots1) er2
     ∙ ap (λ (s : SamplingView). F (split_then ws s) (with_kept k.ticks t s.regions.rows r1) slots1) e2

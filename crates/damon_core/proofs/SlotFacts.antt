@@ -2,12 +2,13 @@
 use Rattle.std.proofs.Common.{◌≡◌, ℕ, zero, suc, ◌+◌, ◌-◌, ◌*◌, ◌^◌, ◌<◌, ◌≤◌, List, [], ◌∷◌, map, set as put, get_or, Option, Some, None, refl, subst, arith}
 use Rattle.std.specs.Prelude.{IfSome, replicate}
 use Rattle.std.specs.List.{AllByRecursion}
+use Rattle.damon_types.specs.declared.scheme.CostPart.{CostPart}
 use Rattle.damon_types.specs.declared.scheme.Scheme.{Scheme}
 use Rattle.damon_types.specs.declared.scheme.SlotChange.{SlotChange}
 use Rattle.live_commit.specs.Commit.{CommitValue}
 use Rattle.scheme_engine.specs.Kept.{CountsWithin, StartBy}
-use Rattle.scheme_engine.specs.Slots.{SetScheme, SlotValue, changed, empty_slot, metered}
-use Rattle.damon_core.specs.Commit.{committed_slots, slots_changed, slots_metered}
+use Rattle.scheme_engine.specs.Slots.{SetScheme, SlotValue, changed, costed, empty_slot, metered}
+use Rattle.damon_core.specs.Commit.{committed_slots, slots_changed, slots_costed, slots_metered}
 use Rattle.damon_core.specs.Kept.{IsServing, IsUnused}
 use Rattle.damon_core.specs.declared.clock.Clock.{Clock}
 
@@ -51,24 +52,28 @@ counts_more t u more s few = record {
   applied = counts_of_more t u more s.set (λ h. h.applied) few.applied;
   exceeds = exceeds_of_more t u more s.set few.exceeds;
   charged = omega (arith, few.charged);
+  cost = omega (arith, few.cost);
 }
 
 pub all_counts_more : (t u : ℕ) → t ≤ u → (ss : List SlotValue) → AllByRecursion (CountsWithin t) ss → AllByRecursion (CountsWithin u) ss
 all_counts_more t u more = all_weaker (CountsWithin t) (CountsWithin u) (counts_more t u more)
 
 counts_changed : (t : ℕ) (scheme : Option Scheme) (s : SlotValue) → CountsWithin t s → CountsWithin t (changed scheme s)
-counts_changed t None s few = record { tried = tt; applied = tt; exceeds = tt; charged = few.charged }
-counts_changed t (Some scheme) s few = record { tried = omega arith; applied = omega arith; exceeds = omega arith; charged = few.charged }
+counts_changed t None s few = record { tried = tt; applied = tt; exceeds = tt; charged = few.charged; cost = few.cost }
+counts_changed t (Some scheme) s few = record { tried = omega arith; applied = omega arith; exceeds = omega arith; charged = few.charged; cost = few.cost }
 
 counts_metered : (t value : ℕ) (s : SlotValue) → CountsWithin t s → CountsWithin t (metered value s)
 counts_metered t value s few = by_set s.set few.tried few.applied few.exceeds
   where
-    by_set : (o : Option SetScheme) → IfSome o (λ h. h.tried ≤ 1048576 * t) → IfSome o (λ h. h.applied ≤ 1048576 * t) → IfSome o (λ h. h.exceeds ≤ t) → CountsWithin t (metered value (record { set = o; window = s.window }))
-    by_set None tried applied exceeds = record { tried = tt; applied = tt; exceeds = tt; charged = few.charged }
-    by_set (Some h) tried applied exceeds = record { tried = tried; applied = applied; exceeds = exceeds; charged = few.charged }
+    by_set : (o : Option SetScheme) → IfSome o (λ h. h.tried ≤ 1048576 * t) → IfSome o (λ h. h.applied ≤ 1048576 * t) → IfSome o (λ h. h.exceeds ≤ t) → CountsWithin t (metered value (record { set = o; window = s.window; cost = s.cost }))
+    by_set None tried applied exceeds = record { tried = tt; applied = tt; exceeds = tt; charged = few.charged; cost = few.cost }
+    by_set (Some h) tried applied exceeds = record { tried = tried; applied = applied; exceeds = exceeds; charged = few.charged; cost = few.cost }
 
 counts_empty : (t : ℕ) → CountsWithin t empty_slot
-counts_empty t = record { tried = tt; applied = tt; exceeds = tt; charged = omega arith }
+counts_empty t = record { tried = tt; applied = tt; exceeds = tt; charged = omega arith; cost = omega arith }
+
+counts_costed : (t nanos : ℕ) (s : SlotValue) → CountsWithin t s → CountsWithin t (costed nanos s)
+counts_costed t nanos s few = record { tried = few.tried; applied = few.applied; exceeds = few.exceeds; charged = few.charged; cost = few.cost }
 
 pub unused_empty : IsUnused empty_slot
 unused_empty = record { window = refl; counts = counts_empty 0 }
@@ -86,15 +91,28 @@ slots_of_metric : (P : SlotValue → Type 0) → ((value : ℕ) (s : SlotValue) 
 slots_of_metric P keeps None slots all = all
 slots_of_metric P keeps (Some value) slots all = all_mapped P (metered value) (keeps value) slots all
 
-slots_of_commit : (P : SlotValue → Type 0) → P empty_slot → ((scheme : Option Scheme) (s : SlotValue) → P s → P (changed scheme s)) → ((value : ℕ) (s : SlotValue) → P s → P (metered value s)) → (c : CommitValue) (slots : List SlotValue) → AllByRecursion P slots → AllByRecursion P (committed_slots c slots)
-slots_of_commit P empty changes meters c slots all = slots_of_metric P meters c.metric (slots_changed c.slot slots) (slots_of_change P empty changes c.slot slots all)
+slots_of_cost : (P : SlotValue → Type 0) → P empty_slot → ((nanos : ℕ) (s : SlotValue) → P s → P (costed nanos s)) → (part : Option CostPart) (slots : List SlotValue) → AllByRecursion P slots → AllByRecursion P (slots_costed part slots)
+slots_of_cost P empty keeps None slots all = all
+slots_of_cost P empty keeps (Some p) slots all = all_changed P slots p.slot (costed p.nanos (get_or slots p.slot empty_slot)) (keeps p.nanos (get_or slots p.slot empty_slot) (one_of_all P slots p.slot empty_slot empty all)) all
+
+-- a fact of each slot that the parts of a commit keep
+record KeptByCommits (P : SlotValue → Type 0) : Type 0 where
+  pub empty : P empty_slot
+  pub changes : (scheme : Option Scheme) (s : SlotValue) → P s → P (changed scheme s)
+  pub meters : (value : ℕ) (s : SlotValue) → P s → P (metered value s)
+  pub costs : (nanos : ℕ) (s : SlotValue) → P s → P (costed nanos s)
+
+slots_of_commit : (P : SlotValue → Type 0) → KeptByCommits P → (c : CommitValue) (slots : List SlotValue) → AllByRecursion P slots → AllByRecursion P (committed_slots c slots)
+slots_of_commit P kept c slots all =
+    slots_of_cost P kept.empty kept.costs c.cost (slots_metered c.metric (slots_changed c.slot slots))
+    (slots_of_metric P kept.meters c.metric (slots_changed c.slot slots) (slots_of_change P kept.empty kept.changes c.slot slots all))
 
 pub serving_committed : (clock : Clock) (c : CommitValue) (slots : List SlotValue) → IsServing clock slots → IsServing clock (committed_slots c slots)
 serving_committed clock c slots was = record {
   since_ticks = was.since_ticks;
   ticks_few = was.ticks_few;
-  windows = slots_of_commit (λ s. s.window.start ≤ clock.ticks) (omega arith) (λ scheme s at. at) (λ value s at. at) c slots was.windows;
-  served = slots_of_commit (CountsWithin (clock.ticks - clock.since)) (counts_empty (clock.ticks - clock.since)) (counts_changed (clock.ticks - clock.since)) (λ value s few. counts_metered (clock.ticks - clock.since) value s few) c slots was.served;
+  windows = slots_of_commit (λ s. s.window.start ≤ clock.ticks) (record { empty = omega arith; changes = λ scheme s at. at; meters = λ value s at. at; costs = λ nanos s at. at }) c slots was.windows;
+  served = (let t : ℕ = clock.ticks - clock.since in slots_of_commit (CountsWithin t) (record { empty = counts_empty t; changes = counts_changed t; meters = counts_metered t; costs = counts_costed t }) c slots was.served);
 }
 
 -- ---- passes and aggregations

@@ -1,5 +1,5 @@
--- What the notes say of the slots once there is a note more of a set or dropped slot, of a metric, of a window, or of a run.
-use Rattle.std.proofs.Common.{◌≡◌, ℕ, zero, suc, ◌+◌, ◌<◌, ◌≤◌, Bool, true, false, List, [], ◌∷◌, ◌++◌, map, set as put, get_or, Option, Some, None, refl, sym, ap, ◌∙◌, cond, arith}
+-- What the notes say of the slots once there is a note more of a set or dropped slot, of a metric, of a cost, of a window, or of a run.
+use Rattle.std.proofs.Common.{◌≡◌, ℕ, zero, suc, ◌+◌, ◌-◌, ◌^◌, ◌<◌, ◌≤◌, min, Bool, true, false, List, [], ◌∷◌, ◌++◌, map, set as put, get_or, Option, Some, None, refl, sym, ap, ◌∙◌, cond, arith}
 use Rattle.std.specs.Prelude.{◌==◌, if◌then◌else◌, replicate}
 use Rattle.std.specs.List.{range_with_len}
 use Rattle.std.specs.Option.{option_map}
@@ -12,9 +12,9 @@ use Rattle.watermarks.specs.Active.{after_metric, is_active}
 use Rattle.scheme_engine.specs.declared.applied.AppliedRun.{AppliedRun}
 use Rattle.scheme_engine.specs.declared.slot.TheConstants.{SLOTS}
 use Rattle.scheme_engine.specs.Served.{scheme_counted, slot_counted}
-use Rattle.scheme_engine.specs.Slots.{SetScheme, SlotValue, changed, empty_slot, metered, scheme_metered}
-use Rattle.damon_core.specs.Note.{Note, set, dropped, metric, turned, ran}
-use Rattle.damon_core.specs.Slots.{charged_of, is_active_in, metrics_of, pages_in, scheme_of, set_scheme_of, slot_count, slot_of, slots_of, start_of, tried_of, applied_of, exceeds_of}
+use Rattle.scheme_engine.specs.Slots.{SetScheme, SlotValue, changed, costed, empty_slot, metered, scheme_metered}
+use Rattle.damon_core.specs.Note.{Note, set, dropped, metric, turned, ran, cost}
+use Rattle.damon_core.specs.Slots.{charged_of, cost_of, is_active_in, metrics_of, nanos_measured, pages_in, pages_of_runs, scheme_of, set_scheme_of, slot_count, slot_of, slots_of, start_of, tried_of, applied_of, exceeds_of}
 
 pub differ : (i j : ℕ) → (i ≡ j → ⊥) → (i == j) ≡ false
 differ i j apart = grind (arith, nat_tests)
@@ -28,6 +28,7 @@ abbrev turned_if : Bool → ℕ → List Note → ℕ → SlotValue
 turned_if b tick notes j = record {
   set = option_map (λ scheme. set_scheme_of notes j scheme) (scheme_of notes j);
   window = record { start = if b then tick else start_of notes j; charged = if b then 0 else charged_of notes j };
+  cost = cost_of notes j;
 }
 
 pub turned-other : (i tick j : ℕ) (notes : List Note) → (i ≡ j → ⊥) → slot_of (turned i tick ∷ notes) j ≡ slot_of notes j
@@ -48,6 +49,7 @@ ran_if b tried runs exceeds notes j = record {
     exceeds = if b then exceeds_of notes j + cond exceeds 1 0 else exceeds_of notes j;
   }) (scheme_of notes j);
   window = record { start = start_of notes j; charged = if b then charged_of notes j + pages_in runs else charged_of notes j };
+  cost = record { pages = if b then pages_of_runs notes j + pages_in runs else pages_of_runs notes j; nanos = (cost_of notes j).nanos };
 }
 
 pub ran-other : (i tick tried : ℕ) (runs : List AppliedRun) (exceeds : Bool) (j : ℕ) (notes : List Note) → (i ≡ j → ⊥) → slot_of (ran i tick tried runs exceeds ∷ notes) j ≡ slot_of notes j
@@ -62,7 +64,7 @@ counted-map tried taken exceeds notes i (Some scheme) = refl
 pub ran-same : (i tick tried : ℕ) (runs : List AppliedRun) (exceeds : Bool) (notes : List Note) → slot_of (ran i tick tried runs exceeds ∷ notes) i ≡ slot_counted tried (pages_in runs) exceeds (slot_of notes i)
 ran-same i tick tried runs exceeds notes =
     ap (λ b. ran_if b tried runs exceeds notes i) (same i)
-    ∙ ap (λ (h : Option SetScheme). record { set = h; window = record { start = start_of notes i; charged = charged_of notes i + pages_in runs } }) (counted-map tried (pages_in runs) exceeds notes i (scheme_of notes i))
+    ∙ ap (λ (h : Option SetScheme). record { set = h; window = record { start = start_of notes i; charged = charged_of notes i + pages_in runs }; cost = record (cost_of notes i) { pages = pages_of_runs notes i + pages_in runs } }) (counted-map tried (pages_in runs) exceeds notes i (scheme_of notes i))
 
 -- ---- a slot is set or dropped
 
@@ -76,6 +78,7 @@ set_if b scheme notes j = record {
     exceeds = if b then 0 else exceeds_of notes j;
   }) (if b then Some scheme else scheme_of notes j);
   window = record { start = start_of notes j; charged = charged_of notes j };
+  cost = cost_of notes j;
 }
 
 set-other : (i j : ℕ) (scheme : Scheme) (notes : List Note) → (i ≡ j → ⊥) → slot_of (set i scheme ∷ notes) j ≡ slot_of notes j
@@ -88,6 +91,7 @@ abbrev dropped_if : Bool → List Note → ℕ → SlotValue
 dropped_if b notes j = record {
   set = option_map (λ scheme. set_scheme_of notes j scheme) (if b then None else scheme_of notes j);
   window = record { start = start_of notes j; charged = charged_of notes j };
+  cost = cost_of notes j;
 }
 
 dropped-other : (i j : ℕ) (notes : List Note) → (i ≡ j → ⊥) → slot_of (dropped i ∷ notes) j ≡ slot_of notes j
@@ -146,7 +150,7 @@ metered-set law value j notes (Some s) =
 
 slot_of-metric : DecidesInTurn → (value j : ℕ) (notes : List Note) → slot_of (metric value ∷ notes) j ≡ metered value (slot_of notes j)
 slot_of-metric law value j notes =
-    ap (λ (h : Option SetScheme). record { set = h; window = record { start = start_of notes j; charged = charged_of notes j } }) (metered-set law value j notes (scheme_of notes j))
+    ap (λ (h : Option SetScheme). record { set = h; window = record { start = start_of notes j; charged = charged_of notes j }; cost = cost_of notes j }) (metered-set law value j notes (scheme_of notes j))
 
 map_metered : DecidesInTurn → (value : ℕ) (notes : List Note) (js : List ℕ) → map (slot_of (metric value ∷ notes)) js ≡ map (metered value) (map (slot_of notes) js)
 map_metered law value notes [] = refl
@@ -155,6 +159,30 @@ map_metered law value notes (j ∷ js) =
 
 pub slots_of-metric : DecidesInTurn → (value : ℕ) (notes : List Note) → slots_of (metric value ∷ notes) ≡ map (metered value) (slots_of notes)
 slots_of-metric law value notes = map_metered law value notes (range_with_len 0 slot_count)
+
+-- ---- a cost
+
+-- a sum that stops at a limit, once more is added to it
+min_more : (sum more most : ℕ) → min (sum + more) most ≡ min (min sum most + more) most
+min_more sum more most = omega arith
+
+abbrev cost_if : Bool → ℕ → List Note → ℕ → SlotValue
+cost_if b nanos notes j = record {
+  set = option_map (λ scheme. set_scheme_of notes j scheme) (scheme_of notes j);
+  window = record { start = start_of notes j; charged = charged_of notes j };
+  cost = record { pages = pages_of_runs notes j; nanos = min (if b then nanos_measured notes j + nanos else nanos_measured notes j) (2 ^ 64 - 1) };
+}
+
+cost-other : (i nanos j : ℕ) (notes : List Note) → (i ≡ j → ⊥) → slot_of (cost i nanos ∷ notes) j ≡ slot_of notes j
+cost-other i nanos j notes apart = ap (λ b. cost_if b nanos notes j) (differ i j apart)
+
+cost-same : (i nanos : ℕ) (notes : List Note) → slot_of (cost i nanos ∷ notes) i ≡ costed nanos (slot_of notes i)
+cost-same i nanos notes =
+    ap (λ b. cost_if b nanos notes i) (same i)
+    ∙ ap (λ n. record (slot_of notes i) { cost = record (cost_of notes i) { nanos = n } }) (min_more (nanos_measured notes i) nanos (2 ^ 64 - 1))
+
+pub slots_of-cost : (i nanos : ℕ) (notes : List Note) → i < slot_count → slots_of (cost i nanos ∷ notes) ≡ put (slots_of notes) i (costed nanos (get_or (slots_of notes) i empty_slot))
+slots_of-cost i nanos notes below = one_slot notes (cost i nanos ∷ notes) i _ below (cost-same i nanos notes ∙ ap (costed nanos) (sym (slot_at notes i below))) (λ j apart. cost-other i nanos j notes apart)
 
 -- ---- no notes
 

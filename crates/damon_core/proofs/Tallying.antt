@@ -6,7 +6,7 @@ use Rattle.std.proofs.lemmas.Bool.Decides.{nat_tests}
 use Rattle.live_commit.specs.declared.phase.Phase.{Phase}
 use Rattle.live_commit.specs.declared.phase.Phase.TheVariants.{Idle, Clearing, Armed, Checking, Void, Due}
 use Rattle.live_commit.specs.Commit.{CommitValue}
-use Rattle.damon_core.specs.Note.{Note, touched, cleared, checked, finished, voided, set, dropped, metric, turned, ran, was_hit}
+use Rattle.damon_core.specs.Note.{Note, touched, cleared, checked, finished, voided, set, dropped, metric, turned, ran, cost, was_hit}
 use Rattle.damon_core.specs.Totals.{pass_checks, pass_hits}
 use Rattle.damon_core.specs.State.{State, row_count, opening_notes}
 use Rattle.damon_core.specs.Event.{IsLoading, load_index}
@@ -60,13 +60,13 @@ early_load s i hit is early = record {
 
 -- the notes of a commit say nothing of checks
 pub was_hit-commit : (c : CommitValue) (notes : List Note) (n k : ℕ) → was_hit (committed_notes c notes) n k ≡ was_hit notes n k
-was_hit-commit c notes n k = committed_notes_hold (λ ns. was_hit ns n k ≡ was_hit notes n k) (λ slot scheme ns same. same) (λ slot ns same. same) (λ value ns same. same) c notes refl
+was_hit-commit c notes n k = committed_notes_hold (λ ns. was_hit ns n k ≡ was_hit notes n k) (λ slot scheme ns same. same) (λ slot ns same. same) (λ value ns same. same) (λ slot nanos ns same. same) c notes refl
 
 pass_checks-commit : (c : CommitValue) (notes : List Note) (n : ℕ) → pass_checks (committed_notes c notes) n ≡ pass_checks notes n
-pass_checks-commit c notes n = committed_notes_hold (λ ns. pass_checks ns n ≡ pass_checks notes n) (λ slot scheme ns same. same) (λ slot ns same. same) (λ value ns same. same) c notes refl
+pass_checks-commit c notes n = committed_notes_hold (λ ns. pass_checks ns n ≡ pass_checks notes n) (λ slot scheme ns same. same) (λ slot ns same. same) (λ value ns same. same) (λ slot nanos ns same. same) c notes refl
 
 pass_hits-commit : (c : CommitValue) (notes : List Note) (n : ℕ) → pass_hits (committed_notes c notes) n ≡ pass_hits notes n
-pass_hits-commit c notes n = committed_notes_hold (λ ns. pass_hits ns n ≡ pass_hits notes n) (λ slot scheme ns same. same) (λ slot ns same. same) (λ value ns same. same) c notes refl
+pass_hits-commit c notes n = committed_notes_hold (λ ns. pass_hits ns n ≡ pass_hits notes n) (λ slot scheme ns same. same) (λ slot ns same. same) (λ value ns same. same) (λ slot nanos ns same. same) c notes refl
 
 -- nor do those of an aggregation
 pub was_hit-served : (s : State) (n k : ℕ) → was_hit (served s).notes n k ≡ was_hit s.notes n k
@@ -158,6 +158,7 @@ pass_hits_le (dropped slot ∷ notes) n = pass_hits_le notes n
 pass_hits_le (metric v ∷ notes) n = pass_hits_le notes n
 pass_hits_le (turned slot tick ∷ notes) n = pass_hits_le notes n
 pass_hits_le (ran slot tick tried runs exceeds ∷ notes) n = pass_hits_le notes n
+pass_hits_le (cost slot nanos ∷ notes) n = pass_hits_le notes n
 
 -- how many of the first checks of a pass were hits
 abbrev pub hits_below : List Note → ℕ → ℕ → ℕ

@@ -25,7 +25,7 @@ merge_limit c = max c.regions.unit (page_total c.regions.ranges / c.attrs.min)
 abbrev pub merged_regions : Core → RegionList
 merged_regions c =
     let t = threshold c.regions.rows in
-    record c.regions { rows = merged c.regions.ranges t (merge_limit c) (aged t c.regions.rows) }
+    record c.regions { rows = merged c.regions.ranges t (merge_limit c) (aged t c.version c.regions.rows) }
 
 -- What a monitor shows after an aggregation that reports these rows, runs and choices: the counts are cleared, and random words
 -- split the rows. `before` is the number of rows at the start of this split.

@@ -7,7 +7,7 @@ use Rattle.damon_types.specs.declared.scheme.Scheme.{Scheme}
 use Rattle.quota_charge.specs.Quota.{effective_pages}
 use Rattle.scheme_engine.specs.declared.applied.AppliedRun.{AppliedRun}
 use Rattle.damon_core.specs.Note.{Note, checked, finished, voided, ran, clears_of, checks_of, touched_after_clear}
-use Rattle.damon_core.specs.Slots.{charged_of, is_active_in, pages_in, scheme_of}
+use Rattle.damon_core.specs.Slots.{charged_of, cost_of, is_active_in, pages_in, scheme_of}
 use Rattle.damon_core.specs.State.{State, row_count}
 
 -- page k lies in row k, for each row
@@ -38,12 +38,12 @@ EachHitRests (checked n k p true ∷ earlier) = (touched_after_clear earlier n k
 EachHitRests (_ ∷ earlier) = EachHitRests earlier
 
 -- A run of a slot's scheme, after these notes: the slot is set and active, and where its scheme has a quota and is applied to a
--- page, the pages charged to the slot with these are at most the effective quota.
+-- page, the pages charged to the slot with these are at most the effective quota, by the cost before this run.
 pub record IsRunWithin (earlier : List Note) (slot : ℕ) (runs : List AppliedRun) : Type 0 where
   pub scheme : Scheme
   pub is_set : scheme_of earlier slot ≡ Some scheme
   pub active : is_active_in earlier slot scheme ≡ true
-  pub within : 1 ≤ pages_in runs → IfSome scheme.quota (λ q. charged_of earlier slot + pages_in runs ≤ effective_pages q)
+  pub within : 1 ≤ pages_in runs → IfSome scheme.quota (λ q. charged_of earlier slot + pages_in runs ≤ effective_pages q (cost_of earlier slot))
 
 -- each run of a scheme is one
 abbrev pub EachRunIsWithin : List Note → Type 0

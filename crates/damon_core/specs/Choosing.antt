@@ -1,5 +1,5 @@
 -- What schemes are applied to in an aggregation, slot by slot.
-use Rattle.std.specs.Prelude.{◌≡◌, ℕ, zero, suc, ◌+◌, true, false, List, [], ◌∷◌, Some, None}
+use Rattle.std.specs.Prelude.{◌≡◌, ℕ, zero, suc, ◌+◌, true, false, List, [], ◌∷◌, Option, Some, None}
 use Rattle.damon_types.specs.declared.scheme.Scheme.{Scheme}
 use Rattle.damon_types.specs.declared.space.Target.{Target}
 use Rattle.region_list.specs.Regions.{RegionList}
@@ -10,15 +10,21 @@ use Rattle.scheme_engine.specs.Served.{choice_of, no_choice}
 use Rattle.damon_core.specs.Note.{Note}
 use Rattle.damon_core.specs.Aggregate.{merged_regions}
 use Rattle.damon_core.specs.Serve.{Serving, serve_slot, with_turn}
-use Rattle.damon_core.specs.Slots.{charged_of, is_active_in, scheme_of, slot_count}
+use Rattle.damon_core.specs.Slots.{charged_of, cost_of, is_active_in, scheme_of, slot_count}
 use Rattle.damon_core.specs.State.{State}
+
+-- what is left of the quota of a slot's scheme at a tick, once its window may have begun anew
+abbrev pub left_then : ℕ → ℕ → List Note → Scheme → Option ℕ
+left_then slot tick notes scheme =
+    let now = with_turn slot tick scheme.quota notes in
+    left_of scheme.quota (cost_of now slot) (charged_of now slot)
 
 -- An active scheme is applied to the best choice within what is left of its quota, once its window may have begun anew.
 pub record AppliesBest (slot : ℕ) (space : List Target) (aggr tick : ℕ) (regions : RegionList) (notes : List Note) (scheme : Scheme) (y : Serving) : Type 0 where
   pub outcome : Outcome
-  pub best : IsBestRun slot space aggr scheme (left_of scheme.quota (charged_of (with_turn slot tick scheme.quota notes) slot)) regions outcome
+  pub best : IsBestRun slot space aggr scheme (left_then slot tick notes scheme) regions outcome
   pub runs : y.runs ≡ outcome.runs
-  pub choices : y.choices ≡ choice_of slot (left_of scheme.quota (charged_of (with_turn slot tick scheme.quota notes) slot)) outcome ∷ []
+  pub choices : y.choices ≡ choice_of slot (left_then slot tick notes scheme) outcome ∷ []
 
 -- Serving a slot that is not set applies nothing; one that is set but not active applies nothing, and its choice says so; one that
 -- is set and active applies the best choice.

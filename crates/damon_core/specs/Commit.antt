@@ -4,6 +4,7 @@ use Rattle.std.specs.Option.{unwrap_or}
 use Rattle.std.specs.Result.{result_and}
 use Rattle.damon_types.specs.declared.range.RangeSpec.{RangeSpec}
 use Rattle.damon_types.specs.declared.row.Row.{Row}
+use Rattle.damon_types.specs.declared.scheme.CostPart.{CostPart}
 use Rattle.damon_types.specs.declared.scheme.Scheme.{Scheme}
 use Rattle.damon_types.specs.declared.scheme.SlotChange.{SlotChange}
 use Rattle.damon_types.specs.declared.space.Target.{Target}
@@ -19,14 +20,15 @@ use Rattle.live_commit.specs.declared.phase.Phase.TheVariants.{Armed, Void}
 use Rattle.live_commit.specs.declared.view.View.{View}
 use Rattle.live_commit.specs.Accepts.{checked_commit}
 use Rattle.live_commit.specs.Commit.{CommitValue}
-use Rattle.scheme_engine.specs.Slots.{SlotValue, changed, empty_slot, metered}
+use Rattle.scheme_engine.specs.Slots.{SlotValue, changed, costed, empty_slot, metered}
 use Rattle.damon_core.specs.declared.changed.Changed.{Changed}
-use Rattle.damon_core.specs.Note.{Note, set, dropped, metric}
+use Rattle.damon_core.specs.Note.{Note, set, dropped, metric, cost}
 use Rattle.damon_core.specs.State.{Core, State, row_count}
 
 -- what a commit is checked against
 abbrev pub view_of : Core → View
 view_of c = record {
+  version = c.version;
   phase = c.phase;
   rows = row_count c;
   ranges = length c.regions.ranges;
@@ -78,9 +80,14 @@ abbrev pub with_metric : Option ℕ → List Note → List Note
 with_metric None notes = notes
 with_metric (Some value) notes = metric value ∷ notes
 
--- the notes after a commit that is accepted: first the slot change, then the metric
+-- notes with that of a cost
+abbrev pub with_cost : Option CostPart → List Note → List Note
+with_cost None notes = notes
+with_cost (Some part) notes = cost part.slot part.nanos ∷ notes
+
+-- the notes after a commit that is accepted: first the slot change, then the metric, then the cost
 abbrev pub committed_notes : CommitValue → List Note → List Note
-committed_notes parts notes = with_metric parts.metric (with_slot parts.slot notes)
+committed_notes parts notes = with_cost parts.cost (with_metric parts.metric (with_slot parts.slot notes))
 
 -- the state after a commit that is accepted
 abbrev pub committed : CommitValue → State → State
@@ -119,9 +126,14 @@ abbrev pub slots_metered : Option ℕ → List SlotValue → List SlotValue
 slots_metered None slots = slots
 slots_metered (Some value) slots = map (metered value) slots
 
+-- the slots after a cost, which is added to that of its slot, set or not
+abbrev pub slots_costed : Option CostPart → List SlotValue → List SlotValue
+slots_costed None slots = slots
+slots_costed (Some part) slots = slice_set slots part.slot (costed part.nanos (slice_index_or slots part.slot empty_slot))
+
 -- the slots of a monitor after a commit that is accepted
 abbrev pub committed_slots : CommitValue → List SlotValue → List SlotValue
-committed_slots parts slots = slots_metered parts.metric (slots_changed parts.slot slots)
+committed_slots parts slots = slots_costed parts.cost (slots_metered parts.metric (slots_changed parts.slot slots))
 
 -- the slots of a monitor after a commit; one that is refused changes nothing
 abbrev pub slots_after_commit : CommitValue → Core → List SlotValue → List SlotValue

@@ -4,7 +4,7 @@ use Rattle.damon_types.specs.Span.{Span}
 use Rattle.damon_types.specs.declared.scheme.Scheme.{Scheme}
 use Rattle.scheme_engine.specs.declared.applied.AppliedRun.{AppliedRun}
 
--- one thing that has happened; a list of notes has the newest first
+-- one thing that has happened; a list of notes has the newest first; a cost is a time that was measured for a slot, in nanoseconds
 pub data Note : Type 0 where
   touched : (page : ℕ) → Note
   cleared : (pass index page : ℕ) → Note
@@ -16,6 +16,7 @@ pub data Note : Type 0 where
   metric : (value : ℕ) → Note
   turned : (slot tick : ℕ) → Note
   ran : (slot tick tried : ℕ) → (runs : List AppliedRun) → (exceeds : Bool) → Note
+  cost : (slot nanos : ℕ) → Note
 
 -- the pass that cleared the page last, 0 where none did
 abbrev pub last_clear : List Note → ℕ → ℕ

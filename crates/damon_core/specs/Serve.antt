@@ -12,7 +12,7 @@ use Rattle.scheme_engine.specs.declared.applied.SlotChoice.{SlotChoice}
 use Rattle.scheme_engine.specs.Outcome.{Outcome, outcome_of}
 use Rattle.scheme_engine.specs.Served.{choice_of, no_choice}
 use Rattle.damon_core.specs.Note.{Note, turned, ran}
-use Rattle.damon_core.specs.Slots.{charged_of, is_active_in, scheme_of, start_of}
+use Rattle.damon_core.specs.Slots.{charged_of, cost_of, is_active_in, scheme_of, start_of}
 
 -- the rows and the notes after slots were served, the runs that were applied in order, and the choices of the set slots
 pub record Serving : Type 0 where
@@ -42,7 +42,7 @@ run_served slot tick left notes o =
 -- a set slot once its window may have begun anew: its scheme is run with what is left of its quota, if it is active
 abbrev pub serve_now : ℕ → List Target → ℕ → ℕ → RegionList → List Note → Scheme → Serving
 serve_now slot space aggr tick regions now scheme =
-    let left = left_of scheme.quota (charged_of now slot) in
+    let left = left_of scheme.quota (cost_of now slot) (charged_of now slot) in
     if is_active_in now slot scheme then run_served slot tick left now (outcome_of slot space aggr scheme left regions)
     else record { rows = regions.rows; notes = now; runs = []; choices = no_choice slot ∷ [] }
 

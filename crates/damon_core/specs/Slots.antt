@@ -1,13 +1,14 @@
--- What the notes say of a slot: its scheme, whether it is active, its window, and what its scheme has done.
-use Rattle.std.specs.Prelude.{ℕ, ◌+◌, Bool, ◌==◌, List, [], ◌∷◌, ◌++◌, map, sum_by, Option, Some, None, if◌then◌else◌, cond}
+-- What the notes say of a slot: its scheme, whether it is active, its window, its cost, and what its scheme has done.
+use Rattle.std.specs.Prelude.{ℕ, ◌+◌, ◌-◌, ◌^◌, min, Bool, ◌==◌, List, [], ◌∷◌, ◌++◌, map, sum_by, Option, Some, None, if◌then◌else◌, cond}
 use Rattle.std.specs.List.{range_with_len}
 use Rattle.std.specs.Option.{option_map}
 use Rattle.damon_types.specs.declared.scheme.Scheme.{Scheme}
+use Rattle.quota_charge.specs.declared.cost.Cost.{Cost}
 use Rattle.watermarks.specs.Active.{is_active}
 use Rattle.scheme_engine.specs.declared.applied.AppliedRun.{AppliedRun}
 use Rattle.scheme_engine.specs.declared.slot.TheConstants.{SLOTS}
 use Rattle.scheme_engine.specs.Slots.{SetScheme, SlotValue}
-use Rattle.damon_core.specs.Note.{Note, set, dropped, metric, turned, ran}
+use Rattle.damon_core.specs.Note.{Note, set, dropped, metric, turned, ran, cost}
 
 -- the scheme of a slot: the one to which it was set last, unless it was dropped since
 abbrev pub scheme_of : List Note → ℕ → Option Scheme
@@ -44,6 +45,24 @@ charged_of (turned i tick ∷ earlier) slot = if i == slot then 0 else charged_o
 charged_of (ran i tick tried runs exceeds ∷ earlier) slot =
     if i == slot then charged_of earlier slot + pages_in runs else charged_of earlier slot
 charged_of (_ ∷ earlier) slot = charged_of earlier slot
+
+-- the pages of all runs of a slot, also of those before its window began, and before it was set or dropped
+abbrev pub pages_of_runs : List Note → ℕ → ℕ
+pages_of_runs [] slot = 0
+pages_of_runs (ran i tick tried runs exceeds ∷ earlier) slot =
+    if i == slot then pages_of_runs earlier slot + pages_in runs else pages_of_runs earlier slot
+pages_of_runs (_ ∷ earlier) slot = pages_of_runs earlier slot
+
+-- the nanoseconds of all costs that were measured for a slot
+abbrev pub nanos_measured : List Note → ℕ → ℕ
+nanos_measured [] slot = 0
+nanos_measured (cost i nanos ∷ earlier) slot = if i == slot then nanos_measured earlier slot + nanos else nanos_measured earlier slot
+nanos_measured (_ ∷ earlier) slot = nanos_measured earlier slot
+
+-- the cost of a slot: the pages of all its runs, and the nanoseconds that were measured for it, at most the greatest number of
+-- 64 bits
+abbrev pub cost_of : List Note → ℕ → Cost
+cost_of notes slot = record { pages = pages_of_runs notes slot; nanos = min (nanos_measured notes slot) (2 ^ 64 - 1) }
 
 -- how many rows matched, over all runs of a slot since it was set last
 abbrev pub tried_of : List Note → ℕ → ℕ
@@ -83,6 +102,7 @@ abbrev pub slot_of : List Note → ℕ → SlotValue
 slot_of notes slot = record {
   set = option_map (λ scheme. set_scheme_of notes slot scheme) (scheme_of notes slot);
   window = record { start = start_of notes slot; charged = charged_of notes slot };
+  cost = cost_of notes slot;
 }
 
 -- the number of slots: a name that does not compute, so that proofs do not go through the slots one by one

@@ -5,6 +5,7 @@ use Rattle.damon_types.specs.declared.space.Target.{Target}
 use Rattle.damon_types.specs.declared.attrs.Attrs.{Attrs}
 use Rattle.damon_types.specs.declared.row.Row.{Row}
 use Rattle.damon_types.specs.declared.scheme.SlotChange.{SlotChange}
+use Rattle.damon_types.specs.declared.scheme.Version.{Version}
 use Rattle.region_list.specs.Regions.{RegionList}
 use Rattle.region_list.specs.Division.{divided}
 use Rattle.region_list.specs.Shrink.{shrunk}
@@ -14,10 +15,11 @@ use Rattle.live_commit.specs.Setup.{SetupValue}
 use Rattle.damon_core.specs.Note.{Note, set}
 use Rattle.damon_core.specs.Report.{ReportValue, no_report}
 
--- What a monitor shows of itself: its targets, attributes, regions and phase, the picks of the pass that
+-- What a monitor shows of itself: the version of its rules, its targets, attributes, regions and phase, the picks of the pass that
 -- was prepared last, the passes in all, those since the last aggregation, the number of rows at the start of
 -- the last split (0 before the first), and what the last aggregation reported.
 pub record Core : Type 0 where
+  pub version : Version
   pub space : List Target
   pub attrs : Attrs
   pub regions : RegionList
@@ -44,6 +46,7 @@ opening_rows v = shrunk v.ranges v.attrs.max (divided v.unit v.attrs.min v.range
 -- what a monitor shows before the first event
 abbrev pub opening_core : SetupValue → Core
 opening_core v = record {
+  version = v.version;
   space = v.space;
   attrs = v.attrs;
   regions = record { ranges = v.ranges; rows = opening_rows v; unit = v.unit; cap = v.cap; max = v.attrs.max };

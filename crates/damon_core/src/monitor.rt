@@ -1,5 +1,6 @@
 ghost use Rattle.std.specs.List.{AllByRecursion};
 ghost use Rattle.std.specs.Prelude.{◌≡◌, ◌+◌, ◌*◌, ◌^◌, ◌≤◌, ◌<◌, ℕ, true, max, ◌/◌, [], ◌∷◌, length, slice_get, slice_index, IfOk, Some, Ok};
+ghost use Rattle.damon_types.specs.declared.scheme.CostPart.{CostPart as cost_part};
 ghost use Rattle.damon_types.specs.declared.scheme.SlotChange.{SlotChange as slot_change};
 ghost use Rattle.damon_types.specs.declared.scheme.TheConstants.{MAX_SLOT};
 ghost use Rattle.damon_types.specs.Ranges.{page_total};
@@ -29,7 +30,7 @@ use crate::clock::Clock;
 use crate::sampling::Sampling;
 use crate::totals::Totals;
 use crate::{Changed, Report};
-use damon_types::{Attrs, Space};
+use damon_types::{Attrs, Space, Version};
 use live_commit::{Commit, CommitFault, Phase, Setup, View, validate};
 use rand_core::Rng;
 use region_list::{Regions, RowBuf, divide, shrink_rows};
@@ -43,6 +44,7 @@ use std::marker::Model;
 /// results of the loads are handed in. Time is counted in passes (ticks).
 #[derive(Drop)]
 pub struct Monitor {
+    version: Version,
     space: Space,
     attrs: Attrs,
     sampling: Sampling,
@@ -61,6 +63,7 @@ impl Model for Monitor {
 
     ghost view = { λ m. record {
       core = record {
+        version = m.version;
         space = m.space;
         attrs = m.attrs;
         regions = m.sampling.regions;
@@ -97,6 +100,7 @@ impl Monitor {
         let report = Report::new(alloc, setup.cap)?;
         let engine = first_engine(alloc, setup)?;
         Ok(Monitor {
+            version: setup.version,
             space,
             attrs: setup.attrs,
             sampling,
@@ -316,7 +320,7 @@ impl Monitor {
         scheme_engine::outcome_runs_are_taken();
         scheme_engine::served_slots_are_kept();
         let limit = merge_limit(self.sampling.regions(), self.attrs.min);
-        let threshold = self.sampling.merge(limit);
+        let threshold = self.sampling.merge(limit, self.version);
         // For their clauses alone: the rows are tiled, and the space is within its limits.
         let (_merged, _targets) = (self.sampling.regions().len(), self.space.targets());
         let (aggr, tick) = (self.attrs.aggr, self.clock.ticks);
@@ -330,7 +334,7 @@ impl Monitor {
         self.clock.since = 0;
     }
 
-    /// Commits new attributes, new ranges, a change of a slot and a metric, or some of these. Returns the
+    /// Commits new attributes, new ranges, a change of a slot, a metric and a cost, or some of these. Returns the
     /// number of rows and whether the pass under way became void, or the first check that failed
     /// ([`validate`]); then nothing has changed.
     ///
@@ -338,8 +342,9 @@ impl Monitor {
     /// those of a range update; without new ranges, adjacent rows of one range are joined until there are
     /// at most `max`. A pass whose picks are cleared becomes void where the rows lie elsewhere
     /// afterwards: it is observed next, without a load, and counts nothing. Then the slot is set, with
-    /// statistics of 0, or dropped; its window and what is charged to it stay. The metric, which each set
-    /// slot sees, comes last. Takes no memory.
+    /// statistics of 0, or dropped; its window, what is charged to it and its cost stay. Then each set slot
+    /// sees the metric. Last, the nanoseconds of the cost are added to those of its slot, set or not. Takes
+    /// no memory.
     pub fn commit(&mut self, commit: &Commit) -> Result<Changed, CommitFault>
         ensures answer { result ≡ commit_answer (commit_value commit.now) self.old.core }
         ensures core { self.new.core ≡ core_after_commit (commit_value commit.now) self.old.core }
@@ -365,6 +370,7 @@ impl Monitor {
     {
         let regions = self.sampling.regions();
         View {
+            version: self.version,
             phase: self.sampling.phase(),
             rows: regions.len(),
             ranges: regions.ranges().len(),
@@ -435,9 +441,11 @@ fn first_engine(alloc: Global, setup: &Setup) -> Result<Engine, AllocError>
     Ok(engine)
 }
 
-// Makes the slot change of a commit and hands on its metric, if it has them. The slot is one that exists.
+// Makes the slot change of a commit, and hands on its metric and its cost, if it has them. The slots are ones that
+// exist.
 fn change_slots(engine: &mut Engine, commit: &Commit)
-    requires { (change : slot_change) → commit.now.slot ≡ Some change → change.slot ≤ MAX_SLOT }
+    requires slot { (change : slot_change) → commit.now.slot ≡ Some change → change.slot ≤ MAX_SLOT }
+    requires cost { (part : cost_part) → commit.now.cost ≡ Some part → part.slot ≤ MAX_SLOT }
     ensures { engine.new ≡ record engine.old {
       slots = committed_slots (commit_value commit.now) engine.old.slots;
     } }
@@ -447,6 +455,9 @@ fn change_slots(engine: &mut Engine, commit: &Commit)
     }
     if let Some(value) = commit.metric {
         engine.metric(value);
+    }
+    if let Some(part) = commit.cost {
+        engine.cost(part.slot, part.nanos);
     }
 }
 

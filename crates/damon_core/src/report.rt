@@ -5,7 +5,7 @@ ghost use Rattle.scheme_engine.specs.Engine.{BeginBy, FitsSlot};
 ghost use Rattle.scheme_engine.specs.Served.{slots_served};
 ghost use Rattle.damon_core.specs.Report.{no_report};
 
-use damon_types::{Row, Space};
+use damon_types::Space;
 use region_list::{Regions, RowBuf};
 use scheme_engine::{Applied, Engine};
 use std::alloc::{AllocError, Global};
@@ -90,10 +90,10 @@ impl Report {
     }
 
     // Replaces the tick, the threshold and the rows, for which there is room.
-    pub(crate) fn set(&mut self, tick: u64, threshold: u32, rows: &[Row])
-        requires { length rows.now ≤ self.old.cap }
+    pub(crate) fn set(&mut self, tick: u64, threshold: u32, rows: &RowBuf)
+        requires { length rows.now.rows ≤ self.old.cap }
         ensures { self.new ≡ record self.old {
-          value = record self.old.value { tick = tick; threshold = threshold; rows = rows.now };
+          value = record self.old.value { tick = tick; threshold = threshold; rows = rows.now.rows };
         } }
     {
         self.tick = tick;
@@ -116,10 +116,10 @@ impl Report {
     }
 
     /// The rows in order.
-    pub fn rows(&self) -> &[Row]
-        ensures { result.now ≡ self.now.value.rows }
+    pub fn rows(&self) -> &RowBuf
+        ensures { result.now.rows ≡ self.now.value.rows }
     {
-        self.rows.as_slice()
+        &self.rows
     }
 
     /// The runs of pages that schemes were applied to, and the choices of the slots that were set.

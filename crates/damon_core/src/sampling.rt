@@ -24,7 +24,7 @@ ghost use Rattle.damon_core.specs.Pass.{IsBetween, IsInPass, IsPickWithin};
 use crate::Report;
 use crate::room::Room;
 use aggregator::{age_all, clear_counts, threshold};
-use damon_types::{RangeSpecs, Row, Space};
+use damon_types::{RangeSpecs, Space, Version};
 use live_commit::Phase;
 use rand_core::Rng;
 use region_list::{Regions, RowBuf, same_spans};
@@ -224,19 +224,20 @@ impl Sampling {
 
     // Ages the rows and merges those that are about the same; merged rows have at most `limit` pages.
     // Returns the threshold of both. No pass is under way.
-    pub(crate) fn merge(&mut self, limit: u32) -> u32
+    pub(crate) fn merge(&mut self, limit: u32, version: Version) -> u32
         requires { IsBetween self.old.phase }
         ensures threshold { result ≡ threshold_of self.old.regions.rows }
         ensures merged { self.new ≡ record self.old {
           regions = record self.old.regions {
-            rows = merged self.old.regions.ranges result limit (aged result self.old.regions.rows);
+            rows = merged self.old.regions.ranges result limit
+                (aged result version self.old.regions.rows);
           };
         } }
     {
         aggregator::aged_rows_are_kept();
         region_merge::merged_rows_are_kept();
         let threshold = threshold(&self.regions);
-        age_all(&mut self.regions, threshold);
+        age_all(&mut self.regions, threshold, version);
         merge_all(&mut self.regions, threshold, limit);
         threshold
     }
@@ -325,17 +326,17 @@ impl Sampling {
         let (_rows, _targets) = (self.regions.len(), space.targets());
         keep_if_armed(&mut self.earlier, self.phase, self.regions.rows());
         self.room.change(&mut self.regions, space, specs, max);
-        let void = becomes_void(self.phase, self.earlier.as_slice(), self.regions.rows());
+        let void = becomes_void(self.phase, &self.earlier, self.regions.rows());
         self.phase = void_or(void, self.phase);
         void
     }
 }
 
 // Keeps a copy of the rows where a commit may make the pass void, which is where its picks are cleared.
-fn keep_if_armed(earlier: &mut RowBuf, phase: Phase, rows: &[Row])
-    requires room { length rows.now ≤ earlier.old.cap }
+fn keep_if_armed(earlier: &mut RowBuf, phase: Phase, rows: &RowBuf)
+    requires room { length rows.now.rows ≤ earlier.old.cap }
     ensures same { (new : List row) → becomes_void_in phase earlier.new.rows new
-        ≡ becomes_void_in phase rows.now new }
+        ≡ becomes_void_in phase rows.now.rows new }
     ensures cap { earlier.new.cap ≡ earlier.old.cap }
 {
     if phase == Phase::Armed {
@@ -352,8 +353,8 @@ fn void_or(void: bool, phase: Phase) -> Phase
 
 // Whether a commit makes the pass under way void: its picks are cleared, and the new rows do not lie where
 // the old ones did.
-fn becomes_void(phase: Phase, old: &[Row], new: &[Row]) -> bool
-    ensures { result ≡ becomes_void_in phase old.now new.now }
+fn becomes_void(phase: Phase, old: &RowBuf, new: &RowBuf) -> bool
+    ensures { result ≡ becomes_void_in phase old.now.rows new.now.rows }
 {
     phase == Phase::Armed && !same_spans(old, new)
 }

@@ -13,4 +13,4 @@ mod picks;
 pub use counting::observe;
 pub use drawing::draw_words;
 pub use marks::Marks;
-pub use picks::{Picks, draw_picks};
+pub use picks::{Picks, draw_picks, set_picks};

@@ -174,6 +174,37 @@ pub fn draw_picks<R: Rng>(regions: &Regions, source: &mut R, picks: &mut Picks)
     clear_bits(&mut picks.bits, regions.len());
 }
 
+/// Picks a page of each row by the words that are given, one for each row: of row `i` the page
+/// `start + word i mod pages`. No check is a hit so far. There is room for as many picks as rows.
+pub fn set_picks(regions: &Regions, words: &[u32], picks: &mut Picks)
+    requires words { length words.now ≡ length regions.now.rows }
+    requires room { length regions.now.rows ≤ picks.old.cap }
+    ensures { picks.new
+        ≡ record picks.old {
+          pages = picks_of regions.now.rows words.now;
+          bits = replicate (length regions.now.rows) false;
+        } }
+{
+    picks.passes = (picks.passes + 1) % RENEWAL;
+    renew_at(picks.passes, regions, &mut picks.reciprocals);
+    set_count(&mut picks.pages, regions.len());
+    pick_given(regions, words, &picks.reciprocals, &mut picks.pages);
+    clear_bits(&mut picks.bits, regions.len());
+}
+
+// Picks a page of each row by the words that are given.
+fn pick_given(regions: &Regions, words: &[u32], reciprocals: &[Reciprocal], pages: &mut [u32])
+    requires words { length words.now ≡ length regions.now.rows }
+    requires reciprocals { length regions.now.rows ≤ length reciprocals.now }
+    requires each { length pages.old ≡ length regions.now.rows }
+    ensures { pages.new ≡ picks_of regions.now.rows words.now }
+{
+    for index in 0..regions.len() {
+        let page = pick_at(regions, reciprocals, index, words[index as usize]);
+        pages[index as usize] = page;
+    }
+}
+
 // Makes the reciprocals those of the rows' sizes, if this is the pass of a renewal.
 fn renew_at(pass: u32, regions: &Regions, reciprocals: &mut [Reciprocal])
     requires { length regions.now.rows ≤ length reciprocals.old }

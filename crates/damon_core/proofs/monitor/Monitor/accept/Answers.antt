@@ -6,7 +6,7 @@ use Rattle.damon_types.specs.Attrs.{IsAttrs}
 use Rattle.damon_types.specs.Space.{pages_of}
 use Rattle.region_list.specs.Regions.{RegionList}
 use Rattle.live_commit.specs.Commit.{CommitValue, commit_value}
-use Rattle.damon_core.specs.Commit.{check_of, phase_after_commit, regions_after}
+use Rattle.damon_core.specs.Commit.{check_of, phase_after_commit, regions_after, view_of}
 use Rattle.damon_core.specs.Kept.{CanCommit, IsServing, SamplingView, SinceFew}
 use Rattle.damon_core.specs.State.{Core}
 use Rattle.damon_core.specs.Stands.{MonitorView}
@@ -19,7 +19,7 @@ use Rattle.damon_core.proofs.monitor.Monitor.accept.Goals as goal
 pub commit-void-requires-clause-can : goal.commit-void-requires-clause-can
 commit-void-requires-clause-can c =
     let i = c.self.inside in
-    let core : Core = (shown i.space i.attrs i.sampling i.clock i.totals i.report.value i.engine.slots).core in
+    let core : Core = (shown i.version i.space i.attrs i.sampling i.clock i.totals i.report.value i.engine.slots).core in
     let v : CommitValue = commit_value c.args.commit.now in
     let ok = subst (λ (m : MonitorView). check_of v m.core ≡ Ok tt) (sym c.self.view_is) c.requires in
     let most = subst (λ (m : MonitorView). m.core.attrs.max ≤ m.core.regions.cap) (sym c.self.view_is) c.attrs.ensures.max in
@@ -27,11 +27,19 @@ commit-void-requires-clause-can c =
     let new : c.unwrap_or-attrs.result ≡ unwrap_or v.attrs i.attrs = c.unwrap_or-attrs.ensures ∙ ap (unwrap_or v.attrs) (c.attrs.ensures.attrs ∙ ap (λ (m : MonitorView). m.core.attrs) (sym c.self.view_is)) in
     subst (λ (a : Attrs). CanCommit i.space i.sampling.regions v.ranges a.max) (sym new) facts.can
 
+pub change_slots-requires-clause-cost : goal.change_slots-requires-clause-cost
+change_slots-requires-clause-cost c part some =
+    let i = c.self.inside in
+    let core : Core = (shown i.version i.space i.attrs i.sampling i.clock i.totals i.report.value i.engine.slots).core in
+    let v : CommitValue = commit_value c.args.commit.now in
+    let ok = subst (λ (m : MonitorView). check_of v m.core ≡ Ok tt) (sym c.self.view_is) c.requires in
+    ((c.accepted_commits_are_within.ensures.accepted core.space (view_of core) v ok).cost part some).1
+
 pub invariant_of-self : goal.invariant_of-self
 invariant_of-self c =
     let i = c.self.inside in
     let inv = c.self.invariant in
-    let core : Core = (shown i.space i.attrs i.sampling i.clock i.totals i.report.value i.engine.slots).core in
+    let core : Core = (shown i.version i.space i.attrs i.sampling i.clock i.totals i.report.value i.engine.slots).core in
     let v : CommitValue = commit_value c.args.commit.now in
     let ok = subst (λ (m : MonitorView). check_of v m.core ≡ Ok tt) (sym c.self.view_is) c.requires in
     let most = subst (λ (m : MonitorView). m.core.attrs.max ≤ m.core.regions.cap) (sym c.self.view_is) c.attrs.ensures.max in

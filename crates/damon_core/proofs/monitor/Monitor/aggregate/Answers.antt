@@ -71,14 +71,14 @@ invariant_of-self c =
     let unit = subst (λ (x : RegionList). 1 ≤ x.unit) seen c.len-rows.ensures.unit in
     let tiles = subst (λ (x : RegionList). Tiles x.ranges (spans x.rows) x.unit) seen c.len-rows.ensures.tiles in
     let rows = rows_in i.space next.ranges next.unit next.rows unit ranges_in tiles in
-    let told = c.rows.ensures ∙ ap (λ (x : RegionList). x.rows) seen in
+    let told = c.rows.ensures.rows ∙ ap (λ (x : RegionList). x.rows) seen in
     let t : ℕ = i.clock.ticks - i.clock.since in
     let bounded = c.served_slots_are_kept.ensures.bounded 0 i.attrs.aggr i.clock.ticks t i.space r i.engine.slots tiled within c.targets-targets.ensures.sound v.serving.served in
     let windows = c.served_slots_are_kept.ensures.windows 0 i.attrs.aggr i.clock.ticks i.space r i.engine.slots v.serving.windows in
     let due : i.sampling.phase ≡ Due = ap (λ (m : MonitorView). m.core.phase) c.self.view_is ∙ c.requires.due in
     let since = subst (λ (ph : Phase). SinceFew ph i.clock.since) due v.since_few in
     let runs = recursion_from_All (IsRunIn i.space) o.runs (c.served_slots_are_kept.ensures.space 0 i.attrs.aggr i.clock.ticks i.space r i.engine.slots tiled within) in
-    let report : c.set.new.self ≡ record c.serve.new.report { value = record c.serve.new.report.value { tick = i.clock.ticks; threshold = c.merge-threshold.result; rows = c.rows.result.now } } = c.set.ensures in
+    let report : c.set.new.self ≡ record c.serve.new.report { value = record c.serve.new.report.value { tick = i.clock.ticks; threshold = c.merge-threshold.result; rows = c.rows.result.now.rows } } = c.set.ensures in
     subst (λ x. IsMonitor i.space i.attrs x (record { ticks = i.clock.ticks; since = 0 }) i.totals c.set.new.self c.serve.new.engine) (sym c.split.ensures.split) (record {
       attrs_sound = v.attrs_sound;
       max = ap (λ (x : RegionList). x.max) served ∙ ap (λ (s : SamplingView). s.regions.max) now ∙ v.max;
@@ -101,15 +101,15 @@ returns-clause-event c =
     let m = c.args.self.now in
     let i = c.self.inside in
     let ws = c.args.words.now in
-    let core : Core = (shown i.space i.attrs i.sampling i.clock i.totals i.report.value i.engine.slots).core in
+    let core : Core = (shown i.version i.space i.attrs i.sampling i.clock i.totals i.report.value i.engine.slots).core in
     let len = c.len-merged.ensures in
     let limit : c.merge_limit-limit.result ≡ merge_limit core = c.merge_limit-limit.ensures ∙ ap (λ (x : RegionList). max x.unit (page_total x.ranges / i.attrs.min)) c.regions.ensures.regions in
     let merged = merged_is core c.merge-threshold.new.self.regions c.merge-threshold.result c.merge_limit-limit.result (ap (λ (s : SamplingView). s.regions) c.merge-threshold.ensures.merged) c.merge-threshold.ensures.threshold limit in
     let tiled = subst AreTiled (c.regions-2.ensures.regions ∙ merged) (tiled_by_len _ c.len-merged.result len.len len.few len.unit len.order len.tiling) in
     let here = subst (λ (x : MonitorView). AreTiled (merged_regions x.core)) c.self.view_is tiled in
     let laws : OutcomeLaws = record { tiled = c.outcome_rows_are_kept.ensures.tiled; sum = c.outcome_runs_are_taken.ensures.sum } in
-    let told = c.rows.ensures ∙ ap (λ (x : RegionList). x.rows) c.regions-rows.ensures.regions in
-    let after = aggregated_view i.space i.attrs i.clock i.totals ws i.sampling c.merge-threshold.new.self c.serve.new.self c.split.new.self i.report.value c.serve.new.report.value c.set.new.self.value i.engine.slots c.serve.new.engine.slots c.merge-threshold.result
+    let told = c.rows.ensures.rows ∙ ap (λ (x : RegionList). x.rows) c.regions-rows.ensures.regions in
+    let after = aggregated_view i.version i.space i.attrs i.clock i.totals ws i.sampling c.merge-threshold.new.self c.serve.new.self c.split.new.self i.report.value c.serve.new.report.value c.set.new.self.value i.engine.slots c.serve.new.engine.slots c.merge-threshold.result
     (c.merge-threshold.ensures.merged ∙ ap (λ (r : RegionList). record i.sampling { regions = r }) (sym (ap (λ (s : SamplingView). s.regions) c.merge-threshold.ensures.merged) ∙ merged))
     c.serve.ensures.rows
     (ap (λ (e : EngineValue). e.slots) c.serve.ensures.slots)

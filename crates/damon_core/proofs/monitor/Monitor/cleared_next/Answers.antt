@@ -13,7 +13,7 @@ returns-clause-events c =
     let i = c.self.inside in
     let m = c.args.self.now in
     let n = c.args.count in
-    let is : shown i.space i.attrs c.clear.new.self i.clock i.totals i.report.value i.engine.slots ≡ after_clears n m =
-    ap (λ x. shown i.space i.attrs x i.clock i.totals i.report.value i.engine.slots) c.clear.ensures.cleared ∙ ap (after_clears n) c.self.view_is in
+    let is : shown i.version i.space i.attrs c.clear.new.self i.clock i.totals i.report.value i.engine.slots ≡ after_clears n m =
+    ap (λ x. shown i.version i.space i.attrs x i.clock i.totals i.report.value i.engine.slots) c.clear.ensures.cleared ∙ ap (after_clears n) c.self.view_is in
     let some = subst (λ (x : MonitorView). clear_index x.core.phase < row_count x.core) c.self.view_is c.clear.ensures.some in
     subst (λ x. Makes Stands m x (clears n)) (sym is) (clears_make m n c.requires.phase some c.requires.within)

@@ -82,10 +82,10 @@ pub returns-clause-event : goal.returns-clause-event
 returns-clause-event c =
     let i = c.self.inside in
     let m = c.args.self.now in
-    let is : shown i.space i.attrs c.finish-hits.new.self c.tick.new.self c.add.new.self i.report.value i.engine.slots ≡ ended m.core.phase m =
-    ap (λ x. shown i.space i.attrs x c.tick.new.self c.add.new.self i.report.value i.engine.slots) (sampled c)
-    ∙ ap (λ x. shown i.space i.attrs (sampled_then i.sampling (phase_after_pass (i.clock.since + 1) i.attrs.aggr)) x c.add.new.self i.report.value i.engine.slots) c.tick.ensures
-    ∙ ap (λ x. shown i.space i.attrs (sampled_then i.sampling (phase_after_pass (i.clock.since + 1) i.attrs.aggr)) (clock_then i.clock) x i.report.value i.engine.slots) (totals c)
+    let is : shown i.version i.space i.attrs c.finish-hits.new.self c.tick.new.self c.add.new.self i.report.value i.engine.slots ≡ ended m.core.phase m =
+    ap (λ x. shown i.version i.space i.attrs x c.tick.new.self c.add.new.self i.report.value i.engine.slots) (sampled c)
+    ∙ ap (λ x. shown i.version i.space i.attrs (sampled_then i.sampling (phase_after_pass (i.clock.since + 1) i.attrs.aggr)) x c.add.new.self i.report.value i.engine.slots) c.tick.ensures
+    ∙ ap (λ x. shown i.version i.space i.attrs (sampled_then i.sampling (phase_after_pass (i.clock.since + 1) i.attrs.aggr)) (clock_then i.clock) x i.report.value i.engine.slots) (totals c)
     ∙ ap (λ (x : MonitorView). ended (Checking (row_count x.core)) x) c.self.view_is
     ∙ ap (λ (ph : Phase). ended ph m) (sym c.requires.phase) in
     let fits : IsObserving m.core.phase (row_count m.core) = subst (λ (ph : Phase). IsObserving ph (row_count m.core)) (sym c.requires.phase) refl in

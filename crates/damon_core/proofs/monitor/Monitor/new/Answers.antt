@@ -67,7 +67,7 @@ returns-clause-opening c =
     let made : c.in_ok-regions.regions ≡ (opening_core v).regions = c.in_ok-regions.ensures in
     let report = ap (λ (b : ReportBuf). b.value) c.in_ok-report.ensures in
     let bits = ap (λ (s : SamplingView). s.bits) c.in_ok-sampling.ensures in
-    let core : List Target → SamplingView → ReportValue → Core = λ ts s r. (shown ts v.attrs s (record { ticks = 0; since = 0 }) (record { checks = 0; hits = 0 }) r c.in_ok-engine.engine.slots).core in
+    let core : List Target → SamplingView → ReportValue → Core = λ ts s r. (shown v.version ts v.attrs s (record { ticks = 0; since = 0 }) (record { checks = 0; hits = 0 }) r c.in_ok-engine.engine.slots).core in
     let start : RegionList → SamplingView = λ rs. record { regions = rs; phase = Idle; picks = []; bits = []; before = 0 } in
     record {
       same = ap (λ (ts : List Target). core ts c.in_ok-sampling.sampling c.in_ok-report.report.value) space ∙ ap (λ (s : SamplingView). core v.space s c.in_ok-report.report.value) (c.in_ok-sampling.ensures ∙ ap start made) ∙ ap (λ (r : ReportValue). core v.space (start (opening_core v).regions) r) report;

@@ -27,10 +27,9 @@ invariant_of-self c =
     let cap = ap (λ (r : RegionList). r.cap) made ∙ new_cap space specs c.args.max i.regions in
     let void =
     c.becomes_void-void.ensures
-    ∙ ap (λ (rows : List Row). becomes_void i.phase rows c.rows-2.result.now) c.as_slice.ensures
-    ∙ c.keep_if_armed.ensures.same c.rows-2.result.now
-    ∙ ap (λ (rows : List Row). becomes_void i.phase rows c.rows-2.result.now) c.rows.ensures
-    ∙ ap (λ (rows : List Row). becomes_void i.phase i.regions.rows rows) c.rows-2.ensures in
+    ∙ c.keep_if_armed.ensures.same c.rows-2.result.now.rows
+    ∙ ap (λ (rows : List Row). becomes_void i.phase rows c.rows-2.result.now.rows) c.rows.ensures.rows
+    ∙ ap (λ (rows : List Row). becomes_void i.phase i.regions.rows rows) c.rows-2.ensures.rows in
     let phase : phase_after_commit i.phase i.regions.rows new.rows ≡ c.void_or-self-inside.result = sym (c.void_or-self-inside.ensures ∙ ap (λ (b : Bool). cond b Void i.phase) void) in
     let Keeps : Phase → ℕ → ℕ → Type 0 = λ ph row_room range_room. IsSampling new ph i.picks i.hits_so_far row_room range_room in
     let kept = sampling_kept i.regions new i.phase i.picks i.hits_so_far i.earlier.cap i.room c.self.invariant allows some cap in
