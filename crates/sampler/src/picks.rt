@@ -91,6 +91,13 @@ impl Picks {
         self.bits[k as usize]
     }
 
+    // Whether the check of each pick was a hit.
+    pub(crate) fn bits(&self) -> &[bool]
+        ensures { result.now ≡ self.now.bits }
+    {
+        &self.bits
+    }
+
     /// Whether a check was a hit.
     pub fn any_hit(&self) -> bool
         ensures { result ≡ list_any (λ hit. hit) self.now.bits }
