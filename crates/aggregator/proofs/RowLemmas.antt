@@ -1,24 +1,13 @@
--- Rows that are changed one by one, and what stays.
-use Rattle.std.proofs.Common.{◌≡◌, ℕ, ◌+◌, ◌≤◌, ◌<◌, List, [], ◌∷◌, ◌++◌, length, length-append, length-drop, length-take, map, take, drop, set, refl, ap, ◌∙◌, arith}
+-- What aging and clearing make of the values of rows, and what stays.
+use Rattle.std.proofs.Common.{◌≡◌, ℕ, zero, suc, ◌+◌, ◌≤◌, ◌<◌, List, [], ◌∷◌, ◌++◌, length, map, take, drop, get_or, set, refl, ap, arith}
+use Rattle.std.specs.Prelude.{replicate, slice_index}
 use Rattle.std.specs.List.{AllByRecursion}
-use Rattle.std.proofs.lemmas.List.{length-map, get_or_default}
-use Rattle.std.proofs.lemmas.List.Edits.{map_over_more}
 use Rattle.damon_types.specs.declared.row.Row.{Row}
 use Rattle.damon_types.specs.declared.scheme.Version.{Version}
 use Rattle.damon_types.specs.Span.{span_of, spans}
-use Rattle.region_list.specs.Regions.{RegionList}
-use Rattle.region_list.specs.Rows.{no_row, row_at}
-use Rattle.aggregator.specs.Aged.{aged}
+use Rattle.region_list.specs.Rows.{row_at}
+use Rattle.aggregator.specs.Aged.{aged, aged_row}
 use Rattle.aggregator.specs.Cleared.{cleared}
-
--- a list of regions with one more row changed
-pub changed_more : (f : Row → Row) (old was new : RegionList) (i : ℕ) → i < length old.rows → was ≡ record old { rows = map f (take i old.rows) ++ drop i old.rows } → new ≡ record was { rows = set was.rows i (f (row_at was.rows i)) } → new ≡ record old { rows = map f (take (i + 1) old.rows) ++ drop (i + 1) old.rows }
-changed_more f old was new i here so_far now =
-    let rows = map f (take i old.rows) ++ drop i old.rows in
-    let within : i < length rows = omega (arith, length-append (map f (take i old.rows)) (drop i old.rows), length-map (take i old.rows) f, length-take i old.rows, length-drop i old.rows) in
-    now
-    ∙ ap (λ (r : RegionList). record r { rows = set r.rows i (f (row_at r.rows i)) }) so_far
-    ∙ ap (λ rs. record old { rows = rs }) (map_over_more f old.rows rows i (row_at rows i) here refl (get_or_default rows i no_row (row_at rows i) within))
 
 pub spans-aged : (threshold : ℕ) (version : Version) (rows : List Row) → spans (aged threshold version rows) ≡ spans rows
 spans-aged threshold version [] = refl
@@ -35,3 +24,47 @@ counts-aged threshold most version (r ∷ rows) few = (few.0, counts-aged thresh
 pub counts-cleared : (rows : List Row) → AllByRecursion (λ r. r.count ≤ 0) (cleared rows)
 counts-cleared [] = tt
 counts-cleared (r ∷ rows) = (omega arith, counts-cleared rows)
+
+-- the counts of rows that are cleared
+pub cleared_counts : (rows : List Row) → map (λ r. r.count) (cleared rows) ≡ replicate (length rows) 0
+cleared_counts [] = refl
+cleared_counts (r ∷ rows) = ap (λ ns. 0 ∷ ns) (cleared_counts rows)
+
+pub cleared_lasts : (rows : List Row) → map (λ r. r.last) (cleared rows) ≡ map (λ r. r.count) rows
+cleared_lasts [] = refl
+cleared_lasts (r ∷ rows) = ap (λ ns. r.count ∷ ns) (cleared_lasts rows)
+
+pub cleared_ages : (rows : List Row) → map (λ r. r.age) (cleared rows) ≡ map (λ r. r.age) rows
+cleared_ages [] = refl
+cleared_ages (r ∷ rows) = ap (λ ns. r.age ∷ ns) (cleared_ages rows)
+
+-- the counts of rows that are aged
+pub aged_counts : (threshold : ℕ) (version : Version) (rows : List Row) → map (λ r. r.count) (aged threshold version rows) ≡ map (λ r. r.count) rows
+aged_counts threshold version [] = refl
+aged_counts threshold version (r ∷ rows) = ap (λ ns. r.count ∷ ns) (aged_counts threshold version rows)
+
+pub aged_lasts : (threshold : ℕ) (version : Version) (rows : List Row) → map (λ r. r.last) (aged threshold version rows) ≡ map (λ r. r.last) rows
+aged_lasts threshold version [] = refl
+aged_lasts threshold version (r ∷ rows) = ap (λ ns. r.last ∷ ns) (aged_lasts threshold version rows)
+
+-- a number of a column
+pub in_column : (f : Row → ℕ) (rows : List Row) (i : ℕ) → i < length rows → slice_index (map f rows) i ≡ f (row_at rows i)
+in_column f [] i within = absurd (omega arith)
+in_column f (r ∷ rows) zero within = refl
+in_column f (r ∷ rows) (suc i) within = in_column f rows i (omega arith)
+
+-- the ages of rows of which the first i are aged
+abbrev pub ages_so_far : ℕ → Version → List Row → ℕ → List ℕ
+ages_so_far threshold version rows i = map (λ r. r.age) (aged threshold version (take i rows)) ++ map (λ r. r.age) (drop i rows)
+
+-- the age of the next row is still the old one
+pub next_is_old : (threshold : ℕ) (version : Version) (rows : List Row) (i : ℕ) → i < length rows → slice_index (ages_so_far threshold version rows i) i ≡ (row_at rows i).age
+next_is_old threshold version [] i within = absurd (omega arith)
+next_is_old threshold version (r ∷ rows) zero within = refl
+next_is_old threshold version (r ∷ rows) (suc i) within = next_is_old threshold version rows i (omega arith)
+
+-- one row more is aged
+pub aged_more : (threshold : ℕ) (version : Version) (rows : List Row) (i : ℕ) → i < length rows → set (ages_so_far threshold version rows i) i (aged_row threshold version (row_at rows i)).age ≡ ages_so_far threshold version rows (suc i)
+aged_more threshold version [] i within = absurd (omega arith)
+aged_more threshold version (r ∷ rows) zero within = refl
+aged_more threshold version (r ∷ rows) (suc i) within = ap (λ ns. (aged_row threshold version r).age ∷ ns) (aged_more threshold version rows i (omega arith))

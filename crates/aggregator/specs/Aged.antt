@@ -9,20 +9,23 @@ use Rattle.damon_types.specs.declared.scheme.Version.TheVariants.{One, Two}
 abbrev pub max_age : ℕ
 max_age = 2 ^ 32 - 1
 
--- whether exactly one of the counts is 0: the row came into use, or fell out of it
-abbrev pub is_turned : Row → Bool
-is_turned r = if r.count == 0 then not (r.last == 0) else (r.last == 0)
+-- whether exactly one of a count and the last count is 0: the row came into use, or fell out of it
+abbrev pub is_turned : ℕ → ℕ → Bool
+is_turned count last = if count == 0 then not (last == 0) else (last == 0)
 
 -- in version Two a row that came into use, or fell out of it, begins anew
-abbrev pub is_anew : Version → Row → Bool
-is_anew One r = false
-is_anew Two r = is_turned r
+abbrev pub is_anew : Version → ℕ → ℕ → Bool
+is_anew One count last = false
+is_anew Two count last = is_turned count last
 
 -- a row gets age 0 where its count and last count differ by more than the threshold, and in version Two where exactly one
 -- of them is 0; else its age rises by one, up to the greatest
 abbrev pub aged_row : ℕ → Version → Row → Row
 aged_row threshold version r = record r {
-  age = if nat_lt threshold (abs_diff r.count r.last) || is_anew version r then 0 else min (r.age + 1) max_age;
+  age =
+      if nat_lt threshold (abs_diff r.count r.last) || is_anew version r.count r.last
+      then 0
+      else min (r.age + 1) max_age;
 }
 
 -- each row is aged

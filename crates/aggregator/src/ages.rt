@@ -1,57 +1,82 @@
-ghost use Rattle.std.specs.Prelude.{◌≡◌, ◌<◌, length, slice_set};
-ghost use Rattle.region_list.specs.Rows.{row_at};
-ghost use Rattle.aggregator.specs.Aged.{aged, aged_row, is_anew, is_turned as is_turned_row};
+ghost use Rattle.std.specs.Prelude.{◌≡◌, ◌+◌, ◌||◌, List, length, map, min, nat_lt, if◌then◌else◌};
+ghost use Rattle.std.specs.Int.{abs_diff};
+ghost use Rattle.damon_types.specs.declared.row.Row.{Row as row};
+ghost use Rattle.region_list.specs.Columns.{AreValues};
+ghost use Rattle.aggregator.specs.Aged.{aged, is_anew, is_turned as is_turned_count, max_age};
 
-use damon_types::{Row, Version};
-use region_list::Regions;
+use crate::aged_rows_are_kept;
+use damon_types::Version;
+use region_list::{Regions, ValuePass};
 
 /// Ages all rows by one aggregation. A row whose count and last count differ by more than the
 /// threshold (in passes) gets age 0, in version Two also a row of which exactly one of the two is 0.
 /// The age of any other row rises by one and stops at 4,294,967,295.
-#[tactic(auto, using(crate::proofs::RowLemmas::changed_more))]
 pub fn age_all(regions: &mut Regions, threshold: u32, version: Version)
     ensures { regions.new ≡ record regions.old { rows = aged threshold version regions.old.rows } }
 {
-    for index in 0..regions.len() {
-        age_row(regions, index, threshold, version);
+    // For its clauses alone: the pages of the rows stay.
+    aged_rows_are_kept();
+    regions.revalue(&Aging { threshold, version });
+}
+
+// The pass that ages rows.
+#[derive(Clone, Copy)]
+struct Aging {
+    threshold: u32,
+    version: Version,
+}
+
+impl ValuePass for Aging {
+    ghost values_of = { λ pass rows. aged pass.threshold pass.version rows };
+
+    ghost can_run = { λ pass rows. Unit {0} };
+
+    fn run(&self, counts: &mut [u32], lasts: &mut [u32], ages: &mut [u32]) {
+        self.age_values(counts, lasts, ages);
     }
 }
 
-// Ages one row.
-fn age_row(regions: &mut Regions, index: u32, threshold: u32, version: Version)
-    requires { index < length regions.old.rows }
-    ensures { regions.new
-        ≡ record regions.old {
-          rows = slice_set regions.old.rows index
-              (aged_row threshold version (row_at regions.old.rows index));
-        } }
-{
-    let row = regions.row(index);
-    let age = if row.count.abs_diff(row.last) > threshold || begins_anew(version, &row) {
-        0
-    } else {
-        row.age.saturating_add(1)
-    };
-    regions.set_values(index, row.count, row.last, age);
+impl Aging {
+    // Ages rows that have these counts, last counts and ages.
+    fn age_values(self, counts: &[u32], lasts: &[u32], ages: &mut [u32])
+        requires lasts { length lasts.now ≡ length counts.now }
+        requires ages { length ages.old ≡ length counts.now }
+        ensures { (rows : List row) → AreValues rows counts.now lasts.now ages.old
+            → ages.new ≡ map (λ r. r.age) (aged self.threshold self.version rows) }
+    {
+        for index in 0..ages.len() {
+            ages[index] = self.next_age(counts[index], lasts[index], ages[index]);
+        }
+    }
+
+    // The next age of a row with this count, last count and age.
+    fn next_age(self, count: u32, last: u32, age: u32) -> u32
+        ensures { result
+            ≡ (if nat_lt self.threshold (abs_diff count last) || is_anew self.version count last
+            then 0
+            else min (age + 1) max_age) }
+    {
+        if count.abs_diff(last) > self.threshold || begins_anew(self.version, count, last) {
+            0
+        } else {
+            age.saturating_add(1)
+        }
+    }
 }
 
 // Whether a row begins anew: in version Two, where exactly one of its count and last count is 0.
-fn begins_anew(version: Version, row: &Row) -> bool
-    ensures { result ≡ is_anew version row.now }
+fn begins_anew(version: Version, count: u32, last: u32) -> bool
+    ensures { result ≡ is_anew version count last }
 {
     match version {
         Version::One => false,
-        Version::Two => is_turned(row),
+        Version::Two => is_turned(count, last),
     }
 }
 
 // Whether exactly one of the counts is 0.
-fn is_turned(row: &Row) -> bool
-    ensures { result ≡ is_turned_row row.now }
+fn is_turned(count: u32, last: u32) -> bool
+    ensures { result ≡ is_turned_count count last }
 {
-    if row.count == 0 {
-        row.last != 0
-    } else {
-        row.last == 0
-    }
+    if count == 0 { last != 0 } else { last == 0 }
 }

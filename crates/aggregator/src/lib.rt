@@ -4,14 +4,17 @@
 
 /// Ages.
 mod ages;
-/// The threshold of an aggregation, and the clearing of counts.
-mod counts;
+/// The clearing of counts.
+mod clearing;
 /// Laws of aging and clearing.
 mod laws;
+/// The threshold of an aggregation.
+mod thresholds;
 
 pub use ages::age_all;
-pub use counts::{clear_counts, threshold};
+pub use clearing::clear_counts;
 pub use laws::{aged_rows_are_kept, cleared_rows_are_kept};
+pub use thresholds::threshold;
 
 #[cfg(test)]
 mod tests;

@@ -1,5 +1,5 @@
 use crate::{age_all, clear_counts, threshold};
-use damon_types::{Range, Ranges, Row};
+use damon_types::{Range, Ranges, Row, Version};
 use region_list::{Regions, RowBuf, divide};
 use std::test::Fail;
 
@@ -35,7 +35,7 @@ fn rows_are_aged_and_their_counts_cleared(rt: HostRuntime) -> Result<(), Fail> {
 
     let small = threshold(&regions);
     assert_eq!(rt; small, 2);
-    age_all(&mut regions, small);
+    age_all(&mut regions, small, Version::One);
     assert_eq!(rt;
         [regions.row(0), regions.row(1), regions.row(2)],
         [

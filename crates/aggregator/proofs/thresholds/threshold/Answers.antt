@@ -2,7 +2,7 @@ use Rattle.std.proofs.Common.{◌≡◌, ℕ, ◌/◌, map, sym, ap, ◌∙◌}
 use Rattle.std.specs.Prelude.{max, fold}
 use Rattle.std.proofs.lemmas.List.Folds.{fold-map}
 use Rattle.damon_types.specs.declared.row.Row.{Row}
-use Rattle.aggregator.proofs.counts.threshold.Goals as goal
+use Rattle.aggregator.proofs.thresholds.threshold.Goals as goal
 
 pub returns : goal.returns
 returns c =
