@@ -1,5 +1,5 @@
 -- A monitor that stands for a state stands for the one after a commit.
-use Rattle.std.proofs.Common.{◌≡◌, ℕ, ◌≤◌, ◌<◌, List, [], ◌∷◌, get_or, set as put, Option, Some, None, Ok, Err, refl, sym, ap, ◌∙◌}
+use Rattle.std.proofs.Common.{◌≡◌, ℕ, ◌≤◌, ◌<◌, List, [], ◌∷◌, get_or, length, set as put, Option, Some, None, Ok, Err, refl, sym, ap, ◌∙◌}
 use Rattle.std.specs.Prelude.{Result}
 use Rattle.damon_types.specs.declared.row.Row.{Row}
 use Rattle.damon_types.specs.declared.scheme.CostPart.{CostPart}
@@ -78,6 +78,7 @@ stands_after laws (Ok t) m s c ok stands =
     let number = last_pass-commit s.core.phase s.core.regions.rows new s.core.ticks (allows_commit c s.core ok) in
     record {
       same = refl;
+      each = stands.each ∙ ap (λ (x : Core). length x.picks) stands.same;
       results = λ k.
           stands.results k
           ∙ ap (λ (x : Core). was_hit s.notes (last_pass x.phase x.ticks) k) stands.same
@@ -89,6 +90,7 @@ stands_after laws (Ok t) m s c ok stands =
     }
 stands_after laws (Err fault) m s c ok stands = record {
   same = refl;
+  each = stands.each ∙ ap (λ (x : Core). length x.picks) stands.same;
   results = λ k. stands.results k ∙ ap (λ (x : Core). was_hit s.notes (last_pass x.phase x.ticks) k) stands.same;
   checks = stands.checks;
   hits = stands.hits;

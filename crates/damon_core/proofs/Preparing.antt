@@ -16,10 +16,10 @@ use Rattle.damon_core.specs.Event.{prepare}
 use Rattle.damon_core.specs.After.{after}
 use Rattle.damon_core.specs.Kept.{IsMonitor, IsSampling, SamplingView, SinceFew}
 use Rattle.damon_core.specs.Makes.{Makes}
-use Rattle.damon_core.specs.Report.{ReportBuf}
 use Rattle.damon_core.specs.Stands.{MonitorView, Stands}
 use Rattle.damon_core.specs.State.{row_count}
 use Rattle.damon_core.specs.declared.clock.Clock.{Clock}
+use Rattle.damon_core.specs.declared.report.Report.{Report}
 use Rattle.damon_core.specs.declared.totals.Totals.{Totals}
 use Rattle.damon_core.proofs.RowFacts.{length-picks_of, picks_in, rows_in}
 use Rattle.damon_core.proofs.Shown.{after_prepare}
@@ -42,7 +42,7 @@ sampling_prepared r phase old new hits row_room range_room ws kept each made =
     }
 
 -- a monitor, with a page of the space picked of each row
-pub monitor_prepared : (space : List Target) (attrs : Attrs) (old new : SamplingView) (clock : Clock) (totals : Totals) (report : ReportBuf) (engine : EngineValue) (ws : List ℕ) → IsMonitor space attrs old clock totals report engine → old.phase ≡ Idle → 1 ≤ old.regions.unit → Tiles old.regions.ranges (spans old.regions.rows) old.regions.unit → new ≡ record old { phase = Clearing 0; picks = picks_of old.regions.rows ws; bits = replicate (length old.regions.rows) false } → IsMonitor space attrs new clock totals report engine
+pub monitor_prepared : (space : List Target) (attrs : Attrs) (old new : SamplingView) (clock : Clock) (totals : Totals) (report : Report) (engine : EngineValue) (ws : List ℕ) → IsMonitor space attrs old clock totals report engine → old.phase ≡ Idle → 1 ≤ old.regions.unit → Tiles old.regions.ranges (spans old.regions.rows) old.regions.unit → new ≡ record old { phase = Clearing 0; picks = picks_of old.regions.rows ws; bits = replicate (length old.regions.rows) false } → IsMonitor space attrs new clock totals report engine
 monitor_prepared space attrs old new clock totals report engine ws kept idle unit tiles made =
     let r = old.regions in
     let rows = rows_in space r.ranges r.unit r.rows unit kept.ranges_in tiles in
@@ -57,6 +57,7 @@ monitor_prepared space attrs old new clock totals report engine ws kept idle uni
       checks_few = kept.checks_few;
       hits_few = kept.hits_few;
       report_room = kept.report_room;
+      applied_room = kept.applied_room;
       report_in = kept.report_in;
       runs_in = kept.runs_in;
       engine_room = kept.engine_room;
@@ -67,5 +68,5 @@ monitor_prepared space attrs old new clock totals report engine ws kept idle uni
 pub prepare_is_made : (m new : MonitorView) (ws : List ℕ) → m.core.phase ≡ Idle → length ws ≡ row_count m.core → new ≡ after_prepare ws m → Makes Stands m new (prepare ws ∷ [])
 prepare_is_made m new ws idle each shows s reached stands = (
   (prepare_fits m s ws stands idle each, tt),
-  subst (λ (x : MonitorView). Stands x (after s (prepare ws))) (sym shows) (prepare_stands m s ws reached stands idle),
+  subst (λ (x : MonitorView). Stands x (after s (prepare ws))) (sym shows) (prepare_stands m s ws reached stands idle each),
 )

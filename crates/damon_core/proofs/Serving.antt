@@ -15,8 +15,10 @@ use Rattle.scheme_engine.specs.Outcome.{outcome_of}
 use Rattle.scheme_engine.specs.Served.{ServedSlot, Served, no_choice, slot_counted, slot_run, slot_served, slots_served}
 use Rattle.scheme_engine.specs.Slots.{SetScheme, SlotValue, window_at}
 use Rattle.damon_core.specs.Note.{Note, turned}
+use Rattle.damon_core.specs.Aggregate.{IsServedAlike, merged_regions}
+use Rattle.damon_core.specs.State.{State}
 use Rattle.damon_core.specs.Serve.{Serving, nothing_served, run_served, serve_scheme, serve_slot, serve_slots, with_turn}
-use Rattle.damon_core.specs.Slots.{charged_of, cost_of, is_active_in, scheme_of, set_scheme_of, slot_of, start_of}
+use Rattle.damon_core.specs.Slots.{charged_of, cost_of, is_active_in, scheme_of, set_scheme_of, slot_count, slot_of, start_of}
 use Rattle.damon_core.proofs.SlotNotes.{same, ran-other, ran-same, turned-other}
 
 -- what the laws of the engine say of the outcome of a scheme
@@ -174,3 +176,9 @@ slots_alike laws (suc n) slot space aggr tick regions notes tiled =
       before = λ j below. more.before j (omega arith) ∙ one.others j (λ e. absurd (omega arith));
       tiled = more.tiled;
     }
+
+-- the slots of a state whose merged rows tile their ranges
+pub served_alike : OutcomeLaws → (s : State) → AreTiled (merged_regions s.core) → IsServedAlike s
+served_alike laws s tiled =
+    let alike = slots_alike laws slot_count 0 s.core.space s.core.attrs.aggr s.core.ticks (merged_regions s.core) s.notes tiled in
+    record { slots = alike.slots; rows = alike.rows; runs = alike.runs; choices = alike.choices }

@@ -3,7 +3,7 @@ use Rattle.std.proofs.Common.{◌≡◌, ◌≢◌, ◌⊎◌, inl, inr, ℕ, ze
 use Rattle.std.specs.Prelude.{◌==◌, ◌&&◌, ◌||◌, count_by, replicate}
 use Rattle.std.proofs.lemmas.Bool.{cases_eq}
 use Rattle.std.proofs.lemmas.Bool.Decides.{nat_tests}
-use Rattle.std.proofs.lemmas.List.{take_all}
+use Rattle.std.proofs.lemmas.List.{length-replicate, length-set, take_all}
 use Rattle.std.proofs.lemmas.List.Sums.{sum_by_more}
 use Rattle.damon_types.specs.declared.row.Row.{Row}
 use Rattle.live_commit.specs.declared.phase.Phase.{Phase}
@@ -24,6 +24,7 @@ use Rattle.damon_core.specs.Reached.{Reached}
 use Rattle.damon_core.specs.Makes.{Makes}
 use Rattle.damon_core.specs.Stands.{MonitorView, Stands, bit_at, last_pass}
 use Rattle.damon_core.specs.Kept.{loaded_so_far, HasPicks}
+use Rattle.damon_core.proofs.RowFacts.{length-picks_of}
 use Rattle.damon_core.proofs.Served.{notes_hold}
 use Rattle.damon_core.proofs.Serving.{AreServed, OutcomeLaws, slots_alike}
 use Rattle.damon_core.proofs.Shown.{after_prepare, after_clears, after_load, after_observe, ended, after_aggregate}
@@ -38,12 +39,13 @@ bit_at-replicate (suc n) (suc k) = bit_at-replicate n k
 at_pass : (m : MonitorView) (s : State) (n : ℕ) → Stands m s → last_pass m.core.phase m.core.ticks ≡ n → (k : ℕ) → bit_at m.bits k ≡ was_hit s.notes n k
 at_pass m s n stands is k = stands.results k ∙ ap (λ j. was_hit s.notes j k) is
 
-pub prepare_stands : (m : MonitorView) (s : State) (ws : List ℕ) → Reached s → Stands m s → m.core.phase ≡ Idle → Stands (after_prepare ws m) (after s (prepare ws))
-prepare_stands m s ws reached stands idle =
+pub prepare_stands : (m : MonitorView) (s : State) (ws : List ℕ) → Reached s → Stands m s → m.core.phase ≡ Idle → length ws ≡ row_count m.core → Stands (after_prepare ws m) (after s (prepare ws))
+prepare_stands m s ws reached stands idle count =
     let ticks = ap (λ (c : Core). c.ticks) stands.same in
     let none : loaded_so_far s.core.phase ≡ 0 = ap (λ (c : Core). loaded_so_far c.phase) (sym stands.same) ∙ ap loaded_so_far idle in
     record {
       same = ap (prepared_core ws) stands.same;
+      each = length-replicate {A = Bool} (row_count m.core) false ∙ sym (length-picks_of m.core.regions.rows ws count);
       results = λ k. bit_at-replicate (row_count m.core) k ∙ sym (ap (λ n. was_hit s.notes (n + 1) k) ticks ∙ (reached_early s reached).this_pass k (omega (arith, none)));
       checks = stands.checks;
       hits = stands.hits;
@@ -56,6 +58,7 @@ clear_at (Clearing k) m s is fits stands =
     let now = at_pass m s _ stands same_pass in
     record {
       same = ap (λ (c : Core). record c { phase = phase_cleared (k + 1) (row_count c) }) stands.same;
+      each = stands.each;
       results = now;
       checks = stands.checks;
       hits = stands.hits;
@@ -113,6 +116,7 @@ load_stands m s hit reached stands fits here =
     let new : was_hit s.notes n i ≡ false = (reached_early s reached).this_pass i (omega (arith, pass.1)) in
     let made : Stands (after_load hit m) (loaded_at i hit s) = record {
       same = ap (λ (c : Core). record c { phase = Checking (load_index c.phase + 1) }) stands.same;
+      each = length-set m.bits (load_index m.core.phase) hit ∙ stands.each;
       results = λ k.
           ap (λ j. bit_at (set m.bits j hit) k) index
           ∙ set_hit s.notes n i k hit m.bits (omega (arith, here, index)) new (now k)
@@ -168,6 +172,7 @@ observe_at (Checking k) m s is reached stands fits (inr len) =
       same =
           ap (λ (c : Core). passed_core (record c { regions = record c.regions { rows = raised m.bits c.regions.rows } })) stands.same
           ∙ ap (λ rs. passed_core (record s.core { regions = record s.core.regions { rows = rs } })) rows;
+      each = stands.each;
       results = later;
       checks = omega (arith, stands.checks, made);
       hits = omega (arith, stands.hits, found);
@@ -178,6 +183,7 @@ observe_at Void m s is reached stands fits bits =
     let later = at_pass m s _ stands (after_pass m pass) in
     record {
       same = ap passed_core stands.same;
+      each = stands.each;
       results = later;
       checks = stands.checks;
       hits = stands.hits;
@@ -222,6 +228,7 @@ aggregate_stands laws m s ws tiled due stands =
           ap (core_after_aggregation ws m.slots) stands.same
           ∙ ap (λ (slots : List SlotValue). core_after_aggregation ws slots s.core) stands.slots
           ∙ core_alike ws s.core (engine_served s.core (slots_of s.notes)) (served s) alike.rows alike.runs alike.choices;
+      each = stands.each;
       results = λ k. over k ∙ sym (was_hit-served s m.core.ticks k);
       checks = stands.checks ∙ sym (checks_made-served s);
       hits = stands.hits ∙ sym (hits_made-served s);

@@ -1,5 +1,5 @@
 -- What an aggregation makes of the rows.
-use Rattle.std.specs.Prelude.{ℕ, ◌/◌, max, List, length}
+use Rattle.std.specs.Prelude.{◌≡◌, ℕ, ◌/◌, max, List, length}
 use Rattle.damon_types.specs.declared.row.Row.{Row}
 use Rattle.damon_types.specs.Ranges.{page_total}
 use Rattle.live_commit.specs.declared.phase.Phase.TheVariants.{Idle}
@@ -14,7 +14,7 @@ use Rattle.scheme_engine.specs.declared.applied.SlotChoice.{SlotChoice}
 use Rattle.scheme_engine.specs.Served.{Served, slots_served}
 use Rattle.scheme_engine.specs.Slots.{SlotValue}
 use Rattle.damon_core.specs.Serve.{Serving, serve_slots}
-use Rattle.damon_core.specs.Slots.{slot_count}
+use Rattle.damon_core.specs.Slots.{slot_count, slots_of}
 use Rattle.damon_core.specs.State.{Core, State}
 
 -- the most pages of a merged row: what each of `min` rows of equal size would have, and at least `unit`
@@ -51,6 +51,14 @@ aggregated words s =
 -- what serving all slots in an aggregation makes of the rows and the slots of a monitor
 abbrev pub engine_served : Core → List SlotValue → Served
 engine_served c slots = slots_served 0 c.space c.attrs.aggr c.ticks (merged_regions c) slots
+
+-- Serving the slots that the notes of a state tell of gives what serving by the notes gives: the rows, the runs and the choices, and
+-- the slots that the notes then tell of.
+pub record IsServedAlike (s : State) : Type 0 where
+  pub slots : (engine_served s.core (slots_of s.notes)).slots ≡ slots_of (served s).notes
+  pub rows : (engine_served s.core (slots_of s.notes)).rows ≡ (served s).rows
+  pub runs : (engine_served s.core (slots_of s.notes)).runs ≡ (served s).runs
+  pub choices : (engine_served s.core (slots_of s.notes)).choices ≡ (served s).choices
 
 -- what a monitor with these slots shows after an aggregation
 abbrev pub core_after_aggregation : List ℕ → List SlotValue → Core → Core

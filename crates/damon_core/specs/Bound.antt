@@ -38,7 +38,8 @@ EachHitRests (checked n k p true ∷ earlier) = (touched_after_clear earlier n k
 EachHitRests (_ ∷ earlier) = EachHitRests earlier
 
 -- A run of a slot's scheme, after these notes: the slot is set and active, and where its scheme has a quota and is applied to a
--- page, the pages charged to the slot with these are at most the effective quota, by the cost before this run.
+-- page, the pages charged to the slot with these are at most the effective quota, by the cost before this run. Each of the runs of
+-- pages has a page, so it is applied to a page exactly where there is one.
 pub record IsRunWithin (earlier : List Note) (slot : ℕ) (runs : List AppliedRun) : Type 0 where
   pub scheme : Scheme
   pub is_set : scheme_of earlier slot ≡ Some scheme

@@ -18,8 +18,8 @@ use Rattle.scheme_engine.specs.Engine.{EngineValue}
 use Rattle.scheme_engine.specs.Kept.{CountsWithin, IsRunIn, StartBy}
 use Rattle.scheme_engine.specs.Slots.{SlotValue}
 use Rattle.damon_core.specs.Pass.{IsPickWithin}
-use Rattle.damon_core.specs.Report.{ReportBuf}
 use Rattle.damon_core.specs.declared.clock.Clock.{Clock}
+use Rattle.damon_core.specs.declared.report.Report.{Report}
 use Rattle.damon_core.specs.declared.totals.Totals.{Totals}
 
 -- how many picks of the pass are loaded
@@ -60,7 +60,7 @@ pub record CanCommit (space : List Target) (r : RegionList) (new : Option (List 
 -- What holds of what is sampled, at all times. A commit has room for all rows, and for new ranges with their rows.
 pub record IsSampling (regions : RegionList) (phase : Phase) (picks : PickList) (hits_so_far row_room range_room : ℕ) : Type 0 where
   pub some : 0 < length regions.rows
-  pub room : regions.cap ≤ picks.cap
+  pub room : regions.cap ≡ picks.cap
   pub within : IsPickWithin phase (length regions.rows)
   pub bits_each : length picks.bits ≡ length picks.pages
   pub has_picks : HasPicks phase (length regions.rows) (length picks.pages)
@@ -90,7 +90,7 @@ pub record IsServing (clock : Clock) (slots : List SlotValue) : Type 0 where
   pub served : AllByRecursion (CountsWithin (clock.ticks - clock.since)) slots
 
 -- what a monitor keeps at all times
-pub record IsMonitor (space : List Target) (attrs : Attrs) (sampling : SamplingView) (clock : Clock) (totals : Totals) (report : ReportBuf) (engine : EngineValue) : Type 0 where
+pub record IsMonitor (space : List Target) (attrs : Attrs) (sampling : SamplingView) (clock : Clock) (totals : Totals) (report : Report) (engine : EngineValue) : Type 0 where
   pub attrs_sound : IsAttrs attrs
   pub max : sampling.regions.max ≡ attrs.max
   pub cap_few : sampling.regions.cap ≤ 4096
@@ -100,8 +100,9 @@ pub record IsMonitor (space : List Target) (attrs : Attrs) (sampling : SamplingV
   pub since_few : SinceFew sampling.phase clock.since
   pub checks_few : totals.checks ≤ 4096 * clock.ticks
   pub hits_few : totals.hits ≤ 4096 * clock.ticks
-  pub report_room : sampling.regions.cap ≡ report.cap
-  pub report_in : RowsLieIn space report.value.rows
-  pub runs_in : AllByRecursion (IsRunIn space) report.value.runs
+  pub report_room : sampling.regions.cap ≡ report.rows.cap
+  pub applied_room : sampling.regions.cap ≡ report.applied.cap
+  pub report_in : RowsLieIn space report.rows.rows
+  pub runs_in : AllByRecursion (IsRunIn space) report.applied.runs
   pub engine_room : sampling.regions.cap ≡ engine.cap
   pub serving : IsServing clock engine.slots

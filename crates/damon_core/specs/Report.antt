@@ -3,6 +3,7 @@ use Rattle.std.specs.Prelude.{ℕ, List, []}
 use Rattle.damon_types.specs.declared.row.Row.{Row}
 use Rattle.scheme_engine.specs.declared.applied.AppliedRun.{AppliedRun}
 use Rattle.scheme_engine.specs.declared.applied.SlotChoice.{SlotChoice}
+use Rattle.damon_core.specs.declared.report.Report.{Report}
 
 -- the passes in all, the threshold of ages and merging, the rows before their counts are cleared, and the runs that schemes
 -- were applied to with the choices of the set slots
@@ -17,7 +18,6 @@ pub record ReportValue : Type 0 where
 abbrev pub no_report : ReportValue
 no_report = record { tick = 0; threshold = 0; rows = []; runs = []; choices = [] }
 
--- a report, and the number of rows for which it has room
-pub record ReportBuf : Type 0 where
-  pub value : ReportValue
-  pub cap : ℕ
+-- what a report says
+abbrev pub report_value : Report → ReportValue
+report_value r = record { tick = r.tick; threshold = r.threshold; rows = r.rows.rows; runs = r.applied.runs; choices = r.applied.choices }

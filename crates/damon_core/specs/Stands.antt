@@ -1,5 +1,5 @@
 -- What a monitor shows, and for which states it stands.
-use Rattle.std.specs.Prelude.{◌≡◌, ℕ, ◌+◌, Bool, false, List, slice_index_or}
+use Rattle.std.specs.Prelude.{◌≡◌, ℕ, ◌+◌, Bool, false, List, length, slice_index_or}
 use Rattle.live_commit.specs.declared.phase.Phase.{Phase}
 use Rattle.live_commit.specs.declared.phase.Phase.TheVariants.{Idle, Due}
 use Rattle.damon_core.specs.Note.{was_hit}
@@ -27,9 +27,10 @@ last_pass Idle ticks = ticks
 last_pass Due ticks = ticks
 last_pass _ ticks = ticks + 1
 
--- the monitor stands for the state
+-- The monitor stands for the state: it shows the same, and each of its picks has a bit, which is the result of its check.
 pub record Stands (m : MonitorView) (s : State) : Type 0 where
   pub same : m.core ≡ s.core
+  pub each : length m.bits ≡ length m.core.picks
   pub results : (k : ℕ) → bit_at m.bits k ≡ was_hit s.notes (last_pass m.core.phase m.core.ticks) k
   pub checks : m.checks ≡ checks_made s.notes
   pub hits : m.hits ≡ hits_made s.notes

@@ -1,5 +1,5 @@
 ghost use Rattle.std.specs.List.{AllByRecursion};
-ghost use Rattle.std.specs.Prelude.{◌≡◌, ◌+◌, ◌*◌, ◌^◌, ◌≤◌, ◌<◌, ℕ, true, max, ◌/◌, [], ◌∷◌, length, slice_get, slice_index, IfOk, Some, Ok};
+ghost use Rattle.std.specs.Prelude.{◌≡◌, ◌+◌, ◌*◌, ◌^◌, ◌≤◌, ◌<◌, ℕ, true, max, ◌/◌, [], ◌∷◌, length, slice_get, slice_index, IfOk, OnErr, Some, Ok};
 ghost use Rattle.damon_types.specs.declared.scheme.CostPart.{CostPart as cost_part};
 ghost use Rattle.damon_types.specs.declared.scheme.SlotChange.{SlotChange as slot_change};
 ghost use Rattle.damon_types.specs.declared.scheme.TheConstants.{MAX_SLOT};
@@ -16,6 +16,7 @@ ghost use Rattle.damon_core.specs.Event.{IsClearing, IsLoading, IsObserving, cle
 ghost use Rattle.damon_core.specs.Aggregate.{core_after_aggregation, engine_served};
 ghost use Rattle.damon_core.specs.Commit.{changed_by, check_of, commit_answer, committed_core, committed_slots, core_after_commit, slots_after_commit, view_of};
 ghost use Rattle.damon_core.specs.Kept.{IsUnused};
+ghost use Rattle.damon_core.specs.Report.{report_value};
 ghost use Rattle.damon_core.specs.Slots.{slots_of};
 ghost use Rattle.damon_core.specs.Several.{clears, loads};
 ghost use Rattle.damon_core.specs.After.{prepared_core, cleared_core, loaded_core, passed_core, phase_cleared, phase_after_pass};
@@ -60,6 +61,7 @@ impl Model for Monitor {
     ghost Value = { MonitorView };
 
     ghost use Rattle.damon_core.specs.Kept.{IsMonitor};
+    ghost use Rattle.damon_core.specs.Report.{report_value};
 
     ghost view = { λ m. record {
       core = record {
@@ -72,7 +74,7 @@ impl Model for Monitor {
         ticks = m.clock.ticks;
         since = m.clock.since;
         before = m.sampling.before;
-        report = m.report.value;
+        report = report_value m.report;
       };
       bits = m.sampling.bits;
       checks = m.totals.checks;
@@ -90,7 +92,9 @@ impl Monitor {
     pub fn new(alloc: Global, setup: &Setup) -> Result<Monitor, AllocError>
         ensures core { IfOk result (λ m. m.core ≡ opening_core (value_of setup.now)) }
         ensures opening { IfOk result (λ m. Stands m (opening (value_of setup.now))) }
+        ensures reached { IfOk result (λ m. Reached (opening (value_of setup.now))) }
     {
+        opening_is_reached(setup);
         region_list::shrunk_rows_are_kept();
         let regions = first_regions(alloc, setup)?;
         // For its clauses alone: the rows tile their ranges and are within their limits.
@@ -160,7 +164,9 @@ impl Monitor {
     /// What the last aggregation reported. Each of its rows, and each run that a scheme was applied to,
     /// has a page, and its pages are pages of the space.
     pub fn report(&self) -> &Report
-        ensures report { result.now.value ≡ self.now.core.report }
+        ensures report { report_value result.now ≡ self.now.core.report }
+        ensures room { result.now.rows.cap ≡ self.now.core.regions.cap }
+        ensures applied { result.now.applied.cap ≡ self.now.core.regions.cap }
         ensures in_space { AllByRecursion
             (λ r. (1 ≤ r.pages) × (r.start + r.pages ≤ pages_of self.now.core.space))
             self.now.core.report.rows }
@@ -173,7 +179,8 @@ impl Monitor {
 
     /// The slots that hold schemes.
     pub fn engine(&self) -> &Engine
-        ensures { result.now.slots ≡ self.now.slots }
+        ensures slots { result.now.slots ≡ self.now.slots }
+        ensures cap { result.now.cap ≡ self.now.core.regions.cap }
     {
         &self.engine
     }
@@ -197,6 +204,7 @@ impl Monitor {
     pub fn picks(&self) -> &Picks
         ensures pages { result.now.pages ≡ self.now.core.picks }
         ensures bits { result.now.bits ≡ self.now.bits }
+        ensures cap { result.now.cap ≡ self.now.core.regions.cap }
 
         // A pass under way has a pick for each row, which is a page of the space.
         ensures each { IsInPass self.now.core.phase
@@ -211,9 +219,22 @@ impl Monitor {
         self.sampling.picks()
     }
 
-    /// Prepares a pass: picks a page of each row by the next random words of a source, one for each. No pass
-    /// is under way and no aggregation is due.
-    pub fn prepare<R: Rng>(&mut self, source: &mut R)
+    /// Prepares a pass: picks a page of each row by the words that are given, one for each. No pass is under way
+    /// and no aggregation is due.
+    pub fn prepare(&mut self, words: &[u32])
+        requires idle { self.old.core.phase ≡ Phase.Idle }
+        requires words { length words.now ≡ row_count self.old.core }
+        ensures core { self.new.core ≡ prepared_core words.now self.old.core }
+        ensures event { Makes Stands self.old self.new (prepare_event words.now ∷ []) }
+    {
+        // For its clauses alone: the rows tile their ranges and are within their limits.
+        let _rows = self.sampling.regions().len();
+        self.sampling.prepare(words);
+    }
+
+    /// Prepares a pass as [`Monitor::prepare`] does, by the next random words of a source. They are drawn as the
+    /// pages are picked, which is faster than a list of them.
+    pub fn prepare_from<R: Rng>(&mut self, source: &mut R)
         requires { self.old.core.phase ≡ Phase.Idle }
         ensures core { self.new.core
             ≡ prepared_core (drawn (row_count self.old.core) (R.stream source.old)) self.old.core }
@@ -226,7 +247,7 @@ impl Monitor {
     {
         // For its clauses alone: the rows tile their ranges and are within their limits.
         let _rows = self.sampling.regions().len();
-        self.sampling.prepare(source);
+        self.sampling.prepare_from(source);
     }
 
     /// The page of pick `k`, one for each row, of the pass under way.
@@ -351,6 +372,7 @@ impl Monitor {
         ensures slots { self.new.slots
             ≡ slots_after_commit (commit_value commit.now) self.old.core self.old.slots }
         ensures event { Makes Stands self.old self.new (commit_event (commit_value commit.now) ∷ []) }
+        ensures kept { OnErr result (self.new ≡ self.old) }
 
         // What no commit changes.
         ensures space { self.new.core.space ≡ self.old.core.space }
@@ -425,6 +447,14 @@ impl Monitor {
         self.clock.tick();
         self.sampling.leave(self.clock.next_phase(self.attrs.aggr));
     }
+}
+
+// The opening state of a setup is reached, by no events.
+fn opening_is_reached(setup: &Setup)
+    ensures { Reached (opening (value_of setup.now)) }
+{
+    // For their clauses alone: the targets are within their limits, and the ranges are in order.
+    let (_targets, _ranges) = (setup.space.targets(), setup.ranges.len());
 }
 
 // The slots of a monitor before its first pass: those of the setup are set.

@@ -1,51 +1,38 @@
-ghost use Rattle.std.specs.Prelude.{◌≡◌, ◌≤◌, length, IfOk};
+ghost use Rattle.std.specs.Prelude.{◌≡◌, ◌≤◌, [], length, IfOk};
 ghost use Rattle.std.specs.List.{AllByRecursion};
 ghost use Rattle.damon_types.specs.Within.{AreWithin};
 ghost use Rattle.scheme_engine.specs.Engine.{BeginBy, FitsSlot};
 ghost use Rattle.scheme_engine.specs.Served.{slots_served};
-ghost use Rattle.damon_core.specs.Report.{no_report};
 
 use damon_types::Space;
 use region_list::{Regions, RowBuf};
 use scheme_engine::{Applied, Engine};
 use std::alloc::{AllocError, Global};
-use std::marker::Model;
 
 /// What the last aggregation reported: when it was, its threshold, the rows as they stood once they were
 /// merged and the schemes were applied, with the counts of the passes since the aggregation before, and
 /// what the schemes were applied to. Empty, with tick 0, before the first aggregation.
 #[derive(Drop)]
 pub struct Report {
-    tick: u64,
-    threshold: u32,
-    rows: RowBuf,
-    applied: Applied,
-}
-
-impl Model for Report {
-    ghost use Rattle.std.specs.Prelude.{◌≡◌};
-    ghost use Rattle.damon_core.specs.Report.{ReportBuf};
-
-    ghost Value = { ReportBuf };
-
-    ghost view = { λ r. record {
-      value = record {
-        tick = r.tick;
-        threshold = r.threshold;
-        rows = r.rows.rows;
-        runs = r.applied.runs;
-        choices = r.applied.choices;
-      };
-      cap = r.rows.cap;
-    } };
-
-    ghost invariant = { λ r. r.applied.cap ≡ r.rows.cap };
+    /// The passes that had ended, which is the time of the aggregation.
+    pub tick: u64,
+    /// The most by which two counts differed that were about the same: a tenth of the highest count.
+    pub threshold: u32,
+    /// The rows in order.
+    pub rows: RowBuf,
+    /// The runs of pages that schemes were applied to, and the choices of the slots that were set.
+    pub applied: Applied,
 }
 
 impl Report {
     // The report before the first aggregation, with room for `cap` rows, or an error when out of memory.
     pub(crate) fn new(alloc: Global, cap: u32) -> Result<Report, AllocError>
-        ensures { IfOk result (λ r. r ≡ record { value = no_report; cap = cap }) }
+        ensures { IfOk result (λ r. r ≡ record {
+          tick = 0;
+          threshold = 0;
+          rows = record { rows = []; cap = cap };
+          applied = record { runs = []; choices = []; cap = cap };
+        }) }
     {
         let rows = RowBuf::new(alloc, cap)?;
         let applied = Applied::new(alloc, cap)?;
@@ -69,7 +56,7 @@ impl Report {
         requires within { AreWithin space.now regions.old.ranges }
         requires aggr { 1 ≤ aggr }
         requires engine { regions.old.cap ≡ engine.old.cap }
-        requires room { regions.old.cap ≡ self.old.cap }
+        requires room { regions.old.cap ≡ self.old.applied.cap }
         requires windows { BeginBy tick engine.old.slots }
         requires fits { AllByRecursion FitsSlot
             (slots_served 0 space.now aggr tick regions.old engine.old.slots).slots }
@@ -80,7 +67,7 @@ impl Report {
           rows = (slots_served 0 space.now aggr tick regions.old engine.old.slots).rows;
         } }
         ensures applied { self.new ≡ record self.old {
-          value = record self.old.value {
+          applied = record self.old.applied {
             runs = (slots_served 0 space.now aggr tick regions.old engine.old.slots).runs;
             choices = (slots_served 0 space.now aggr tick regions.old engine.old.slots).choices;
           };
@@ -91,42 +78,15 @@ impl Report {
 
     // Replaces the tick, the threshold and the rows, for which there is room.
     pub(crate) fn set(&mut self, tick: u64, threshold: u32, rows: &RowBuf)
-        requires { length rows.now.rows ≤ self.old.cap }
+        requires { length rows.now.rows ≤ self.old.rows.cap }
         ensures { self.new ≡ record self.old {
-          value = record self.old.value { tick = tick; threshold = threshold; rows = rows.now.rows };
+          tick = tick;
+          threshold = threshold;
+          rows = record self.old.rows { rows = rows.now.rows };
         } }
     {
         self.tick = tick;
         self.threshold = threshold;
         self.rows.copy_from(rows);
-    }
-
-    /// The passes that had ended, which is the time of the aggregation.
-    pub fn tick(&self) -> u64
-        ensures { result ≡ self.now.value.tick }
-    {
-        self.tick
-    }
-
-    /// The most by which two counts differed that were about the same: a tenth of the highest count.
-    pub fn threshold(&self) -> u32
-        ensures { result ≡ self.now.value.threshold }
-    {
-        self.threshold
-    }
-
-    /// The rows in order.
-    pub fn rows(&self) -> &RowBuf
-        ensures { result.now.rows ≡ self.now.value.rows }
-    {
-        &self.rows
-    }
-
-    /// The runs of pages that schemes were applied to, and the choices of the slots that were set.
-    pub fn applied(&self) -> &Applied
-        ensures runs { result.now.runs ≡ self.now.value.runs }
-        ensures choices { result.now.choices ≡ self.now.value.choices }
-    {
-        &self.applied
     }
 }

@@ -30,7 +30,7 @@ use rand_core::Rng;
 use region_list::{Regions, RowBuf, same_spans};
 use region_merge::merge_all;
 use region_split::split_all;
-use sampler::{Marks, Picks, draw_picks};
+use sampler::{Marks, Picks, draw_picks, set_picks};
 use scheme_engine::Engine;
 use std::alloc::{AllocError, Global};
 use std::marker::Model;
@@ -116,14 +116,31 @@ impl Sampling {
     pub(crate) fn picks(&self) -> &Picks
         ensures pages { result.now.pages ≡ self.now.picks }
         ensures bits { result.now.bits ≡ self.now.bits }
+        ensures cap { result.now.cap ≡ self.now.regions.cap }
         ensures each { IsInPass self.now.phase
             → length self.now.picks ≡ length self.now.regions.rows }
     {
         &self.picks
     }
 
+    // Prepares a pass: picks a page of each row by the words that are given, one for each.
+    pub(crate) fn prepare(&mut self, words: &[u32])
+        requires { length words.now ≡ length self.old.regions.rows }
+        ensures { self.new ≡ record self.old {
+          phase = variant.Clearing 0;
+          picks = picks_of self.old.regions.rows words.now;
+          bits = replicate (length self.old.regions.rows) false;
+        } }
+    {
+        // For its clauses alone: there are at most `cap` rows.
+        let _rows = self.regions.len();
+        set_picks(&self.regions, words, &mut self.picks);
+        self.hits_so_far = 0;
+        self.phase = Phase::Clearing { next: 0 };
+    }
+
     // Prepares a pass: picks a page of each row by the next random words of a source, one for each.
-    pub(crate) fn prepare<R: Rng>(&mut self, source: &mut R)
+    pub(crate) fn prepare_from<R: Rng>(&mut self, source: &mut R)
         ensures prepared { self.new ≡ record self.old {
           phase = variant.Clearing 0;
           picks = picks_of self.old.regions.rows
@@ -256,7 +273,7 @@ impl Sampling {
         requires within { AreWithin space.now self.old.regions.ranges }
         requires aggr { 1 ≤ aggr }
         requires engine { self.old.regions.cap ≡ engine.old.cap }
-        requires room { self.old.regions.cap ≡ report.old.cap }
+        requires room { self.old.regions.cap ≡ report.old.applied.cap }
         requires windows { BeginBy tick engine.old.slots }
         requires fits { AllByRecursion FitsSlot
             (slots_served 0 space.now aggr tick self.old.regions engine.old.slots).slots }
@@ -269,7 +286,7 @@ impl Sampling {
           slots = (slots_served 0 space.now aggr tick self.old.regions engine.old.slots).slots;
         } }
         ensures applied { report.new ≡ record report.old {
-          value = record report.old.value {
+          applied = record report.old.applied {
             runs = (slots_served 0 space.now aggr tick self.old.regions engine.old.slots).runs;
             choices = (slots_served 0 space.now aggr tick self.old.regions engine.old.slots).choices;
           };

@@ -1,8 +1,7 @@
 // A target of three pages that is watched whole, a row for each page, and the steps of its passes.
 use damon_core::Monitor;
-use damon_types::{Attrs, RangeSpec, Space, Target};
+use damon_types::{Attrs, RangeSpec, Space, Target, Version};
 use live_commit::{Phase, Setup};
-use rand_pcg::Lcg64Xsh32;
 use std::alloc::Global;
 use std::process::Abort;
 use std::test::Fail;
@@ -25,17 +24,17 @@ pub fn three_pages(alloc: Global) -> Result<Setup, Fail> {
         class: 0,
     };
     let space = Space::new(alloc, &[target])?;
-    let setup = Setup::new(alloc, space, 1, 8, attrs, &[range], &[])?;
+    let setup = Setup::new(alloc, Version::One, space, 1, 8, attrs, &[range], &[])?;
     Ok(setup)
 }
 
-// Prepares a pass of three rows. A row has one page, so any random word picks it.
+// Prepares a pass of three rows. A row has one page, so any word picks it.
 fn prepare(rt: &impl Abort, monitor: &mut Monitor) {
     let Phase::Idle = monitor.phase() else {
         panic!(rt; "no pass comes next");
     };
     assert_eq!(rt; monitor.rows().len(), 3);
-    monitor.prepare(&mut Lcg64Xsh32::new(1, 1));
+    monitor.prepare(&[5, 6, 7]);
 }
 
 // Clears the next pick, whose page is this one.

@@ -2,8 +2,10 @@ use Rattle.std.proofs.Common.{arith}
 use Rattle.damon_core.proofs.Bounding.{reached_bound}
 use Rattle.damon_core.proofs.Choosing.{serves_best}
 use Rattle.damon_core.proofs.Keeping.{any_result, reached_keeps}
-use Rattle.damon_core.proofs.Rows.{HasRows, RowLaws, rows_kept}
+use Rattle.damon_core.proofs.Adapting.{merged_tiled}
+use Rattle.damon_core.proofs.Rows.{HasRows, RowLaws, rows_kept, rows_of}
 use Rattle.damon_core.proofs.Served.{RunLaws}
+use Rattle.damon_core.proofs.Serving.{served_alike}
 use Rattle.damon_core.proofs.laws.reached_states_are_bound.Goals as goal
 
 pub returns : goal.returns
@@ -44,5 +46,6 @@ returns c =
     record {
       in_phase = λ s reached. (let rows = reached_keeps HasRows (rows_kept any_result laws) s reached in record { some = rows.some; few = omega (arith, rows.few, rows.most); pick = rows.within });
       choices = λ s reached. serves_best c.outcome_is_best.ensures.best laws s (reached_keeps HasRows (rows_kept any_result laws) s reached);
+      alike = λ s reached. (let rows = reached_keeps HasRows (rows_kept any_result laws) s reached in served_alike within.outcome s (merged_tiled laws.adapt s.core rows.wide rows.order (rows_of s rows)));
       bound = reached_bound laws within;
     }

@@ -9,6 +9,7 @@ use Rattle.live_commit.specs.Commit.{CommitValue, commit_value}
 use Rattle.damon_core.specs.Commit.{check_of, phase_after_commit, regions_after, view_of}
 use Rattle.damon_core.specs.Kept.{CanCommit, IsServing, SamplingView, SinceFew}
 use Rattle.damon_core.specs.State.{Core}
+use Rattle.damon_core.specs.Report.{report_value}
 use Rattle.damon_core.specs.Stands.{MonitorView}
 use Rattle.damon_core.proofs.Committing.{commit_facts, new_cap, new_counts, new_max, since_kept}
 use Rattle.damon_core.proofs.Shown.{shown}
@@ -19,7 +20,7 @@ use Rattle.damon_core.proofs.monitor.Monitor.accept.Goals as goal
 pub commit-void-requires-clause-can : goal.commit-void-requires-clause-can
 commit-void-requires-clause-can c =
     let i = c.self.inside in
-    let core : Core = (shown i.version i.space i.attrs i.sampling i.clock i.totals i.report.value i.engine.slots).core in
+    let core : Core = (shown i.version i.space i.attrs i.sampling i.clock i.totals (report_value i.report) i.engine.slots).core in
     let v : CommitValue = commit_value c.args.commit.now in
     let ok = subst (λ (m : MonitorView). check_of v m.core ≡ Ok tt) (sym c.self.view_is) c.requires in
     let most = subst (λ (m : MonitorView). m.core.attrs.max ≤ m.core.regions.cap) (sym c.self.view_is) c.attrs.ensures.max in
@@ -30,7 +31,7 @@ commit-void-requires-clause-can c =
 pub change_slots-requires-clause-cost : goal.change_slots-requires-clause-cost
 change_slots-requires-clause-cost c part some =
     let i = c.self.inside in
-    let core : Core = (shown i.version i.space i.attrs i.sampling i.clock i.totals i.report.value i.engine.slots).core in
+    let core : Core = (shown i.version i.space i.attrs i.sampling i.clock i.totals (report_value i.report) i.engine.slots).core in
     let v : CommitValue = commit_value c.args.commit.now in
     let ok = subst (λ (m : MonitorView). check_of v m.core ≡ Ok tt) (sym c.self.view_is) c.requires in
     ((c.accepted_commits_are_within.ensures.accepted core.space (view_of core) v ok).cost part some).1
@@ -39,7 +40,7 @@ pub invariant_of-self : goal.invariant_of-self
 invariant_of-self c =
     let i = c.self.inside in
     let inv = c.self.invariant in
-    let core : Core = (shown i.version i.space i.attrs i.sampling i.clock i.totals i.report.value i.engine.slots).core in
+    let core : Core = (shown i.version i.space i.attrs i.sampling i.clock i.totals (report_value i.report) i.engine.slots).core in
     let v : CommitValue = commit_value c.args.commit.now in
     let ok = subst (λ (m : MonitorView). check_of v m.core ≡ Ok tt) (sym c.self.view_is) c.requires in
     let most = subst (λ (m : MonitorView). m.core.attrs.max ≤ m.core.regions.cap) (sym c.self.view_is) c.attrs.ensures.max in
@@ -62,6 +63,7 @@ invariant_of-self c =
       checks_few = inv.checks_few;
       hits_few = inv.hits_few;
       report_room = omega (arith, inv.report_room, cap);
+      applied_room = omega (arith, inv.applied_room, cap);
       report_in = inv.report_in;
       runs_in = inv.runs_in;
       engine_room = omega (arith, inv.engine_room, cap, ap (λ (e : EngineValue). e.cap) c.change_slots.ensures);

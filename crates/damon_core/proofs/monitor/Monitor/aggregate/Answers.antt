@@ -15,10 +15,11 @@ use Rattle.scheme_engine.specs.Kept.{AreTiled, IsRunIn}
 use Rattle.scheme_engine.specs.Served.{Served, slots_served}
 use Rattle.damon_core.specs.Aggregate.{merge_limit, merged_regions}
 use Rattle.damon_core.specs.Kept.{IsMonitor, IsServing, RowsLieIn, SamplingView, SinceFew}
-use Rattle.damon_core.specs.Report.{ReportBuf}
+use Rattle.damon_core.specs.declared.report.Report.{Report}
 use Rattle.damon_core.specs.State.{Core}
 use Rattle.damon_core.specs.Event.{aggregate}
 use Rattle.damon_core.specs.Makes.{Makes}
+use Rattle.damon_core.specs.Report.{report_value}
 use Rattle.damon_core.specs.Stands.{MonitorView, Stands}
 use Rattle.damon_core.specs.Pass.{IsBetween}
 use Rattle.damon_core.proofs.Adapting.{merged_is, tiled_by_len}
@@ -47,7 +48,7 @@ serve-requires c =
       within = within;
       aggr = v.attrs_sound.aggr_some;
       engine = same_cap ∙ v.engine_room;
-      room = same_cap ∙ v.report_room;
+      room = same_cap ∙ v.applied_room;
       windows = (c.served_slots_are_kept.ensures.begun i.clock.ticks i.clock.ticks i.engine.slots (omega arith) v.serving.windows).1;
       fits = c.served_slots_are_kept.ensures.fits (t + 1) (slots_served 0 i.space i.attrs.aggr i.clock.ticks r i.engine.slots).slots (omega (arith, v.serving.ticks_few)) bounded;
     }
@@ -78,7 +79,7 @@ invariant_of-self c =
     let due : i.sampling.phase ≡ Due = ap (λ (m : MonitorView). m.core.phase) c.self.view_is ∙ c.requires.due in
     let since = subst (λ (ph : Phase). SinceFew ph i.clock.since) due v.since_few in
     let runs = recursion_from_All (IsRunIn i.space) o.runs (c.served_slots_are_kept.ensures.space 0 i.attrs.aggr i.clock.ticks i.space r i.engine.slots tiled within) in
-    let report : c.set.new.self ≡ record c.serve.new.report { value = record c.serve.new.report.value { tick = i.clock.ticks; threshold = c.merge-threshold.result; rows = c.rows.result.now.rows } } = c.set.ensures in
+    let report : c.set.new.self ≡ record c.serve.new.report { tick = i.clock.ticks; threshold = c.merge-threshold.result; rows = record c.serve.new.report.rows { rows = c.rows.result.now.rows } } = c.set.ensures in
     subst (λ x. IsMonitor i.space i.attrs x (record { ticks = i.clock.ticks; since = 0 }) i.totals c.set.new.self c.serve.new.engine) (sym c.split.ensures.split) (record {
       attrs_sound = v.attrs_sound;
       max = ap (λ (x : RegionList). x.max) served ∙ ap (λ (s : SamplingView). s.regions.max) now ∙ v.max;
@@ -89,9 +90,10 @@ invariant_of-self c =
       since_few = omega arith;
       checks_few = v.checks_few;
       hits_few = v.hits_few;
-      report_room = same_cap ∙ v.report_room ∙ sym (ap (λ (b : ReportBuf). b.cap) report ∙ ap (λ (b : ReportBuf). b.cap) c.serve.ensures.applied);
-      report_in = subst (λ (b : ReportBuf). RowsLieIn i.space b.value.rows) (sym report) (subst (RowsLieIn i.space) (sym told) rows);
-      runs_in = subst (AllByRecursion (IsRunIn i.space)) (sym (ap (λ (b : ReportBuf). b.value.runs) report ∙ ap (λ (b : ReportBuf). b.value.runs) c.serve.ensures.applied)) runs;
+      report_room = same_cap ∙ v.report_room ∙ sym (ap (λ (b : Report). b.rows.cap) report ∙ ap (λ (b : Report). b.rows.cap) c.serve.ensures.applied);
+      applied_room = same_cap ∙ v.applied_room ∙ sym (ap (λ (b : Report). b.applied.cap) report ∙ ap (λ (b : Report). b.applied.cap) c.serve.ensures.applied);
+      report_in = subst (λ (b : Report). RowsLieIn i.space b.rows.rows) (sym report) (subst (RowsLieIn i.space) (sym told) rows);
+      runs_in = subst (AllByRecursion (IsRunIn i.space)) (sym (ap (λ (b : Report). b.applied.runs) report ∙ ap (λ (b : Report). b.applied.runs) c.serve.ensures.applied)) runs;
       engine_room = same_cap ∙ v.engine_room ∙ sym (ap (λ (e : EngineValue). e.cap) c.serve.ensures.slots);
       serving = subst (λ (e : EngineValue). IsServing (record { ticks = i.clock.ticks; since = 0 }) e.slots) (sym c.serve.ensures.slots) (serving_served i.clock o.slots since.0 v.serving.since_ticks v.serving.ticks_few windows bounded);
     })
@@ -101,7 +103,7 @@ returns-clause-event c =
     let m = c.args.self.now in
     let i = c.self.inside in
     let ws = c.args.words.now in
-    let core : Core = (shown i.version i.space i.attrs i.sampling i.clock i.totals i.report.value i.engine.slots).core in
+    let core : Core = (shown i.version i.space i.attrs i.sampling i.clock i.totals (report_value i.report) i.engine.slots).core in
     let len = c.len-merged.ensures in
     let limit : c.merge_limit-limit.result ≡ merge_limit core = c.merge_limit-limit.ensures ∙ ap (λ (x : RegionList). max x.unit (page_total x.ranges / i.attrs.min)) c.regions.ensures.regions in
     let merged = merged_is core c.merge-threshold.new.self.regions c.merge-threshold.result c.merge_limit-limit.result (ap (λ (s : SamplingView). s.regions) c.merge-threshold.ensures.merged) c.merge-threshold.ensures.threshold limit in
@@ -109,13 +111,13 @@ returns-clause-event c =
     let here = subst (λ (x : MonitorView). AreTiled (merged_regions x.core)) c.self.view_is tiled in
     let laws : OutcomeLaws = record { tiled = c.outcome_rows_are_kept.ensures.tiled; sum = c.outcome_runs_are_taken.ensures.sum } in
     let told = c.rows.ensures.rows ∙ ap (λ (x : RegionList). x.rows) c.regions-rows.ensures.regions in
-    let after = aggregated_view i.version i.space i.attrs i.clock i.totals ws i.sampling c.merge-threshold.new.self c.serve.new.self c.split.new.self i.report.value c.serve.new.report.value c.set.new.self.value i.engine.slots c.serve.new.engine.slots c.merge-threshold.result
+    let after = aggregated_view i.version i.space i.attrs i.clock i.totals ws i.sampling c.merge-threshold.new.self c.serve.new.self c.split.new.self (report_value i.report) (report_value c.serve.new.report) (report_value c.set.new.self) i.engine.slots c.serve.new.engine.slots c.merge-threshold.result
     (c.merge-threshold.ensures.merged ∙ ap (λ (r : RegionList). record i.sampling { regions = r }) (sym (ap (λ (s : SamplingView). s.regions) c.merge-threshold.ensures.merged) ∙ merged))
     c.serve.ensures.rows
     (ap (λ (e : EngineValue). e.slots) c.serve.ensures.slots)
-    (ap (λ (b : ReportBuf). b.value) c.serve.ensures.applied)
+    (ap report_value c.serve.ensures.applied)
     c.merge-threshold.ensures.threshold
-    (ap (λ (b : ReportBuf). b.value) c.set.ensures ∙ ap (λ (rows : List Row). with_kept i.clock.ticks c.merge-threshold.result rows c.serve.new.report.value) told)
+    (ap report_value c.set.ensures ∙ ap (λ (rows : List Row). with_kept i.clock.ticks c.merge-threshold.result rows (report_value c.serve.new.report)) told)
     c.split.ensures.split in
     subst (λ (x : MonitorView). Makes Stands m x (aggregate ws ∷ [])) (sym (after ∙ ap (after_aggregate ws) c.self.view_is))
     (aggregate_makes laws m ws here c.requires.due c.requires.words)

@@ -10,6 +10,7 @@ use Rattle.damon_core.specs.Event.{IsObserving, observe}
 use Rattle.damon_core.specs.After.{phase_after_pass}
 use Rattle.damon_core.specs.Makes.{Makes}
 use Rattle.damon_core.specs.Kept.{IsMonitor, SamplingView, SinceFew}
+use Rattle.damon_core.specs.Report.{report_value}
 use Rattle.damon_core.specs.Stands.{MonitorView, Stands}
 use Rattle.damon_core.specs.declared.clock.Clock.{Clock}
 use Rattle.damon_core.proofs.Shown.{ended, shown}
@@ -72,6 +73,7 @@ invariant_of-self c =
       checks_few = omega (arith, v.checks_few, same, c.len.ensures.few, c.len.ensures.most, cap, v.cap_few);
       hits_few = omega (arith, v.hits_few, hits, c.finish-hits.ensures.each, same, c.len.ensures.few, c.len.ensures.most, cap, v.cap_few);
       report_room = v.report_room;
+      applied_room = v.applied_room;
       report_in = v.report_in;
       runs_in = v.runs_in;
       engine_room = v.engine_room;
@@ -82,10 +84,10 @@ pub returns-clause-event : goal.returns-clause-event
 returns-clause-event c =
     let i = c.self.inside in
     let m = c.args.self.now in
-    let is : shown i.version i.space i.attrs c.finish-hits.new.self c.tick.new.self c.add.new.self i.report.value i.engine.slots ≡ ended m.core.phase m =
-    ap (λ x. shown i.version i.space i.attrs x c.tick.new.self c.add.new.self i.report.value i.engine.slots) (sampled c)
-    ∙ ap (λ x. shown i.version i.space i.attrs (sampled_then i.sampling (phase_after_pass (i.clock.since + 1) i.attrs.aggr)) x c.add.new.self i.report.value i.engine.slots) c.tick.ensures
-    ∙ ap (λ x. shown i.version i.space i.attrs (sampled_then i.sampling (phase_after_pass (i.clock.since + 1) i.attrs.aggr)) (clock_then i.clock) x i.report.value i.engine.slots) (totals c)
+    let is : shown i.version i.space i.attrs c.finish-hits.new.self c.tick.new.self c.add.new.self (report_value i.report) i.engine.slots ≡ ended m.core.phase m =
+    ap (λ x. shown i.version i.space i.attrs x c.tick.new.self c.add.new.self (report_value i.report) i.engine.slots) (sampled c)
+    ∙ ap (λ x. shown i.version i.space i.attrs (sampled_then i.sampling (phase_after_pass (i.clock.since + 1) i.attrs.aggr)) x c.add.new.self (report_value i.report) i.engine.slots) c.tick.ensures
+    ∙ ap (λ x. shown i.version i.space i.attrs (sampled_then i.sampling (phase_after_pass (i.clock.since + 1) i.attrs.aggr)) (clock_then i.clock) x (report_value i.report) i.engine.slots) (totals c)
     ∙ ap (λ (x : MonitorView). ended (Checking (row_count x.core)) x) c.self.view_is
     ∙ ap (λ (ph : Phase). ended ph m) (sym c.requires.phase) in
     let fits : IsObserving m.core.phase (row_count m.core) = subst (λ (ph : Phase). IsObserving ph (row_count m.core)) (sym c.requires.phase) refl in

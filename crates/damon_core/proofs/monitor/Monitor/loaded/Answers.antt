@@ -1,6 +1,7 @@
 use Rattle.std.proofs.Common.{◌≡◌, ◌<◌, [], ◌∷◌, length, ap, subst, sym, ◌∙◌, arith}
 use Rattle.damon_core.specs.Event.{load, load_index}
 use Rattle.damon_core.specs.Makes.{Makes}
+use Rattle.damon_core.specs.Report.{report_value}
 use Rattle.damon_core.specs.Stands.{MonitorView, Stands}
 use Rattle.damon_core.proofs.Shown.{after_load, shown}
 use Rattle.damon_core.proofs.Running.{one_load}
@@ -11,7 +12,7 @@ returns-clause-event c =
     let i = c.self.inside in
     let m = c.args.self.now in
     let h = c.args.hit in
-    let is : shown i.version i.space i.attrs c.load.new.self i.clock i.totals i.report.value i.engine.slots ≡ after_load h m =
-    ap (λ x. shown i.version i.space i.attrs x i.clock i.totals i.report.value i.engine.slots) c.load.ensures.loaded ∙ ap (after_load h) c.self.view_is in
+    let is : shown i.version i.space i.attrs c.load.new.self i.clock i.totals (report_value i.report) i.engine.slots ≡ after_load h m =
+    ap (λ x. shown i.version i.space i.attrs x i.clock i.totals (report_value i.report) i.engine.slots) c.load.ensures.loaded ∙ ap (after_load h) c.self.view_is in
     let here = subst (λ (x : MonitorView). load_index x.core.phase < length x.bits) c.self.view_is (omega (arith, c.load.ensures.here, c.load.ensures.each)) in
     subst (λ x. Makes Stands m x (load h ∷ [])) (sym is) (one_load m h c.requires here)

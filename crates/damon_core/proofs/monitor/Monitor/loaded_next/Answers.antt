@@ -4,6 +4,7 @@ use Rattle.damon_core.specs.State.{row_count}
 use Rattle.damon_core.specs.Event.{load_index}
 use Rattle.damon_core.specs.Several.{loads}
 use Rattle.damon_core.specs.Makes.{Makes}
+use Rattle.damon_core.specs.Report.{report_value}
 use Rattle.damon_core.specs.Stands.{MonitorView, Stands}
 use Rattle.damon_core.proofs.Shown.{after_loads, shown}
 use Rattle.damon_core.proofs.Running.{loads_make}
@@ -15,8 +16,8 @@ returns-clause-events g c =
     let m = c.args.self.now in
     let marks = g.M.Marks.marks_of c.args.marks in
     let n = c.args.count in
-    let is : shown i.version i.space i.attrs c.load_next.new.self i.clock i.totals i.report.value i.engine.slots ≡ after_loads marks n m =
-    ap (λ x. shown i.version i.space i.attrs x i.clock i.totals i.report.value i.engine.slots) c.load_next.ensures.loaded ∙ ap (after_loads marks n) c.self.view_is in
+    let is : shown i.version i.space i.attrs c.load_next.new.self i.clock i.totals (report_value i.report) i.engine.slots ≡ after_loads marks n m =
+    ap (λ x. shown i.version i.space i.attrs x i.clock i.totals (report_value i.report) i.engine.slots) c.load_next.ensures.loaded ∙ ap (after_loads marks n) c.self.view_is in
     let count : suc (n - 1) ≡ n = omega (arith, c.requires.some) in
     let picks = subst (λ (x : MonitorView). length x.core.picks ≡ row_count x.core) c.self.view_is c.load_next.ensures.picks in
     let bits = subst (λ (x : MonitorView). length x.bits ≡ row_count x.core) c.self.view_is c.load_next.ensures.each in

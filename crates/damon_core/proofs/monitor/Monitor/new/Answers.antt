@@ -12,7 +12,8 @@ use Rattle.region_list.specs.Division.{divided}
 use Rattle.live_commit.specs.SetupView.{value_of}
 use Rattle.damon_core.specs.State.{Core, opening_core, opening_rows}
 use Rattle.damon_core.specs.Kept.{IsMonitor, RowsLieIn, SamplingView}
-use Rattle.damon_core.specs.Report.{ReportBuf, ReportValue}
+use Rattle.damon_core.specs.declared.report.Report.{Report}
+use Rattle.damon_core.specs.Report.{ReportValue, report_value}
 use Rattle.scheme_engine.specs.Kept.{IsRunIn}
 use Rattle.live_commit.specs.declared.phase.Phase.TheVariants.{Idle}
 use Rattle.damon_core.specs.Note.{was_hit}
@@ -53,9 +54,10 @@ invariant_of-result c =
       since_few = omega arith;
       checks_few = omega arith;
       hits_few = omega arith;
-      report_room = omega (arith, ap (λ (x : RegionList). x.cap) made, ap (λ (r : ReportBuf). r.cap) c.in_ok-report.ensures);
-      report_in = subst (λ (r : ReportBuf). RowsLieIn c.in_ok-space.space r.value.rows) (sym c.in_ok-report.ensures) (tt {0});
-      runs_in = subst (λ (r : ReportBuf). AllByRecursion (IsRunIn c.in_ok-space.space) r.value.runs) (sym c.in_ok-report.ensures) (tt {0});
+      report_room = omega (arith, ap (λ (x : RegionList). x.cap) made, ap (λ (r : Report). r.rows.cap) c.in_ok-report.ensures);
+      applied_room = omega (arith, ap (λ (x : RegionList). x.cap) made, ap (λ (r : Report). r.applied.cap) c.in_ok-report.ensures);
+      report_in = subst (λ (r : Report). RowsLieIn c.in_ok-space.space r.rows.rows) (sym c.in_ok-report.ensures) (tt {0});
+      runs_in = subst (λ (r : Report). AllByRecursion (IsRunIn c.in_ok-space.space) r.applied.runs) (sym c.in_ok-report.ensures) (tt {0});
       engine_room = omega (arith, ap (λ (x : RegionList). x.cap) made, c.in_ok-engine.ensures.cap);
       serving = serving_opens c.in_ok-engine.engine.slots c.in_ok-engine.ensures.new;
     })
@@ -65,12 +67,13 @@ returns-clause-opening c =
     let v = value_of c.args.setup.now in
     let space = c.in_ok-space.ensures.cases in
     let made : c.in_ok-regions.regions ≡ (opening_core v).regions = c.in_ok-regions.ensures in
-    let report = ap (λ (b : ReportBuf). b.value) c.in_ok-report.ensures in
+    let report = ap report_value c.in_ok-report.ensures in
     let bits = ap (λ (s : SamplingView). s.bits) c.in_ok-sampling.ensures in
     let core : List Target → SamplingView → ReportValue → Core = λ ts s r. (shown v.version ts v.attrs s (record { ticks = 0; since = 0 }) (record { checks = 0; hits = 0 }) r c.in_ok-engine.engine.slots).core in
     let start : RegionList → SamplingView = λ rs. record { regions = rs; phase = Idle; picks = []; bits = []; before = 0 } in
     record {
-      same = ap (λ (ts : List Target). core ts c.in_ok-sampling.sampling c.in_ok-report.report.value) space ∙ ap (λ (s : SamplingView). core v.space s c.in_ok-report.report.value) (c.in_ok-sampling.ensures ∙ ap start made) ∙ ap (λ (r : ReportValue). core v.space (start (opening_core v).regions) r) report;
+      same = ap (λ (ts : List Target). core ts c.in_ok-sampling.sampling (report_value c.in_ok-report.report)) space ∙ ap (λ (s : SamplingView). core v.space s (report_value c.in_ok-report.report)) (c.in_ok-sampling.ensures ∙ ap start made) ∙ ap (λ (r : ReportValue). core v.space (start (opening_core v).regions) r) report;
+      each = ap (λ (s : SamplingView). length s.bits) c.in_ok-sampling.ensures ∙ sym (ap (λ (s : SamplingView). length s.picks) c.in_ok-sampling.ensures);
       results = λ k. (ap (λ bs. bit_at bs k) bits ∙ opening_holds (λ ns. false ≡ was_hit ns (last_pass c.in_ok-sampling.sampling.phase 0) k) refl (λ slot scheme ns none. none) v);
       checks = opening_holds (λ ns. 0 ≡ checks_made ns) refl (λ slot scheme ns none. none) v;
       hits = opening_holds (λ ns. 0 ≡ hits_made ns) refl (λ slot scheme ns none. none) v;
