@@ -2,8 +2,8 @@
 use Rattle.std.proofs.Common.{◌≡◌, [], ◌∷◌, true, false, codes, Ok, Err, None, refl}
 use Rattle.std.specs.Fmt.{digits}
 use Rattle.target_ranges.specs.declared.fault.RangeWhy.TheVariants.{Overlap}
-use Rattle.damon_types.specs.declared.scheme.SchemeFault.TheVariants.{PatternReversed}
-use Rattle.live_commit.specs.declared.fault.CommitFault.TheVariants.{Busy, BadRange, RangesOverMax, OverCap, BadScheme}
+use Rattle.damon_types.specs.declared.scheme.SchemeFault.TheVariants.{PatternReversed, TimeInOne}
+use Rattle.live_commit.specs.declared.fault.CommitFault.TheVariants.{Busy, BadRange, RangesOverMax, OverCap, BadScheme, BadCost}
 use Rattle.snapshot_print.specs.declared.form.Form.TheVariants.{Text, Json}
 use Rattle.damon_types.specs.declared.scheme.Action.TheVariants.{Pageout}
 use Rattle.serde_json.specs.Written.{compact_text}
@@ -38,6 +38,12 @@ over_the_cap = refl
 -- the words leave out which part of the pattern is reversed
 pattern_is_reversed : answer_text (Err (BadScheme (PatternReversed 2))) ≡ codes "refused bad-scheme pattern-reversed"
 pattern_is_reversed = refl
+
+time_in_version_one : answer_text (Err (BadScheme TimeInOne)) ≡ codes "refused bad-scheme time-in-one"
+time_in_version_one = refl
+
+cost_of_slot_16 : answer_text (Err (BadCost 16)) ≡ codes "refused bad-cost slot=16"
+cost_of_slot_16 = refl
 
 pass_becomes_void_in_json : commit_text Json 120 (Ok (record { rows = 34; void = true })) ≡ codes "{\"answer\":\"ok rows=34 void=yes\",\"kind\":\"commit\",\"tick\":120}\n"
 unfolding digits serde_json_on_literals

@@ -1,6 +1,7 @@
 -- The lines of the rows in two parts.
-use Rattle.std.proofs.Common.{◌≡◌, ℕ, List, [], ◌++◌, take, drop, ap, sym, ◌∙◌}
-use Rattle.std.proofs.lemmas.List.{append-nil, append_assoc, take-append-drop}
+use Rattle.std.proofs.Common.{◌≡◌, ℕ, ◌+◌, List, [], ◌++◌, take, drop, ap, sym, ◌∙◌}
+use Rattle.std.specs.List.{flat_map}
+use Rattle.std.proofs.lemmas.List.{append-nil, append_assoc, drop-drop, take-append-drop}
 use Rattle.std.proofs.lemmas.List.Concat.{flat_map-append}
 use Rattle.damon_types.specs.declared.space.Target.{Target}
 use Rattle.damon_types.specs.declared.row.Row.{Row}
@@ -24,3 +25,14 @@ text_joined space n rows first rest old line is_first is_rest =
 -- a text, and then three more, of which the first was appended together with no rows
 pub served_joined : (old line served rows : List ℕ) → ((old ++ (line ++ [])) ++ served) ++ rows ≡ old ++ (line ++ (served ++ rows))
 served_joined old line served rows = simp (append-nil, append_assoc)
+
+-- lines of items in two parts: those of the next ones are appended, and those behind them are left
+pub next_lines : {A : Type 0} (line : A → List ℕ) (xs : List A) (from count : ℕ) (out old : List ℕ) → out ≡ old ++ flat_map line (take count (drop from xs)) → out ++ flat_map line (drop (from + count) xs) ≡ old ++ flat_map line (drop from xs)
+next_lines line xs from count out old is =
+    let left = drop from xs in
+    let rest : drop count left ≡ drop (from + count) xs = drop-drop count from xs in
+    ap (λ t. t ++ flat_map line (drop (from + count) xs)) is
+    ∙ append_assoc old (flat_map line (take count left)) (flat_map line (drop (from + count) xs))
+    ∙ ap (λ rs. old ++ (flat_map line (take count left) ++ flat_map line rs)) (sym rest)
+    ∙ ap (λ t. old ++ t) (sym (flat_map-append line (take count left) (drop count left)))
+    ∙ ap (λ rs. old ++ flat_map line rs) (take-append-drop count left)

@@ -5,13 +5,13 @@ use Rattle.damon_types.specs.declared.attrs.AttrsFault.{AttrsFault}
 use Rattle.damon_types.specs.declared.attrs.AttrsFault.TheVariants.{MinTooSmall, MinOverMax, AggrOutOfRange}
 use Rattle.damon_types.specs.declared.scheme.SchemeFault.{SchemeFault}
 use Rattle.damon_types.specs.declared.scheme.SchemeFault.TheVariants.{SlotOutOfRange, PatternReversed, ZeroReset}
-use Rattle.damon_types.specs.declared.scheme.SchemeFault.TheVariants.{MarksOutOfOrder, BadFilter}
+use Rattle.damon_types.specs.declared.scheme.SchemeFault.TheVariants.{MarksOutOfOrder, BadFilter, TimeInOne}
 use Rattle.target_ranges.specs.declared.fault.RangeWhy.{RangeWhy}
 use Rattle.target_ranges.specs.declared.fault.RangeWhy.TheVariants.{TooMany, NoSuchTarget, Unaligned, Reversed}
 use Rattle.target_ranges.specs.declared.fault.RangeWhy.TheVariants.{OutsideSpan, TooSmall, BadClass, Overlap}
 use Rattle.live_commit.specs.declared.fault.CommitFault.{CommitFault}
 use Rattle.live_commit.specs.declared.fault.CommitFault.TheVariants.{Busy, NoRange, BadRange, RangesOverMax}
-use Rattle.live_commit.specs.declared.fault.CommitFault.TheVariants.{BadAttrs, OverCap, BadScheme}
+use Rattle.live_commit.specs.declared.fault.CommitFault.TheVariants.{BadAttrs, OverCap, BadScheme, BadCost}
 use Rattle.damon_core.specs.declared.changed.Changed.{Changed}
 use Rattle.snapshot_print.specs.declared.form.Form.{Form}
 use Rattle.snapshot_print.specs.declared.form.Form.TheVariants.{Text, Json}
@@ -43,6 +43,7 @@ scheme_why (PatternReversed part) = codes "pattern-reversed"
 scheme_why ZeroReset = codes "zero-reset"
 scheme_why MarksOutOfOrder = codes "marks-out-of-order"
 scheme_why (BadFilter index) = codes "bad-filter"
+scheme_why TimeInOne = codes "time-in-one"
 
 -- why a commit was refused
 abbrev pub refusal_text : CommitFault → List ℕ
@@ -54,6 +55,7 @@ refusal_text (RangesOverMax ranges max) =
 refusal_text (BadAttrs why) = codes "bad-attrs " then attrs_why why
 refusal_text (OverCap max cap) = codes "over-cap max=" then decimal max then codes " cap=" then decimal cap
 refusal_text (BadScheme why) = codes "bad-scheme " then scheme_why why
+refusal_text (BadCost slot) = codes "bad-cost slot=" then decimal slot
 
 -- the answer of a commit, after the tick: its rows and whether a pass became void, or why it was refused
 abbrev pub answer_text : Result Changed CommitFault → List ℕ

@@ -1,4 +1,4 @@
-ghost use Rattle.std.specs.Prelude.{◌≡◌, ◌+◌, ◌≤◌, ◌++◌, length, drop, OnErr, OnOk};
+ghost use Rattle.std.specs.Prelude.{◌≡◌, ◌+◌, ◌≤◌, ◌++◌, length, take, drop, OnErr, OnOk};
 ghost use Rattle.std.specs.List.{AllByRecursion};
 ghost use Rattle.damon_types.specs.Space.{pages_of};
 ghost use Rattle.snapshot_print.specs.Lines.{aggregate_line, aggregate_text, row_lines};
@@ -9,10 +9,11 @@ use crate::Form;
 use crate::choice_text::print_choices;
 use crate::fields::{field_before, text_before, whole_or_nothing};
 use crate::json_lines::print_aggregate_line;
-use crate::line_groups::{LINE_ROOM, lines_before};
+use crate::line_groups::LINE_ROOM;
+use crate::row_blocks::{NO_ROW, block_before, print_blocks};
 use crate::row_text::print_rows;
 use damon_core::{Monitor, Report};
-use damon_types::{Row, Space};
+use damon_types::Space;
 use std::alloc::{AllocError, Global};
 
 /// Appends the text of the last aggregation: a line with its tick, its threshold and the number of
@@ -56,7 +57,7 @@ fn print_report(out: &mut Vec<u8>, monitor: &Monitor) -> Result<(), AllocError>
     if report.applied().choices().is_empty() {
         return print_unserved(out, monitor);
     }
-    print_first_rows(out, report, &[], monitor.space())?;
+    print_first_rows(out, report, 0, monitor.space())?;
     print_choices(out, report.applied(), monitor.engine(), monitor.space())?;
     print_rows(out, report.rows(), monitor.space())
 }
@@ -71,28 +72,30 @@ fn print_unserved(out: &mut Vec<u8>, monitor: &Monitor) -> Result<(), AllocError
 {
     let report = monitor.report();
     let (rows, space) = (report.rows(), monitor.space());
-    let (first, rest) = rows.split_at(rows.len().min(FIRST_ROWS));
-    print_first_rows(out, report, first, space)?;
-    print_rows(out, rest, space)
+    let count = rows.count().min(FIRST_ROWS);
+    print_first_rows(out, report, count, space)?;
+    print_blocks(out, rows, count, space)
 }
 
-// Appends the first line of an aggregation and the lines of the first of its rows.
+// Appends the first line of an aggregation and the lines of its first `count` rows.
 #[tactic(auto, using(crate::proofs::Appending::appends))]
 fn print_first_rows(
     out: &mut Vec<u8>,
     report: &Report,
-    first: &[Row],
+    count: usize,
     space: &Space,
 ) -> Result<(), AllocError>
     requires rows { AllByRecursion
-        (λ r. (1 ≤ r.pages) × (r.start + r.pages ≤ pages_of space.now)) first.now }
-    requires few { length first.now ≤ FIRST_ROWS }
+        (λ r. (1 ≤ r.pages) × (r.start + r.pages ≤ pages_of space.now)) report.now.value.rows }
+    requires few { count ≤ FIRST_ROWS }
+    requires within { count ≤ length report.now.value.rows }
     ensures ok { OnOk result (out.new.items ≡ out.old.items
-        ++ (aggregate_line report.now.value ++ row_lines space.now first.now)) }
+        ++ (aggregate_line report.now.value ++ row_lines space.now (take count report.now.value.rows))) }
     ensures kept { KeepsFront out.old.items out.new.items }
 {
     let mut text = [0; FIRST_ROOM];
-    let rows = lines_before(&mut text, first, space);
+    let mut block = [NO_ROW; FIRST_ROWS];
+    let rows = block_before(&mut text, &mut block[..count], report.rows(), 0, space);
     let start = first_line_before(&mut text, rows, report);
     out.extend_from_slice(&text[start..])
 }
@@ -106,7 +109,7 @@ fn first_line_before(bytes: &mut [u8], end: usize, report: &Report) -> usize
     ensures written { drop result bytes.new ≡ aggregate_line report.now.value ++ drop end bytes.old }
 {
     let line_end = text_before(bytes, end, b"\n");
-    let rows = field_before(bytes, line_end, b" rows=", report.rows().len() as u64);
+    let rows = field_before(bytes, line_end, b" rows=", report.rows().count() as u64);
     let threshold = field_before(bytes, rows, b" threshold=", u64::from(report.threshold()));
     field_before(bytes, threshold, b"aggregate tick=", report.tick())
 }

@@ -94,6 +94,7 @@ fn print_refusal(out: &mut Vec<u8>, fault: CommitFault) -> Result<(), AllocError
             b"bad-scheme ",
             scheme_why(why).as_bytes(),
         ),
+        CommitFault::BadCost { slot } => print_field(out, b"bad-cost slot=", u64::from(slot)),
     }
 }
 
@@ -138,6 +139,7 @@ fn refusal_string(alloc: Global, fault: CommitFault) -> Result<String, AllocErro
             let why = scheme_why(why);
             format!(in alloc; "refused bad-scheme {why}")
         }
+        CommitFault::BadCost { slot } => format!(in alloc; "refused bad-cost slot={slot}"),
     }
 }
 
@@ -178,5 +180,6 @@ fn scheme_why(why: SchemeFault) -> &'static str
         SchemeFault::ZeroReset => "zero-reset",
         SchemeFault::MarksOutOfOrder => "marks-out-of-order",
         SchemeFault::BadFilter { .. } => "bad-filter",
+        SchemeFault::TimeInOne => "time-in-one",
     }
 }

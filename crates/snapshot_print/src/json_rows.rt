@@ -9,25 +9,28 @@ ghost use Rattle.snapshot_print.specs.Pieces.{piece};
 
 use crate::fields::short_field_before;
 use crate::json_list::{addresses, close_list, start_before};
-use crate::line_groups::{LineOf, print_lines};
+use crate::line_groups::LineOf;
+use crate::row_blocks::print_blocks;
 use crate::row_text::address_field_before;
 use damon_types::{Row, Space};
+use region_list::RowBuf;
 use std::alloc::AllocError;
 
 // Appends the list of rows. Each row has a page, and its pages are pages of the space.
 #[tactic(auto, using(crate::proofs::Appending::appends))]
 pub(crate) fn print_row_list(
     out: &mut Vec<u8>,
-    rows: &[Row],
+    rows: &RowBuf,
     space: &Space,
 ) -> Result<(), AllocError>
-    requires { AllByRecursion (λ r. (1 ≤ r.pages) × (r.start + r.pages ≤ pages_of space.now)) rows.now }
+    requires { AllByRecursion (λ r. (1 ≤ r.pages) × (r.start + r.pages ≤ pages_of space.now))
+        rows.now.rows }
     ensures ok { OnOk result
-        (out.new.items ≡ out.old.items ++ compact_text (rows_json space.now rows.now)) }
+        (out.new.items ≡ out.old.items ++ compact_text (rows_json space.now rows.now.rows)) }
     ensures kept { KeepsFront out.old.items out.new.items }
 {
     let start = out.len();
-    print_lines(out, rows, &RowItems { space })?;
+    print_blocks(out, rows, 0, &RowItems { space })?;
     close_list(out, start)
 }
 

@@ -30,6 +30,8 @@ mod json_slots;
 mod laws;
 /// Lines that are appended in groups.
 mod line_groups;
+/// Rows that are written a block at a time.
+mod row_blocks;
 /// The lines of rows.
 mod row_text;
 /// The text of a show, and the last line of a report.

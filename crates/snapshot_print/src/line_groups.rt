@@ -9,10 +9,10 @@ use std::alloc::AllocError;
 pub(crate) const LINE_ROOM: usize = 144;
 
 // The most lines that are appended at once.
-const LINES_AT_ONCE: usize = 16;
+pub(crate) const LINES_AT_ONCE: usize = 16;
 
 // Bytes enough for a group of lines.
-const GROUP_ROOM: usize = LINE_ROOM * LINES_AT_ONCE;
+pub(crate) const GROUP_ROOM: usize = LINE_ROOM * LINES_AT_ONCE;
 
 // What writes for each item a line, or its text in a list in JSON, of at most 141 bytes.
 pub(crate) trait LineOf<T> {

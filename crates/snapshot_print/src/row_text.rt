@@ -7,18 +7,21 @@ ghost use Rattle.snapshot_print.specs.Lines.{count_part, place_part, row_line, r
 ghost use Rattle.snapshot_print.specs.Kept.{KeepsFront};
 
 use crate::fields::{field_before, text_before};
-use crate::line_groups::{LineOf, print_lines};
+use crate::line_groups::LineOf;
+use crate::row_blocks::print_blocks;
 use damon_types::{PAGE_SIZE, Row, Space};
 use line_text::address_before;
+use region_list::RowBuf;
 use std::alloc::AllocError;
 
 // Appends the lines of rows. Each row has a page, and its pages are pages of the space.
-pub(crate) fn print_rows(out: &mut Vec<u8>, rows: &[Row], space: &Space) -> Result<(), AllocError>
-    requires { AllByRecursion (λ r. (1 ≤ r.pages) × (r.start + r.pages ≤ pages_of space.now)) rows.now }
-    ensures ok { OnOk result (out.new.items ≡ out.old.items ++ row_lines space.now rows.now) }
+pub(crate) fn print_rows(out: &mut Vec<u8>, rows: &RowBuf, space: &Space) -> Result<(), AllocError>
+    requires { AllByRecursion (λ r. (1 ≤ r.pages) × (r.start + r.pages ≤ pages_of space.now))
+        rows.now.rows }
+    ensures ok { OnOk result (out.new.items ≡ out.old.items ++ row_lines space.now rows.now.rows) }
     ensures kept { KeepsFront out.old.items out.new.items }
 {
-    print_lines(out, rows, space)
+    print_blocks(out, rows, 0, space)
 }
 
 impl LineOf<Row> for Space {
