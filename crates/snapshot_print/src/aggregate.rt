@@ -1,6 +1,7 @@
 ghost use Rattle.std.specs.Prelude.{◌≡◌, ◌+◌, ◌≤◌, ◌++◌, length, take, drop, OnErr, OnOk};
 ghost use Rattle.std.specs.List.{AllByRecursion};
 ghost use Rattle.damon_types.specs.Space.{pages_of};
+ghost use Rattle.damon_core.specs.Report.{report_value};
 ghost use Rattle.snapshot_print.specs.Lines.{aggregate_line, aggregate_text, row_lines};
 ghost use Rattle.snapshot_print.specs.Kept.{KeepsFront};
 ghost use Rattle.snapshot_print.specs.Printed.{printed_monitor};
@@ -54,12 +55,12 @@ fn print_report(out: &mut Vec<u8>, monitor: &Monitor) -> Result<(), AllocError>
     ensures kept { KeepsFront out.old.items out.new.items }
 {
     let report = monitor.report();
-    if report.applied().choices().is_empty() {
+    if report.applied.choices().is_empty() {
         return print_unserved(out, monitor);
     }
     print_first_rows(out, report, 0, monitor.space())?;
-    print_choices(out, report.applied(), monitor.engine(), monitor.space())?;
-    print_rows(out, report.rows(), monitor.space())
+    print_choices(out, &report.applied, monitor.engine(), monitor.space())?;
+    print_rows(out, &report.rows, monitor.space())
 }
 
 // Appends the first line of an aggregation and the lines of its rows, the first of them together with it.
@@ -71,7 +72,7 @@ fn print_unserved(out: &mut Vec<u8>, monitor: &Monitor) -> Result<(), AllocError
     ensures kept { KeepsFront out.old.items out.new.items }
 {
     let report = monitor.report();
-    let (rows, space) = (report.rows(), monitor.space());
+    let (rows, space) = (&report.rows, monitor.space());
     let count = rows.count().min(FIRST_ROWS);
     print_first_rows(out, report, count, space)?;
     print_blocks(out, rows, count, space)
@@ -86,16 +87,16 @@ fn print_first_rows(
     space: &Space,
 ) -> Result<(), AllocError>
     requires rows { AllByRecursion
-        (λ r. (1 ≤ r.pages) × (r.start + r.pages ≤ pages_of space.now)) report.now.value.rows }
+        (λ r. (1 ≤ r.pages) × (r.start + r.pages ≤ pages_of space.now)) report.now.rows.rows }
     requires few { count ≤ FIRST_ROWS }
-    requires within { count ≤ length report.now.value.rows }
+    requires within { count ≤ length report.now.rows.rows }
     ensures ok { OnOk result (out.new.items ≡ out.old.items
-        ++ (aggregate_line report.now.value ++ row_lines space.now (take count report.now.value.rows))) }
+        ++ (aggregate_line (report_value report.now) ++ row_lines space.now (take count report.now.rows.rows))) }
     ensures kept { KeepsFront out.old.items out.new.items }
 {
     let mut text = [0; FIRST_ROOM];
     let mut block = [NO_ROW; FIRST_ROWS];
-    let rows = block_before(&mut text, &mut block[..count], report.rows(), 0, space);
+    let rows = block_before(&mut text, &mut block[..count], &report.rows, 0, space);
     let start = first_line_before(&mut text, rows, report);
     out.extend_from_slice(&text[start..])
 }
@@ -106,10 +107,10 @@ fn first_line_before(bytes: &mut [u8], end: usize, report: &Report) -> usize
     requires room { 93 ≤ end }
     requires within { end ≤ length bytes.old }
     ensures start { result ≤ end }
-    ensures written { drop result bytes.new ≡ aggregate_line report.now.value ++ drop end bytes.old }
+    ensures written { drop result bytes.new ≡ aggregate_line (report_value report.now) ++ drop end bytes.old }
 {
     let line_end = text_before(bytes, end, b"\n");
-    let rows = field_before(bytes, line_end, b" rows=", report.rows().count() as u64);
-    let threshold = field_before(bytes, rows, b" threshold=", u64::from(report.threshold()));
-    field_before(bytes, threshold, b"aggregate tick=", report.tick())
+    let rows = field_before(bytes, line_end, b" rows=", report.rows.count() as u64);
+    let threshold = field_before(bytes, rows, b" threshold=", u64::from(report.threshold));
+    field_before(bytes, threshold, b"aggregate tick=", report.tick)
 }

@@ -60,9 +60,9 @@ pub(crate) fn print_aggregate_line(
     let report = monitor.report();
     print_served(alloc, out, monitor)?;
     out.extend_from_slice(b",\"kind\":\"aggregate\",\"rows\":")?;
-    print_row_list(out, report.rows(), monitor.space())?;
-    print_field(out, b",\"threshold\":", u64::from(report.threshold()))?;
-    print_last_count(out, b",\"tick\":", report.tick())
+    print_row_list(out, &report.rows, monitor.space())?;
+    print_field(out, b",\"threshold\":", u64::from(report.threshold))?;
+    print_last_count(out, b",\"tick\":", report.tick)
 }
 
 // Appends the beginning of the line of the last aggregation: what the slots that it served were applied
@@ -72,7 +72,7 @@ fn print_served(alloc: Global, out: &mut Vec<u8>, monitor: &Monitor) -> Result<(
     ensures ok { OnOk result (out.new.items ≡ out.old.items ++ served_part (printed_monitor monitor.now)) }
     ensures kept { KeepsFront out.old.items out.new.items }
 {
-    let applied = monitor.report().applied();
+    let applied = &monitor.report().applied;
     out.extend_from_slice(b"{\"applied\":")?;
     print_run_list(out, applied.runs(), monitor.engine(), monitor.space())?;
     out.extend_from_slice(b",\"choices\":")?;

@@ -3,4 +3,4 @@ use Rattle.snapshot_print.proofs.aggregate.first_line_before.Goals as goal
 
 pub returns-clause-written : goal.returns-clause-written
 returns-clause-written c =
-    rw (c.field_before.ensures.written, c.field_before-threshold.ensures.written, c.field_before-rows.ensures.written, c.text_before-line_end.ensures.written, c.tick.ensures, c.from.ensures, c.threshold.ensures, c.count.ensures, c.rows.ensures) (simp append_assoc)
+    rw (c.field_before.ensures.written, c.field_before-threshold.ensures.written, c.field_before-rows.ensures.written, c.text_before-line_end.ensures.written, c.from.ensures, c.count.ensures) (simp append_assoc)

@@ -16,10 +16,10 @@ returns-clause-ok c =
     let old = c.args.out.now.items in
     let rows : c.print_row_list.new.out.items ≡ c.extend_from_slice.new.self.items ++ compact_text (rows_json m.core.space m.core.report.rows) =
     c.in_ok-print_row_list.ensures.ok
-    ∙ ap₂ (λ (s : List Target) (rs : List Row). c.extend_from_slice.new.self.items ++ compact_text (rows_json s rs)) c.space.ensures (c.rows.ensures ∙ ap (λ v. v.rows) c.report-report.ensures.report) in
+    ∙ ap₂ (λ (s : List Target) (rs : List Row). c.extend_from_slice.new.self.items ++ compact_text (rows_json s rs)) c.space.ensures (ap (λ v. v.rows) c.report-report.ensures.report) in
     let threshold : c.print_field.new.out.items ≡ (c.print_row_list.new.out.items ++ codes ",\"threshold\":") ++ decimal m.core.report.threshold =
-    c.in_ok-print_field.ensures.ok ∙ ap (λ (n : ℕ). (c.print_row_list.new.out.items ++ codes ",\"threshold\":") ++ decimal n) (c.from.ensures ∙ c.threshold.ensures ∙ ap (λ v. v.threshold) c.report-report.ensures.report) in
-    let joined : c.print_field.new.out.items ++ (codes ",\"tick\":" ++ (decimal c.tick.result ++ codes "}\n")) ≡ old ++ aggregate_text Json (printed_monitor m) =
-    ap (λ (n : ℕ). c.print_field.new.out.items ++ (codes ",\"tick\":" ++ (decimal n ++ codes "}\n"))) (c.tick.ensures ∙ ap (λ v. v.tick) c.report-report.ensures.report)
+    c.in_ok-print_field.ensures.ok ∙ ap (λ (n : ℕ). (c.print_row_list.new.out.items ++ codes ",\"threshold\":") ++ decimal n) (c.from.ensures ∙ ap (λ v. v.threshold) c.report-report.ensures.report) in
+    let joined : c.print_field.new.out.items ++ (codes ",\"tick\":" ++ (decimal c.report-report.result.now.tick ++ codes "}\n")) ≡ old ++ aggregate_text Json (printed_monitor m) =
+    ap (λ (n : ℕ). c.print_field.new.out.items ++ (codes ",\"tick\":" ++ (decimal n ++ codes "}\n"))) (ap (λ v. v.tick) c.report-report.ensures.report)
     ∙ rw (threshold, rows, c.in_ok-extend_from_slice.ensures.items, c.in_ok-print_served.ensures.ok) (aggregate_joined old (printed_monitor m)) in
     subst (λ text. OnOk c.print_last_count.result (c.print_last_count.new.out.items ≡ text)) joined c.print_last_count.ensures.ok

@@ -22,10 +22,10 @@ returns-clause-ok c =
     let report = c.report.ensures.report in
     let runs : c.print_run_list.new.out.items ≡ c.extend_from_slice.new.self.items ++ compact_text (list_of (map (applied_json m.core.space m.slots) m.core.report.runs)) =
     c.in_ok-print_run_list.ensures.ok
-    ∙ ap₂ (λ (s : List Target) (ss : List SlotValue). c.extend_from_slice.new.self.items ++ compact_text (list_of (map (applied_json s ss) c.runs.result.now))) c.space.ensures c.engine.ensures
-    ∙ ap (λ (rs : List AppliedRun). c.extend_from_slice.new.self.items ++ compact_text (list_of (map (applied_json m.core.space m.slots) rs))) (c.runs.ensures.runs ∙ c.applied-applied.ensures.runs ∙ ap (λ v. v.runs) report) in
+    ∙ ap₂ (λ (s : List Target) (ss : List SlotValue). c.extend_from_slice.new.self.items ++ compact_text (list_of (map (applied_json s ss) c.runs.result.now))) c.space.ensures c.engine.ensures.slots
+    ∙ ap (λ (rs : List AppliedRun). c.extend_from_slice.new.self.items ++ compact_text (list_of (map (applied_json m.core.space m.slots) rs))) (c.runs.ensures.runs ∙ ap (λ v. v.runs) report) in
     let choices : c.extend_from_slice-2.new.self.items ++ compact_text (list_of (map choice_json c.choices.result.now)) ≡ old ++ served_part (printed_monitor m) =
-    ap (λ (cs : List SlotChoice). c.extend_from_slice-2.new.self.items ++ compact_text (list_of (map choice_json cs))) (c.choices.ensures.choices ∙ c.applied-applied.ensures.choices ∙ ap (λ v. v.choices) report)
+    ap (λ (cs : List SlotChoice). c.extend_from_slice-2.new.self.items ++ compact_text (list_of (map choice_json cs))) (c.choices.ensures.choices ∙ ap (λ v. v.choices) report)
     ∙ rw (c.in_ok-extend_from_slice-2.ensures.items, runs, c.in_ok-extend_from_slice.ensures.items) (joined old (codes "{\"applied\":") (compact_text (list_of (map (applied_json m.core.space m.slots) m.core.report.runs))) (codes ",\"choices\":") (compact_text (list_of (map choice_json m.core.report.choices)))) in
     subst (λ text. OnOk c.print_choice_list.result (c.print_choice_list.new.out.items ≡ text)) choices c.print_choice_list.ensures.ok
 

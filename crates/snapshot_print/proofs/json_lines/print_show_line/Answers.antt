@@ -23,7 +23,7 @@ returns-clause-ok c =
     c.in_ok-print_row_list.ensures.ok
     ∙ ap₂ (λ (s : List Target) (rs : List Row). c.extend_from_slice.new.self.items ++ compact_text (rows_json s rs)) c.space.ensures (c.rows-2.ensures.rows ∙ ap (λ v. v.rows) c.rows.ensures.rows) in
     let slots : c.print_slot_list.new.out.items ≡ c.extend_from_slice-2.new.self.items ++ compact_text (list_of (set_slots_json 0 m.slots)) =
-    c.in_ok-print_slot_list.ensures.ok ∙ ap (λ (ss : List SlotValue). c.extend_from_slice-2.new.self.items ++ compact_text (list_of (set_slots_json 0 ss))) c.engine.ensures in
+    c.in_ok-print_slot_list.ensures.ok ∙ ap (λ (ss : List SlotValue). c.extend_from_slice-2.new.self.items ++ compact_text (list_of (set_slots_json 0 ss))) c.engine.ensures.slots in
     let joined : c.print_slot_list.new.out.items ++ (codes ",\"tick\":" ++ (decimal c.ticks.result ++ codes "}\n")) ≡ old ++ show_text Json (printed_monitor m) =
     rw (slots, c.in_ok-extend_from_slice-2.ensures.items, rows, c.in_ok-extend_from_slice.ensures.items, kind, c.ticks.ensures) (show_joined old (printed_monitor m)) in
     subst (λ text. OnOk c.print_last_count.result (c.print_last_count.new.out.items ≡ text)) joined c.print_last_count.ensures.ok
