@@ -1,5 +1,5 @@
 -- The spelling of a setting is read as it.
-use Rattle.std.proofs.Common.{◌≡◌, ◌<◌, ◌+◌, ◌∷◌, [], ◌==◌, nat_lt, ℕ, Bool, true, false, not, ◌&&◌, List, ◌++◌, length, take, drop, map, Ok, refl, ap, ◌∙◌, decimal, arith}
+use Rattle.std.proofs.Common.{◌≡◌, ◌<◌, ◌+◌, ◌∷◌, [], ◌==◌, nat_lt, ℕ, Bool, true, false, not, ◌&&◌, List, ◌++◌, length, take, drop, map, Ok, refl, sym, ap, ◌∙◌, decimal, arith}
 use Rattle.std.specs.Prelude.{Result}
 use Rattle.std.specs.List.{list_all, position_or_len}
 use Rattle.std.specs.Option.{ok_or}
@@ -63,7 +63,7 @@ quota_of-spelled laws q fits =
     then-Ok (ok_or (two_of (parts comma (spelled_quota q))) Form) _ (decimal q.bytes, decimal q.reset) _
     (two_parts-joined laws comma refl (decimal q.bytes) (decimal q.reset) (decimal_field laws q.bytes fits.0) (field_32 laws q.reset fits.1))
     (then-Ok (number_64 (decimal q.bytes)) _ q.bytes _ (number_64-decimal laws q.bytes fits.0)
-    (then-Ok (number_32 (decimal q.reset)) _ q.reset _ (number_32-decimal laws q.reset fits.1) refl))
+    (then-Ok (number_32 (decimal q.reset)) _ q.reset _ (number_32-decimal laws q.reset fits.1) (ap (λ t. Ok (record { bytes = q.bytes; reset = q.reset; time = t })) (sym fits.2))))
 
 weights_of-spelled : (laws : WordLaws) (w : Weights) → FitsWeights w → weights_of (spelled_weights w) ≡ Ok w
 weights_of-spelled laws w fits =

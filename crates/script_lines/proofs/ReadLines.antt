@@ -11,7 +11,8 @@ use Rattle.damon_types.specs.declared.scheme.SlotChange.{SlotChange}
 use Rattle.damon_types.specs.declared.space.SpaceFault.{SpaceFault}
 use Rattle.damon_types.specs.declared.space.Target.{Target}
 use Rattle.damon_types.specs.Attrs.{checked_attrs}
-use Rattle.damon_types.specs.Scheme.{checked_scheme}
+use Rattle.damon_types.specs.declared.scheme.Version.TheVariants.{One}
+use Rattle.damon_types.specs.Scheme.{checked_in}
 use Rattle.std.specs.Result.{result_and}
 use Rattle.damon_types.specs.Space.{checked, checked_targets_from, checked_target}
 use Rattle.line_text.specs.Address.{spelled_address}
@@ -154,9 +155,9 @@ first_change : (before : List SlotChange) (change : SlotChange) (scheme : Scheme
 first_change before change scheme is fresh = rw (fresh, ← is) refl
 
 pub scheme_line-spelled : (laws : WordLaws) (before : List SlotChange) (line : List ℕ) (change : SlotChange) (scheme : Scheme) → GivesScheme line change
-    → change.scheme ≡ Some scheme → checked_scheme change.slot scheme ≡ Ok tt → is_changed change.slot before ≡ false → scheme_line before line ≡ Ok change
+    → change.scheme ≡ Some scheme → checked_in One change.slot scheme ≡ Ok tt → is_changed change.slot before ≡ false → scheme_line before line ≡ Ok change
 scheme_line-spelled laws before line change scheme gives is sound fresh =
     let same : gives.0 ≡ scheme = cc in
     scheme-read laws line change.slot scheme _ (Ok change) (subst (IsScheme line change.slot) same gives.2) (λ words said.
     then-Ok (scheme_in words) _ (change.slot, scheme) (Ok change) said
-    (then-Ok (refused_as BadScheme (checked_scheme change.slot scheme)) _ tt (Ok change) (ap (refused_as BadScheme) sound) (first_change before change scheme is fresh)))
+    (then-Ok (refused_as BadScheme (checked_in One change.slot scheme)) _ tt (Ok change) (ap (refused_as BadScheme) sound) (first_change before change scheme is fresh)))

@@ -1,5 +1,5 @@
 -- What is read is within its fields.
-use Rattle.std.proofs.Common.{◌≡◌, ◌∷◌, [], ℕ, List, codes, Ok, subst}
+use Rattle.std.proofs.Common.{◌≡◌, ◌∷◌, [], ℕ, List, codes, None, Ok, refl, subst}
 use Rattle.std.specs.Option.{ok_or}
 use Rattle.damon_types.specs.declared.attrs.Attrs.{Attrs}
 use Rattle.damon_types.specs.declared.filter.Filter.{Filter}
@@ -63,8 +63,8 @@ quota_of-fits laws value quota e =
     let fields = bind-Ok (ok_or (two_of (parts comma value)) Form) _ quota e in
     let bytes = bind-Ok (number_64 fields.0.0) _ quota fields.2 in
     let reset = bind-Ok (number_32 fields.0.1) _ quota bytes.2 in
-    let is : record { bytes = bytes.0; reset = reset.0 } ≡ quota = cc in
-    subst FitsQuota is (number_64-small laws fields.0.0 bytes.0 bytes.1, number_32-small laws fields.0.1 reset.0 reset.1)
+    let is : record { bytes = bytes.0; reset = reset.0; time = None } ≡ quota = cc in
+    subst FitsQuota is (number_64-small laws fields.0.0 bytes.0 bytes.1, number_32-small laws fields.0.1 reset.0 reset.1, refl)
 
 weights_of-fits : (laws : WordLaws) (value : List ℕ) (weights : Weights) → weights_of value ≡ Ok weights → FitsWeights weights
 weights_of-fits laws value weights e =

@@ -39,7 +39,7 @@ quota_of-Ok laws value quota e =
     let fields = bind-Ok (ok_or (two_of (parts 44 value)) Form) _ quota e in
     let bytes = bind-Ok (number_64 fields.0.0) _ quota fields.2 in
     let reset = bind-Ok (number_32 fields.0.1) _ quota bytes.2 in
-    let is : record { bytes = bytes.0; reset = reset.0 } ≡ quota = cc in
+    let is : record { bytes = bytes.0; reset = reset.0; time = None } ≡ quota = cc in
     two_parts-Ok laws 44 value fields.0 fields.1
     ∙ (λ i. joined 44 (number_64-Ok laws fields.0.0 bytes.0 bytes.1 i ∷ number_32-Ok laws fields.0.1 reset.0 reset.1 i ∷ []))
     ∙ ap spelled_quota is

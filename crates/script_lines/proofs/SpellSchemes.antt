@@ -6,7 +6,8 @@ use Rattle.damon_types.specs.declared.scheme.Action.{Action}
 use Rattle.damon_types.specs.declared.scheme.Action.TheVariants.{Stat, Willneed, Cold, Pageout, Hugepage, Nohugepage, LruPrio, LruDeprio}
 use Rattle.damon_types.specs.declared.scheme.Scheme.{Scheme}
 use Rattle.damon_types.specs.declared.scheme.SlotChange.{SlotChange}
-use Rattle.damon_types.specs.Scheme.{checked_scheme}
+use Rattle.damon_types.specs.declared.scheme.Version.TheVariants.{One}
+use Rattle.damon_types.specs.Scheme.{checked_in}
 use Rattle.line_text.specs.Parts.{joined}
 use Rattle.script_lines.specs.declared.kind.ScriptKind.TheVariants.{Form, Repeated, Scheme as BadScheme}
 use Rattle.script_lines.specs.Body.{change_line}
@@ -83,7 +84,7 @@ pub scheme_line-Ok : WordLaws → ReadsOnlySchemes
 scheme_line-Ok laws before line change e =
     let words = bind-Ok (arguments (codes "scheme") line) _ change e in
     let said = bind-Ok (scheme_in words.0) _ change words.2 in
-    let sound = bind-Ok (refused_as BadScheme (checked_scheme said.0.0 said.0.1)) _ change said.2 in
+    let sound = bind-Ok (refused_as BadScheme (checked_in One said.0.0 said.0.1)) _ change said.2 in
     let is = (only_if-Ok (not (is_changed said.0.0 before)) Repeated (record { slot = said.0.0; scheme = Some said.0.1 }) change sound.2).1 in
     let line_is = arguments-Ok laws (codes "scheme") line words.0 words.1 in
     subst (GivesScheme line) is (said.0.1, refl, scheme_in-Ok laws line words.0 said.0 line_is said.1)

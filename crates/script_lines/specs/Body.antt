@@ -68,7 +68,7 @@ command_line space line =
 
 -- a commit with no part yet
 abbrev pub no_commit : CommitValue
-no_commit = record { attrs = None; ranges = None; slot = None; metric = None }
+no_commit = record { attrs = None; ranges = None; slot = None; metric = None; cost = None }
 
 -- `drop SLOT`
 abbrev pub drop_line : List ℕ → Result SlotChange ScriptKind

@@ -1,5 +1,5 @@
 -- The values that a line can spell: each number is within its field.
-use Rattle.std.specs.Prelude.{◌^◌, ◌<◌, ◌≤◌, List, [], ◌∷◌, length, All, IfSome}
+use Rattle.std.specs.Prelude.{◌≡◌, ◌^◌, ◌<◌, ◌≤◌, List, [], ◌∷◌, length, None, All, IfSome}
 use Rattle.damon_types.specs.declared.attrs.Attrs.{Attrs}
 use Rattle.damon_types.specs.declared.filter.TheConstants.{MAX_FILTERS}
 use Rattle.damon_types.specs.declared.filter.FilterKind.{FilterKind}
@@ -26,9 +26,9 @@ FitsRange r = (r.target < 2 ^ 32) × (r.from < 2 ^ 64) × (r.to < 2 ^ 64) × (r.
 abbrev pub FitsSpan : Span → Type 0
 FitsSpan s = (s.low < 2 ^ 32) × (s.high < 2 ^ 32)
 
--- bytes of 64 bits and a reset interval of 32
+-- bytes of 64 bits and a reset interval of 32; no line spells a time
 abbrev pub FitsQuota : Quota → Type 0
-FitsQuota q = (q.bytes < 2 ^ 64) × (q.reset < 2 ^ 32)
+FitsQuota q = (q.bytes < 2 ^ 64) × (q.reset < 2 ^ 32) × (q.time ≡ None)
 
 -- three fields of 16 bits
 abbrev pub FitsWeights : Weights → Type 0

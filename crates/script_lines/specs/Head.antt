@@ -5,9 +5,10 @@ use Rattle.std.specs.Option.{ok_or}
 use Rattle.damon_types.specs.declared.attrs.Attrs.{Attrs}
 use Rattle.damon_types.specs.declared.range.RangeSpec.{RangeSpec}
 use Rattle.damon_types.specs.declared.scheme.SlotChange.{SlotChange}
+use Rattle.damon_types.specs.declared.scheme.Version.TheVariants.{One}
 use Rattle.damon_types.specs.declared.space.Target.{Target}
 use Rattle.damon_types.specs.Attrs.{checked_attrs}
-use Rattle.damon_types.specs.Scheme.{checked_scheme}
+use Rattle.damon_types.specs.Scheme.{checked_in}
 use Rattle.damon_types.specs.Space.{checked}
 use Rattle.line_text.specs.Parts.{two_of}
 use Rattle.live_commit.specs.declared.setup.TheConstants.{MAX_CAP, MAX_UNIT, MIN_CAP}
@@ -81,10 +82,10 @@ abbrev pub scheme_line : List SlotChange → List ℕ → Result SlotChange Scri
 scheme_line before line = do
   words ← arguments (codes "scheme") line
   said ← scheme_in words
-  sound ← refused_as BadScheme (checked_scheme said.0 said.1)
+  sound ← refused_as BadScheme (checked_in One said.0 said.1)
   only_if (not (is_changed said.0 before)) Repeated (record { slot = said.0; scheme = Some said.1 })
 
 -- the setup that these lines say
 abbrev pub setup_said : Frame → List Target → List RangeSpec → List SlotChange → SetupValue
 setup_said f targets ranges slots =
-    record { space = targets; unit = f.unit; cap = f.cap; attrs = f.attrs; ranges = ranges_of targets ranges; slots = slots }
+    record { version = One; space = targets; unit = f.unit; cap = f.cap; attrs = f.attrs; ranges = ranges_of targets ranges; slots = slots }

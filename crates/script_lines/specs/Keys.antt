@@ -66,7 +66,7 @@ quota_of value = do
   fields ← ok_or (two_of (parts comma value)) Form
   bytes ← number_64 fields.0
   reset ← number_32 fields.1
-  Ok (record { bytes = bytes; reset = reset })
+  Ok (record { bytes = bytes; reset = reset; time = None })
 
 -- `SIZE,COUNT,AGE`
 abbrev pub weights_of : List ℕ → Result Weights ScriptKind

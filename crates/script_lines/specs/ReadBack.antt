@@ -4,9 +4,10 @@ use Rattle.damon_types.specs.declared.attrs.Attrs.{Attrs}
 use Rattle.damon_types.specs.declared.range.RangeSpec.{RangeSpec}
 use Rattle.damon_types.specs.declared.scheme.Scheme.{Scheme}
 use Rattle.damon_types.specs.declared.scheme.SlotChange.{SlotChange}
+use Rattle.damon_types.specs.declared.scheme.Version.TheVariants.{One}
 use Rattle.damon_types.specs.declared.space.Target.{Target}
 use Rattle.damon_types.specs.Attrs.{checked_attrs}
-use Rattle.damon_types.specs.Scheme.{checked_scheme}
+use Rattle.damon_types.specs.Scheme.{checked_in}
 use Rattle.damon_types.specs.Space.{checked}
 use Rattle.live_commit.specs.declared.setup.TheConstants.{MAX_CAP, MAX_UNIT, MIN_CAP}
 use Rattle.live_commit.specs.Commit.{CommitValue}
@@ -40,7 +41,7 @@ pub record LinesReadBack : Type 0 where
   pub scheme :
       (before : List SlotChange) (line : List ℕ) (change : SlotChange) (scheme : Scheme)
       → GivesScheme line change → change.scheme ≡ Some scheme
-      → checked_scheme change.slot scheme ≡ Ok tt → is_changed change.slot before ≡ false
+      → checked_in One change.slot scheme ≡ Ok tt → is_changed change.slot before ≡ false
       → scheme_line before line ≡ Ok change
   pub passes : (n : ℕ) → 1 ≤ n → n ≤ MAX_PASSES → passes_line (spelled_passes n) ≡ Ok n
   pub command :

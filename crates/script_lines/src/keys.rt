@@ -220,6 +220,7 @@ fn read_quota(value: &[u8]) -> Result<Quota, ScriptKind>
     Ok(Quota {
         bytes: read_64(bytes)?,
         reset: read_32(reset)?,
+        time: None,
     })
 }
 

@@ -1,5 +1,6 @@
 // The lines of a setup.
 ghost use Rattle.std.specs.Prelude.{◌≡◌, ◌<◌, Ok, true, IfOk, OnOk, length};
+ghost use Rattle.damon_types.specs.declared.scheme.Version.TheVariants.{One as one};
 ghost use Rattle.target_ranges.specs.Checked.{checked_next};
 ghost use Rattle.live_commit.specs.Slots.{checked_slot, has_scheme};
 ghost use Rattle.script_lines.specs.Head.{attrs_line, cap_line, is_changed, limited, one_target, range_line, scheme_line, seed_line, target_in, unit_line};
@@ -9,7 +10,7 @@ use crate::ScriptKind;
 use crate::fields::{read_attrs, read_range};
 use crate::keys::read_scheme;
 use crate::words::{Words, arguments, one_word, read_32, read_64, read_byte_address, two_words};
-use damon_types::{Attrs, RangeSpec, SlotChange, Space, Target};
+use damon_types::{Attrs, RangeSpec, SlotChange, Space, Target, Version};
 use live_commit::{MAX_CAP, MAX_UNIT, MIN_CAP};
 use target_ranges::check_next;
 
@@ -112,12 +113,12 @@ pub fn read_range_line(
 #[tactic(auto, using(crate::proofs::SlotLemmas::checked_slot_accepted))]
 pub fn read_scheme_line(before: &[SlotChange], line: &[u8]) -> Result<SlotChange, ScriptKind>
     ensures exact { result ≡ scheme_line before.now line.now }
-    ensures accepted { IfOk result (λ c. checked_slot (length before.now) before.now c ≡ Ok tt) }
+    ensures accepted { IfOk result (λ c. checked_slot one (length before.now) before.now c ≡ Ok tt) }
     ensures set { IfOk result (λ c. has_scheme c ≡ true) }
 {
     let (slot, scheme) = read_scheme(arguments(b"scheme", line)?)?;
     scheme
-        .check(slot)
+        .check_in(Version::One, slot)
         .map_err(|why| ScriptKind::Scheme { why })?;
     if is_changed(slot, before) {
         return Err(ScriptKind::Repeated);
