@@ -9,7 +9,8 @@ use Rattle.damon_types.specs.declared.range.RangeSpec.{RangeSpec}
 use Rattle.damon_types.specs.declared.scheme.SchemeFault.{SchemeFault}
 use Rattle.damon_types.specs.declared.scheme.SlotChange.{SlotChange}
 use Rattle.damon_types.specs.declared.space.Target.{Target}
-use Rattle.damon_types.specs.Scheme.{checked_scheme}
+use Rattle.damon_types.specs.declared.scheme.Version.TheVariants.{One}
+use Rattle.damon_types.specs.Scheme.{checked_in}
 use Rattle.damon_types.specs.Space.{checked}
 use Rattle.line_text.specs.Laws.{TakesApartPieces}
 use Rattle.line_text.specs.Parts.{parts}
@@ -220,21 +221,21 @@ each_set-more : (changes : List SlotChange) (c : SlotChange) → AllByRecursion 
 each_set-more [] c each here = (here, tt)
 each_set-more (d ∷ changes) c each here = (each.0, each_set-more changes c each.1 here)
 
-scheme_read : LinesReadBack → (before : List SlotChange) (line : List ℕ) (c : SlotChange) → AllByRecursion (λ d. has_scheme d ≡ true) before → GivesScheme line c → checked_slot (length before) before c ≡ Ok tt
+scheme_read : LinesReadBack → (before : List SlotChange) (line : List ℕ) (c : SlotChange) → AllByRecursion (λ d. has_scheme d ≡ true) before → GivesScheme line c → checked_slot One (length before) before c ≡ Ok tt
     → scheme_line before line ≡ Ok c
 scheme_read back before line c each gives ok =
-    let set : result_and (scheme_fault (length before) (checked_scheme c.slot gives.0)) (checked_free (length before) (list_any (sets c.slot) before)) ≡ Ok tt = rw gives.1 at ok in
-    let both = both_ok (scheme_fault (length before) (checked_scheme c.slot gives.0)) (checked_free (length before) (list_any (sets c.slot) before)) set in
+    let set : result_and (scheme_fault (length before) (checked_in One c.slot gives.0)) (checked_free (length before) (list_any (sets c.slot) before)) ≡ Ok tt = rw gives.1 at ok in
+    let both = both_ok (scheme_fault (length before) (checked_in One c.slot gives.0)) (checked_free (length before) (list_any (sets c.slot) before)) set in
     back.scheme before line c gives.0 gives gives.1
-    (scheme_accepted (length before) (checked_scheme c.slot gives.0) both.0)
+    (scheme_accepted (length before) (checked_in One c.slot gives.0) both.0)
     (none_sets c.slot before each (free_accepted (length before) (list_any (sets c.slot) before) both.1))
 
 schemes_lead : LinesReadBack → (g : Grammar) (f : Frame) (targets : List Target) (specs : List RangeSpec) (before : List SlotChange) (schemes : List (List ℕ)) (more : List SlotChange) (lines : List (List ℕ))
-    → AllByRecursion (λ c. has_scheme c ≡ true) before → EachSays GivesScheme schemes more → checked_after before more ≡ Ok tt
+    → AllByRecursion (λ c. has_scheme c ≡ true) before → EachSays GivesScheme schemes more → checked_after One before more ≡ Ok tt
     → leads g (AtSchemes f targets specs before) (schemes ++ lines) ≡ leads g (AtSchemes f targets specs (before ++ more)) lines
 schemes_lead back g f targets specs before [] [] lines each gives ok = ap (λ cs. leads g (AtSchemes f targets specs cs) lines) (sym (append-nil before))
 schemes_lead back g f targets specs before (line ∷ schemes) (c ∷ more) lines each gives ok =
-    let both = both_ok (checked_slot (length before) before c) (checked_after (before ++ c ∷ []) more) ok in
+    let both = both_ok (checked_slot One (length before) before c) (checked_after One (before ++ c ∷ []) more) ok in
     let set : has_scheme c ≡ true = rw gives.0.1 refl in
     leads-line g (AtSchemes f targets specs before) (AtSchemes f targets specs (before ++ c ∷ [])) line (schemes ++ lines)
     (scheme_leads g f targets specs before line c (scheme_read back before line c each gives.0 both.0))
@@ -284,11 +285,11 @@ pub record Opens (g : Grammar) (seed : ℕ) (setup : SetupValue) (opening : List
 
 -- its schemes follow its ranges, and the line that opens the body its schemes
 ranges_schemes_lead : LeadLaws → (g : Grammar) (f : Frame) (targets : List Target) (specs : List RangeSpec) (schemes : List (List ℕ)) (slots : List SlotChange) (opening : List ℕ) (lines : List (List ℕ)) → 1 ≤ length specs
-    → EachSays GivesScheme schemes slots → checked_slots slots ≡ Ok tt → begins_with (codes "range") opening ≡ false
+    → EachSays GivesScheme schemes slots → checked_slots One slots ≡ Ok tt → begins_with (codes "range") opening ≡ false
     → leads g (AtRanges f targets specs) (schemes ++ opening ∷ lines) ≡ leads g (AtSchemes f targets specs []) (schemes ++ opening ∷ lines)
 ranges_schemes_lead laws g f targets specs [] [] opening lines some give sound other = past_ranges g f targets specs opening lines some other
 ranges_schemes_lead laws g f targets specs (line ∷ schemes) (c ∷ slots) opening lines some give sound other =
-    let first = both_ok (checked_slot 0 [] c) (checked_after (c ∷ []) slots) sound in
+    let first = both_ok (checked_slot One 0 [] c) (checked_after One (c ∷ []) slots) sound in
     let begins = scheme_begins [] line c (scheme_read laws.lines [] line c tt give.0 first.0) in
     past_ranges g f targets specs line (schemes ++ opening ∷ lines) some (begins_other (codes "scheme") (codes "range") line begins.begins refl)
 ranges_schemes_lead laws g f targets specs [] (c ∷ slots) opening lines some give sound other = absurd give

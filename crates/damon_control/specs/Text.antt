@@ -2,6 +2,7 @@
 use Rattle.std.specs.Prelude.{◌≡◌, ◌⊎◌, ℕ, ◌^◌, ◌<◌, ◌≤◌, Bool, true, ◌&&◌, List, [], ◌∷◌, ◌++◌, length, map, codes, Ok, ◌↔◌}
 use Rattle.damon_types.specs.declared.attrs.Attrs.{Attrs}
 use Rattle.damon_types.specs.declared.range.RangeSpec.{RangeSpec}
+use Rattle.damon_types.specs.declared.scheme.Version.TheVariants.{One}
 use Rattle.damon_types.specs.declared.space.Target.{Target}
 use Rattle.damon_types.specs.Space.{checked}
 use Rattle.live_commit.specs.Checked.{checked_limits}
@@ -52,7 +53,8 @@ pub record SaySetup (lines : List (List ℕ)) (seed : ℕ) (setup : SetupValue) 
   pub some_range : 1 ≤ length specs
   pub few_ranges : length specs ≤ setup.attrs.max
   pub watched : ranges_of setup.space specs ≡ setup.ranges
-  pub slots : checked_slots setup.slots ≡ Ok tt
+  pub version : setup.version ≡ One
+  pub slots : checked_slots One setup.slots ≡ Ok tt
   pub give : EachSays GivesScheme schemes setup.slots
 
 -- a commit with more parts, one after another

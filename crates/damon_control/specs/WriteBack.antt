@@ -12,20 +12,22 @@ use Rattle.script_lines.specs.Refusal.{◌>>=◌}
 use Rattle.damon_control.specs.Script.{Body, InBody, at, begun, reads, script_of, with_command}
 use Rattle.damon_control.specs.Written.{commit_text, setup_text, written_commit, written_setup}
 
--- a seed and a setup as their types have them
+-- a seed and a setup as their types have them, of version One
 pub record IsWritable (seed : ℕ) (s : SetupValue) : Type 0 where
   pub seed_fits : seed < 2 ^ 64
+  pub version : s.version ≡ One
   pub space : IsSpace s.space
   pub setup : IsSetup s
   pub order : InOrder s.ranges
   pub changes : All FitsChange s.slots
 
--- a commit as its type has it
+-- a commit as its type has it, without a time and without a cost: version One spells neither
 pub record FitsCommit (c : CommitValue) : Type 0 where
   pub attrs_fit : IfSome c.attrs FitsAttrs
   pub ranges_fit : IfSome c.ranges (λ ranges. All FitsRange ranges)
   pub slot_fits : IfSome c.slot FitsChange
   pub metric_fits : IfSome c.metric (λ value. value < 2 ^ 32)
+  pub no_cost : c.cost ≡ None
 
 -- new ranges of a commit are at least one: no text spells an empty list
 abbrev pub SpellsRanges : CommitValue → Type 0

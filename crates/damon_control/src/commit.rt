@@ -29,6 +29,7 @@ pub fn read_commit(alloc: Global, lines: &mut Lines) -> Result<Commit, ReadFail>
         ranges: None,
         slot: None,
         metric: None,
+        cost: None,
     };
     'lines: loop {
         let line = lines.take_line()?;

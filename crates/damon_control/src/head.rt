@@ -1,4 +1,5 @@
 ghost use Rattle.std.specs.Prelude.{◌≡◌, ◌≤◌, ◌<◌, ◌^◌, Ok, Err, Some, true, false, IfOk, IfErr, OnOk, is_ok, [], ◌∷◌, ◌++◌, ◌+◌, ◌-◌, codes, length};
+ghost use Rattle.damon_types.specs.declared.scheme.Version.TheVariants.{One as one};
 ghost use Rattle.damon_types.specs.Space.{checked};
 ghost use Rattle.target_ranges.specs.Checked.{checked_ranges};
 ghost use Rattle.script_lines.specs.declared.setup.Frame.{Frame as frame};
@@ -192,7 +193,7 @@ pub fn read_slots(
     ensures fault { (g : grammar) →
         FaultOf result (reads_left g (AtSchemes frame.now space.now specs.now.list []) lines.old) }
     ensures all { OnOk result (first_begins (codes "scheme") lines.new.rest.now ≡ false) }
-    ensures sound { IfOk result (λ slots. checked_slots slots.list ≡ Ok tt) }
+    ensures sound { IfOk result (λ slots. checked_slots one slots.list ≡ Ok tt) }
     ensures set { IfOk result (λ slots. kept_slots slots.list ≡ slots.list) }
     ensures few { IfOk result (λ slots. length slots.list ≤ MAX_BYTES) }
     ensures small { IsShort lines.new }

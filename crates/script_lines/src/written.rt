@@ -198,7 +198,7 @@ fn write_setting(out: &mut Vec<u8>, setting: Setting) -> Result<(), AllocError>
         Setting::Size(span) => write_span(out, b"size=", span),
         Setting::Count(span) => write_span(out, b"count=", span),
         Setting::Age(span) => write_span(out, b"age=", span),
-        Setting::Quota(Quota { bytes, reset }) => {
+        Setting::Quota(Quota { bytes, reset, .. }) => {
             write_field(out, b"quota=", bytes)?;
             write_field(out, b",", u64::from(reset))
         }
