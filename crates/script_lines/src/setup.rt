@@ -1,6 +1,5 @@
 // The lines of a setup.
 ghost use Rattle.std.specs.Prelude.{◌≡◌, ◌<◌, Ok, true, IfOk, OnOk, length};
-ghost use Rattle.damon_types.specs.declared.scheme.Version.TheVariants.{One as one};
 ghost use Rattle.target_ranges.specs.Checked.{checked_next};
 ghost use Rattle.live_commit.specs.Slots.{checked_slot, has_scheme};
 ghost use Rattle.script_lines.specs.Head.{attrs_line, cap_line, is_changed, limited, one_target, range_line, scheme_line, seed_line, target_in, unit_line};
@@ -17,6 +16,7 @@ use target_ranges::check_next;
 /// What the lines of a setup say before its targets.
 #[derive(Clone, Copy)]
 pub struct Frame {
+    pub version: Version,
     pub seed: u64,
     pub unit: u32,
     pub cap: u32,
@@ -109,16 +109,20 @@ pub fn read_range_line(
     Ok(range)
 }
 
-/// Reads `scheme SLOT ACTION KEYS` after other schemes.
+/// Reads `scheme SLOT ACTION KEYS` of a version, after other schemes.
 #[tactic(auto, using(crate::proofs::SlotLemmas::checked_slot_accepted))]
-pub fn read_scheme_line(before: &[SlotChange], line: &[u8]) -> Result<SlotChange, ScriptKind>
-    ensures exact { result ≡ scheme_line before.now line.now }
-    ensures accepted { IfOk result (λ c. checked_slot one (length before.now) before.now c ≡ Ok tt) }
+pub fn read_scheme_line(
+    version: Version,
+    before: &[SlotChange],
+    line: &[u8],
+) -> Result<SlotChange, ScriptKind>
+    ensures exact { result ≡ scheme_line version before.now line.now }
+    ensures accepted { IfOk result (λ c. checked_slot version (length before.now) before.now c ≡ Ok tt) }
     ensures set { IfOk result (λ c. has_scheme c ≡ true) }
 {
-    let (slot, scheme) = read_scheme(arguments(b"scheme", line)?)?;
+    let (slot, scheme) = read_scheme(version, arguments(b"scheme", line)?)?;
     scheme
-        .check_in(Version::One, slot)
+        .check_in(version, slot)
         .map_err(|why| ScriptKind::Scheme { why })?;
     if is_changed(slot, before) {
         return Err(ScriptKind::Repeated);
