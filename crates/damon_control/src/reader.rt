@@ -21,7 +21,7 @@ use crate::head::{read_frame, read_ranges, read_slots, read_targets};
 use crate::lines::Lines;
 use crate::script::MAX_WORK;
 use crate::{ReadFail, Script, ScriptFault};
-use damon_types::{RangeSpecs, SlotChanges, Space, Target, Version};
+use damon_types::{RangeSpecs, SlotChanges, Space, Target};
 use live_commit::Setup;
 use script_lines::{Frame, alone};
 use std::alloc::Global;
@@ -156,7 +156,7 @@ pub fn make_setup(alloc: Global, head: Head) -> Result<Setup, ReadFail>
     let _changes = slots.len();
     let setup = Setup::of_checked(
         alloc,
-        Version::One,
+        frame.version,
         space,
         frame.unit,
         frame.cap,

@@ -1,5 +1,4 @@
 use Rattle.std.proofs.Common.{◌≡◌, ◌≤◌, Ok, [], length}
-use Rattle.damon_types.specs.declared.scheme.Version.TheVariants.{One}
 use Rattle.live_commit.specs.Slots.{checked_slots, kept_slots}
 use Rattle.damon_control.specs.declared.grammar.Grammar.{Grammar}
 use Rattle.damon_control.specs.Left.{IsShort, reads_left}
@@ -9,7 +8,7 @@ use Rattle.damon_control.proofs.head.read_slots.Given as goal
 abbrev pub invariant-schemes : goal.invariant-schemes
 invariant-schemes l = record {
   said : (g : Grammar) → reads_left g (AtSchemes l.frame l.space l.specs.list []) l.fn.lines ≡ reads_left g (AtSchemes l.frame l.space l.specs.list l.slots.list) l.lines;
-  sound : checked_slots One l.slots.list ≡ Ok tt;
+  sound : checked_slots l.frame.version l.slots.list ≡ Ok tt;
   set : kept_slots l.slots.list ≡ l.slots.list;
   few : length l.slots.list ≤ l.lines.taken;
   small : IsShort l.lines;
