@@ -22,3 +22,4 @@ pub mod Appending
 pub mod WrittenLemmas
 pub mod WrittenRanges
 pub mod ReadWritten
+pub mod CommitLemmas

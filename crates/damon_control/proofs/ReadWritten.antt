@@ -307,7 +307,7 @@ CostIsIn One cost = cost ≡ None
 CostIsIn Two cost = Unit {0}
 
 last_in : (version : Version) (attrs : Option Attrs) (ranges : Option (List RangeSpec)) (slot : Option SlotChange) (metric : Option ℕ) (cost : Option CostPart) → CostIsIn version cost
-    → let rest = record { slot = slot; metric = metric; cost = cost } in
+    → let rest : Rest = record { slot = slot; metric = metric; cost = cost } in
     AreIn version (with_ranges attrs ranges) (last_parts rest) (commit_of attrs ranges rest)
 last_in version attrs ranges None None None is = record { in_order = refl; made = refl }
 last_in version attrs ranges None (Some m) None is = record { in_order = refl; made = refl }

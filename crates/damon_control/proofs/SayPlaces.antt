@@ -24,13 +24,14 @@ use Rattle.script_lines.specs.Command.{CommandValue, weight, work_of}
 use Rattle.script_lines.specs.Head.{setup_said}
 use Rattle.script_lines.specs.Laws.{IsPart, may_come}
 use Rattle.damon_control.specs.LineLaws.{LineLaws}
-use Rattle.damon_control.specs.Live.{LiveValue, has_controller}
+use Rattle.damon_control.specs.Live.{LiveValue}
 use Rattle.damon_control.specs.LiveText.{IsLiveText, KeepsLimits, SayController, SayWorker}
 use Rattle.script_lines.specs.Refusal.{◌>>=◌}
 use Rattle.damon_control.specs.Script.{AtAttrs, AtCap, AtEnd, AtHeader, AtRanges, AtSchemes, AtSeed, AtTargets, AtUnit, Body, InBody, InCommit, Place, Said, Within, header_of, version_in}
 use Rattle.script_lines.specs.Spelling.{spelled_attrs, spelled_cap, spelled_passes, spelled_range, spelled_seed, spelled_target, spelled_unit}
 use Rattle.damon_control.specs.Text.{EachSays, IsText, SayCommand, SaySetup, all_lines, come_in_order, with_parts}
 use Rattle.script_lines.specs.Lines.{lines_text}
+use Rattle.damon_control.specs.WriteBack.{MayCommit}
 use Rattle.damon_control.proofs.Steps.{bind-Ok}
 
 -- what is known of lines, and of the checks of ranges and slots
