@@ -23,3 +23,4 @@ pub mod WrittenLemmas
 pub mod WrittenRanges
 pub mod ReadWritten
 pub mod CommitLemmas
+mod WrittenExamples
