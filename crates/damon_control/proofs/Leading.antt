@@ -1,15 +1,18 @@
 -- Lines that say a setup lead from the first line of a text to its body, and those of a commit to its last line.
-use Rattle.std.proofs.Common.{◌≡◌, ◌∷◌, [], ◌==◌, ◌||◌, ◌^◌, ◌<◌, ◌≤◌, ℕ, Bool, true, false, List, ◌++◌, length, map, codes, Ok, Err, refl, sym, ap, subst, ◌∙◌, append_assoc, arith}
+use Rattle.std.proofs.Common.{◌≡◌, ◌∷◌, [], ◌==◌, ◌||◌, ◌^◌, ◌<◌, ◌≤◌, ℕ, Bool, true, false, List, ◌++◌, length, map, codes, Some, Ok, Err, refl, sym, ap, subst, ◌∙◌, append_assoc, arith}
 use Rattle.std.proofs.lemmas.Bool.Decides.{nat_tests}
 use Rattle.std.proofs.lemmas.List.{append-nil, length-append}
 use Rattle.std.specs.Prelude.{Result, if◌then◌else◌}
 use Rattle.std.specs.List.{AllByRecursion, list_any}
 use Rattle.std.specs.Result.{result_and}
 use Rattle.damon_types.specs.declared.range.RangeSpec.{RangeSpec}
+use Rattle.damon_types.specs.declared.scheme.Scheme.{Scheme}
 use Rattle.damon_types.specs.declared.scheme.SchemeFault.{SchemeFault}
 use Rattle.damon_types.specs.declared.scheme.SlotChange.{SlotChange}
+use Rattle.damon_types.specs.declared.scheme.Version.{Version}
+use Rattle.damon_types.specs.declared.scheme.Version.TheVariants.{One, Two}
 use Rattle.damon_types.specs.declared.space.Target.{Target}
-use Rattle.damon_types.specs.Scheme.{checked_scheme}
+use Rattle.damon_types.specs.Scheme.{checked_in}
 use Rattle.damon_types.specs.Space.{checked}
 use Rattle.line_text.specs.Laws.{TakesApartPieces}
 use Rattle.line_text.specs.Parts.{parts}
@@ -34,7 +37,7 @@ use Rattle.script_lines.specs.Head.{attrs_line, cap_line, is_changed, range_line
 use Rattle.script_lines.specs.Laws.{GivesScheme, IsPart, may_come}
 use Rattle.script_lines.specs.ReadBack.{LinesReadBack}
 use Rattle.script_lines.specs.Refusal.{◌>>=◌}
-use Rattle.damon_control.specs.Script.{AtAttrs, AtCap, AtEnd, AtHeader, AtRanges, AtSchemes, AtSeed, AtTargets, AtUnit, InBody, InCommit, Place, Said, Within, after_setup, header_of, place_after, reads}
+use Rattle.damon_control.specs.Script.{AtAttrs, AtCap, AtEnd, AtHeader, AtRanges, AtSchemes, AtSeed, AtTargets, AtUnit, InBody, InCommit, Place, Said, Within, after_setup, header_of, place_after, reads, version_in}
 use Rattle.script_lines.specs.Spelling.{spelled_attrs, spelled_cap, spelled_range, spelled_seed, spelled_target, spelled_unit}
 use Rattle.damon_control.specs.Text.{EachSays, SaySetup, come_in_order, with_parts}
 use Rattle.script_lines.specs.Lines.{lines_text}
@@ -68,12 +71,14 @@ neither_true false second one two = two
 neither_true true second one two = absurd cc
 
 -- the first line
-header_read : (g : Grammar) → place_after g AtHeader (header_of g) ≡ Ok AtSeed
-header_read OfScript = refl
-header_read OfLive = refl
+header_read : (g : Grammar) (version : Version) → place_after g AtHeader (header_of g version) ≡ Ok (AtSeed version)
+header_read OfScript One = refl
+header_read OfScript Two = refl
+header_read OfLive One = refl
+header_read OfLive Two = refl
 
 frame_leads : LinesReadBack → (g : Grammar) (f : Frame) (lines : List (List ℕ)) → f.seed < 2 ^ 64 → checked_limits f.unit f.cap f.attrs ≡ Ok tt
-    → leads g AtHeader (header_of g ∷ spelled_seed f.seed ∷ spelled_unit f.unit ∷ spelled_cap f.cap ∷ spelled_attrs f.attrs ∷ lines) ≡ leads g (AtTargets f []) lines
+    → leads g AtHeader (header_of g f.version ∷ spelled_seed f.seed ∷ spelled_unit f.unit ∷ spelled_cap f.cap ∷ spelled_attrs f.attrs ∷ lines) ≡ leads g (AtTargets f []) lines
 frame_leads back g f lines small sound =
     let limits = checked-Limits f.unit f.cap f.attrs sound in
     let most : f.attrs.max ≤ 4096 = omega (arith, limits.max_cap, limits.cap_most) in
@@ -82,14 +87,14 @@ frame_leads back g f lines small sound =
     let after_cap = spelled_attrs f.attrs ∷ lines in
     let after_unit = spelled_cap f.cap ∷ after_cap in
     let after_seed = spelled_unit f.unit ∷ after_unit in
-    leads-line g AtHeader AtSeed (header_of g) (spelled_seed f.seed ∷ after_seed) (header_read g)
-    ∙ leads-line g AtSeed (AtUnit f.seed) (spelled_seed f.seed) after_seed (lead_to g (seed_line (spelled_seed f.seed)) f.seed (λ n. AtUnit n) (back.seed f.seed small))
-    ∙ leads-line g (AtUnit f.seed) (AtCap f.seed f.unit) (spelled_unit f.unit) after_unit
-    (lead_to g (unit_line (spelled_unit f.unit)) f.unit (λ n. AtCap f.seed n) (back.unit f.unit limits.unit_some limits.unit_most))
-    ∙ leads-line g (AtCap f.seed f.unit) (AtAttrs f.seed f.unit f.cap) (spelled_cap f.cap) after_cap
-    (lead_to g (cap_line (spelled_cap f.cap)) f.cap (λ n. AtAttrs f.seed f.unit n) (back.cap f.cap limits.cap_some limits.cap_most))
-    ∙ leads-line g (AtAttrs f.seed f.unit f.cap) (AtTargets f []) (spelled_attrs f.attrs) lines
-    (lead_to g (attrs_line f.cap (spelled_attrs f.attrs)) f.attrs (λ a. AtTargets (record { seed = f.seed; unit = f.unit; cap = f.cap; attrs = a }) [])
+    leads-line g AtHeader (AtSeed f.version) (header_of g f.version) (spelled_seed f.seed ∷ after_seed) (header_read g f.version)
+    ∙ leads-line g (AtSeed f.version) (AtUnit f.version f.seed) (spelled_seed f.seed) after_seed (lead_to g (seed_line (spelled_seed f.seed)) f.seed (λ n. AtUnit f.version n) (back.seed f.seed small))
+    ∙ leads-line g (AtUnit f.version f.seed) (AtCap f.version f.seed f.unit) (spelled_unit f.unit) after_unit
+    (lead_to g (unit_line (spelled_unit f.unit)) f.unit (λ n. AtCap f.version f.seed n) (back.unit f.unit limits.unit_some limits.unit_most))
+    ∙ leads-line g (AtCap f.version f.seed f.unit) (AtAttrs f.version f.seed f.unit f.cap) (spelled_cap f.cap) after_cap
+    (lead_to g (cap_line (spelled_cap f.cap)) f.cap (λ n. AtAttrs f.version f.seed f.unit n) (back.cap f.cap limits.cap_some limits.cap_most))
+    ∙ leads-line g (AtAttrs f.version f.seed f.unit f.cap) (AtTargets f []) (spelled_attrs f.attrs) lines
+    (lead_to g (attrs_line f.cap (spelled_attrs f.attrs)) f.attrs (λ a. AtTargets (record { version = f.version; seed = f.seed; unit = f.unit; cap = f.cap; attrs = a }) [])
     (back.attrs f.cap f.attrs fits limits.checked limits.max_cap))
 
 -- ---- targets
@@ -133,7 +138,7 @@ no_fault index (Err why) ok = absurd cc
 
 -- the frame of a setup
 abbrev pub frame_of : ℕ → SetupValue → Frame
-frame_of seed setup = record { seed = seed; unit = setup.unit; cap = setup.cap; attrs = setup.attrs }
+frame_of seed setup = record { version = setup.version; seed = seed; unit = setup.unit; cap = setup.cap; attrs = setup.attrs }
 
 -- what is known of the checks of ranges, and of texts that are taken apart
 pub record LeadLaws : Type 0 where
@@ -186,13 +191,13 @@ past_ranges g f targets specs line lines some other = ap (λ r. r >>= λ next. l
 
 -- ---- schemes
 
-scheme_leads : (g : Grammar) (f : Frame) (targets : List Target) (specs : List RangeSpec) (before : List SlotChange) (line : List ℕ) (c : SlotChange) → scheme_line before line ≡ Ok c
+scheme_leads : (g : Grammar) (f : Frame) (targets : List Target) (specs : List RangeSpec) (before : List SlotChange) (line : List ℕ) (c : SlotChange) → scheme_line f.version before line ≡ Ok c
     → place_after g (AtSchemes f targets specs before) line ≡ Ok (AtSchemes f targets specs (before ++ c ∷ []))
 scheme_leads g f targets specs before line c read =
-    then_way (begins_with (codes "scheme") line) _ _ (scheme_begins before line c read).begins
-    ∙ lead_to g (scheme_line before line) c (λ d. AtSchemes f targets specs (before ++ d ∷ [])) read
+    then_way (begins_with (codes "scheme") line) _ _ (scheme_begins f.version before line c read).begins
+    ∙ lead_to g (scheme_line f.version before line) c (λ d. AtSchemes f targets specs (before ++ d ∷ [])) read
 
-both_ok : (r s : Result (Unit {0}) SetupFault) → result_and r s ≡ Ok tt → (r ≡ Ok tt) × (s ≡ Ok tt)
+pub both_ok : (r s : Result (Unit {0}) SetupFault) → result_and r s ≡ Ok tt → (r ≡ Ok tt) × (s ≡ Ok tt)
 both_ok (Ok t) s ok = (refl, ok)
 both_ok (Err e) s ok = absurd cc
 
@@ -220,24 +225,31 @@ each_set-more : (changes : List SlotChange) (c : SlotChange) → AllByRecursion 
 each_set-more [] c each here = (here, tt)
 each_set-more (d ∷ changes) c each here = (each.0, each_set-more changes c each.1 here)
 
-scheme_read : LinesReadBack → (before : List SlotChange) (line : List ℕ) (c : SlotChange) → AllByRecursion (λ d. has_scheme d ≡ true) before → GivesScheme line c → checked_slot (length before) before c ≡ Ok tt
-    → scheme_line before line ≡ Ok c
-scheme_read back before line c each gives ok =
-    let set : result_and (scheme_fault (length before) (checked_scheme c.slot gives.0)) (checked_free (length before) (list_any (sets c.slot) before)) ≡ Ok tt = rw gives.1 at ok in
-    let both = both_ok (scheme_fault (length before) (checked_scheme c.slot gives.0)) (checked_free (length before) (list_any (sets c.slot) before)) set in
-    back.scheme before line c gives.0 gives gives.1
-    (scheme_accepted (length before) (checked_scheme c.slot gives.0) both.0)
+-- a change that is accepted gives its slot a scheme within the limits of the version
+pub set_sound : (version : Version) (before : List SlotChange) (c : SlotChange) (s : Scheme) → c.scheme ≡ Some s → checked_slot version (length before) before c ≡ Ok tt
+    → checked_in version c.slot s ≡ Ok tt
+set_sound version before c s is ok =
+    let set : result_and (scheme_fault (length before) (checked_in version c.slot s)) (checked_free (length before) (list_any (sets c.slot) before)) ≡ Ok tt = rw is at ok in
+    scheme_accepted (length before) (checked_in version c.slot s) (both_ok (scheme_fault (length before) (checked_in version c.slot s)) (checked_free (length before) (list_any (sets c.slot) before)) set).0
+
+scheme_read : LinesReadBack → (version : Version) (before : List SlotChange) (line : List ℕ) (c : SlotChange) → AllByRecursion (λ d. has_scheme d ≡ true) before → GivesScheme version line c → checked_slot version (length before) before c ≡ Ok tt
+    → scheme_line version before line ≡ Ok c
+scheme_read back version before line c each gives ok =
+    let set : result_and (scheme_fault (length before) (checked_in version c.slot gives.0)) (checked_free (length before) (list_any (sets c.slot) before)) ≡ Ok tt = rw gives.1 at ok in
+    let both = both_ok (scheme_fault (length before) (checked_in version c.slot gives.0)) (checked_free (length before) (list_any (sets c.slot) before)) set in
+    back.scheme version before line c gives.0 gives gives.1
+    (scheme_accepted (length before) (checked_in version c.slot gives.0) both.0)
     (none_sets c.slot before each (free_accepted (length before) (list_any (sets c.slot) before) both.1))
 
 schemes_lead : LinesReadBack → (g : Grammar) (f : Frame) (targets : List Target) (specs : List RangeSpec) (before : List SlotChange) (schemes : List (List ℕ)) (more : List SlotChange) (lines : List (List ℕ))
-    → AllByRecursion (λ c. has_scheme c ≡ true) before → EachSays GivesScheme schemes more → checked_after before more ≡ Ok tt
+    → AllByRecursion (λ c. has_scheme c ≡ true) before → EachSays (GivesScheme f.version) schemes more → checked_after f.version before more ≡ Ok tt
     → leads g (AtSchemes f targets specs before) (schemes ++ lines) ≡ leads g (AtSchemes f targets specs (before ++ more)) lines
 schemes_lead back g f targets specs before [] [] lines each gives ok = ap (λ cs. leads g (AtSchemes f targets specs cs) lines) (sym (append-nil before))
 schemes_lead back g f targets specs before (line ∷ schemes) (c ∷ more) lines each gives ok =
-    let both = both_ok (checked_slot (length before) before c) (checked_after (before ++ c ∷ []) more) ok in
+    let both = both_ok (checked_slot f.version (length before) before c) (checked_after f.version (before ++ c ∷ []) more) ok in
     let set : has_scheme c ≡ true = rw gives.0.1 refl in
     leads-line g (AtSchemes f targets specs before) (AtSchemes f targets specs (before ++ c ∷ [])) line (schemes ++ lines)
-    (scheme_leads g f targets specs before line c (scheme_read back before line c each gives.0 both.0))
+    (scheme_leads g f targets specs before line c (scheme_read back f.version before line c each gives.0 both.0))
     ∙ schemes_lead back g f targets specs (before ++ c ∷ []) schemes more lines (each_set-more before c each set) gives.1 both.1
     ∙ ap (λ cs. leads g (AtSchemes f targets specs cs) lines) (append_assoc before (c ∷ []) more)
 schemes_lead back g f targets specs before [] (c ∷ more) lines each gives ok = absurd gives
@@ -245,18 +257,18 @@ schemes_lead back g f targets specs before (line ∷ schemes) [] lines each give
 
 -- ---- commits
 
-part_leads : LinesReadBack → (g : Grammar) (b : Within g) (commit : CommitValue) (line : List ℕ) (part : Part) → may_come commit part ≡ true → IsPart line part
+part_leads : LinesReadBack → (g : Grammar) (b : Within g) (commit : CommitValue) (line : List ℕ) (part : Part) → may_come (version_in g b) commit part ≡ true → IsPart (version_in g b) line part
     → place_after g (InCommit b commit) line ≡ Ok (InCommit b (with_part commit part))
 part_leads back g b commit line part may is =
-    let read = back.part commit line part may is in
-    else_way (begins_with (codes "apply") line) _ _ (part_begins commit line part read).not_first
-    ∙ lead_to g (part_line commit line) part (λ p. InCommit b (with_part commit p)) read
+    let read = back.part (version_in g b) commit line part may is in
+    else_way (begins_with (codes "apply") line) _ _ (part_begins (version_in g b) commit line part read).not_first
+    ∙ lead_to g (part_line (version_in g b) commit line) part (λ p. InCommit b (with_part commit p)) read
 
-pub parts_lead : LinesReadBack → (g : Grammar) (b : Within g) (commit : CommitValue) (between : List (List ℕ)) (parts : List Part) (lines : List (List ℕ)) → EachSays IsPart between parts → come_in_order commit parts ≡ true
+pub parts_lead : LinesReadBack → (g : Grammar) (b : Within g) (commit : CommitValue) (between : List (List ℕ)) (parts : List Part) (lines : List (List ℕ)) → EachSays (IsPart (version_in g b)) between parts → come_in_order (version_in g b) commit parts ≡ true
     → leads g (InCommit b commit) (between ++ lines) ≡ leads g (InCommit b (with_parts commit parts)) lines
 parts_lead back g b commit [] [] lines each order = refl
 parts_lead back g b commit (line ∷ between) (part ∷ parts) lines each order =
-    let both = both_true (may_come commit part) (come_in_order (with_part commit part) parts) order in
+    let both = both_true (may_come (version_in g b) commit part) (come_in_order (version_in g b) (with_part commit part) parts) order in
     leads-line g (InCommit b commit) (InCommit b (with_part commit part)) line (between ++ lines) (part_leads back g b commit line part both.0 each.0)
     ∙ parts_lead back g b (with_part commit part) between parts lines each.1 both.1
 parts_lead back g b commit [] (part ∷ parts) lines each order = absurd each
@@ -284,12 +296,12 @@ pub record Opens (g : Grammar) (seed : ℕ) (setup : SetupValue) (opening : List
 
 -- its schemes follow its ranges, and the line that opens the body its schemes
 ranges_schemes_lead : LeadLaws → (g : Grammar) (f : Frame) (targets : List Target) (specs : List RangeSpec) (schemes : List (List ℕ)) (slots : List SlotChange) (opening : List ℕ) (lines : List (List ℕ)) → 1 ≤ length specs
-    → EachSays GivesScheme schemes slots → checked_slots slots ≡ Ok tt → begins_with (codes "range") opening ≡ false
+    → EachSays (GivesScheme f.version) schemes slots → checked_slots f.version slots ≡ Ok tt → begins_with (codes "range") opening ≡ false
     → leads g (AtRanges f targets specs) (schemes ++ opening ∷ lines) ≡ leads g (AtSchemes f targets specs []) (schemes ++ opening ∷ lines)
 ranges_schemes_lead laws g f targets specs [] [] opening lines some give sound other = past_ranges g f targets specs opening lines some other
 ranges_schemes_lead laws g f targets specs (line ∷ schemes) (c ∷ slots) opening lines some give sound other =
-    let first = both_ok (checked_slot 0 [] c) (checked_after (c ∷ []) slots) sound in
-    let begins = scheme_begins [] line c (scheme_read laws.lines [] line c tt give.0 first.0) in
+    let first = both_ok (checked_slot f.version 0 [] c) (checked_after f.version (c ∷ []) slots) sound in
+    let begins = scheme_begins f.version [] line c (scheme_read laws.lines f.version [] line c tt give.0 first.0) in
     past_ranges g f targets specs line (schemes ++ opening ∷ lines) some (begins_other (codes "scheme") (codes "range") line begins.begins refl)
 ranges_schemes_lead laws g f targets specs [] (c ∷ slots) opening lines some give sound other = absurd give
 ranges_schemes_lead laws g f targets specs (line ∷ schemes) [] opening lines some give sound other = absurd give
@@ -299,15 +311,15 @@ regroup a b c d = simp append_assoc
 
 -- a setup's lines, and the one that opens the body, lead to the body
 pub setup_leads : LeadLaws → (g : Grammar) (seed : ℕ) (setup : SetupValue) (lines : List (List ℕ)) (opening : List ℕ) (b : Within g) (back : List (List ℕ)) → SaySetup lines seed setup → Opens g seed setup opening b
-    → leads g AtHeader (header_of g ∷ (lines ++ opening ∷ back)) ≡ leads g (InBody b) back
+    → leads g AtHeader (header_of g setup.version ∷ (lines ++ opening ∷ back)) ≡ leads g (InBody b) back
 setup_leads laws g seed setup lines opening b back says opens =
     let f = frame_of seed setup in
     let space = setup.space in
     let after_ranges = says.schemes ++ opening ∷ back in
     let after_targets = map spelled_range says.specs ++ after_ranges in
-    let frame_lines = λ (ls : List (List ℕ)). header_of g ∷ spelled_seed seed ∷ spelled_unit setup.unit ∷ spelled_cap setup.cap ∷ spelled_attrs setup.attrs ∷ ls in
-    let lines_are : header_of g ∷ (lines ++ opening ∷ back) ≡ frame_lines (map spelled_target space ++ after_targets) =
-    ap (λ ls. header_of g ∷ (ls ++ opening ∷ back)) says.spelled
+    let frame_lines = λ (ls : List (List ℕ)). header_of g setup.version ∷ spelled_seed seed ∷ spelled_unit setup.unit ∷ spelled_cap setup.cap ∷ spelled_attrs setup.attrs ∷ ls in
+    let lines_are : header_of g setup.version ∷ (lines ++ opening ∷ back) ≡ frame_lines (map spelled_target space ++ after_targets) =
+    ap (λ ls. header_of g setup.version ∷ (ls ++ opening ∷ back)) says.spelled
     ∙ ap frame_lines (regroup (map spelled_target space) (map spelled_range says.specs) says.schemes (opening ∷ back))
     in
     let last : place_after g (AtSchemes f space says.specs setup.slots) opening ≡ Ok (InBody b) =

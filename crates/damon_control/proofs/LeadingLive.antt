@@ -22,7 +22,7 @@ use Rattle.damon_control.specs.LiveText.{IsLiveText, SayCall, SayController, Say
 use Rattle.damon_control.specs.LiveView.{with_controllers, with_workers}
 use Rattle.script_lines.specs.ReadBack.{LinesReadBack}
 use Rattle.script_lines.specs.Refusal.{◌>>=◌, only_if}
-use Rattle.damon_control.specs.Script.{AtEnd, AtHeader, InBody, InCommit, live_of, live_within, place_after}
+use Rattle.damon_control.specs.Script.{AtEnd, AtHeader, InBody, InCommit, header_of, live_of, live_within, place_after}
 use Rattle.script_lines.specs.Spelling.{spelled_passes}
 use Rattle.damon_control.specs.Text.{AreCommit, EachSays, all_lines}
 use Rattle.script_lines.specs.Words.{alone, arguments, begins_with, number_32, one_word}
@@ -171,7 +171,7 @@ commit_begins : (v : LiveValue) (cs : List (List CallValue)) (t : List CallValue
 commit_begins v cs t = rw (some_more cs t) refl
 
 -- the lines of a commit
-commit_leads : LinesReadBack → (v : LiveValue) (cs : List (List CallValue)) (t : List CallValue) (commit : CommitValue) (group lines : List (List ℕ)) → AreCommit group commit → count_all cs + length t < MAX_CALLS
+commit_leads : LinesReadBack → (v : LiveValue) (cs : List (List CallValue)) (t : List CallValue) (commit : CommitValue) (group lines : List (List ℕ)) → AreCommit v.setup.version group commit → count_all cs + length t < MAX_CALLS
     → leads OfLive (InBody (with_controllers v (cs ++ t ∷ []))) (group ++ lines) ≡ leads OfLive (InBody (with_controllers v (cs ++ (t ++ CommitCall commit ∷ []) ∷ []))) lines
 commit_leads back v cs t commit group lines are few =
     let here = with_controllers v (cs ++ t ∷ []) in
@@ -183,14 +183,14 @@ commit_leads back v cs t commit group lines are few =
     ∙ leads-line OfLive (InCommit here commit) (InBody (with_controllers v (cs ++ (t ++ CommitCall commit ∷ []) ∷ []))) (codes "apply") lines (call_taken v cs t (CommitCall commit) few)
 
 -- the lines of a call
-call_leads : LinesReadBack → (v : LiveValue) (cs : List (List CallValue)) (t : List CallValue) (call : CallValue) (group lines : List (List ℕ)) → SayCall group call → count_all cs + length t < MAX_CALLS
+call_leads : LinesReadBack → (v : LiveValue) (cs : List (List CallValue)) (t : List CallValue) (call : CallValue) (group lines : List (List ℕ)) → SayCall v.setup.version group call → count_all cs + length t < MAX_CALLS
     → leads OfLive (InBody (with_controllers v (cs ++ t ∷ []))) (group ++ lines) ≡ leads OfLive (InBody (with_controllers v (cs ++ (t ++ call ∷ []) ∷ []))) lines
 call_leads back v cs t ShowCall group lines says few =
     ap (λ ls. leads OfLive (InBody (with_controllers v (cs ++ t ∷ []))) (ls ++ lines)) says
     ∙ leads-line OfLive (InBody (with_controllers v (cs ++ t ∷ []))) (InBody (with_controllers v (cs ++ (t ++ ShowCall ∷ []) ∷ []))) (codes "show") lines (show_leads v cs t few)
 call_leads back v cs t (CommitCall commit) group lines says few = commit_leads back v cs t commit group lines says few
 
-calls_lead : LinesReadBack → (v : LiveValue) (cs : List (List CallValue)) (t : List CallValue) (groups : List (List (List ℕ))) (calls : List CallValue) (lines : List (List ℕ)) → EachSays SayCall groups calls
+calls_lead : LinesReadBack → (v : LiveValue) (cs : List (List CallValue)) (t : List CallValue) (groups : List (List (List ℕ))) (calls : List CallValue) (lines : List (List ℕ)) → EachSays (SayCall v.setup.version) groups calls
     → count_all cs + length t + length calls ≤ MAX_CALLS
     → leads OfLive (InBody (with_controllers v (cs ++ t ∷ []))) (all_lines groups ++ lines) ≡ leads OfLive (InBody (with_controllers v (cs ++ (t ++ calls) ∷ []))) lines
 calls_lead back v cs t [] [] lines each few = ap (λ (ks : List CallValue). leads OfLive (InBody (with_controllers v (cs ++ ks ∷ []))) lines) (sym (append-nil t))
@@ -208,14 +208,14 @@ controller_begins : (v : LiveValue) (cs : List (List CallValue)) → length cs <
 controller_begins v cs few = rw (few_more cs MAX_CONTROLLERS few) refl
 
 -- the lines of a controller
-controller_leads : LinesReadBack → (v : LiveValue) (cs : List (List CallValue)) (t : List CallValue) (group lines : List (List ℕ)) → SayController group t → length cs < MAX_CONTROLLERS → count_all cs + length t ≤ MAX_CALLS
+controller_leads : LinesReadBack → (v : LiveValue) (cs : List (List CallValue)) (t : List CallValue) (group lines : List (List ℕ)) → SayController v.setup.version group t → length cs < MAX_CONTROLLERS → count_all cs + length t ≤ MAX_CALLS
     → leads OfLive (InBody (with_controllers v cs)) (group ++ lines) ≡ leads OfLive (InBody (with_controllers v (cs ++ t ∷ []))) lines
 controller_leads back v cs t group lines says few calls_few =
     ap (λ ls. leads OfLive (InBody (with_controllers v cs)) (ls ++ lines)) says.spelled
     ∙ leads-line OfLive (InBody (with_controllers v cs)) (InBody (with_controllers v (cs ++ [] ∷ []))) (codes "controller") (all_lines says.groups ++ lines) (controller_begins v cs few)
     ∙ calls_lead back v cs [] says.groups t lines says.each (omega (arith, calls_few))
 
-controllers_lead : LinesReadBack → (v : LiveValue) (cs : List (List CallValue)) (groups : List (List (List ℕ))) (more : List (List CallValue)) (lines : List (List ℕ)) → EachSays SayController groups more
+controllers_lead : LinesReadBack → (v : LiveValue) (cs : List (List CallValue)) (groups : List (List (List ℕ))) (more : List (List CallValue)) (lines : List (List ℕ)) → EachSays (SayController v.setup.version) groups more
     → length (cs ++ more) ≤ MAX_CONTROLLERS → count_all (cs ++ more) ≤ MAX_CALLS
     → leads OfLive (InBody (with_controllers v cs)) (all_lines groups ++ lines) ≡ leads OfLive (InBody (with_controllers v (cs ++ more))) lines
 controllers_lead back v cs [] [] lines each few sum = ap (λ (us : List (List CallValue)). leads OfLive (InBody (with_controllers v us)) lines) (sym (append-nil cs))
@@ -231,7 +231,7 @@ controllers_lead back v cs (group ∷ groups) [] lines each few sum = absurd eac
 -- ---- a whole text
 
 -- `passes N` opens the blocks of a live script
-passes_opens : LinesReadBack → (seed : ℕ) (setup : SetupValue) (n : ℕ) → 1 ≤ n → n ≤ MAX_PASSES → Opens OfLive seed setup (spelled_passes n) (live_begun seed setup n)
+pub passes_opens : LinesReadBack → (seed : ℕ) (setup : SetupValue) (n : ℕ) → 1 ≤ n → n ≤ MAX_PASSES → Opens OfLive seed setup (spelled_passes n) (live_begun seed setup n)
 passes_opens back seed setup n some few =
     let read = back.passes n some few in
     let begins = passes_begins (spelled_passes n) n read in
@@ -246,7 +246,7 @@ passes_opens back seed setup n some few =
 -- the lines of a text that says a live script
 abbrev live_lines : (text : List ℕ) (v : LiveValue) → IsLiveText text v → List (List ℕ)
 live_lines text v says =
-    codes "damon live 1" ∷ (says.setup ++ spelled_passes v.passes ∷ (all_lines says.workers ++ (all_lines says.controllers ++ codes "end" ∷ [])))
+    header_of OfLive v.setup.version ∷ (says.setup ++ spelled_passes v.passes ∷ (all_lines says.workers ++ (all_lines says.controllers ++ codes "end" ∷ [])))
 
 -- lines that say a live script lead to its end
 lines_lead : LeadLaws → (text : List ℕ) (v : LiveValue) (says : IsLiveText text v) → leads OfLive AtHeader (live_lines text v says) ≡ Ok (AtEnd v)

@@ -13,7 +13,7 @@ use Rattle.script_lines.specs.Command.{CommandValue, Commit, weight, work_of}
 use Rattle.script_lines.specs.Laws.{IsCommand}
 use Rattle.script_lines.specs.ReadBack.{LinesReadBack}
 use Rattle.script_lines.specs.Refusal.{◌>>=◌}
-use Rattle.damon_control.specs.Script.{AtEnd, AtHeader, Body, InBody, InCommit, ScriptValue, begun, place_after, script_of, with_command}
+use Rattle.damon_control.specs.Script.{AtEnd, AtHeader, Body, InBody, InCommit, ScriptValue, begun, header_of, place_after, script_of, with_command}
 use Rattle.damon_control.specs.Text.{AreCommit, EachSays, IsText, SayCommand, all_lines}
 use Rattle.script_lines.specs.Words.{begins_with}
 use Rattle.damon_control.proofs.Leading.{LeadLaws, Opens, else_way, led_read, parts_lead, setup_leads, then_way}
@@ -59,7 +59,7 @@ line_leads back b line c is few =
     ∙ command_taken b c few
 
 -- the lines of a commit
-commit_leads : LinesReadBack → (b : Body) (commit : CommitValue) (group lines : List (List ℕ)) → AreCommit group commit → b.work + weight b.said.setup.cap (Commit commit) ≤ MAX_WORK
+commit_leads : LinesReadBack → (b : Body) (commit : CommitValue) (group lines : List (List ℕ)) → AreCommit b.said.setup.version group commit → b.work + weight b.said.setup.cap (Commit commit) ≤ MAX_WORK
     → leads OfScript (InBody b) (group ++ lines) ≡ leads OfScript (InBody (with_one b (Commit commit))) lines
 commit_leads back b commit group lines are few =
     ap (λ ls. leads OfScript (InBody b) (ls ++ lines)) are.spelled
@@ -70,7 +70,7 @@ commit_leads back b commit group lines are few =
     ∙ leads-line OfScript (InCommit b commit) (InBody (with_one b (Commit commit))) (codes "apply") lines (command_taken b (Commit commit) few)
 
 -- the lines of one command
-group_leads : LinesReadBack → (b : Body) (group : List (List ℕ)) (c : CommandValue) (lines : List (List ℕ)) → SayCommand b.said.setup.space group c → b.work + weight b.said.setup.cap c ≤ MAX_WORK
+group_leads : LinesReadBack → (b : Body) (group : List (List ℕ)) (c : CommandValue) (lines : List (List ℕ)) → SayCommand b.said.setup group c → b.work + weight b.said.setup.cap c ≤ MAX_WORK
     → leads OfScript (InBody b) (group ++ lines) ≡ leads OfScript (InBody (with_one b c)) lines
 group_leads back b group c lines (inl (line, is, says)) few =
     ap (λ ls. leads OfScript (InBody b) (ls ++ lines)) is
@@ -79,7 +79,7 @@ group_leads back b group c lines (inr (commit, is, are)) few =
     commit_leads back b commit group lines are (subst (λ (d : CommandValue). b.work + weight b.said.setup.cap d ≤ MAX_WORK) is few)
     ∙ ap (λ d. leads OfScript (InBody (with_one b d)) lines) (sym is)
 
-commands_lead : LinesReadBack → (b : Body) (groups : List (List (List ℕ))) (commands : List CommandValue) (lines : List (List ℕ)) → EachSays (SayCommand b.said.setup.space) groups commands
+commands_lead : LinesReadBack → (b : Body) (groups : List (List (List ℕ))) (commands : List CommandValue) (lines : List (List ℕ)) → EachSays (SayCommand b.said.setup) groups commands
     → b.work + work_of b.said.setup.cap commands ≤ MAX_WORK → leads OfScript (InBody b) (all_lines groups ++ lines) ≡ leads OfScript (InBody (with_commands b commands)) lines
 commands_lead back b [] [] lines each few = ap (λ d. leads OfScript (InBody d) lines) (no_more b)
 commands_lead back b (group ∷ groups) (c ∷ commands) lines each few =
@@ -103,7 +103,7 @@ begin_opens seed setup = record {
 
 -- the lines of a text that says a script
 abbrev script_lines : (text : List ℕ) (s : ScriptValue) → IsText text s → List (List ℕ)
-script_lines text s says = codes "damon script 1" ∷ (says.setup ++ codes "begin" ∷ (all_lines says.commands ++ codes "end" ∷ []))
+script_lines text s says = header_of OfScript s.setup.version ∷ (says.setup ++ codes "begin" ∷ (all_lines says.commands ++ codes "end" ∷ []))
 
 -- lines that say a script lead to its end
 lines_lead : LeadLaws → (text : List ℕ) (s : ScriptValue) (says : IsText text s) → leads OfScript AtHeader (script_lines text s says) ≡ Ok (AtEnd s)

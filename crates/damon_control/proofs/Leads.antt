@@ -38,10 +38,10 @@ text_ends : (g : Grammar) (n : ℕ) (place : Place g) (bytes : List ℕ) (s : Sa
 text_ends g n (AtEnd said) [] s e = let is : said ≡ s = cc in (ap (λ x. AtEnd x) is, refl)
 text_ends g n (AtEnd said) (b ∷ bs) s e = absurd cc
 text_ends g n AtHeader bytes s e = absurd cc
-text_ends g n AtSeed bytes s e = absurd cc
-text_ends g n (AtUnit seed) bytes s e = absurd cc
-text_ends g n (AtCap seed unit) bytes s e = absurd cc
-text_ends g n (AtAttrs seed unit cap) bytes s e = absurd cc
+text_ends g n (AtSeed version) bytes s e = absurd cc
+text_ends g n (AtUnit version seed) bytes s e = absurd cc
+text_ends g n (AtCap version seed unit) bytes s e = absurd cc
+text_ends g n (AtAttrs version seed unit cap) bytes s e = absurd cc
 text_ends g n (AtTargets f targets) bytes s e = absurd cc
 text_ends g n (AtRanges f targets ranges) bytes s e = absurd cc
 text_ends g n (AtSchemes f targets ranges slots) bytes s e = absurd cc

@@ -22,3 +22,5 @@ pub mod Appending
 pub mod WrittenLemmas
 pub mod WrittenRanges
 pub mod ReadWritten
+pub mod CommitLemmas
+mod WrittenExamples

@@ -1,34 +1,36 @@
 -- A line that is accepted begins with its word, and no byte of it is an LF.
 use Rattle.std.proofs.Common.{◌≡◌, ◌≢◌, ◌∷◌, [], ◌&&◌, ◌||◌, ◌==◌, ℕ, Bool, true, false, not, List, drop, length, codes, Ok, Err, refl, sym, ap, ◌∙◌}
-use Rattle.std.specs.Prelude.{All, Result, if◌then◌else◌, is_none}
+use Rattle.std.specs.Prelude.{All, Result, if◌then◌else◌}
 use Rattle.std.specs.Cmp.Lexicographic.{same_text}
 use Rattle.std.specs.List.{AllByRecursion, list_all}
 use Rattle.std.proofs.lemmas.List.Elements.{All-from_recursion}
 use Rattle.damon_types.specs.declared.range.RangeSpec.{RangeSpec}
 use Rattle.damon_types.specs.declared.scheme.SlotChange.{SlotChange}
+use Rattle.damon_types.specs.declared.scheme.Version.{Version}
+use Rattle.damon_types.specs.declared.scheme.Version.TheVariants.{One, Two}
 use Rattle.damon_types.specs.declared.space.Target.{Target}
 use Rattle.line_text.specs.Parts.{IsPiece, is_plain, is_printable, is_word, parts}
 use Rattle.live_commit.specs.Commit.{CommitValue}
 use Rattle.damon_control.specs.declared.grammar.Grammar.{Grammar}
 use Rattle.damon_control.specs.declared.grammar.Grammar.TheVariants.{OfScript, OfLive}
 use Rattle.script_lines.specs.declared.part.Part.{Part}
-use Rattle.script_lines.specs.declared.part.Part.TheVariants.{Attrs, Range, Slot, Metric}
+use Rattle.script_lines.specs.declared.part.Part.TheVariants.{Attrs, Range, Slot, Metric, Cost}
 use Rattle.script_lines.specs.declared.kind.ScriptKind.{ScriptKind}
-use Rattle.script_lines.specs.declared.kind.ScriptKind.TheVariants.{Form, Header, Word}
+use Rattle.script_lines.specs.declared.kind.ScriptKind.TheVariants.{Form, Word}
 use Rattle.damon_control.specs.declared.live.TheConstants.{MAX_CONTROLLERS, MAX_WORKERS}
 use Rattle.script_lines.specs.declared.setup.Frame.{Frame}
-use Rattle.script_lines.specs.Body.{change_line, command_line, drop_line, part_line, step_line, wants_attrs, wants_slot, word_line}
+use Rattle.script_lines.specs.Body.{change_line, command_line, drop_line, part_line, step_line, wants_attrs, wants_cost, wants_metric, wants_slot, word_line}
 use Rattle.script_lines.specs.Command.{Arm, CommandValue, Finish, Show}
-use Rattle.script_lines.specs.Fields.{attrs_in, range_in}
+use Rattle.script_lines.specs.Fields.{attrs_in, cost_in, range_in}
 use Rattle.script_lines.specs.Head.{attrs_line, cap_line, limited, one_target, range_line, scheme_line, seed_line, target_line, unit_line}
 use Rattle.script_lines.specs.Keys.{scheme_in}
 use Rattle.damon_control.specs.Live.{LiveValue, count_all, controller_line, has_controller, show_line, touches_line, worker_line}
 use Rattle.script_lines.specs.Blocks.{block_line, passes_line, touches_within, touching}
 use Rattle.script_lines.specs.Refusal.{◌>>=◌}
-use Rattle.damon_control.specs.Script.{AtAttrs, AtCap, AtEnd, AtHeader, AtRanges, AtSchemes, AtSeed, AtTargets, AtUnit, Body, InBody, InCommit, Place, Within, after_body, after_commit, after_live, after_ranges, after_schemes, after_setup, after_targets, after_within, header_of, place_after}
+use Rattle.damon_control.specs.Script.{AtAttrs, AtCap, AtEnd, AtHeader, AtRanges, AtSchemes, AtSeed, AtTargets, AtUnit, Body, InBody, InCommit, Place, Within, after_body, after_commit, after_live, after_ranges, after_schemes, after_setup, after_targets, after_within, header_of, place_after, version_in, version_said}
 use Rattle.script_lines.specs.Words.{alone, arguments, begins_with, no_word, number_8, number_32, number_64, one_word, same_word}
 use Rattle.damon_control.proofs.Leads.{leads}
-use Rattle.damon_control.proofs.Steps.{bind-Ok, either_way, only_if-Ok}
+use Rattle.damon_control.proofs.Steps.{bind-Ok, either_way, tested_way}
 
 -- a well-formed line that begins with this word
 pub record BeginsPlain (word line : List ℕ) : Type 0 where
@@ -115,8 +117,8 @@ target_begins before line t e =
 pub range_begins : (f : Frame) (targets : List Target) (before : List RangeSpec) (line : List ℕ) (r : RangeSpec) → range_line f targets before line ≡ Ok r → BeginsPlain (codes "range") line
 range_begins f targets before line r e = words_begin (codes "range") line _ r e
 
-pub scheme_begins : (before : List SlotChange) (line : List ℕ) (c : SlotChange) → scheme_line before line ≡ Ok c → BeginsPlain (codes "scheme") line
-scheme_begins before line c e = words_begin (codes "scheme") line _ c e
+pub scheme_begins : (version : Version) (before : List SlotChange) (line : List ℕ) (c : SlotChange) → scheme_line version before line ≡ Ok c → BeginsPlain (codes "scheme") line
+scheme_begins version before line c e = words_begin (codes "scheme") line _ c e
 
 -- a well-formed line that does not begin with these words
 pub record BeginsNeither (first second line : List ℕ) : Type 0 where
@@ -153,13 +155,14 @@ command_begins space line c e =
         neither word (codes "end") (codes "commit") line (alone_begins word line only.0 only.1) one two
 
 -- a part of a commit does not end it
-pub part_begins : (commit : CommitValue) (line : List ℕ) (part : Part) → part_line commit line ≡ Ok part → BeginsNeither (codes "apply") (codes "apply") line
-part_begins commit line part e =
+pub part_begins : (version : Version) (commit : CommitValue) (line : List ℕ) (part : Part) → part_line version commit line ≡ Ok part → BeginsNeither (codes "apply") (codes "apply") line
+part_begins version commit line part e =
     either_way (begins_with (codes "attrs") line && wants_attrs commit) _ _ _ at_attrs
     (either_way (begins_with (codes "range") line && wants_slot commit) _ _ _ at_range
     (either_way (begins_with (codes "scheme") line && wants_slot commit) _ _ _ at_scheme
     (either_way (begins_with (codes "drop") line && wants_slot commit) _ _ _ at_drop
-    (either_way (begins_with (codes "metric") line && is_none commit.metric) _ _ _ at_metric (λ word. absurd cc))))) e
+    (either_way (begins_with (codes "metric") line && wants_metric commit) _ _ _ at_metric
+    (either_way (begins_with (codes "cost") line && wants_cost version commit) _ _ _ at_cost (λ word. absurd cc)))))) e
   where
     says : (word : List ℕ) → BeginsPlain word line → same_word word (codes "apply") ≡ false → BeginsNeither (codes "apply") (codes "apply") line
     says word is differs = neither word (codes "apply") (codes "apply") line is differs differs
@@ -174,11 +177,11 @@ part_begins commit line part e =
         let range = bind-Ok (arguments (codes "range") line >>= range_in) _ part read in
         says (codes "range") (words_begin (codes "range") line range_in range.0 range.1) refl
 
-    at_scheme : (change_line line >>= λ change. Ok (Slot change)) ≡ Ok part → BeginsNeither (codes "apply") (codes "apply") line
+    at_scheme : (change_line version line >>= λ change. Ok (Slot change)) ≡ Ok part → BeginsNeither (codes "apply") (codes "apply") line
     at_scheme read =
-        let change = bind-Ok (change_line line) _ part read in
-        let said = bind-Ok (arguments (codes "scheme") line >>= scheme_in) _ change.0 change.1 in
-        says (codes "scheme") (words_begin (codes "scheme") line scheme_in said.0 said.1) refl
+        let change = bind-Ok (change_line version line) _ part read in
+        let said = bind-Ok (arguments (codes "scheme") line >>= scheme_in version) _ change.0 change.1 in
+        says (codes "scheme") (words_begin (codes "scheme") line (scheme_in version) said.0 said.1) refl
 
     at_drop : (drop_line line >>= λ change. Ok (Slot change)) ≡ Ok part → BeginsNeither (codes "apply") (codes "apply") line
     at_drop read =
@@ -190,6 +193,11 @@ part_begins commit line part e =
     at_metric read =
         let value = bind-Ok (arguments (codes "metric") line >>= one_word >>= number_32) _ part read in
         says (codes "metric") (one_begins (codes "metric") line number_32 value.0 value.1) refl
+
+    at_cost : (arguments (codes "cost") line >>= cost_in >>= λ cost. Ok (Cost cost)) ≡ Ok part → BeginsNeither (codes "apply") (codes "apply") line
+    at_cost read =
+        let cost = bind-Ok (arguments (codes "cost") line >>= cost_in) _ part read in
+        says (codes "cost") (words_begin (codes "cost") line cost_in cost.0 cost.1) refl
 
 -- ---- no line that leads on has an LF
 
@@ -205,7 +213,7 @@ setup_plain OfLive f targets specs slots line next e = read_plain (passes_line l
 
 schemes_plain : (g : Grammar) (f : Frame) (targets : List Target) (specs : List RangeSpec) (slots : List SlotChange) (line : List ℕ) (next : Place g) → after_schemes g f targets specs slots line ≡ Ok next → is_plain line ≡ true
 schemes_plain g f targets specs slots line next e =
-    either_way (begins_with (codes "scheme") line) _ _ _ (read_plain (scheme_line slots line) _ next line (λ c read. (scheme_begins slots line c read).plain))
+    either_way (begins_with (codes "scheme") line) _ _ _ (read_plain (scheme_line f.version slots line) _ next line (λ c read. (scheme_begins f.version slots line c read).plain))
     (setup_plain g f targets specs slots line next) e
 
 ranges_plain : (g : Grammar) (f : Frame) (targets : List Target) (specs : List RangeSpec) (line : List ℕ) (next : Place g) → after_ranges g f targets specs line ≡ Ok next → is_plain line ≡ true
@@ -257,22 +265,31 @@ within_plain OfLive v line next e = live_plain v line next e
 commit_plain : (g : Grammar) (b : Within g) (commit : CommitValue) (line : List ℕ) (next : Place g) → after_commit g b commit line ≡ Ok next → is_plain line ≡ true
 commit_plain g b commit line next e =
     either_way (begins_with (codes "apply") line) _ _ _ (read_plain (alone (codes "apply") line) _ next line (λ t read. (alone_begins (codes "apply") line t read).plain))
-    (read_plain (part_line commit line) _ next line (λ part read. (part_begins commit line part read).plain)) e
+    (read_plain (part_line (version_in g b) commit line) _ next line (λ part read. (part_begins (version_in g b) commit line part read).plain)) e
 
-header_plain : (g : Grammar) → is_plain (header_of g) ≡ true
-header_plain OfScript = refl
-header_plain OfLive = refl
+header_plain : (g : Grammar) (version : Version) → is_plain (header_of g version) ≡ true
+header_plain OfScript One = refl
+header_plain OfScript Two = refl
+header_plain OfLive One = refl
+header_plain OfLive Two = refl
+
+-- a first line that says a version is the one of this version
+pub version_said-Ok : (g : Grammar) (line : List ℕ) (version : Version) → version_said g line ≡ Ok version → line ≡ header_of g version
+version_said-Ok g line version e =
+    tested_way (same_word line (header_of g One)) _ _ _ (says One)
+    (tested_way (same_word line (header_of g Two)) _ _ _ (says Two) (λ none. absurd cc)) e
+  where
+    says : (said : Version) → same_word line (header_of g said) ≡ true → ◌≡◌ {A = Result Version ScriptKind} (Ok said) (Ok version) → line ≡ header_of g version
+    says said same is = let it : said ≡ version = cc in same_text line (header_of g said) (sym same) ∙ ap (header_of g) it
 
 line-IsPiece : (g : Grammar) (place : Place g) (line : List ℕ) (next : Place g) → place_after g place line ≡ Ok next → IsPiece 10 line
 line-IsPiece g AtHeader line next e =
-    let seed : Place g = AtSeed in
-    let only = only_if-Ok (same_word line (header_of g)) Header seed next e in
-    let is : line ≡ header_of g = same_text line (header_of g) (sym only.0) in
-    plain-IsPiece line (ap is_plain is ∙ header_plain g)
-line-IsPiece g AtSeed line next e = plain-IsPiece line (read_plain (seed_line line) _ next line (λ n read. (one_begins (codes "seed") line number_64 n read).plain) e)
-line-IsPiece g (AtUnit seed) line next e = plain-IsPiece line (read_plain (unit_line line) _ next line (λ n read. (limited_begins (codes "unit") line 1 1048576 n read).plain) e)
-line-IsPiece g (AtCap seed unit) line next e = plain-IsPiece line (read_plain (cap_line line) _ next line (λ n read. (limited_begins (codes "cap") line 3 4096 n read).plain) e)
-line-IsPiece g (AtAttrs seed unit cap) line next e = plain-IsPiece line (read_plain (attrs_line cap line) _ next line (λ a read. (words_begin (codes "attrs") line _ a read).plain) e)
+    plain-IsPiece line
+    (read_plain (version_said g line) _ next line (λ version read. ap is_plain (version_said-Ok g line version read) ∙ header_plain g version) e)
+line-IsPiece g (AtSeed version) line next e = plain-IsPiece line (read_plain (seed_line line) _ next line (λ n read. (one_begins (codes "seed") line number_64 n read).plain) e)
+line-IsPiece g (AtUnit version seed) line next e = plain-IsPiece line (read_plain (unit_line line) _ next line (λ n read. (limited_begins (codes "unit") line 1 1048576 n read).plain) e)
+line-IsPiece g (AtCap version seed unit) line next e = plain-IsPiece line (read_plain (cap_line line) _ next line (λ n read. (limited_begins (codes "cap") line 3 4096 n read).plain) e)
+line-IsPiece g (AtAttrs version seed unit cap) line next e = plain-IsPiece line (read_plain (attrs_line cap line) _ next line (λ a read. (words_begin (codes "attrs") line _ a read).plain) e)
 line-IsPiece g (AtTargets f targets) line next e = plain-IsPiece line (targets_plain g f targets line next e)
 line-IsPiece g (AtRanges f targets specs) line next e = plain-IsPiece line (ranges_plain g f targets specs line next e)
 line-IsPiece g (AtSchemes f targets specs slots) line next e = plain-IsPiece line (schemes_plain g f targets specs slots line next e)

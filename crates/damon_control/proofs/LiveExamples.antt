@@ -2,10 +2,11 @@
 -- are read as others, or rejected.
 use Rattle.std.proofs.Common.{◌≡◌, inl, lit<, arith, ◌∷◌, [], ◌++◌, ℕ, List, codes, Some, None, Ok, Err, refl}
 use Rattle.std.specs.Fmt.{digits}
+use Rattle.damon_types.specs.declared.scheme.Version.TheVariants.{One, Two}
 use Rattle.damon_types.specs.declared.space.Target.{Target}
 use Rattle.live_commit.specs.Setup.{SetupValue}
 use Rattle.script_lines.specs.declared.kind.ScriptKind.{ScriptKind}
-use Rattle.script_lines.specs.declared.kind.ScriptKind.TheVariants.{Limit, Outside, Word}
+use Rattle.script_lines.specs.declared.kind.ScriptKind.TheVariants.{Form, Header, Limit, Outside, Word}
 use Rattle.script_lines.specs.Laws.{IsTouch}
 use Rattle.damon_control.specs.Live.{CommitCall, LiveValue, ShowCall}
 use Rattle.damon_control.specs.LiveText.{IsLiveText, KeepsLimits, SayController, SayWorker, SaysPages}
@@ -17,6 +18,7 @@ space = record { base = 65536; pages = 3 } ∷ []
 
 abbrev setup : SetupValue
 setup = record {
+  version = One;
   space = space;
   unit = 1;
   cap = 8;
@@ -65,7 +67,7 @@ worker_touches_twice = record {
   joined = refl;
 }
 
-controller_shows : SayController (codes "controller" ∷ codes "show" ∷ []) (ShowCall ∷ [])
+controller_shows : SayController One (codes "controller" ∷ codes "show" ∷ []) (ShowCall ∷ [])
 controller_shows = record { groups = (codes "show" ∷ []) ∷ []; spelled = refl; each = (refl, tt) }
 
 limits_are_kept : KeepsLimits said
@@ -110,7 +112,7 @@ sweeps_and_commits : live_of (setup_before (codes "passes 7\nworker\nworker\ntou
       setup = setup;
       passes = 7;
       workers = [] ∷ (2 ∷ 0 ∷ 1 ∷ []) ∷ [];
-      controllers = (CommitCall (record { attrs = None; ranges = None; slot = None; metric = Some 300 }) ∷ ShowCall ∷ []) ∷ [];
+      controllers = (CommitCall (record { attrs = None; ranges = None; slot = None; metric = Some 300; cost = None }) ∷ ShowCall ∷ []) ∷ [];
     })
 sweeps_and_commits = refl
 
@@ -144,3 +146,37 @@ fifth_controller_is_too_much = refl
 
 commands_of_scripts_are_no_calls : IsRejected (codes "passes 1\ncontroller\nstep 1\nend\n") 10 Word
 commands_of_scripts_are_no_calls = refl
+
+-- ---- texts of version Two
+
+-- the same setup in version Two, and more text after it
+abbrev second_before : List ℕ → List ℕ
+second_before text = codes "damon live 2\nseed 42\nunit 1\ncap 8\nattrs 3 8 5\ntarget 0x10000 3\nrange 0 0x10000 0x13000 0\n" ++ text
+
+cost_is_said_after_the_metric : live_of (second_before (codes "passes 7\ncontroller\ncommit\nmetric 300\ncost 3 10000\napply\nend\n"))
+    ≡ Ok (record {
+      seed = 42;
+      setup = record setup { version = Two };
+      passes = 7;
+      workers = [];
+      controllers = (CommitCall (record { attrs = None; ranges = None; slot = None; metric = Some 300; cost = Some (record { slot = 3; nanos = 10000 }) }) ∷ []) ∷ [];
+    })
+cost_is_said_after_the_metric = refl
+
+costs_want_version_two : IsRejected (codes "passes 7\ncontroller\ncommit\ncost 3 10000\napply\nend\n") 11 Word
+costs_want_version_two = refl
+
+second_cost_is_refused : live_of (second_before (codes "passes 7\ncontroller\ncommit\ncost 3 1\ncost 3 1\napply\nend\n")) ≡ Err (record { line = 12; kind = Word })
+second_cost_is_refused = refl
+
+times_want_version_two : IsRejected (codes "scheme 0 stat quota=4096,5 time=1000\npasses 1\nend\n") 8 Form
+times_want_version_two = refl
+
+times_want_a_quota : live_of (second_before (codes "scheme 0 stat time=1000\npasses 1\nend\n")) ≡ Err (record { line = 8; kind = Form })
+times_want_a_quota = refl
+
+no_third_version : live_of (codes "damon live 3\n") ≡ Err (record { line = 1; kind = Header })
+no_third_version = refl
+
+no_script_for_a_live_script : live_of (codes "damon script 2\n") ≡ Err (record { line = 1; kind = Header })
+no_script_for_a_live_script = refl

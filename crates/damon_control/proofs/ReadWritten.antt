@@ -1,38 +1,47 @@
 -- What is written of a setup and of a commit is read back as the same.
-use Rattle.std.proofs.Common.{◌≡◌, ◌∷◌, [], ◌&&◌, ◌+◌, ◌*◌, ◌%◌, ◌^◌, ◌<◌, ◌≤◌, ◌==◌, inl, inr, ℕ, true, false, nat_le, nat_lt, List, ◌++◌, length, map, codes, Ok, Some, None, refl, sym, ap, subst, ◌∙◌, append_assoc, arith}
-use Rattle.std.specs.Prelude.{All, IfSome, IsSome, Option}
+use Rattle.std.proofs.Common.{◌≡◌, ◌∷◌, [], ◌&&◌, ◌+◌, ◌*◌, ◌%◌, ◌^◌, ◌<◌, ◌≤◌, ◌==◌, inl, inr, ℕ, true, false, nat_le, nat_lt, List, ◌++◌, length, map, codes, Ok, Err, Some, None, refl, sym, ap, subst, ◌∙◌, append_assoc, arith}
+use Rattle.std.specs.Prelude.{All, IfSome, IsSome, Option, Result}
+use Rattle.std.specs.Result.{result_and}
 use Rattle.std.specs.List.{AllByRecursion}
 use Rattle.std.proofs.lemmas.Bool.Decides.{nat_tests}
 use Rattle.std.proofs.lemmas.List.{append-nil, length-append, length-map}
 use Rattle.std.proofs.lemmas.List.Elements.{All-append, All-cons, All-head, All-nil, All-tail}
 use Rattle.damon_types.specs.declared.attrs.Attrs.{Attrs}
 use Rattle.damon_types.specs.declared.range.RangeSpec.{RangeSpec}
+use Rattle.damon_types.specs.declared.scheme.CostPart.{CostPart}
+use Rattle.damon_types.specs.declared.scheme.Quota.{Quota}
 use Rattle.damon_types.specs.declared.scheme.Scheme.{Scheme}
 use Rattle.damon_types.specs.declared.scheme.SlotChange.{SlotChange}
+use Rattle.damon_types.specs.declared.scheme.Version.{Version}
+use Rattle.damon_types.specs.declared.scheme.Version.TheVariants.{One, Two}
 use Rattle.damon_types.specs.declared.space.Target.{Target}
+use Rattle.damon_types.specs.Scheme.{checked_scheme, checked_time}
 use Rattle.damon_types.specs.Space.{IsSpace, IsTarget, checked, checked_target, checked_targets_from, pages_of}
 use Rattle.line_text.specs.Laws.{PutsPartsTogether, TakesApartPieces}
 use Rattle.line_text.specs.Parts.{IsPiece, joined, parts}
 use Rattle.live_commit.specs.Checked.{checked_limits}
 use Rattle.live_commit.specs.Commit.{CommitValue}
 use Rattle.live_commit.specs.Setup.{IsSetup, SetupValue}
-use Rattle.damon_control.specs.declared.grammar.Grammar.TheVariants.{OfScript}
+use Rattle.live_commit.specs.Slots.{checked_after, checked_slot}
+use Rattle.damon_control.specs.declared.grammar.Grammar.{Grammar}
+use Rattle.damon_control.specs.declared.grammar.Grammar.TheVariants.{OfScript, OfLive}
 use Rattle.script_lines.specs.declared.part.Part.{Part}
-use Rattle.script_lines.specs.declared.part.Part.TheVariants.{Attrs as AttrsPart, Range as RangePart, Slot, Metric}
+use Rattle.script_lines.specs.declared.part.Part.TheVariants.{Attrs as AttrsPart, Range as RangePart, Slot, Metric, Cost}
 use Rattle.script_lines.specs.Body.{no_commit}
-use Rattle.script_lines.specs.Command.{Commit}
-use Rattle.script_lines.specs.Fits.{FitsAttrs, FitsRange, FitsChange}
+use Rattle.script_lines.specs.Fits.{FitsAttrs, FitsCost, FitsRange, FitsChange}
 use Rattle.script_lines.specs.Laws.{GivesScheme, IsPart}
 use Rattle.script_lines.specs.Refusal.{◌>>=◌}
-use Rattle.damon_control.specs.Script.{AtHeader, Body, InBody, InCommit, Place, at, begun, place_after, reads, script_of, with_command}
-use Rattle.script_lines.specs.Spelling.{spelled_range, spelled_target}
+use Rattle.damon_control.specs.Live.{live_begun}
+use Rattle.damon_control.specs.Script.{AtHeader, InBody, InCommit, Place, Within, at, begun, header_of, place_after, reads, version_in}
+use Rattle.script_lines.specs.Spelling.{spelled_passes, spelled_range, spelled_target}
 use Rattle.damon_control.specs.Text.{EachSays, SaySetup, come_in_order, number_lines, with_parts}
 use Rattle.script_lines.specs.Lines.{lines_text}
 use Rattle.script_lines.specs.WriteBack.{ChangesAreReadBack}
-use Rattle.damon_control.specs.WriteBack.{FitsCommit, IsWritable, SpellsRanges}
+use Rattle.damon_control.specs.WriteBack.{CommitsAreReadBack, FitsCommit, IsSpelledIn, IsWritable, LiveSetupsAreReadBack, MayCommit, SetupsAreReadBack}
 use Rattle.script_lines.specs.WrittenLine.{change_text}
 use Rattle.damon_control.specs.Written.{commit_text, part_given, part_text, parts_of, ranges_given, setup_text, spec_of, written_commit, written_setup}
-use Rattle.damon_control.proofs.Leading.{LeadLaws, parts_lead, setup_leads}
+use Rattle.damon_control.proofs.Leading.{LeadLaws, Opens, both_ok, parts_lead, set_sound, setup_leads}
+use Rattle.damon_control.proofs.LeadingLive.{passes_opens}
 use Rattle.damon_control.proofs.LeadingScript.{begin_opens}
 use Rattle.damon_control.proofs.Leads.{leads, leads-line}
 use Rattle.damon_control.proofs.LineWords.{leads-IsPiece, plain-IsPiece}
@@ -70,16 +79,27 @@ space_checked ts is =
     let total : nat_le (pages_of ts) 1048576 ≡ true = grind (arith, nat_tests, is.total) in
     rw (some, few, targets_checked 0 ts is.each, total) refl
 
-changes_give : ChangesAreReadBack → (changes : List SlotChange) → All (λ c. IsSome c.scheme) changes → All FitsChange changes → EachSays GivesScheme (map change_text changes) changes
-changes_give back [] set fit = tt
-changes_give back (c ∷ changes) set fit = (
+second_ok : {E : Type 0} (r s : Result (Unit {0}) E) → result_and r s ≡ Ok tt → s ≡ Ok tt
+second_ok (Ok t) s ok = ok
+second_ok (Err e) s ok = absurd cc
+
+-- changes that are accepted after others are written as they are
+changes_give : ChangesAreReadBack → (version : Version) (before changes : List SlotChange) → checked_after version before changes ≡ Ok tt → All (λ c. IsSome c.scheme) changes → All FitsChange changes
+    → EachSays (GivesScheme version) (map change_text changes) changes
+changes_give back version before [] sound set fit = tt
+changes_give back version before (c ∷ changes) sound set fit = (
   by c.scheme refl (All-head (λ (d : SlotChange). IsSome d.scheme) c changes set),
-  changes_give back changes (All-tail (λ (d : SlotChange). IsSome d.scheme) c changes set) (All-tail FitsChange c changes fit),
+  changes_give back version (before ++ c ∷ []) changes both.1 (All-tail (λ (d : SlotChange). IsSome d.scheme) c changes set) (All-tail FitsChange c changes fit),
 )
   where
-    by : (scheme : Option Scheme) → c.scheme ≡ scheme → IsSome scheme → GivesScheme (change_text c) c
+    both : (checked_slot version (length before) before c ≡ Ok tt) × (checked_after version (before ++ c ∷ []) changes ≡ Ok tt)
+    both = both_ok (checked_slot version (length before) before c) (checked_after version (before ++ c ∷ []) changes) sound
+
+    by : (scheme : Option Scheme) → c.scheme ≡ scheme → IsSome scheme → GivesScheme version (change_text c) c
     by None is some = absurd cc
-    by (Some s) is some = back.gives c s is (All-head FitsChange c changes fit)
+    by (Some s) is some =
+        back.gives version c s is (All-head FitsChange c changes fit)
+        (second_ok (checked_scheme c.slot s) (checked_time version s.quota) (set_sound version before c s is both.0))
 
 map_both : {A B C : Type 0} (f : B → C) (g : A → B) (xs : List A) → map (λ x. f (g x)) xs ≡ map f (map g xs)
 map_both f g [] = refl
@@ -106,7 +126,7 @@ written-SaySetup back seed s is =
       few_ranges = omega (arith, count, setup.ranges_most);
       watched = ranges_again s.space s.unit is.space setup.unit_some s.ranges setup.within setup.wide;
       slots = setup.slots;
-      give = changes_give back s.slots setup.set is.changes;
+      give = changes_give back s.version [] s.slots setup.slots setup.set is.changes;
     }
 
 -- ---- lines before others in a text
@@ -130,143 +150,217 @@ parts_before apart together lines bytes each =
     by (first ∷ others) some each = apart 10 first others each
 
 -- lines that lead to a place are read up to it, and then what follows them
-reads_led : (n : ℕ) (place : Place OfScript) (lines pieces : List (List ℕ)) (next : Place OfScript) → 0 < length pieces → leads OfScript place lines ≡ Ok next → reads OfScript n place (lines ++ pieces) ≡ reads OfScript (n + length lines) next pieces
-reads_led n place [] pieces next some e =
+reads_led : (g : Grammar) (n : ℕ) (place : Place g) (lines pieces : List (List ℕ)) (next : Place g) → 0 < length pieces → leads g place lines ≡ Ok next → reads g n place (lines ++ pieces) ≡ reads g (n + length lines) next pieces
+reads_led g n place [] pieces next some e =
     let is : place ≡ next = cc in
     let same : n ≡ n + 0 = omega arith in
-    λ i. reads OfScript (same i) (is i) pieces
-reads_led n place (line ∷ lines) pieces next some e =
-    let reached = bind-Ok (place_after OfScript place line) (λ p. leads OfScript p lines) next e in
+    λ i. reads g (same i) (is i) pieces
+reads_led g n place (line ∷ lines) pieces next some e =
+    let reached = bind-Ok (place_after g place line) (λ p. leads g p lines) next e in
     let more : 0 < length (lines ++ pieces) = omega (arith, length-append lines pieces, some) in
     let last : n + 1 + length lines ≡ n + length (line ∷ lines) = omega arith in
-    reads_more OfScript n place line (lines ++ pieces) more
-    ∙ ap (λ r. at n r >>= λ p. reads OfScript (n + 1) p (lines ++ pieces)) reached.1
-    ∙ reads_led (n + 1) reached.0 lines pieces next some reached.2
-    ∙ ap (λ m. reads OfScript m next pieces) last
+    reads_more g n place line (lines ++ pieces) more
+    ∙ ap (λ r. at n r >>= λ p. reads g (n + 1) p (lines ++ pieces)) reached.1
+    ∙ reads_led g (n + 1) reached.0 lines pieces next some reached.2
+    ∙ ap (λ m. reads g m next pieces) last
 
 -- ---- a setup
 
--- the lines of a setup up to `begin` lead to its body
-pub setup_read_back : LeadLaws → ChangesAreReadBack → PutsPartsTogether → (seed : ℕ) (s : SetupValue) (body : List ℕ) → IsWritable seed s
-    → script_of (codes "damon script 1\n" ++ (setup_text seed s ++ (codes "begin\n" ++ body))) ≡ reads OfScript (3 + length (written_setup seed s)) (InBody (begun seed s)) (parts 10 body)
-setup_read_back laws back together seed s body is =
+-- the text of a first line, of other lines and of one more, before a text
+whole_text : (first : List ℕ) (others : List (List ℕ)) (last rest : List ℕ)
+    → first ++ (codes "\n" ++ (lines_text others ++ (last ++ (codes "\n" ++ rest)))) ≡ lines_text (first ∷ (others ++ last ∷ [])) ++ rest
+whole_text first others last rest =
+    ap (λ t. first ++ (codes "\n" ++ t))
+    (ap (λ t. lines_text others ++ t) (sym (append_assoc last (codes "\n") rest))
+    ∙ sym (append_assoc (lines_text others) (last ++ codes "\n") rest)
+    ∙ ap (λ t. t ++ rest) (sym (lines_text-append others (last ∷ []))))
+    ∙ sym (append_assoc first (10 ∷ lines_text (others ++ last ∷ [])) rest)
+
+-- the lines of a setup and the one that opens the body lead to this body
+opening_read_back : LeadLaws → ChangesAreReadBack → PutsPartsTogether → (g : Grammar) (seed : ℕ) (s : SetupValue) (opening : List ℕ) (b : Within g) (rest : List ℕ) → IsWritable seed s → Opens g seed s opening b
+    → reads g 1 AtHeader (parts 10 (header_of g s.version ++ (codes "\n" ++ (setup_text seed s ++ (opening ++ (codes "\n" ++ rest))))))
+    ≡ reads g (3 + length (written_setup seed s)) (InBody b) (parts 10 rest)
+opening_read_back laws back together g seed s opening b rest is opens =
     let written = written_setup seed s in
-    let lines = codes "damon script 1" ∷ (written ++ codes "begin" ∷ []) in
-    let lead : leads OfScript AtHeader lines ≡ Ok (InBody (begun seed s)) = setup_leads laws OfScript seed s written (codes "begin") (begun seed s) [] (written-SaySetup back seed s is) (begin_opens seed s) in
-    let text : codes "damon script 1\n" ++ (setup_text seed s ++ (codes "begin\n" ++ body)) ≡ lines_text lines ++ body =
-    ap (λ t. codes "damon script 1\n" ++ t) (sym (append_assoc (lines_text written) (codes "begin\n") body) ∙ ap (λ t. t ++ body) (sym (lines_text-append written (codes "begin" ∷ []))))
-    in
-    let count : 1 + length lines ≡ 3 + length written = omega (arith, length-append written (codes "begin" ∷ [])) in
-    ap script_of text
-    ∙ ap (reads OfScript 1 AtHeader) (parts_before laws.apart together lines body (leads-IsPiece OfScript AtHeader lines (InBody (begun seed s)) lead))
-    ∙ reads_led 1 AtHeader lines (parts 10 body) (InBody (begun seed s)) (parts-some 10 body) lead
-    ∙ ap (λ n. reads OfScript n (InBody (begun seed s)) (parts 10 body)) count
+    let lines = header_of g s.version ∷ (written ++ opening ∷ []) in
+    let lead : leads g AtHeader lines ≡ Ok (InBody b) = setup_leads laws g seed s written opening b [] (written-SaySetup back seed s is) opens in
+    let count : 1 + length lines ≡ 3 + length written = omega (arith, length-append written (opening ∷ [])) in
+    ap (λ t. reads g 1 AtHeader (parts 10 t)) (whole_text (header_of g s.version) written opening rest)
+    ∙ ap (reads g 1 AtHeader) (parts_before laws.apart together lines rest (leads-IsPiece g AtHeader lines (InBody b) lead))
+    ∙ reads_led g 1 AtHeader lines (parts 10 rest) (InBody b) (parts-some 10 rest) lead
+    ∙ ap (λ n. reads g n (InBody b) (parts 10 rest)) count
+
+-- the lines of a setup up to `begin` lead to its body
+pub setup_read_back : LeadLaws → ChangesAreReadBack → PutsPartsTogether → SetupsAreReadBack
+setup_read_back laws back together seed s body is = opening_read_back laws back together OfScript seed s (codes "begin") (begun seed s) body is (begin_opens seed s)
+
+-- the lines of a setup up to `passes` lead to its blocks
+pub live_setup_read_back : LeadLaws → ChangesAreReadBack → PutsPartsTogether → LiveSetupsAreReadBack
+live_setup_read_back laws back together seed s passes blocks is some few =
+    opening_read_back laws back together OfLive seed s (spelled_passes passes) (live_begun seed s passes) blocks is (passes_opens laws.lines seed s passes some few)
 
 -- ---- a commit
 
 -- the line of a part says it
-abbrev IsSaid : Part → Type 0
-IsSaid part = IsPart (part_text part) part
+abbrev IsSaid : Version → Part → Type 0
+IsSaid version part = IsPart version (part_text part) part
 
-each_said : (parts : List Part) → AllByRecursion IsSaid parts → EachSays IsPart (map part_text parts) parts
-each_said [] all = tt
-each_said (p ∷ parts) all = (all.0, each_said parts all.1)
+each_said : (version : Version) (parts : List Part) → AllByRecursion (IsSaid version) parts → EachSays (IsPart version) (map part_text parts) parts
+each_said version [] all = tt
+each_said version (p ∷ parts) all = (all.0, each_said version parts all.1)
 
-said-append : (a b : List Part) → AllByRecursion IsSaid a → AllByRecursion IsSaid b → AllByRecursion IsSaid (a ++ b)
-said-append [] b first second = second
-said-append (p ∷ a) b first second = (first.0, said-append a b first.1 second)
+said-append : (version : Version) (a b : List Part) → AllByRecursion (IsSaid version) a → AllByRecursion (IsSaid version) b → AllByRecursion (IsSaid version) (a ++ b)
+said-append version [] b first second = second
+said-append version (p ∷ a) b first second = (first.0, said-append version a b first.1 second)
 
-attrs_said : (attrs : Option Attrs) → IfSome attrs FitsAttrs → AllByRecursion IsSaid (part_given (λ a. AttrsPart a) attrs)
-attrs_said None fit = tt
-attrs_said (Some a) fit = ((refl, fit), tt)
+attrs_said : (version : Version) (attrs : Option Attrs) → IfSome attrs FitsAttrs → AllByRecursion (IsSaid version) (part_given (λ a. AttrsPart a) attrs)
+attrs_said version None fit = tt
+attrs_said version (Some a) fit = ((refl, fit), tt)
 
-each_range_said : (ranges : List RangeSpec) → All FitsRange ranges → AllByRecursion IsSaid (map (λ r. RangePart r) ranges)
-each_range_said [] fit = tt
-each_range_said (r ∷ ranges) fit = ((refl, All-head FitsRange r ranges fit), each_range_said ranges (All-tail FitsRange r ranges fit))
+each_range_said : (version : Version) (ranges : List RangeSpec) → All FitsRange ranges → AllByRecursion (IsSaid version) (map (λ r. RangePart r) ranges)
+each_range_said version [] fit = tt
+each_range_said version (r ∷ ranges) fit = ((refl, All-head FitsRange r ranges fit), each_range_said version ranges (All-tail FitsRange r ranges fit))
 
-ranges_said : (ranges : Option (List RangeSpec)) → IfSome ranges (λ rs. All FitsRange rs) → AllByRecursion IsSaid (ranges_given ranges)
-ranges_said None fit = tt
-ranges_said (Some ranges) fit = each_range_said ranges fit
+ranges_said : (version : Version) (ranges : Option (List RangeSpec)) → IfSome ranges (λ rs. All FitsRange rs) → AllByRecursion (IsSaid version) (ranges_given ranges)
+ranges_said version None fit = tt
+ranges_said version (Some ranges) fit = each_range_said version ranges fit
 
-slot_said : ChangesAreReadBack → (slot : Option SlotChange) → IfSome slot FitsChange → AllByRecursion IsSaid (part_given (λ c. Slot c) slot)
-slot_said back None fits = tt
-slot_said back (Some c) fits = (by c.scheme refl, tt)
+-- the scheme of a slot change has no time that the version does not spell
+abbrev HasTimeIn : Version → Option Scheme → Type 0
+HasTimeIn version scheme = IfSome scheme (λ s. checked_time version s.quota ≡ Ok tt)
+
+-- the same of the slot change of a commit
+abbrev TimesAreIn : Version → Option SlotChange → Type 0
+TimesAreIn version slot = IfSome slot (λ change. HasTimeIn version change.scheme)
+
+-- version Two spells each time
+time_in_two : (quota : Option Quota) → checked_time Two quota ≡ Ok tt
+time_in_two None = refl
+time_in_two (Some q) = refl
+
+scheme_in_two : (scheme : Option Scheme) → HasTimeIn Two scheme
+scheme_in_two None = tt
+scheme_in_two (Some s) = time_in_two s.quota
+
+slot_in_two : (slot : Option SlotChange) → TimesAreIn Two slot
+slot_in_two None = tt
+slot_in_two (Some change) = scheme_in_two change.scheme
+
+times_are_in : (version : Version) (c : CommitValue) → IsSpelledIn version c → TimesAreIn version c.slot
+times_are_in One c is = is.1
+times_are_in Two c is = slot_in_two c.slot
+
+slot_said : ChangesAreReadBack → (version : Version) (slot : Option SlotChange) → IfSome slot FitsChange → TimesAreIn version slot → AllByRecursion (IsSaid version) (part_given (λ c. Slot c) slot)
+slot_said back version None fits timed = tt
+slot_said back version (Some c) fits timed = (by c.scheme refl, tt)
   where
-    by : (scheme : Option Scheme) → c.scheme ≡ scheme → IsSaid (Slot c)
+    by : (scheme : Option Scheme) → c.scheme ≡ scheme → IsSaid version (Slot c)
     by None is = inr (back.empties c is fits)
-    by (Some s) is = inl (back.gives c s is fits)
+    by (Some s) is = inl (back.gives version c s is fits (rw is at timed))
 
-metric_said : (metric : Option ℕ) → IfSome metric (λ m. m < 2 ^ 32) → AllByRecursion IsSaid (part_given (λ m. Metric m) metric)
-metric_said None fits = tt
-metric_said (Some m) fits = ((refl, fits), tt)
+metric_said : (version : Version) (metric : Option ℕ) → IfSome metric (λ m. m < 2 ^ 32) → AllByRecursion (IsSaid version) (part_given (λ m. Metric m) metric)
+metric_said version None fits = tt
+metric_said version (Some m) fits = ((refl, fits), tt)
 
-parts_said : ChangesAreReadBack → (c : CommitValue) → FitsCommit c → AllByRecursion IsSaid (parts_of c)
-parts_said back c fits =
+cost_said : (version : Version) (cost : Option CostPart) → IfSome cost FitsCost → AllByRecursion (IsSaid version) (part_given (λ p. Cost p) cost)
+cost_said version None fits = tt
+cost_said version (Some p) fits = ((refl, fits), tt)
+
+parts_said : ChangesAreReadBack → (version : Version) (c : CommitValue) → FitsCommit c → IsSpelledIn version c → AllByRecursion (IsSaid version) (parts_of c)
+parts_said back version c fits spelled =
     let attrs = part_given (λ a. AttrsPart a) c.attrs in
     let ranges = ranges_given c.ranges in
     let slot = part_given (λ s. Slot s) c.slot in
     let metric = part_given (λ m. Metric m) c.metric in
-    said-append attrs (ranges ++ (slot ++ metric)) (attrs_said c.attrs fits.attrs_fit)
-    (said-append ranges (slot ++ metric) (ranges_said c.ranges fits.ranges_fit)
-    (said-append slot metric (slot_said back c.slot fits.slot_fits) (metric_said c.metric fits.metric_fits)))
+    let cost = part_given (λ p. Cost p) c.cost in
+    said-append version attrs (ranges ++ (slot ++ (metric ++ cost))) (attrs_said version c.attrs fits.attrs_fit)
+    (said-append version ranges (slot ++ (metric ++ cost)) (ranges_said version c.ranges fits.ranges_fit)
+    (said-append version slot (metric ++ cost) (slot_said back version c.slot fits.slot_fits (times_are_in version c spelled))
+    (said-append version metric cost (metric_said version c.metric fits.metric_fits) (cost_said version c.cost fits.cost_fits))))
+
+-- the parts of a commit after its ranges
+record Rest : Type 0 where
+  slot : Option SlotChange
+  metric : Option ℕ
+  cost : Option CostPart
+
+-- these parts, as lines say them
+abbrev last_parts : Rest → List Part
+last_parts r = part_given (λ s. Slot s) r.slot ++ (part_given (λ m. Metric m) r.metric ++ part_given (λ p. Cost p) r.cost)
 
 -- a commit with attributes and ranges alone
 abbrev with_ranges : Option Attrs → Option (List RangeSpec) → CommitValue
-with_ranges attrs ranges = record { attrs = attrs; ranges = ranges; slot = None; metric = None }
+with_ranges attrs ranges = record no_commit { attrs = attrs; ranges = ranges }
 
 -- a commit with these parts
-abbrev commit_of : Option Attrs → Option (List RangeSpec) → Option SlotChange → Option ℕ → CommitValue
-commit_of attrs ranges slot metric = record { attrs = attrs; ranges = ranges; slot = slot; metric = metric }
-
--- the parts after the ranges
-abbrev last_parts : Option SlotChange → Option ℕ → List Part
-last_parts slot metric = part_given (λ s. Slot s) slot ++ part_given (λ m. Metric m) metric
+abbrev commit_of : Option Attrs → Option (List RangeSpec) → Rest → CommitValue
+commit_of attrs ranges r = record { attrs = attrs; ranges = ranges; slot = r.slot; metric = r.metric; cost = r.cost }
 
 -- the parts are in order, and make a commit
-record AreIn (before : CommitValue) (parts : List Part) (c : CommitValue) : Type 0 where
-  in_order : come_in_order before parts ≡ true
+record AreIn (version : Version) (before : CommitValue) (parts : List Part) (c : CommitValue) : Type 0 where
+  in_order : come_in_order version before parts ≡ true
   made : with_parts before parts ≡ c
 
-last_in : (attrs : Option Attrs) (ranges : Option (List RangeSpec)) (slot : Option SlotChange) (metric : Option ℕ)
-    → AreIn (with_ranges attrs ranges) (last_parts slot metric) (record { attrs = attrs; ranges = ranges; slot = slot; metric = metric })
-last_in attrs ranges None None = record { in_order = refl; made = refl }
-last_in attrs ranges None (Some m) = record { in_order = refl; made = refl }
-last_in attrs ranges (Some c) None = record { in_order = refl; made = refl }
-last_in attrs ranges (Some c) (Some m) = record { in_order = refl; made = refl }
+-- a cost comes in version Two alone
+abbrev CostIsIn : Version → Option CostPart → Type 0
+CostIsIn One cost = cost ≡ None
+CostIsIn Two cost = Unit {0}
 
-more_in : (attrs : Option Attrs) (before ranges : List RangeSpec) (rest : List Part) (c : CommitValue) → AreIn (with_ranges attrs (Some (before ++ ranges))) rest c
-    → AreIn (with_ranges attrs (Some before)) (map (λ r. RangePart r) ranges ++ rest) c
-more_in attrs before [] rest c are = subst (λ (rs : List RangeSpec). AreIn (with_ranges attrs (Some rs)) rest c) (append-nil before) are
-more_in attrs before (r ∷ ranges) rest c are =
+last_in : (version : Version) (attrs : Option Attrs) (ranges : Option (List RangeSpec)) (slot : Option SlotChange) (metric : Option ℕ) (cost : Option CostPart) → CostIsIn version cost
+    → let rest : Rest = record { slot = slot; metric = metric; cost = cost } in
+    AreIn version (with_ranges attrs ranges) (last_parts rest) (commit_of attrs ranges rest)
+last_in version attrs ranges None None None is = record { in_order = refl; made = refl }
+last_in version attrs ranges None (Some m) None is = record { in_order = refl; made = refl }
+last_in version attrs ranges (Some c) None None is = record { in_order = refl; made = refl }
+last_in version attrs ranges (Some c) (Some m) None is = record { in_order = refl; made = refl }
+last_in One attrs ranges slot metric (Some p) is = absurd cc
+last_in Two attrs ranges None None (Some p) is = record { in_order = refl; made = refl }
+last_in Two attrs ranges None (Some m) (Some p) is = record { in_order = refl; made = refl }
+last_in Two attrs ranges (Some c) None (Some p) is = record { in_order = refl; made = refl }
+last_in Two attrs ranges (Some c) (Some m) (Some p) is = record { in_order = refl; made = refl }
+
+more_in : (version : Version) (attrs : Option Attrs) (before ranges : List RangeSpec) (rest : List Part) (c : CommitValue) → AreIn version (with_ranges attrs (Some (before ++ ranges))) rest c
+    → AreIn version (with_ranges attrs (Some before)) (map (λ r. RangePart r) ranges ++ rest) c
+more_in version attrs before [] rest c are = subst (λ (rs : List RangeSpec). AreIn version (with_ranges attrs (Some rs)) rest c) (append-nil before) are
+more_in version attrs before (r ∷ ranges) rest c are =
     let all = sym (append_assoc before (r ∷ []) ranges) in
-    let others = more_in attrs (before ++ r ∷ []) ranges rest c (subst (λ (rs : List RangeSpec). AreIn (with_ranges attrs (Some rs)) rest c) all are) in
+    let others = more_in version attrs (before ++ r ∷ []) ranges rest c (subst (λ (rs : List RangeSpec). AreIn version (with_ranges attrs (Some rs)) rest c) all are) in
     record { in_order = others.in_order; made = others.made }
 
-parts_in : (attrs : Option Attrs) (ranges : Option (List RangeSpec)) (slot : Option SlotChange) (metric : Option ℕ) → IfSome ranges (λ rs. 1 ≤ length rs)
-    → AreIn no_commit (parts_of (commit_of attrs ranges slot metric)) (commit_of attrs ranges slot metric)
-parts_in None None slot metric some = last_in None None slot metric
-parts_in (Some a) None slot metric some = let others = last_in (Some a) None slot metric in record { in_order = others.in_order; made = others.made }
-parts_in attrs (Some []) slot metric some = absurd (omega (arith, some))
-parts_in None (Some (r ∷ ranges)) slot metric some =
-    let others = more_in None (r ∷ []) ranges (last_parts slot metric) (commit_of None (Some (r ∷ ranges)) slot metric) (last_in None (Some (r ∷ ranges)) slot metric) in
+parts_in : (version : Version) (attrs : Option Attrs) (ranges : Option (List RangeSpec)) (rest : Rest) → CostIsIn version rest.cost → IfSome ranges (λ rs. 1 ≤ length rs)
+    → AreIn version no_commit (parts_of (commit_of attrs ranges rest)) (commit_of attrs ranges rest)
+parts_in version None None rest is some = last_in version None None rest.slot rest.metric rest.cost is
+parts_in version (Some a) None rest is some =
+    let others = last_in version (Some a) None rest.slot rest.metric rest.cost is in
     record { in_order = others.in_order; made = others.made }
-parts_in (Some a) (Some (r ∷ ranges)) slot metric some =
-    let others = more_in (Some a) (r ∷ []) ranges (last_parts slot metric) (commit_of (Some a) (Some (r ∷ ranges)) slot metric) (last_in (Some a) (Some (r ∷ ranges)) slot metric) in
+parts_in version attrs (Some []) rest is some = absurd (omega (arith, some))
+parts_in version None (Some (r ∷ ranges)) rest is some =
+    let others = more_in version None (r ∷ []) ranges (last_parts rest) (commit_of None (Some (r ∷ ranges)) rest) (last_in version None (Some (r ∷ ranges)) rest.slot rest.metric rest.cost is) in
     record { in_order = others.in_order; made = others.made }
+parts_in version (Some a) (Some (r ∷ ranges)) rest is some =
+    let others = more_in version (Some a) (r ∷ []) ranges (last_parts rest) (commit_of (Some a) (Some (r ∷ ranges)) rest) (last_in version (Some a) (Some (r ∷ ranges)) rest.slot rest.metric rest.cost is) in
+    record { in_order = others.in_order; made = others.made }
+
+cost_is_in : (version : Version) (c : CommitValue) → IsSpelledIn version c → CostIsIn version c.cost
+cost_is_in One c is = is.0
+cost_is_in Two c is = tt
+
+-- the first line of a commit
+commit_opens : (g : Grammar) (b : Within g) → MayCommit g b → place_after g (InBody b) (codes "commit") ≡ Ok (InCommit b no_commit)
+commit_opens OfScript b may = refl
+commit_opens OfLive v may = rw may refl
 
 -- the text of a commit is read as it
-pub commit_read_back : LeadLaws → ChangesAreReadBack → PutsPartsTogether → (b : Body) (c : CommitValue) (n : ℕ) (rest : List ℕ) → FitsCommit c → SpellsRanges c
-    → let last = n + (1 + length (written_commit c)) in
-    reads OfScript n (InBody b) (parts 10 (codes "commit\n" ++ (commit_text c ++ (codes "apply\n" ++ rest))))
-    ≡ (at last (with_command b (Commit c)) >>= λ next. reads OfScript (last + 1) next (parts 10 rest))
-commit_read_back laws back together b c n rest fits some =
+pub commit_read_back : LeadLaws → ChangesAreReadBack → PutsPartsTogether → CommitsAreReadBack
+commit_read_back laws back together g b c n rest may fits some spelled =
+    let version = version_in g b in
     let written = written_commit c in
     let lines = codes "commit" ∷ written in
-    let are = parts_in c.attrs c.ranges c.slot c.metric some in
-    let lead : leads OfScript (InBody b) lines ≡ Ok (InCommit b c) =
-    leads-line OfScript (InBody b) (InCommit b no_commit) (codes "commit") written refl
-    ∙ ap (leads OfScript (InCommit b no_commit)) (sym (append-nil written))
-    ∙ parts_lead laws.lines OfScript b no_commit written (parts_of c) [] (each_said (parts_of c) (parts_said back c fits)) are.in_order
+    let are = parts_in version c.attrs c.ranges (record { slot = c.slot; metric = c.metric; cost = c.cost }) (cost_is_in version c spelled) some in
+    let lead : leads g (InBody b) lines ≡ Ok (InCommit b c) =
+    leads-line g (InBody b) (InCommit b no_commit) (codes "commit") written (commit_opens g b may)
+    ∙ ap (leads g (InCommit b no_commit)) (sym (append-nil written))
+    ∙ parts_lead laws.lines g b no_commit written (parts_of c) [] (each_said version (parts_of c) (parts_said back version c fits spelled)) are.in_order
     ∙ ap (λ d. Ok (InCommit b d)) are.made
     in
     let last = n + (1 + length written) in
@@ -275,9 +369,9 @@ commit_read_back laws back together b c n rest fits some =
     in
     let line : n + length lines ≡ last = omega arith in
     let text : codes "commit\n" ++ (commit_text c ++ (codes "apply\n" ++ rest)) ≡ lines_text lines ++ (codes "apply\n" ++ rest) = refl in
-    ap (λ t. reads OfScript n (InBody b) (parts 10 t)) text
-    ∙ ap (reads OfScript n (InBody b)) (parts_before laws.apart together lines (codes "apply\n" ++ rest) (leads-IsPiece OfScript (InBody b) lines (InCommit b c) lead))
-    ∙ ap (λ ps. reads OfScript n (InBody b) (lines ++ ps)) apply
-    ∙ reads_led n (InBody b) lines (codes "apply" ∷ parts 10 rest) (InCommit b c) (omega arith) lead
-    ∙ ap (λ m. reads OfScript m (InCommit b c) (codes "apply" ∷ parts 10 rest)) line
-    ∙ reads_line OfScript last (InCommit b c) (codes "apply") rest
+    ap (λ t. reads g n (InBody b) (parts 10 t)) text
+    ∙ ap (reads g n (InBody b)) (parts_before laws.apart together lines (codes "apply\n" ++ rest) (leads-IsPiece g (InBody b) lines (InCommit b c) lead))
+    ∙ ap (λ ps. reads g n (InBody b) (lines ++ ps)) apply
+    ∙ reads_led g n (InBody b) lines (codes "apply" ∷ parts 10 rest) (InCommit b c) (omega arith) lead
+    ∙ ap (λ m. reads g m (InCommit b c) (codes "apply" ∷ parts 10 rest)) line
+    ∙ reads_line g last (InCommit b c) (codes "apply") rest

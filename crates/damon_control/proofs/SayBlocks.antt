@@ -4,6 +4,7 @@ use Rattle.std.proofs.lemmas.Bool.Decides.{nat_tests}
 use Rattle.std.proofs.lemmas.List.{append-nil, length-append}
 use Rattle.std.proofs.lemmas.List.Folds.{concat-append}
 use Rattle.std.proofs.lemmas.List.Sums.{sum_by-cons}
+use Rattle.damon_types.specs.declared.scheme.Version.{Version}
 use Rattle.damon_types.specs.declared.space.Target.{Target}
 use Rattle.script_lines.specs.declared.kind.ScriptKind.TheVariants.{Limit, TooMuch}
 use Rattle.damon_control.specs.declared.grammar.Grammar.TheVariants.{OfLive}
@@ -16,7 +17,7 @@ use Rattle.damon_control.specs.Live.{CallValue, LiveValue, ShowCall, call_within
 use Rattle.script_lines.specs.Blocks.{block_line, touched, touches_within, touching}
 use Rattle.damon_control.specs.LiveText.{SayCall, SayController, SayWorker, SaysPages}
 use Rattle.script_lines.specs.Refusal.{◌>>=◌}
-use Rattle.damon_control.specs.Script.{AtEnd, InBody, InCommit, Place, after_live, live_within}
+use Rattle.damon_control.specs.Script.{AtEnd, InBody, InCommit, Place, after_live, header_of, live_within}
 use Rattle.script_lines.specs.Spelling.{spelled_passes}
 use Rattle.damon_control.specs.Text.{EachSays, all_lines}
 use Rattle.script_lines.specs.Lines.{lines_text}
@@ -72,13 +73,14 @@ none_is (x ∷ xs) is = absurd (omega (arith, is))
 -- ---- blocks and lines after them
 
 -- the lines up to the blocks, and those of the blocks
-abbrev live_lines : List (List ℕ) → ℕ → List (List ℕ) → List (List ℕ)
-live_lines setup passes blocks = codes "damon live 1" ∷ (setup ++ spelled_passes passes ∷ blocks)
+abbrev live_lines : Version → List (List ℕ) → ℕ → List (List ℕ) → List (List ℕ)
+live_lines version setup passes blocks = header_of OfLive version ∷ (setup ++ spelled_passes passes ∷ blocks)
 
-more_lines : (lines setup : List (List ℕ)) (passes : ℕ) (blocks more : List (List ℕ)) → lines ≡ live_lines setup passes blocks → lines ++ more ≡ live_lines setup passes (blocks ++ more)
-more_lines lines setup passes blocks more is =
+more_lines : (version : Version) (lines setup : List (List ℕ)) (passes : ℕ) (blocks more : List (List ℕ)) → lines ≡ live_lines version setup passes blocks
+    → lines ++ more ≡ live_lines version setup passes (blocks ++ more)
+more_lines version lines setup passes blocks more is =
     ap (λ ls. ls ++ more) is
-    ∙ ap (λ ls. codes "damon live 1" ∷ ls) (append_assoc setup (spelled_passes passes ∷ blocks) more)
+    ∙ ap (λ ls. header_of OfLive version ∷ ls) (append_assoc setup (spelled_passes passes ∷ blocks) more)
 
 -- ---- workers
 
@@ -123,10 +125,10 @@ behind_workers workers controllers grown more none is =
     ∙ ap (λ ls. grown ++ ls) (sym none)
 
 -- without a controller there are no lines of controllers
-no_lines : (v : LiveValue) (groups : List (List (List ℕ))) → EachSays SayController groups v.controllers → has_controller v ≡ false → all_lines groups ≡ []
+no_lines : (v : LiveValue) (groups : List (List (List ℕ))) → EachSays (SayController v.setup.version) groups v.controllers → has_controller v ≡ false → all_lines groups ≡ []
 no_lines v groups each none =
     let empty : length v.controllers ≡ 0 = ap (λ (cs : List (List CallValue)). length cs) (none_of v.controllers none) in
-    ap all_lines (none_is groups (same_number SayController groups v.controllers each ∙ empty))
+    ap all_lines (none_is groups (same_number (SayController v.setup.version) groups v.controllers each ∙ empty))
 
 some_workers : (v : LiveValue) → (length v.workers == 0) ≡ false → 1 ≤ length v.workers
 some_workers v some = grind (arith, nat_tests)
@@ -145,8 +147,8 @@ more_touches laws lines v line w before none e = both_ways (length v.workers == 
           workers = to_last before.workers (line ∷ []);
           controllers = before.controllers;
           spelled =
-              more_lines lines before.setup v.passes (all_lines before.workers ++ all_lines before.controllers) (line ∷ []) before.spelled
-              ∙ ap (live_lines before.setup v.passes) (behind_workers (all_lines before.workers) (all_lines before.controllers) (all_lines (to_last before.workers (line ∷ []))) (line ∷ [])
+              more_lines v.setup.version lines before.setup v.passes (all_lines before.workers ++ all_lines before.controllers) (line ∷ []) before.spelled
+              ∙ ap (live_lines v.setup.version before.setup v.passes) (behind_workers (all_lines before.workers) (all_lines before.controllers) (all_lines (to_last before.workers (line ∷ []))) (line ∷ [])
               (no_lines v before.controllers before.say_controllers none) (all_lines-last before.workers (line ∷ []) groups));
           says_setup = before.says_setup;
           say_workers = says_last (SayWorker v.setup.space) before.workers v.workers (line ∷ []) pages (worker_more v.setup.space line pages said.says) before.say_workers;
@@ -181,8 +183,8 @@ more_workers laws lines v line w before none =
       workers = before.workers ++ (line ∷ []) ∷ [];
       controllers = before.controllers;
       spelled =
-          more_lines lines before.setup v.passes (all_lines before.workers ++ all_lines before.controllers) (line ∷ []) before.spelled
-          ∙ ap (live_lines before.setup v.passes) (behind_workers (all_lines before.workers) (all_lines before.controllers) (all_lines (before.workers ++ (line ∷ []) ∷ [])) (line ∷ [])
+          more_lines v.setup.version lines before.setup v.passes (all_lines before.workers ++ all_lines before.controllers) (line ∷ []) before.spelled
+          ∙ ap (live_lines v.setup.version before.setup v.passes) (behind_workers (all_lines before.workers) (all_lines before.controllers) (all_lines (before.workers ++ (line ∷ []) ∷ [])) (line ∷ [])
           (no_lines v before.controllers before.say_controllers none) (all_lines-more before.workers (line ∷ [])));
       says_setup = before.says_setup;
       say_workers = each_more (SayWorker v.setup.space) before.workers v.workers (line ∷ []) [] before.say_workers
@@ -209,12 +211,12 @@ more_controllers laws lines v line w before =
       workers = before.workers;
       controllers = before.controllers ++ (line ∷ []) ∷ [];
       spelled =
-          more_lines lines before.setup v.passes (all_lines before.workers ++ all_lines before.controllers) (line ∷ []) before.spelled
-          ∙ ap (live_lines before.setup v.passes) (append_assoc (all_lines before.workers) (all_lines before.controllers) (line ∷ [])
+          more_lines v.setup.version lines before.setup v.passes (all_lines before.workers ++ all_lines before.controllers) (line ∷ []) before.spelled
+          ∙ ap (live_lines v.setup.version before.setup v.passes) (append_assoc (all_lines before.workers) (all_lines before.controllers) (line ∷ [])
           ∙ ap (λ ls. all_lines before.workers ++ ls) (sym (all_lines-more before.controllers (line ∷ []))));
       says_setup = before.says_setup;
       say_workers = before.say_workers;
-      say_controllers = each_more SayController before.controllers v.controllers (line ∷ []) [] before.say_controllers
+      say_controllers = each_more (SayController v.setup.version) before.controllers v.controllers (line ∷ []) [] before.say_controllers
           (record { groups = []; spelled = ap (λ l. l ∷ []) begins.is; each = tt });
       limits = record {
         some_pass = before.limits.some_pass;
@@ -227,15 +229,15 @@ more_controllers laws lines v line w before =
     })
 
 -- a controller with the lines of one more call
-controller_more : (group : List (List ℕ)) (call : CallValue) → SayCall group call → (lines : List (List ℕ)) (calls : List CallValue) → SayController lines calls → SayController (lines ++ group) (calls ++ call ∷ [])
-controller_more group call here lines calls says = record {
+controller_more : (version : Version) (group : List (List ℕ)) (call : CallValue) → SayCall version group call → (lines : List (List ℕ)) (calls : List CallValue) → SayController version lines calls → SayController version (lines ++ group) (calls ++ call ∷ [])
+controller_more version group call here lines calls says = record {
   groups = says.groups ++ group ∷ [];
   spelled = ap (λ ls. ls ++ group) says.spelled ∙ ap (λ ls. codes "controller" ∷ ls) (sym (all_lines-more says.groups group));
-  each = each_more SayCall says.groups calls group call says.each here;
+  each = each_more (SayCall version) says.groups calls group call says.each here;
 }
 
 -- a call of the last controller, whose lines were read
-pub more_call : (lines front : List (List ℕ)) (v : LiveValue) (group : List (List ℕ)) (call : CallValue) (next : Place OfLive) → SayBlocks front v → has_controller v ≡ true → lines ≡ front ++ group → SayCall group call
+pub more_call : (lines front : List (List ℕ)) (v : LiveValue) (group : List (List ℕ)) (call : CallValue) (next : Place OfLive) → SayBlocks front v → has_controller v ≡ true → lines ≡ front ++ group → SayCall v.setup.version group call
     → live_within (with_call v call) ≡ Ok next → Says OfLive lines next
 more_call lines front v group call next before has_one is says = read_to (Says OfLive lines) (with_call v call) (λ w. InBody w) next (λ w. called w)
   where
@@ -243,7 +245,7 @@ more_call lines front v group call next before has_one is says = read_to (Says O
     called w = read_to (SayBlocks lines) (call_within (count_all v.controllers)) (λ _. record v { controllers = to_last v.controllers (call ∷ []) }) w (λ t read.
         let passes = only_if-Ok (nat_le (count_all v.controllers + 1) MAX_CALLS) TooMuch (tt {0}) t read in
         let some = some_of v.controllers has_one in
-        let groups : 1 ≤ length before.controllers = omega (arith, some, same_number SayController before.controllers v.controllers before.say_controllers) in
+        let groups : 1 ≤ length before.controllers = omega (arith, some, same_number (SayController v.setup.version) before.controllers v.controllers before.say_controllers) in
         let few : count_all v.controllers + 1 ≤ MAX_CALLS = grind (arith, nat_tests, passes.0) in
         record {
           setup = before.setup;
@@ -251,12 +253,12 @@ more_call lines front v group call next before has_one is says = read_to (Says O
           controllers = to_last before.controllers group;
           spelled =
               is
-              ∙ more_lines front before.setup v.passes (all_lines before.workers ++ all_lines before.controllers) group before.spelled
-              ∙ ap (live_lines before.setup v.passes) (append_assoc (all_lines before.workers) (all_lines before.controllers) group
+              ∙ more_lines v.setup.version front before.setup v.passes (all_lines before.workers ++ all_lines before.controllers) group before.spelled
+              ∙ ap (live_lines v.setup.version before.setup v.passes) (append_assoc (all_lines before.workers) (all_lines before.controllers) group
               ∙ ap (λ ls. all_lines before.workers ++ ls) (sym (all_lines-last before.controllers group groups)));
           says_setup = before.says_setup;
           say_workers = before.say_workers;
-          say_controllers = says_last SayController before.controllers v.controllers group (call ∷ []) (controller_more group call says) before.say_controllers;
+          say_controllers = says_last (SayController v.setup.version) before.controllers v.controllers group (call ∷ []) (controller_more v.setup.version group call says) before.say_controllers;
           limits = record {
             some_pass = before.limits.some_pass;
             passes = before.limits.passes;
@@ -285,8 +287,8 @@ in_blocks laws lines v line next before e =
       controllers = before.controllers;
       spelled =
           ap lines_text (ap (λ l. lines ++ l ∷ []) (laws.lines.word (codes "end") line read)
-          ∙ more_lines lines before.setup v.passes (all_lines before.workers ++ all_lines before.controllers) (codes "end" ∷ []) before.spelled
-          ∙ ap (live_lines before.setup v.passes) (append_assoc (all_lines before.workers) (all_lines before.controllers) (codes "end" ∷ [])));
+          ∙ more_lines v.setup.version lines before.setup v.passes (all_lines before.workers ++ all_lines before.controllers) (codes "end" ∷ []) before.spelled
+          ∙ ap (live_lines v.setup.version before.setup v.passes) (append_assoc (all_lines before.workers) (all_lines before.controllers) (codes "end" ∷ [])));
       says_setup = before.says_setup;
       say_workers = before.say_workers;
       say_controllers = before.say_controllers;

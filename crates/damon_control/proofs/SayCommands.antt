@@ -7,14 +7,14 @@ use Rattle.damon_control.specs.declared.script.TheConstants.{MAX_WORK}
 use Rattle.script_lines.specs.Body.{command_line, no_commit}
 use Rattle.script_lines.specs.Command.{CommandValue, weight}
 use Rattle.script_lines.specs.Refusal.{◌>>=◌}
-use Rattle.damon_control.specs.Script.{AtEnd, Body, InBody, InCommit, Place, after_body, with_command}
+use Rattle.damon_control.specs.Script.{AtEnd, Body, InBody, InCommit, Place, after_body, header_of, with_command}
 use Rattle.damon_control.specs.Text.{SayCommand, all_lines}
 use Rattle.script_lines.specs.Lines.{lines_text}
 use Rattle.script_lines.specs.Words.{alone, begins_with}
 use Rattle.damon_control.proofs.SayPlaces.{SayBody, Says, TextLaws, all_lines-more, each_more, read_to, work-more}
 use Rattle.damon_control.proofs.Steps.{bind-Ok, either_way, only_if-Ok}
 
-pub more_command : (lines front : List (List ℕ)) (b : Body) (group : List (List ℕ)) (command : CommandValue) (next : Place OfScript) → SayBody front b → lines ≡ front ++ group → SayCommand b.said.setup.space group command
+pub more_command : (lines front : List (List ℕ)) (b : Body) (group : List (List ℕ)) (command : CommandValue) (next : Place OfScript) → SayBody front b → lines ≡ front ++ group → SayCommand b.said.setup group command
     → with_command b command ≡ Ok next → Says OfScript lines next
 more_command lines front b group command next before is says e =
     let work = b.work + weight b.said.setup.cap command in
@@ -26,10 +26,10 @@ more_command lines front b group command next before is says e =
       spelled =
           is
           ∙ ap (λ ls. ls ++ group) before.spelled
-          ∙ ap (λ ls. codes "damon script 1" ∷ ls) (append_assoc before.setup (codes "begin" ∷ all_lines before.commands) group)
-          ∙ ap (λ ls. codes "damon script 1" ∷ (before.setup ++ codes "begin" ∷ ls)) (sym (all_lines-more before.commands group));
+          ∙ ap (λ ls. header_of OfScript b.said.setup.version ∷ ls) (append_assoc before.setup (codes "begin" ∷ all_lines before.commands) group)
+          ∙ ap (λ ls. header_of OfScript b.said.setup.version ∷ (before.setup ++ codes "begin" ∷ ls)) (sym (all_lines-more before.commands group));
       says_setup = before.says_setup;
-      say_commands = each_more (SayCommand b.said.setup.space) before.commands b.said.commands group command before.say_commands says;
+      say_commands = each_more (SayCommand b.said.setup) before.commands b.said.commands group command before.say_commands says;
       sum = ap (λ n. n + weight b.said.setup.cap command) before.sum ∙ sym (work-more b.said.setup.cap b.said.commands command);
       work = grind (arith, nat_tests, passes.0);
     })
@@ -44,7 +44,7 @@ in_body laws lines b line next before e =
       commands = before.commands;
       spelled =
           ap lines_text ((λ i. before.spelled i ++ laws.lines.word (codes "end") line read i ∷ [])
-          ∙ ap (λ ls. codes "damon script 1" ∷ ls) (append_assoc before.setup (codes "begin" ∷ all_lines before.commands) (codes "end" ∷ [])));
+          ∙ ap (λ ls. header_of OfScript b.said.setup.version ∷ ls) (append_assoc before.setup (codes "begin" ∷ all_lines before.commands) (codes "end" ∷ [])));
       says_setup = before.says_setup;
       say_commands = before.say_commands;
       work = subst (λ n. n ≤ MAX_WORK) before.sum before.work;

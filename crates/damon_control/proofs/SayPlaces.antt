@@ -4,6 +4,7 @@ use Rattle.std.proofs.lemmas.List.{append-nil}
 use Rattle.std.proofs.lemmas.List.Sums.{sum_by-cons}
 use Rattle.std.specs.Prelude.{Result, if◌then◌else◌}
 use Rattle.damon_types.specs.declared.range.RangeSpec.{RangeSpec}
+use Rattle.damon_types.specs.declared.scheme.Version.{Version}
 use Rattle.damon_types.specs.declared.space.Target.{Target}
 use Rattle.damon_types.specs.Space.{checked}
 use Rattle.live_commit.specs.Checked.{checked_cap, checked_limits, checked_unit}
@@ -23,13 +24,14 @@ use Rattle.script_lines.specs.Command.{CommandValue, weight, work_of}
 use Rattle.script_lines.specs.Head.{setup_said}
 use Rattle.script_lines.specs.Laws.{IsPart, may_come}
 use Rattle.damon_control.specs.LineLaws.{LineLaws}
-use Rattle.damon_control.specs.Live.{LiveValue, has_controller}
+use Rattle.damon_control.specs.Live.{LiveValue}
 use Rattle.damon_control.specs.LiveText.{IsLiveText, KeepsLimits, SayController, SayWorker}
 use Rattle.script_lines.specs.Refusal.{◌>>=◌}
-use Rattle.damon_control.specs.Script.{AtAttrs, AtCap, AtEnd, AtHeader, AtRanges, AtSchemes, AtSeed, AtTargets, AtUnit, Body, InBody, InCommit, Place, Said, Within, header_of}
+use Rattle.damon_control.specs.Script.{AtAttrs, AtCap, AtEnd, AtHeader, AtRanges, AtSchemes, AtSeed, AtTargets, AtUnit, Body, InBody, InCommit, Place, Said, Within, header_of, version_in}
 use Rattle.script_lines.specs.Spelling.{spelled_attrs, spelled_cap, spelled_passes, spelled_range, spelled_seed, spelled_target, spelled_unit}
 use Rattle.damon_control.specs.Text.{EachSays, IsText, SayCommand, SaySetup, all_lines, come_in_order, with_parts}
 use Rattle.script_lines.specs.Lines.{lines_text}
+use Rattle.damon_control.specs.WriteBack.{MayCommit}
 use Rattle.damon_control.proofs.Steps.{bind-Ok}
 
 -- what is known of lines, and of the checks of ranges and slots
@@ -41,7 +43,7 @@ pub record TextLaws : Type 0 where
 -- the first line, those of a frame, and others after them
 abbrev pub frame_lines : Grammar → Frame → List (List ℕ) → List (List ℕ)
 frame_lines g f lines =
-    header_of g ∷ spelled_seed f.seed ∷ spelled_unit f.unit ∷ spelled_cap f.cap ∷ spelled_attrs f.attrs ∷ lines
+    header_of g f.version ∷ spelled_seed f.seed ∷ spelled_unit f.unit ∷ spelled_cap f.cap ∷ spelled_attrs f.attrs ∷ lines
 
 -- a frame within its limits
 pub record IsFrame (f : Frame) : Type 0 where
@@ -65,16 +67,16 @@ pub record SayRanges (g : Grammar) (lines : List (List ℕ)) (f : Frame) (target
 -- and of schemes: the first line, and those of a setup
 pub record SaySchemes (g : Grammar) (lines : List (List ℕ)) (seed : ℕ) (setup : SetupValue) : Type 0 where
   pub others : List (List ℕ)
-  pub spelled : lines ≡ header_of g ∷ others
+  pub spelled : lines ≡ header_of g setup.version ∷ others
   pub says : SaySetup others seed setup
 
 -- lines of a script up to a line of its body
 pub record SayBody (lines : List (List ℕ)) (b : Body) : Type 0 where
   pub setup : List (List ℕ)
   pub commands : List (List (List ℕ))
-  pub spelled : lines ≡ codes "damon script 1" ∷ (setup ++ codes "begin" ∷ all_lines commands)
+  pub spelled : lines ≡ header_of OfScript b.said.setup.version ∷ (setup ++ codes "begin" ∷ all_lines commands)
   pub says_setup : SaySetup setup b.said.seed b.said.setup
-  pub say_commands : EachSays (SayCommand b.said.setup.space) commands b.said.commands
+  pub say_commands : EachSays (SayCommand b.said.setup) commands b.said.commands
   pub sum : b.work ≡ work_of b.said.setup.cap b.said.commands
   pub work : b.work ≤ MAX_WORK
 
@@ -83,21 +85,16 @@ pub record SayBlocks (lines : List (List ℕ)) (v : LiveValue) : Type 0 where
   pub setup : List (List ℕ)
   pub workers : List (List (List ℕ))
   pub controllers : List (List (List ℕ))
-  pub spelled : lines ≡ codes "damon live 1" ∷ (setup ++ spelled_passes v.passes ∷ (all_lines workers ++ all_lines controllers))
+  pub spelled : lines ≡ header_of OfLive v.setup.version ∷ (setup ++ spelled_passes v.passes ∷ (all_lines workers ++ all_lines controllers))
   pub says_setup : SaySetup setup v.seed v.setup
   pub say_workers : EachSays (SayWorker v.setup.space) workers v.workers
-  pub say_controllers : EachSays SayController controllers v.controllers
+  pub say_controllers : EachSays (SayController v.setup.version) controllers v.controllers
   pub limits : KeepsLimits v
 
 -- lines up to a line of the body
 abbrev pub SayWithin : (g : Grammar) → List (List ℕ) → Within g → Type 0
 SayWithin OfScript lines b = SayBody lines b
 SayWithin OfLive lines v = SayBlocks lines v
-
--- a commit may begin: in a live script there is a controller
-abbrev pub MayCommit : (g : Grammar) → Within g → Type 0
-MayCommit OfScript b = Unit {0}
-MayCommit OfLive v = has_controller v ≡ true
 
 -- and of a commit that is not at its end
 pub record SayCommit (g : Grammar) (lines : List (List ℕ)) (b : Within g) (commit : CommitValue) : Type 0 where
@@ -107,8 +104,8 @@ pub record SayCommit (g : Grammar) (lines : List (List ℕ)) (b : Within g) (com
   pub spelled : lines ≡ front ++ codes "commit" ∷ between
   pub body : SayWithin g front b
   pub begins : MayCommit g b
-  pub each : EachSays IsPart between parts
-  pub in_order : come_in_order no_commit parts ≡ true
+  pub each : EachSays (IsPart (version_in g b)) between parts
+  pub in_order : come_in_order (version_in g b) no_commit parts ≡ true
   pub made : with_parts no_commit parts ≡ commit
 
 -- a text says what was read
@@ -119,12 +116,12 @@ IsTextOf OfLive text v = IsLiveText text v
 -- lines that lead to a place say this
 abbrev pub Says : (g : Grammar) → List (List ℕ) → Place g → Type 0
 Says g lines AtHeader = lines ≡ []
-Says g lines AtSeed = lines ≡ header_of g ∷ []
-Says g lines (AtUnit seed) = (lines ≡ header_of g ∷ spelled_seed seed ∷ []) × (seed < 2 ^ 64)
-Says g lines (AtCap seed unit) =
-    (lines ≡ header_of g ∷ spelled_seed seed ∷ spelled_unit unit ∷ []) × (seed < 2 ^ 64) × (checked_unit unit ≡ Ok tt)
-Says g lines (AtAttrs seed unit cap) =
-    (lines ≡ header_of g ∷ spelled_seed seed ∷ spelled_unit unit ∷ spelled_cap cap ∷ [])
+Says g lines (AtSeed version) = lines ≡ header_of g version ∷ []
+Says g lines (AtUnit version seed) = (lines ≡ header_of g version ∷ spelled_seed seed ∷ []) × (seed < 2 ^ 64)
+Says g lines (AtCap version seed unit) =
+    (lines ≡ header_of g version ∷ spelled_seed seed ∷ spelled_unit unit ∷ []) × (seed < 2 ^ 64) × (checked_unit unit ≡ Ok tt)
+Says g lines (AtAttrs version seed unit cap) =
+    (lines ≡ header_of g version ∷ spelled_seed seed ∷ spelled_unit unit ∷ spelled_cap cap ∷ [])
     × (seed < 2 ^ 64)
     × (checked_unit unit ≡ Ok tt)
     × (checked_cap cap ≡ Ok tt)
@@ -165,11 +162,11 @@ both_true : (first second : Bool) → (first && second) ≡ true → (first ≡ 
 both_true true second both = (refl, both)
 both_true false second both = absurd cc
 
-pub order-more : (commit : CommitValue) (parts : List Part) (part : Part) → come_in_order commit parts ≡ true → may_come (with_parts commit parts) part ≡ true → come_in_order commit (parts ++ part ∷ []) ≡ true
-order-more commit [] part before here = rw here refl
-order-more commit (p ∷ parts) part before here =
-    let both = both_true (may_come commit p) (come_in_order (with_part commit p) parts) before in
-    rw both.0 (order-more (with_part commit p) parts part both.1 here)
+pub order-more : (version : Version) (commit : CommitValue) (parts : List Part) (part : Part) → come_in_order version commit parts ≡ true → may_come version (with_parts commit parts) part ≡ true → come_in_order version commit (parts ++ part ∷ []) ≡ true
+order-more version commit [] part before here = rw here refl
+order-more version commit (p ∷ parts) part before here =
+    let both = both_true (may_come version commit p) (come_in_order version (with_part commit p) parts) before in
+    rw both.0 (order-more version (with_part commit p) parts part both.1 here)
 
 pub work-more : (cap : ℕ) (commands : List CommandValue) (c : CommandValue) → work_of cap (commands ++ c ∷ []) ≡ work_of cap commands + weight cap c
 work-more cap [] c = omega (arith, sum_by-cons (weight cap) c [])

@@ -2,14 +2,12 @@
 use Rattle.std.proofs.Common.{◌≡◌, ◌∷◌, [], ◌==◌, ◌||◌, ◌≤◌, inr, ℕ, Bool, true, false, List, ◌++◌, length, map, codes, Ok, refl, sym, ap, subst, ◌∙◌, append_assoc, arith}
 use Rattle.std.proofs.lemmas.Bool.Decides.{nat_tests}
 use Rattle.std.proofs.lemmas.List.{append-nil, length-append, map-append}
-use Rattle.std.specs.Cmp.Lexicographic.{same_text}
 use Rattle.damon_types.specs.declared.range.RangeSpec.{RangeSpec}
 use Rattle.damon_types.specs.declared.scheme.SlotChange.{SlotChange}
 use Rattle.damon_types.specs.declared.space.Target.{Target}
 use Rattle.line_text.specs.Parts.{parts}
 use Rattle.live_commit.specs.Commit.{CommitValue}
 use Rattle.target_ranges.specs.Checked.{fault_at}
-use Rattle.script_lines.specs.declared.kind.ScriptKind.TheVariants.{Header}
 use Rattle.damon_control.specs.declared.grammar.Grammar.{Grammar}
 use Rattle.damon_control.specs.declared.grammar.Grammar.TheVariants.{OfScript, OfLive}
 use Rattle.script_lines.specs.declared.setup.Frame.{Frame}
@@ -21,15 +19,16 @@ use Rattle.damon_control.specs.Live.{CommitCall, LiveValue, live_begun}
 use Rattle.script_lines.specs.Blocks.{passes_line}
 use Rattle.damon_control.specs.LiveText.{IsLiveText}
 use Rattle.script_lines.specs.Refusal.{◌>>=◌}
-use Rattle.damon_control.specs.Script.{AtAttrs, AtCap, AtEnd, AtHeader, AtRanges, AtSchemes, AtSeed, AtTargets, AtUnit, InBody, InCommit, Place, Said, ScriptValue, Within, after_commit, after_ranges, after_schemes, after_setup, after_targets, after_within, header_of, live_of, opened, place_after, reads, script_of, with_commit}
+use Rattle.damon_control.specs.Script.{AtAttrs, AtCap, AtEnd, AtHeader, AtRanges, AtSchemes, AtSeed, AtTargets, AtUnit, InBody, InCommit, Place, Said, ScriptValue, Within, after_commit, after_ranges, after_schemes, after_setup, after_targets, after_within, live_of, opened, place_after, reads, script_of, version_in, version_said, with_commit}
 use Rattle.script_lines.specs.Spelling.{spelled_range, spelled_target}
 use Rattle.damon_control.specs.Text.{AreCommit, IsText, setup_lines}
-use Rattle.script_lines.specs.Words.{alone, begins_with, same_word}
+use Rattle.script_lines.specs.Words.{alone, begins_with}
 use Rattle.damon_control.proofs.Leads.{leads, read-Lead}
+use Rattle.damon_control.proofs.LineWords.{version_said-Ok}
 use Rattle.damon_control.proofs.SayBlocks.{in_blocks, more_call}
 use Rattle.damon_control.proofs.SayCommands.{in_body, more_command}
 use Rattle.damon_control.proofs.SayPlaces.{IsTextOf, SayCommit, SayRanges, SaySchemes, SayTargets, SayWithin, Says, TextLaws, both_ways, each_more, frame_lines, order-more, read_to, with_parts-more}
-use Rattle.damon_control.proofs.Steps.{bind-Ok, either_way, only_if-Ok}
+use Rattle.damon_control.proofs.Steps.{bind-Ok, either_way}
 
 -- the lines of a commit, when its last line is there
 abbrev group_of : List (List ℕ) → List (List ℕ)
@@ -38,7 +37,7 @@ group_of between = codes "commit" ∷ (between ++ codes "apply" ∷ [])
 group_is : (g : Grammar) (lines : List (List ℕ)) (b : Within g) (commit : CommitValue) (before : SayCommit g lines b commit) → lines ++ codes "apply" ∷ [] ≡ before.front ++ group_of before.between
 group_is g lines b commit before = ap (λ ls. ls ++ codes "apply" ∷ []) before.spelled ∙ append_assoc before.front (codes "commit" ∷ before.between) (codes "apply" ∷ [])
 
-group_says : (g : Grammar) (lines : List (List ℕ)) (b : Within g) (commit : CommitValue) (before : SayCommit g lines b commit) → AreCommit (group_of before.between) commit
+group_says : (g : Grammar) (lines : List (List ℕ)) (b : Within g) (commit : CommitValue) (before : SayCommit g lines b commit) → AreCommit (version_in g b) (group_of before.between) commit
 group_says g lines b commit before = record { between = before.between; parts = before.parts; spelled = refl; each = before.each; in_order = before.in_order; made = before.made }
 
 -- the last line of a commit, after which its lines are a group
@@ -57,9 +56,9 @@ in_commit laws g lines b commit line next before e = either_way (begins_with (co
         let word = bind-Ok (alone (codes "apply") line) (λ _. with_commit g b commit) next read in
         subst (λ (l : List ℕ). Says g (lines ++ l ∷ []) next) (sym (laws.lines.word (codes "apply") line word.1)) (committed g lines b commit next before word.2)
 
-    at_part : (part_line commit line >>= λ part. Ok (InCommit b (with_part commit part))) ≡ Ok next → Says g (lines ++ line ∷ []) next
-    at_part = read_to (Says g (lines ++ line ∷ [])) (part_line commit line) (λ part. InCommit b (with_part commit part)) next (λ part read.
-        let says = laws.lines.part commit line part read in
+    at_part : (part_line (version_in g b) commit line >>= λ part. Ok (InCommit b (with_part commit part))) ≡ Ok next → Says g (lines ++ line ∷ []) next
+    at_part = read_to (Says g (lines ++ line ∷ [])) (part_line (version_in g b) commit line) (λ part. InCommit b (with_part commit part)) next (λ part read.
+        let says = laws.lines.part (version_in g b) commit line part read in
         record {
           front = before.front;
           between = before.between ++ line ∷ [];
@@ -67,8 +66,8 @@ in_commit laws g lines b commit line next before e = either_way (begins_with (co
           spelled = ap (λ ls. ls ++ line ∷ []) before.spelled ∙ append_assoc before.front (codes "commit" ∷ before.between) (line ∷ []);
           body = before.body;
           begins = before.begins;
-          each = each_more IsPart before.between before.parts line part before.each says.1;
-          in_order = order-more no_commit before.parts part before.in_order (ap (λ c. may_come c part) before.made ∙ says.0);
+          each = each_more (IsPart (version_in g b)) before.between before.parts line part before.each says.1;
+          in_order = order-more (version_in g b) no_commit before.parts part before.in_order (ap (λ c. may_come (version_in g b) c part) before.made ∙ says.0);
           made = with_parts-more no_commit before.parts part ∙ ap (λ c. with_part c part) before.made;
         })
 
@@ -110,8 +109,8 @@ at_schemes : (laws : TextLaws) (g : Grammar) (lines : List (List ℕ)) (f : Fram
     → SaySchemes g lines f.seed (setup_said f targets specs slots) → after_schemes g f targets specs slots line ≡ Ok next → Says g (lines ++ line ∷ []) next
 at_schemes laws g lines f targets specs slots line next before e = either_way (begins_with (codes "scheme") line) _ _ _ at_scheme (at_opening laws g lines f targets specs slots line next before) e
   where
-    at_scheme : (scheme_line slots line >>= λ change. Ok (AtSchemes f targets specs (slots ++ change ∷ []))) ≡ Ok next → Says g (lines ++ line ∷ []) next
-    at_scheme = read_to (Says g (lines ++ line ∷ [])) (scheme_line slots line) (λ change. AtSchemes f targets specs (slots ++ change ∷ [])) next (λ change read. record {
+    at_scheme : (scheme_line f.version slots line >>= λ change. Ok (AtSchemes f targets specs (slots ++ change ∷ []))) ≡ Ok next → Says g (lines ++ line ∷ []) next
+    at_scheme = read_to (Says g (lines ++ line ∷ [])) (scheme_line f.version slots line) (λ change. AtSchemes f targets specs (slots ++ change ∷ [])) next (λ change read. record {
       others = before.others ++ line ∷ [];
       spelled = ap (λ ls. ls ++ line ∷ []) before.spelled;
       says = record {
@@ -127,8 +126,8 @@ at_schemes laws g lines f targets specs slots line next before e = either_way (b
         some_range = before.says.some_range;
         few_ranges = before.says.few_ranges;
         watched = before.says.watched;
-        slots = laws.slots slots change before.says.slots ∙ laws.lines.within.scheme slots line change read;
-        give = each_more GivesScheme before.says.schemes slots line change before.says.give (laws.lines.scheme slots line change read);
+        slots = laws.slots f.version slots change before.says.slots ∙ laws.lines.within.scheme f.version slots line change read;
+        give = each_more (GivesScheme f.version) before.says.schemes slots line change before.says.give (laws.lines.scheme f.version slots line change read);
       };
     })
 
@@ -209,21 +208,19 @@ in_within laws OfLive lines v line next before e = in_blocks laws lines v line n
 -- one line more, and what it says
 line-Says : (laws : TextLaws) (g : Grammar) (lines : List (List ℕ)) (place : Place g) (line : List ℕ) (next : Place g) → Says g lines place → place_after g place line ≡ Ok next → Says g (lines ++ line ∷ []) next
 line-Says laws g lines AtHeader line next before e =
-    let seed : Place g = AtSeed in
-    let only = only_if-Ok (same_word line (header_of g)) Header seed next e in
-    let is : line ≡ header_of g = same_text line (header_of g) (sym only.0) in
-    subst (Says g (lines ++ line ∷ [])) only.1 (λ i. before i ++ is i ∷ [])
-line-Says laws g lines AtSeed line next before e =
-    read_to (Says g (lines ++ line ∷ [])) (seed_line line) (λ seed. AtUnit seed) next (λ seed read.
+    read_to (Says g (lines ++ line ∷ [])) (version_said g line) (λ version. AtSeed version) next (λ version read.
+    (λ i. before i ++ version_said-Ok g line version read i ∷ [])) e
+line-Says laws g lines (AtSeed version) line next before e =
+    read_to (Says g (lines ++ line ∷ [])) (seed_line line) (λ seed. AtUnit version seed) next (λ seed read.
     ((λ i. before i ++ laws.lines.seed line seed read i ∷ []), laws.lines.within.seed line seed read)) e
-line-Says laws g lines (AtUnit seed) line next before e =
-    read_to (Says g (lines ++ line ∷ [])) (unit_line line) (λ unit. AtCap seed unit) next (λ unit read.
+line-Says laws g lines (AtUnit version seed) line next before e =
+    read_to (Says g (lines ++ line ∷ [])) (unit_line line) (λ unit. AtCap version seed unit) next (λ unit read.
     ((λ i. before.0 i ++ laws.lines.unit line unit read i ∷ []), before.1, laws.lines.within.unit line unit read)) e
-line-Says laws g lines (AtCap seed unit) line next before e =
-    read_to (Says g (lines ++ line ∷ [])) (cap_line line) (λ cap. AtAttrs seed unit cap) next (λ cap read.
+line-Says laws g lines (AtCap version seed unit) line next before e =
+    read_to (Says g (lines ++ line ∷ [])) (cap_line line) (λ cap. AtAttrs version seed unit cap) next (λ cap read.
     ((λ i. before.0 i ++ laws.lines.cap line cap read i ∷ []), before.1, before.2, laws.lines.within.cap line cap read)) e
-line-Says laws g lines (AtAttrs seed unit cap) line next before e =
-    read_to (Says g (lines ++ line ∷ [])) (attrs_line cap line) (λ attrs. AtTargets (record { seed = seed; unit = unit; cap = cap; attrs = attrs }) []) next (λ attrs read. record {
+line-Says laws g lines (AtAttrs version seed unit cap) line next before e =
+    read_to (Says g (lines ++ line ∷ [])) (attrs_line cap line) (λ attrs. AtTargets (record { version = version; seed = seed; unit = unit; cap = cap; attrs = attrs }) []) next (λ attrs read. record {
       spelled = λ i. before.0 i ++ laws.lines.attrs cap line attrs read i ∷ [];
       frame = record { seed_fits = before.1; limits = laws.lines.within.attrs line unit cap attrs before.2 before.3 read };
       sound = λ some. absurd (omega (arith, some));

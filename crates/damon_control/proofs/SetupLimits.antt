@@ -9,6 +9,7 @@ use Rattle.damon_types.specs.declared.attrs.Attrs.{Attrs}
 use Rattle.damon_types.specs.declared.attrs.AttrsFault.{AttrsFault}
 use Rattle.damon_types.specs.declared.range.Range.{Range}
 use Rattle.damon_types.specs.declared.scheme.SlotChange.{SlotChange}
+use Rattle.damon_types.specs.declared.scheme.Version.{Version}
 use Rattle.damon_types.specs.Attrs.{IsAttrs, checked_attrs}
 use Rattle.damon_types.specs.Ranges.{InOrder}
 use Rattle.live_commit.specs.declared.fault.SetupFault.{SetupFault}
@@ -72,11 +73,11 @@ checked-Limits unit cap a ok =
     }
 
 -- each line gives its slot a scheme
-each_set : (lines : List (List ℕ)) (slots : List SlotChange) → EachSays GivesScheme lines slots → AllByRecursion (λ c. IsSome c.scheme) slots
-each_set [] [] all = tt
-each_set (line ∷ lines) (c ∷ slots) all = (rw all.0.1 refl, each_set lines slots all.1)
-each_set [] (c ∷ slots) all = absurd all
-each_set (line ∷ lines) [] all = absurd all
+each_set : (version : Version) (lines : List (List ℕ)) (slots : List SlotChange) → EachSays (GivesScheme version) lines slots → AllByRecursion (λ c. IsSome c.scheme) slots
+each_set version [] [] all = tt
+each_set version (line ∷ lines) (c ∷ slots) all = (rw all.0.1 refl, each_set version lines slots all.1)
+each_set version [] (c ∷ slots) all = absurd all
+each_set version (line ∷ lines) [] all = absurd all
 
 -- lines say a setup within its limits
 pub SaySetup-IsSetup : MakesEach → (lines : List (List ℕ)) (seed : ℕ) (setup : SetupValue) → SaySetup lines seed setup → IsSetup setup
@@ -98,7 +99,7 @@ SaySetup-IsSetup makes lines seed setup says =
       wide = made.wide;
       classes = made.classes;
       within = made.within;
-      set = All-from_recursion (λ c. IsSome c.scheme) setup.slots (each_set says.schemes setup.slots says.give);
+      set = All-from_recursion (λ c. IsSome c.scheme) setup.slots (each_set setup.version says.schemes setup.slots says.give);
       slots = says.slots;
     }
 

@@ -22,3 +22,8 @@ passed_over test here others x fails is = ap (λ t. if t then here else others) 
 pub either_way : {R G : Type 0} (test : Bool) (here others x : R) → (here ≡ x → G) → (others ≡ x → G) → (if test then here else others) ≡ x → G
 either_way true here others x found next e = found e
 either_way false here others x found next e = next e
+
+-- one of two branches was taken, the first with its test true
+pub tested_way : {R G : Type 0} (test : Bool) (here others x : R) → (test ≡ true → here ≡ x → G) → (others ≡ x → G) → (if test then here else others) ≡ x → G
+tested_way true here others x found next e = found refl e
+tested_way false here others x found next e = next e

@@ -4,6 +4,7 @@ use Rattle.std.proofs.lemmas.Bool.Decides.{nat_tests}
 use Rattle.std.specs.Prelude.{Option, option_map}
 use Rattle.damon_types.specs.declared.space.Target.{Target}
 use Rattle.damon_types.specs.Space.{page_of, pages_of}
+use Rattle.live_commit.specs.Setup.{SetupValue}
 use Rattle.target_ranges.specs.Laws.{MakesEach, MakesInOrder}
 use Rattle.script_lines.specs.Body.{are_swept}
 use Rattle.script_lines.specs.Command.{Arm, CommandValue, Commit, Finish, Show, Step, Sweep, Touch}
@@ -49,15 +50,15 @@ command_within laws space line Finish is = tt
 command_within laws space line Show is = tt
 command_within laws space line (Commit commit) is = tt
 
-group_within : PageLaws → (space : List Target) (group : List (List ℕ)) (c : CommandValue) → SayCommand space group c → IsCommandWithin (pages_of space) c
-group_within laws space group c (inl (line, is, says)) = command_within laws space line c says
-group_within laws space group c (inr (commit, is, are)) = subst (IsCommandWithin (pages_of space)) (sym is) tt
+group_within : PageLaws → (setup : SetupValue) (group : List (List ℕ)) (c : CommandValue) → SayCommand setup group c → IsCommandWithin (pages_of setup.space) c
+group_within laws setup group c (inl (line, is, says)) = command_within laws setup.space line c says
+group_within laws setup group c (inr (commit, is, are)) = subst (IsCommandWithin (pages_of setup.space)) (sym is) tt
 
-commands_within : PageLaws → (space : List Target) (groups : List (List (List ℕ))) (commands : List CommandValue) → EachSays (SayCommand space) groups commands → AreCommandsWithin (pages_of space) commands
-commands_within laws space [] [] each = tt
-commands_within laws space (group ∷ groups) (c ∷ commands) each = (group_within laws space group c each.0, commands_within laws space groups commands each.1)
-commands_within laws space [] (c ∷ commands) each = absurd each
-commands_within laws space (group ∷ groups) [] each = absurd each
+commands_within : PageLaws → (setup : SetupValue) (groups : List (List (List ℕ))) (commands : List CommandValue) → EachSays (SayCommand setup) groups commands → AreCommandsWithin (pages_of setup.space) commands
+commands_within laws setup [] [] each = tt
+commands_within laws setup (group ∷ groups) (c ∷ commands) each = (group_within laws setup group c each.0, commands_within laws setup groups commands each.1)
+commands_within laws setup [] (c ∷ commands) each = absurd each
+commands_within laws setup (group ∷ groups) [] each = absurd each
 
 -- a text says a script within its limits
 pub IsText-IsSound : PageLaws → (text : List ℕ) (s : ScriptValue) → IsText text s → IsSound s
@@ -65,6 +66,6 @@ IsText-IsSound laws text s says = record {
   space = checked-IsSpace s.setup.space says.says_setup.targets;
   setup = SaySetup-IsSetup laws.each says.setup s.seed s.setup says.says_setup;
   order = SaySetup-InOrder laws.order says.setup s.seed s.setup says.says_setup;
-  commands = commands_within laws s.setup.space says.commands s.commands says.say_commands;
+  commands = commands_within laws s.setup says.commands s.commands says.say_commands;
   work = says.work;
 }

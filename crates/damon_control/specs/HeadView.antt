@@ -11,5 +11,5 @@ pub record IsHead (h : Head) : Type 0 where
   pub ranges_sound : checked_ranges h.space h.frame.unit h.frame.cap h.specs.list ≡ Ok tt
   pub some : 1 ≤ length h.specs.list
   pub most : length h.specs.list ≤ h.frame.attrs.max
-  pub slots_sound : checked_slots h.slots.list ≡ Ok tt
+  pub slots_sound : checked_slots h.frame.version h.slots.list ≡ Ok tt
   pub set : kept_slots h.slots.list ≡ h.slots.list

@@ -2,6 +2,8 @@
 use Rattle.std.specs.Prelude.{ℕ, ◌+◌, ◌||◌, ◌==◌, nat_le, List, [], ◌∷◌, ◌++◌, length, codes, Result, Ok, Err, if◌then◌else◌}
 use Rattle.damon_types.specs.declared.range.RangeSpec.{RangeSpec}
 use Rattle.damon_types.specs.declared.scheme.SlotChange.{SlotChange}
+use Rattle.damon_types.specs.declared.scheme.Version.{Version}
+use Rattle.damon_types.specs.declared.scheme.Version.TheVariants.{One, Two}
 use Rattle.damon_types.specs.declared.space.Target.{Target}
 use Rattle.live_commit.specs.Commit.{CommitValue}
 use Rattle.live_commit.specs.Setup.{SetupValue}
@@ -45,10 +47,10 @@ Within OfLive = LiveValue
 -- a place between two lines: what the lines before it have said, and so what the next may say
 pub data Place (g : Grammar) : Type 0 where
   AtHeader : Place g
-  AtSeed : Place g
-  AtUnit : ℕ → Place g
-  AtCap : ℕ → ℕ → Place g
-  AtAttrs : ℕ → ℕ → ℕ → Place g
+  AtSeed : Version → Place g
+  AtUnit : Version → ℕ → Place g
+  AtCap : Version → ℕ → ℕ → Place g
+  AtAttrs : Version → ℕ → ℕ → ℕ → Place g
   AtTargets : Frame → List Target → Place g
   AtRanges : Frame → List Target → List RangeSpec → Place g
   AtSchemes : Frame → List Target → List RangeSpec → List SlotChange → Place g
@@ -71,9 +73,23 @@ abbrev pub opened : Frame → List Target → List RangeSpec → List SlotChange
 opened f targets ranges slots = begun f.seed (setup_said f targets ranges slots)
 
 -- the first line of a text
-abbrev pub header_of : Grammar → List ℕ
-header_of OfScript = codes "damon script 1"
-header_of OfLive = codes "damon live 1"
+abbrev pub header_of : Grammar → Version → List ℕ
+header_of OfScript One = codes "damon script 1"
+header_of OfScript Two = codes "damon script 2"
+header_of OfLive One = codes "damon live 1"
+header_of OfLive Two = codes "damon live 2"
+
+-- the version that a first line says
+abbrev pub version_said : Grammar → List ℕ → Result Version ScriptKind
+version_said g line =
+    if same_word line (header_of g One) then Ok One
+    else if same_word line (header_of g Two) then Ok Two
+    else Err Header
+
+-- the version of a text, in its body
+abbrev pub version_in : (g : Grammar) → Within g → Version
+version_in OfScript b = b.said.setup.version
+version_in OfLive v = v.setup.version
 
 -- the place after the line that opens the body: `begin`, or `passes N` in a live script
 abbrev pub after_setup : (g : Grammar) → Frame → List Target → List RangeSpec → List SlotChange → List ℕ → Result (Place g) ScriptKind
@@ -83,7 +99,7 @@ after_setup OfLive f targets ranges slots line = passes_line line >>= λ passes.
 -- the place after a line of schemes, or after the one that opens the body
 abbrev pub after_schemes : (g : Grammar) → Frame → List Target → List RangeSpec → List SlotChange → List ℕ → Result (Place g) ScriptKind
 after_schemes g f targets ranges slots line =
-    if begins_with (codes "scheme") line then (scheme_line slots line >>= λ change. Ok (AtSchemes f targets ranges (slots ++ change ∷ [])))
+    if begins_with (codes "scheme") line then (scheme_line f.version slots line >>= λ change. Ok (AtSchemes f targets ranges (slots ++ change ∷ [])))
     else after_setup g f targets ranges slots line
 
 -- the place after a line of ranges, of which there is at least one, or after the first line that follows them
@@ -135,15 +151,16 @@ with_commit OfLive v commit = live_within (with_call v (CommitCall commit))
 abbrev pub after_commit : (g : Grammar) → Within g → CommitValue → List ℕ → Result (Place g) ScriptKind
 after_commit g b commit line =
     if begins_with (codes "apply") line then (alone (codes "apply") line >>= λ _. with_commit g b commit)
-    else (part_line commit line >>= λ part. Ok (InCommit b (with_part commit part)))
+    else (part_line (version_in g b) commit line >>= λ part. Ok (InCommit b (with_part commit part)))
 
 -- the place after a line, or the kind of its fault
 abbrev pub place_after : (g : Grammar) → Place g → List ℕ → Result (Place g) ScriptKind
-place_after g AtHeader line = only_if (same_word line (header_of g)) Header AtSeed
-place_after g AtSeed line = seed_line line >>= λ seed. Ok (AtUnit seed)
-place_after g (AtUnit seed) line = unit_line line >>= λ unit. Ok (AtCap seed unit)
-place_after g (AtCap seed unit) line = cap_line line >>= λ cap. Ok (AtAttrs seed unit cap)
-place_after g (AtAttrs seed unit cap) line = attrs_line cap line >>= λ attrs. Ok (AtTargets (record { seed = seed; unit = unit; cap = cap; attrs = attrs }) [])
+place_after g AtHeader line = version_said g line >>= λ version. Ok (AtSeed version)
+place_after g (AtSeed version) line = seed_line line >>= λ seed. Ok (AtUnit version seed)
+place_after g (AtUnit version seed) line = unit_line line >>= λ unit. Ok (AtCap version seed unit)
+place_after g (AtCap version seed unit) line = cap_line line >>= λ cap. Ok (AtAttrs version seed unit cap)
+place_after g (AtAttrs version seed unit cap) line =
+    attrs_line cap line >>= λ attrs. Ok (AtTargets (record { version = version; seed = seed; unit = unit; cap = cap; attrs = attrs }) [])
 place_after g (AtTargets f targets) line = after_targets g f targets line
 place_after g (AtRanges f targets ranges) line = after_ranges g f targets ranges line
 place_after g (AtSchemes f targets ranges slots) line = after_schemes g f targets ranges slots line

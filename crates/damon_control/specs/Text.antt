@@ -2,7 +2,7 @@
 use Rattle.std.specs.Prelude.{◌≡◌, ◌⊎◌, ℕ, ◌^◌, ◌<◌, ◌≤◌, Bool, true, ◌&&◌, List, [], ◌∷◌, ◌++◌, length, map, codes, Ok, ◌↔◌}
 use Rattle.damon_types.specs.declared.attrs.Attrs.{Attrs}
 use Rattle.damon_types.specs.declared.range.RangeSpec.{RangeSpec}
-use Rattle.damon_types.specs.declared.space.Target.{Target}
+use Rattle.damon_types.specs.declared.scheme.Version.{Version}
 use Rattle.damon_types.specs.Space.{checked}
 use Rattle.live_commit.specs.Checked.{checked_limits}
 use Rattle.live_commit.specs.Commit.{CommitValue}
@@ -11,12 +11,13 @@ use Rattle.live_commit.specs.Slots.{checked_slots}
 use Rattle.target_ranges.specs.Checked.{checked_ranges}
 use Rattle.target_ranges.specs.Made.{ranges_of}
 use Rattle.script_lines.specs.declared.part.Part.{Part}
+use Rattle.damon_control.specs.declared.grammar.Grammar.TheVariants.{OfScript}
 use Rattle.damon_control.specs.declared.script.TheConstants.{MAX_WORK}
 use Rattle.script_lines.specs.Body.{no_commit, with_part}
 use Rattle.script_lines.specs.Command.{CommandValue, Commit, work_of}
 use Rattle.script_lines.specs.Lines.{lines_text}
 use Rattle.script_lines.specs.Laws.{GivesScheme, IsCommand, IsPart, may_come}
-use Rattle.damon_control.specs.Script.{ScriptValue, script_of}
+use Rattle.damon_control.specs.Script.{ScriptValue, header_of, script_of}
 use Rattle.script_lines.specs.Spelling.{spelled_attrs, spelled_cap, spelled_range, spelled_seed, spelled_target, spelled_unit}
 
 -- the lines of groups, one group after another
@@ -52,8 +53,8 @@ pub record SaySetup (lines : List (List ℕ)) (seed : ℕ) (setup : SetupValue) 
   pub some_range : 1 ≤ length specs
   pub few_ranges : length specs ≤ setup.attrs.max
   pub watched : ranges_of setup.space specs ≡ setup.ranges
-  pub slots : checked_slots setup.slots ≡ Ok tt
-  pub give : EachSays GivesScheme schemes setup.slots
+  pub slots : checked_slots setup.version setup.slots ≡ Ok tt
+  pub give : EachSays (GivesScheme setup.version) schemes setup.slots
 
 -- a commit with more parts, one after another
 abbrev pub with_parts : CommitValue → List Part → CommitValue
@@ -61,33 +62,34 @@ with_parts commit [] = commit
 with_parts commit (part ∷ parts) = with_parts (with_part commit part) parts
 
 -- whether parts may follow those of a commit, one after another
-abbrev pub come_in_order : CommitValue → List Part → Bool
-come_in_order commit [] = true
-come_in_order commit (part ∷ parts) = may_come commit part && come_in_order (with_part commit part) parts
+abbrev pub come_in_order : Version → CommitValue → List Part → Bool
+come_in_order version commit [] = true
+come_in_order version commit (part ∷ parts) =
+    may_come version commit part && come_in_order version (with_part commit part) parts
 
--- lines say a commit: its parts stand in order between `commit` and `apply`, a line each
-pub record AreCommit (lines : List (List ℕ)) (commit : CommitValue) : Type 0 where
+-- lines of a version say a commit: its parts stand in order between `commit` and `apply`, a line each
+pub record AreCommit (version : Version) (lines : List (List ℕ)) (commit : CommitValue) : Type 0 where
   pub between : List (List ℕ)
   pub parts : List Part
   pub spelled : lines ≡ codes "commit" ∷ (between ++ codes "apply" ∷ [])
-  pub each : EachSays IsPart between parts
-  pub in_order : come_in_order no_commit parts ≡ true
+  pub each : EachSays (IsPart version) between parts
+  pub in_order : come_in_order version no_commit parts ≡ true
   pub made : with_parts no_commit parts ≡ commit
 
--- lines say a command: one line, or those of a commit
-abbrev pub SayCommand : List Target → List (List ℕ) → CommandValue → Type 0
-SayCommand space lines command =
-    ((line : List ℕ) × (lines ≡ line ∷ []) × IsCommand space line command)
-    ⊎ ((commit : CommitValue) × (command ≡ Commit commit) × AreCommit lines commit)
+-- lines after a setup say a command: one line, or those of a commit
+abbrev pub SayCommand : SetupValue → List (List ℕ) → CommandValue → Type 0
+SayCommand setup lines command =
+    ((line : List ℕ) × (lines ≡ line ∷ []) × IsCommand setup.space line command)
+    ⊎ ((commit : CommitValue) × (command ≡ Commit commit) × AreCommit setup.version lines commit)
 
--- a text says a script: its first line, the lines of its setup, `begin`, those of each command, and `end`; the commands are
+-- a text says a script: its first line with the version, the lines of its setup, `begin`, those of each command, and `end`; the commands are
 -- not too much work
 pub record IsText (text : List ℕ) (s : ScriptValue) : Type 0 where
   pub setup : List (List ℕ)
   pub commands : List (List (List ℕ))
-  pub spelled : text ≡ lines_text (codes "damon script 1" ∷ (setup ++ codes "begin" ∷ (all_lines commands ++ codes "end" ∷ [])))
+  pub spelled : text ≡ lines_text (header_of OfScript s.setup.version ∷ (setup ++ codes "begin" ∷ (all_lines commands ++ codes "end" ∷ [])))
   pub says_setup : SaySetup setup s.seed s.setup
-  pub say_commands : EachSays (SayCommand s.setup.space) commands s.commands
+  pub say_commands : EachSays (SayCommand s.setup) commands s.commands
   pub work : work_of s.setup.cap s.commands ≤ MAX_WORK
 
 -- the texts that are read as a script are those that say it

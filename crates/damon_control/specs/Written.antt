@@ -8,8 +8,8 @@ use Rattle.damon_types.specs.Space.{place_of}
 use Rattle.live_commit.specs.Commit.{CommitValue}
 use Rattle.live_commit.specs.Setup.{SetupValue}
 use Rattle.script_lines.specs.declared.part.Part.{Part}
-use Rattle.script_lines.specs.declared.part.Part.TheVariants.{Attrs as AttrsPart, Range as RangePart, Slot, Metric}
-use Rattle.script_lines.specs.Spelling.{spelled_attrs, spelled_metric, spelled_range, spelled_target}
+use Rattle.script_lines.specs.declared.part.Part.TheVariants.{Attrs as AttrsPart, Range as RangePart, Slot, Metric, Cost}
+use Rattle.script_lines.specs.Spelling.{spelled_attrs, spelled_cost, spelled_metric, spelled_range, spelled_target}
 use Rattle.script_lines.specs.Lines.{lines_text}
 use Rattle.script_lines.specs.WrittenLine.{change_text}
 use Rattle.damon_control.specs.Text.{number_lines}
@@ -46,7 +46,7 @@ ranges_given (Some ranges) = map (λ r. RangePart r) ranges
 abbrev pub parts_of : CommitValue → List Part
 parts_of c =
     part_given (λ a. AttrsPart a) c.attrs
-    ++ (ranges_given c.ranges ++ (part_given (λ s. Slot s) c.slot ++ part_given (λ m. Metric m) c.metric))
+    ++ (ranges_given c.ranges ++ (part_given (λ s. Slot s) c.slot ++ (part_given (λ m. Metric m) c.metric ++ part_given (λ p. Cost p) c.cost)))
 
 -- the line of a part
 abbrev pub part_text : Part → List ℕ
@@ -54,6 +54,7 @@ part_text (AttrsPart attrs) = spelled_attrs attrs
 part_text (RangePart range) = spelled_range range
 part_text (Slot change) = change_text change
 part_text (Metric value) = spelled_metric value
+part_text (Cost cost) = spelled_cost cost
 
 -- the lines of a commit between `commit` and `apply`
 abbrev pub written_commit : CommitValue → List (List ℕ)

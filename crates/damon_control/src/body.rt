@@ -86,7 +86,7 @@ fn take_command(
     ensures small { IsShort lines.new }
     ensures shorter { OnOk result (length lines.new.rest.now < length lines.old.rest.now) }
 {
-    let Some(command) = next_command(alloc, lines, &setup.space)? else {
+    let Some(command) = next_command(alloc, lines, setup)? else {
         return Ok(None);
     };
     let sum = lines.refuse(added_work(work, setup.cap, &command))?;
@@ -98,55 +98,55 @@ fn take_command(
 fn next_command(
     alloc: Global,
     lines: &mut Lines,
-    space: &Space,
+    setup: &Setup,
 ) -> Result<Option<Command>, ReadFail>
     requires { IsShort lines.old }
     ensures command { IfOk result (λ answer. IfSome answer (λ c. (b : Body) →
-        b.said.setup.space ≡ space.now →
+        b.said.setup ≡ value_of setup.now →
         reads_left of_script (InBody b) lines.old
         ≡ reads_command b (command_value c) lines.new)) }
     ensures end { IfOk result (λ answer. answer ≡ None → (b : Body) →
-        b.said.setup.space ≡ space.now →
+        b.said.setup ≡ value_of setup.now →
         MovesTo of_script (InBody b) lines.old (AtEnd b.said) lines.new) }
-    ensures fault { (b : Body) → b.said.setup.space ≡ space.now →
+    ensures fault { (b : Body) → b.said.setup ≡ value_of setup.now →
         FaultOf result (reads_left of_script (InBody b) lines.old) }
     ensures within { IfOk result (λ answer. IfSome answer (λ c.
-        IsCommandWithin (pages_of space.now) (command_value c))) }
+        IsCommandWithin (pages_of setup.now.space) (command_value c))) }
     ensures later { OnOk result (lines.old.taken < lines.new.taken) }
     ensures shorter { OnOk result (length lines.new.rest.now < length lines.old.rest.now) }
     ensures small { IsShort lines.new }
 {
-    if let Some(page) = lines.take_touch(space) {
+    if let Some(page) = lines.take_touch(&setup.space) {
         return Ok(Some(Command::Touch { page }));
     }
-    next_other(alloc, lines, space)
+    next_other(alloc, lines, setup)
 }
 
 // The same, where the next line is read as any other. It is kept apart: a commit has room for a scheme, which
 // would be cleared for each touch.
 #[inline(never)]
-fn next_other(alloc: Global, lines: &mut Lines, space: &Space) -> Result<Option<Command>, ReadFail>
+fn next_other(alloc: Global, lines: &mut Lines, setup: &Setup) -> Result<Option<Command>, ReadFail>
     requires { IsShort lines.old }
     ensures command { IfOk result (λ answer. IfSome answer (λ c. (b : Body) →
-        b.said.setup.space ≡ space.now →
+        b.said.setup ≡ value_of setup.now →
         reads_left of_script (InBody b) lines.old
         ≡ reads_command b (command_value c) lines.new)) }
     ensures end { IfOk result (λ answer. answer ≡ None → (b : Body) →
-        b.said.setup.space ≡ space.now →
+        b.said.setup ≡ value_of setup.now →
         MovesTo of_script (InBody b) lines.old (AtEnd b.said) lines.new) }
-    ensures fault { (b : Body) → b.said.setup.space ≡ space.now →
+    ensures fault { (b : Body) → b.said.setup ≡ value_of setup.now →
         FaultOf result (reads_left of_script (InBody b) lines.old) }
     ensures within { IfOk result (λ answer. IfSome answer (λ c.
-        IsCommandWithin (pages_of space.now) (command_value c))) }
+        IsCommandWithin (pages_of setup.now.space) (command_value c))) }
     ensures later { OnOk result (lines.old.taken < lines.new.taken) }
     ensures shorter { OnOk result (length lines.new.rest.now < length lines.old.rest.now) }
     ensures small { IsShort lines.new }
 {
     let line = lines.take_line()?;
-    match lines.refuse(read_body_line(space, line))? {
+    match lines.refuse(read_body_line(&setup.space, line))? {
         BodyLine::End => Ok(None),
         BodyLine::Commit => {
-            let commit = read_commit(alloc, lines)?;
+            let commit = read_commit(alloc, lines, setup.version)?;
             Ok(Some(Command::Commit {
                 commit: Box::new(alloc, commit)?,
             }))

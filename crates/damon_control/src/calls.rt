@@ -10,16 +10,21 @@ use crate::commit::read_commit;
 use crate::lines::Lines;
 use crate::live::{Call, CallList, CallLists, MAX_CALLS, MAX_CONTROLLERS};
 use crate::{ReadFail, ScriptFault};
+use damon_types::Version;
 use script_lines::{ScriptKind, alone, first_word, read_block, same_word};
 use std::alloc::Global;
 
 // Reads the blocks of the controllers.
-pub fn read_controllers(alloc: Global, lines: &mut Lines) -> Result<CallLists, ReadFail>
+pub fn read_controllers(
+    alloc: Global,
+    lines: &mut Lines,
+    version: Version,
+) -> Result<CallLists, ReadFail>
     requires { IsShort lines.old }
-    ensures ok { IfOk result (λ w. (v : live) →
+    ensures ok { IfOk result (λ w. (v : live) → v.setup.version ≡ version →
         MovesTo of_live (InBody (with_controllers v [])) lines.old
         (InBody (with_controllers v (calls_of w.list))) lines.new) }
-    ensures fault { (v : live) →
+    ensures fault { (v : live) → v.setup.version ≡ version →
         FaultOf result (reads_left of_live (InBody (with_controllers v [])) lines.old) }
     ensures past { OnOk result (first_begins (codes "controller") lines.new.rest.now ≡ false) }
     ensures calls { IfOk result (λ w. 1 ≤ length w.list → NoCall lines.new.rest.now) }
@@ -32,7 +37,7 @@ pub fn read_controllers(alloc: Global, lines: &mut Lines) -> Result<CallLists, R
     let mut calls = 0;
     'controllers: while lines.next_is(b"controller") {
         begin_controller(lines, controllers.len())?;
-        let list = read_calls(alloc, lines, &mut calls)?;
+        let list = read_calls(alloc, lines, version, &mut calls)?;
         controllers.push(list)?;
     }
     Ok(controllers)
@@ -73,13 +78,20 @@ fn take_controller<'a>(lines: &mut Lines<'a>) -> Result<&'a [u8], ScriptFault>
 }
 
 // Reads the calls of a controller, where those before it and its own are counted.
-fn read_calls(alloc: Global, lines: &mut Lines, calls: &mut u32) -> Result<CallList, ReadFail>
+fn read_calls(
+    alloc: Global,
+    lines: &mut Lines,
+    version: Version,
+    calls: &mut u32,
+) -> Result<CallList, ReadFail>
     requires small { IsShort lines.old }
     requires most { calls.old ≤ MAX_CALLS }
-    ensures ok { IfOk result (λ l. (v : live) (cs : List (List CallValue)) → count_all cs ≡ calls.old →
+    ensures ok { IfOk result (λ l. (v : live) (cs : List (List CallValue)) → v.setup.version ≡ version
+        → count_all cs ≡ calls.old →
         MovesTo of_live (InBody (with_controllers v (cs ++ [] ∷ []))) lines.old
         (InBody (with_controllers v (cs ++ map call_value l.list ∷ []))) lines.new) }
-    ensures fault { (v : live) (cs : List (List CallValue)) → count_all cs ≡ calls.old →
+    ensures fault { (v : live) (cs : List (List CallValue)) → v.setup.version ≡ version
+        → count_all cs ≡ calls.old →
         FaultOf result (reads_left of_live (InBody (with_controllers v (cs ++ [] ∷ []))) lines.old) }
     ensures sum { IfOk result (λ l. calls.new ≡ calls.old + length l.list) }
     ensures most { OnOk result (calls.new ≤ MAX_CALLS) }
@@ -89,7 +101,7 @@ fn read_calls(alloc: Global, lines: &mut Lines, calls: &mut u32) -> Result<CallL
 {
     let mut list = CallList::new(alloc);
     'calls: while is_called(lines) {
-        let call = take_call(alloc, lines)?;
+        let call = take_call(alloc, lines, version)?;
         lines.refuse(check_calls(*calls))?;
         list.push(call)?;
         *calls += 1;
@@ -118,14 +130,16 @@ fn check_calls(calls: u32) -> Result<(), ScriptKind>
 }
 
 // Reads one more call, whose place among the calls is checked by the caller.
-fn take_call(alloc: Global, lines: &mut Lines) -> Result<Call, ReadFail>
+fn take_call(alloc: Global, lines: &mut Lines, version: Version) -> Result<Call, ReadFail>
     requires wanted { (first_begins (codes "show") lines.old.rest.now
         || first_begins (codes "commit") lines.old.rest.now) ≡ true }
     requires small { IsShort lines.old }
     ensures ok { IfOk result (λ c. (v : live) (cs : List (List CallValue)) (t : List CallValue) →
+        v.setup.version ≡ version →
         reads_left of_live (InBody (with_controllers v (cs ++ t ∷ []))) lines.old
         ≡ reads_call v cs t (call_value c) lines.new) }
     ensures fault { (v : live) (cs : List (List CallValue)) (t : List CallValue) →
+        v.setup.version ≡ version →
         FaultOf result (reads_left of_live (InBody (with_controllers v (cs ++ t ∷ []))) lines.old) }
     ensures small { IsShort lines.new }
     ensures shorter { OnOk result (length lines.new.rest.now < length lines.old.rest.now) }
@@ -133,7 +147,7 @@ fn take_call(alloc: Global, lines: &mut Lines) -> Result<Call, ReadFail>
     let line = lines.take_line()?;
     if same_word(first_word(line), b"commit") {
         lines.refuse(alone(b"commit", line))?;
-        let commit = Box::new(alloc, read_commit(alloc, lines)?)?;
+        let commit = Box::new(alloc, read_commit(alloc, lines, version)?)?;
         Ok(Call::Commit { commit })
     } else {
         lines.refuse(alone(b"show", line))?;

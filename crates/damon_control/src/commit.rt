@@ -3,22 +3,22 @@ ghost use Rattle.live_commit.specs.Commit.{commit_value};
 ghost use Rattle.script_lines.specs.Body.{no_commit, with_range};
 ghost use Rattle.damon_control.specs.declared.grammar.Grammar.{Grammar as grammar};
 ghost use Rattle.damon_control.specs.Left.{FaultOf, IsShort, reads_commit, reads_left};
-ghost use Rattle.damon_control.specs.Script.{InCommit, Within};
+ghost use Rattle.damon_control.specs.Script.{InCommit, Within, version_in};
 
 use crate::ReadFail;
 use crate::lines::Lines;
-use damon_types::{RangeSpec, RangeSpecs};
+use damon_types::{RangeSpec, RangeSpecs, Version};
 use live_commit::Commit;
 use script_lines::{Part, alone, first_word, read_part, same_word};
 use std::alloc::{AllocError, Global};
 
-// Reads the lines of a commit after its first, up to the line `apply`.
-pub fn read_commit(alloc: Global, lines: &mut Lines) -> Result<Commit, ReadFail>
+// Reads the lines of a commit after its first, up to the line `apply`, in a text of this version.
+pub fn read_commit(alloc: Global, lines: &mut Lines, version: Version) -> Result<Commit, ReadFail>
     requires { IsShort lines.old }
-    ensures ok { IfOk result (λ c. (g : grammar) (b : Within g) →
+    ensures ok { IfOk result (λ c. (g : grammar) (b : Within g) → version_in g b ≡ version →
         reads_left g (InCommit b no_commit) lines.old
         ≡ reads_commit g b (commit_value c) lines.new) }
-    ensures fault { (g : grammar) (b : Within g) →
+    ensures fault { (g : grammar) (b : Within g) → version_in g b ≡ version →
         FaultOf result (reads_left g (InCommit b no_commit) lines.old) }
     ensures later { OnOk result (lines.old.taken ≤ lines.new.taken) }
     ensures shorter { OnOk result (length lines.new.rest.now < length lines.old.rest.now) }
@@ -29,6 +29,7 @@ pub fn read_commit(alloc: Global, lines: &mut Lines) -> Result<Commit, ReadFail>
         ranges: None,
         slot: None,
         metric: None,
+        cost: None,
     };
     'lines: loop {
         let line = lines.take_line()?;
@@ -36,11 +37,12 @@ pub fn read_commit(alloc: Global, lines: &mut Lines) -> Result<Commit, ReadFail>
             lines.refuse(alone(b"apply", line))?;
             return Ok(commit);
         }
-        match lines.refuse(read_part(&commit, line))? {
+        match lines.refuse(read_part(version, &commit, line))? {
             Part::Attrs(attrs) => commit.attrs = Some(attrs),
             Part::Range(range) => add_range(alloc, &mut commit.ranges, range)?,
             Part::Slot(change) => commit.slot = Some(change),
             Part::Metric(value) => commit.metric = Some(value),
+            Part::Cost(cost) => commit.cost = Some(cost),
         }
     }
 }

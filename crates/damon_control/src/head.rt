@@ -6,16 +6,15 @@ ghost use Rattle.live_commit.specs.Checked.{checked_cap, checked_unit};
 ghost use Rattle.live_commit.specs.Slots.{checked_slots, kept_slots};
 ghost use Rattle.script_lines.specs.Limits.{AreLimits};
 ghost use Rattle.damon_control.specs.Left.{FaultOf, IsShort, IsWanted, MovesTo, first_begins, reads_left};
-ghost use Rattle.damon_control.specs.Script.{AtAttrs, AtHeader, AtRanges, AtSchemes, AtTargets, header_of};
+ghost use Rattle.damon_control.specs.Script.{AtAttrs, AtHeader, AtRanges, AtSchemes, AtTargets, header_of, version_said};
 ghost use Rattle.damon_control.specs.declared.grammar.Grammar.{Grammar as grammar};
 ghost use Rattle.script_lines.specs.Refusal.{only_if};
-ghost use Rattle.script_lines.specs.Words.{same_word};
-ghost use Rattle.script_lines.specs.declared.kind.ScriptKind.TheVariants.{Header, Limit};
+ghost use Rattle.script_lines.specs.declared.kind.ScriptKind.TheVariants.{Limit};
 
 use crate::grammar::Grammar;
 use crate::lines::Lines;
 use crate::{MAX_BYTES, ReadFail, ScriptFault};
-use damon_types::{RangeSpecs, SlotChanges, Space, Target};
+use damon_types::{RangeSpecs, SlotChanges, Space, Target, Version};
 use live_commit::{MAX_CAP, slots_are_checked_in_turn};
 use script_lines::{
     Frame, ScriptKind, read_attrs_line, read_cap, read_range_line, read_scheme_line, read_seed,
@@ -32,10 +31,11 @@ pub fn read_frame(lines: &mut Lines, form: Grammar) -> Result<Frame, ScriptFault
     ensures limits { IfOk result (λ f. AreLimits f) }
     ensures small { IsShort lines.new }
 {
-    let (seed, unit, cap) = read_numbers(lines, form)?;
+    let (version, seed, unit, cap) = read_numbers(lines, form)?;
     let line = lines.take_line()?;
     let attrs = lines.refuse(read_attrs_line(cap, line))?;
     Ok(Frame {
+        version,
         seed,
         unit,
         cap,
@@ -43,24 +43,24 @@ pub fn read_frame(lines: &mut Lines, form: Grammar) -> Result<Frame, ScriptFault
     })
 }
 
-// Reads the lines before the attributes: the seed, the unit and the cap.
-fn read_numbers(lines: &mut Lines, form: Grammar) -> Result<(u64, u32, u32), ScriptFault>
+// Reads the lines before the attributes: the version, the seed, the unit and the cap.
+fn read_numbers(lines: &mut Lines, form: Grammar) -> Result<(Version, u64, u32, u32), ScriptFault>
     requires { IsShort lines.old }
-    ensures ok { IfOk result (λ n. MovesTo form AtHeader lines.old (AtAttrs n.0 n.1 n.2) lines.new) }
+    ensures ok { IfOk result (λ n. MovesTo form AtHeader lines.old (AtAttrs n.0 n.1 n.2 n.3) lines.new) }
     ensures fault { IfErr result (λ fault. reads_left form AtHeader lines.old ≡ Err fault) }
-    ensures unit { IfOk result (λ n. checked_unit n.1 ≡ Ok tt) }
-    ensures cap { IfOk result (λ n. checked_cap n.2 ≡ Ok tt) }
+    ensures unit { IfOk result (λ n. checked_unit n.2 ≡ Ok tt) }
+    ensures cap { IfOk result (λ n. checked_cap n.3 ≡ Ok tt) }
     ensures small { IsShort lines.new }
 {
     let line = lines.take_line()?;
-    lines.refuse(read_header(line, form))?;
+    let version = lines.refuse(read_header(line, form))?;
     let line = lines.take_line()?;
     let seed = lines.refuse(read_seed(line))?;
     let line = lines.take_line()?;
     let unit = lines.refuse(read_unit(line))?;
     let line = lines.take_line()?;
     let cap = lines.refuse(read_cap(line))?;
-    Ok((seed, unit, cap))
+    Ok((version, seed, unit, cap))
 }
 
 // Reads the lines of the targets, at least one.
@@ -192,7 +192,7 @@ pub fn read_slots(
     ensures fault { (g : grammar) →
         FaultOf result (reads_left g (AtSchemes frame.now space.now specs.now.list []) lines.old) }
     ensures all { OnOk result (first_begins (codes "scheme") lines.new.rest.now ≡ false) }
-    ensures sound { IfOk result (λ slots. checked_slots slots.list ≡ Ok tt) }
+    ensures sound { IfOk result (λ slots. checked_slots frame.now.version slots.list ≡ Ok tt) }
     ensures set { IfOk result (λ slots. kept_slots slots.list ≡ slots.list) }
     ensures few { IfOk result (λ slots. length slots.list ≤ MAX_BYTES) }
     ensures small { IsShort lines.new }
@@ -201,23 +201,33 @@ pub fn read_slots(
     let mut slots = SlotChanges::new(alloc);
     'schemes: while lines.next_is(b"scheme") {
         let line = lines.take_line()?;
-        let change = lines.refuse(read_scheme_line(slots.as_slice(), line))?;
+        let change = lines.refuse(read_scheme_line(frame.version, slots.as_slice(), line))?;
         slots.push(change)?;
     }
     Ok(slots)
 }
 
 // Reads the first line.
-fn read_header(line: &[u8], form: Grammar) -> Result<(), ScriptKind>
-    ensures { result ≡ only_if (same_word line.now (header_of form)) Header (tt {0}) }
+fn read_header(line: &[u8], form: Grammar) -> Result<Version, ScriptKind>
+    ensures { result ≡ version_said form line.now }
 {
-    let is_header = match form {
-        Grammar::OfScript => same_word(line, b"damon script 1"),
-        Grammar::OfLive => same_word(line, b"damon live 1"),
-    };
-    if is_header {
-        Ok(())
+    if same_word(line, header_of(form, Version::One)) {
+        Ok(Version::One)
+    } else if same_word(line, header_of(form, Version::Two)) {
+        Ok(Version::Two)
     } else {
         Err(ScriptKind::Header)
+    }
+}
+
+// The first line of a text of this version.
+fn header_of(form: Grammar, version: Version) -> &'static [u8]
+    ensures { result.now ≡ header_of form version }
+{
+    match (form, version) {
+        (Grammar::OfScript, Version::One) => b"damon script 1",
+        (Grammar::OfScript, Version::Two) => b"damon script 2",
+        (Grammar::OfLive, Version::One) => b"damon live 1",
+        (Grammar::OfLive, Version::Two) => b"damon live 2",
     }
 }

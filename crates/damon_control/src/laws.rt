@@ -4,7 +4,7 @@ ghost use Rattle.damon_control.specs.LineLaws.{LineLaws};
 ghost use Rattle.damon_control.specs.LiveText.{LiveTextsAreRead};
 ghost use Rattle.damon_control.specs.Sound.{ScriptsAreSound};
 ghost use Rattle.damon_control.specs.Text.{TextsAreRead};
-ghost use Rattle.damon_control.specs.WriteBack.{CommitsAreReadBack, SetupsAreReadBack};
+ghost use Rattle.damon_control.specs.WriteBack.{CommitsAreReadBack, LiveSetupsAreReadBack, SetupsAreReadBack};
 
 use damon_types::pages_rise;
 use line_text::{parts_are_pieces, pieces_are_parts};
@@ -62,11 +62,12 @@ pub fn scripts_are_sound()
     pages_rise();
 }
 
-/// What [`write_setup`](crate::write_setup) appends, in its place after the first line of a script and
-/// before `begin`, is read as the same seed and setup, and what follows as the body. It holds for every
-/// setup that the type allows.
+/// What [`write_setup`](crate::write_setup) appends, in its place after the first line of a text of the
+/// setup's version, is read as the same seed and setup: in a script before `begin`, in a live script
+/// before `passes`. What follows is read as the body.
 pub fn setups_are_read_back()
     ensures back { SetupsAreReadBack }
+    ensures live { LiveSetupsAreReadBack }
 {
     lines_have_laws();
     written_changes_are_read_back();
@@ -75,7 +76,8 @@ pub fn setups_are_read_back()
 }
 
 /// What [`write_commit`](crate::write_commit) appends, in its place between `commit` and `apply`, is
-/// read as the same commit, from any line of a body on.
+/// read as the same commit, from any line of a script's body on, and in a live script from any line of a
+/// controller on. A commit with a cost or with the time of a quota is read in texts of version Two.
 pub fn commits_are_read_back()
     ensures back { CommitsAreReadBack }
 {

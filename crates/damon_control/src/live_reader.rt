@@ -51,7 +51,7 @@ pub fn read_live(alloc: Global, text: &[u8]) -> Result<LiveScript, ReadFail>
         passes,
     } = read_opening(alloc, &mut lines)?;
     let workers = read_workers(alloc, &mut lines, &setup.space)?;
-    let controllers = read_controllers(alloc, &mut lines)?;
+    let controllers = read_controllers(alloc, &mut lines, setup.version)?;
     read_end(&mut lines)?;
     lines.end()?;
     Ok(LiveScript {

@@ -156,6 +156,7 @@ pub fn make_setup(alloc: Global, head: Head) -> Result<Setup, ReadFail>
     let _changes = slots.len();
     let setup = Setup::of_checked(
         alloc,
+        frame.version,
         space,
         frame.unit,
         frame.cap,

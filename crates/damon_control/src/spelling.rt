@@ -11,11 +11,15 @@ ghost use Rattle.damon_control.specs.Text.{number_lines};
 ghost use Rattle.damon_control.specs.WriteBack.{SpellsRanges};
 ghost use Rattle.script_lines.specs.WrittenLine.{change_text};
 ghost use Rattle.damon_control.specs.Written.{commit_text, part_given, part_text, ranges_given, setup_text, spec_of};
-ghost use Rattle.script_lines.specs.declared.part.Part.TheVariants.{Attrs as attrs_part, Slot as slot_part, Metric as metric_part};
+ghost use Rattle.script_lines.specs.declared.part.Part.TheVariants.{Attrs as attrs_part, Slot as slot_part, Metric as metric_part, Cost as cost_part};
 
-use damon_types::{Attrs, PAGE_SIZE, Range, RangeSpec, RangeSpecs, Ranges, SlotChange, Space};
+use damon_types::{
+    Attrs, CostPart, PAGE_SIZE, Range, RangeSpec, RangeSpecs, Ranges, SlotChange, Space,
+};
 use live_commit::{Commit, Setup};
-use script_lines::{write_attrs, write_change_line, write_number_line, write_range, write_target};
+use script_lines::{
+    write_attrs, write_change_line, write_cost, write_number_line, write_range, write_target,
+};
 use std::alloc::{AllocError, Global};
 
 /// Appends the lines of a seed and a setup, as they stand in a script between its first line and
@@ -40,9 +44,9 @@ pub fn write_setup(
 }
 
 /// Appends the lines of a commit, as they stand in a script between `commit` and `apply`, each ended by
-/// its LF: its attributes, its ranges, its slot change and its metric, where it has them. A key whose
-/// value is the default is left out. By the law [`commits_are_read_back`] they are read as the same
-/// commit. No text spells an empty list of ranges, so a commit may not have one. The ranges of a commit
+/// its LF: its attributes, its ranges, its slot change, its metric and its cost, where it has them. A
+/// key whose value is the default is left out. By the law [`commits_are_read_back`] they are read as
+/// the same commit, in a text of version Two where it has a cost or a quota with a time. No text spells an empty list of ranges, so a commit may not have one. The ranges of a commit
 /// are given by addresses already, so nothing is asked of the space. When out of memory, nothing is
 /// appended.
 ///
@@ -168,7 +172,8 @@ fn write_parts(out: &mut Vec<u8>, commit: &Commit) -> Result<(), AllocError>
     write_new_attrs(out, &commit.attrs)?;
     write_new_ranges(out, &commit.ranges)?;
     write_new_slot(out, &commit.slot)?;
-    write_new_metric(out, commit.metric)
+    write_new_metric(out, commit.metric)?;
+    write_new_cost(out, commit.cost)
 }
 
 // Appends the line of new attributes, if there are some.
@@ -230,6 +235,19 @@ fn write_new_metric(out: &mut Vec<u8>, metric: Option<u32>) -> Result<(), AllocE
 {
     match metric {
         Some(value) => write_number_line(out, b"metric ", u64::from(value)),
+        None => Ok(()),
+    }
+}
+
+// Appends the line of a new cost, if there is one.
+#[tactic(auto, using(crate::proofs::Appending::appends))]
+fn write_new_cost(out: &mut Vec<u8>, cost: Option<CostPart>) -> Result<(), AllocError>
+    ensures ok { OnOk result (out.new.items ≡ out.old.items
+        ++ lines_text (map part_text (part_given (λ p. cost_part p) cost))) }
+    ensures kept { KeepsFront out.old.items out.new.items }
+{
+    match cost {
+        Some(cost) => write_cost(out, &cost),
         None => Ok(()),
     }
 }

@@ -7,7 +7,8 @@ use Rattle.damon_types.specs.declared.range.RangeSpec.{RangeSpec}
 use Rattle.damon_types.specs.declared.scheme.SlotChange.{SlotChange}
 use Rattle.damon_types.specs.declared.space.Target.{Target}
 use Rattle.damon_types.specs.Attrs.{checked_attrs}
-use Rattle.damon_types.specs.Scheme.{checked_scheme}
+use Rattle.damon_types.specs.declared.scheme.Version.{Version}
+use Rattle.damon_types.specs.Scheme.{checked_in}
 use Rattle.damon_types.specs.Space.{checked}
 use Rattle.line_text.specs.Number.{number}
 use Rattle.live_commit.specs.Checked.{checked_cap, checked_limits, checked_max, checked_unit}
@@ -87,13 +88,13 @@ not_true : (b : Bool) → not b ≡ true → b ≡ false
 not_true true e = absurd cc
 not_true false e = refl
 
-pub scheme_sound : (before : List SlotChange) (line : List ℕ) (change : SlotChange) → scheme_line before line ≡ Ok change → checked_slot (length before) before change ≡ Ok tt
-scheme_sound before line change e =
+pub scheme_sound : (version : Version) (before : List SlotChange) (line : List ℕ) (change : SlotChange) → scheme_line version before line ≡ Ok change → checked_slot version (length before) before change ≡ Ok tt
+scheme_sound version before line change e =
     let words = bind-Ok (arguments (codes "scheme") line) _ change e in
-    let read = bind-Ok (scheme_in words.0) _ change words.2 in
-    let checks = bind-Ok (refused_as BadScheme (checked_scheme read.0.0 read.0.1)) _ change read.2 in
+    let read = bind-Ok (scheme_in version words.0) _ change words.2 in
+    let checks = bind-Ok (refused_as BadScheme (checked_in version read.0.0 read.0.1)) _ change read.2 in
     let passes = only_if-Ok (not (is_changed read.0.0 before)) Repeated (record { slot = read.0.0; scheme = Some read.0.1 }) change checks.2 in
-    subst (λ (c : SlotChange). checked_slot (length before) before c ≡ Ok tt) passes.1
-    (checked_slot_accepted before read.0.0 read.0.1
-    (accepted BadScheme (checked_scheme read.0.0 read.0.1) checks.0 checks.1)
+    subst (λ (c : SlotChange). checked_slot version (length before) before c ≡ Ok tt) passes.1
+    (checked_slot_accepted version before read.0.0 read.0.1
+    (accepted BadScheme (checked_in version read.0.0 read.0.1) checks.0 checks.1)
     (not_true (is_changed read.0.0 before) passes.0))

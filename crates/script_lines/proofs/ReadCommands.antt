@@ -1,33 +1,35 @@
 -- A line of a body or a commit that says something is read as that.
 use Rattle.std.proofs.Common.{◌≡◌, inl, inr, ◌≤◌, ◌^◌, ◌-◌, ◌+◌, ◌<◌, ◌∷◌, [], ◌&&◌, ℕ, Bool, true, false, List, codes, Some, None, Ok, refl, sym, ap, ◌∙◌, decimal, arith}
-use Rattle.std.specs.Prelude.{Option, is_none, option_map}
+use Rattle.std.specs.Prelude.{Option, option_map}
 use Rattle.std.specs.Cmp.Derive.{both_true}
 use Rattle.std.specs.List.{list_all}
 use Rattle.std.specs.Option.{ok_or}
 use Rattle.damon_types.specs.declared.attrs.Attrs.{Attrs as AttrsValue}
 use Rattle.damon_types.specs.declared.range.RangeSpec.{RangeSpec}
 use Rattle.damon_types.specs.declared.scheme.SlotChange.{SlotChange}
+use Rattle.damon_types.specs.declared.scheme.CostPart.{CostPart}
+use Rattle.damon_types.specs.declared.scheme.Version.{Version}
 use Rattle.damon_types.specs.declared.space.Target.{Target}
 use Rattle.damon_types.specs.Space.{page_of}
 use Rattle.line_text.specs.Address.{spelled_address}
 use Rattle.line_text.specs.Parts.{joined}
 use Rattle.live_commit.specs.Commit.{CommitValue}
 use Rattle.script_lines.specs.declared.part.Part.{Part}
-use Rattle.script_lines.specs.declared.part.Part.TheVariants.{Attrs, Range, Slot, Metric}
+use Rattle.script_lines.specs.declared.part.Part.TheVariants.{Attrs, Range, Slot, Metric, Cost}
 use Rattle.script_lines.specs.declared.kind.ScriptKind.TheVariants.{Limit, Outside}
-use Rattle.script_lines.specs.Body.{are_swept, change_line, command_line, drop_line, part_line, step_line, sweep_line, touch_line, wants_attrs, wants_slot}
+use Rattle.script_lines.specs.Body.{are_swept, change_line, command_line, drop_line, part_line, step_line, sweep_line, touch_line, wants_attrs, wants_cost, wants_metric, wants_slot}
 use Rattle.script_lines.specs.Command.{CommandValue, Touch, Sweep, Step, Arm, Finish, Show, Commit}
-use Rattle.script_lines.specs.Fields.{attrs_in, range_in}
-use Rattle.script_lines.specs.Fits.{FitsAttrs, FitsRange}
+use Rattle.script_lines.specs.Fields.{attrs_in, cost_in, range_in}
+use Rattle.script_lines.specs.Fits.{FitsAttrs, FitsCost, FitsRange}
 use Rattle.script_lines.specs.Head.{limited}
 use Rattle.script_lines.specs.Keys.{scheme_in}
 use Rattle.script_lines.specs.Laws.{GivesScheme, IsCommand, IsPart, IsSweep, WordLaws, may_come}
 use Rattle.script_lines.specs.Refusal.{◌>>=◌, only_if}
-use Rattle.script_lines.specs.Spelling.{attrs_words, range_words, scheme_words, spelled_attrs, spelled_drop, spelled_metric, spelled_range, spelled_step, spelled_sweep, spelled_touch}
+use Rattle.script_lines.specs.Spelling.{attrs_words, cost_words, range_words, scheme_words, spelled_attrs, spelled_cost, spelled_drop, spelled_metric, spelled_range, spelled_step, spelled_sweep, spelled_touch}
 use Rattle.script_lines.specs.Words.{arguments, begins_with, byte_address, number_8, number_32, one_word, same_word}
 use Rattle.script_lines.proofs.PlainWords.{address_field, begins_with-spaced, field_8, field_32, field_word, is_plain_word}
-use Rattle.script_lines.proofs.ReadFields.{attrs_in-words, byte_address-spelled, number_8-decimal, number_32-decimal, range_in-words}
-use Rattle.script_lines.proofs.ReadLines.{arguments-read, attrs_words-plain, limited-within, number_line, one_word-read, range_words-plain, scheme-read}
+use Rattle.script_lines.proofs.ReadFields.{attrs_in-words, byte_address-spelled, cost_in-words, number_8-decimal, number_32-decimal, range_in-words}
+use Rattle.script_lines.proofs.ReadLines.{arguments-read, attrs_words-plain, cost_words-plain, limited-within, number_line, one_word-read, range_words-plain, scheme-read}
 use Rattle.script_lines.proofs.ReadSchemes.{scheme_words-plain}
 use Rattle.script_lines.proofs.SpellSteps.{chosen, passed_over, then-Ok}
 
@@ -118,101 +120,127 @@ this_word : (laws : WordLaws) (word : List ℕ) (others : List (List ℕ)) (want
 this_word laws word others wanted plain same comes = both_true (begins_with-spaced laws word word others plain ∙ same) comes
 
 -- a line that begins with `range` is read as a range, after the test for attributes
-range_way : (before : CommitValue) (line : List ℕ) (part : Part) → (begins_with (codes "attrs") line && wants_attrs before) ≡ false → (begins_with (codes "range") line && wants_slot before) ≡ true
-    → (arguments (codes "range") line >>= range_in >>= λ range. Ok (Range range)) ≡ Ok part → part_line before line ≡ Ok part
-range_way before line part no_attrs here read =
+range_way : (version : Version) (before : CommitValue) (line : List ℕ) (part : Part) → (begins_with (codes "attrs") line && wants_attrs before) ≡ false → (begins_with (codes "range") line && wants_slot before) ≡ true
+    → (arguments (codes "range") line >>= range_in >>= λ range. Ok (Range range)) ≡ Ok part → part_line version before line ≡ Ok part
+range_way version before line part no_attrs here read =
     passed_over (begins_with (codes "attrs") line && wants_attrs before) _ _ (Ok part) no_attrs (chosen (begins_with (codes "range") line && wants_slot before) _ _ (Ok part) here read)
 
 -- a line that begins with `scheme` is read as a scheme, after the tests before it
-scheme_way : (before : CommitValue) (line : List ℕ) (part : Part) → (begins_with (codes "attrs") line && wants_attrs before) ≡ false → (begins_with (codes "range") line && wants_slot before) ≡ false
-    → (begins_with (codes "scheme") line && wants_slot before) ≡ true → (change_line line >>= λ change. Ok (Slot change)) ≡ Ok part → part_line before line ≡ Ok part
-scheme_way before line part no_attrs no_range here read =
+scheme_way : (version : Version) (before : CommitValue) (line : List ℕ) (part : Part) → (begins_with (codes "attrs") line && wants_attrs before) ≡ false → (begins_with (codes "range") line && wants_slot before) ≡ false
+    → (begins_with (codes "scheme") line && wants_slot before) ≡ true → (change_line version line >>= λ change. Ok (Slot change)) ≡ Ok part → part_line version before line ≡ Ok part
+scheme_way version before line part no_attrs no_range here read =
     passed_over (begins_with (codes "attrs") line && wants_attrs before) _ _ (Ok part) no_attrs
     (passed_over (begins_with (codes "range") line && wants_slot before) _ _ (Ok part) no_range (chosen (begins_with (codes "scheme") line && wants_slot before) _ _ (Ok part) here read))
 
 -- a line that begins with `drop` is read as an emptied slot, after the tests before it
-drop_way : (before : CommitValue) (line : List ℕ) (part : Part) → (begins_with (codes "attrs") line && wants_attrs before) ≡ false → (begins_with (codes "range") line && wants_slot before) ≡ false
+drop_way : (version : Version) (before : CommitValue) (line : List ℕ) (part : Part) → (begins_with (codes "attrs") line && wants_attrs before) ≡ false → (begins_with (codes "range") line && wants_slot before) ≡ false
     → (begins_with (codes "scheme") line && wants_slot before) ≡ false → (begins_with (codes "drop") line && wants_slot before) ≡ true
-    → (drop_line line >>= λ change. Ok (Slot change)) ≡ Ok part → part_line before line ≡ Ok part
-drop_way before line part no_attrs no_range no_scheme here read =
+    → (drop_line line >>= λ change. Ok (Slot change)) ≡ Ok part → part_line version before line ≡ Ok part
+drop_way version before line part no_attrs no_range no_scheme here read =
     passed_over (begins_with (codes "attrs") line && wants_attrs before) _ _ (Ok part) no_attrs
     (passed_over (begins_with (codes "range") line && wants_slot before) _ _ (Ok part) no_range
     (passed_over (begins_with (codes "scheme") line && wants_slot before) _ _ (Ok part) no_scheme (chosen (begins_with (codes "drop") line && wants_slot before) _ _ (Ok part) here read)))
 
 -- a line that begins with `metric` is read as a metric, after the tests before it
-metric_way : (before : CommitValue) (line : List ℕ) (part : Part) → (begins_with (codes "attrs") line && wants_attrs before) ≡ false → (begins_with (codes "range") line && wants_slot before) ≡ false
+metric_way : (version : Version) (before : CommitValue) (line : List ℕ) (part : Part) → (begins_with (codes "attrs") line && wants_attrs before) ≡ false → (begins_with (codes "range") line && wants_slot before) ≡ false
     → (begins_with (codes "scheme") line && wants_slot before) ≡ false → (begins_with (codes "drop") line && wants_slot before) ≡ false
-    → (begins_with (codes "metric") line && is_none before.metric) ≡ true
-    → (arguments (codes "metric") line >>= one_word >>= number_32 >>= λ value. Ok (Metric value)) ≡ Ok part → part_line before line ≡ Ok part
-metric_way before line part no_attrs no_range no_scheme no_drop here read =
+    → (begins_with (codes "metric") line && wants_metric before) ≡ true
+    → (arguments (codes "metric") line >>= one_word >>= number_32 >>= λ value. Ok (Metric value)) ≡ Ok part → part_line version before line ≡ Ok part
+metric_way version before line part no_attrs no_range no_scheme no_drop here read =
     passed_over (begins_with (codes "attrs") line && wants_attrs before) _ _ (Ok part) no_attrs
     (passed_over (begins_with (codes "range") line && wants_slot before) _ _ (Ok part) no_range
     (passed_over (begins_with (codes "scheme") line && wants_slot before) _ _ (Ok part) no_scheme
     (passed_over (begins_with (codes "drop") line && wants_slot before) _ _ (Ok part) no_drop
-    (chosen (begins_with (codes "metric") line && is_none before.metric) _ _ (Ok part) here read))))
+    (chosen (begins_with (codes "metric") line && wants_metric before) _ _ (Ok part) here read))))
 
-attrs_part-said : (laws : WordLaws) (before : CommitValue) (a : AttrsValue) → wants_attrs before ≡ true → FitsAttrs a → part_line before (spelled_attrs a) ≡ Ok (Attrs a)
-attrs_part-said laws before a comes fits =
+-- a line that begins with `cost` is read as a cost, after the tests before it
+cost_way : (version : Version) (before : CommitValue) (line : List ℕ) (part : Part) → (begins_with (codes "attrs") line && wants_attrs before) ≡ false → (begins_with (codes "range") line && wants_slot before) ≡ false
+    → (begins_with (codes "scheme") line && wants_slot before) ≡ false → (begins_with (codes "drop") line && wants_slot before) ≡ false
+    → (begins_with (codes "metric") line && wants_metric before) ≡ false → (begins_with (codes "cost") line && wants_cost version before) ≡ true
+    → (arguments (codes "cost") line >>= cost_in >>= λ cost. Ok (Cost cost)) ≡ Ok part → part_line version before line ≡ Ok part
+cost_way version before line part no_attrs no_range no_scheme no_drop no_metric here read =
+    passed_over (begins_with (codes "attrs") line && wants_attrs before) _ _ (Ok part) no_attrs
+    (passed_over (begins_with (codes "range") line && wants_slot before) _ _ (Ok part) no_range
+    (passed_over (begins_with (codes "scheme") line && wants_slot before) _ _ (Ok part) no_scheme
+    (passed_over (begins_with (codes "drop") line && wants_slot before) _ _ (Ok part) no_drop
+    (passed_over (begins_with (codes "metric") line && wants_metric before) _ _ (Ok part) no_metric
+    (chosen (begins_with (codes "cost") line && wants_cost version before) _ _ (Ok part) here read)))))
+
+attrs_part-said : (laws : WordLaws) (version : Version) (before : CommitValue) (a : AttrsValue) → wants_attrs before ≡ true → FitsAttrs a → part_line version before (spelled_attrs a) ≡ Ok (Attrs a)
+attrs_part-said laws version before a comes fits =
     let plain = attrs_words-plain laws a fits in
     chosen (begins_with (codes "attrs") (spelled_attrs a) && wants_attrs before) _ _ (Ok (Attrs a)) (this_word laws (codes "attrs") (attrs_words a) (wants_attrs before) plain refl comes)
     (then-Ok (arguments (codes "attrs") (spelled_attrs a) >>= attrs_in) _ a _ (arguments-read laws (codes "attrs") (attrs_words a) attrs_in (Ok a) refl plain (attrs_in-words laws a fits)) refl)
 
-range_part-said : (laws : WordLaws) (before : CommitValue) (r : RangeSpec) → wants_slot before ≡ true → FitsRange r → part_line before (spelled_range r) ≡ Ok (Range r)
-range_part-said laws before r comes fits =
+range_part-said : (laws : WordLaws) (version : Version) (before : CommitValue) (r : RangeSpec) → wants_slot before ≡ true → FitsRange r → part_line version before (spelled_range r) ≡ Ok (Range r)
+range_part-said laws version before r comes fits =
     let plain = range_words-plain laws r fits in
-    range_way before (spelled_range r) (Range r) (other_word laws (codes "attrs") (codes "range") (range_words r) (wants_attrs before) plain refl)
+    range_way version before (spelled_range r) (Range r) (other_word laws (codes "attrs") (codes "range") (range_words r) (wants_attrs before) plain refl)
     (this_word laws (codes "range") (range_words r) (wants_slot before) plain refl comes)
     (then-Ok (arguments (codes "range") (spelled_range r) >>= range_in) _ r _ (arguments-read laws (codes "range") (range_words r) range_in (Ok r) refl plain (range_in-words laws r fits)) refl)
 
-change_line-said : (laws : WordLaws) (line : List ℕ) (change : SlotChange) → GivesScheme line change → change_line line ≡ Ok change
-change_line-said laws line change gives =
-    then-Ok (arguments (codes "scheme") line >>= scheme_in) _ (change.slot, gives.0) _
-    (scheme-read laws line change.slot gives.0 scheme_in (Ok (change.slot, gives.0)) gives.2 (λ words said. said))
+change_line-said : (laws : WordLaws) (version : Version) (line : List ℕ) (change : SlotChange) → GivesScheme version line change → change_line version line ≡ Ok change
+change_line-said laws version line change gives =
+    then-Ok (arguments (codes "scheme") line >>= scheme_in version) _ (change.slot, gives.0) _
+    (scheme-read laws version line change.slot gives.0 (scheme_in version) (Ok (change.slot, gives.0)) gives.2 (λ words said. said))
     (ap (λ s. Ok (record { slot = change.slot; scheme = s })) (sym gives.1))
 
-scheme_part-said : (laws : WordLaws) (before : CommitValue) (line : List ℕ) (change : SlotChange) → wants_slot before ≡ true → GivesScheme line change
-    → part_line before line ≡ Ok (Slot change)
-scheme_part-said laws before line change comes gives =
+scheme_part-said : (laws : WordLaws) (version : Version) (before : CommitValue) (line : List ℕ) (change : SlotChange) → wants_slot before ≡ true → GivesScheme version line change
+    → part_line version before line ≡ Ok (Slot change)
+scheme_part-said laws version before line change comes gives =
     let is = gives.2 in
     let words = scheme_words change.slot is.action is.settings in
     let plain = scheme_words-plain laws change.slot is.action is.settings is.small is.fit in
-    scheme_way before line (Slot change)
+    scheme_way version before line (Slot change)
     (ap (λ l. begins_with (codes "attrs") l && wants_attrs before) is.spelled ∙ other_word laws (codes "attrs") (codes "scheme") words (wants_attrs before) plain refl)
     (ap (λ l. begins_with (codes "range") l && wants_slot before) is.spelled ∙ other_word laws (codes "range") (codes "scheme") words (wants_slot before) plain refl)
     (ap (λ l. begins_with (codes "scheme") l && wants_slot before) is.spelled ∙ this_word laws (codes "scheme") words (wants_slot before) plain refl comes)
-    (then-Ok (change_line line) _ change _ (change_line-said laws line change gives) refl)
+    (then-Ok (change_line version line) _ change _ (change_line-said laws version line change gives) refl)
 
 drop_line-spelled : (laws : WordLaws) (slot : ℕ) → slot < 2 ^ 8 → drop_line (spelled_drop slot) ≡ Ok (record { slot = slot; scheme = None })
 drop_line-spelled laws slot small =
     then-Ok (arguments (codes "drop") (spelled_drop slot) >>= one_word >>= number_8) _ slot _
     (one_word-read laws (codes "drop") (decimal slot) number_8 (Ok slot) refl (both_true (field_word (decimal slot) (field_8 laws slot small)) refl) (number_8-decimal laws slot small)) refl
 
-drop_part-said : (laws : WordLaws) (before : CommitValue) (slot : ℕ) → wants_slot before ≡ true → slot < 2 ^ 8
-    → part_line before (spelled_drop slot) ≡ Ok (Slot (record { slot = slot; scheme = None }))
-drop_part-said laws before slot comes small =
+drop_part-said : (laws : WordLaws) (version : Version) (before : CommitValue) (slot : ℕ) → wants_slot before ≡ true → slot < 2 ^ 8
+    → part_line version before (spelled_drop slot) ≡ Ok (Slot (record { slot = slot; scheme = None }))
+drop_part-said laws version before slot comes small =
     let said = spelled_drop slot in
     let words = decimal slot ∷ [] in
     let plain : list_all is_plain_word words ≡ true = both_true (field_word (decimal slot) (field_8 laws slot small)) refl in
     let change : SlotChange = record { slot = slot; scheme = None } in
-    drop_way before said (Slot change) (other_word laws (codes "attrs") (codes "drop") words (wants_attrs before) plain refl)
+    drop_way version before said (Slot change) (other_word laws (codes "attrs") (codes "drop") words (wants_attrs before) plain refl)
     (other_word laws (codes "range") (codes "drop") words (wants_slot before) plain refl) (other_word laws (codes "scheme") (codes "drop") words (wants_slot before) plain refl)
     (this_word laws (codes "drop") words (wants_slot before) plain refl comes) (then-Ok (drop_line said) _ change _ (drop_line-spelled laws slot small) refl)
 
-metric_part-said : (laws : WordLaws) (before : CommitValue) (value : ℕ) → is_none before.metric ≡ true → value < 2 ^ 32 → part_line before (spelled_metric value) ≡ Ok (Metric value)
-metric_part-said laws before value comes small =
+metric_part-said : (laws : WordLaws) (version : Version) (before : CommitValue) (value : ℕ) → wants_metric before ≡ true → value < 2 ^ 32 → part_line version before (spelled_metric value) ≡ Ok (Metric value)
+metric_part-said laws version before value comes small =
     let said = spelled_metric value in
     let words = decimal value ∷ [] in
     let plain : list_all is_plain_word words ≡ true = both_true (field_word (decimal value) (field_32 laws value small)) refl in
-    metric_way before said (Metric value) (other_word laws (codes "attrs") (codes "metric") words (wants_attrs before) plain refl)
+    metric_way version before said (Metric value) (other_word laws (codes "attrs") (codes "metric") words (wants_attrs before) plain refl)
     (other_word laws (codes "range") (codes "metric") words (wants_slot before) plain refl) (other_word laws (codes "scheme") (codes "metric") words (wants_slot before) plain refl)
-    (other_word laws (codes "drop") (codes "metric") words (wants_slot before) plain refl) (this_word laws (codes "metric") words (is_none before.metric) plain refl comes)
+    (other_word laws (codes "drop") (codes "metric") words (wants_slot before) plain refl) (this_word laws (codes "metric") words (wants_metric before) plain refl comes)
     (then-Ok (arguments (codes "metric") said >>= one_word >>= number_32) _ value _ (number_line laws (codes "metric") value refl refl small) refl)
 
+cost_part-said : (laws : WordLaws) (version : Version) (before : CommitValue) (cost : CostPart) → wants_cost version before ≡ true → FitsCost cost
+    → part_line version before (spelled_cost cost) ≡ Ok (Cost cost)
+cost_part-said laws version before cost comes fits =
+    let said = spelled_cost cost in
+    let words = cost_words cost in
+    let plain = cost_words-plain laws cost fits in
+    cost_way version before said (Cost cost) (other_word laws (codes "attrs") (codes "cost") words (wants_attrs before) plain refl)
+    (other_word laws (codes "range") (codes "cost") words (wants_slot before) plain refl) (other_word laws (codes "scheme") (codes "cost") words (wants_slot before) plain refl)
+    (other_word laws (codes "drop") (codes "cost") words (wants_slot before) plain refl) (other_word laws (codes "metric") (codes "cost") words (wants_metric before) plain refl)
+    (this_word laws (codes "cost") words (wants_cost version before) plain refl comes)
+    (then-Ok (arguments (codes "cost") said >>= cost_in) _ cost _ (arguments-read laws (codes "cost") words cost_in (Ok cost) refl plain (cost_in-words laws cost fits)) refl)
+
 -- a line that says a part, where it may come, is read as that part
-pub part_line-said : (laws : WordLaws) (before : CommitValue) (line : List ℕ) (part : Part) → may_come before part ≡ true → IsPart line part → part_line before line ≡ Ok part
-part_line-said laws before line (Attrs attrs) comes is = ap (part_line before) is.0 ∙ attrs_part-said laws before attrs comes is.1
-part_line-said laws before line (Range range) comes is = ap (part_line before) is.0 ∙ range_part-said laws before range comes is.1
-part_line-said laws before line (Slot change) comes (inl gives) = scheme_part-said laws before line change comes gives
-part_line-said laws before line (Slot change) comes (inr empties) =
-    ap (part_line before) empties.1 ∙ drop_part-said laws before change.slot comes empties.2 ∙ ap (λ s. Ok (Slot (record { slot = change.slot; scheme = s }))) (sym empties.0)
-part_line-said laws before line (Metric value) comes is = ap (part_line before) is.0 ∙ metric_part-said laws before value comes is.1
+pub part_line-said : (laws : WordLaws) (version : Version) (before : CommitValue) (line : List ℕ) (part : Part) → may_come version before part ≡ true → IsPart version line part → part_line version before line ≡ Ok part
+part_line-said laws version before line (Attrs attrs) comes is = ap (part_line version before) is.0 ∙ attrs_part-said laws version before attrs comes is.1
+part_line-said laws version before line (Range range) comes is = ap (part_line version before) is.0 ∙ range_part-said laws version before range comes is.1
+part_line-said laws version before line (Slot change) comes (inl gives) = scheme_part-said laws version before line change comes gives
+part_line-said laws version before line (Slot change) comes (inr empties) =
+    ap (part_line version before) empties.1 ∙ drop_part-said laws version before change.slot comes empties.2 ∙ ap (λ s. Ok (Slot (record { slot = change.slot; scheme = s }))) (sym empties.0)
+part_line-said laws version before line (Metric value) comes is = ap (part_line version before) is.0 ∙ metric_part-said laws version before value comes is.1
+part_line-said laws version before line (Cost cost) comes is = ap (part_line version before) is.0 ∙ cost_part-said laws version before cost comes is.1

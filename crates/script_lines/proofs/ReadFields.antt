@@ -3,14 +3,15 @@ use Rattle.std.proofs.Common.{◌≡◌, ◌-◌, ◌^◌, ◌<◌, ℕ, Ok, ref
 use Rattle.std.specs.Option.{ok_or}
 use Rattle.damon_types.specs.declared.attrs.Attrs.{Attrs}
 use Rattle.damon_types.specs.declared.range.RangeSpec.{RangeSpec}
+use Rattle.damon_types.specs.declared.scheme.CostPart.{CostPart}
 use Rattle.damon_types.specs.declared.space.Target.{Target}
 use Rattle.line_text.specs.Address.{spelled_address}
 use Rattle.script_lines.specs.declared.kind.ScriptKind.TheVariants.{Number}
-use Rattle.script_lines.specs.Fields.{attrs_in, range_in}
-use Rattle.script_lines.specs.Fits.{FitsAttrs, FitsRange}
+use Rattle.script_lines.specs.Fields.{attrs_in, cost_in, range_in}
+use Rattle.script_lines.specs.Fits.{FitsAttrs, FitsCost, FitsRange}
 use Rattle.script_lines.specs.Head.{target_in}
 use Rattle.script_lines.specs.Laws.{WordLaws}
-use Rattle.script_lines.specs.Spelling.{attrs_words, range_words, target_words}
+use Rattle.script_lines.specs.Spelling.{attrs_words, cost_words, range_words, target_words}
 use Rattle.script_lines.specs.Words.{byte_address, number_8, number_16, number_32, number_64}
 use Rattle.script_lines.proofs.SpellSteps.{then-Ok}
 
@@ -46,3 +47,8 @@ range_in-words laws r fits =
     (then-Ok (byte_address (spelled_address r.from)) _ r.from _ (byte_address-spelled laws r.from fits.1)
     (then-Ok (byte_address (spelled_address r.to)) _ r.to _ (byte_address-spelled laws r.to fits.2)
     (then-Ok (number_8 (decimal r.class)) _ r.class _ (number_8-decimal laws r.class fits.3) refl)))
+
+pub cost_in-words : (laws : WordLaws) (c : CostPart) → FitsCost c → cost_in (cost_words c) ≡ Ok c
+cost_in-words laws c fits =
+    then-Ok (number_8 (decimal c.slot)) _ c.slot _ (number_8-decimal laws c.slot fits.0)
+    (then-Ok (number_64 (decimal c.nanos)) _ c.nanos _ (number_64-decimal laws c.nanos fits.1) refl)

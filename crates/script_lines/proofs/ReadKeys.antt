@@ -1,5 +1,5 @@
 -- The spelling of a setting is read as it.
-use Rattle.std.proofs.Common.{◌≡◌, ◌<◌, ◌+◌, ◌∷◌, [], ◌==◌, nat_lt, ℕ, Bool, true, false, not, ◌&&◌, List, ◌++◌, length, take, drop, map, Ok, refl, ap, ◌∙◌, decimal, arith}
+use Rattle.std.proofs.Common.{◌≡◌, ◌^◌, ◌<◌, ◌+◌, ◌∷◌, [], ◌==◌, nat_lt, ℕ, Bool, true, false, not, ◌&&◌, List, ◌++◌, length, take, drop, map, None, Ok, refl, sym, ap, ◌∙◌, decimal, arith}
 use Rattle.std.specs.Prelude.{Result}
 use Rattle.std.specs.List.{list_all, position_or_len}
 use Rattle.std.specs.Option.{ok_or}
@@ -16,14 +16,14 @@ use Rattle.damon_types.specs.declared.scheme.Span.{Span}
 use Rattle.damon_types.specs.declared.scheme.Weights.{Weights}
 use Rattle.line_text.specs.Address.{spelled_address}
 use Rattle.line_text.specs.Line.{split_at_byte}
-use Rattle.line_text.specs.Parts.{IsPiece, joined, parts, two_of, three_of}
+use Rattle.line_text.specs.Parts.{IsPiece, joined, one_of, parts, two_of, three_of}
 use Rattle.script_lines.specs.declared.kind.ScriptKind.{ScriptKind}
 use Rattle.script_lines.specs.declared.kind.ScriptKind.TheVariants.{Form}
 use Rattle.script_lines.specs.declared.keys.Key.{Key}
 use Rattle.script_lines.specs.declared.keys.Setting.{Setting}
-use Rattle.script_lines.specs.declared.keys.Setting.TheVariants.{Size as SizeOf, Count as CountOf, Age as AgeOf, Quota as QuotaOf, Weights as WeightsOf, Prefer as PreferOf, Marks as MarksOf, Filter as FilterOf}
+use Rattle.script_lines.specs.declared.keys.Setting.TheVariants.{Size as SizeOf, Count as CountOf, Age as AgeOf, Quota as QuotaOf, Time as TimeOf, Weights as WeightsOf, Prefer as PreferOf, Marks as MarksOf, Filter as FilterOf}
 use Rattle.script_lines.specs.Fits.{FitSettings, FitsKind, FitsMarks, FitsQuota, FitsSetting, FitsSpan, FitsWeights}
-use Rattle.script_lines.specs.Keys.{answer_of, filter_of, key_and_value, key_named, kind_of, marks_of, plain_name, prefer_of, quota_of, setting_for, setting_of, settings_of, span_in, weights_of}
+use Rattle.script_lines.specs.Keys.{answer_of, filter_of, key_and_value, key_named, kind_of, marks_of, plain_name, prefer_of, quota_of, setting_for, setting_of, settings_of, span_in, time_of, weights_of}
 use Rattle.script_lines.specs.Laws.{WordLaws}
 use Rattle.script_lines.specs.Refusal.{◌>>=◌}
 use Rattle.script_lines.specs.Separators.{colon, comma, dash, equals_sign}
@@ -42,6 +42,12 @@ two_parts-joined laws separator other a b first second =
     (laws.pieces separator a (b ∷ [])
     (All-from_recursion (IsPiece separator) (a ∷ b ∷ []) (field_piece separator other a first, (field_piece separator other b second, tt))))
 
+-- one field is not taken apart
+one_part : (laws : WordLaws) (separator : ℕ) → is_field_byte separator ≡ false → (a : List ℕ) → IsField a → ok_or (one_of (parts separator a)) Form ≡ Ok a
+one_part laws separator other a field =
+    ap (λ pieces. ok_or (one_of pieces) Form)
+    (laws.pieces separator a [] (All-from_recursion (IsPiece separator) (a ∷ []) (field_piece separator other a field, tt)))
+
 -- three fields with a separator between each two are taken apart again
 three_parts-joined : (laws : WordLaws) (separator : ℕ) → is_field_byte separator ≡ false → (a b c : List ℕ) → IsField a → IsField b → IsField c
     → ok_or (three_of (parts separator (joined separator (a ∷ b ∷ c ∷ [])))) Form ≡ Ok (a, b, c)
@@ -58,12 +64,17 @@ span_in-spelled laws s fits =
     (then-Ok (number_32 (decimal s.low)) _ s.low _ (number_32-decimal laws s.low fits.0)
     (then-Ok (number_32 (decimal s.high)) _ s.high _ (number_32-decimal laws s.high fits.1) refl))
 
-quota_of-spelled : (laws : WordLaws) (q : Quota) → FitsQuota q → quota_of (spelled_quota q) ≡ Ok q
-quota_of-spelled laws q fits =
+quota_of-spelled : (laws : WordLaws) (q : Quota) → FitsQuota q → q.time ≡ None → quota_of (spelled_quota q) ≡ Ok q
+quota_of-spelled laws q fits bare =
     then-Ok (ok_or (two_of (parts comma (spelled_quota q))) Form) _ (decimal q.bytes, decimal q.reset) _
     (two_parts-joined laws comma refl (decimal q.bytes) (decimal q.reset) (decimal_field laws q.bytes fits.0) (field_32 laws q.reset fits.1))
     (then-Ok (number_64 (decimal q.bytes)) _ q.bytes _ (number_64-decimal laws q.bytes fits.0)
-    (then-Ok (number_32 (decimal q.reset)) _ q.reset _ (number_32-decimal laws q.reset fits.1) refl))
+    (then-Ok (number_32 (decimal q.reset)) _ q.reset _ (number_32-decimal laws q.reset fits.1) (ap (λ t. Ok (record { bytes = q.bytes; reset = q.reset; time = t })) (sym bare))))
+
+time_of-spelled : (laws : WordLaws) (time : ℕ) → time < 2 ^ 64 → time_of (decimal time) ≡ Ok time
+time_of-spelled laws time fits =
+    then-Ok (ok_or (one_of (parts comma (decimal time))) Form) _ (decimal time) _ (one_part laws comma refl (decimal time) (decimal_field laws time fits))
+    (number_64-decimal laws time fits)
 
 weights_of-spelled : (laws : WordLaws) (w : Weights) → FitsWeights w → weights_of (spelled_weights w) ≡ Ok w
 weights_of-spelled laws w fits =
@@ -160,6 +171,7 @@ setting_value (SizeOf span) = spelled_span span
 setting_value (CountOf span) = spelled_span span
 setting_value (AgeOf span) = spelled_span span
 setting_value (QuotaOf quota) = spelled_quota quota
+setting_value (TimeOf time) = decimal time
 setting_value (WeightsOf weights) = spelled_weights weights
 setting_value (PreferOf prefer) = spelled_prefer prefer
 setting_value (MarksOf marks) = spelled_marks marks
@@ -169,7 +181,8 @@ pub setting_for-spelled : (laws : WordLaws) (x : Setting) → FitsSetting x → 
 setting_for-spelled laws (SizeOf span) fits = then-Ok (span_in (spelled_span span)) _ span _ (span_in-spelled laws span fits) refl
 setting_for-spelled laws (CountOf span) fits = then-Ok (span_in (spelled_span span)) _ span _ (span_in-spelled laws span fits) refl
 setting_for-spelled laws (AgeOf span) fits = then-Ok (span_in (spelled_span span)) _ span _ (span_in-spelled laws span fits) refl
-setting_for-spelled laws (QuotaOf quota) fits = then-Ok (quota_of (spelled_quota quota)) _ quota _ (quota_of-spelled laws quota fits) refl
+setting_for-spelled laws (QuotaOf quota) fits = then-Ok (quota_of (spelled_quota quota)) _ quota _ (quota_of-spelled laws quota fits.0 fits.1) refl
+setting_for-spelled laws (TimeOf time) fits = then-Ok (time_of (decimal time)) _ time _ (time_of-spelled laws time fits) refl
 setting_for-spelled laws (WeightsOf weights) fits = then-Ok (weights_of (spelled_weights weights)) _ weights _ (weights_of-spelled laws weights fits) refl
 setting_for-spelled laws (PreferOf prefer) fits = then-Ok (prefer_of (spelled_prefer prefer)) _ prefer _ (prefer_of-spelled prefer) refl
 setting_for-spelled laws (MarksOf marks) fits = then-Ok (marks_of (spelled_marks marks)) _ marks _ (marks_of-spelled laws marks fits) refl
@@ -188,6 +201,7 @@ key_and_value-spelled (SizeOf span) = keyed (spelled_setting (SizeOf span)) 4 _ 
 key_and_value-spelled (CountOf span) = keyed (spelled_setting (CountOf span)) 5 _ refl (omega arith) refl
 key_and_value-spelled (AgeOf span) = keyed (spelled_setting (AgeOf span)) 3 _ refl (omega arith) refl
 key_and_value-spelled (QuotaOf quota) = keyed (spelled_setting (QuotaOf quota)) 5 _ refl (omega arith) refl
+key_and_value-spelled (TimeOf time) = keyed (spelled_setting (TimeOf time)) 4 _ refl (omega arith) refl
 key_and_value-spelled (WeightsOf weights) = keyed (spelled_setting (WeightsOf weights)) 7 _ refl (omega arith) refl
 key_and_value-spelled (PreferOf prefer) = keyed (spelled_setting (PreferOf prefer)) 6 _ refl (omega arith) refl
 key_and_value-spelled (MarksOf marks) = keyed (spelled_setting (MarksOf marks)) 5 _ refl (omega arith) refl

@@ -6,12 +6,14 @@ use Rattle.std.specs.List.{list_all}
 use Rattle.std.proofs.lemmas.Bool.Decides.{nat_tests}
 use Rattle.damon_types.specs.declared.attrs.Attrs.{Attrs}
 use Rattle.damon_types.specs.declared.range.RangeSpec.{RangeSpec}
+use Rattle.damon_types.specs.declared.scheme.CostPart.{CostPart}
 use Rattle.damon_types.specs.declared.scheme.Scheme.{Scheme}
 use Rattle.damon_types.specs.declared.scheme.SlotChange.{SlotChange}
 use Rattle.damon_types.specs.declared.space.SpaceFault.{SpaceFault}
 use Rattle.damon_types.specs.declared.space.Target.{Target}
 use Rattle.damon_types.specs.Attrs.{checked_attrs}
-use Rattle.damon_types.specs.Scheme.{checked_scheme}
+use Rattle.damon_types.specs.declared.scheme.Version.{Version}
+use Rattle.damon_types.specs.Scheme.{checked_in}
 use Rattle.std.specs.Result.{result_and}
 use Rattle.damon_types.specs.Space.{checked, checked_targets_from, checked_target}
 use Rattle.line_text.specs.Address.{spelled_address}
@@ -21,13 +23,13 @@ use Rattle.script_lines.specs.declared.kind.ScriptKind.{ScriptKind}
 use Rattle.script_lines.specs.declared.kind.ScriptKind.TheVariants.{Limit, Attrs as BadAttrs, OverCap, Range as BadRange, RangesOverMax, Scheme as BadScheme, Repeated}
 use Rattle.script_lines.specs.declared.setup.Frame.{Frame}
 use Rattle.script_lines.specs.Fields.{attrs_in, range_in}
-use Rattle.script_lines.specs.Fits.{FitsAttrs, FitsRange}
+use Rattle.script_lines.specs.Fits.{FitsAttrs, FitsCost, FitsRange}
 use Rattle.script_lines.specs.Head.{attrs_line, cap_line, is_changed, limited, one_target, range_line, scheme_line, seed_line, target_in, target_line, unit_line}
 use Rattle.script_lines.specs.Keys.{scheme_in}
 use Rattle.script_lines.specs.Laws.{GivesScheme, IsScheme, WordLaws}
 use Rattle.script_lines.specs.Blocks.{passes_line}
 use Rattle.script_lines.specs.Refusal.{◌>>=◌, only_if, refused_as}
-use Rattle.script_lines.specs.Spelling.{attrs_words, range_words, scheme_words, spelled_attrs, spelled_cap, spelled_passes, spelled_range, spelled_seed, spelled_target, spelled_unit, target_words}
+use Rattle.script_lines.specs.Spelling.{attrs_words, cost_words, range_words, scheme_words, spelled_attrs, spelled_cap, spelled_passes, spelled_range, spelled_seed, spelled_target, spelled_unit, target_words}
 use Rattle.script_lines.specs.Words.{arguments, number_32, number_64, one_word, same_word}
 use Rattle.script_lines.proofs.PlainWords.{address_field, arguments-spaced, decimal_field, field_8, field_32, field_word, is_plain_word}
 use Rattle.script_lines.proofs.ReadFields.{attrs_in-words, number_32-decimal, number_64-decimal, range_in-words, target_in-words}
@@ -139,24 +141,27 @@ range_line-spelled laws f targets before r fits sound few =
     (then-Ok (range_in (range_words r)) _ r _ (range_in-words laws r fits)
     (then-Ok (refused_as BadRange (checked_next targets f.unit f.cap before r)) _ tt _ (ap (refused_as BadRange) sound) (ap (λ t. only_if t RangesOverMax r) within)))
 
+pub cost_words-plain : (laws : WordLaws) (c : CostPart) → FitsCost c → list_all is_plain_word (cost_words c) ≡ true
+cost_words-plain laws c fits = both_true (field_word (decimal c.slot) (field_8 laws c.slot fits.0)) (both_true (field_word (decimal c.nanos) (decimal_field laws c.nanos fits.1)) refl)
+
 -- a line that says a scheme has words that are read as that scheme
-pub scheme-read : {A : Type 0} (laws : WordLaws) (line : List ℕ) (slot : ℕ) (scheme : Scheme) (read : List (List ℕ) → Result A ScriptKind) (said : Result A ScriptKind)
-    → IsScheme line slot scheme → ((words : List (List ℕ)) → scheme_in words ≡ Ok (slot, scheme) → read words ≡ said) → (arguments (codes "scheme") line >>= read) ≡ said
-scheme-read laws line slot scheme read said is reads =
+pub scheme-read : {A : Type 0} (laws : WordLaws) (version : Version) (line : List ℕ) (slot : ℕ) (scheme : Scheme) (read : List (List ℕ) → Result A ScriptKind) (said : Result A ScriptKind)
+    → IsScheme version line slot scheme → ((words : List (List ℕ)) → scheme_in version words ≡ Ok (slot, scheme) → read words ≡ said) → (arguments (codes "scheme") line >>= read) ≡ said
+scheme-read laws version line slot scheme read said is reads =
     let words = scheme_words slot is.action is.settings in
     ap (λ l. arguments (codes "scheme") l >>= read) is.spelled
     ∙ arguments-read laws (codes "scheme") words read said refl (scheme_words-plain laws slot is.action is.settings is.small is.fit)
-    (reads words (scheme_in-words laws slot is.action is.settings scheme is.small is.fit is.in_order is.made))
+    (reads words (scheme_in-words laws version slot is.action is.settings scheme is.small is.fit is.in_order is.made))
 
 -- the first change of a slot is accepted
 first_change : (before : List SlotChange) (change : SlotChange) (scheme : Scheme) → change.scheme ≡ Some scheme → is_changed change.slot before ≡ false
     → only_if (not (is_changed change.slot before)) Repeated (record { slot = change.slot; scheme = Some scheme }) ≡ Ok change
 first_change before change scheme is fresh = rw (fresh, ← is) refl
 
-pub scheme_line-spelled : (laws : WordLaws) (before : List SlotChange) (line : List ℕ) (change : SlotChange) (scheme : Scheme) → GivesScheme line change
-    → change.scheme ≡ Some scheme → checked_scheme change.slot scheme ≡ Ok tt → is_changed change.slot before ≡ false → scheme_line before line ≡ Ok change
-scheme_line-spelled laws before line change scheme gives is sound fresh =
+pub scheme_line-spelled : (laws : WordLaws) (version : Version) (before : List SlotChange) (line : List ℕ) (change : SlotChange) (scheme : Scheme) → GivesScheme version line change
+    → change.scheme ≡ Some scheme → checked_in version change.slot scheme ≡ Ok tt → is_changed change.slot before ≡ false → scheme_line version before line ≡ Ok change
+scheme_line-spelled laws version before line change scheme gives is sound fresh =
     let same : gives.0 ≡ scheme = cc in
-    scheme-read laws line change.slot scheme _ (Ok change) (subst (IsScheme line change.slot) same gives.2) (λ words said.
-    then-Ok (scheme_in words) _ (change.slot, scheme) (Ok change) said
-    (then-Ok (refused_as BadScheme (checked_scheme change.slot scheme)) _ tt (Ok change) (ap (refused_as BadScheme) sound) (first_change before change scheme is fresh)))
+    scheme-read laws version line change.slot scheme _ (Ok change) (subst (IsScheme version line change.slot) same gives.2) (λ words said.
+    then-Ok (scheme_in version words) _ (change.slot, scheme) (Ok change) said
+    (then-Ok (refused_as BadScheme (checked_in version change.slot scheme)) _ tt (Ok change) (ap (refused_as BadScheme) sound) (first_change before change scheme is fresh)))

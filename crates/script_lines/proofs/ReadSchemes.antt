@@ -1,5 +1,5 @@
 -- The spelling of a scheme is read as it.
-use Rattle.std.proofs.Common.{◌≡◌, inl, inr, ◌^◌, ◌<◌, ◌∷◌, [], ◌==◌, ◌&&◌, ◌||◌, nat_lt, ℕ, Bool, true, false, not, List, ◌++◌, map, Option, Some, None, Ok, refl, sym, ap, ◌∙◌, decimal, arith}
+use Rattle.std.proofs.Common.{◌≡◌, inl, inr, ◌^◌, ◌<◌, ◌∷◌, [], ◌==◌, ◌&&◌, ◌||◌, nat_lt, ℕ, Bool, true, false, not, List, ◌++◌, map, Option, Some, None, option_map, Ok, refl, sym, ap, ◌∙◌, decimal, arith}
 use Rattle.std.specs.Cmp.Derive.{both_true}
 use Rattle.std.specs.List.{list_all}
 use Rattle.std.specs.Option.{ok_or}
@@ -9,19 +9,21 @@ use Rattle.damon_types.specs.declared.scheme.Action.TheVariants.{Stat, Willneed,
 use Rattle.damon_types.specs.declared.scheme.Prefer.{Prefer}
 use Rattle.damon_types.specs.declared.scheme.Prefer.TheVariants.{Hot, Cold}
 use Rattle.damon_types.specs.declared.scheme.Scheme.{Scheme}
+use Rattle.damon_types.specs.declared.scheme.Version.{Version}
+use Rattle.damon_types.specs.declared.scheme.Version.TheVariants.{One, Two}
 use Rattle.script_lines.specs.declared.kind.ScriptKind.TheVariants.{Form}
 use Rattle.script_lines.specs.declared.keys.Key.{Key}
-use Rattle.script_lines.specs.declared.keys.Key.TheVariants.{Size, Count, Age, Quota as QuotaKey, Weights as WeightsKey, Prefer as PreferKey, Marks as MarksKey, Filter as FilterKey}
+use Rattle.script_lines.specs.declared.keys.Key.TheVariants.{Size, Count, Age, Quota as QuotaKey, Time as TimeKey, Weights as WeightsKey, Prefer as PreferKey, Marks as MarksKey, Filter as FilterKey}
 use Rattle.script_lines.specs.declared.keys.Setting.{Setting}
-use Rattle.script_lines.specs.declared.keys.Setting.TheVariants.{Size as SizeOf, Count as CountOf, Age as AgeOf, Quota as QuotaOf, Weights as WeightsOf, Prefer as PreferOf, Marks as MarksOf, Filter as FilterOf}
+use Rattle.script_lines.specs.declared.keys.Setting.TheVariants.{Size as SizeOf, Count as CountOf, Age as AgeOf, Quota as QuotaOf, Time as TimeOf, Weights as WeightsOf, Prefer as PreferOf, Marks as MarksOf, Filter as FilterOf}
 use Rattle.script_lines.specs.Fits.{FitSettings, FitsSetting}
-use Rattle.script_lines.specs.Keys.{action_of, are_formed, is_formed, is_misformed, key_and_value, may_follow, place_in, scheme_in, settings_of, with_settings}
+use Rattle.script_lines.specs.Keys.{action_of, are_formed, comes_later, is_formed, is_misformed, key_and_value, may_be_timed, may_follow, place_in, scheme_in, settings_of, with_settings}
 use Rattle.script_lines.specs.Laws.{WordLaws}
 use Rattle.script_lines.specs.Refusal.{only_if}
 use Rattle.script_lines.specs.Separators.{colon, comma}
 use Rattle.script_lines.specs.Spelling.{kind_name, kind_value, scheme_words, spelled_action, spelled_answer, spelled_prefer, spelled_setting, spelled_side}
 use Rattle.script_lines.specs.Words.{number_8}
-use Rattle.script_lines.specs.Settings.{AreInOrder, MayFollow, default_scheme, key_of, key_place, settled}
+use Rattle.script_lines.specs.Settings.{AreAfter, AreInOrder, ComesLater, IsTimed, MayFollow, default_scheme, key_of, key_place, settled}
 use Rattle.script_lines.proofs.PlainWords.{IsField, decimal_field, field_8, field_16, field_32, field_bytes, field_word, is_plain_word, is_word_byte, list_all-both, list_all-weaker}
 use Rattle.script_lines.proofs.ReadFields.{number_8-decimal}
 use Rattle.script_lines.proofs.ReadKeys.{answer_part, is_part_byte, key_and_value-spelled, name_part, setting_for-spelled, setting_value, settings_of-spelled, value_part}
@@ -38,75 +40,127 @@ action_of-spelled LruPrio = refl
 action_of-spelled LruDeprio = refl
 
 -- only the filter has the last place
-last_place : (key : Key) → (key_place key == 7) ≡ true → key ≡ FilterKey
+last_place : (key : Key) → (key_place key == 8) ≡ true → key ≡ FilterKey
 last_place Size e = absurd cc
 last_place Count e = absurd cc
 last_place Age e = absurd cc
 last_place QuotaKey e = absurd cc
+last_place TimeKey e = absurd cc
 last_place WeightsKey e = absurd cc
 last_place PreferKey e = absurd cc
 last_place MarksKey e = absurd cc
 last_place FilterKey e = refl
 
--- a setting that may follow another passes the test of its key
-may_follow-after : (earlier later : Setting) → MayFollow earlier later → may_follow (Some (key_place (key_of earlier))) (key_of later) ≡ true
-may_follow-after earlier later (inl less) =
-    let rises : nat_lt (key_place (key_of earlier)) (key_place (key_of later)) ≡ true = grind (arith, nat_tests) in
-    ap (λ t. t || ((key_place (key_of earlier) == 7) && (key_place (key_of later) == 7))) rises
-may_follow-after earlier later (inr (first, second)) = λ i. may_follow (Some (key_place (first i))) (second i)
+-- only the quota has its place
+quota_place : (key : Key) → (key_place key == 3) ≡ true → key ≡ QuotaKey
+quota_place Size e = absurd cc
+quota_place Count e = absurd cc
+quota_place Age e = absurd cc
+quota_place QuotaKey e = refl
+quota_place TimeKey e = absurd cc
+quota_place WeightsKey e = absurd cc
+quota_place PreferKey e = absurd cc
+quota_place MarksKey e = absurd cc
+quota_place FilterKey e = absurd cc
 
--- a setting whose key passes the test may follow the other
-after_may_follow : (earlier later : Setting) → may_follow (Some (key_place (key_of earlier))) (key_of later) ≡ true → MayFollow earlier later
-after_may_follow earlier later e = by (nat_lt (key_place (key_of earlier)) (key_place (key_of later))) refl e
+-- the place of the key of a setting, if there is one
+abbrev place_of : Option Setting → Option ℕ
+place_of last = option_map (λ s. key_place (key_of s)) last
+
+-- a setting that comes later passes the test of its key
+comes_later-after : (earlier : Option Setting) (later : Setting) → ComesLater earlier later → comes_later (place_of earlier) (key_of later) ≡ true
+comes_later-after None later after = refl
+comes_later-after (Some earlier) later (inl less) =
+    let rises : nat_lt (key_place (key_of earlier)) (key_place (key_of later)) ≡ true = grind (arith, nat_tests) in
+    ap (λ t. t || ((key_place (key_of earlier) == 8) && (key_place (key_of later) == 8))) rises
+comes_later-after (Some earlier) later (inr (first, second)) = λ i. comes_later (Some (key_place (first i))) (second i)
+
+-- a setting whose key passes the test comes later
+after_comes_later : (earlier : Option Setting) (later : Setting) → comes_later (place_of earlier) (key_of later) ≡ true → ComesLater earlier later
+after_comes_later None later e = tt
+after_comes_later (Some earlier) later e = by (nat_lt (key_place (key_of earlier)) (key_place (key_of later))) refl e
   where
     by : (rises : Bool) → nat_lt (key_place (key_of earlier)) (key_place (key_of later)) ≡ rises
-        → (rises || ((key_place (key_of earlier) == 7) && (key_place (key_of later) == 7))) ≡ true → MayFollow earlier later
+        → (rises || ((key_place (key_of earlier) == 8) && (key_place (key_of later) == 8))) ≡ true → ComesLater (Some earlier) later
     by true is passes = let less : key_place (key_of earlier) < key_place (key_of later) = grind (arith, nat_tests) in inl less
     by false is both =
-        inr (last_place (key_of earlier) (first_true (key_place (key_of earlier) == 7) _ both), last_place (key_of later) (second_true (key_place (key_of earlier) == 7) _ both))
+        inr (last_place (key_of earlier) (first_true (key_place (key_of earlier) == 8) _ both), last_place (key_of later) (second_true (key_place (key_of earlier) == 8) _ both))
+
+-- where a time may stand, its test is passed
+may_be_timed-after : (version : Version) (earlier : Option Setting) → IsTimed version earlier → may_be_timed version (place_of earlier) ≡ true
+may_be_timed-after One earlier (two, quota) = absurd cc
+may_be_timed-after Two None (two, quota) = absurd cc
+may_be_timed-after Two (Some s) (two, quota) = let same : key_of s ≡ QuotaKey = cc in ap (λ k. key_place k == 3) same
+
+-- where the test is passed, a time may stand
+after_may_be_timed : (version : Version) (earlier : Option Setting) → may_be_timed version (place_of earlier) ≡ true → IsTimed version earlier
+after_may_be_timed One earlier e = absurd cc
+after_may_be_timed Two None e = absurd cc
+after_may_be_timed Two (Some s) e = (refl, ap (λ k. Some k) (quota_place (key_of s) e))
+
+-- only a time wants the quota before it
+timed-passes : (version : Version) (earlier : Option Setting) (later : Setting) → (key_of later ≡ TimeKey → IsTimed version earlier)
+    → (not (key_place (key_of later) == 4) || may_be_timed version (place_of earlier)) ≡ true
+timed-passes version earlier (SizeOf x) timed = refl
+timed-passes version earlier (CountOf x) timed = refl
+timed-passes version earlier (AgeOf x) timed = refl
+timed-passes version earlier (QuotaOf x) timed = refl
+timed-passes version earlier (TimeOf x) timed = may_be_timed-after version earlier (timed refl)
+timed-passes version earlier (WeightsOf x) timed = refl
+timed-passes version earlier (PreferOf x) timed = refl
+timed-passes version earlier (MarksOf x) timed = refl
+timed-passes version earlier (FilterOf x) timed = refl
+
+-- a setting that may follow another passes the test of its key
+may_follow-after : (version : Version) (earlier : Option Setting) (later : Setting) → MayFollow version earlier later
+    → may_follow version (place_of earlier) (key_of later) ≡ true
+may_follow-after version earlier later follows =
+    both_true (timed-passes version earlier later follows.timed) (comes_later-after earlier later follows.comes_later)
+
+-- a setting whose key passes the test may follow the other
+after_may_follow : (version : Version) (earlier : Option Setting) (later : Setting) → may_follow version (place_of earlier) (key_of later) ≡ true
+    → MayFollow version earlier later
+after_may_follow version earlier later e =
+    let passes = first_true (not (key_place (key_of later) == 4) || may_be_timed version (place_of earlier)) _ e in
+    record {
+      comes_later = after_comes_later earlier later (second_true (not (key_place (key_of later) == 4) || may_be_timed version (place_of earlier)) _ e);
+      timed = λ is. after_may_be_timed version earlier (sym (ap (λ k. not (key_place k == 4) || may_be_timed version (place_of earlier)) is) ∙ passes);
+    }
 
 -- the spelling of a setting that may follow has the right form
-is_formed-spelled : (laws : WordLaws) (last : Option ℕ) (x : Setting) → FitsSetting x → may_follow last (key_of x) ≡ true → is_formed last (key_and_value (spelled_setting x)) ≡ true
-is_formed-spelled laws last x fits follows =
-    ap (is_formed last) (key_and_value-spelled x) ∙ both_true follows (ap (λ r. not (is_misformed r)) (setting_for-spelled laws x fits))
-
-are_formed_after : (laws : WordLaws) (last : Setting) (xs : List Setting) → AreInOrder (last ∷ xs) → FitSettings xs
-    → are_formed (Some (key_place (key_of last))) (map spelled_setting xs) ≡ true
-are_formed_after laws last [] order fit = refl
-are_formed_after laws last (x ∷ xs) order fit =
-    both_true (is_formed-spelled laws (Some (key_place (key_of last))) x fit.0 (may_follow-after last x order.0))
-    (ap (λ r. are_formed (place_in r) (map spelled_setting xs)) (key_and_value-spelled x) ∙ are_formed_after laws x xs order.1 fit.1)
+is_formed-spelled : (laws : WordLaws) (version : Version) (last : Option ℕ) (x : Setting) → FitsSetting x → may_follow version last (key_of x) ≡ true
+    → is_formed version last (key_and_value (spelled_setting x)) ≡ true
+is_formed-spelled laws version last x fits follows =
+    ap (is_formed version last) (key_and_value-spelled x) ∙ both_true follows (ap (λ r. not (is_misformed r)) (setting_for-spelled laws x fits))
 
 -- the spellings of settings in order have the right form
-are_formed-spelled : (laws : WordLaws) (xs : List Setting) → AreInOrder xs → FitSettings xs → are_formed None (map spelled_setting xs) ≡ true
-are_formed-spelled laws [] order fit = refl
-are_formed-spelled laws (x ∷ xs) order fit =
-    both_true (is_formed-spelled laws None x fit.0 refl)
-    (ap (λ r. are_formed (place_in r) (map spelled_setting xs)) (key_and_value-spelled x) ∙ are_formed_after laws x xs order fit.1)
-
-in_order_after : (last : Setting) (xs : List Setting) → are_formed (Some (key_place (key_of last))) (map spelled_setting xs) ≡ true → AreInOrder (last ∷ xs)
-in_order_after last [] formed = tt
-in_order_after last (x ∷ xs) formed =
-    let said = key_and_value-spelled x in
-    let first = first_true (is_formed (Some (key_place (key_of last))) (key_and_value (spelled_setting x))) _ formed in
-    let others = second_true (is_formed (Some (key_place (key_of last))) (key_and_value (spelled_setting x))) _ formed in
-    let follows = first_true (may_follow (Some (key_place (key_of last))) (key_of x)) _ (sym (ap (is_formed (Some (key_place (key_of last)))) said) ∙ first) in
-    (after_may_follow last x follows, in_order_after x xs (sym (ap (λ r. are_formed (place_in r) (map spelled_setting xs)) said) ∙ others))
+are_formed-spelled : (laws : WordLaws) (version : Version) (last : Option Setting) (xs : List Setting) → AreAfter version last xs → FitSettings xs
+    → are_formed version (place_of last) (map spelled_setting xs) ≡ true
+are_formed-spelled laws version last [] order fit = refl
+are_formed-spelled laws version last (x ∷ xs) order fit =
+    both_true (is_formed-spelled laws version (place_of last) x fit.0 (may_follow-after version last x order.0))
+    (ap (λ r. are_formed version (place_in r) (map spelled_setting xs)) (key_and_value-spelled x) ∙ are_formed-spelled laws version (Some x) xs order.1 fit.1)
 
 -- spellings of settings that have the right form are in order
-pub in_order-formed : (xs : List Setting) → are_formed None (map spelled_setting xs) ≡ true → AreInOrder xs
-in_order-formed [] formed = tt
-in_order-formed (x ∷ xs) formed =
-    in_order_after x xs
-    (sym (ap (λ r. are_formed (place_in r) (map spelled_setting xs)) (key_and_value-spelled x)) ∙ second_true (is_formed None (key_and_value (spelled_setting x))) _ formed)
+pub in_order-formed : (version : Version) (last : Option Setting) (xs : List Setting) → are_formed version (place_of last) (map spelled_setting xs) ≡ true
+    → AreAfter version last xs
+in_order-formed version last [] formed = tt
+in_order-formed version last (x ∷ xs) formed =
+    let said = key_and_value-spelled x in
+    let first = first_true (is_formed version (place_of last) (key_and_value (spelled_setting x))) _ formed in
+    let others = second_true (is_formed version (place_of last) (key_and_value (spelled_setting x))) _ formed in
+    let follows = first_true (may_follow version (place_of last) (key_of x)) _ (sym (ap (is_formed version (place_of last)) said) ∙ first) in (
+      after_may_follow version last x follows,
+      in_order-formed version (Some x) xs (sym (ap (λ r. are_formed version (place_in r) (map spelled_setting xs)) said) ∙ others),
+    )
 
 -- the words of a scheme are read as that scheme
-pub scheme_in-words : (laws : WordLaws) (slot : ℕ) (action : Action) (settings : List Setting) (scheme : Scheme) → slot < 2 ^ 8 → FitSettings settings → AreInOrder settings
-    → settled (default_scheme action) settings ≡ Ok scheme → scheme_in (scheme_words slot action settings) ≡ Ok (slot, scheme)
-scheme_in-words laws slot action settings scheme small fit order made =
+pub scheme_in-words : (laws : WordLaws) (version : Version) (slot : ℕ) (action : Action) (settings : List Setting) (scheme : Scheme) → slot < 2 ^ 8 → FitSettings settings → AreInOrder version settings
+    → settled (default_scheme action) settings ≡ Ok scheme → scheme_in version (scheme_words slot action settings) ≡ Ok (slot, scheme)
+scheme_in-words laws version slot action settings scheme small fit order made =
     let keys = map spelled_setting settings in
     then-Ok (ok_or (action_of (spelled_action action)) Form) _ action _ (ap (λ o. ok_or o Form) (action_of-spelled action))
-    (then-Ok (only_if (are_formed None keys) Form (tt {0})) _ tt _ (ap (λ t. only_if t Form (tt {0})) (are_formed-spelled laws settings order fit))
+    (then-Ok (only_if (are_formed version None keys) Form (tt {0})) _ tt _ (ap (λ t. only_if t Form (tt {0})) (are_formed-spelled laws version None settings order fit))
     (then-Ok (number_8 (decimal slot)) _ slot _ (number_8-decimal laws slot small)
     (then-Ok (with_settings (default_scheme action) keys) _ scheme _
     (then-Ok (settings_of keys) (settled (default_scheme action)) settings _ (settings_of-spelled laws settings fit) made) refl)))
@@ -144,7 +198,8 @@ value_bytes : (laws : WordLaws) (x : Setting) → FitsSetting x → list_all is_
 value_bytes laws (SizeOf span) fits = two_bytes (decimal span.low) comma (decimal span.high) refl (field_32 laws span.low fits.0) (field_32 laws span.high fits.1)
 value_bytes laws (CountOf span) fits = two_bytes (decimal span.low) comma (decimal span.high) refl (field_32 laws span.low fits.0) (field_32 laws span.high fits.1)
 value_bytes laws (AgeOf span) fits = two_bytes (decimal span.low) comma (decimal span.high) refl (field_32 laws span.low fits.0) (field_32 laws span.high fits.1)
-value_bytes laws (QuotaOf q) fits = two_bytes (decimal q.bytes) comma (decimal q.reset) refl (decimal_field laws q.bytes fits.0) (field_32 laws q.reset fits.1)
+value_bytes laws (QuotaOf q) fits = two_bytes (decimal q.bytes) comma (decimal q.reset) refl (decimal_field laws q.bytes fits.0.0) (field_32 laws q.reset fits.0.1)
+value_bytes laws (TimeOf time) fits = field_bytes (decimal time) (decimal_field laws time fits)
 value_bytes laws (WeightsOf w) fits =
     three_bytes (decimal w.size) (decimal w.count) (decimal w.age) (field_16 laws w.size fits.0) (field_16 laws w.count fits.1) (field_16 laws w.age fits.2)
 value_bytes laws (PreferOf prefer) fits = prefer_bytes prefer
@@ -160,6 +215,7 @@ setting_word laws (SizeOf span) fits = value_bytes laws (SizeOf span) fits
 setting_word laws (CountOf span) fits = value_bytes laws (CountOf span) fits
 setting_word laws (AgeOf span) fits = value_bytes laws (AgeOf span) fits
 setting_word laws (QuotaOf quota) fits = value_bytes laws (QuotaOf quota) fits
+setting_word laws (TimeOf time) fits = value_bytes laws (TimeOf time) fits
 setting_word laws (WeightsOf weights) fits = value_bytes laws (WeightsOf weights) fits
 setting_word laws (PreferOf prefer) fits = value_bytes laws (PreferOf prefer) fits
 setting_word laws (MarksOf marks) fits = value_bytes laws (MarksOf marks) fits

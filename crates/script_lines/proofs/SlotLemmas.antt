@@ -3,7 +3,8 @@ use Rattle.std.proofs.Common.{◌≡◌, ℕ, Bool, true, false, ◌==◌, List,
 use Rattle.std.specs.List.{list_any}
 use Rattle.damon_types.specs.declared.scheme.Scheme.{Scheme}
 use Rattle.damon_types.specs.declared.scheme.SlotChange.{SlotChange}
-use Rattle.damon_types.specs.Scheme.{checked_scheme}
+use Rattle.damon_types.specs.declared.scheme.Version.{Version}
+use Rattle.damon_types.specs.Scheme.{checked_in}
 use Rattle.live_commit.specs.Slots.{checked_slot, has_scheme, sets}
 use Rattle.script_lines.specs.Head.{is_changed}
 
@@ -19,5 +20,5 @@ sets_none slot (c ∷ changes) none = by (c.slot == slot) (has_scheme c) refl re
     by false false is held none rest = let here = rw is at none in rw (is, held) (rest here)
 
 -- a sound scheme for a slot that was not changed is accepted
-pub checked_slot_accepted : (changes : List SlotChange) (slot : ℕ) (s : Scheme) → checked_scheme slot s ≡ Ok tt → is_changed slot changes ≡ false → checked_slot (length changes) changes (record { slot = slot; scheme = Some s }) ≡ Ok tt
-checked_slot_accepted changes slot s sound other = rw (sound, sets_none slot changes other) refl
+pub checked_slot_accepted : (version : Version) (changes : List SlotChange) (slot : ℕ) (s : Scheme) → checked_in version slot s ≡ Ok tt → is_changed slot changes ≡ false → checked_slot version (length changes) changes (record { slot = slot; scheme = Some s }) ≡ Ok tt
+checked_slot_accepted version changes slot s sound other = rw (sound, sets_none slot changes other) refl

@@ -1,26 +1,27 @@
 -- A line of a body or a commit that is read says what is read.
 use Rattle.std.proofs.Common.{◌≡◌, inl, inr, ◌∷◌, [], ℕ, ◌+◌, ◌-◌, ◌^◌, ◌<◌, true, ◌&&◌, List, codes, Some, None, Ok, refl, ap, subst, ◌∙◌, decimal}
-use Rattle.std.specs.Prelude.{is_none, option_map}
+use Rattle.std.specs.Prelude.{option_map}
 use Rattle.std.specs.Option.{ok_or}
 use Rattle.damon_types.specs.declared.scheme.SlotChange.{SlotChange}
+use Rattle.damon_types.specs.declared.scheme.Version.{Version}
 use Rattle.damon_types.specs.declared.space.Target.{Target}
 use Rattle.damon_types.specs.Space.{page_of}
 use Rattle.line_text.specs.Parts.{joined, two_of, three_of}
 use Rattle.live_commit.specs.Commit.{CommitValue}
 use Rattle.script_lines.specs.declared.part.Part.{Part}
-use Rattle.script_lines.specs.declared.part.Part.TheVariants.{Attrs, Range, Slot, Metric}
+use Rattle.script_lines.specs.declared.part.Part.TheVariants.{Attrs, Range, Slot, Metric, Cost}
 use Rattle.script_lines.specs.declared.kind.ScriptKind.TheVariants.{Form, Limit, Outside}
-use Rattle.script_lines.specs.Body.{are_swept, change_line, drop_line, step_line, sweep_line, touch_line, wants_attrs, wants_slot, word_line}
+use Rattle.script_lines.specs.Body.{are_swept, change_line, drop_line, step_line, sweep_line, touch_line, wants_attrs, wants_cost, wants_metric, wants_slot, word_line}
 use Rattle.script_lines.specs.Command.{CommandValue, Touch, Sweep, Step, Arm, Finish, Show}
-use Rattle.script_lines.specs.Fields.{attrs_in, range_in}
-use Rattle.script_lines.specs.Fits.{FitsAttrs, FitsRange}
+use Rattle.script_lines.specs.Fields.{attrs_in, cost_in, range_in}
+use Rattle.script_lines.specs.Fits.{FitsAttrs, FitsCost, FitsRange}
 use Rattle.script_lines.specs.Head.{limited}
 use Rattle.script_lines.specs.Laws.{EmptiesSlot, IsCommand, IsPart, IsSweep, IsTouch, ReadsOnlyCommands, ReadsOnlyParts, WordLaws, may_come}
 use Rattle.script_lines.specs.Refusal.{◌>>=◌, only_if}
-use Rattle.script_lines.specs.Spelling.{attrs_words, range_words, spelled_sweep, spelled_touch}
+use Rattle.script_lines.specs.Spelling.{attrs_words, cost_words, range_words, spelled_sweep, spelled_touch}
 use Rattle.script_lines.specs.Words.{alone, arguments, begins_with, byte_address, number_8, number_32, one_word}
-use Rattle.script_lines.proofs.SpellFits.{attrs_in-fits, range_in-fits}
-use Rattle.script_lines.proofs.SpellLines.{attrs_in-Ok, limited-Ok, limited-bounds, range_in-Ok, words-Ok, words-have}
+use Rattle.script_lines.proofs.SpellFits.{attrs_in-fits, cost_in-fits, range_in-fits}
+use Rattle.script_lines.proofs.SpellLines.{attrs_in-Ok, cost_in-Ok, limited-Ok, limited-bounds, range_in-Ok, words-Ok, words-have}
 use Rattle.script_lines.proofs.SpellSchemes.{change_line-Ok}
 use Rattle.script_lines.proofs.SpellSteps.{bind-Ok, either_way, second_true, tested_way, ok_or-Ok, only_if-Ok, two_of-Some, three_of-Some}
 use Rattle.script_lines.proofs.SpellWords.{alone-Ok, arguments-Ok, byte_address-Ok, byte_address-small, number_8-Ok, number_8-small, number_32-Ok, number_32-small, one_word-Ok, one_word-has}
@@ -157,47 +158,47 @@ drop_line-Ok laws line change e =
     )
 
 -- a line says a part that may come after those of a commit
-abbrev SaysPart : CommitValue → List ℕ → Part → Type 0
-SaysPart before line part = (may_come before part ≡ true) × IsPart line part
+abbrev SaysPart : Version → CommitValue → List ℕ → Part → Type 0
+SaysPart version before line part = (may_come version before part ≡ true) × IsPart version line part
 
-attrs_part : (laws : WordLaws) (before : CommitValue) (line : List ℕ) (part : Part) → wants_attrs before ≡ true → (arguments (codes "attrs") line >>= attrs_in >>= λ attrs. Ok (Attrs attrs)) ≡ Ok part
-    → SaysPart before line part
-attrs_part laws before line part wanted e =
+attrs_part : (laws : WordLaws) (version : Version) (before : CommitValue) (line : List ℕ) (part : Part) → wants_attrs before ≡ true → (arguments (codes "attrs") line >>= attrs_in >>= λ attrs. Ok (Attrs attrs)) ≡ Ok part
+    → SaysPart version before line part
+attrs_part laws version before line part wanted e =
     let attrs = bind-Ok (arguments (codes "attrs") line >>= attrs_in) _ part e in
     let is : Attrs attrs.0 ≡ part = cc in
-    subst (SaysPart before line) is (
+    subst (SaysPart version before line) is (
       wanted,
       (words-Ok laws (codes "attrs") attrs_in attrs_words (attrs_in-Ok laws) line attrs.0 attrs.1, words-have FitsAttrs (codes "attrs") attrs_in (attrs_in-fits laws) line attrs.0 attrs.1),
     )
 
-range_part : (laws : WordLaws) (before : CommitValue) (line : List ℕ) (part : Part) → wants_slot before ≡ true → (arguments (codes "range") line >>= range_in >>= λ range. Ok (Range range)) ≡ Ok part
-    → SaysPart before line part
-range_part laws before line part wanted e =
+range_part : (laws : WordLaws) (version : Version) (before : CommitValue) (line : List ℕ) (part : Part) → wants_slot before ≡ true → (arguments (codes "range") line >>= range_in >>= λ range. Ok (Range range)) ≡ Ok part
+    → SaysPart version before line part
+range_part laws version before line part wanted e =
     let range = bind-Ok (arguments (codes "range") line >>= range_in) _ part e in
     let is : Range range.0 ≡ part = cc in
-    subst (SaysPart before line) is (
+    subst (SaysPart version before line) is (
       wanted,
       (words-Ok laws (codes "range") range_in range_words (range_in-Ok laws) line range.0 range.1, words-have FitsRange (codes "range") range_in (range_in-fits laws) line range.0 range.1),
     )
 
-scheme_part : (laws : WordLaws) (before : CommitValue) (line : List ℕ) (part : Part) → wants_slot before ≡ true → (change_line line >>= λ change. Ok (Slot change)) ≡ Ok part → SaysPart before line part
-scheme_part laws before line part wanted e =
-    let change = bind-Ok (change_line line) _ part e in
+scheme_part : (laws : WordLaws) (version : Version) (before : CommitValue) (line : List ℕ) (part : Part) → wants_slot before ≡ true → (change_line version line >>= λ change. Ok (Slot change)) ≡ Ok part → SaysPart version before line part
+scheme_part laws version before line part wanted e =
+    let change = bind-Ok (change_line version line) _ part e in
     let is : Slot change.0 ≡ part = cc in
-    subst (SaysPart before line) is (wanted, inl (change_line-Ok laws line change.0 change.1))
+    subst (SaysPart version before line) is (wanted, inl (change_line-Ok laws version line change.0 change.1))
 
-drop_part : (laws : WordLaws) (before : CommitValue) (line : List ℕ) (part : Part) → wants_slot before ≡ true → (drop_line line >>= λ change. Ok (Slot change)) ≡ Ok part → SaysPart before line part
-drop_part laws before line part wanted e =
+drop_part : (laws : WordLaws) (version : Version) (before : CommitValue) (line : List ℕ) (part : Part) → wants_slot before ≡ true → (drop_line line >>= λ change. Ok (Slot change)) ≡ Ok part → SaysPart version before line part
+drop_part laws version before line part wanted e =
     let change = bind-Ok (drop_line line) _ part e in
     let is : Slot change.0 ≡ part = cc in
-    subst (SaysPart before line) is (wanted, inr (drop_line-Ok laws line change.0 change.1))
+    subst (SaysPart version before line) is (wanted, inr (drop_line-Ok laws line change.0 change.1))
 
-metric_part : (laws : WordLaws) (before : CommitValue) (line : List ℕ) (part : Part) → is_none before.metric ≡ true
-    → (arguments (codes "metric") line >>= one_word >>= number_32 >>= λ value. Ok (Metric value)) ≡ Ok part → SaysPart before line part
-metric_part laws before line part wanted e =
+metric_part : (laws : WordLaws) (version : Version) (before : CommitValue) (line : List ℕ) (part : Part) → wants_metric before ≡ true
+    → (arguments (codes "metric") line >>= one_word >>= number_32 >>= λ value. Ok (Metric value)) ≡ Ok part → SaysPart version before line part
+metric_part laws version before line part wanted e =
     let value = bind-Ok (arguments (codes "metric") line >>= one_word >>= number_32) _ part e in
     let is : Metric value.0 ≡ part = cc in
-    subst (SaysPart before line) is (
+    subst (SaysPart version before line) is (
       wanted,
       (
         one_word-Ok laws (codes "metric") number_32 decimal (number_32-Ok laws) line value.0 value.1,
@@ -205,12 +206,23 @@ metric_part laws before line part wanted e =
       ),
     )
 
+cost_part : (laws : WordLaws) (version : Version) (before : CommitValue) (line : List ℕ) (part : Part) → wants_cost version before ≡ true
+    → (arguments (codes "cost") line >>= cost_in >>= λ cost. Ok (Cost cost)) ≡ Ok part → SaysPart version before line part
+cost_part laws version before line part wanted e =
+    let cost = bind-Ok (arguments (codes "cost") line >>= cost_in) _ part e in
+    let is : Cost cost.0 ≡ part = cc in
+    subst (SaysPart version before line) is (
+      wanted,
+      (words-Ok laws (codes "cost") cost_in cost_words (cost_in-Ok laws) line cost.0 cost.1, words-have FitsCost (codes "cost") cost_in (cost_in-fits laws) line cost.0 cost.1),
+    )
+
 -- a line that a part of a commit is read from says that part, and it may come there
 pub part_line-Ok : WordLaws → ReadsOnlyParts
-part_line-Ok laws before line part e =
-    tested_way (begins_with (codes "attrs") line && wants_attrs before) _ _ _ (λ both. attrs_part laws before line part (second_true (begins_with (codes "attrs") line) _ both))
-    (tested_way (begins_with (codes "range") line && wants_slot before) _ _ _ (λ both. range_part laws before line part (second_true (begins_with (codes "range") line) _ both))
-    (tested_way (begins_with (codes "scheme") line && wants_slot before) _ _ _ (λ both. scheme_part laws before line part (second_true (begins_with (codes "scheme") line) _ both))
-    (tested_way (begins_with (codes "drop") line && wants_slot before) _ _ _ (λ both. drop_part laws before line part (second_true (begins_with (codes "drop") line) _ both))
-    (tested_way (begins_with (codes "metric") line && is_none before.metric) _ _ _ (λ both. metric_part laws before line part (second_true (begins_with (codes "metric") line) _ both))
-    (λ no. absurd cc))))) e
+part_line-Ok laws version before line part e =
+    tested_way (begins_with (codes "attrs") line && wants_attrs before) _ _ _ (λ both. attrs_part laws version before line part (second_true (begins_with (codes "attrs") line) _ both))
+    (tested_way (begins_with (codes "range") line && wants_slot before) _ _ _ (λ both. range_part laws version before line part (second_true (begins_with (codes "range") line) _ both))
+    (tested_way (begins_with (codes "scheme") line && wants_slot before) _ _ _ (λ both. scheme_part laws version before line part (second_true (begins_with (codes "scheme") line) _ both))
+    (tested_way (begins_with (codes "drop") line && wants_slot before) _ _ _ (λ both. drop_part laws version before line part (second_true (begins_with (codes "drop") line) _ both))
+    (tested_way (begins_with (codes "metric") line && wants_metric before) _ _ _ (λ both. metric_part laws version before line part (second_true (begins_with (codes "metric") line) _ both))
+    (tested_way (begins_with (codes "cost") line && wants_cost version before) _ _ _ (λ both. cost_part laws version before line part (second_true (begins_with (codes "cost") line) _ both))
+    (λ no. absurd cc)))))) e

@@ -1,24 +1,25 @@
 -- What is read is within its fields.
-use Rattle.std.proofs.Common.{◌≡◌, ◌∷◌, [], ℕ, List, codes, Ok, subst}
+use Rattle.std.proofs.Common.{◌≡◌, ◌∷◌, [], ◌^◌, ◌<◌, ℕ, List, codes, None, Ok, refl, subst}
 use Rattle.std.specs.Option.{ok_or}
 use Rattle.damon_types.specs.declared.attrs.Attrs.{Attrs}
 use Rattle.damon_types.specs.declared.filter.Filter.{Filter}
 use Rattle.damon_types.specs.declared.filter.FilterKind.{FilterKind}
 use Rattle.damon_types.specs.declared.filter.FilterKind.TheVariants.{Addr, Target, Class}
 use Rattle.damon_types.specs.declared.range.RangeSpec.{RangeSpec}
+use Rattle.damon_types.specs.declared.scheme.CostPart.{CostPart}
 use Rattle.damon_types.specs.declared.scheme.Marks.{Marks}
 use Rattle.damon_types.specs.declared.scheme.Quota.{Quota}
 use Rattle.damon_types.specs.declared.scheme.Span.{Span}
 use Rattle.damon_types.specs.declared.scheme.Weights.{Weights}
-use Rattle.line_text.specs.Parts.{parts, two_of, three_of, four_of}
+use Rattle.line_text.specs.Parts.{one_of, parts, two_of, three_of, four_of}
 use Rattle.script_lines.specs.declared.kind.ScriptKind.TheVariants.{Form}
 use Rattle.script_lines.specs.declared.keys.Key.{Key}
-use Rattle.script_lines.specs.declared.keys.Key.TheVariants.{Size, Count, Age, Quota as QuotaKey, Weights as WeightsKey, Prefer as PreferKey, Marks as MarksKey, Filter as FilterKey}
+use Rattle.script_lines.specs.declared.keys.Key.TheVariants.{Size, Count, Age, Quota as QuotaKey, Time as TimeKey, Weights as WeightsKey, Prefer as PreferKey, Marks as MarksKey, Filter as FilterKey}
 use Rattle.script_lines.specs.declared.keys.Setting.{Setting}
-use Rattle.script_lines.specs.declared.keys.Setting.TheVariants.{Size as SizeOf, Count as CountOf, Age as AgeOf, Quota as QuotaOf, Weights as WeightsOf, Prefer as PreferOf, Marks as MarksOf, Filter as FilterOf}
-use Rattle.script_lines.specs.Fields.{attrs_in, range_in}
-use Rattle.script_lines.specs.Fits.{FitSettings, FitsAttrs, FitsKind, FitsMarks, FitsQuota, FitsRange, FitsSetting, FitsSpan, FitsWeights}
-use Rattle.script_lines.specs.Keys.{addr_of, answer_of, filter_of, key_and_value, kind_of, marks_of, plain_name, prefer_of, quota_of, setting_for, setting_of, settings_of, span_in, weights_of}
+use Rattle.script_lines.specs.declared.keys.Setting.TheVariants.{Size as SizeOf, Count as CountOf, Age as AgeOf, Quota as QuotaOf, Time as TimeOf, Weights as WeightsOf, Prefer as PreferOf, Marks as MarksOf, Filter as FilterOf}
+use Rattle.script_lines.specs.Fields.{attrs_in, cost_in, range_in}
+use Rattle.script_lines.specs.Fits.{FitSettings, FitsAttrs, FitsCost, FitsKind, FitsMarks, FitsRange, FitsSetting, FitsSpan, FitsWeights}
+use Rattle.script_lines.specs.Keys.{addr_of, answer_of, filter_of, key_and_value, kind_of, marks_of, plain_name, prefer_of, quota_of, setting_for, setting_of, settings_of, span_in, time_of, weights_of}
 use Rattle.script_lines.specs.Laws.{WordLaws}
 use Rattle.script_lines.specs.Refusal.{◌>>=◌}
 use Rattle.script_lines.specs.Separators.{colon, comma, dash}
@@ -50,6 +51,14 @@ range_in-fits laws words range e =
       number_8-small laws fields.0.3 class.0 class.1,
     )
 
+pub cost_in-fits : (laws : WordLaws) (words : List (List ℕ)) (cost : CostPart) → cost_in words ≡ Ok cost → FitsCost cost
+cost_in-fits laws words cost e =
+    let fields = bind-Ok (ok_or (two_of words) Form) _ cost e in
+    let slot = bind-Ok (number_8 fields.0.0) _ cost fields.2 in
+    let nanos = bind-Ok (number_64 fields.0.1) _ cost slot.2 in
+    let is : record { slot = slot.0; nanos = nanos.0 } ≡ cost = cc in
+    subst FitsCost is (number_8-small laws fields.0.0 slot.0 slot.1, number_64-small laws fields.0.1 nanos.0 nanos.1)
+
 span_in-fits : (laws : WordLaws) (value : List ℕ) (span : Span) → span_in value ≡ Ok span → FitsSpan span
 span_in-fits laws value span e =
     let ends = bind-Ok (ok_or (two_of (parts comma value)) Form) _ span e in
@@ -58,13 +67,19 @@ span_in-fits laws value span e =
     let is : record { low = low.0; high = high.0 } ≡ span = cc in
     subst FitsSpan is (number_32-small laws ends.0.0 low.0 low.1, number_32-small laws ends.0.1 high.0 high.1)
 
-quota_of-fits : (laws : WordLaws) (value : List ℕ) (quota : Quota) → quota_of value ≡ Ok quota → FitsQuota quota
+quota_of-fits : (laws : WordLaws) (value : List ℕ) (quota : Quota) → quota_of value ≡ Ok quota → FitsSetting (QuotaOf quota)
 quota_of-fits laws value quota e =
     let fields = bind-Ok (ok_or (two_of (parts comma value)) Form) _ quota e in
     let bytes = bind-Ok (number_64 fields.0.0) _ quota fields.2 in
     let reset = bind-Ok (number_32 fields.0.1) _ quota bytes.2 in
-    let is : record { bytes = bytes.0; reset = reset.0 } ≡ quota = cc in
-    subst FitsQuota is (number_64-small laws fields.0.0 bytes.0 bytes.1, number_32-small laws fields.0.1 reset.0 reset.1)
+    let is : record { bytes = bytes.0; reset = reset.0; time = None } ≡ quota = cc in
+    let P : Quota → Type 0 = λ q. FitsSetting (QuotaOf q) in
+    subst P is ((number_64-small laws fields.0.0 bytes.0 bytes.1, number_32-small laws fields.0.1 reset.0 reset.1, tt), refl)
+
+time_of-fits : (laws : WordLaws) (value : List ℕ) (time : ℕ) → time_of value ≡ Ok time → time < 2 ^ 64
+time_of-fits laws value time e =
+    let word = bind-Ok (ok_or (one_of (parts comma value)) Form) _ time e in
+    number_64-small laws word.0 time word.2
 
 weights_of-fits : (laws : WordLaws) (value : List ℕ) (weights : Weights) → weights_of value ≡ Ok weights → FitsWeights weights
 weights_of-fits laws value weights e =
@@ -136,6 +151,10 @@ setting_for-fits laws QuotaKey value setting e =
     let x = bind-Ok (quota_of value) _ setting e in
     let is : QuotaOf x.0 ≡ setting = cc in
     subst FitsSetting is (quota_of-fits laws value x.0 x.1)
+setting_for-fits laws TimeKey value setting e =
+    let x = bind-Ok (time_of value) _ setting e in
+    let is : TimeOf x.0 ≡ setting = cc in
+    subst FitsSetting is (time_of-fits laws value x.0 x.1)
 setting_for-fits laws WeightsKey value setting e =
     let x = bind-Ok (weights_of value) _ setting e in
     let is : WeightsOf x.0 ≡ setting = cc in

@@ -1,5 +1,5 @@
 -- A setting that is read from a word spells that word.
-use Rattle.std.proofs.Common.{◌≡◌, ◌<◌, ◌+◌, ◌∷◌, [], ◌==◌, ℕ, Bool, true, false, cond, nat_lt, List, ◌++◌, take, drop, length, get_or, codes, Some, None, Ok, refl, ap, ◌∙◌, eqb-true, arith}
+use Rattle.std.proofs.Common.{◌≡◌, ◌<◌, ◌+◌, ◌∷◌, [], ◌==◌, ℕ, Bool, true, false, cond, nat_lt, List, ◌++◌, take, drop, length, get_or, codes, Some, None, Ok, refl, ap, ◌∙◌, eqb-true, decimal, arith}
 use Rattle.std.specs.Prelude.{Option, Result, option_map}
 use Rattle.std.specs.List.{position_or_len}
 use Rattle.std.specs.Option.{ok_or}
@@ -9,20 +9,20 @@ use Rattle.damon_types.specs.declared.filter.FilterKind.{FilterKind}
 use Rattle.damon_types.specs.declared.filter.FilterKind.TheVariants.{Addr, Target, Class}
 use Rattle.damon_types.specs.declared.scheme.Prefer.TheVariants.{Hot, Cold}
 use Rattle.line_text.specs.Line.{after_prefix, split_at_byte}
-use Rattle.line_text.specs.Parts.{joined, parts, two_of, three_of}
+use Rattle.line_text.specs.Parts.{joined, one_of, parts, two_of, three_of}
 use Rattle.script_lines.specs.declared.kind.ScriptKind.{ScriptKind}
 use Rattle.script_lines.specs.declared.kind.ScriptKind.TheVariants.{Form}
 use Rattle.script_lines.specs.declared.keys.Key.{Key}
-use Rattle.script_lines.specs.declared.keys.Key.TheVariants.{Size, Count, Age, Quota as QuotaKey, Weights as WeightsKey, Prefer as PreferKey, Marks as MarksKey, Filter as FilterKey}
+use Rattle.script_lines.specs.declared.keys.Key.TheVariants.{Size, Count, Age, Quota as QuotaKey, Time as TimeKey, Weights as WeightsKey, Prefer as PreferKey, Marks as MarksKey, Filter as FilterKey}
 use Rattle.script_lines.specs.declared.keys.Setting.{Setting}
-use Rattle.script_lines.specs.declared.keys.Setting.TheVariants.{Size as SizeOf, Count as CountOf, Age as AgeOf, Quota as QuotaOf, Weights as WeightsOf, Prefer as PreferOf, Marks as MarksOf, Filter as FilterOf}
-use Rattle.script_lines.specs.Keys.{addr_of, answer_of, filter_of, key_and_value, key_named, kind_of, marks_of, plain_name, prefer_of, quota_of, setting_for, setting_of, span_in, weights_of}
+use Rattle.script_lines.specs.declared.keys.Setting.TheVariants.{Size as SizeOf, Count as CountOf, Age as AgeOf, Quota as QuotaOf, Time as TimeOf, Weights as WeightsOf, Prefer as PreferOf, Marks as MarksOf, Filter as FilterOf}
+use Rattle.script_lines.specs.Keys.{addr_of, answer_of, filter_of, key_and_value, key_named, kind_of, marks_of, plain_name, prefer_of, quota_of, setting_for, setting_of, span_in, time_of, weights_of}
 use Rattle.script_lines.specs.Laws.{ReadsOnly, WordLaws}
 use Rattle.script_lines.specs.Refusal.{◌>>=◌}
 use Rattle.script_lines.specs.Spelling.{kind_name, kind_value, spelled_answer, spelled_filter, spelled_marks, spelled_prefer, spelled_quota, spelled_setting, spelled_side, spelled_span, spelled_weights}
 use Rattle.script_lines.specs.Words.{byte_address, number_8, number_16, number_32, number_64}
 use Rattle.script_lines.proofs.SpellSteps.{bind-Ok, ok_or-Ok}
-use Rattle.script_lines.proofs.SpellWords.{byte_address-Ok, number_8-Ok, number_16-Ok, number_32-Ok, number_64-Ok, same_or_other, three_parts-Ok, two_parts-Ok}
+use Rattle.script_lines.proofs.SpellWords.{byte_address-Ok, number_8-Ok, number_16-Ok, number_32-Ok, number_64-Ok, one_part-Ok, same_or_other, three_parts-Ok, two_parts-Ok}
 
 span_in-Ok : WordLaws → ReadsOnly span_in spelled_span
 span_in-Ok laws value span e =
@@ -39,10 +39,15 @@ quota_of-Ok laws value quota e =
     let fields = bind-Ok (ok_or (two_of (parts 44 value)) Form) _ quota e in
     let bytes = bind-Ok (number_64 fields.0.0) _ quota fields.2 in
     let reset = bind-Ok (number_32 fields.0.1) _ quota bytes.2 in
-    let is : record { bytes = bytes.0; reset = reset.0 } ≡ quota = cc in
+    let is : record { bytes = bytes.0; reset = reset.0; time = None } ≡ quota = cc in
     two_parts-Ok laws 44 value fields.0 fields.1
     ∙ (λ i. joined 44 (number_64-Ok laws fields.0.0 bytes.0 bytes.1 i ∷ number_32-Ok laws fields.0.1 reset.0 reset.1 i ∷ []))
     ∙ ap spelled_quota is
+
+time_of-Ok : WordLaws → ReadsOnly time_of decimal
+time_of-Ok laws value time e =
+    let word = bind-Ok (ok_or (one_of (parts 44 value)) Form) _ time e in
+    one_part-Ok laws 44 value word.0 word.1 ∙ number_64-Ok laws word.0 time word.2
 
 weights_of-Ok : WordLaws → ReadsOnly weights_of spelled_weights
 weights_of-Ok laws value weights e =
@@ -142,6 +147,7 @@ key_name Size = codes "size"
 key_name Count = codes "count"
 key_name Age = codes "age"
 key_name QuotaKey = codes "quota"
+key_name TimeKey = codes "time"
 key_name WeightsKey = codes "weights"
 key_name PreferKey = codes "prefer"
 key_name MarksKey = codes "marks"
@@ -154,10 +160,11 @@ key_named-Some name key e =
     (same_or_other name (codes "count") _ _ _ (named Count)
     (same_or_other name (codes "age") _ _ _ (named Age)
     (same_or_other name (codes "quota") _ _ _ (named QuotaKey)
+    (same_or_other name (codes "time") _ _ _ (named TimeKey)
     (same_or_other name (codes "weights") _ _ _ (named WeightsKey)
     (same_or_other name (codes "prefer") _ _ _ (named PreferKey)
     (same_or_other name (codes "marks") _ _ _ (named MarksKey)
-    (same_or_other name (codes "filter") _ _ _ (named FilterKey) (λ no. absurd cc)))))))) e
+    (same_or_other name (codes "filter") _ _ _ (named FilterKey) (λ no. absurd cc))))))))) e
   where
     named : (here : Key) → name ≡ key_name here → ◌≡◌ {A = Option Key} (Some here) (Some key) → name ≡ key_name key
     named here is e = let same : here ≡ key = cc in is ∙ ap key_name same
@@ -199,6 +206,10 @@ setting_for-Ok laws QuotaKey value setting e =
     let x = bind-Ok (quota_of value) _ setting e in
     let is : QuotaOf x.0 ≡ setting = cc in
     ap (λ v. codes "quota=" ++ v) (quota_of-Ok laws value x.0 x.1) ∙ ap spelled_setting is
+setting_for-Ok laws TimeKey value setting e =
+    let x = bind-Ok (time_of value) _ setting e in
+    let is : TimeOf x.0 ≡ setting = cc in
+    ap (λ v. codes "time=" ++ v) (time_of-Ok laws value x.0 x.1) ∙ ap spelled_setting is
 setting_for-Ok laws WeightsKey value setting e =
     let x = bind-Ok (weights_of value) _ setting e in
     let is : WeightsOf x.0 ≡ setting = cc in

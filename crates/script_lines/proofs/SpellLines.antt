@@ -12,12 +12,12 @@ use Rattle.target_ranges.specs.Checked.{checked_next}
 use Rattle.script_lines.specs.declared.kind.ScriptKind.{ScriptKind}
 use Rattle.script_lines.specs.declared.kind.ScriptKind.TheVariants.{Form, Limit, Attrs as BadAttrs, OverCap, Range as BadRange, RangesOverMax}
 use Rattle.script_lines.specs.declared.setup.Frame.{Frame}
-use Rattle.script_lines.specs.Fields.{attrs_in, range_in}
+use Rattle.script_lines.specs.Fields.{attrs_in, cost_in, range_in}
 use Rattle.script_lines.specs.Head.{attrs_line, cap_line, limited, one_target, range_line, seed_line, target_in, target_line, unit_line}
 use Rattle.script_lines.specs.Laws.{ReadsOnly, WordLaws}
 use Rattle.script_lines.specs.Blocks.{passes_line}
 use Rattle.script_lines.specs.Refusal.{◌>>=◌, refused_as}
-use Rattle.script_lines.specs.Spelling.{attrs_words, range_words, spelled_attrs, spelled_cap, spelled_passes, spelled_range, spelled_seed, spelled_target, spelled_unit, target_words}
+use Rattle.script_lines.specs.Spelling.{attrs_words, cost_words, range_words, spelled_attrs, spelled_cap, spelled_passes, spelled_range, spelled_seed, spelled_target, spelled_unit, target_words}
 use Rattle.script_lines.specs.Words.{arguments, byte_address, number_8, number_32, number_64, one_word}
 use Rattle.script_lines.proofs.SpellSteps.{bind-Ok, first_true, ok_or-Ok, only_if-Ok, second_true, two_of-Some, three_of-Some, four_of-Some}
 use Rattle.script_lines.proofs.SpellWords.{arguments-Ok, byte_address-Ok, number_8-Ok, number_32-Ok, number_64-Ok, one_word-Ok}
@@ -88,6 +88,16 @@ target_in-Ok laws words target e =
     two_of-Some words fields.0 (ok_or-Ok (two_of words) Form fields.0 fields.1)
     ∙ (λ i. byte_address-Ok laws fields.0.0 base.0 base.1 i ∷ number_32-Ok laws fields.0.1 pages.0 pages.1 i ∷ [])
     ∙ ap target_words is
+
+pub cost_in-Ok : WordLaws → ReadsOnly cost_in cost_words
+cost_in-Ok laws words cost e =
+    let fields = bind-Ok (ok_or (two_of words) Form) _ cost e in
+    let slot = bind-Ok (number_8 fields.0.0) _ cost fields.2 in
+    let nanos = bind-Ok (number_64 fields.0.1) _ cost slot.2 in
+    let is : record { slot = slot.0; nanos = nanos.0 } ≡ cost = cc in
+    two_of-Some words fields.0 (ok_or-Ok (two_of words) Form fields.0 fields.1)
+    ∙ (λ i. number_8-Ok laws fields.0.0 slot.0 slot.1 i ∷ number_64-Ok laws fields.0.1 nanos.0 nanos.1 i ∷ [])
+    ∙ ap cost_words is
 
 pub range_in-Ok : WordLaws → ReadsOnly range_in range_words
 range_in-Ok laws words range e =

@@ -104,6 +104,12 @@ two_parts-Ok laws separator value x e =
     sym (laws.parts separator value).0
     ∙ ap (joined separator) (two_of-Some (parts separator value) x (ok_or-Ok (two_of (parts separator value)) Form x e))
 
+-- a value with one part is that part
+pub one_part-Ok : (laws : WordLaws) (separator : ℕ) (value x : List ℕ) → ok_or (one_of (parts separator value)) Form ≡ Ok x → value ≡ x
+one_part-Ok laws separator value x e =
+    sym (laws.parts separator value).0
+    ∙ ap (joined separator) (one_of-Some (parts separator value) x (ok_or-Ok (one_of (parts separator value)) Form x e))
+
 -- a value with three parts is these parts, joined
 pub three_parts-Ok : (laws : WordLaws) (separator : ℕ) (value : List ℕ) (x : List ℕ × List ℕ × List ℕ) → ok_or (three_of (parts separator value)) Form ≡ Ok x
     → value ≡ joined separator (x.0 ∷ x.1 ∷ x.2 ∷ [])

@@ -30,8 +30,8 @@ no_word_parts bytes = by (parts 32 bytes) (parts-some 32 bytes)
     by (word ∷ words) some = refl
 
 -- a word and the parts after it are more than one
-pub one_of_parts : (word bytes : List ℕ) → one_of (word ∷ parts 32 bytes) ≡ None
-one_of_parts word bytes = by (parts 32 bytes) (parts-some 32 bytes)
+pub one_of_parts : (separator : ℕ) (word bytes : List ℕ) → one_of (word ∷ parts separator bytes) ≡ None
+one_of_parts separator word bytes = by (parts separator bytes) (parts-some separator bytes)
   where
     by : (words : List (List ℕ)) → 0 < length words → one_of (word ∷ words) ≡ None
     by [] some = absurd (omega arith)

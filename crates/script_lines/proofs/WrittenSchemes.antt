@@ -12,15 +12,18 @@ use Rattle.damon_types.specs.declared.scheme.Quota.{Quota}
 use Rattle.damon_types.specs.declared.scheme.Scheme.{Scheme}
 use Rattle.damon_types.specs.declared.scheme.SlotChange.{SlotChange}
 use Rattle.damon_types.specs.declared.scheme.Span.{Span}
+use Rattle.damon_types.specs.declared.scheme.Version.{Version}
+use Rattle.damon_types.specs.declared.scheme.Version.TheVariants.{One, Two}
 use Rattle.damon_types.specs.declared.scheme.Weights.{Weights}
+use Rattle.damon_types.specs.Scheme.{checked_time, timed_in}
 use Rattle.script_lines.specs.declared.keys.Key.{Key}
-use Rattle.script_lines.specs.declared.keys.Key.TheVariants.{Filter as FilterKey}
+use Rattle.script_lines.specs.declared.keys.Key.TheVariants.{Filter as FilterKey, Quota as QuotaKey, Time as TimeKey}
 use Rattle.script_lines.specs.declared.keys.Setting.{Setting}
-use Rattle.script_lines.specs.declared.keys.Setting.TheVariants.{Size as SizeOf, Count as CountOf, Age as AgeOf, Quota as QuotaOf, Weights as WeightsOf, Prefer as PreferOf, Marks as MarksOf, Filter as FilterOf}
+use Rattle.script_lines.specs.declared.keys.Setting.TheVariants.{Size as SizeOf, Count as CountOf, Age as AgeOf, Quota as QuotaOf, Time as TimeOf, Weights as WeightsOf, Prefer as PreferOf, Marks as MarksOf, Filter as FilterOf}
 use Rattle.script_lines.specs.Fits.{FitSettings, FitsKind, FitsMarks, FitsQuota, FitsSetting, FitsChange, FitsScheme}
 use Rattle.script_lines.specs.Laws.{EmptiesSlot, GivesScheme}
-use Rattle.script_lines.specs.Settings.{AreInOrder, MayFollow, default_scheme, key_of, key_place, settled}
-use Rattle.script_lines.specs.WrittenLine.{are_even, change_text, is_any, marks_given, prefer_given, quota_given, settings_given, slot_line, unless}
+use Rattle.script_lines.specs.Settings.{AreAfter, AreInOrder, ComesLater, default_scheme, key_of, key_place, settled}
+use Rattle.script_lines.specs.WrittenLine.{are_even, change_text, is_any, marks_given, prefer_given, quota_given, settings_given, slot_line, time_given, unless}
 
 -- ---- the settings fit
 
@@ -32,9 +35,13 @@ unless-fit : (test : Bool) (s : Setting) → FitsSetting s → FitSettings (unle
 unless-fit true s fits = tt
 unless-fit false s fits = (fits, tt)
 
+time-fit : (time : Option ℕ) → IfSome time (λ t. t < 2 ^ 64) → FitSettings (time_given time)
+time-fit None fits = tt
+time-fit (Some time) fits = (fits, tt)
+
 quota-fit : (quota : Option Quota) → IfSome quota FitsQuota → FitSettings (quota_given quota)
 quota-fit None fits = tt
-quota-fit (Some quota) fits = (fits, tt)
+quota-fit (Some quota) fits = (((fits.0, fits.1, tt), refl), time-fit quota.time fits.2)
 
 prefer-fit : (prefer : Prefer) → FitSettings (prefer_given prefer)
 prefer-fit Hot = tt
@@ -71,77 +78,119 @@ scheme-fit s fits =
 
 -- the least place of a key after this one
 abbrev next_place : Key → ℕ
-next_place FilterKey = 7
+next_place FilterKey = 8
 next_place key = key_place key + 1
 
--- settings from a place on, in order
-abbrev From : ℕ → List Setting → Type 0
-From place [] = Unit {0}
-From place (s ∷ settings) = (place ≤ key_place (key_of s)) × From (next_place (key_of s)) settings
+-- settings from a place on, in order; a time stands at its own place alone, directly after the quota
+abbrev From : Version → ℕ → List Setting → Type 0
+From version place [] = Unit {0}
+From version place (s ∷ settings) =
+    (place ≤ key_place (key_of s))
+    × (key_of s ≡ TimeKey → (version ≡ Two) × (place ≡ 4))
+    × From version (next_place (key_of s)) settings
 
-from-earlier : (early late : ℕ) (settings : List Setting) → early ≤ late → From late settings → From early settings
-from-earlier early late [] less all = tt
-from-earlier early late (s ∷ settings) less all = (omega (arith, less, all.0), all.1)
+from-earlier : (version : Version) (early late : ℕ) (settings : List Setting) → early ≤ late → (late ≡ 4 → ⊥) → From version late settings → From version early settings
+from-earlier version early late [] less other all = tt
+from-earlier version early late (s ∷ settings) less other all = (omega (arith, less, all.0), (λ is. absurd (other (all.1 is).1)), all.2)
 
-from-unless : (place : ℕ) (test : Bool) (s : Setting) (rest : List Setting) → place ≤ key_place (key_of s) → place ≤ next_place (key_of s) → From (next_place (key_of s)) rest → From place (unless test s ++ rest)
-from-unless place true s rest here less after = from-earlier place (next_place (key_of s)) rest less after
-from-unless place false s rest here less after = (here, after)
+-- a setting that may be left out, before others
+record IsBefore (place : ℕ) (s : Setting) : Type 0 where
+  here : place ≤ key_place (key_of s)
+  less : place ≤ next_place (key_of s)
+  no_quota : next_place (key_of s) ≡ 4 → ⊥
+  no_time : key_of s ≡ TimeKey → ⊥
 
-from-quota : (quota : Option Quota) (rest : List Setting) → From 4 rest → From 3 (quota_given quota ++ rest)
-from-quota None rest after = from-earlier 3 4 rest (omega arith) after
-from-quota (Some quota) rest after = (omega arith, after)
+from-unless : (version : Version) (place : ℕ) (test : Bool) (s : Setting) (rest : List Setting) → IsBefore place s → From version (next_place (key_of s)) rest → From version place (unless test s ++ rest)
+from-unless version place true s rest is after = from-earlier version place (next_place (key_of s)) rest is.less is.no_quota after
+from-unless version place false s rest is after = (is.here, (λ time. absurd (is.no_time time)), after)
 
-from-prefer : (prefer : Prefer) (rest : List Setting) → From 6 rest → From 5 (prefer_given prefer ++ rest)
-from-prefer Hot rest after = from-earlier 5 6 rest (omega arith) after
-from-prefer Cold rest after = (omega arith, after)
+from-time : (version : Version) (time : Option ℕ) (rest : List Setting) → timed_in version time ≡ Ok tt → From version 5 rest → From version 4 (time_given time ++ rest)
+from-time version None rest sound after = from-earlier version 4 5 rest (omega arith) (λ e. omega (arith, e)) after
+from-time Two (Some time) rest sound after = (omega arith, (λ is. (refl, refl)), after)
+from-time One (Some time) rest sound after = absurd cc
 
-from-marks : (marks : Option Marks) (rest : List Setting) → From 7 rest → From 6 (marks_given marks ++ rest)
-from-marks None rest after = from-earlier 6 7 rest (omega arith) after
-from-marks (Some marks) rest after = (omega arith, after)
+from-quota : (version : Version) (quota : Option Quota) (rest : List Setting) → checked_time version quota ≡ Ok tt → From version 5 rest → From version 3 (quota_given quota ++ rest)
+from-quota version None rest sound after = from-earlier version 3 5 rest (omega arith) (λ e. omega (arith, e)) after
+from-quota version (Some quota) rest sound after = (omega arith, (λ is. absurd cc), from-time version quota.time rest sound after)
 
-from-filters : (filters : List Filter) → From 7 (map (λ f. FilterOf f) filters)
-from-filters [] = tt
-from-filters (f ∷ filters) = (omega arith, from-filters filters)
+from-prefer : (version : Version) (prefer : Prefer) (rest : List Setting) → From version 7 rest → From version 6 (prefer_given prefer ++ rest)
+from-prefer version Hot rest after = from-earlier version 6 7 rest (omega arith) (λ e. omega (arith, e)) after
+from-prefer version Cold rest after = (omega arith, (λ is. absurd cc), after)
+
+from-marks : (version : Version) (marks : Option Marks) (rest : List Setting) → From version 8 rest → From version 7 (marks_given marks ++ rest)
+from-marks version None rest after = from-earlier version 7 8 rest (omega arith) (λ e. omega (arith, e)) after
+from-marks version (Some marks) rest after = (omega arith, (λ is. absurd cc), after)
+
+from-filters : (version : Version) (filters : List Filter) → From version 8 (map (λ f. FilterOf f) filters)
+from-filters version [] = tt
+from-filters version (f ∷ filters) = (omega arith, (λ is. absurd cc), from-filters version filters)
 
 -- the settings of a pattern before others
 pattern_apart : (a b c rest : List Setting) → (a ++ (b ++ c)) ++ rest ≡ a ++ (b ++ (c ++ rest))
 pattern_apart a b c rest = simp append_assoc
 
-scheme-from : (s : Scheme) → From 0 (settings_given s)
-scheme-from s =
-    subst (From 0) (sym (pattern_apart (unless (is_any s.pattern.size) (SizeOf s.pattern.size)) (unless (is_any s.pattern.count) (CountOf s.pattern.count)) (unless (is_any s.pattern.age) (AgeOf s.pattern.age))
+scheme-from : (version : Version) (s : Scheme) → checked_time version s.quota ≡ Ok tt → From version 0 (settings_given s)
+scheme-from version s sound =
+    let before_size : IsBefore 0 (SizeOf s.pattern.size) = record { here = omega arith; less = omega arith; no_quota = λ e. omega (arith, e); no_time = λ e. cc } in
+    let before_count : IsBefore 1 (CountOf s.pattern.count) = record { here = omega arith; less = omega arith; no_quota = λ e. omega (arith, e); no_time = λ e. cc } in
+    let before_age : IsBefore 2 (AgeOf s.pattern.age) = record { here = omega arith; less = omega arith; no_quota = λ e. omega (arith, e); no_time = λ e. cc } in
+    let before_weights : IsBefore 5 (WeightsOf s.weights) = record { here = omega arith; less = omega arith; no_quota = λ e. omega (arith, e); no_time = λ e. cc } in
+    subst (From version 0) (sym (pattern_apart (unless (is_any s.pattern.size) (SizeOf s.pattern.size)) (unless (is_any s.pattern.count) (CountOf s.pattern.count)) (unless (is_any s.pattern.age) (AgeOf s.pattern.age))
     (quota_given s.quota ++ (unless (are_even s.weights) (WeightsOf s.weights) ++ (prefer_given s.prefer ++ (marks_given s.marks ++ map (λ f. FilterOf f) s.filters))))))
-    (from-unless 0 (is_any s.pattern.size) (SizeOf s.pattern.size) _ (omega arith) (omega arith)
-    (from-unless 1 (is_any s.pattern.count) (CountOf s.pattern.count) _ (omega arith) (omega arith)
-    (from-unless 2 (is_any s.pattern.age) (AgeOf s.pattern.age) _ (omega arith) (omega arith)
-    (from-quota s.quota _
-    (from-unless 4 (are_even s.weights) (WeightsOf s.weights) _ (omega arith) (omega arith)
-    (from-prefer s.prefer _ (from-marks s.marks _ (from-filters s.filters))))))))
+    (from-unless version 0 (is_any s.pattern.size) (SizeOf s.pattern.size) _ before_size
+    (from-unless version 1 (is_any s.pattern.count) (CountOf s.pattern.count) _ before_count
+    (from-unless version 2 (is_any s.pattern.age) (AgeOf s.pattern.age) _ before_age
+    (from-quota version s.quota _ sound
+    (from-unless version 5 (are_even s.weights) (WeightsOf s.weights) _ before_weights
+    (from-prefer version s.prefer _ (from-marks version s.marks _ (from-filters version s.filters))))))))
 
-filter_follows : (later : Setting) → 7 ≤ key_place (key_of later) → key_of later ≡ FilterKey
+filter_follows : (later : Setting) → 8 ≤ key_place (key_of later) → key_of later ≡ FilterKey
 filter_follows (SizeOf x) most = absurd (omega (arith, most))
 filter_follows (CountOf x) most = absurd (omega (arith, most))
 filter_follows (AgeOf x) most = absurd (omega (arith, most))
 filter_follows (QuotaOf x) most = absurd (omega (arith, most))
+filter_follows (TimeOf x) most = absurd (omega (arith, most))
 filter_follows (WeightsOf x) most = absurd (omega (arith, most))
 filter_follows (PreferOf x) most = absurd (omega (arith, most))
 filter_follows (MarksOf x) most = absurd (omega (arith, most))
 filter_follows (FilterOf x) most = refl
 
-follows : (earlier later : Setting) → next_place (key_of earlier) ≤ key_place (key_of later) → MayFollow earlier later
+follows : (earlier later : Setting) → next_place (key_of earlier) ≤ key_place (key_of later) → ComesLater (Some earlier) later
 follows (SizeOf x) later most = inl (omega (arith, most))
 follows (CountOf x) later most = inl (omega (arith, most))
 follows (AgeOf x) later most = inl (omega (arith, most))
 follows (QuotaOf x) later most = inl (omega (arith, most))
+follows (TimeOf x) later most = inl (omega (arith, most))
 follows (WeightsOf x) later most = inl (omega (arith, most))
 follows (PreferOf x) later most = inl (omega (arith, most))
 follows (MarksOf x) later most = inl (omega (arith, most))
 follows (FilterOf x) later most = inr (refl, filter_follows later most)
 
-from-in_order : (place : ℕ) (settings : List Setting) → From place settings → AreInOrder settings
-from-in_order place [] all = tt
-from-in_order place (s ∷ []) all = tt
-from-in_order place (earlier ∷ later ∷ more) all = (follows earlier later all.1.0, from-in_order (next_place (key_of earlier)) (later ∷ more) all.1)
+-- only the quota is directly before the place of a time
+quota_before : (s : Setting) → next_place (key_of s) ≡ 4 → key_of s ≡ QuotaKey
+quota_before (SizeOf x) e = absurd (omega (arith, e))
+quota_before (CountOf x) e = absurd (omega (arith, e))
+quota_before (AgeOf x) e = absurd (omega (arith, e))
+quota_before (QuotaOf x) e = refl
+quota_before (TimeOf x) e = absurd (omega (arith, e))
+quota_before (WeightsOf x) e = absurd (omega (arith, e))
+quota_before (PreferOf x) e = absurd (omega (arith, e))
+quota_before (MarksOf x) e = absurd (omega (arith, e))
+quota_before (FilterOf x) e = absurd (omega (arith, e))
+
+from-after : (version : Version) (earlier : Setting) (settings : List Setting) → From version (next_place (key_of earlier)) settings → AreAfter version (Some earlier) settings
+from-after version earlier [] all = tt
+from-after version earlier (later ∷ more) all = (
+  record {
+    comes_later = follows earlier later all.0;
+    timed = λ is. ((all.1 is).0, ap (λ k. Some k) (quota_before earlier (all.1 is).1));
+  },
+  from-after version later more all.2,
+)
+
+from-in_order : (version : Version) (settings : List Setting) → From version 0 settings → AreInOrder version settings
+from-in_order version [] all = tt
+from-in_order version (s ∷ more) all = (record { comes_later = tt; timed = λ is. absurd (omega (arith, (all.1 is).1)) }, from-after version s more all.2)
 
 -- ---- and make the scheme
 
@@ -190,9 +239,14 @@ age_settled s span rest is = by (is_any span) refl
     by true e = ap (λ (x : Span). settled (record s { pattern = record s.pattern { age = x } }) rest) (is ∙ any_is span e)
     by false e = refl
 
+time_settled : (s : Scheme) (q : Quota) (time : Option ℕ) (rest : List Setting)
+    → settled (record s { quota = Some (record q { time = None }) }) (time_given time ++ rest) ≡ settled (record s { quota = Some (record q { time = time }) }) rest
+time_settled s q None rest = refl
+time_settled s q (Some time) rest = refl
+
 quota_settled : (s : Scheme) (quota : Option Quota) (rest : List Setting) → s.quota ≡ None → settled s (quota_given quota ++ rest) ≡ settled (record s { quota = quota }) rest
 quota_settled s None rest is = ap (λ (q : Option Quota). settled (record s { quota = q }) rest) is
-quota_settled s (Some quota) rest is = refl
+quota_settled s (Some quota) rest is = time_settled s quota quota.time rest
 
 weights_settled : (s : Scheme) (w : Weights) (rest : List Setting) → s.weights ≡ even
     → settled s (unless (are_even w) (WeightsOf w) ++ rest) ≡ settled (record s { weights = w }) rest
@@ -242,8 +296,9 @@ scheme_made s few =
 -- ---- the line of a change
 
 -- the line of a change with a scheme gives its slot this scheme
-pub change_gives : (c : SlotChange) (s : Scheme) → c.scheme ≡ Some s → FitsChange c → GivesScheme (change_text c) c
-change_gives c s is fits =
+pub change_gives : (version : Version) (c : SlotChange) (s : Scheme) → c.scheme ≡ Some s → FitsChange c → checked_time version s.quota ≡ Ok tt
+    → GivesScheme version (change_text c) c
+change_gives version c s is fits sound =
     let fit : FitsScheme s = rw is at fits.fits in (
       s,
       is,
@@ -253,7 +308,7 @@ change_gives c s is fits =
         spelled = ap (slot_line c.slot) is;
         small = fits.small;
         fit = scheme-fit s fit;
-        in_order = from-in_order 0 (settings_given s) (scheme-from s);
+        in_order = from-in_order version (settings_given s) (scheme-from version s sound);
         made = scheme_made s fit.few;
       },
     )

@@ -1,8 +1,10 @@
 -- The lines of a body.
-use Rattle.std.specs.Prelude.{ℕ, ◌+◌, ◌-◌, ◌%◌, Bool, ◌&&◌, ◌==◌, nat_lt, List, [], ◌∷◌, ◌++◌, codes, Option, Some, None, Result, Ok, Err, is_none, if◌then◌else◌}
+use Rattle.std.specs.Prelude.{ℕ, ◌+◌, ◌-◌, ◌%◌, Bool, false, ◌&&◌, ◌==◌, nat_lt, List, [], ◌∷◌, ◌++◌, codes, Option, Some, None, Result, Ok, Err, is_none, if◌then◌else◌}
 use Rattle.std.specs.Option.{ok_or}
 use Rattle.damon_types.specs.declared.range.RangeSpec.{RangeSpec}
 use Rattle.damon_types.specs.declared.scheme.SlotChange.{SlotChange}
+use Rattle.damon_types.specs.declared.scheme.Version.{Version}
+use Rattle.damon_types.specs.declared.scheme.Version.TheVariants.{One, Two}
 use Rattle.damon_types.specs.declared.space.TheConstants.{PAGE_SIZE}
 use Rattle.damon_types.specs.declared.space.Target.{Target}
 use Rattle.damon_types.specs.Space.{page_of}
@@ -11,9 +13,9 @@ use Rattle.live_commit.specs.Commit.{CommitValue}
 use Rattle.script_lines.specs.declared.kind.ScriptKind.{ScriptKind}
 use Rattle.script_lines.specs.declared.kind.ScriptKind.TheVariants.{Word, Form, Limit, Outside}
 use Rattle.script_lines.specs.declared.part.Part.{Part}
-use Rattle.script_lines.specs.declared.part.Part.TheVariants.{Attrs, Range, Slot, Metric}
+use Rattle.script_lines.specs.declared.part.Part.TheVariants.{Attrs, Range, Slot, Metric, Cost}
 use Rattle.script_lines.specs.Command.{CommandValue, Touch, Sweep, Step, Arm, Finish, Show}
-use Rattle.script_lines.specs.Fields.{attrs_in, range_in}
+use Rattle.script_lines.specs.Fields.{attrs_in, cost_in, range_in}
 use Rattle.script_lines.specs.Head.{limited}
 use Rattle.script_lines.specs.Keys.{scheme_in}
 use Rattle.script_lines.specs.Refusal.{◌>>=◌, only_if}
@@ -68,7 +70,7 @@ command_line space line =
 
 -- a commit with no part yet
 abbrev pub no_commit : CommitValue
-no_commit = record { attrs = None; ranges = None; slot = None; metric = None }
+no_commit = record { attrs = None; ranges = None; slot = None; metric = None; cost = None }
 
 -- `drop SLOT`
 abbrev pub drop_line : List ℕ → Result SlotChange ScriptKind
@@ -77,9 +79,9 @@ drop_line line = do
   Ok (record { slot = slot; scheme = None })
 
 -- `scheme SLOT ACTION KEYS`, of which only the form is checked
-abbrev pub change_line : List ℕ → Result SlotChange ScriptKind
-change_line line = do
-  said ← arguments (codes "scheme") line >>= scheme_in
+abbrev pub change_line : Version → List ℕ → Result SlotChange ScriptKind
+change_line version line = do
+  said ← arguments (codes "scheme") line >>= scheme_in version
   Ok (record { slot = said.0; scheme = Some said.1 })
 
 -- the ranges of a commit with one more
@@ -87,22 +89,32 @@ abbrev pub with_range : Option (List RangeSpec) → RangeSpec → Option (List R
 with_range None range = Some (range ∷ [])
 with_range (Some ranges) range = Some (ranges ++ range ∷ [])
 
--- whether a slot change may still come in a commit: before a slot change and a metric
+-- whether a cost may still come in a commit: in version Two, and only one
+abbrev pub wants_cost : Version → CommitValue → Bool
+wants_cost One c = false
+wants_cost Two c = is_none c.cost
+
+-- whether a metric may still come: before a metric and a cost
+abbrev pub wants_metric : CommitValue → Bool
+wants_metric c = is_none c.metric && is_none c.cost
+
+-- whether a slot change may still come: before a slot change, a metric and a cost
 abbrev pub wants_slot : CommitValue → Bool
-wants_slot c = is_none c.slot && is_none c.metric
+wants_slot c = is_none c.slot && wants_metric c
 
 -- whether attributes may still come: before all else
 abbrev pub wants_attrs : CommitValue → Bool
 wants_attrs c = is_none c.attrs && (is_none c.ranges && wants_slot c)
 
 -- the part that a line of a commit says, which is not its last
-abbrev pub part_line : CommitValue → List ℕ → Result Part ScriptKind
-part_line c line =
+abbrev pub part_line : Version → CommitValue → List ℕ → Result Part ScriptKind
+part_line version c line =
     if begins_with (codes "attrs") line && wants_attrs c then (arguments (codes "attrs") line >>= attrs_in >>= λ attrs. Ok (Attrs attrs))
     else if begins_with (codes "range") line && wants_slot c then (arguments (codes "range") line >>= range_in >>= λ range. Ok (Range range))
-    else if begins_with (codes "scheme") line && wants_slot c then (change_line line >>= λ change. Ok (Slot change))
+    else if begins_with (codes "scheme") line && wants_slot c then (change_line version line >>= λ change. Ok (Slot change))
     else if begins_with (codes "drop") line && wants_slot c then (drop_line line >>= λ change. Ok (Slot change))
-    else if begins_with (codes "metric") line && is_none c.metric then (arguments (codes "metric") line >>= one_word >>= number_32 >>= λ value. Ok (Metric value))
+    else if begins_with (codes "metric") line && wants_metric c then (arguments (codes "metric") line >>= one_word >>= number_32 >>= λ value. Ok (Metric value))
+    else if begins_with (codes "cost") line && wants_cost version c then (arguments (codes "cost") line >>= cost_in >>= λ cost. Ok (Cost cost))
     else Err Word
 
 -- a commit with one more part
@@ -111,3 +123,4 @@ with_part c (Attrs attrs) = record c { attrs = Some attrs }
 with_part c (Range range) = record c { ranges = with_range c.ranges range }
 with_part c (Slot change) = record c { slot = Some change }
 with_part c (Metric value) = record c { metric = Some value }
+with_part c (Cost cost) = record c { cost = Some cost }

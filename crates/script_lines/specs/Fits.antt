@@ -1,10 +1,11 @@
 -- The values that a line can spell: each number is within its field.
-use Rattle.std.specs.Prelude.{◌^◌, ◌<◌, ◌≤◌, List, [], ◌∷◌, length, All, IfSome}
+use Rattle.std.specs.Prelude.{◌≡◌, ◌^◌, ◌<◌, ◌≤◌, List, [], ◌∷◌, length, None, All, IfSome}
 use Rattle.damon_types.specs.declared.attrs.Attrs.{Attrs}
 use Rattle.damon_types.specs.declared.filter.TheConstants.{MAX_FILTERS}
 use Rattle.damon_types.specs.declared.filter.FilterKind.{FilterKind}
 use Rattle.damon_types.specs.declared.filter.FilterKind.TheVariants.{Addr, Target, Class}
 use Rattle.damon_types.specs.declared.range.RangeSpec.{RangeSpec}
+use Rattle.damon_types.specs.declared.scheme.CostPart.{CostPart}
 use Rattle.damon_types.specs.declared.scheme.Marks.{Marks}
 use Rattle.damon_types.specs.declared.scheme.Quota.{Quota}
 use Rattle.damon_types.specs.declared.scheme.Scheme.{Scheme}
@@ -12,7 +13,7 @@ use Rattle.damon_types.specs.declared.scheme.SlotChange.{SlotChange}
 use Rattle.damon_types.specs.declared.scheme.Span.{Span}
 use Rattle.damon_types.specs.declared.scheme.Weights.{Weights}
 use Rattle.script_lines.specs.declared.keys.Setting.{Setting}
-use Rattle.script_lines.specs.declared.keys.Setting.TheVariants.{Size as SizeOf, Count as CountOf, Age as AgeOf, Quota as QuotaOf, Weights as WeightsOf, Prefer as PreferOf, Marks as MarksOf, Filter as FilterOf}
+use Rattle.script_lines.specs.declared.keys.Setting.TheVariants.{Size as SizeOf, Count as CountOf, Age as AgeOf, Quota as QuotaOf, Time as TimeOf, Weights as WeightsOf, Prefer as PreferOf, Marks as MarksOf, Filter as FilterOf}
 
 -- three fields of 32 bits
 abbrev pub FitsAttrs : Attrs → Type 0
@@ -22,13 +23,17 @@ FitsAttrs a = (a.min < 2 ^ 32) × (a.max < 2 ^ 32) × (a.aggr < 2 ^ 32)
 abbrev pub FitsRange : RangeSpec → Type 0
 FitsRange r = (r.target < 2 ^ 32) × (r.from < 2 ^ 64) × (r.to < 2 ^ 64) × (r.class < 2 ^ 8)
 
+-- a slot of 8 bits and nanoseconds of 64
+abbrev pub FitsCost : CostPart → Type 0
+FitsCost cost = (cost.slot < 2 ^ 8) × (cost.nanos < 2 ^ 64)
+
 -- two fields of 32 bits
 abbrev pub FitsSpan : Span → Type 0
 FitsSpan s = (s.low < 2 ^ 32) × (s.high < 2 ^ 32)
 
--- bytes of 64 bits and a reset interval of 32
+-- bytes of 64 bits, a reset interval of 32, and a time of 64, if there is one
 abbrev pub FitsQuota : Quota → Type 0
-FitsQuota q = (q.bytes < 2 ^ 64) × (q.reset < 2 ^ 32)
+FitsQuota q = (q.bytes < 2 ^ 64) × (q.reset < 2 ^ 32) × IfSome q.time (λ time. time < 2 ^ 64)
 
 -- three fields of 16 bits
 abbrev pub FitsWeights : Weights → Type 0
@@ -44,12 +49,13 @@ FitsKind (Addr from to) = (from < 2 ^ 64) × (to < 2 ^ 64)
 FitsKind (Target target) = target < 2 ^ 32
 FitsKind (Class class) = class < 2 ^ 8
 
--- the value of a setting is within its fields
+-- the value of a setting is within its fields; the time of a quota is a setting of its own
 abbrev pub FitsSetting : Setting → Type 0
 FitsSetting (SizeOf span) = FitsSpan span
 FitsSetting (CountOf span) = FitsSpan span
 FitsSetting (AgeOf span) = FitsSpan span
-FitsSetting (QuotaOf quota) = FitsQuota quota
+FitsSetting (QuotaOf quota) = FitsQuota quota × (quota.time ≡ None)
+FitsSetting (TimeOf time) = time < 2 ^ 64
 FitsSetting (WeightsOf weights) = FitsWeights weights
 FitsSetting (PreferOf prefer) = Unit {0}
 FitsSetting (MarksOf marks) = FitsMarks marks

@@ -5,9 +5,10 @@ use Rattle.std.specs.Option.{ok_or}
 use Rattle.damon_types.specs.declared.attrs.Attrs.{Attrs}
 use Rattle.damon_types.specs.declared.range.RangeSpec.{RangeSpec}
 use Rattle.damon_types.specs.declared.scheme.SlotChange.{SlotChange}
+use Rattle.damon_types.specs.declared.scheme.Version.{Version}
 use Rattle.damon_types.specs.declared.space.Target.{Target}
 use Rattle.damon_types.specs.Attrs.{checked_attrs}
-use Rattle.damon_types.specs.Scheme.{checked_scheme}
+use Rattle.damon_types.specs.Scheme.{checked_in}
 use Rattle.damon_types.specs.Space.{checked}
 use Rattle.line_text.specs.Parts.{two_of}
 use Rattle.live_commit.specs.declared.setup.TheConstants.{MAX_CAP, MAX_UNIT, MIN_CAP}
@@ -77,14 +78,14 @@ abbrev pub is_changed : ℕ → List SlotChange → Bool
 is_changed slot changes = list_any (λ c. c.slot == slot) changes
 
 -- `scheme SLOT ACTION KEYS` after other schemes, each for a slot of its own
-abbrev pub scheme_line : List SlotChange → List ℕ → Result SlotChange ScriptKind
-scheme_line before line = do
+abbrev pub scheme_line : Version → List SlotChange → List ℕ → Result SlotChange ScriptKind
+scheme_line version before line = do
   words ← arguments (codes "scheme") line
-  said ← scheme_in words
-  sound ← refused_as BadScheme (checked_scheme said.0 said.1)
+  said ← scheme_in version words
+  sound ← refused_as BadScheme (checked_in version said.0 said.1)
   only_if (not (is_changed said.0 before)) Repeated (record { slot = said.0; scheme = Some said.1 })
 
 -- the setup that these lines say
 abbrev pub setup_said : Frame → List Target → List RangeSpec → List SlotChange → SetupValue
 setup_said f targets ranges slots =
-    record { space = targets; unit = f.unit; cap = f.cap; attrs = f.attrs; ranges = ranges_of targets ranges; slots = slots }
+    record { version = f.version; space = targets; unit = f.unit; cap = f.cap; attrs = f.attrs; ranges = ranges_of targets ranges; slots = slots }

@@ -12,15 +12,17 @@ use Rattle.damon_types.specs.declared.scheme.Prefer.TheVariants.{Hot, Cold}
 use Rattle.damon_types.specs.declared.scheme.Quota.{Quota}
 use Rattle.damon_types.specs.declared.scheme.Scheme.{Scheme}
 use Rattle.damon_types.specs.declared.scheme.Span.{Span}
+use Rattle.damon_types.specs.declared.scheme.Version.{Version}
+use Rattle.damon_types.specs.declared.scheme.Version.TheVariants.{One, Two}
 use Rattle.damon_types.specs.declared.scheme.Weights.{Weights}
 use Rattle.line_text.specs.Line.{after_prefix, split_at_byte}
-use Rattle.line_text.specs.Parts.{parts, two_of, three_of}
+use Rattle.line_text.specs.Parts.{one_of, parts, two_of, three_of}
 use Rattle.script_lines.specs.declared.kind.ScriptKind.{ScriptKind}
 use Rattle.script_lines.specs.declared.kind.ScriptKind.TheVariants.{Form}
 use Rattle.script_lines.specs.declared.keys.Key.{Key}
-use Rattle.script_lines.specs.declared.keys.Key.TheVariants.{Size, Count, Age, Quota as QuotaKey, Weights as WeightsKey, Prefer as PreferKey, Marks as MarksKey, Filter as FilterKey}
+use Rattle.script_lines.specs.declared.keys.Key.TheVariants.{Size, Count, Age, Quota as QuotaKey, Time as TimeKey, Weights as WeightsKey, Prefer as PreferKey, Marks as MarksKey, Filter as FilterKey}
 use Rattle.script_lines.specs.declared.keys.Setting.{Setting}
-use Rattle.script_lines.specs.declared.keys.Setting.TheVariants.{Size as SizeOf, Count as CountOf, Age as AgeOf, Quota as QuotaOf, Weights as WeightsOf, Prefer as PreferOf, Marks as MarksOf, Filter as FilterOf}
+use Rattle.script_lines.specs.declared.keys.Setting.TheVariants.{Size as SizeOf, Count as CountOf, Age as AgeOf, Quota as QuotaOf, Time as TimeOf, Weights as WeightsOf, Prefer as PreferOf, Marks as MarksOf, Filter as FilterOf}
 use Rattle.script_lines.specs.Refusal.{◌>>=◌, only_if}
 use Rattle.script_lines.specs.Separators.{colon, comma, dash, equals_sign}
 use Rattle.script_lines.specs.Settings.{default_scheme, key_place, settled}
@@ -46,6 +48,7 @@ key_named name =
     else if same_word name (codes "count") then Some Count
     else if same_word name (codes "age") then Some Age
     else if same_word name (codes "quota") then Some QuotaKey
+    else if same_word name (codes "time") then Some TimeKey
     else if same_word name (codes "weights") then Some WeightsKey
     else if same_word name (codes "prefer") then Some PreferKey
     else if same_word name (codes "marks") then Some MarksKey
@@ -60,13 +63,17 @@ span_in value = do
   high ← number_32 ends.1
   Ok (record { low = low; high = high })
 
--- `BYTES,RESET`
+-- `BYTES,RESET`, of a quota without a time
 abbrev pub quota_of : List ℕ → Result Quota ScriptKind
 quota_of value = do
   fields ← ok_or (two_of (parts comma value)) Form
   bytes ← number_64 fields.0
   reset ← number_32 fields.1
-  Ok (record { bytes = bytes; reset = reset })
+  Ok (record { bytes = bytes; reset = reset; time = None })
+
+-- `NANOSECONDS`
+abbrev pub time_of : List ℕ → Result ℕ ScriptKind
+time_of value = ok_or (one_of (parts comma value)) Form >>= number_64
 
 -- `SIZE,COUNT,AGE`
 abbrev pub weights_of : List ℕ → Result Weights ScriptKind
@@ -138,6 +145,7 @@ setting_for Size value = span_in value >>= λ x. Ok (SizeOf x)
 setting_for Count value = span_in value >>= λ x. Ok (CountOf x)
 setting_for Age value = span_in value >>= λ x. Ok (AgeOf x)
 setting_for QuotaKey value = quota_of value >>= λ x. Ok (QuotaOf x)
+setting_for TimeKey value = time_of value >>= λ x. Ok (TimeOf x)
 setting_for WeightsKey value = weights_of value >>= λ x. Ok (WeightsOf x)
 setting_for PreferKey value = prefer_of value >>= λ x. Ok (PreferOf x)
 setting_for MarksKey value = marks_of value >>= λ x. Ok (MarksOf x)
@@ -154,11 +162,22 @@ key_and_value word = do
 abbrev pub setting_of : List ℕ → Result Setting ScriptKind
 setting_of word = key_and_value word >>= λ both. setting_for both.0 both.1
 
--- whether a key may stand after the one with this place: keys stand in order, and only the filter repeats
-abbrev pub may_follow : Option ℕ → Key → Bool
-may_follow None key = true
-may_follow (Some place) key =
+-- whether a key comes later than the one with this place, if any: keys stand in order, and only the filter repeats
+abbrev pub comes_later : Option ℕ → Key → Bool
+comes_later None key = true
+comes_later (Some place) key =
     nat_lt place (key_place key) || ((place == key_place FilterKey) && (key_place key == key_place FilterKey))
+
+-- whether a time may stand after the key with this place, if any: after the quota, and in version Two alone
+abbrev pub may_be_timed : Version → Option ℕ → Bool
+may_be_timed One last = false
+may_be_timed Two None = false
+may_be_timed Two (Some place) = place == key_place QuotaKey
+
+-- whether a key may stand after the one with this place, if any
+abbrev pub may_follow : Version → Option ℕ → Key → Bool
+may_follow version last key =
+    (not (key_place key == key_place TimeKey) || may_be_timed version last) && comes_later last key
 
 -- whether a word is refused for its form
 abbrev pub is_misformed : Result Setting ScriptKind → Bool
@@ -166,9 +185,9 @@ is_misformed (Err Form) = true
 is_misformed _ = false
 
 -- whether a key and its value have the form of a setting, and may stand after the key with this place
-abbrev pub is_formed : Option ℕ → Result (Key × List ℕ) ScriptKind → Bool
-is_formed last (Err e) = false
-is_formed last (Ok both) = may_follow last both.0 && not (is_misformed (setting_for both.0 both.1))
+abbrev pub is_formed : Version → Option ℕ → Result (Key × List ℕ) ScriptKind → Bool
+is_formed version last (Err e) = false
+is_formed version last (Ok both) = may_follow version last both.0 && not (is_misformed (setting_for both.0 both.1))
 
 -- the place of the key of a setting that could be taken apart
 abbrev pub place_in : Result (Key × List ℕ) ScriptKind → Option ℕ
@@ -176,10 +195,10 @@ place_in (Err e) = None
 place_in (Ok both) = Some (key_place both.0)
 
 -- whether words have the form of settings and stand in order, after the key with this place
-abbrev pub are_formed : Option ℕ → List (List ℕ) → Bool
-are_formed last [] = true
-are_formed last (word ∷ words) =
-    is_formed last (key_and_value word) && are_formed (place_in (key_and_value word)) words
+abbrev pub are_formed : Version → Option ℕ → List (List ℕ) → Bool
+are_formed version last [] = true
+are_formed version last (word ∷ words) =
+    is_formed version last (key_and_value word) && are_formed version (place_in (key_and_value word)) words
 
 -- what each word sets
 abbrev pub settings_of : List (List ℕ) → Result (List Setting) ScriptKind
@@ -194,11 +213,11 @@ abbrev pub with_settings : Scheme → List (List ℕ) → Result Scheme ScriptKi
 with_settings scheme words = settings_of words >>= settled scheme
 
 -- `SLOT ACTION KEYS`: the form of the whole line is refused before its numbers
-abbrev pub scheme_in : List (List ℕ) → Result (ℕ × Scheme) ScriptKind
-scheme_in (slot ∷ name ∷ keys) = do
+abbrev pub scheme_in : Version → List (List ℕ) → Result (ℕ × Scheme) ScriptKind
+scheme_in version (slot ∷ name ∷ keys) = do
   action ← ok_or (action_of name) Form
-  formed ← only_if (are_formed None keys) Form (tt {0})
+  formed ← only_if (are_formed version None keys) Form (tt {0})
   number ← number_8 slot
   scheme ← with_settings (default_scheme action) keys
   Ok (number, scheme)
-scheme_in _ = Err Form
+scheme_in version _ = Err Form

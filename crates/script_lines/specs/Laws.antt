@@ -1,25 +1,26 @@
 -- What each line says, and that a line that is read says what was read.
-use Rattle.std.specs.Prelude.{◌≡◌, ◌⊎◌, ℕ, ◌+◌, ◌-◌, ◌^◌, ◌<◌, ◌≤◌, Bool, true, List, codes, Some, None, option_map, Result, Ok, is_none}
+use Rattle.std.specs.Prelude.{◌≡◌, ◌⊎◌, ℕ, ◌+◌, ◌-◌, ◌^◌, ◌<◌, ◌≤◌, Bool, true, List, codes, Some, None, option_map, Result, Ok}
 use Rattle.damon_types.specs.declared.scheme.Action.{Action}
 use Rattle.damon_types.specs.declared.scheme.Scheme.{Scheme}
 use Rattle.damon_types.specs.declared.scheme.SlotChange.{SlotChange}
+use Rattle.damon_types.specs.declared.scheme.Version.{Version}
 use Rattle.damon_types.specs.declared.space.TheConstants.{PAGE_SIZE}
 use Rattle.damon_types.specs.declared.space.Target.{Target}
 use Rattle.damon_types.specs.Space.{page_of}
 use Rattle.line_text.specs.Laws.{PutsPartsTogether, ReadsDecimal, ReadsOnlyDecimal, ReadsOnlySpelledAddress, ReadsSpelledAddress, SpellsDigits, SpellsHexDigits, StripsOnlyFront, TakesApartPieces}
 use Rattle.live_commit.specs.Commit.{CommitValue}
 use Rattle.script_lines.specs.declared.part.Part.{Part}
-use Rattle.script_lines.specs.declared.part.Part.TheVariants.{Attrs, Range, Slot, Metric}
+use Rattle.script_lines.specs.declared.part.Part.TheVariants.{Attrs, Range, Slot, Metric, Cost}
 use Rattle.script_lines.specs.declared.kind.ScriptKind.{ScriptKind}
 use Rattle.script_lines.specs.declared.keys.Setting.{Setting}
-use Rattle.script_lines.specs.Body.{are_swept, command_line, part_line, sweep_line, touch_line, wants_attrs, wants_slot}
+use Rattle.script_lines.specs.Body.{are_swept, command_line, part_line, sweep_line, touch_line, wants_attrs, wants_cost, wants_metric, wants_slot}
 use Rattle.script_lines.specs.Command.{CommandValue, Touch, Sweep, Step, Arm, Finish, Show, Commit}
 use Rattle.script_lines.specs.Head.{scheme_line}
-use Rattle.script_lines.specs.Fits.{FitSettings, FitsAttrs, FitsRange}
+use Rattle.script_lines.specs.Fits.{FitSettings, FitsAttrs, FitsCost, FitsRange}
 use Rattle.script_lines.specs.Keys.{action_of}
 use Rattle.script_lines.specs.Settings.{AreInOrder, default_scheme, settled}
 use Rattle.script_lines.specs.Words.{alone}
-use Rattle.script_lines.specs.Spelling.{spelled_action, spelled_attrs, spelled_drop, spelled_metric, spelled_range, spelled_scheme, spelled_step, spelled_sweep, spelled_touch}
+use Rattle.script_lines.specs.Spelling.{spelled_action, spelled_attrs, spelled_cost, spelled_drop, spelled_metric, spelled_range, spelled_scheme, spelled_step, spelled_sweep, spelled_touch}
 
 -- what the laws of `line_text` say of words, numbers and addresses
 pub record WordLaws : Type 0 where
@@ -42,39 +43,41 @@ abbrev pub NamesActions : Type 0
 NamesActions =
     (name : List ℕ) (action : Action) → action_of name ≡ Some action → name ≡ spelled_action action
 
--- a line spells a slot, an action and settings in order, which turn the action's default into this scheme
-pub record IsScheme (line : List ℕ) (slot : ℕ) (scheme : Scheme) : Type 0 where
+-- a line of a version spells a slot, an action and settings in order, which turn the action's default into this scheme
+pub record IsScheme (version : Version) (line : List ℕ) (slot : ℕ) (scheme : Scheme) : Type 0 where
   pub action : Action
   pub settings : List Setting
   pub spelled : line ≡ spelled_scheme slot action settings
   pub small : slot < 2 ^ 8
   pub fit : FitSettings settings
-  pub in_order : AreInOrder settings
+  pub in_order : AreInOrder version settings
   pub made : settled (default_scheme action) settings ≡ Ok scheme
 
 -- a line gives a slot its scheme
-abbrev pub GivesScheme : List ℕ → SlotChange → Type 0
-GivesScheme line change =
-    (scheme : Scheme) × (change.scheme ≡ Some scheme) × IsScheme line change.slot scheme
+abbrev pub GivesScheme : Version → List ℕ → SlotChange → Type 0
+GivesScheme version line change =
+    (scheme : Scheme) × (change.scheme ≡ Some scheme) × IsScheme version line change.slot scheme
 
 -- a line empties a slot
 abbrev pub EmptiesSlot : List ℕ → SlotChange → Type 0
 EmptiesSlot line change =
     (change.scheme ≡ None) × (line ≡ spelled_drop change.slot) × (change.slot < 2 ^ 8)
 
--- a line says a part of a commit
-abbrev pub IsPart : List ℕ → Part → Type 0
-IsPart line (Attrs attrs) = (line ≡ spelled_attrs attrs) × FitsAttrs attrs
-IsPart line (Range range) = (line ≡ spelled_range range) × FitsRange range
-IsPart line (Slot change) = GivesScheme line change ⊎ EmptiesSlot line change
-IsPart line (Metric value) = (line ≡ spelled_metric value) × (value < 2 ^ 32)
+-- a line of a version says a part of a commit
+abbrev pub IsPart : Version → List ℕ → Part → Type 0
+IsPart version line (Attrs attrs) = (line ≡ spelled_attrs attrs) × FitsAttrs attrs
+IsPart version line (Range range) = (line ≡ spelled_range range) × FitsRange range
+IsPart version line (Slot change) = GivesScheme version line change ⊎ EmptiesSlot line change
+IsPart version line (Metric value) = (line ≡ spelled_metric value) × (value < 2 ^ 32)
+IsPart version line (Cost cost) = (line ≡ spelled_cost cost) × FitsCost cost
 
--- whether a part may come next: attributes, ranges, a slot change, a metric; only ranges repeat
-abbrev pub may_come : CommitValue → Part → Bool
-may_come before (Attrs attrs) = wants_attrs before
-may_come before (Range range) = wants_slot before
-may_come before (Slot change) = wants_slot before
-may_come before (Metric value) = is_none before.metric
+-- whether a part may come next: attributes, ranges, a slot change, a metric, and in version Two a cost; only ranges repeat
+abbrev pub may_come : Version → CommitValue → Part → Bool
+may_come version before (Attrs attrs) = wants_attrs before
+may_come version before (Range range) = wants_slot before
+may_come version before (Slot change) = wants_slot before
+may_come version before (Metric value) = wants_metric before
+may_come version before (Cost cost) = wants_cost version before
 
 -- a line touches the page that holds this byte of a target
 pub record IsTouch (space : List Target) (line : List ℕ) (page : ℕ) : Type 0 where
@@ -133,11 +136,11 @@ ReadsOnlyCommands =
 -- a line that a part of a commit is read from says that part, and it may come there
 abbrev pub ReadsOnlyParts : Type 0
 ReadsOnlyParts =
-    (before : CommitValue) (line : List ℕ) (part : Part)
-    → part_line before line ≡ Ok part → (may_come before part ≡ true) × IsPart line part
+    (version : Version) (before : CommitValue) (line : List ℕ) (part : Part)
+    → part_line version before line ≡ Ok part → (may_come version before part ≡ true) × IsPart version line part
 
 -- a line of a setup that a slot change is read from gives the slot its scheme
 abbrev pub ReadsOnlySchemes : Type 0
 ReadsOnlySchemes =
-    (before : List SlotChange) (line : List ℕ) (change : SlotChange)
-    → scheme_line before line ≡ Ok change → GivesScheme line change
+    (version : Version) (before : List SlotChange) (line : List ℕ) (change : SlotChange)
+    → scheme_line version before line ≡ Ok change → GivesScheme version line change

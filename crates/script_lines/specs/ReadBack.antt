@@ -4,9 +4,10 @@ use Rattle.damon_types.specs.declared.attrs.Attrs.{Attrs}
 use Rattle.damon_types.specs.declared.range.RangeSpec.{RangeSpec}
 use Rattle.damon_types.specs.declared.scheme.Scheme.{Scheme}
 use Rattle.damon_types.specs.declared.scheme.SlotChange.{SlotChange}
+use Rattle.damon_types.specs.declared.scheme.Version.{Version}
 use Rattle.damon_types.specs.declared.space.Target.{Target}
 use Rattle.damon_types.specs.Attrs.{checked_attrs}
-use Rattle.damon_types.specs.Scheme.{checked_scheme}
+use Rattle.damon_types.specs.Scheme.{checked_in}
 use Rattle.damon_types.specs.Space.{checked}
 use Rattle.live_commit.specs.declared.setup.TheConstants.{MAX_CAP, MAX_UNIT, MIN_CAP}
 use Rattle.live_commit.specs.Commit.{CommitValue}
@@ -38,14 +39,14 @@ pub record LinesReadBack : Type 0 where
       → checked_next targets f.unit f.cap before r ≡ Ok tt → length before < f.attrs.max
       → range_line f targets before (spelled_range r) ≡ Ok r
   pub scheme :
-      (before : List SlotChange) (line : List ℕ) (change : SlotChange) (scheme : Scheme)
-      → GivesScheme line change → change.scheme ≡ Some scheme
-      → checked_scheme change.slot scheme ≡ Ok tt → is_changed change.slot before ≡ false
-      → scheme_line before line ≡ Ok change
+      (version : Version) (before : List SlotChange) (line : List ℕ) (change : SlotChange) (scheme : Scheme)
+      → GivesScheme version line change → change.scheme ≡ Some scheme
+      → checked_in version change.slot scheme ≡ Ok tt → is_changed change.slot before ≡ false
+      → scheme_line version before line ≡ Ok change
   pub passes : (n : ℕ) → 1 ≤ n → n ≤ MAX_PASSES → passes_line (spelled_passes n) ≡ Ok n
   pub command :
       (space : List Target) (line : List ℕ) (command : CommandValue)
       → IsCommand space line command → command_line space line ≡ Ok command
   pub part :
-      (before : CommitValue) (line : List ℕ) (part : Part) → may_come before part ≡ true
-      → IsPart line part → part_line before line ≡ Ok part
+      (version : Version) (before : CommitValue) (line : List ℕ) (part : Part) → may_come version before part ≡ true
+      → IsPart version line part → part_line version before line ≡ Ok part

@@ -1,15 +1,18 @@
 -- The settings of a scheme: their order, and what they make of the action's default.
-use Rattle.std.specs.Prelude.{◌≡◌, ◌⊎◌, ℕ, ◌-◌, ◌^◌, ◌<◌, nat_lt, List, [], ◌∷◌, ◌++◌, length, Some, None, Result, Ok}
+use Rattle.std.specs.Prelude.{◌≡◌, ◌⊎◌, ℕ, ◌-◌, ◌^◌, ◌<◌, nat_lt, List, [], ◌∷◌, ◌++◌, length, Option, Some, None, option_map, Result, Ok}
 use Rattle.damon_types.specs.declared.scheme.Action.{Action}
 use Rattle.damon_types.specs.declared.scheme.Prefer.TheVariants.{Hot}
+use Rattle.damon_types.specs.declared.scheme.Quota.{Quota}
 use Rattle.damon_types.specs.declared.scheme.Scheme.{Scheme}
 use Rattle.damon_types.specs.declared.scheme.Span.{Span}
+use Rattle.damon_types.specs.declared.scheme.Version.{Version}
+use Rattle.damon_types.specs.declared.scheme.Version.TheVariants.{Two}
 use Rattle.script_lines.specs.declared.kind.ScriptKind.{ScriptKind}
 use Rattle.script_lines.specs.declared.kind.ScriptKind.TheVariants.{Limit}
 use Rattle.script_lines.specs.declared.keys.Key.{Key}
-use Rattle.script_lines.specs.declared.keys.Key.TheVariants.{Size, Count, Age, Quota as QuotaKey, Weights as WeightsKey, Prefer as PreferKey, Marks as MarksKey, Filter as FilterKey}
+use Rattle.script_lines.specs.declared.keys.Key.TheVariants.{Size, Count, Age, Quota as QuotaKey, Time as TimeKey, Weights as WeightsKey, Prefer as PreferKey, Marks as MarksKey, Filter as FilterKey}
 use Rattle.script_lines.specs.declared.keys.Setting.{Setting}
-use Rattle.script_lines.specs.declared.keys.Setting.TheVariants.{Size as SizeOf, Count as CountOf, Age as AgeOf, Quota as QuotaOf, Weights as WeightsOf, Prefer as PreferOf, Marks as MarksOf, Filter as FilterOf}
+use Rattle.script_lines.specs.declared.keys.Setting.TheVariants.{Size as SizeOf, Count as CountOf, Age as AgeOf, Quota as QuotaOf, Time as TimeOf, Weights as WeightsOf, Prefer as PreferOf, Marks as MarksOf, Filter as FilterOf}
 use Rattle.script_lines.specs.Refusal.{◌>>=◌, only_if}
 
 -- the place of a key in the order of keys
@@ -18,10 +21,11 @@ key_place Size = 0
 key_place Count = 1
 key_place Age = 2
 key_place QuotaKey = 3
-key_place WeightsKey = 4
-key_place PreferKey = 5
-key_place MarksKey = 6
-key_place FilterKey = 7
+key_place TimeKey = 4
+key_place WeightsKey = 5
+key_place PreferKey = 6
+key_place MarksKey = 7
+key_place FilterKey = 8
 
 -- the key of a setting
 abbrev pub key_of : Setting → Key
@@ -29,22 +33,36 @@ key_of (SizeOf span) = Size
 key_of (CountOf span) = Count
 key_of (AgeOf span) = Age
 key_of (QuotaOf quota) = QuotaKey
+key_of (TimeOf time) = TimeKey
 key_of (WeightsOf weights) = WeightsKey
 key_of (PreferOf prefer) = PreferKey
 key_of (MarksOf marks) = MarksKey
 key_of (FilterOf filter) = FilterKey
 
--- a setting may follow another: its key has a later place, or both are filters
-abbrev pub MayFollow : Setting → Setting → Type 0
-MayFollow earlier later =
+-- a setting comes later than the one before it, if any: its key has a later place, or both are filters
+abbrev pub ComesLater : Option Setting → Setting → Type 0
+ComesLater None later = Unit {0}
+ComesLater (Some earlier) later =
     (key_place (key_of earlier) < key_place (key_of later))
     ⊎ ((key_of earlier ≡ FilterKey) × (key_of later ≡ FilterKey))
 
--- settings stand in the order of their keys, and only the filter repeats
-abbrev pub AreInOrder : List Setting → Type 0
-AreInOrder [] = Unit {0}
-AreInOrder (setting ∷ []) = Unit {0}
-AreInOrder (earlier ∷ later ∷ more) = MayFollow earlier later × AreInOrder (later ∷ more)
+-- a time stands directly after the quota, and in version Two alone
+abbrev pub IsTimed : Version → Option Setting → Type 0
+IsTimed version earlier = (version ≡ Two) × (option_map key_of earlier ≡ Some QuotaKey)
+
+-- a setting may follow the one before it, if any
+pub record MayFollow (version : Version) (earlier : Option Setting) (later : Setting) : Type 0 where
+  pub comes_later : ComesLater earlier later
+  pub timed : key_of later ≡ TimeKey → IsTimed version earlier
+
+-- settings after another, if any, stand in the order of their keys, and only the filter repeats
+abbrev pub AreAfter : Version → Option Setting → List Setting → Type 0
+AreAfter version last [] = Unit {0}
+AreAfter version last (setting ∷ more) = MayFollow version last setting × AreAfter version (Some setting) more
+
+-- the same of settings that no other is before
+abbrev pub AreInOrder : Version → List Setting → Type 0
+AreInOrder version settings = AreAfter version None settings
 
 -- the scheme of an action with each key at its default
 abbrev pub default_scheme : Action → Scheme
@@ -61,12 +79,18 @@ default_scheme action = record {
     any : Span
     any = record { low = 0; high = 2 ^ 32 - 1 }
 
+-- a quota, if there is one, with this time
+abbrev pub with_time : Option Quota → ℕ → Option Quota
+with_time None time = None
+with_time (Some quota) time = Some (record quota { time = Some time })
+
 -- a scheme with one more setting; a ninth filter is refused
 abbrev pub with_setting : Scheme → Setting → Result Scheme ScriptKind
 with_setting s (SizeOf x) = Ok (record s { pattern = record s.pattern { size = x } })
 with_setting s (CountOf x) = Ok (record s { pattern = record s.pattern { count = x } })
 with_setting s (AgeOf x) = Ok (record s { pattern = record s.pattern { age = x } })
 with_setting s (QuotaOf x) = Ok (record s { quota = Some x })
+with_setting s (TimeOf x) = Ok (record s { quota = with_time s.quota x })
 with_setting s (WeightsOf x) = Ok (record s { weights = x })
 with_setting s (PreferOf x) = Ok (record s { prefer = x })
 with_setting s (MarksOf x) = Ok (record s { marks = Some x })

@@ -8,6 +8,7 @@ use Rattle.damon_types.specs.declared.filter.FilterKind.TheVariants.{Addr, Targe
 use Rattle.damon_types.specs.declared.range.RangeSpec.{RangeSpec}
 use Rattle.damon_types.specs.declared.scheme.Action.{Action}
 use Rattle.damon_types.specs.declared.scheme.Action.TheVariants.{Stat, Willneed, Cold as ColdAction, Pageout, Hugepage, Nohugepage, LruPrio, LruDeprio}
+use Rattle.damon_types.specs.declared.scheme.CostPart.{CostPart}
 use Rattle.damon_types.specs.declared.scheme.Marks.{Marks}
 use Rattle.damon_types.specs.declared.scheme.Prefer.{Prefer}
 use Rattle.damon_types.specs.declared.scheme.Prefer.TheVariants.{Hot, Cold}
@@ -18,7 +19,7 @@ use Rattle.damon_types.specs.declared.space.Target.{Target}
 use Rattle.line_text.specs.Address.{spelled_address}
 use Rattle.line_text.specs.Parts.{joined}
 use Rattle.script_lines.specs.declared.keys.Setting.{Setting}
-use Rattle.script_lines.specs.declared.keys.Setting.TheVariants.{Size as SizeOf, Count as CountOf, Age as AgeOf, Quota as QuotaOf, Weights as WeightsOf, Prefer as PreferOf, Marks as MarksOf, Filter as FilterOf}
+use Rattle.script_lines.specs.declared.keys.Setting.TheVariants.{Size as SizeOf, Count as CountOf, Age as AgeOf, Quota as QuotaOf, Time as TimeOf, Weights as WeightsOf, Prefer as PreferOf, Marks as MarksOf, Filter as FilterOf}
 use Rattle.script_lines.specs.Separators.{colon, comma, dash}
 
 -- words with a space between each two
@@ -91,6 +92,14 @@ spelled_drop slot = codes "drop " ++ decimal slot
 abbrev pub spelled_metric : ℕ → List ℕ
 spelled_metric value = codes "metric " ++ decimal value
 
+-- `SLOT NANOSECONDS`
+abbrev pub cost_words : CostPart → List (List ℕ)
+cost_words cost = decimal cost.slot ∷ decimal cost.nanos ∷ []
+
+-- `cost SLOT NANOSECONDS`
+abbrev pub spelled_cost : CostPart → List ℕ
+spelled_cost cost = spaced (codes "cost" ∷ cost_words cost)
+
 -- the name of an action
 abbrev pub spelled_action : Action → List ℕ
 spelled_action Stat = codes "stat"
@@ -106,7 +115,7 @@ spelled_action LruDeprio = codes "lru_deprio"
 abbrev pub spelled_span : Span → List ℕ
 spelled_span s = listed (decimal s.low ∷ decimal s.high ∷ [])
 
--- `BYTES,RESET`
+-- `BYTES,RESET`, without the time
 abbrev pub spelled_quota : Quota → List ℕ
 spelled_quota q = listed (decimal q.bytes ∷ decimal q.reset ∷ [])
 
@@ -156,6 +165,7 @@ spelled_setting (SizeOf span) = codes "size=" ++ spelled_span span
 spelled_setting (CountOf span) = codes "count=" ++ spelled_span span
 spelled_setting (AgeOf span) = codes "age=" ++ spelled_span span
 spelled_setting (QuotaOf quota) = codes "quota=" ++ spelled_quota quota
+spelled_setting (TimeOf time) = codes "time=" ++ decimal time
 spelled_setting (WeightsOf weights) = codes "weights=" ++ spelled_weights weights
 spelled_setting (PreferOf prefer) = codes "prefer=" ++ spelled_prefer prefer
 spelled_setting (MarksOf marks) = codes "marks=" ++ spelled_marks marks

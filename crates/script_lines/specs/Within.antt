@@ -3,6 +3,7 @@ use Rattle.std.specs.Prelude.{◌≡◌, ℕ, ◌^◌, ◌<◌, ◌≤◌, List,
 use Rattle.damon_types.specs.declared.attrs.Attrs.{Attrs}
 use Rattle.damon_types.specs.declared.range.RangeSpec.{RangeSpec}
 use Rattle.damon_types.specs.declared.scheme.SlotChange.{SlotChange}
+use Rattle.damon_types.specs.declared.scheme.Version.{Version}
 use Rattle.damon_types.specs.declared.space.Target.{Target}
 use Rattle.damon_types.specs.Space.{checked}
 use Rattle.live_commit.specs.Checked.{checked_cap, checked_limits, checked_unit}
@@ -33,6 +34,6 @@ pub record LinesAreWithin : Type 0 where
       (f : Frame) (targets : List Target) (before : List RangeSpec) (line : List ℕ) (r : RangeSpec)
       → range_line f targets before line ≡ Ok r → FollowsRanges f targets before r
   pub scheme :
-      (before : List SlotChange) (line : List ℕ) (change : SlotChange) → scheme_line before line ≡ Ok change
-      → checked_slot (length before) before change ≡ Ok tt
+      (version : Version) (before : List SlotChange) (line : List ℕ) (change : SlotChange)
+      → scheme_line version before line ≡ Ok change → checked_slot version (length before) before change ≡ Ok tt
   pub passes : (line : List ℕ) (n : ℕ) → passes_line line ≡ Ok n → (1 ≤ n) × (n ≤ MAX_PASSES)

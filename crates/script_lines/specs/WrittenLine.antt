@@ -10,7 +10,7 @@ use Rattle.damon_types.specs.declared.scheme.SlotChange.{SlotChange}
 use Rattle.damon_types.specs.declared.scheme.Span.{Span}
 use Rattle.damon_types.specs.declared.scheme.Weights.{Weights}
 use Rattle.script_lines.specs.declared.keys.Setting.{Setting}
-use Rattle.script_lines.specs.declared.keys.Setting.TheVariants.{Size as SizeOf, Count as CountOf, Age as AgeOf, Quota as QuotaOf, Weights as WeightsOf, Prefer as PreferOf, Marks as MarksOf, Filter as FilterOf}
+use Rattle.script_lines.specs.declared.keys.Setting.TheVariants.{Size as SizeOf, Count as CountOf, Age as AgeOf, Quota as QuotaOf, Time as TimeOf, Weights as WeightsOf, Prefer as PreferOf, Marks as MarksOf, Filter as FilterOf}
 use Rattle.script_lines.specs.Spelling.{spelled_drop, spelled_scheme}
 
 -- a setting, unless its value is the default of its key
@@ -31,10 +31,15 @@ abbrev pub pattern_given : Pattern → List Setting
 pattern_given p =
     unless (is_any p.size) (SizeOf p.size) ++ (unless (is_any p.count) (CountOf p.count) ++ unless (is_any p.age) (AgeOf p.age))
 
--- the setting of a quota, if there is one
+-- the setting of a time, if there is one
+abbrev pub time_given : Option ℕ → List Setting
+time_given None = []
+time_given (Some time) = TimeOf time ∷ []
+
+-- the settings of a quota, if there is one: its bytes and reset interval, and its time
 abbrev pub quota_given : Option Quota → List Setting
 quota_given None = []
-quota_given (Some quota) = QuotaOf quota ∷ []
+quota_given (Some quota) = QuotaOf (record quota { time = None }) ∷ time_given quota.time
 
 -- the setting of the preference, where it is not `hot`
 abbrev pub prefer_given : Prefer → List Setting

@@ -1,10 +1,12 @@
 ghost use Rattle.std.specs.Prelude.{◌≡◌};
 ghost use Rattle.script_lines.specs.Words.{words_in};
-ghost use Rattle.script_lines.specs.Fields.{attrs_in, range_in};
+ghost use Rattle.script_lines.specs.Fields.{attrs_in, cost_in, range_in};
 
 use crate::ScriptKind;
-use crate::words::{Words, four_words, read_8, read_32, read_byte_address, three_words};
-use damon_types::{Attrs, RangeSpec};
+use crate::words::{
+    Words, four_words, read_8, read_32, read_64, read_byte_address, three_words, two_words,
+};
+use damon_types::{Attrs, CostPart, RangeSpec};
 
 // Reads `MIN MAX AGGR`.
 pub fn read_attrs(words: Words) -> Result<Attrs, ScriptKind>
@@ -15,6 +17,17 @@ pub fn read_attrs(words: Words) -> Result<Attrs, ScriptKind>
         min: read_32(min)?,
         max: read_32(max)?,
         aggr: read_32(aggr)?,
+    })
+}
+
+// Reads `SLOT NANOSECONDS`.
+pub fn read_cost(words: Words) -> Result<CostPart, ScriptKind>
+    ensures { result ≡ cost_in (words_in words.entry) }
+{
+    let (slot, nanos) = two_words(words)?;
+    Ok(CostPart {
+        slot: read_8(slot)?,
+        nanos: read_64(nanos)?,
     })
 }
 

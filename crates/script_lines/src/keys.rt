@@ -1,16 +1,18 @@
-ghost use Rattle.std.specs.Prelude.{◌≡◌, ◌<◌, Ok, Err, Option, Some, None, option_map};
-ghost use Rattle.std.specs.Option.{ok_or};
+ghost use Rattle.std.specs.Prelude.{◌≡◌, None, option_map};
 ghost use Rattle.script_lines.specs.Words.{words_in};
-ghost use Rattle.script_lines.specs.Keys.{action_of, addr_of, answer_of, are_formed, filter_of, is_misformed, key_and_value, key_named, kind_of, marks_of, may_follow, plain_name, prefer_of, quota_of, scheme_in, setting_for, setting_of, span_in, weights_of, with_settings};
-ghost use Rattle.script_lines.specs.KeyViews.{view_key, view_name};
-ghost use Rattle.script_lines.specs.Settings.{default_scheme, key_place, with_setting};
+ghost use Rattle.script_lines.specs.Keys.{action_of, are_formed, comes_later, is_misformed, key_and_value, key_named, may_be_timed, may_follow, scheme_in, setting_for, setting_of, with_settings};
+ghost use Rattle.script_lines.specs.KeyViews.{view_key};
+ghost use Rattle.script_lines.specs.Settings.{default_scheme, key_place, with_setting, with_time};
 
 use crate::ScriptKind;
-use crate::words::{Words, read_8, read_16, read_32, read_64, read_byte_address, same_word};
-use damon_types::{
-    Action, Filter, FilterKind, Filters, Marks, Pattern, Prefer, Quota, Scheme, Span, Weights,
+use crate::values::{
+    read_filter, read_marks, read_prefer, read_quota, read_span, read_time, read_weights,
 };
-use line_text::{next_part, split_front, strip, three_parts, two_parts};
+use crate::words::{Words, read_8, same_word};
+use damon_types::{
+    Action, Filter, Filters, Marks, Pattern, Prefer, Quota, Scheme, Span, Version, Weights,
+};
+use line_text::{next_part, split_front};
 
 // The keys of a scheme, in the order in which they stand.
 #[derive(Clone, Copy, PartialEq, Eq)]
@@ -19,6 +21,7 @@ pub enum Key {
     Count,
     Age,
     Quota,
+    Time,
     Weights,
     Prefer,
     Marks,
@@ -31,7 +34,9 @@ pub enum Setting {
     Size(Span),
     Count(Span),
     Age(Span),
+    // Without its time, which has a key of its own.
     Quota(Quota),
+    Time(u64),
     Weights(Weights),
     Prefer(Prefer),
     Marks(Marks),
@@ -40,13 +45,13 @@ pub enum Setting {
 
 // Reads `SLOT ACTION KEYS`. A fault of form anywhere in the line is reported before a bad number, so
 // the keys are read twice.
-pub fn read_scheme(words: Words) -> Result<(u8, Scheme), ScriptKind>
-    ensures { result ≡ scheme_in (words_in words.entry) }
+pub fn read_scheme(version: Version, words: Words) -> Result<(u8, Scheme), ScriptKind>
+    ensures { result ≡ scheme_in version (words_in words.entry) }
 {
     let (slot, rest) = split_front(words.ok_or(ScriptKind::Form)?, b' ');
     let (name, keys) = split_front(rest.ok_or(ScriptKind::Form)?, b' ');
     let action = read_action(name).ok_or(ScriptKind::Form)?;
-    if !are_formed(keys) {
+    if !are_formed(version, keys) {
         return Err(ScriptKind::Form);
     }
     let slot = read_8(slot)?;
@@ -91,6 +96,7 @@ fn read_key(name: &[u8]) -> Option<Key>
         b"count" => Count,
         b"age" => Age,
         b"quota" => Quota,
+        b"time" => Time,
         b"weights" => Weights,
         b"prefer" => Prefer,
         b"marks" => Marks,
@@ -108,8 +114,8 @@ fn split_key(word: &[u8]) -> Result<(Key, &[u8]), ScriptKind>
 }
 
 // Whether words have the form of settings and stand in order.
-fn are_formed(keys: Words) -> bool
-    ensures { result ≡ are_formed None (words_in keys.entry) }
+fn are_formed(version: Version, keys: Words) -> bool
+    ensures { result ≡ are_formed version None (words_in keys.entry) }
 {
     let mut last = None;
     let mut rest = keys;
@@ -118,7 +124,7 @@ fn are_formed(keys: Words) -> bool
         let Ok((key, value)) = split_key(word) else {
             return false;
         };
-        if !may_follow(last, key) || is_misformed(key, value) {
+        if !may_follow(version, last, key) || is_misformed(key, value) {
             return false;
         }
         last = Some(key);
@@ -127,9 +133,26 @@ fn are_formed(keys: Words) -> bool
     true
 }
 
-// Whether a key may stand after the one before it: keys stand in order, and only the filter repeats.
-fn may_follow(last: Option<Key>, key: Key) -> bool
-    ensures { result ≡ may_follow (option_map key_place last) key }
+// Whether a key may stand after the one before it, if any.
+fn may_follow(version: Version, last: Option<Key>, key: Key) -> bool
+    ensures { result ≡ may_follow version (option_map key_place last) key }
+{
+    (key != Key::Time || may_be_timed(version, last)) && comes_later(last, key)
+}
+
+// Whether a time may stand after this key: after the quota, and in version Two alone.
+fn may_be_timed(version: Version, last: Option<Key>) -> bool
+    ensures { result ≡ may_be_timed version (option_map key_place last) }
+{
+    match version {
+        Version::One => false,
+        Version::Two => last == Some(Key::Quota),
+    }
+}
+
+// Whether a key comes later than the one before it: keys stand in order, and only the filter repeats.
+fn comes_later(last: Option<Key>, key: Key) -> bool
+    ensures { result ≡ comes_later (option_map key_place last) key }
 {
     match last {
         None => true,
@@ -147,10 +170,11 @@ fn place(key: Key) -> u8
         Key::Count => 1,
         Key::Age => 2,
         Key::Quota => 3,
-        Key::Weights => 4,
-        Key::Prefer => 5,
-        Key::Marks => 6,
-        Key::Filter => 7,
+        Key::Time => 4,
+        Key::Weights => 5,
+        Key::Prefer => 6,
+        Key::Marks => 7,
+        Key::Filter => 8,
     }
 }
 
@@ -194,136 +218,12 @@ fn read_value(key: Key, value: &[u8]) -> Result<Setting, ScriptKind>
         Key::Count => Ok(Setting::Count(read_span(value)?)),
         Key::Age => Ok(Setting::Age(read_span(value)?)),
         Key::Quota => Ok(Setting::Quota(read_quota(value)?)),
+        Key::Time => Ok(Setting::Time(read_time(value)?)),
         Key::Weights => Ok(Setting::Weights(read_weights(value)?)),
         Key::Prefer => Ok(Setting::Prefer(read_prefer(value)?)),
         Key::Marks => Ok(Setting::Marks(read_marks(value)?)),
         Key::Filter => Ok(Setting::Filter(read_filter(value)?)),
     }
-}
-
-// Reads `LOW,HIGH`.
-fn read_span(value: &[u8]) -> Result<Span, ScriptKind>
-    ensures { result ≡ span_in value.now }
-{
-    let (low, high) = two_parts(value, b',').ok_or(ScriptKind::Form)?;
-    Ok(Span {
-        low: read_32(low)?,
-        high: read_32(high)?,
-    })
-}
-
-// Reads `BYTES,RESET`.
-fn read_quota(value: &[u8]) -> Result<Quota, ScriptKind>
-    ensures { result ≡ quota_of value.now }
-{
-    let (bytes, reset) = two_parts(value, b',').ok_or(ScriptKind::Form)?;
-    Ok(Quota {
-        bytes: read_64(bytes)?,
-        reset: read_32(reset)?,
-    })
-}
-
-// Reads `SIZE,COUNT,AGE`.
-fn read_weights(value: &[u8]) -> Result<Weights, ScriptKind>
-    ensures { result ≡ weights_of value.now }
-{
-    let (size, count, age) = three_parts(value, b',').ok_or(ScriptKind::Form)?;
-    Ok(Weights {
-        size: read_16(size)?,
-        count: read_16(count)?,
-        age: read_16(age)?,
-    })
-}
-
-// Reads `hot` or `cold`.
-fn read_prefer(value: &[u8]) -> Result<Prefer, ScriptKind>
-    ensures { result ≡ prefer_of value.now }
-{
-    if same_word(value, b"hot") {
-        Ok(Prefer::Hot)
-    } else if same_word(value, b"cold") {
-        Ok(Prefer::Cold)
-    } else {
-        Err(ScriptKind::Form)
-    }
-}
-
-// Reads `HIGH,MID,LOW`.
-fn read_marks(value: &[u8]) -> Result<Marks, ScriptKind>
-    ensures { result ≡ marks_of value.now }
-{
-    let (high, mid, low) = three_parts(value, b',').ok_or(ScriptKind::Form)?;
-    Ok(Marks {
-        high: read_32(high)?,
-        mid: read_32(mid)?,
-        low: read_32(low)?,
-    })
-}
-
-// Reads `ANSWER:KIND:VALUE`.
-fn read_filter(value: &[u8]) -> Result<Filter, ScriptKind>
-    ensures { result ≡ filter_of value.now }
-{
-    let (answer, name, value) = three_parts(value, b':').ok_or(ScriptKind::Form)?;
-    let allow = read_answer(answer)?;
-    let (matching, name) = plain_name(name);
-    let kind = read_kind(name, value)?;
-    Ok(Filter {
-        allow,
-        matching,
-        kind,
-    })
-}
-
-// Reads `allow` or `reject`: whether pages pass.
-fn read_answer(name: &[u8]) -> Result<bool, ScriptKind>
-    ensures { result ≡ answer_of name.now }
-{
-    if same_word(name, b"allow") {
-        Ok(true)
-    } else if same_word(name, b"reject") {
-        Ok(false)
-    } else {
-        Err(ScriptKind::Form)
-    }
-}
-
-// Whether a name has no `not-` before it, and the name without it.
-fn plain_name(name: &[u8]) -> (bool, &[u8])
-    ensures { view_name result ≡ plain_name name.now }
-{
-    match strip(name, b"not-") {
-        Some(bare) => (false, bare),
-        None => (true, name),
-    }
-}
-
-// Reads the kind of pages with this name and value.
-fn read_kind(name: &[u8], value: &[u8]) -> Result<FilterKind, ScriptKind>
-    ensures { result ≡ kind_of name.now value.now }
-{
-    if same_word(name, b"addr") {
-        read_addr(value)
-    } else if same_word(name, b"target") {
-        let target = read_32(value)?;
-        Ok(FilterKind::Target { target })
-    } else if same_word(name, b"class") {
-        let class = read_8(value)?;
-        Ok(FilterKind::Class { class })
-    } else {
-        Err(ScriptKind::Form)
-    }
-}
-
-// Reads `FROM-TO`.
-fn read_addr(value: &[u8]) -> Result<FilterKind, ScriptKind>
-    ensures { result ≡ addr_of value.now }
-{
-    let (from, to) = two_parts(value, b'-').ok_or(ScriptKind::Form)?;
-    Ok(FilterKind::Addr {
-        from: read_byte_address(from)?,
-        to: read_byte_address(to)?,
-    })
 }
 
 // The scheme of an action with each key at its default.
@@ -362,6 +262,7 @@ fn with_setting(mut scheme: Scheme, setting: Setting) -> Result<Scheme, ScriptKi
         Setting::Count(count) => scheme.pattern.count = count,
         Setting::Age(age) => scheme.pattern.age = age,
         Setting::Quota(quota) => scheme.quota = Some(quota),
+        Setting::Time(time) => scheme.quota = with_time(scheme.quota, time),
         Setting::Weights(weights) => scheme.weights = weights,
         Setting::Prefer(prefer) => scheme.prefer = prefer,
         Setting::Marks(marks) => scheme.marks = Some(marks),
@@ -372,4 +273,18 @@ fn with_setting(mut scheme: Scheme, setting: Setting) -> Result<Scheme, ScriptKi
         }
     }
     Ok(scheme)
+}
+
+// A quota, if there is one, with this time.
+fn with_time(quota: Option<Quota>, time: u64) -> Option<Quota>
+    ensures { result ≡ with_time quota time }
+{
+    match quota {
+        Some(Quota { bytes, reset, .. }) => Some(Quota {
+            bytes,
+            reset,
+            time: Some(time),
+        }),
+        None => None,
+    }
 }

@@ -13,7 +13,7 @@ pub enum ScriptKind {
     After,
     /// The text ends before the LF of this line.
     Cut,
-    /// The first line is not `damon script 1`.
+    /// The first line is none of the two headers of this kind of text.
     Header,
     /// The first word, up to a space or the line's end, is not allowed at this place.
     Word,

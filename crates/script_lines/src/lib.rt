@@ -21,6 +21,8 @@ mod part;
 mod setup;
 /// Touch lines in one pass.
 mod touches;
+/// The values of the keys of a scheme.
+mod values;
 /// The words of a line.
 mod words;
 /// Appending lines.
@@ -43,4 +45,6 @@ pub use setup::{
 };
 pub use touches::leading_touch;
 pub use words::{alone, first_word, same_word};
-pub use writers::{write_attrs, write_change_line, write_number_line, write_range, write_target};
+pub use writers::{
+    write_attrs, write_change_line, write_cost, write_number_line, write_range, write_target,
+};

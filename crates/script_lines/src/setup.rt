@@ -9,13 +9,14 @@ use crate::ScriptKind;
 use crate::fields::{read_attrs, read_range};
 use crate::keys::read_scheme;
 use crate::words::{Words, arguments, one_word, read_32, read_64, read_byte_address, two_words};
-use damon_types::{Attrs, RangeSpec, SlotChange, Space, Target};
+use damon_types::{Attrs, RangeSpec, SlotChange, Space, Target, Version};
 use live_commit::{MAX_CAP, MAX_UNIT, MIN_CAP};
 use target_ranges::check_next;
 
 /// What the lines of a setup say before its targets.
 #[derive(Clone, Copy)]
 pub struct Frame {
+    pub version: Version,
     pub seed: u64,
     pub unit: u32,
     pub cap: u32,
@@ -108,16 +109,20 @@ pub fn read_range_line(
     Ok(range)
 }
 
-/// Reads `scheme SLOT ACTION KEYS` after other schemes.
+/// Reads `scheme SLOT ACTION KEYS` of a version, after other schemes.
 #[tactic(auto, using(crate::proofs::SlotLemmas::checked_slot_accepted))]
-pub fn read_scheme_line(before: &[SlotChange], line: &[u8]) -> Result<SlotChange, ScriptKind>
-    ensures exact { result ≡ scheme_line before.now line.now }
-    ensures accepted { IfOk result (λ c. checked_slot (length before.now) before.now c ≡ Ok tt) }
+pub fn read_scheme_line(
+    version: Version,
+    before: &[SlotChange],
+    line: &[u8],
+) -> Result<SlotChange, ScriptKind>
+    ensures exact { result ≡ scheme_line version before.now line.now }
+    ensures accepted { IfOk result (λ c. checked_slot version (length before.now) before.now c ≡ Ok tt) }
     ensures set { IfOk result (λ c. has_scheme c ≡ true) }
 {
-    let (slot, scheme) = read_scheme(arguments(b"scheme", line)?)?;
+    let (slot, scheme) = read_scheme(version, arguments(b"scheme", line)?)?;
     scheme
-        .check(slot)
+        .check_in(version, slot)
         .map_err(|why| ScriptKind::Scheme { why })?;
     if is_changed(slot, before) {
         return Err(ScriptKind::Repeated);

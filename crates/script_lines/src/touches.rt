@@ -7,8 +7,8 @@ ghost use Rattle.script_lines.specs.Touches.{BeginsWithTouch};
 use damon_types::{Space, pages_rise};
 use line_text::{leading_address, leading_number, leading_numbers_are_spelled, strip};
 
-/// The page of the touch line at the front of a text, and the text after that line. `None` for any other
-/// front, also a touch line with a fault.
+/// The page of the touch line at the front of a text, and the text after that line. A shortcut before the
+/// reader of any line: `None` says nothing of the front, which is then read as any other line.
 pub fn leading_touch<'a>(space: &Space, text: &'a [u8]) -> Option<(u32, &'a [u8])>
     ensures line { IfSome result (λ x. BeginsWithTouch space.now text.now x.0 x.1.now) }
     ensures below { IfSome result (λ x. x.0 < pages_of space.now) }

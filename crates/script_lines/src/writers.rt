@@ -3,11 +3,11 @@ ghost use Rattle.std.specs.Prelude.{◌≡◌, [], ◌∷◌, ◌++◌, OnOk};
 ghost use Rattle.std.specs.Fmt.{decimal};
 ghost use Rattle.script_lines.specs.Kept.{KeepsFront};
 ghost use Rattle.script_lines.specs.Lines.{lines_text};
-ghost use Rattle.script_lines.specs.Spelling.{spelled_attrs, spelled_range, spelled_target};
+ghost use Rattle.script_lines.specs.Spelling.{spelled_attrs, spelled_cost, spelled_range, spelled_target};
 ghost use Rattle.script_lines.specs.WrittenLine.{change_text};
 
 use crate::written::{end_line, write_address, write_change, write_field};
-use damon_types::{Attrs, RangeSpec, SlotChange, Target};
+use damon_types::{Attrs, CostPart, RangeSpec, SlotChange, Target};
 use std::alloc::AllocError;
 
 /// Appends a line of a word and a number.
@@ -68,5 +68,17 @@ pub fn write_change_line(out: &mut Vec<u8>, change: &SlotChange) -> Result<(), A
     ensures kept { KeepsFront out.old.items out.new.items }
 {
     write_change(out, change)?;
+    end_line(out)
+}
+
+/// Appends `cost SLOT NANOSECONDS`.
+#[tactic(auto, using(crate::proofs::Appending::appends))]
+pub fn write_cost(out: &mut Vec<u8>, cost: &CostPart) -> Result<(), AllocError>
+    ensures ok { OnOk result (out.new.items
+        ≡ out.old.items ++ lines_text (spelled_cost cost.now ∷ [])) }
+    ensures kept { KeepsFront out.old.items out.new.items }
+{
+    write_field(out, b"cost ", u64::from(cost.slot))?;
+    write_field(out, b" ", cost.nanos)?;
     end_line(out)
 }

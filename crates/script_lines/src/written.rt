@@ -6,7 +6,7 @@ ghost use Rattle.script_lines.specs.Kept.{KeepsFront};
 ghost use Rattle.script_lines.specs.KeysText.{keys_text};
 ghost use Rattle.script_lines.specs.Separators.{colon};
 ghost use Rattle.script_lines.specs.Spelling.{kind_name, kind_value, listed, spelled_action, spelled_answer, spelled_filter, spelled_scheme, spelled_setting, spelled_side, spelled_span};
-ghost use Rattle.script_lines.specs.WrittenLine.{are_even, change_text, is_any, marks_given, pattern_given, prefer_given, quota_given, settings_given, unless};
+ghost use Rattle.script_lines.specs.WrittenLine.{are_even, change_text, is_any, marks_given, pattern_given, prefer_given, quota_given, settings_given, time_given, unless};
 ghost use Rattle.script_lines.specs.declared.keys.Setting.TheVariants.{Filter as filter_setting};
 
 use crate::keys::Setting;
@@ -126,14 +126,33 @@ fn is_any(span: Span) -> bool
     span.low == 0 && span.high == u32::MAX
 }
 
-// Appends the key of a quota, if there is one.
-#[tactic(auto, using(crate::proofs::Appending::appends))]
+// Appends the keys of a quota, if there is one, and of its time.
 fn write_quota(out: &mut Vec<u8>, quota: Option<Quota>) -> Result<(), AllocError>
     ensures ok { OnOk result (out.new.items ≡ out.old.items ++ keys_text (quota_given quota)) }
     ensures kept { KeepsFront out.old.items out.new.items }
 {
     match quota {
-        Some(quota) => write_unless(out, false, Setting::Quota(quota)),
+        Some(Quota { bytes, reset, time }) => {
+            let bare = Quota {
+                bytes,
+                reset,
+                time: None,
+            };
+            write_unless(out, false, Setting::Quota(bare))?;
+            write_time(out, time)
+        }
+        None => Ok(()),
+    }
+}
+
+// Appends the key of a time, if there is one.
+#[tactic(auto, using(crate::proofs::Appending::appends))]
+fn write_time(out: &mut Vec<u8>, time: Option<u64>) -> Result<(), AllocError>
+    ensures ok { OnOk result (out.new.items ≡ out.old.items ++ keys_text (time_given time)) }
+    ensures kept { KeepsFront out.old.items out.new.items }
+{
+    match time {
+        Some(time) => write_unless(out, false, Setting::Time(time)),
         None => Ok(()),
     }
 }
@@ -198,10 +217,11 @@ fn write_setting(out: &mut Vec<u8>, setting: Setting) -> Result<(), AllocError>
         Setting::Size(span) => write_span(out, b"size=", span),
         Setting::Count(span) => write_span(out, b"count=", span),
         Setting::Age(span) => write_span(out, b"age=", span),
-        Setting::Quota(Quota { bytes, reset }) => {
+        Setting::Quota(Quota { bytes, reset, .. }) => {
             write_field(out, b"quota=", bytes)?;
             write_field(out, b",", u64::from(reset))
         }
+        Setting::Time(time) => write_field(out, b"time=", time),
         Setting::Weights(Weights { size, count, age }) => {
             write_three(
                 out,

@@ -8,3 +8,6 @@ mod live;
 /// Scripts.
 #[cfg(test)]
 mod scripts;
+/// What is written of setups and commits.
+#[cfg(test)]
+mod written;

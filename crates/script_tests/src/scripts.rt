@@ -59,7 +59,7 @@ fn expect_faults(
 #[test]
 fn lines_have_faults(rt: HostRuntime) -> Result<(), Fail> {
     let cases: [(usize, &[u8], u64, ScriptKind); 20] = [
-        (1, b"damon script 2", 1, ScriptKind::Header),
+        (1, b"damon script 3", 1, ScriptKind::Header),
         (2, b"seeds 1", 2, ScriptKind::Word),
         (2, b"seed 18446744073709551616", 2, ScriptKind::Number),
         (3, b"unit 1\r", 3, ScriptKind::Form),

@@ -1,5 +1,6 @@
 -- The definitions on examples.
 use Rattle.std.proofs.Common.{◌≡◌, [], ◌∷◌, codes, Ok, Some, refl}
+use Rattle.damon_types.specs.declared.scheme.Version.TheVariants.{One}
 use Rattle.script_lines.specs.Command.{Arm, Finish, Sweep, Touch}
 use Rattle.script_lines.specs.Head.{scheme_line, target_line}
 use Rattle.trace_gen.specs.declared.access.Access.TheVariants.{Sequential, Stride, HotSpot, Phases}
@@ -51,5 +52,5 @@ two_blocks = refl
 target-0 : target_line [] (codes "target 0x0 1024") ≡ Ok (record { base = 0; pages = 1024 })
 target-0 = refl
 
-scheme-0 : scheme_line [] (codes "scheme 0 pageout count=0,0 age=2,4294967295 quota=409600,20 prefer=cold") ≡ Ok (record { slot = 0; scheme = Some gen_scheme })
+scheme-0 : scheme_line One [] (codes "scheme 0 pageout count=0,0 age=2,4294967295 quota=409600,20 prefer=cold") ≡ Ok (record { slot = 0; scheme = Some gen_scheme })
 scheme-0 = refl

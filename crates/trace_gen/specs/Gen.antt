@@ -4,6 +4,7 @@ use Rattle.damon_types.specs.declared.scheme.Action.TheVariants.{Pageout}
 use Rattle.damon_types.specs.declared.scheme.Prefer.TheVariants.{Cold}
 use Rattle.damon_types.specs.declared.scheme.Scheme.{Scheme}
 use Rattle.damon_types.specs.declared.scheme.Span.{Span}
+use Rattle.damon_types.specs.declared.scheme.Version.TheVariants.{One}
 use Rattle.live_commit.specs.Setup.{SetupValue}
 use Rattle.script_lines.specs.Command.{Arm, CommandValue, Finish, Sweep, Touch}
 use Rattle.damon_control.specs.Script.{ScriptValue}
@@ -17,7 +18,7 @@ abbrev pub gen_scheme : Scheme
 gen_scheme = record {
   action = Pageout;
   pattern = record { size = any; count = record { low = 0; high = 0 }; age = record { low = 2; high = 2 ^ 32 - 1 } };
-  quota = Some (record { bytes = 409600; reset = 20 });
+  quota = Some (record { bytes = 409600; reset = 20; time = None });
   weights = record { size = 1; count = 1; age = 1 };
   prefer = Cold;
   marks = None;
@@ -30,6 +31,7 @@ gen_scheme = record {
 -- the setup of every generated script: 1,024 pages from address 0, all watched, and one scheme
 abbrev pub gen_setup : SetupValue
 gen_setup = record {
+  version = One;
   space = record { base = 0x0; pages = 1024 } ∷ [];
   unit = 1;
   cap = 100;

@@ -5,7 +5,7 @@ ghost use Rattle.trace_gen.specs.Gen.{gen_scheme, gen_setup};
 
 use damon_types::{
     Action, Attrs, Filters, PAGE_SIZE, Pattern, Prefer, Quota, RangeSpec, Scheme, SlotChange,
-    Space, Span, Target, Weights,
+    Space, Span, Target, Version, Weights,
 };
 use live_commit::Setup;
 use std::alloc::{AllocError, Global};
@@ -43,7 +43,16 @@ pub fn make_setup(alloc: Global) -> Result<Setup, AllocError>
         slot: 0,
         scheme: Some(make_scheme()),
     };
-    Setup::of_checked(alloc, space, 1, 100, attrs, &[watched], &[slot])
+    Setup::of_checked(
+        alloc,
+        Version::One,
+        space,
+        1,
+        100,
+        attrs,
+        &[watched],
+        &[slot],
+    )
 }
 
 // The scheme of slot 0.
@@ -63,6 +72,7 @@ fn make_scheme() -> Scheme
         quota: Some(Quota {
             bytes: 409_600,
             reset: 20,
+            time: None,
         }),
         weights: Weights {
             size: 1,

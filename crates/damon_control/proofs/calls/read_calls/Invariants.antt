@@ -9,7 +9,7 @@ use Rattle.damon_control.proofs.calls.read_calls.Given as goal
 
 abbrev pub invariant-calls : goal.invariant-calls
 invariant-calls l = record {
-  said : (v : LiveValue) (cs : List (List CallValue)) → count_all cs ≡ l.fn.calls
+  said : (v : LiveValue) (cs : List (List CallValue)) → v.setup.version ≡ l.version → count_all cs ≡ l.fn.calls
       → reads_left OfLive (InBody (with_controllers v (cs ++ [] ∷ []))) l.fn.lines ≡ reads_left OfLive (InBody (with_controllers v (cs ++ map call_value l.list.list ∷ []))) l.lines;
   sum : l.calls ≡ l.fn.calls + length l.list.list;
   most : l.calls ≤ MAX_CALLS;

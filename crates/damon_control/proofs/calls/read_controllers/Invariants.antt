@@ -9,7 +9,7 @@ use Rattle.damon_control.proofs.calls.read_controllers.Given as goal
 
 abbrev pub invariant-controllers : goal.invariant-controllers
 invariant-controllers l = record {
-  said : (v : LiveValue) → reads_left OfLive (InBody (with_controllers v [])) l.fn.lines ≡ reads_left OfLive (InBody (with_controllers v (calls_of l.controllers.list))) l.lines;
+  said : (v : LiveValue) → v.setup.version ≡ l.version → reads_left OfLive (InBody (with_controllers v [])) l.fn.lines ≡ reads_left OfLive (InBody (with_controllers v (calls_of l.controllers.list))) l.lines;
   sum : count_all (calls_of l.controllers.list) ≡ l.calls;
   most : l.calls ≤ MAX_CALLS;
   few : length l.controllers.list ≤ MAX_CONTROLLERS;

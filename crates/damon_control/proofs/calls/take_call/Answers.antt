@@ -19,12 +19,12 @@ returns-in_ok-commit-clause-ok c =
     let line = c.in_ok-line.line.now in
     let begins : begins_with (codes "commit") line ≡ true = c.first_word.ensures (codes "commit") ∙ sym c.same_word.ensures ∙ c.if-same_word.true in
     let said : at l.taken (alone (codes "commit") line) ≡ Ok tt = ap (at l.taken) (sym c.alone.ensures) ∙ sym c.refuse.ensures ∙ c.in_ok-refuse.was in
-    λ v cs t.
+    λ v cs t same.
     let p = with_controllers v (cs ++ t ∷ []) in
     c.in_ok-line.ensures.line OfLive (InBody p)
     ∙ ap (λ r. at l.taken r >>= λ next. reads_left OfLive next l) (commit_after v cs t line begins)
     ∙ taken_alone l.taken (alone (codes "commit") line) (InCommit p no_commit) l said
-    ∙ c.in_ok-read_commit.ensures.ok OfLive p
+    ∙ c.in_ok-read_commit.ensures.ok OfLive p same
     ∙ call_read v cs t (CommitCall (commit_value c.in_ok-read_commit.field-0)) c.read_commit.new.lines
     ∙ ap (λ (commit : Commit). reads_call v cs t (CommitCall (commit_value commit)) c.read_commit.new.lines) (sym c.in_ok-commit.ensures.ok)
 
@@ -37,7 +37,7 @@ returns-in_ok-refuse-2-clause-ok c =
     let either : (begins_with (codes "show") line || begins_with (codes "commit") line) ≡ true = sym (λ i. first (codes "show") i || first (codes "commit") i) ∙ c.requires.wanted in
     let begins : begins_with (codes "show") line ≡ true = first_of_two (begins_with (codes "show") line) (begins_with (codes "commit") line) either other in
     let said : alone (codes "show") line ≡ Ok tt = at_ok l.taken (alone (codes "show") line) tt (ap (at l.taken) (sym c.alone-else-same_word.ensures) ∙ sym c.refuse-else-same_word.ensures ∙ c.in_ok-refuse-2.was) in
-    λ v cs t.
+    λ v cs t same.
     let p = with_controllers v (cs ++ t ∷ []) in
     c.in_ok-line.ensures.line OfLive (InBody p)
     ∙ ap (λ r. at l.taken r >>= λ next. reads_left OfLive next l) (show_after v cs t line begins said)

@@ -3,12 +3,12 @@ use Rattle.live_commit.specs.Commit.{commit_value}
 use Rattle.damon_control.specs.declared.grammar.Grammar.{Grammar}
 use Rattle.script_lines.specs.Body.{no_commit}
 use Rattle.damon_control.specs.Left.{IsShort, reads_left}
-use Rattle.damon_control.specs.Script.{InCommit, Within}
+use Rattle.damon_control.specs.Script.{InCommit, Within, version_in}
 use Rattle.damon_control.proofs.commit.read_commit.Given as goal
 
 abbrev pub invariant-lines : goal.invariant-lines
 invariant-lines l = record {
-  said : (g : Grammar) (b : Within g) → reads_left g (InCommit b no_commit) l.fn.lines ≡ reads_left g (InCommit b (commit_value l.commit)) l.lines;
+  said : (g : Grammar) (b : Within g) → version_in g b ≡ l.version → reads_left g (InCommit b no_commit) l.fn.lines ≡ reads_left g (InCommit b (commit_value l.commit)) l.lines;
   few : IfSome l.commit.ranges (λ r. length r.list ≤ l.lines.taken);
   later : l.fn.lines.taken ≤ l.lines.taken;
   shorter : length l.lines.rest.now ≤ length l.fn.lines.rest.now;

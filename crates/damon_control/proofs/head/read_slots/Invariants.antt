@@ -8,7 +8,7 @@ use Rattle.damon_control.proofs.head.read_slots.Given as goal
 abbrev pub invariant-schemes : goal.invariant-schemes
 invariant-schemes l = record {
   said : (g : Grammar) → reads_left g (AtSchemes l.frame l.space l.specs.list []) l.fn.lines ≡ reads_left g (AtSchemes l.frame l.space l.specs.list l.slots.list) l.lines;
-  sound : checked_slots l.slots.list ≡ Ok tt;
+  sound : checked_slots l.frame.version l.slots.list ≡ Ok tt;
   set : kept_slots l.slots.list ≡ l.slots.list;
   few : length l.slots.list ≤ l.lines.taken;
   small : IsShort l.lines;

@@ -38,7 +38,7 @@ returns-in_err-controllers-clause-fault c =
     let w = with_workers v (traces_of c.in_ok-workers.workers.list) in
     let p = err_from_is_err_and c.from_residual-in_err-controllers.result c.from_residual-in_err-controllers.ensures.1 in
     let start = at_start c.args.text.now c.new-lines.result c.new-lines.ensures.rest c.new-lines.ensures.taken ∙ c.in_ok-seed.ensures.ok ∙ c.in_ok-workers.ensures.ok v refl in
-    rw (p.1, p.2) (subst (FaultIs c.in_err-controllers.field-0.0) (sym start) (c.in_err-controllers.ensures.fault w))
+    rw (p.1, p.2) (subst (FaultIs c.in_err-controllers.field-0.0) (sym start) (c.in_err-controllers.ensures.fault w refl))
 
 pub returns-in_err-read_end-clause-fault : goal.returns-in_err-read_end-clause-fault
 returns-in_err-read_end-clause-fault c =
@@ -53,7 +53,7 @@ returns-in_err-read_end-clause-fault c =
     let start = at_start c.args.text.now c.new-lines.result c.new-lines.ensures.rest c.new-lines.ensures.taken
     ∙ c.in_ok-seed.ensures.ok
     ∙ c.in_ok-workers.ensures.ok v refl
-    ∙ c.in_ok-controllers.ensures.ok w
+    ∙ c.in_ok-controllers.ensures.ok w refl
     in
     let p = err_from_is_err_and c.from_residual-in_err-read_end.result c.from_residual-in_err-read_end.ensures.1 in
     rw (p.1, p.2) (start ∙ c.in_err-read_end.ensures.fault done block)
@@ -71,7 +71,7 @@ returns-in_err-end-clause-fault c =
     let start = at_start c.args.text.now c.new-lines.result c.new-lines.ensures.rest c.new-lines.ensures.taken
     ∙ c.in_ok-seed.ensures.ok
     ∙ c.in_ok-workers.ensures.ok v refl
-    ∙ c.in_ok-controllers.ensures.ok w
+    ∙ c.in_ok-controllers.ensures.ok w refl
     in
     let p = err_from_is_err_and c.from_residual-in_err-end.result c.from_residual-in_err-end.ensures.1 in
     rw (p.1, p.2) (start ∙ c.in_ok-read_end.ensures.ok done block ∙ c.in_err-end.ensures.fault OfLive done)
@@ -89,6 +89,6 @@ returns-clause-script c =
     at_start c.args.text.now c.new-lines.result c.new-lines.ensures.rest c.new-lines.ensures.taken
     ∙ c.in_ok-seed.ensures.ok
     ∙ c.in_ok-workers.ensures.ok v refl
-    ∙ c.in_ok-controllers.ensures.ok w
+    ∙ c.in_ok-controllers.ensures.ok w refl
     ∙ c.in_ok-read_end.ensures.ok done block
     ∙ c.in_ok-end.ensures.ok OfLive done

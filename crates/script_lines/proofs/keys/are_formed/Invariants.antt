@@ -6,7 +6,7 @@ use Rattle.script_lines.proofs.WordLemmas.{size_left}
 use Rattle.script_lines.proofs.keys.are_formed.Given as goal
 
 abbrev pub invariant-words : goal.invariant-words
-invariant-words l = are_formed None (words_in l.keys) ≡ are_formed (option_map key_place l.last) (words_in l.rest)
+invariant-words l = are_formed l.version None (words_in l.keys) ≡ are_formed l.version (option_map key_place l.last) (words_in l.rest)
 
 abbrev pub decreases-words : goal.decreases-words
 decreases-words l = size_left l.rest
