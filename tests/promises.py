@@ -14,7 +14,7 @@ The heads of that page's tables say what is in them:
 import re
 import sys
 
-from definitions import TOP, Repository
+from sources import TOP, Repository
 
 PAGE = TOP / "docs/PROMISES.md"
 TOP_CALL = "damon_app::replay_main"
