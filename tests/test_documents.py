@@ -105,7 +105,7 @@ class Trusted(unittest.TestCase):
 
     def test_no_page_names_one_build_of_the_toolchain(self) -> None:
         for page in PAGES:
-            self.assertNotIn("rattle-kit-", page.read_text(), page.name)
+            self.assertFalse("rattle-kit-" in page.read_text(), page.name)
 
 
 class Pages(unittest.TestCase):
