@@ -41,7 +41,10 @@ PART_OF_A_JOB = 0.6
 
 
 class Crate(NamedTuple):
+    """A crate: its line of `crates.txt`, the crates of the repository that it uses, and its size in lines."""
+
     name: str
+    line: str
     uses: List[str]
     code: int
     proofs: int
@@ -69,19 +72,17 @@ class NotProved(Exception):
 
 def crates_for(program: str) -> Dict[str, Crate]:
     """The crates that a program uses, each after those that it uses itself, and the program at the end."""
-    uses = {}
-    for line in (TOP / "crates.txt").read_text().splitlines():
-        name, _, used = line.partition("#")[0].partition(":")
-        if name.strip():
-            uses[name.split()[0]] = used.split()
+    lines = [line.partition("#")[0] for line in (TOP / "crates.txt").read_text().splitlines()]
+    listed = {line.split(":")[0].split()[0]: line for line in lines if line.strip()}
     found: Dict[str, Crate] = {}
 
     def add(name: str) -> None:
-        if name in uses and name not in found:
-            for below in uses[name]:
-                add(below)
-            own = [below for below in uses[name] if below in uses]
-            found[name] = Crate(name, own, lines_in(name, ".rt"), lines_in(name, ".antt"))
+        if name in listed and name not in found:
+            uses = listed[name].partition(":")[2].split()
+            for used in uses:
+                add(used)
+            own = [used for used in uses if used in listed]
+            found[name] = Crate(name, listed[name], own, lines_in(name, ".rt"), lines_in(name, ".antt"))
 
     add(program)
     return found
@@ -168,7 +169,8 @@ class Build:
             while waiting or self.running:
                 ready = [name for name in waiting if all(it in built for it in self.crates[name].uses)]
                 for at, name in enumerate(ready):
-                    if self._start(name, len(ready) - at):
+                    # The first of the waiting crates begins the longest chain that is left: it decides how long all takes.
+                    if self._start(name, len(ready) - at, leads=name == waiting[0]):
                         waiting.remove(name)
                 self.progress.under_way([run.name for run in self.running])
                 built += self._ended()
@@ -179,13 +181,16 @@ class Build:
                 run.process.wait()
                 self._keep(run)
 
-    def _start(self, name: str, ready: int) -> bool:
-        """Starts the proof of a crate, if there is a processor and memory for it."""
+    def _start(self, name: str, ready: int, leads: bool) -> bool:
+        """Starts the proof of a crate, if there is a processor and memory for it. So many are `ready` from this one on."""
         idle = self.jobs - sum(run.jobs for run in self.running)
         room = self.memory - sum(run.memory for run in self.running)
         if idle < 1 or (self.running and memory_for(name, self.crates, 1) > room):
             return False
-        jobs = max(1, min(MOST_JOBS, idle // ready))
+        # Rounded up: the crates with the longest chains come first, and get what is over.
+        jobs = min(MOST_JOBS, -(-idle // ready))
+        if leads and self.jobs > 2:
+            jobs = max(jobs, min(2, idle))
         while jobs > 1 and memory_for(name, self.crates, jobs) > room:
             jobs -= 1
         folder = self._folder_for(name)
@@ -202,10 +207,9 @@ class Build:
         """A folder in which a crate can be proved: a repository with it and the crates below it, as hard links."""
         top = self.scratch / name
         top.mkdir()
-        for file in ("crates.txt", "HANDLES"):
-            if (TOP / file).exists():
-                shutil.copy2(TOP / file, top / file)
-        for crate in [*below(name, self.crates), name]:
+        there = [*below(name, self.crates), name]
+        (top / "crates.txt").write_text("".join(f"{self.crates[it].line}\n" for it in there))
+        for crate in there:
             for part in (*SOURCES, "out/rlib"):
                 if (TOP / "crates" / crate / part).is_dir():
                     linked(TOP / "crates" / crate / part, top / "crates" / crate / part)
