@@ -254,8 +254,17 @@ def lock(crates: Dict[str, Crate], locks: ExitStack) -> None:
             fcntl.flock(folder, fcntl.LOCK_EX)
 
 
+def place_for_links() -> Path:
+    """A folder on the file system of the checkout, so that its files can be linked: the system's own, or else `out`."""
+    place = Path(tempfile.gettempdir())
+    if place.stat().st_dev != TOP.stat().st_dev:
+        place = TOP / "out"
+        place.mkdir(exist_ok=True)
+    return place
+
+
 def linked(source: Path, target: Path) -> None:
-    """Makes a folder whose files are hard links to those of another, or copies on another file system."""
+    """Makes a folder whose files are hard links to those of another, or copies where there are no links."""
 
     def link(file: str, to: str) -> None:
         try:
@@ -272,7 +281,7 @@ def build(program: str, jobs: Optional[int]) -> int:
         sys.exit(f"build.py: crates.txt has no crate {program}")
     jobs = jobs or len(os.sched_getaffinity(0))
     progress = Progress(len(crates))
-    with tempfile.TemporaryDirectory(prefix="damon-build-") as scratch, ExitStack() as locks:
+    with tempfile.TemporaryDirectory(prefix="damon-build-", dir=place_for_links()) as scratch, ExitStack() as locks:
         lock(crates, locks)
         try:
             Build(crates, jobs, Path(scratch), progress).libraries()

@@ -10,7 +10,7 @@ definitions of the toolchain are not looked at.
 import re
 import sys
 from pathlib import Path
-from typing import Dict, FrozenSet, Iterable, Iterator, List, NamedTuple, Set, Tuple, Union
+from typing import Dict, FrozenSet, Iterable, Iterator, List, NamedTuple, Optional, Set, Tuple, Union
 
 TOP = Path(__file__).resolve().parent.parent
 
@@ -270,12 +270,13 @@ def rust_constants(crate: str, text: str, exports: Exports) -> Scope:
 
 def contracts(text: str, exported: FrozenSet[str]) -> Iterator[Tuple[str, str]]:
     """Gives each exported function of a file with the text of its clauses, and each model's value."""
-    owner, all_public, lines = None, False, iter(text.splitlines())
+    owner: Optional[str] = None
+    all_public, lines = False, iter(text.splitlines())
     for line in lines:
         if line and not line[0].isspace():
             found = OWNER.match(line)
             # The functions of a trait, and of a type's form of a trait, are as public as the type.
-            owner, all_public = found and found[1], line.startswith("pub trait") or " for " in line
+            owner, all_public = found[1] if found else None, line.startswith("pub trait") or " for " in line
         head = FUNCTION.match(line)
         if owner in exported and line.strip().startswith("ghost Value"):
             yield str(owner), "ensures value " + line

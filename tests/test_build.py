@@ -123,6 +123,13 @@ class Building(unittest.TestCase):
             self.assertEqual((self.top / "crates" / name / "out/rlib/stamp").read_text(), "built")
             self.assertEqual((self.top / "crates" / name / "out/incremental/work").read_text(), "proved")
 
+    def test_a_failed_proof_keeps_what_earlier_ones_have_left(self) -> None:
+        self.run_it("build.py", "--jobs", "4")
+        work = self.top / "crates/left/out/incremental/work"
+        work.write_text("proved before")
+        self.run_it("build.py", "--jobs", "4", BAD_CRATE="left")
+        self.assertEqual(work.read_text(), "proved before")
+
     def test_a_program_that_is_built_is_only_run(self) -> None:
         first = self.run_it("damon", "gen", "1")
         self.assertEqual((first.returncode, first.stdout), (0, "ran gen 1\n"), first.stderr)
