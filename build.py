@@ -13,7 +13,8 @@ was built is moved to its place afterwards. Whether it is right is not decided h
 program in its place, and proves again whatever does not fit the sources.
 
 On a terminal one line on standard error is rewritten; elsewhere there is a line for each crate. The exit status
-is 1 if a crate is not proved; its log is then on standard error.
+is 1 if a crate is not proved; its log is then on standard error. If a proof is killed, most likely for memory, the
+rest is proved one crate after another.
 """
 import argparse
 import fcntl
@@ -32,11 +33,11 @@ SOURCES = ("src", "specs", "proofs")
 # More processes than this do not make the proof of one crate faster.
 MOST_JOBS = 4
 # What a proof takes is estimated in bytes: at least this, ..
-LEAST_MEMORY = 1_500_000_000
+LEAST_MEMORY = 1_000_000_000
 # .. and more for each line of its code, of its proofs, and of the code below it; another process takes this part of it.
-LINE_OF_CODE = 1_000_000
-LINE_OF_PROOF = 200_000
-LINE_BELOW = 150_000
+LINE_OF_CODE = 800_000
+LINE_OF_PROOF = 100_000
+LINE_BELOW = 100_000
 PART_OF_A_JOB = 0.6
 
 
@@ -68,6 +69,10 @@ class Run(NamedTuple):
 
 class NotProved(Exception):
     """A crate was not proved; the text is its log."""
+
+
+class Killed(Exception):
+    """The proof of a crate was ended from outside, most likely for memory; the text is its name."""
 
 
 def crates_for(program: str) -> Dict[str, Crate]:
@@ -229,8 +234,10 @@ class Build:
         for run in ended:
             self.running.remove(run)
             self._keep(run)
-            if run.process.returncode:
+            if run.process.returncode in (1, 2, 3):
                 raise NotProved(run.log.read_text(errors="replace"))
+            if run.process.returncode:
+                raise Killed(run.name)
             self.progress.ended(run.name, time.monotonic() - run.begun)
         return [run.name for run in ended]
 
@@ -289,6 +296,10 @@ def build(program: str, jobs: Optional[int]) -> int:
             progress.close()
             print(log, end="", file=sys.stderr)
             return 1
+        except Killed as name:
+            progress.close()
+            print(f"the proof of {name} was killed: the others follow one by one", file=sys.stderr)
+            jobs = 1
     begun = time.monotonic()
     progress.under_way([program])
     # `rt run` also runs what it built. `build` is no command of damon, so that run reads nothing and ends with

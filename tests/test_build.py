@@ -14,7 +14,8 @@ from typing import Dict, List, NamedTuple
 
 TOP = Path(__file__).resolve().parent.parent
 
-# It notes when it began and ended, and with how many jobs. `lib` fails if a crate below is not built.
+# It notes when it began and ended, and with how many jobs. `lib` fails if a crate below is not built, and `run`
+# builds it, as `rt` does.
 RT = """#!/usr/bin/env python3
 import json, os, pathlib, sys, time
 here = pathlib.Path.cwd()
@@ -22,7 +23,13 @@ verb, name, begun = sys.argv[1], here.name, time.monotonic()
 jobs = int(sys.argv[sys.argv.index("--jobs") + 1])
 uses = dict(line.split(":") for line in (here.parent.parent / "crates.txt").read_text().splitlines())
 lacking = [it for it in uses[name].split() if not (here.parent / it / "out/rlib/stamp").exists()]
-if lacking or name == os.environ.get("BAD_CRATE"):
+if name == os.environ.get("KILLED_CRATE"):
+    sys.exit(247)
+if verb == "run":
+    for it in lacking:
+        (here.parent / it / "out/rlib").mkdir(parents=True)
+        (here.parent / it / "out/rlib/stamp").write_text("built")
+elif lacking or name == os.environ.get("BAD_CRATE"):
     sys.exit(f"error in {name}, lacking {lacking}")
 (here / "out").mkdir(exist_ok=True)
 if verb == "lib":
@@ -116,6 +123,12 @@ class Building(unittest.TestCase):
         self.assertIn("error in left", done.stderr)
         self.assertNotIn("high", self.runs())
         self.assertFalse((self.top / "crates/damon/out/damon").exists())
+
+    def test_after_a_killed_proof_the_rest_is_left_to_rt(self) -> None:
+        done = self.run_it("build.py", "--jobs", "4", KILLED_CRATE="high")
+        self.assertEqual(done.returncode, 0, done.stderr)
+        self.assertIn("the proof of high was killed", done.stderr)
+        self.assertEqual(self.runs()["damon"].jobs, 1)
 
     def test_what_was_built_stands_in_each_crate(self) -> None:
         self.run_it("build.py", "--jobs", "2")

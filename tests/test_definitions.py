@@ -190,7 +190,7 @@ class ThisRepository(unittest.TestCase):
 
     def test_a_generated_script_needs_its_blocks(self) -> None:
         needed = {it.name for it in self.repository.needed(["gen"])}
-        self.assertLessEqual({"gen", "blocks", "block", "touches", "strides", "sweep"}, needed)
+        self.assertLessEqual({"gen", "blocks", "block"}, needed)
 
 
 if __name__ == "__main__":
