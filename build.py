@@ -122,11 +122,36 @@ def memory_for(name: str, crates: Dict[str, Crate], jobs: int) -> float:
     return (own + LINE_BELOW * sum(crates[it].code for it in below(name, crates))) * (1 + PART_OF_A_JOB * (jobs - 1))
 
 
+def newest(name: str) -> float:
+    """When the sources of a crate changed last. Folders are looked at too, so a file that was removed counts."""
+    folder = TOP / "crates" / name
+    places = [place for part in SOURCES for place in [folder / part, *(folder / part).rglob("*")] if place.exists()]
+    return max((place.stat().st_mtime for place in places), default=0.0)
+
+
+def fresh(crates: Dict[str, Crate]) -> List[str]:
+    """The crates whose libraries are newer than all that they are made of."""
+    changed = {name: newest(name) for name in crates}
+    found = []
+    for name in crates:
+        stamp = TOP / "crates" / name / "out/rlib/stamp"
+        sources = [changed[it] for it in (*below(name, crates), name)]
+        if stamp.exists() and stamp.stat().st_mtime > max(*sources, (TOP / "crates.txt").stat().st_mtime):
+            found.append(name)
+    return found
+
+
 def free_memory() -> float:
+    """The free memory in bytes, within the limit of the control group."""
+    found = [float("inf")]
     for line in Path("/proc/meminfo").read_text().splitlines():
         if line.startswith("MemAvailable:"):
-            return 1024 * float(line.split()[1])
-    return float("inf")
+            found.append(1024 * float(line.split()[1]))
+    with suppress(OSError, ValueError):
+        group = Path("/sys/fs/cgroup")
+        limit, used = (float((group / file).read_text()) for file in ("memory.max", "memory.current"))
+        found.append(limit - used)
+    return min(found)
 
 
 class Progress:
@@ -165,11 +190,11 @@ class Build:
         self.memory = 0.85 * free_memory()
         self.running: List[Run] = []
 
-    def libraries(self) -> None:
-        """Builds all crates but the last, which is the program."""
+    def libraries(self, built: List[str]) -> None:
+        """Builds all crates but the last, which is the program, and those that are built."""
         lengths = chains(self.crates)
-        waiting = sorted(list(self.crates)[:-1], key=lambda name: -lengths[name])
-        built: List[str] = []
+        waiting = sorted([name for name in list(self.crates)[:-1] if name not in built], key=lambda name: -lengths[name])
+        built = [*built]
         try:
             while waiting or self.running:
                 ready = [name for name in waiting if all(it in built for it in self.crates[name].uses)]
@@ -228,7 +253,7 @@ class Build:
     def _ended(self) -> List[str]:
         """Waits until a proof has ended, and gives the crates that are built."""
         while not any(run.process.poll() is not None for run in self.running):
-            time.sleep(0.1)
+            time.sleep(0.2)
             self.progress.under_way([run.name for run in self.running])
         ended = [run for run in self.running if run.process.poll() is not None]
         for run in ended:
@@ -286,12 +311,15 @@ def build(program: str, jobs: Optional[int]) -> int:
     crates = crates_for(program)
     if not crates:
         sys.exit(f"build.py: crates.txt has no crate {program}")
+    if not shutil.which("rt"):
+        sys.exit("build.py: there is no rt, which proves and builds")
     jobs = jobs or len(os.sched_getaffinity(0))
-    progress = Progress(len(crates))
+    built = fresh(crates)
+    progress = Progress(len(crates) - len(built))
     with tempfile.TemporaryDirectory(prefix="damon-build-", dir=place_for_links()) as scratch, ExitStack() as locks:
         lock(crates, locks)
         try:
-            Build(crates, jobs, Path(scratch), progress).libraries()
+            Build(crates, jobs, Path(scratch), progress).libraries(built)
         except NotProved as log:
             progress.close()
             print(log, end="", file=sys.stderr)

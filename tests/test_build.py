@@ -1,5 +1,5 @@
 #!/usr/bin/env python3
-"""Tests of the build that `./damon` starts, over small crates and with a stand-in for `rt` that only waits.
+"""Tests of the build that `./damon` starts, over small crates and with a stand-in for `rt` that proves nothing.
 
     tests/test_build.py
 """
@@ -7,6 +7,7 @@ import json
 import os
 import shutil
 import subprocess
+import sys
 import tempfile
 import unittest
 from pathlib import Path
@@ -15,10 +16,18 @@ from typing import Dict, List, NamedTuple
 TOP = Path(__file__).resolve().parent.parent
 
 # It notes when it began and ended, and with how many jobs. `lib` fails if a crate below is not built, and `run`
-# builds it, as `rt` does.
+# builds it, as `rt` does. The crates of MEET wait for each other, and fail if they are not built at the same time.
 RT = """#!/usr/bin/env python3
 import json, os, pathlib, sys, time
 here = pathlib.Path.cwd()
+def meet(names):
+    folder = pathlib.Path(os.environ["NOTES"]).parent
+    if name in names:
+        (folder / f"begun-{name}").touch()
+        while not all((folder / f"begun-{it}").exists() for it in names):
+            if time.monotonic() > begun + 30:
+                sys.exit(f"{names} are not built at the same time")
+            time.sleep(0.01)
 verb, name, begun = sys.argv[1], here.name, time.monotonic()
 jobs = int(sys.argv[sys.argv.index("--jobs") + 1])
 uses = dict(line.split(":") for line in (here.parent.parent / "crates.txt").read_text().splitlines())
@@ -33,7 +42,7 @@ elif lacking or name == os.environ.get("BAD_CRATE"):
     sys.exit(f"error in {name}, lacking {lacking}")
 (here / "out").mkdir(exist_ok=True)
 if verb == "lib":
-    time.sleep(float(os.environ["SECONDS_EACH"]))
+    meet(os.environ.get("MEET", "").split())
     (here / "out/rlib").mkdir(exist_ok=True)
     (here / "out/rlib/stamp").write_text("built")
     (here / "out/incremental").mkdir(exist_ok=True)
@@ -76,8 +85,10 @@ class Building(unittest.TestCase):
     def run_it(self, *words: str, **environment: str) -> "subprocess.CompletedProcess[str]":
         path = f"{self.top / 'bin'}:{os.environ['PATH']}"
         notes = str(self.top / "notes")
-        given = {**os.environ, "PATH": path, "NOTES": notes, "SECONDS_EACH": "0.3", **environment}
-        return subprocess.run([str(self.top / words[0]), *words[1:]], env=given, capture_output=True, text=True)
+        given = {**os.environ, "PATH": path, "NOTES": notes, **environment}
+        program = [sys.executable] if words[0].endswith(".py") else []
+        command = [*program, str(self.top / words[0]), *words[1:]]
+        return subprocess.run(command, env=given, capture_output=True, text=True)
 
     def runs(self) -> Dict[str, Run]:
         lines = (self.top / "notes").read_text().splitlines()
@@ -96,9 +107,8 @@ class Building(unittest.TestCase):
                 self.assertLessEqual(runs[used].ended, run.begun)
 
     def test_crates_that_do_not_need_each_other_are_built_at_the_same_time(self) -> None:
-        self.run_it("build.py", "--jobs", "4")
-        runs = self.runs()
-        self.assertLess(max(runs["left"].begun, runs["right"].begun), min(runs["left"].ended, runs["right"].ended))
+        done = self.run_it("build.py", "--jobs", "4", MEET="left right")
+        self.assertEqual(done.returncode, 0, done.stderr)
 
     def test_idle_processors_go_to_a_crate_that_stands_alone(self) -> None:
         self.run_it("build.py", "--jobs", "4")
@@ -123,6 +133,21 @@ class Building(unittest.TestCase):
         self.assertIn("error in left", done.stderr)
         self.assertNotIn("high", self.runs())
         self.assertFalse((self.top / "crates/damon/out/damon").exists())
+
+    def test_only_what_changed_and_what_stands_on_it_is_built_again(self) -> None:
+        self.run_it("build.py", "--jobs", "4")
+        (self.top / "notes").unlink()
+        source = self.top / "crates/right/src/lib.rt"
+        later = (self.top / "crates/high/out/rlib/stamp").stat().st_mtime + 5
+        os.utime(source, (later, later))
+        said = self.run_it("build.py", "--jobs", "4").stderr
+        self.assertEqual(set(self.runs()), {"right", "high", "damon"})
+        self.assertIn("crate 3 of 3: damon, ", said)
+
+    def test_without_rt_nothing_is_done(self) -> None:
+        done = self.run_it("build.py", PATH=str(self.top))
+        self.assertEqual(done.returncode, 1)
+        self.assertEqual(done.stderr, "build.py: there is no rt, which proves and builds\n")
 
     def test_after_a_killed_proof_the_rest_is_left_to_rt(self) -> None:
         done = self.run_it("build.py", "--jobs", "4", KILLED_CRATE="high")
