@@ -3,17 +3,18 @@
 
     tests/gate_times.py [COMMAND WORD ...]
 
-Without words it runs `rt ci --anew` at the top of the checkout, which proves everything from nothing. The
-processes of the prover below this one are looked at twice a second, and the time of each is counted for its
-crate and its kind:
+Without words it runs `rt ci` at the top of the checkout, which proves everything from nothing: with `--anew`, if
+this version of the toolchain has that option, and as it is, if it does so by itself. The processes of the prover
+below this one are looked at twice a second, and the time of each is counted for its crate and its kind:
 
     proof    the proof of the crate
     tests    the proof of the crate with its tests
     base     the crate as it stands, proved once more for its must-fail edits, each of which begins with what
-             this has proved
+             this has proved; some versions of the toolchain do without it
     edits    the must-fail edits themselves
 
-What a process did after the last look at it is not counted, so each number is a little low.
+A kind of which nothing was seen has no column. What a process did after the last look at it is not counted, so
+each number is a little low.
 
 The output of the command goes to standard error, the table to standard output. The exit status is that of
 the command.
@@ -24,12 +25,26 @@ import sys
 import time
 from collections import defaultdict
 from pathlib import Path
-from typing import Dict, Iterator, Optional, Tuple
+from typing import Dict, Iterator, List, NamedTuple, Optional, Tuple
 
 TOP = Path(__file__).resolve().parent.parent
 KINDS = ("proof", "tests", "base", "edits")
 TICKS = os.sysconf("SC_CLK_TCK")
-Job = Tuple[str, str]
+
+
+class Job(NamedTuple):
+    crate: str
+    kind: str
+
+
+# For each crate and kind, the seconds of processor time.
+Table = Dict[str, Dict[str, float]]
+
+
+def gate() -> List[str]:
+    """The command that proves everything from nothing, as this version of the toolchain spells it."""
+    said = subprocess.run(["rt", "help"], capture_output=True, text=True).stdout
+    return ["rt", "ci", "--anew"] if "--anew" in said else ["rt", "ci"]
 
 
 def stat_of(pid: int) -> Tuple[int, float]:
@@ -39,28 +54,28 @@ def stat_of(pid: int) -> Tuple[int, float]:
     return int(fields[1]), (int(fields[11]) + int(fields[12])) / TICKS
 
 
-def job_of(pid: int) -> Optional[Job]:
-    """The crate and the kind of what a process of the prover does; None for any other process."""
-    words = Path(f"/proc/{pid}/cmdline").read_bytes().decode(errors="replace").split("\0")
-    if not words[0].endswith("/rattle") or "--crate-name" not in words:
+def job_of(words: List[str], folder: str) -> Optional[Job]:
+    """The crate and the kind of what a process does, by its words and its folder; None if it proves nothing."""
+    if not words[0].endswith("/rattle") or "--crate-name" not in words[:-1]:
         return None
     crate = words[words.index("--crate-name") + 1]
     if "--test" in words:
-        return crate, "tests"
+        return Job(crate, "tests")
     # Each edit is tried on a copy of the crate in a folder of its own, and so is what they begin with.
-    if "rt-edit" not in os.readlink(f"/proc/{pid}/cwd"):
-        return crate, "proof"
-    kept = words[words.index("--incremental") + 1] if "--incremental" in words else ""
-    return crate, "base" if Path(kept).name == "seed" else "edits"
+    if "rt-edit" not in folder:
+        return Job(crate, "proof")
+    kept = words[words.index("--incremental") + 1] if "--incremental" in words[:-1] else ""
+    return Job(crate, "base" if Path(kept).name == "seed" else "edits")
 
 
 def processes() -> Iterator[Tuple[int, int, float, Optional[Job]]]:
     for entry in os.listdir("/proc"):
         if entry.isdigit():
             try:
-                yield int(entry), *stat_of(int(entry)), job_of(int(entry))
+                words = Path(f"/proc/{entry}/cmdline").read_bytes().decode(errors="replace").split("\0")
+                yield int(entry), *stat_of(int(entry)), job_of(words, os.readlink(f"/proc/{entry}/cwd"))
             except (OSError, IndexError, ValueError):
-                continue  # It ended while it was looked at.
+                continue  # It ended while it was looked at, or belongs to somebody else.
 
 
 def is_below(pid: int, top: int, parents: Dict[int, int]) -> bool:
@@ -71,10 +86,9 @@ def is_below(pid: int, top: int, parents: Dict[int, int]) -> bool:
     return False
 
 
-def main() -> None:
-    command = sys.argv[1:] or ["rt", "ci", "--anew"]
+def times_of(command: List[str]) -> Tuple[int, Table]:
+    """Runs a command, and gives its exit status and the times of the prover below it."""
     seconds: Dict[int, Tuple[Job, float]] = {}
-    begun = time.time()
     with subprocess.Popen(command, cwd=TOP, stdout=sys.stderr) as run:
         while run.poll() is None:
             seen = list(processes())
@@ -83,16 +97,29 @@ def main() -> None:
                 if job and is_below(pid, run.pid, parents):
                     seconds[pid] = (job, used)
             time.sleep(0.5)
-    table: Dict[str, Dict[str, float]] = defaultdict(lambda: defaultdict(float))
-    for (crate, kind), used in seconds.values():
-        table[crate][kind] += used
-    print(f"{'crate':16}" + "".join(f"{kind:>8}" for kind in KINDS) + f"{'all':>8}   (seconds of processor time)")
+    table: Table = defaultdict(lambda: defaultdict(float))
+    for job, used in seconds.values():
+        table[job.crate][job.kind] += used
+    return run.returncode, table
+
+
+def lines_of(table: Table) -> Iterator[str]:
+    """The table as lines, the crate that took longest first."""
+    sums = {kind: sum(kinds.get(kind, 0) for kinds in table.values()) for kind in KINDS}
+    shown = [kind for kind in KINDS if sums[kind]] or [KINDS[0]]
+    yield f"{'crate':16}" + "".join(f"{kind:>8}" for kind in shown) + f"{'all':>8}   (seconds of processor time)"
     for crate, kinds in sorted(table.items(), key=lambda item: -sum(item[1].values())):
-        print(f"{crate:16}" + "".join(f"{kinds[kind]:8.0f}" for kind in KINDS) + f"{sum(kinds.values()):8.0f}")
-    sums = [sum(kinds[kind] for kinds in table.values()) for kind in KINDS]
-    print(f"{'all crates':16}" + "".join(f"{it:8.0f}" for it in sums) + f"{sum(sums):8.0f}")
-    print(f"{(time.time() - begun) / 60:.1f} minutes on {os.cpu_count()} processors")
-    sys.exit(run.returncode)
+        yield f"{crate:16}" + "".join(f"{kinds.get(kind, 0):8.0f}" for kind in shown) + f"{sum(kinds.values()):8.0f}"
+    yield f"{'all crates':16}" + "".join(f"{sums[kind]:8.0f}" for kind in shown) + f"{sum(sums.values()):8.0f}"
 
 
-main()
+def main(command: List[str]) -> int:
+    begun = time.monotonic()
+    status, table = times_of(command or gate())
+    print(*lines_of(table), sep="\n")
+    print(f"{(time.monotonic() - begun) / 60:.1f} minutes on {os.cpu_count()} processors")
+    return status
+
+
+if __name__ == "__main__":
+    sys.exit(main(sys.argv[1:]))

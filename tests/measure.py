@@ -12,23 +12,32 @@ With `--growth` each workload that has several sizes is run at all of them by th
 table of times by size is printed, and a plot of them is written to FILE.svg.
 """
 import argparse
+import functools
 import subprocess
 import sys
 import tempfile
 import time
 from contextlib import contextmanager
 from math import log10
+from pathlib import Path
 from typing import IO, Dict, Iterator, List, Sequence, Tuple
 
 from speed_workloads import WORKLOADS, Workload
 
+TIMER = "/usr/bin/time"
 COLOURS = ("#1b6ca8", "#c1440e", "#2e7d32", "#6a1b9a", "#b8860b", "#00838f", "#ad1457", "#5d4037", "#455a64", "#7cb342", "#000000")
+
+
+@functools.lru_cache(maxsize=1)
+def text_of(workload: Workload, size: int) -> bytes:
+    """The input of a workload, which is made once for all turns and programs."""
+    return workload.text(size)
 
 
 @contextmanager
 def source_of(workload: Workload, size: int) -> Iterator[IO[bytes]]:
     with tempfile.TemporaryFile() as source:
-        source.write(workload.text(size))
+        source.write(text_of(workload, size))
         source.seek(0)
         yield source
 
@@ -47,7 +56,7 @@ def memory(program: str, workload: Workload, size: int) -> float:
     """The greatest resident set in MiB. A small program starts the one that is measured, whose figure would else be at least
     that of this interpreter."""
     with source_of(workload, size) as source:
-        command = ["/usr/bin/time", "-f", "%M", program, *workload.words]
+        command = [TIMER, "-f", "%M", program, *workload.words]
         run = subprocess.run(command, stdin=source, stdout=subprocess.DEVNULL, stderr=subprocess.PIPE, check=True)
     return int(run.stderr.split()[-1]) / 1024
 
@@ -105,15 +114,18 @@ def plot(times: Dict[str, List[Tuple[int, float]]]) -> str:
     return "\n".join([head, '<rect width="100%" height="100%" fill="white"/>', *shapes, "</svg>", ""])
 
 
-
 def main() -> None:
-    parser = argparse.ArgumentParser(usage=__doc__)
-    parser.add_argument("turns", type=int)
-    parser.add_argument("programs", nargs="+")
-    parser.add_argument("--only", default="")
-    parser.add_argument("--growth")
+    parser = argparse.ArgumentParser(description="Measures programs side by side: their best times and their memory.")
+    parser.add_argument("turns", type=int, help="how often each program is run on each workload")
+    parser.add_argument("programs", nargs="+", metavar="PROGRAM", help="the last one is what the others are compared with")
+    parser.add_argument("--only", default="", metavar="NAME", help="the workloads whose names begin with NAME")
+    parser.add_argument("--growth", metavar="FILE.svg", help="times of the first program by size, and a plot of them")
     words = parser.parse_args()
     workloads = [it for it in WORKLOADS if it.name.startswith(words.only)]
+    if not workloads:
+        parser.error(f"no workload begins with {words.only}: there are {', '.join(it.name for it in WORKLOADS)}")
+    if not Path(TIMER).exists():
+        parser.error(f"there is no {TIMER}, which measures memory")
     if words.growth:
         grow(words.turns, words.programs[0], workloads, words.growth)
     else:

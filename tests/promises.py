@@ -13,8 +13,9 @@ The heads of that page's tables say what is in them:
 """
 import re
 import sys
+from typing import Iterator, List
 
-from definitions import TOP, Repository
+from sources import TOP, Repository
 
 PAGE = TOP / "docs/PROMISES.md"
 TOP_CALL = "damon_app::replay_main"
@@ -23,7 +24,7 @@ NAME = re.compile(r"`([^`]*)`")
 GROUP = re.compile(r"((?:[^`(]*`[^`]*`)+)\s*(?:\(([^)]*)\))?")
 
 
-def main():
+def main() -> int:
     repository = Repository()
     functions = {name.rpartition(".")[0] for name in repository.clauses}
     known = {*functions, *repository.clauses, *(it.name for it in repository.definitions)}
@@ -32,21 +33,23 @@ def main():
     listed = {name for names in named for name in names}
     there = {name for name in repository.clauses if name.startswith(TOP_CALL + ".")}
     faults += [f"{name} is missing" for name in sorted(there - listed)]
+    if not there or len(named) < len(there):
+        faults.append("too few names were found in its tables")
     for fault in faults:
         print(f"{PAGE.relative_to(TOP)}: {fault}")
     return 1 if faults else 0
 
 
-def names_in_page():
+def names_in_page() -> Iterator[List[str]]:
     """Gives the names of each contract, of which at least one must be there."""
-    crate, head = None, None
+    crate, head = "", ""
     for line in PAGE.read_text().splitlines():
         cells = [cell.strip() for cell in line.strip("|").split("|")]
         if line.startswith("#"):
-            crate = next(iter(NAME.findall(line)), None)
+            crate = next(iter(NAME.findall(line)), "")
         if not line.startswith("|"):
-            head = None
-        elif head is None:
+            head = ""
+        elif not head:
             head = "contract" if cells[-1] == "contract" else cells[0]
         elif head == "clause":
             yield from ([f"{TOP_CALL}.{name}"] for name in NAME.findall(cells[0]))
@@ -56,7 +59,7 @@ def names_in_page():
             yield from names_in_cell(crate, cells[-1])
 
 
-def names_in_cell(crate, cell):
+def names_in_cell(crate: str, cell: str) -> Iterator[List[str]]:
     for before, bracket in GROUP.findall(cell):
         names = NAME.findall(before)
         yield from ([f"{crate}::{name}", name] for name in names)

@@ -42,7 +42,7 @@ import subprocess
 import sys
 from contextlib import ExitStack
 from pathlib import Path
-from typing import NamedTuple, Optional, Union
+from typing import Any, Dict, Iterator, List, NamedTuple, Optional, Set, Tuple, Union
 
 from json_text import text_of
 
@@ -77,14 +77,14 @@ class Ended(NamedTuple):
 class Case(NamedTuple):
     place: str
     name: str
-    words: list
+    words: List[bytes]
     stdin: Union[bytes, Path]
     stdout_to: Optional[str]
     memory: Optional[int]
     wanted: Ended
 
 
-def main(words):
+def main(words: List[str]) -> int:
     program = Path(words[0]).resolve() if words else PROGRAM
     places = [Path(word) for word in words[1:]] or [CASES]
     faults = [f"there is no {place}" for place in places if not place.exists()]
@@ -99,7 +99,7 @@ def main(words):
     return finish(len(cases) - len(failed), faults + failed)
 
 
-def finish(passed, faults):
+def finish(passed: int, faults: List[str]) -> int:
     """Prints all faults and the counts, and gives the exit status."""
     for fault in faults:
         print(fault)
@@ -110,9 +110,11 @@ def finish(passed, faults):
 # Reading cases.
 
 
-def load(places):
+def load(places: List[Path]) -> Tuple[List[Case], List[str]]:
     """Gives the cases in these places, and a fault for each line that is not a case."""
-    cases, faults, names = [], [], set()
+    cases: List[Case] = []
+    faults: List[str] = []
+    names: Set[str] = set()
     for place, line in lines_of(places):
         try:
             case = case_of(place, json.loads(line))
@@ -125,7 +127,7 @@ def load(places):
     return cases, faults
 
 
-def lines_of(places):
+def lines_of(places: List[Path]) -> Iterator[Tuple[str, bytes]]:
     """Gives each line of the files in these places, with its file and number."""
     for place in places:
         for file in sorted(place.glob("*.jsonl")) if place.is_dir() else [place]:
@@ -133,7 +135,7 @@ def lines_of(places):
                 yield f"{file}:{number}", line
 
 
-def case_of(place, fields):
+def case_of(place: str, fields: Dict[str, Any]) -> Case:
     check_fields(fields)
     return Case(
         place,
@@ -146,7 +148,7 @@ def case_of(place, fields):
     )
 
 
-def check_fields(fields):
+def check_fields(fields: Any) -> None:
     if not isinstance(fields, dict) or set(fields) - set(FIELDS):
         raise ValueError("it is not an object of the known fields")
     if lacking := set(ALWAYS) - set(fields):
@@ -161,11 +163,11 @@ def check_fields(fields):
         raise ValueError("stdout_sha256 and stdout_bytes come together")
 
 
-def to_bytes(text):
+def to_bytes(text: str) -> bytes:
     return text.encode("latin-1")
 
 
-def stdin_of(fields):
+def stdin_of(fields: Dict[str, Any]) -> Union[bytes, Path]:
     if "stdin_from" in fields:
         return TOP / fields["stdin_from"]
     if "input_parts" in fields:
@@ -173,7 +175,7 @@ def stdin_of(fields):
     return to_bytes(fields["input"])
 
 
-def stdout_of(fields):
+def stdout_of(fields: Dict[str, Any]) -> Union[bytes, Digest, None]:
     if "stdout_to" in fields:
         return None
     if "stdout_sha256" in fields:
@@ -184,7 +186,7 @@ def stdout_of(fields):
 # Trying cases.
 
 
-def try_case(program, case):
+def try_case(program: Path, case: Case) -> List[str]:
     """Runs a case, and gives a report if it failed."""
     try:
         wrong = differences(case, run(program, case)) + json_differences(program, case)
@@ -193,7 +195,7 @@ def try_case(program, case):
     return ["\n    ".join([f"{case.place}: {case.name} failed", *wrong])] if wrong else []
 
 
-def json_differences(program, case):
+def json_differences(program: Path, case: Case) -> List[str]:
     """Runs a replay in its JSON form too: that report says the same as the text, number for number."""
     wanted = case.wanted
     if case.words != [b"replay"] or wanted.status != 0 or not isinstance(wanted.stdout, bytes):
@@ -207,9 +209,9 @@ def json_differences(program, case):
         return [f"json: {error!r}"]
 
 
-def run(program, case):
+def run(program: Path, case: Case) -> Ended:
     with ExitStack() as files:
-        how = {"stdout": subprocess.PIPE, "stderr": subprocess.PIPE, "timeout": SECONDS}
+        how: Dict[str, Any] = {"stdout": subprocess.PIPE, "stderr": subprocess.PIPE, "timeout": SECONDS}
         if isinstance(case.stdin, Path):
             # `open` would refuse a folder.
             how["stdin"] = os.open(case.stdin, os.O_RDONLY)
@@ -219,12 +221,13 @@ def run(program, case):
         if case.stdout_to:
             how["stdout"] = files.enter_context(open(case.stdout_to, "wb"))
         if case.memory:
-            how["preexec_fn"] = lambda: resource.setrlimit(resource.RLIMIT_AS, (case.memory, case.memory))
+            limits = (case.memory, case.memory)
+            how["preexec_fn"] = lambda: resource.setrlimit(resource.RLIMIT_AS, limits)
         ran = subprocess.run([program, *case.words], **how)
     return Ended(ran.stdout, ran.stderr, ran.returncode)
 
 
-def differences(case, given):
+def differences(case: Case, given: Ended) -> List[str]:
     """Says in lines how what was given differs from what is wanted."""
     wanted = case.wanted
     lines = [*unlike_stdout(wanted.stdout, given.stdout), *unlike_text("stderr", wanted.stderr, given.stderr)]
@@ -233,7 +236,7 @@ def differences(case, given):
     return lines
 
 
-def unlike_stdout(wanted, given):
+def unlike_stdout(wanted: Union[bytes, Digest, None], given: bytes) -> List[str]:
     if wanted is None:
         return []
     if isinstance(wanted, bytes):
@@ -242,23 +245,23 @@ def unlike_stdout(wanted, given):
     return [] if digest == wanted else [f"stdout: wanted {described(wanted)}", f"stdout: given  {described(digest)}"]
 
 
-def described(digest):
+def described(digest: Digest) -> str:
     return f"{digest.length} bytes with SHA-256 {digest.sha256}"
 
 
-def unlike_text(stream, wanted, given):
+def unlike_text(stream: str, wanted: bytes, given: bytes) -> List[str]:
     """Names the first line in which two texts differ."""
     if wanted == given:
         return []
-    wanted, given = LINE.findall(wanted), LINE.findall(given)
+    wanted_lines, given_lines = LINE.findall(wanted), LINE.findall(given)
     same = 0
-    while wanted[same : same + 1] == given[same : same + 1]:
+    while wanted_lines[same : same + 1] == given_lines[same : same + 1]:
         same += 1
     where = f"{stream}, line {same + 1}:"
-    return [f"{where} wanted {line_at(wanted, same)}", f"{where} given  {line_at(given, same)}"]
+    return [f"{where} wanted {line_at(wanted_lines, same)}", f"{where} given  {line_at(given_lines, same)}"]
 
 
-def line_at(lines, index):
+def line_at(lines: List[bytes], index: int) -> str:
     return repr(lines[index].decode("latin-1")) if index < len(lines) else "the end of the text"
 
 
