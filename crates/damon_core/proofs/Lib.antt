@@ -21,3 +21,4 @@ pub mod Bounding
 pub mod Choosing
 pub mod CommitStanding
 pub mod Preparing
+pub mod VersionOne
