@@ -22,3 +22,4 @@ pub mod Choosing
 pub mod CommitStanding
 pub mod Preparing
 pub mod VersionOne
+mod Examples
