@@ -22,8 +22,8 @@ use script_lines::{
 };
 use std::alloc::{AllocError, Global};
 
-/// Appends the lines of a seed and a setup, as they stand in a script between its first line and
-/// `begin`, each ended by its LF: the seed, the unit, the cap, the attributes, the targets, the ranges
+/// Appends the lines of a seed and a setup, as they stand in a script between its first line, which says
+/// the version, and `begin`, each ended by its LF: the seed, the unit, the cap, the attributes, the targets, the ranges
 /// by their addresses, and the schemes. A key whose value is the default is left out. By the law
 /// [`setups_are_read_back`] they are read as the same seed and setup. When out of memory, nothing is
 /// appended.

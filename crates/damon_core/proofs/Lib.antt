@@ -21,3 +21,5 @@ pub mod Bounding
 pub mod Choosing
 pub mod CommitStanding
 pub mod Preparing
+pub mod VersionOne
+mod Examples

@@ -14,6 +14,7 @@ pub mod Reached
 pub mod Makes
 pub mod Stands
 pub mod Bound
+pub mod VersionOne
 pub mod Choosing
 pub mod Kept
 pub mod InPhase

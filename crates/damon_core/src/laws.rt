@@ -1,5 +1,6 @@
 // What holds of each state to which events lead.
 ghost use Rattle.std.specs.Prelude.{◌≡◌, ℕ, List};
+ghost use Rattle.damon_types.specs.declared.scheme.Version.TheVariants as version;
 ghost use Rattle.live_commit.specs.Setup.{SetupValue};
 ghost use Rattle.damon_core.specs.Aggregate.{IsServedAlike, aggregated};
 ghost use Rattle.damon_core.specs.Note.{word_of};
@@ -8,6 +9,7 @@ ghost use Rattle.damon_core.specs.Reached.{Reached, ReachedByHit};
 ghost use Rattle.damon_core.specs.Bound.{Bound};
 ghost use Rattle.damon_core.specs.Choosing.{ServesBest};
 ghost use Rattle.damon_core.specs.InPhase.{IsInPhase};
+ghost use Rattle.damon_core.specs.VersionOne.{AreOfVersionOne};
 
 /// In each state to which fitting events lead, whatever the results of the loads, there is at least
 /// one row and there are at most `cap`, and the next pick of a pass under way is that of a row; and an
@@ -44,4 +46,10 @@ pub fn pages_are_kept()
     ensures aggregated { (s : State) (words : List ℕ) (page : ℕ)
         → word_of (aggregated words s).notes page ≡ word_of s.notes page }
     ensures opening { (v : SetupValue) (page : ℕ) → word_of (opening v).notes page ≡ 0 }
+{}
+
+/// In each state of version One to which fitting events lead, no cost was handed in, and no slot was ever
+/// set to a scheme whose quota has a time.
+pub fn version_one_has_no_costs()
+    ensures { (s : State) → Reached s → s.core.version ≡ version.One → AreOfVersionOne s.notes }
 {}

@@ -1,12 +1,13 @@
 -- The words of pages before and after a commit.
 use Rattle.std.proofs.Common.{◌≡◌, ℕ, List, ◌∷◌, Option, Some, None, Ok, Err, refl, ◌∙◌}
 use Rattle.std.specs.Prelude.{Result}
+use Rattle.damon_types.specs.declared.scheme.CostPart.{CostPart}
 use Rattle.damon_types.specs.declared.scheme.Scheme.{Scheme}
 use Rattle.damon_types.specs.declared.scheme.SlotChange.{SlotChange}
 use Rattle.live_commit.specs.declared.fault.CommitFault.{CommitFault}
 use Rattle.live_commit.specs.Commit.{CommitValue}
 use Rattle.damon_core.specs.Note.{Note, word_of}
-use Rattle.damon_core.specs.Commit.{check_of, committed, if_accepted, slot_note, with_metric, with_slot}
+use Rattle.damon_core.specs.Commit.{check_of, committed, if_accepted, slot_note, with_cost, with_metric, with_slot}
 use Rattle.damon_core.specs.Event.{commit}
 use Rattle.damon_core.specs.After.{after}
 use Rattle.damon_core.specs.State.{State}
@@ -23,9 +24,16 @@ word_of-metric : (value : Option ℕ) (notes : List Note) (p : ℕ) → word_of 
 word_of-metric None notes p = refl
 word_of-metric (Some value) notes p = refl
 
+word_of-cost : (part : Option CostPart) (notes : List Note) (p : ℕ) → word_of (with_cost part notes) p ≡ word_of notes p
+word_of-cost None notes p = refl
+word_of-cost (Some part) notes p = refl
+
 -- no word changes, whether the commit is accepted or not
 word_of-checked : (checked : Result (Unit {0}) CommitFault) (c : CommitValue) (s : State) (p : ℕ) → word_of (if_accepted checked (committed c s) s).notes p ≡ word_of s.notes p
-word_of-checked (Ok t) c s p = word_of-metric c.metric (with_slot c.slot s.notes) p ∙ word_of-slot c.slot s.notes p
+word_of-checked (Ok t) c s p =
+    word_of-cost c.cost (with_metric c.metric (with_slot c.slot s.notes)) p
+    ∙ word_of-metric c.metric (with_slot c.slot s.notes) p
+    ∙ word_of-slot c.slot s.notes p
 word_of-checked (Err fault) c s p = refl
 
 pub word_of-commit : (c : CommitValue) (s : State) (p : ℕ) → word_of (after s (commit c)).notes p ≡ word_of s.notes p

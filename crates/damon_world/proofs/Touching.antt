@@ -22,7 +22,7 @@ AllFit-touches s page (suc n) within = (omega arith, AllFit-touches (after s (to
 -- a monitor stands for the states before and after touches alike
 pub stands-touches : (m : MonitorView) (s : State) (page n : ℕ) → Stands m s → Stands m (run s (touches page n))
 stands-touches m s page zero stands = stands
-stands-touches m s page (suc n) stands = stands-touches m (after s (touch page)) (page + 1) n (record { same = stands.same; results = stands.results; checks = stands.checks; hits = stands.hits; slots = stands.slots })
+stands-touches m s page (suc n) stands = stands-touches m (after s (touch page)) (page + 1) n (record { same = stands.same; each = stands.each; results = stands.results; checks = stands.checks; hits = stands.hits; slots = stands.slots })
 
 -- whether a page is one of those
 abbrev among : ℕ → ℕ → ℕ → Bool

@@ -1,4 +1,4 @@
-ghost use Rattle.std.specs.Prelude.{◌≡◌, ◌+◌, ◌-◌, ◌*◌, ◌/◌, ◌^◌, ◌≤◌, ◌<◌, [], ◌∷◌, min, length, ◌++◌, IfOk, slice_index, vec_capacity, vec_len};
+ghost use Rattle.std.specs.Prelude.{◌≡◌, ◌+◌, ◌-◌, ◌*◌, ◌/◌, ◌^◌, ◌≤◌, ◌<◌, [], ◌∷◌, min, length, ◌++◌, IfOk, OnErr, slice_index, vec_capacity, vec_len};
 ghost use Rattle.damon_types.specs.Space.{pages_of};
 ghost use Rattle.live_commit.specs.Commit.{commit_value};
 ghost use Rattle.live_commit.specs.SetupView.{value_of};
@@ -65,21 +65,22 @@ impl<R: Rng> Model for World<R> {
 }
 
 impl<R: Rng + Drop> World<R> {
-    /// A world before its first event: no page was touched. Takes memory; no other call does.
-    pub fn new(alloc: Global, setup: &Setup, source: R) -> Result<World<R>, AllocError>
+    /// A world before its first event: no page was touched. `words` is the source of its random words.
+    /// Takes memory; no other call does.
+    pub fn new(alloc: Global, setup: &Setup, words: R) -> Result<World<R>, AllocError>
         ensures core { IfOk result (λ w. w.monitor.core ≡ opening_core (value_of setup.now)) }
-        ensures source { IfOk result (λ w. w.source ≡ source) }
+        ensures source { IfOk result (λ w. w.source ≡ words) }
         ensures opening { IfOk result (λ w. StandsFor w (opening (value_of setup.now))) }
     {
         damon_core::pages_are_kept();
         let monitor = Monitor::new(alloc, setup)?;
-        let words = PlainWords::new(alloc, setup.space.pages())?;
+        let page_words = PlainWords::new(alloc, setup.space.pages())?;
         let drawn = Vec::with_capacity(alloc, 2 * setup.cap as usize)?;
         Ok(World {
             monitor,
-            words,
+            words: page_words,
             drawn,
-            source,
+            source: words,
         })
     }
 
@@ -113,14 +114,15 @@ impl<R: Rng + Drop> World<R> {
         self.words.sweep(from, to);
     }
 
-    /// Commits new attributes, new ranges, a slot change or a metric, as [`Monitor::commit`] does: returns
-    /// what that did, or the first check that failed; then nothing has changed. No page is touched or
-    /// cleared, and no random word is drawn.
+    /// Commits new attributes, new ranges, a slot change, a metric or a cost, as [`Monitor::commit`] does:
+    /// returns what that did, or the first check that failed; then nothing has changed. No page is touched
+    /// or cleared, and no random word is drawn.
     pub fn commit(&mut self, commit: &Commit) -> Result<Changed, CommitFault>
         ensures answer { result ≡ commit_answer (commit_value commit.now) self.old.monitor.core }
         ensures core { self.new.monitor.core
             ≡ core_after_commit (commit_value commit.now) self.old.monitor.core }
         ensures source { self.new.source ≡ self.old.source }
+        ensures kept { OnErr result (self.new ≡ self.old) }
         ensures event { Makes StandsFor self.old self.new (commit_event (commit_value commit.now) ∷ []) }
 
         // What no commit changes.
@@ -214,7 +216,7 @@ impl<R: Rng + Drop> World<R> {
         ensures one { result ≡ 1 }
         ensures advance { IsAdvance R.stream self.old self.new 1 }
     {
-        self.monitor.prepare(&mut self.source);
+        self.monitor.prepare_from(&mut self.source);
         1
     }
 

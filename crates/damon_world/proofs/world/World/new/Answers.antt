@@ -8,7 +8,7 @@ pub returns-clause-opening : goal.returns-clause-opening
 returns-clause-opening g c = record {
   monitor = c.in_ok-monitor.ensures.opening;
   words = λ p below.
-      ap (λ ws. slice_index ws p) c.in_ok-words.ensures
+      ap (λ ws. slice_index ws p) c.in_ok-page_words.ensures
       ∙ index_of_zeros c.pages.result p
       ∙ sym (c.pages_are_kept.ensures.opening (value_of c.args.setup.now) p);
 }

@@ -11,9 +11,9 @@ pub returns-clause-advance : goal.returns-clause-advance
 returns-clause-advance g c =
     let inside = c.self.inside in
     let stream = g.R.Rng.stream in
-    let made = c.prepare.ensures in
+    let made = c.prepare_from.ensures in
     let idle : inside.monitor.core.phase ≡ Idle = ap (λ w. w.monitor.core.phase) c.self.view_is ∙ c.requires in
     let words = drawn (row_count inside.monitor.core) (stream inside.source) in
-    let new : WorldView g.row.R.Denot = record { monitor = c.prepare.new.self; words = inside.words; source = c.prepare.new.source } in
+    let new : WorldView g.row.R.Denot = record { monitor = c.prepare_from.new.self; words = inside.words; source = c.prepare_from.new.source } in
     subst (λ w. IsAdvance stream w new 1) c.self.view_is
-    (prepare_advances stream inside.monitor c.prepare.new.self inside.words inside.source c.prepare.new.source words idle made.each refl made.rest made.core made.event)
+    (prepare_advances stream inside.monitor c.prepare_from.new.self inside.words inside.source c.prepare_from.new.source words idle made.each refl made.rest made.core made.event)

@@ -19,7 +19,7 @@ returns-clause-event g c s reached stands =
     let words = set_words inside.words (pages_of inside.monitor.core.space) page (touched_word w) (word_of s.notes) (word_of (touched page ∷ s.notes)) c.self.invariant.each inside_page inner.words (word_of-touched_same s.notes page w (inner.words page inside_page)) (λ p other. word_of-touched_other s.notes page p other) in (
       (subst (λ (x : Core). page < pages_of x.space) monitor.same inside_page, tt),
       record {
-        monitor = record { same = monitor.same; results = monitor.results; checks = monitor.checks; hits = monitor.hits; slots = monitor.slots };
+        monitor = record { same = monitor.same; each = monitor.each; results = monitor.results; checks = monitor.checks; hits = monitor.hits; slots = monitor.slots };
         words = subst (λ (ws : List ℕ). (p : ℕ) → p < pages_of inside.monitor.core.space → slice_index ws p ≡ word_of (touched page ∷ s.notes) p) (sym c.touch.ensures.word) words;
       },
     )
