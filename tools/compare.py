@@ -10,7 +10,7 @@ from common import STANDARD_INPUT, UsageError, opened_text, parser, run
 from comparing.accuracy import Accuracy
 from comparing.counts import Counts, applied_of, counts_of
 from comparing.paging import PAGEOUT, Ledger, Moment, Move, Owner, Paging, Use, Uses
-from comparing.runs import PAGE_BITS, Run, common, place, size
+from reports.pages import PAGE_BITS, Run, common, place, size
 from reports.events import Aggregation, Report, ReportError
 
 TOOL = "compare.py"

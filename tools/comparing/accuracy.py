@@ -4,7 +4,7 @@ from __future__ import annotations
 from dataclasses import dataclass
 
 from .counts import Counts
-from .runs import common, size, without
+from reports.pages import common, size, without
 
 
 @dataclass

@@ -5,7 +5,7 @@ from dataclasses import dataclass
 
 from reports.events import Aggregation, ReportError
 
-from .runs import PAGE_BITS, TARGET_BITS, Run, Runs, append, key
+from reports.pages import PAGE_BITS, TARGET_BITS, Run, Runs, append, key
 
 
 @dataclass(frozen=True)

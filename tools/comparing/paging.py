@@ -9,7 +9,7 @@ from __future__ import annotations
 from dataclasses import dataclass, field
 from typing import Iterable, NamedTuple
 
-from .runs import Run, Runs, size, union, without
+from reports.pages import Run, Runs, size, union, without
 
 Owner = tuple[int, str]
 """A slot, and the action of its scheme."""

@@ -61,6 +61,8 @@ class Snapshot:
     regions: list[Region] = field(default_factory=list)
     active: dict[int, bool] = field(default_factory=dict)
     """For each slot that is set, whether it is active."""
+    applied: list[Applied] = field(default_factory=list)
+    """The pages that schemes were applied to, in the order of the report; a show has none."""
 
     @cached_property
     def by_target(self) -> dict[int, list[Region]]:
@@ -83,9 +85,7 @@ class Show(Snapshot):
 
 @dataclass
 class Aggregation(Snapshot):
-    """What an aggregation wrote, with the pages that its schemes were applied to, in the order of the report."""
-
-    applied: list[Applied] = field(default_factory=list)
+    """What an aggregation wrote."""
 
 
 @dataclass(frozen=True)
