@@ -30,11 +30,16 @@ def advice(line: str, run: Circumstances) -> list[str]:
     slot, action = (word.text for word in words_of(line)[1:3])
     keys = list(keys_of(line))
     found = [note for key in keys if (note := useless(key, run))]
-    names = [key.name.text for key in keys]
-    if action in COLD_ACTIONS and "quota" in names and "prefer" not in names:
-        found.append(f"its quota goes to the hottest of the matching regions first, also with {action}: "
-                     "add prefer=cold for the coldest")
+    if action in COLD_ACTIONS and prefers_hot_unsaid(keys):
+        found.append("its quota goes to hotter regions first, whatever the action: add prefer=cold to take colder ones first")
     return [f"slot {slot}: {note}" for note in found]
+
+
+def prefers_hot_unsaid(keys: list[Key]) -> bool:
+    """Whether hot regions come first only because the line does not say which do."""
+    by_name = {key.name.text: key for key in keys}
+    counts_weigh = "weights" not in by_name or by_name["weights"].values()[1] > 0
+    return "quota" in by_name and "prefer" not in by_name and counts_weigh
 
 
 def useless(key: Key, run: Circumstances) -> str | None:

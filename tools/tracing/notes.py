@@ -98,20 +98,30 @@ def lines_of(settings: Settings, word: str) -> list[tuple[int, str]]:
 
 
 def on_commits(result: Result) -> Iterator[str]:
-    """Commits that come too late, that leave targets unwatched, or that damon refuses."""
-    commits = result.settings.commits
+    """Commits that come too late, that damon refuses, or that leave targets unwatched."""
+    commits, targets = result.settings.commits, result.choice.kept
     for interval in commits:
         if interval >= result.intervals:
             yield f"the commit before interval {interval} is left out: there are {counted(result.intervals, 'interval')}"
-    for interval in dict.fromkeys(interval for interval, _ in lines_of(result.settings, "range")):
-        watched = {words_of(line)[1].text for at, line in lines_of(result.settings, "range") if at == interval}
-        if len(watched) < len(result.choice.kept):
+    refused = refusals(result)
+    for interval, reason in refused:
+        yield f"the commit before interval {interval} is refused: {reason}"
+    ranges = lines_of(result.settings, "range")
+    for interval in dict.fromkeys(interval for interval, _ in ranges):
+        watched = {words_of(line)[1].text for at, line in ranges if at == interval}
+        if len(watched) < len(targets) and interval not in dict(refused):
             yield (f"the ranges of the commit before interval {interval} replace all ranges: "
-                   f"{len(watched)} of {counted(len(result.choice.kept), 'target')} have one after it")
-    if commits and is_there():
-        places = [interval for interval, made in commits.items() if interval < result.intervals for _ in made]
-        for number, reason in refusals_of("".join(result.script.pieces).encode("ascii")):
-            yield f"the commit before interval {places[number]} is refused: {reason}"
+                   f"{len(watched)} of {counted(len(targets), 'target')} have one after it")
+
+
+def refusals(result: Result) -> list[tuple[int, str]]:
+    """The intervals of commits that damon refuses, each with the reason."""
+    commits = result.settings.commits
+    if not commits or not is_there():
+        return []
+    places = [interval for interval, made in commits.items() if interval < result.intervals for _ in made]
+    refused = refusals_of("".join(result.script.pieces).encode("ascii"))
+    return [(places[number], reason) for number, reason in refused]
 
 
 def on_schemes(result: Result) -> Iterator[str]:
