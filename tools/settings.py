@@ -77,6 +77,14 @@ def advice_on(script: Script) -> list[str]:
     return [note for line in script.schemes() for note in advice(line, run)]
 
 
+def write(text: bytes) -> None:
+    """Writes to standard output, which may take a part at a time where Python does not buffer it."""
+    rest = memoryview(text)
+    while rest:
+        rest = rest[sys.stdout.buffer.write(rest):]
+    sys.stdout.flush()
+
+
 def work() -> None:
     options = parser().parse_args()
     with opened(options.script) as stream:
@@ -91,8 +99,7 @@ def work() -> None:
         notes += advice_on(script)
     else:
         notes.append(f"the script was not checked: there is no program {program()}")
-    sys.stdout.buffer.write(script.text())
-    sys.stdout.flush()
+    write(script.text())
     for note in notes:
         print(f"note: {note}", file=sys.stderr)
 
