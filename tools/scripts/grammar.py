@@ -150,8 +150,3 @@ def first_word(line: str) -> str:
 def pass_work(cap: int) -> int:
     """The work of `arm`, and of `finish`."""
     return 2 * cap + 3
-
-
-def listed(words: tuple[str, ...]) -> str:
-    """Words as a list in a sentence: a, b or c."""
-    return words[0] if len(words) == 1 else ", ".join(words[:-1]) + " or " + words[-1]

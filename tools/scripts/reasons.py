@@ -10,10 +10,11 @@ from typing import Callable, Optional
 from . import schemes
 from .context import Context, context_of
 from .grammar import (ADDRESS_END, FIELDS, HEADER, LAST_CLASS, LEAST_REGIONS, MOST_AGGR, MOST_CAP, MOST_PAGES,
-                      MOST_STEPS, MOST_TARGETS, MOST_UNIT, MOST_WORK, PAGE, Piece, first_word, listed, pass_work, words_of)
+                      MOST_STEPS, MOST_TARGETS, MOST_UNIT, MOST_WORK, PAGE, Piece, first_word, pass_work, words_of)
 from .judge import Fault
 from .schemes import Finding, like
 from .spelling import misspelling
+from .wording import counted, listed
 
 Reason = tuple[str, Optional[Piece]]
 """A reason in words, and the part of the line that it is about, if there is one."""
@@ -34,10 +35,6 @@ def reason_of(script: bytes, fault: Fault) -> Reason | None:
 
 def short(text: str) -> str:
     return repr(text if len(text) <= SHOWN else text[: SHOWN - 3] + "...")
-
-
-def counted(number: int, noun: str) -> str:
-    return f"{number} {noun}{'' if number == 1 else 's'}"
 
 
 def whole(context: Context) -> Piece:
@@ -214,7 +211,8 @@ def ranges_over_max(context: Context) -> Reason:
 
 def set_twice(context: Context) -> Reason:
     slot = words_of(context.line)[1]
-    return f"slot {slot.text} is set by line {context.slot_line(slot.number())} already", slot
+    number = context.slot_line(slot.number())
+    return f"`{context.lines[number - 1]}` (line {number}) has set slot {slot.text} already", slot
 
 
 def outside(context: Context) -> Reason | None:

@@ -6,7 +6,8 @@ from difflib import get_close_matches
 from typing import Iterator
 
 from .grammar import (ACTIONS, FILTER_FIELDS, KEY_FIELDS, KEYS, LAST_CLASS, LAST_SLOT, MOST_FILTERS, PAGE, Field, Piece,
-                      listed, n8, words_of)
+                      n8, words_of)
+from .wording import listed
 
 Finding = tuple[str, Piece]
 """A reason in words, and the part of the line that it is about."""
