@@ -9,11 +9,13 @@ from typing import Sequence
 from common import STANDARD_INPUT, UsageError, opened, opened_text, parser, run
 from reports.events import Report, ReportError
 from reports.exact import exact_lines
-from tracing.areas import Area, Choice, chosen, grouped
-from tracing.intervals import Recording, record
-from tracing.lackey import KINDS, TraceError, accesses
+from tracing.areas import Choice, chosen, grouped
+from tracing.intervals import AccessClock, InstructionClock, Recording, record
+from tracing.lackey import KINDS, Trace, TraceError
+from tracing.progress import Progress
 
 TOOL = "exact_counts.py"
+CLOCKS = {"accesses": AccessClock, "instructions": InstructionClock}
 EXAMPLE = """\
 example:
   tools/exact_counts.py --interval 3000 examples/shop.trace.xz > out/shop.counts
@@ -38,7 +40,9 @@ def options_of() -> argparse.Namespace:
         help="the trace; `-`, the default, is standard input; .gz and .xz are unpacked")
     for kind in KINDS:
         add(f"--{kind}", action="store_true", help=f"take {kind}")
-    add("--interval", type=int, default=10_000, metavar="N", help="accesses of a sampling interval (10000)")
+    add("--interval", type=int, default=10_000, metavar="N", help="the length of a sampling interval (10000)")
+    add("--clock", choices=tuple(CLOCKS), default="accesses",
+        help="what the length of an interval counts: accesses that are taken, or instructions (accesses)")
     add("--gap", type=int, default=16, metavar="PAGES", help="untouched pages that a target may have between touched ones (16)")
     add("--unit", type=int, default=1, metavar="PAGES", help="the minimum pages of a target (1)")
     add("--aggr", type=int, default=20, metavar="N", help="sampling intervals of an aggregation (20)")
@@ -50,14 +54,22 @@ def options_of() -> argparse.Namespace:
     return options
 
 
-def recorded(options: argparse.Namespace) -> Recording:
-    """The touched pages of each interval of the trace."""
+def read_trace(options: argparse.Namespace) -> tuple[Trace, Recording]:
+    """The trace, read to its end, and the touched pages of each of its intervals. Raises UsageError."""
     kinds = [kind for kind in KINDS if getattr(options, kind)] or ["loads", "stores"]
+    by_instructions = options.clock == "instructions"
+    progress = Progress(sys.stderr)
     with opened(options.trace) as stream:
+        trace = Trace(stream, b"".join(KINDS[kind] for kind in kinds), instructions=by_instructions, progress=progress)
         try:
-            return record(accesses(stream, b"".join(KINDS[kind] for kind in kinds)), options.interval, lambda _: False)
+            recording = record(trace, options.interval, lambda _: False, CLOCKS[options.clock])
         except TraceError as error:
             raise UsageError(str(error)) from None
+        finally:
+            progress.end()
+    if by_instructions and recording.intervals and not recording.duration:
+        raise UsageError("the trace has no instructions (lines `I`) to count: use --clock accesses")
+    return trace, recording
 
 
 def targets_of(recording: Recording, options: argparse.Namespace) -> Choice:
@@ -85,23 +97,30 @@ def ticks_of(options: argparse.Namespace, intervals: int) -> Sequence[int]:
     return ticks
 
 
-def note(recording: Recording, areas: list[Area], aggregations: int) -> str:
-    pages = sum(area.pages for area in areas)
-    return (f"note: {recording.accesses} accesses in {len(recording.intervals)} intervals of {recording.length}; "
-            f"{aggregations} aggregations; {len(areas)} targets with {pages} pages")
+def notes(trace: Trace, recording: Recording, choice: Choice, aggregations: int) -> list[str]:
+    """What a user should know beside the counts."""
+    pages = sum(area.pages for area in choice.kept)
+    lines = [f"{recording.accesses} accesses in {len(recording.intervals)} intervals of {recording.length}; "
+             f"{aggregations} aggregations; {len(choice.kept)} targets with {pages} pages"]
+    if choice.left_out:
+        lines.append(f"left out {len(choice.left_out)} areas, by the limit of 64 targets and 1048576 pages")
+    if trace.beyond:
+        lines.append(f"left out {trace.beyond} accesses at addresses that are not below 2^47")
+    if trace.cut:
+        lines.append(f"left out the last line of the trace, which is cut off: {trace.cut}")
+    return lines
 
 
 def work() -> None:
     options = options_of()
-    recording = recorded(options)
+    trace, recording = read_trace(options)
     choice = targets_of(recording, options)
     ticks = ticks_of(options, len(recording.intervals))
     for line in exact_lines(ticks, choice.kept, recording.intervals):
         print(line)
     sys.stdout.flush()
-    print(note(recording, choice.kept, len(ticks)), file=sys.stderr)
-    if choice.left_out:
-        print(f"note: left out {len(choice.left_out)} areas, by the limit of 64 targets and 1048576 pages", file=sys.stderr)
+    for note in notes(trace, recording, choice, len(ticks)):
+        print(f"note: {note}", file=sys.stderr)
 
 
 if __name__ == "__main__":
