@@ -147,7 +147,8 @@ def compared(options: argparse.Namespace) -> Comparison:
             if one and not exact.has_runs:
                 check_exact(one[0], options.exact)
             if one is None or other is None or one[0].tick != other[0].tick:
-                raise UsageError("the reports have aggregations at different ticks: use the same --interval and --aggr for both")
+                raise UsageError("the reports have aggregations at different ticks: use the same --interval and --aggr for both, "
+                                 "or exact counts that are made with --like")
             result.add(one[1], other[1], other[0].tick, applied_of(other[0], options.target))
     if not result.accuracy.aggregations:
         raise UsageError("the reports have no aggregation: there is nothing to compare")

@@ -149,17 +149,14 @@ def text_events(lines: Iterable[str]) -> Iterator[Event]:
         elif is_part(text, current):
             continue
         else:
+            since = current.tick if isinstance(current, Aggregation) else since
+            head = head_of(text, number, since)
             if current is not None:
                 check_complete(current, number)
                 yield current
-                since = current.tick if isinstance(current, Aggregation) else since
-            current = None
-            if match := SNAPSHOT.fullmatch(text):
-                current = begun(match, since)
-            elif match := COMMIT.fullmatch(text):
-                yield Commit(int(match[1]), match[2])
-            elif not (END.fullmatch(text) or number == 1 and text == EXACT_HEADER):
-                raise ReportError(f"line {number}: not a line of a report: {ascii(text[:60])}")
+            current = None if isinstance(head, Commit) else head
+            if isinstance(head, Commit):
+                yield head
     if current is not None:
         check_complete(current, number + 1)
         yield current
@@ -179,10 +176,16 @@ def is_part(text: str, current: Snapshot | None) -> bool:
     return False
 
 
-def begun(match: re.Match[str], since: int) -> Show | Aggregation:
-    tick, rows = int(match[2]), int(match[3])
-    kind = Aggregation if match[1] == "aggregate" else Show
-    return kind(tick, max(1, tick - since), rows)
+def head_of(text: str, number: int, since: int) -> Event | None:
+    """The event that a line begins; None for the end and for the header of exact counts. Raises ReportError."""
+    if match := SNAPSHOT.fullmatch(text):
+        kind = Aggregation if match[1] == "aggregate" else Show
+        return kind(int(match[2]), max(1, int(match[2]) - since), int(match[3]))
+    if match := COMMIT.fullmatch(text):
+        return Commit(int(match[1]), match[2])
+    if END.fullmatch(text) or number == 1 and text == EXACT_HEADER:
+        return None
+    raise ReportError(f"line {number}: not a line of a report: {ascii(text[:60])}")
 
 
 def check_complete(found: Snapshot, number: int) -> None:
