@@ -70,9 +70,9 @@ class ClosedPipes(unittest.TestCase):
 
 class Files(unittest.TestCase):
     def test_errors_name_the_file(self) -> None:
-        for path in (str(TOP / "tests"), "no-such-file"):
-            with self.assertRaisesRegex(UsageError, f"^{path}: "):
-                with opened(path) as stream:
+        for name in (str(TOP / "tests"), "no-such-file"):
+            with self.assertRaisesRegex(UsageError, f"^{name}: "):
+                with opened(name) as stream:
                     stream.read()
         with tempfile.TemporaryDirectory() as folder:
             path = Path(folder) / "odd"

@@ -216,10 +216,11 @@ class Notes(unittest.TestCase):
         self.assertIn("no metric from 1 to 2 comes", self.about("scheme 0 stat marks=5,3,1", "--metric", "2:3"))
 
     def test_schemes_that_are_applied(self) -> None:
-        for scheme, words in (("scheme 0 stat count=20,30", ["--aggr", "20", "--interval", "100"]),
-                              ("scheme 0 stat size=16,30", ["--min", "3"]), ("scheme 0 stat age=1,9", ["--aggr", "1"]),
-                              ("scheme 0 stat quota=4096,10", []), ("scheme 0 stat filter=allow:target:0", []),
-                              ("scheme 0 stat marks=5,3,1", ["--metric", "2:2"])):
+        cases: list[tuple[str, list[str]]] = [
+            ("scheme 0 stat count=20,30", []), ("scheme 0 stat size=16,30", []), ("scheme 0 stat age=2,9", []),
+            ("scheme 0 stat quota=4096,10", []), ("scheme 0 stat filter=allow:target:0", []),
+            ("scheme 0 stat marks=5,3,1", ["--metric", "2:2"])]
+        for scheme, words in cases:
             with self.subTest(scheme=scheme):
                 self.assertEqual(self.about(scheme, *words), "")
         self.assertGreater(self.applied("scheme 0 stat marks=5,3,1", "--metric", "2:2"), 0)
