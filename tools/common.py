@@ -50,7 +50,7 @@ def opened(path: str) -> Iterator[BinaryIO]:
 
 def unpacked(path: str) -> BinaryIO:
     if path.endswith(".xz"):
-        return lzma.open(path, "rb")
+        return cast(BinaryIO, lzma.open(path, "rb"))
     if path.endswith(".gz"):
         return cast(BinaryIO, gzip.open(path, "rb"))
     return open(path, "rb")

@@ -9,11 +9,14 @@ from array import array
 from collections import Counter
 from dataclasses import dataclass, field
 from itertools import chain, islice
-from typing import Callable, Iterable, Iterator, Protocol
+from typing import TYPE_CHECKING, Callable, Iterable, Iterator, Protocol
 
 from .lackey import INSTRUCTION, Pages
 
-Runs = array
+if TYPE_CHECKING:
+    Runs = array[int]
+else:
+    Runs = array
 """The touched pages of an interval, ascending: first page, page after the last one, and so on."""
 
 
