@@ -333,7 +333,8 @@ class Errors(Refusals):
         self.check(["no aggregation"], "end ticks=0 rows=1 checks=0 hits=0\n", "end ticks=0 rows=1 checks=0 hits=0\n")
 
     def test_faulty_reports(self) -> None:
-        self.check(["the-exact-one", "line 3", "rows=3"], EXACT.replace("row 0 0x11000", "show 0 0x11000", 1), FOUND)
+        self.check(["the-exact-one", "line 3", "not a line"], EXACT.replace("row 0 0x11000", "show 0 0x11000", 1), FOUND)
+        self.check(["the-exact-one", "line 4", "rows=3"], EXACT.replace("row 0 0x11000-0x12000 count=4 last=0 age=0\n", ""), FOUND)
         self.check(["-: ", "count=3", "in 2 passes"], EXACT, FOUND.replace("tick=4", "tick=2"))
         self.check(["the-exact-one", "0x10000", "follow"], EXACT.replace("row 0 0x11000-0x12000", "row 0 0x10000-0x11000"), FOUND)
         self.check(["the-exact-one", "line 1"], "hello\n", FOUND)

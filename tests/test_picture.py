@@ -174,7 +174,7 @@ class Commits(unittest.TestCase):
         self.assertEqual((low[0], low[2]), (x_of(3, 6), x_of(6, 6)))
         self.assertEqual((high[0], high[2]), (x_of(0, 6), x_of(3, 6)))
         for part in (low, high):
-            self.assertAlmostEqual(float(part[1]) - float(part[3]), height, delta=0.2)
+            self.assertAlmostEqual(abs(float(part[1]) - float(part[3])), height, delta=0.2)
         self.assertIn("not watched", texts_of(picture))
         # A line stands at each commit that was accepted, and none at the one that was refused at tick 4.
         lines = paths_of(picture, "class", "commit")

@@ -4,18 +4,18 @@ from __future__ import annotations
 
 import argparse
 import sys
-from typing import Sequence
+from typing import Callable, Iterable, Sequence
 
 from common import STANDARD_INPUT, UsageError, opened, opened_text, parser, run
 from reports.events import Report, ReportError
 from reports.exact import exact_lines
 from tracing.areas import Choice, chosen, grouped
-from tracing.intervals import AccessClock, InstructionClock, Recording, record
-from tracing.lackey import KINDS, Trace, TraceError
+from tracing.intervals import AccessClock, Clock, InstructionClock, Recording, record
+from tracing.lackey import KINDS, Pages, Trace, TraceError
 from tracing.progress import Progress
 
 TOOL = "exact_counts.py"
-CLOCKS = {"accesses": AccessClock, "instructions": InstructionClock}
+CLOCKS: dict[str, Callable[[Iterable[Pages]], Clock]] = {"accesses": AccessClock, "instructions": InstructionClock}
 EXAMPLE = """\
 example:
   tools/exact_counts.py --interval 3000 examples/shop.trace.xz > out/shop.counts

@@ -26,7 +26,7 @@ def counts_of(found: Aggregation, share: float, target: int | None) -> Counts:
     hot: Runs = []
     least = share * found.passes
     before = 0
-    for number, first, after, count in found.regions:
+    for number, first, after, hits in found.regions:
         if target is not None and number != target:
             continue
         base = number << TARGET_BITS
@@ -35,9 +35,9 @@ def counts_of(found: Aggregation, share: float, target: int | None) -> Counts:
             raise ReportError(f"the aggregation at tick {found.tick} has a row at {first:#x} that does not follow the one before it")
         before = end
         append(watched, start, end)
-        if count:
+        if hits:
             append(accessed, start, end)
-            if count >= least:
+            if hits >= least:
                 append(hot, start, end)
     return Counts(watched, accessed, hot)
 

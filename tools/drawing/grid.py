@@ -68,7 +68,7 @@ def heat_column(group: list[Snapshot], target: int, rows: list[int]) -> list[int
     hits, covered = [0.0] * count, [0.0] * count
     for snapshot in group:
         for region in snapshot.by_target.get(target, ()):
-            share = region.count / snapshot.passes
+            share = region.hits / snapshot.passes
             spread(rows, region.start, region.end, share, hits, covered)
     return [level(hit / cover) if cover else UNWATCHED for hit, cover in zip(hits, covered)]
 

@@ -31,12 +31,12 @@ class ReportError(Exception):
 
 
 class Region(NamedTuple):
-    """A region, or a run of pages of exact counts: addresses in bytes, and the count that was reported."""
+    """A region, or a run of pages of exact counts: addresses in bytes, and the passes in which it was hit."""
 
     target: int
     start: int
     end: int
-    count: int
+    hits: int
 
 
 class Applied(NamedTuple):
@@ -75,7 +75,7 @@ class Snapshot:
     @property
     def working_set(self) -> int:
         """The bytes of all regions that were found accessed at least once."""
-        return sum(found.end - found.start for found in self.regions if found.count > 0)
+        return sum(found.end - found.start for found in self.regions if found.hits > 0)
 
 
 @dataclass
@@ -179,7 +179,7 @@ def is_part(text: str, current: Snapshot | None) -> bool:
 def head_of(text: str, number: int, since: int) -> Event | None:
     """The event that a line begins; None for the end and for the header of exact counts. Raises ReportError."""
     if match := SNAPSHOT.fullmatch(text):
-        kind = Aggregation if match[1] == "aggregate" else Show
+        kind: type[Show] | type[Aggregation] = Aggregation if match[1] == "aggregate" else Show
         return kind(int(match[2]), max(1, int(match[2]) - since), int(match[3]))
     if match := COMMIT.fullmatch(text):
         return Commit(int(match[1]), match[2])
@@ -193,7 +193,7 @@ def check_complete(found: Snapshot, number: int) -> None:
     if len(found.regions) != found.rows:
         name = "aggregation" if isinstance(found, Aggregation) else "show"
         raise ReportError(f"line {number}: the {name} before it says rows={found.rows} and has {len(found.regions)}")
-    most = max(map(attrgetter("count"), found.regions), default=0)
+    most = max(map(attrgetter("hits"), found.regions), default=0)
     if isinstance(found, Aggregation) and most > found.passes:
         raise ReportError(f"line {number}: the aggregation before it has count={most} in {found.passes} passes")
 
