@@ -12,6 +12,7 @@ import tempfile
 import unittest
 from pathlib import Path
 
+from pages import Page
 from tool_runs import TOP, need_program, report_of, run
 
 PLAN = TOP / "examples/arrays.txt"
@@ -94,7 +95,11 @@ class Arrays(unittest.TestCase):
         # They are out through 7 aggregations up to 220 (64 pages), 2 up to 300 (64), the upper half 15 more up to 620
         # and the lower half 14 of these, and to the end at 800 8 (lower) and 7 (upper).
         out = (64 * 7 + 64 * 2 + 32 * 16 + 32 * 14 + 32 * 8 + 32 * 7) / 40
-        self.assertEqual([line for line in lines if line.startswith("slot")][1:], [
+        # Both halves are taken at 60, 120, 180 and 240; the upper one then each third time to 600 and from 660 to 780,
+        # 6 and 3 times, and the lower one at 320, 380, 440, 500 and 560, and at 640, 700 and 760.
+        taken = 32 * (2 * 4 + 6 + 3 + 5 + 3)
+        self.assertEqual([line for line in lines if line.startswith("slot")], [
+            f"slot 0 pageout: applied to {taken} page-aggregations",
             "slot 0 pageout: 224 pages put out, 64 of them different",
             "slot 0 pageout: 160 refaults of these: 71.4 %; 4.0 an aggregation",
             "slot 0 pageout: 32 refaults within 5 aggregations: 14.3 %",
@@ -121,6 +126,18 @@ class Arrays(unittest.TestCase):
             for (_, back), (out, _) in zip(stays, stays[1:]):
                 self.assertLessEqual(back, out)
         self.assertIn("slot 0 pageout: 160 refaults of these: 71.4 %; 4.0 an aggregation", lines)
+
+
+class Examples(Page):
+    """The section of examples/README.md about this program prints what its commands write."""
+
+    def test_commands_and_outputs(self) -> None:
+        _, section = (TOP / "examples/README.md").read_text().split("\n## arrays.c\n")
+        with tempfile.TemporaryDirectory() as folder:
+            path = Path(folder) / "section"
+            path.write_text(section)
+            self.follow(str(path), lambda block: "valgrind" in block or block == PLAN.read_text())
+        self.assertIn(f"```\n{PLAN.read_text()}```", section)
 
 
 if __name__ == "__main__":
