@@ -34,5 +34,6 @@ class Page(unittest.TestCase):
     def run_command(self, line: str) -> str:
         environment = {**os.environ, "DAMON": str(PROGRAM)}
         ran = subprocess.run(line, shell=True, cwd=TOP, stdout=subprocess.PIPE, stderr=subprocess.STDOUT, timeout=SECONDS, env=environment)
-        self.assertEqual(ran.returncode, 0, f"{line}: {ran.stdout.decode()}")
+        rejects = line.startswith("tools/explain.py")
+        self.assertEqual(ran.returncode, 1 if rejects else 0, f"{line}: {ran.stdout.decode()}")
         return ran.stdout.decode()
