@@ -110,7 +110,7 @@ class Arrays(unittest.TestCase):
         known = self.known
         scans = {known.tick(rounds): set(range(first, after)) for rounds, first, after in known.scans}
         lines = self.compared()
-        moves = [re.fullmatch(r"move: .* 0x(\w+)-0x(\w+), \d+ pages, out at tick (\d+), (?:back at tick (\d+)|still out .*)", line)
+        moves = [re.fullmatch(r"move: .* 0x(\w+)-0x(\w+), \d+ pages?, out at tick (\d+), (?:back at tick (\d+)|still out .*)", line)
                  for line in lines if line.startswith("move")]
         out_of: dict[int, list[tuple[int, int | None]]] = {page: [] for page in range(64)}
         for move in moves:

@@ -160,7 +160,7 @@ def moves_of(lines: list[str]) -> list[tuple[int, Page, int, int | None]]:
     """The moves that were printed, as moves of single pages."""
     result = []
     for line in lines:
-        match = re.fullmatch(r"move: slot (\d+), target (\d+), 0x(\w+)-0x(\w+), (\d+) pages, out at tick (\d+), "
+        match = re.fullmatch(r"move: slot (\d+), target (\d+), 0x(\w+)-0x(\w+), (\d+) pages?, out at tick (\d+), "
                              r"(?:back at tick (\d+)|still out at the end)", line)
         if not match:
             raise AssertionError(line)
@@ -239,14 +239,14 @@ class Arithmetic(unittest.TestCase):
             "slot 0 pageout: 3 pages put out, 3 of them different",
             "slot 0 pageout: 2 refaults of these: 66.7 %; 1.0 an aggregation",
             "slot 0 pageout: 2 refaults within 5 aggregations: 66.7 %",
-            "slot 0 pageout: 1 pages out at the end; 0.0 on average through an aggregation",
+            "slot 0 pageout: 1 page out at the end; 0.0 on average through an aggregation",
             "move: slot 0, target 0, 0x10000-0x12000, 2 pages, out at tick 4, back at tick 6",
-            "move: slot 0, target 1, 0x20000-0x21000, 1 pages, out at tick 6, still out at the end"])
+            "move: slot 0, target 1, 0x20000-0x21000, 1 page, out at tick 6, still out at the end"])
 
     def test_one_target(self) -> None:
         lines = compared(EXACT, FOUND, "--target", "1", "--moves")
         self.assertEqual(lines[0], "2 aggregations, 2 page-aggregations")
-        self.assertEqual(lines[-1], "move: slot 0, target 1, 0x20000-0x21000, 1 pages, out at tick 6, still out at the end")
+        self.assertEqual(lines[-1], "move: slot 0, target 1, 0x20000-0x21000, 1 page, out at tick 6, still out at the end")
 
     def test_sets_of_pages(self) -> None:
         source = random.Random(3)

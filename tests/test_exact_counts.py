@@ -147,7 +147,7 @@ class Errors(Refusals):
         with tempfile.TemporaryDirectory() as folder:
             path = Path(folder) / "report"
             path.write_text("aggregate tick=7 threshold=0 rows=0\n")
-            self.refused(TOOL, [str(path), "tick 7", "1 intervals of 3"], b" L 00001000,4\n", "--interval", "3", "--like", str(path))
+            self.refused(TOOL, [str(path), "tick 7", "1 interval of 3"], b" L 00001000,4\n", "--interval", "3", "--like", str(path))
 
     def test_a_closed_pipe_ends_it_in_silence(self) -> None:
         words = ["python3", str(TOOLS / TOOL), "--interval", "100", "--aggr", "1", str(KEPT)]

@@ -146,7 +146,7 @@ class Pictures(unittest.TestCase):
         lines = [f"apply {slot} stat 0 0x10000-0x12000 score=9\nslot {slot} left=none taken=2 lowest=9\n" for slot in range(6)]
         report = "aggregate tick=4 threshold=0 rows=1\n" + "".join(lines) + "row 0 0x10000-0x14000 count=0 last=0 age=1\n"
         self.assertEqual([text for text in texts_of(drawn(report)) if ": " in text and text.startswith("slot")],
-                         ["slots 0, 4: 2 and 2 pages", "slots 1, 5: 2 and 2 pages", "slot 2 stat: 2 pages", "slot 3 stat: 2 pages"])
+                         ["slots 0, 4: 2 pages and 2 pages", "slots 1, 5: 2 pages and 2 pages", "slot 2 stat: 2 pages", "slot 3 stat: 2 pages"])
 
     def test_a_large_picture_is_small(self) -> None:
         source, lines = random.Random(1), []

@@ -11,6 +11,7 @@ from comparing.accuracy import Accuracy
 from comparing.counts import Counts, applied_of, counts_of
 from comparing.paging import PAGEOUT, Ledger, Moment, Move, Owner, Paging, Use, Uses
 from reports.pages import PAGE_BITS, Run, common, place, size
+from scripts.wording import counted
 from reports.events import Aggregation, Report, ReportError
 
 TOOL = "compare.py"
@@ -60,7 +61,7 @@ def share(part: int, whole: int) -> str:
 def accuracy_lines(found: Accuracy) -> list[str]:
     """What was found, in page-aggregations, and the working set."""
     lines = [
-        f"{found.aggregations} aggregations, {found.pages} page-aggregations",
+        f"{counted(found.aggregations, 'aggregation')}, {counted(found.pages, 'page-aggregation')}",
         f"hot: {found.hot_found} of {found.hot} page-aggregations found: {share(found.hot_found, found.hot)}",
         f"hot: {found.called_hot - found.hot_found} of {found.called_hot} page-aggregations called hot are not: "
         f"{share(found.called_hot - found.hot_found, found.called_hot)}",
@@ -70,7 +71,7 @@ def accuracy_lines(found: Accuracy) -> list[str]:
         working_set_line(found),
     ]
     if found.unwatched:
-        lines.insert(1, f"not watched: {found.unwatched} page-aggregations, which are never found")
+        lines.insert(1, f"not watched: {counted(found.unwatched, 'page-aggregation')}, which are never found")
     return lines
 
 
@@ -85,19 +86,19 @@ def working_set_line(found: Accuracy) -> str:
 def paging_lines(slot: int, found: Ledger, aggregations: int, within: int) -> list[str]:
     """What the `pageout` of a slot did, in pages."""
     facts = [
-        f"applied to {found.applied} page-aggregations",
-        f"{found.put_out} pages put out, {size(found.different)} of them different",
-        f"{found.refaults} refaults of these: {share(found.refaults, found.put_out)}; "
+        f"applied to {counted(found.applied, 'page-aggregation')}",
+        f"{counted(found.put_out, 'page')} put out, {size(found.different)} of them different",
+        f"{counted(found.refaults, 'refault')} of these: {share(found.refaults, found.put_out)}; "
         f"{found.refaults / aggregations:.1f} an aggregation",
-        f"{found.soon} refaults within {within} aggregations: {share(found.soon, found.put_out)}",
-        f"{found.out} pages out at the end; {found.out_sum / aggregations:.1f} on average through an aggregation",
+        f"{counted(found.soon, 'refault')} within {counted(within, 'aggregation')}: {share(found.soon, found.put_out)}",
+        f"{counted(found.out, 'page')} out at the end; {found.out_sum / aggregations:.1f} on average through an aggregation",
     ]
     return [f"slot {slot} pageout: {fact}" for fact in facts]
 
 
 def use_line(slot: int, action: str, found: Use, within: int) -> str:
     return (f"slot {slot} {action}: {found.accessed} of {found.applied} page-aggregations that it was applied to were accessed "
-            f"in the next {within} aggregations: {share(found.accessed, found.applied)}")
+            f"in the next {counted(within, 'aggregation')}: {share(found.accessed, found.applied)}")
 
 
 def move_line(move: Move) -> str:
@@ -105,7 +106,7 @@ def move_line(move: Move) -> str:
     target, start = place(stay.start)
     pages = stay.end - stay.start
     end = f"back at tick {back.tick}" if back else "still out at the end"
-    return (f"move: slot {stay.slot}, target {target}, {start:#x}-{start + pages * PAGE_BYTES:#x}, {pages} pages, "
+    return (f"move: slot {stay.slot}, target {target}, {start:#x}-{start + pages * PAGE_BYTES:#x}, {counted(pages, 'page')}, "
             f"out at tick {stay.since.tick}, {end}")
 
 

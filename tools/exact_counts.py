@@ -9,9 +9,11 @@ from typing import Callable, Iterable, Sequence
 from common import STANDARD_INPUT, UsageError, opened, opened_text, parser, run
 from reports.events import Report, ReportError
 from reports.exact import exact_lines
+from scripts.wording import counted
 from tracing.areas import Choice, chosen, grouped
 from tracing.intervals import AccessClock, Clock, InstructionClock, Recording, record
 from tracing.lackey import KINDS, Pages, Trace, TraceError
+from tracing.notes import counted_accesses
 from tracing.progress import Progress
 
 TOOL = "exact_counts.py"
@@ -92,7 +94,7 @@ def ticks_of(options: argparse.Namespace, intervals: int) -> Sequence[int]:
         except ReportError as error:
             raise UsageError(f"{options.like}: {error}") from None
     if ticks and ticks[-1] > intervals:
-        raise UsageError(f"{options.like} goes to tick {ticks[-1]}, and the trace has {intervals} intervals of "
+        raise UsageError(f"{options.like} goes to tick {ticks[-1]}, and the trace has {counted(intervals, 'interval')} of "
                          f"{options.interval}: use the --interval that its script was made with")
     return ticks
 
@@ -100,12 +102,12 @@ def ticks_of(options: argparse.Namespace, intervals: int) -> Sequence[int]:
 def notes(trace: Trace, recording: Recording, choice: Choice, aggregations: int) -> list[str]:
     """What a user should know beside the counts."""
     pages = sum(area.pages for area in choice.kept)
-    lines = [f"{recording.accesses} accesses in {len(recording.intervals)} intervals of {recording.length}; "
-             f"{aggregations} aggregations; {len(choice.kept)} targets with {pages} pages"]
+    lines = [f"{counted_accesses(recording.accesses)} in {counted(len(recording.intervals), 'interval')} of {recording.length}; "
+             f"{counted(aggregations, 'aggregation')}; {counted(len(choice.kept), 'target')} with {counted(pages, 'page')}"]
     if choice.left_out:
-        lines.append(f"left out {len(choice.left_out)} areas, by the limit of 64 targets and 1048576 pages")
+        lines.append(f"left out {counted(len(choice.left_out), 'area')}, by the limit of 64 targets and 1048576 pages")
     if trace.beyond:
-        lines.append(f"left out {trace.beyond} accesses at addresses that are not below 2^47")
+        lines.append(f"left out {counted_accesses(trace.beyond)} at addresses that are not below 2^47")
     if trace.cut:
         lines.append(f"left out the last line of the trace, which is cut off: {trace.cut}")
     return lines

@@ -1,6 +1,8 @@
 """The title, the scale of colours, and the marks of slots, of what is not watched and of commits."""
 from __future__ import annotations
 
+from scripts.wording import counted
+
 from .canvas import LEFT, Canvas, short
 from .grid import LEVELS
 from .history import History
@@ -51,5 +53,5 @@ def draw_slots(canvas: Canvas, history: History) -> None:
         canvas.rect(x, y, 18, HEIGHT, f"mark s{colour}")
         same = applied[colour::SLOT_COLOURS]
         names = ", ".join(map(str, same)) if len(same) > 1 else f"{same[0]} {history.slots[same[0]].action}"
-        counts = " and ".join(str(history.slots[slot].applied) for slot in same)
-        canvas.text(x + 24, y + 9, f"slot{'s' * (len(same) > 1)} {names}: {counts} pages", "small")
+        counts = " and ".join(counted(history.slots[slot].applied, "page") for slot in same)
+        canvas.text(x + 24, y + 9, f"slot{'s' * (len(same) > 1)} {names}: {counts}", "small")
