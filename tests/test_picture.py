@@ -202,6 +202,11 @@ class Commits(unittest.TestCase):
         self.assertLessEqual({x_of(tick, 7) for tick in (3, 4, 5)}, lines)
         self.assertNotIn(x_of(1, 7), lines)
 
+    def test_commits_after_the_last_column(self) -> None:
+        picture = drawn(TWO_AGGREGATIONS.replace("end ticks", "commit tick=7 ok rows=2 void=no\nend ticks"))
+        self.assertIn("and 1 later", texts_of(picture))
+        self.assertEqual(len(paths_of(picture, "class", "commit")), 2)
+
     def test_without_the_script(self) -> None:
         picture = drawn(replayed("commit"))
         self.assertIn("tick 3: commit: ok rows=4 void=yes", titles_of(picture))

@@ -62,6 +62,9 @@ class History:
     snapshots: list[Snapshot]
     """Aggregations, and shows that say what an accepted commit found; all shows if there is no aggregation. Ticks rise."""
     changes: list[Change]
+    """The commits up to the last snapshot."""
+    later: int
+    """The number of commits after it."""
     slots: dict[int, Slot]
 
 
@@ -91,7 +94,8 @@ def history_of(events: Iterable[Event], commits: Sequence[tuple[str, ...]] | Non
         raise ScriptError(f"the script has {len(commits)} commits and the report {len(answers)}: it is not of this script")
     parts = commits or [()] * len(answers)
     changes = [Change(answer.tick, answer.answer, answer.accepted, lines) for answer, lines in zip(answers, parts)]
-    return History(snapshots, changes, slots_of(snapshots))
+    drawn = [change for change in changes if snapshots and change.tick <= snapshots[-1].tick]
+    return History(snapshots, drawn, len(changes) - len(drawn), slots_of(snapshots))
 
 
 def add_shows(snapshots: list[Snapshot], shows: Iterable[Snapshot]) -> None:

@@ -17,15 +17,17 @@ BAR = 7.0
 
 def height_of(history: History) -> float:
     """The height of the strip with its gap; 0 if there is nothing to say."""
-    rows = bool(history.changes) + len(history.slots)
+    rows = bool(history.changes or history.later) + len(history.slots)
     return GAP + ROW * rows if rows else 0.0
 
 
 def draw_timeline(canvas: Canvas, history: History, columns: Columns, top: float) -> None:
     """Draws the rows from top to bottom."""
     top += GAP
-    if history.changes:
+    if history.changes or history.later:
         draw_changes(canvas, history.changes, columns, top)
+        if history.later:
+            canvas.text(NAME + 40, top + 11, f"and {history.later} later", "small soft")
         top += ROW
     applied = applied_slots(history)
     for number, slot in history.slots.items():
@@ -46,7 +48,7 @@ def draw_changes(canvas: Canvas, changes: list[Change], columns: Columns, top: f
     canvas.text(LEFT - 8, top + 11, "commits", "small right soft")
     canvas.path(f"M{short(LEFT)} {short(top + ROW / 2)}H{short(RIGHT)}", "frame")
     groups = [(x_of(tick, columns), list(found)) for tick, found in groupby(changes, key=lambda change: change.tick)]
-    for (x, found), after in zip(groups, [x for x, _ in groups[1:]] + [NAME + 100]):
+    for (x, found), after in zip(groups, [x for x, _ in groups[1:]] + [NAME + 40]):
         for change in found:
             draw_change(canvas, change, x, top + ROW / 2)
         if words := fitting([words for change in found for words in words_of(change)], after - x - 12):
