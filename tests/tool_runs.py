@@ -70,6 +70,20 @@ def random_trace(seed: int, lines: int) -> bytes:
     return ("\n".join(result) + "\n").encode()
 
 
+def counts_of_report(report: str) -> list[dict[int, int]]:
+    """For each aggregation the count of each page, where each region is one page."""
+    result: list[dict[int, int]] = []
+    for line in report[: report.index("show ")].splitlines():
+        words = line.split()
+        if words[0] == "aggregate":
+            result.append({})
+        elif words[0] == "row":
+            first, after = (int(address, 16) // 4096 for address in words[2].split("-"))
+            assert after == first + 1, line
+            result[-1][first] = int(words[3].removeprefix("count="))
+    return result
+
+
 class Refusals(unittest.TestCase):
     """An error is one line that names what is wrong and what helps, with status 2 and no output."""
 

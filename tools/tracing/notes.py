@@ -13,7 +13,7 @@ from scripts.wording import counted
 from .areas import Choice
 from .intervals import Recording
 from .lackey import Trace
-from .names import Mapping, names_by_maps, names_by_place
+from .names import ANONYMOUS, Mapping, names_by_maps, names_by_place
 from .script import Settings, Writer
 
 
@@ -68,9 +68,9 @@ def names(result: Result) -> Iterator[str]:
     """The names of targets, as options of the picture."""
     areas = result.choice.kept
     known = names_by_place(areas) if result.maps is None else names_by_maps(areas, result.recording.uses, result.maps)
-    if known:
-        words = " ".join(f"--label {shlex.quote(f'{target}={known[target]}')}" for target in sorted(known))
-        yield f"names of targets for tools/picture.py: {words}"
+    words = [f"--label {shlex.quote(f'{target}={known[target]}')}" for target in sorted(known) if known[target] != ANONYMOUS]
+    if words:
+        yield f"names of targets for tools/picture.py: {' '.join(words)}"
 
 
 def lost(result: Result) -> Iterator[str]:
