@@ -345,6 +345,7 @@ class Errors(Refusals):
     def test_options(self) -> None:
         self.check(["--hot"], EXACT, FOUND, "--hot", "0")
         self.check(["--after"], EXACT, FOUND, "--after", "0")
+        self.check(["the-exact-one", "target 9"], EXACT, FOUND, "--target", "9")
         self.refused(TOOL, ["standard input"], b"", "-", "-")
 
     def test_files_are_named_once(self) -> None:

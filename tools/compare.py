@@ -1,5 +1,8 @@
 #!/usr/bin/env python3
-"""Says what a report missed and what its schemes did, by an exact report of the same run. docs/TUTORIAL.md shows its use."""
+"""Says what a report missed and what its schemes did, by an exact report of the same run.
+
+docs/TUTORIAL.md shows its use.
+"""
 from __future__ import annotations
 
 import argparse
@@ -10,9 +13,9 @@ from common import STANDARD_INPUT, UsageError, opened_text, parser, run
 from comparing.accuracy import Accuracy
 from comparing.counts import Counts, applied_of, counts_of
 from comparing.paging import PAGEOUT, Ledger, Moment, Move, Owner, Paging, Use, Uses
+from reports.events import Aggregation, Report, ReportError
 from reports.pages import PAGE_BITS, Run, common, place, size
 from scripts.wording import counted
-from reports.events import Aggregation, Report, ReportError
 
 TOOL = "compare.py"
 PAGE_BYTES = 1 << PAGE_BITS
@@ -153,6 +156,8 @@ def compared(options: argparse.Namespace) -> Comparison:
             result.add(one[1], other[1], other[0].tick, applied_of(other[0], options.target))
     if not result.accuracy.aggregations:
         raise UsageError("the reports have no aggregation: there is nothing to compare")
+    if not result.accuracy.pages:
+        raise UsageError(f"{options.exact} has no page of target {options.target}")
     return result
 
 

@@ -1,5 +1,8 @@
 #!/usr/bin/env python3
-"""Writes the exact counts of each page from a trace, without the monitor, for tools/compare.py. docs/TUTORIAL.md shows its use."""
+"""Writes the exact counts of each page from a trace, without the monitor, for tools/compare.py.
+
+docs/TUTORIAL.md shows its use.
+"""
 from __future__ import annotations
 
 import argparse

@@ -1,5 +1,8 @@
 #!/usr/bin/env python3
-"""Draws a report of damon, as text or as JSON lines, as a picture: time against addresses, in SVG. docs/TUTORIAL.md shows its use."""
+"""Draws a report of damon, as text or as JSON lines, as a picture: time against addresses, in SVG.
+
+docs/TUTORIAL.md shows its use.
+"""
 from __future__ import annotations
 
 import argparse

@@ -32,7 +32,7 @@ def counts_of(found: Aggregation, share: float, target: int | None) -> Counts:
         base = number << TARGET_BITS
         start, end = base + (first >> PAGE_BITS), base + (after >> PAGE_BITS)
         if not before <= start < end:
-            raise ReportError(f"the aggregation at tick {found.tick} has a row at {first:#x} that does not follow the one before it")
+            raise ReportError(f"the row at {first:#x} of the aggregation at tick {found.tick} does not follow the one before it")
         before = end
         append(watched, start, end)
         if hits:
