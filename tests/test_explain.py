@@ -215,6 +215,11 @@ class Edits(unittest.TestCase):
         self.assertIsNone(reason_of(GOOD.replace("script 1", "script 7").encode(), Fault(3, "bad form")))
         self.assertIsNone(reason_of(GOOD.encode(), Fault(3, "bad number")))
         self.assertEqual(explained(GOOD.encode(), Fault(3, "bad number")), "line 3: bad number\n")
+        for line, kind in ((3, "out of limit"), (5, "bad attrs"), (5, "max over cap"), (6, "out of limit"), (8, "bad range"), (9, "bad range"),
+                           (10, "bad range"), (10, "ranges over max"), (11, "bad form"), (11, "bad scheme"), (11, "out of limit"),
+                           (14, "outside span"), (15, "outside span"), (15, "out of limit"), (18, "bad number")):
+            with self.subTest(line=line, kind=kind):
+                self.assertIsNone(reason_of(GOOD.encode(), Fault(line, kind)))
 
 
 class Program(Refusals):

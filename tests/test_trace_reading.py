@@ -148,6 +148,11 @@ class Names(unittest.TestCase):
     def test_names_in_brackets(self) -> None:
         self.assertEqual([one.name for one in mappings(MAPS.splitlines())][-2:], ["stack", "jit code"])
 
+    def test_a_program_without_a_loader(self) -> None:
+        maps = mappings(["00400000-00401000 r--p 00000000 fe:00 10                  /bin/static", "004a8000-004ad000 rw-p 00000000 00:00 0 ",
+                         "04000000-04022000 rwxp 00000000 00:00 0 "])
+        self.assertEqual([one.name for one in maps], ["static", "anonymous", "heap"])
+
     def test_places_of_valgrind(self) -> None:
         self.assertEqual(names_by_place(self.AREAS), {1: "heap", 3: "stack"})
         self.assertEqual(names_by_place([Area(0x400, 0x500, 1), Area(0x4000, 0x4001, 1), Area(0x7FFE0, 0x7FFE9, 1)]), {})

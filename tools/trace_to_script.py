@@ -37,9 +37,10 @@ example:
 An access is one line of the trace; a modify is one access, and counts as a load and as a store.
 Without --loads, --stores and --fetches, loads and stores are taken.
 
---at puts a commit before an interval, counted from 0. Lines for one interval make one commit where the
-format allows it: all `range` lines, which replace all ranges, and one line each of `attrs`, of `scheme`
-or `drop`, and of `metric`. A second line of one of these kinds makes a second commit right after it.
+--at puts a commit before an interval of the script, counted from 0; with --fit these are the intervals
+that it makes. Lines for one interval make one commit where the format allows it: all `range` lines, which
+replace all ranges, and one line each of `attrs`, of `scheme` or `drop`, and of `metric`. A second line of
+one of these kinds makes a second commit right after it.
 
 Damon judges the lines of --scheme and --at before the trace is read. DAMON in the environment names the
 program; without it, that is the one that ./damon builds.

@@ -139,6 +139,8 @@ def out_of_limit(context: Context) -> Reason | None:
     if name == "sweep":
         return bad_sweep(words[2], words[3])
     low, high = LIMITS[name]
+    if low <= words[1].number() <= high:
+        return None
     return f"{name} is {words[1].text}, and must be from {low} to {high}", words[1]
 
 
@@ -170,43 +172,57 @@ def bad_attrs(context: Context) -> Reason | None:
         return f"min {least.text} is below {LEAST_REGIONS}", least
     if least.number() > most.number():
         return f"min {least.text} is above max {most.text}", least
-    return f"aggr is {aggr.text}, and must be from 1 to {MOST_AGGR}", aggr
+    if not 1 <= aggr.number() <= MOST_AGGR:
+        return f"aggr is {aggr.text}, and must be from 1 to {MOST_AGGR}", aggr
+    return None
 
 
-def over_cap(context: Context) -> Reason:
-    most = words_of(context.line)[2]
-    return f"max {most.text} above cap {context.one('cap')}", most
+def over_cap(context: Context) -> Reason | None:
+    most, cap = words_of(context.line)[2], context.one("cap")
+    return (f"max {most.text} above cap {cap}", most) if most.number() > cap else None
 
 
 def bad_range(context: Context) -> Reason | None:
     target, start, end, label = words_of(context.line)[1:]
-    first, after, unit = start.number(), end.number(), context.one("unit")
     if len(context.ranges) >= context.one("cap"):
         return f"there are {len(context.ranges)} ranges before it, and cap is {context.one('cap')}", None
     if target.number() >= len(context.targets):
-        return f"there is no target {target.text}: the last one is target {len(context.targets) - 1}", target
+        return no_target(context, target)
     for word in (start, end):
         if word.number() % PAGE:
             return f"{word.text} is not a multiple of {PAGE}", word
-    if first >= after:
+    if start.number() >= end.number():
         return f"FROM, {start.text}, is not below TO, {end.text}", start
     span = context.targets[target.number()]
-    if first < span.base or after > span.end:
-        word = start if first < span.base else end
-        return f"{word.text} is outside target {target.text}, from {span.base:#x} to {span.end:#x}", word
-    if (after - first) // PAGE < unit:
-        return f"the range has {counted((after - first) // PAGE, 'page')}, and a region has at least {unit} (`unit`)", end
+    for word, is_inside in ((start, start.number() >= span.base), (end, end.number() <= span.end)):
+        if not is_inside:
+            return f"{word.text} is outside target {target.text}, from {span.base:#x} to {span.end:#x}", word
+    pages, unit = (end.number() - start.number()) // PAGE, context.one("unit")
+    if pages < unit:
+        return f"the range has {counted(pages, 'page')}, and a region has at least {unit} (`unit`)", end
     if label.number() > LAST_CLASS:
         return f"class {label.text} is above {LAST_CLASS}", label
+    return not_after_the_last_range(context, target, start)
+
+
+def not_after_the_last_range(context: Context, target: Piece, start: Piece) -> Reason | None:
+    if not context.ranges:
+        return None
     before = context.ranges[-1]
     if target.number() < before.target:
         return f"target {target.text} after target {before.target} (line {before.line}): ranges go by target, then address", target
-    return f"{start.text} is below {before.end:#x}, the end of the range of line {before.line}", start
+    if target.number() == before.target and start.number() < before.end:
+        return f"{start.text} is below {before.end:#x}, the end of the range of line {before.line}", start
+    return None
 
 
-def ranges_over_max(context: Context) -> Reason:
-    most = context.numbers("attrs")[0][1]
-    return f"this is range {len(context.ranges) + 1}, counted from 1, and max is {most}", None
+def no_target(context: Context, target: Piece) -> Reason:
+    return f"there is no target {target.text}: the last one is target {len(context.targets) - 1}", target
+
+
+def ranges_over_max(context: Context) -> Reason | None:
+    most, number = context.numbers("attrs")[0][1], len(context.ranges) + 1
+    return (f"this is range {number}, counted from 1, and max is {most}", None) if number > most else None
 
 
 def set_twice(context: Context) -> Reason:
@@ -218,7 +234,7 @@ def set_twice(context: Context) -> Reason:
 def outside(context: Context) -> Reason | None:
     target, *addresses = words_of(context.line)[1:]
     if target.number() >= len(context.targets):
-        return f"there is no target {target.text}: the last one is target {len(context.targets) - 1}", target
+        return no_target(context, target)
     span = context.targets[target.number()]
     lasts = [addresses[0].number(), *(end.number() - PAGE for end in addresses[1:])]
     for word, last in zip(addresses, lasts):

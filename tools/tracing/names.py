@@ -15,8 +15,9 @@ DELETED = " (deleted)"
 ANONYMOUS = "anonymous"
 HEAP, STACK = "heap", "stack"
 
-# Where valgrind puts things on 64-bit Linux: the loader first, the heap of `brk` behind it with room for
-# 8 MiB, and memory that is mapped later behind that. The stack of the first thread ends at a fixed place.
+# Where valgrind puts things on 64-bit Linux: the loader first, if there is one, the heap of `brk` behind it
+# with room for 8 MiB, and memory that is mapped later behind that. The stack of the first thread ends at a
+# fixed place.
 LOADER_FIRST = 0x4000000 >> PAGE_BITS
 MAPPED_FIRST = 0x4800000 >> PAGE_BITS
 STACK_AFTER = 0x1FFF001000 >> PAGE_BITS
@@ -39,15 +40,12 @@ class Mapping:
 def mappings(lines: Iterable[str]) -> list[Mapping]:
     """The mappings of a copy of /proc/PID/maps, by address. Raises MapsError."""
     result: list[Mapping] = []
-    file_after: int | None = None
     for number, line in enumerate(lines, 1):
         match = LINE.fullmatch(line.rstrip("\n"))
         if not match:
             raise MapsError(f"line {number}: not a line of /proc/PID/maps")
         first, after, text = int(match[1], 16) >> PAGE_BITS, int(match[2], 16) >> PAGE_BITS, match[4]
-        name = name_of(text) if text else anonymous_name(first, after, match[3], follows_file=first == file_after)
-        result.append(Mapping(first, after, name))
-        file_after = after if text.startswith("/") else None
+        result.append(Mapping(first, after, name_of(text) if text else anonymous_name(first, after)))
     return result
 
 
@@ -57,12 +55,11 @@ def name_of(text: str) -> str:
     return match[1] if match else text.removesuffix(DELETED).rsplit("/", 1)[-1]
 
 
-def anonymous_name(first: int, after: int, rights: str, follows_file: bool) -> str:
+def anonymous_name(first: int, after: int) -> str:
     """Under valgrind the stack and the heap have no name of their own in the maps."""
     if after == STACK_AFTER:
         return STACK
-    # Valgrind lets the heap of `brk` be executed; nothing else behind a file is.
-    return HEAP if follows_file and "x" in rights else ANONYMOUS
+    return HEAP if LOADER_FIRST <= first < MAPPED_FIRST else ANONYMOUS
 
 
 def names_by_maps(areas: list[Area], uses: Map[int, int], maps: list[Mapping]) -> dict[int, str]:
@@ -82,7 +79,10 @@ def most_used(names: Counter[str]) -> str:
 
 
 def names_by_place(areas: list[Area]) -> dict[int, str]:
-    """The stack and the heap, where valgrind puts them. The data of the loader may lie in the heap's target."""
+    """The stack, and the heap of a program that has a loader, where valgrind puts them.
+
+    The data of the loader may lie in the heap's target.
+    """
     names = {}
     for target, area in enumerate(areas):
         if STACK_FIRST < area.after <= STACK_AFTER:
