@@ -16,14 +16,15 @@ EXACT_HEADER = "exact counts 1"
 """The first line of exact counts."""
 
 ADDRESS = r"0x([0-9a-f]+)"
-ROW = re.compile(rf"(row (\d+) {ADDRESS}-{ADDRESS} count=(\d+))(?: last=\d+ age=\d+)?")
+ROW = re.compile(rf"(row (\d+) {ADDRESS}-{ADDRESS} count=(\d+))(?: last=\d+ age=\d+)?\n?")
 SNAPSHOT = re.compile(r"(show|aggregate) tick=(\d+)(?: (?:phase=\w+|threshold=\d+))? rows=(\d+)")
 APPLY = re.compile(rf"apply (\d+) (\w+) (\d+) {ADDRESS}-{ADDRESS} score=\d+")
 SLOT = re.compile(r"slot (\d+) (left=(?:\d+|none) taken=\d+ lowest=(?:\d+|none)|inactive)")
 SCHEME = re.compile(r"scheme (\d+) \w+ active=(yes|no) .*")
 COMMIT = re.compile(r"commit tick=(\d+) ((?:ok|refused) .*)")
-MOST_KEPT = 1 << 16
 END = re.compile(r"end ticks=\d+ rows=\d+ checks=\d+ hits=\d+")
+MOST_KEPT = 1 << 16
+"""The most regions that are kept while a text is read."""
 
 
 class ReportError(Exception):
@@ -141,14 +142,11 @@ def text_events(lines: Iterable[str]) -> Iterator[Event]:
     kept = KeptRegions()
     number = since = 0
     for number, line in enumerate(lines, 1):
-        text = line.rstrip("\n")
-        if match := ROW.fullmatch(text):
+        if match := ROW.fullmatch(line):
             if current is None:
                 raise ReportError(f"line {number}: a row that belongs to no aggregation and no show")
             current.regions.append(kept.get(match[1]) or kept.added(match))
-        elif is_part(text, current):
-            continue
-        else:
+        elif not is_part(text := line.rstrip("\n"), current):
             since = current.tick if isinstance(current, Aggregation) else since
             head = head_of(text, number, since)
             if current is not None:
