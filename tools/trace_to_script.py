@@ -6,19 +6,27 @@ The trace is what `valgrind --tool=lackey --trace-mem=yes` writes. docs/TUTORIAL
 from __future__ import annotations
 
 import argparse
-import gzip
-import lzma
 import re
 import sys
-from dataclasses import dataclass
-from typing import BinaryIO, NoReturn
+from typing import Callable, Iterable
 
-from tracing.areas import Area, Choice, chosen, grouped
+import common
+from common import UsageError, opened, opened_text
+from scripts.grammar import MOST_CAP
+from scripts.judge import is_there
+from tracing import notes
+from tracing.areas import Area, chosen, grouped
+from tracing.commits import PARTS, commits_of
+from tracing.early import check_lines
 from tracing.fit import fitted, too_much_at_all, too_much_to_fit
-from tracing.intervals import Recording, record
-from tracing.lackey import KINDS, TraceError, accesses
-from tracing.script import MOST_CAP, LimitError, Settings, Writer, check_ranges, check_settings, written
+from tracing.intervals import AccessClock, Clock, InstructionClock, Recording, record
+from tracing.lackey import KINDS, Pages, Trace, TraceError
+from tracing.names import MapsError, Mapping, mappings
+from tracing.notes import Result
+from tracing.progress import Progress
+from tracing.script import LimitError, Settings, check_ranges, check_settings, written
 
+TOOL = "trace_to_script.py"
 EXAMPLE = """\
 example:
   valgrind --tool=lackey --trace-mem=yes --log-file=sort.trace sort /etc/services > /dev/null
@@ -28,45 +36,39 @@ example:
 
 An access is one line of the trace; a modify is one access, and counts as a load and as a store.
 Without --loads, --stores and --fetches, loads and stores are taken.
+
+--at puts a commit before an interval of the script, counted from 0; with --fit these are the intervals
+that it makes. Lines for one interval make one commit where the format allows it: all `range` lines, which
+replace all ranges, and one line each of `attrs`, of `scheme` or `drop`, and of `metric`. A second line of
+one of these kinds makes a second commit right after it.
+
+Damon judges the lines of --scheme and --at before the trace is read. DAMON in the environment names the
+program; without it, that is the one that ./damon builds.
 """
 SCHEME = re.compile(r"scheme [ -~]*")
+PLACED = re.compile(r"([0-9]{1,9}):((?:" + "|".join(PARTS) + r") [ -~]*)")
+METRIC = re.compile(r"([0-9]{1,9}):([0-9]{1,10})")
 USUAL_INTERVAL = 10_000
-"""The accesses of an interval where --interval is not given."""
+"""The length of an interval where --interval is not given."""
 SHORTEST_FITTED = 1_000
 """The same with --fit, which makes intervals longer but not shorter."""
-METRIC = re.compile(r"([0-9]{1,9}):([0-9]{1,10})")
-
-
-class UsageError(Exception):
-    """An option or a file that cannot be used."""
-
-
-@dataclass(frozen=True)
-class Result:
-    """A script, and what its notes say."""
-
-    script: Writer
-    choice: Choice
-    recording: Recording
-    length: int
-    """The accesses of each interval."""
-    settings: Settings
+CLOCKS: dict[str, Callable[[Iterable[Pages]], Clock]] = {"accesses": AccessClock, "instructions": InstructionClock}
 
 
 def parser() -> argparse.ArgumentParser:
-    result = argparse.ArgumentParser(
-        prog="trace_to_script.py",
-        description="Reads a trace of `valgrind --tool=lackey --trace-mem=yes` and writes a script of damon.",
-        epilog=EXAMPLE,
-        formatter_class=argparse.RawDescriptionHelpFormatter,
+    result = common.parser(
+        TOOL, "Reads a trace of `valgrind --tool=lackey --trace-mem=yes` and writes a script of damon.", EXAMPLE
     )
     add = result.add_argument
     add("trace", nargs="?", default="-", help="the trace; `-`, the default, is standard input; .gz and .xz are unpacked")
     for kind in KINDS:
         add(f"--{kind}", action="store_true", help=f"take {kind}")
-    add("--interval", type=int, metavar="N", help="accesses of a sampling interval (10000; with --fit 1000)")
+    add("--interval", type=int, metavar="N", help="the length of a sampling interval (10000; with --fit 1000)")
+    add("--clock", choices=tuple(CLOCKS), default="accesses",
+        help="what the length of an interval counts: accesses that are taken, or instructions (accesses)")
     add("--fit", action="store_true", help="make the interval longer than --interval where the limits of a script need it")
     add("--gap", type=int, default=16, metavar="PAGES", help="untouched pages that a target may have between touched ones (16)")
+    add("--maps", metavar="FILE", help="a copy of /proc/PID/maps of the traced program, which names the targets")
     add("--exact", action="store_true", help=f"one page a region: sets --unit, --cap, --min and --max; at most {MOST_CAP} pages")
     add("--unit", type=int, metavar="PAGES", help="the minimum size of a region (1)")
     add("--cap", type=int, metavar="N", help="the most regions that are ever allowed (--max)")
@@ -75,20 +77,10 @@ def parser() -> argparse.ArgumentParser:
     add("--aggr", type=int, default=20, metavar="N", help="sampling intervals of an aggregation (20)")
     add("--seed", type=int, default=1, metavar="N", help="the seed of the random words (1)")
     add("--scheme", action="append", default=[], metavar="LINE", help="a line `scheme ..` as it stands in a script; may be repeated")
-    add("--metric", action="append", default=[], metavar="INTERVAL:N",
-        help="hand in the metric N before this interval, counted from 0, for watermarks; may be repeated")
+    add("--at", action="append", default=[], metavar="INTERVAL:LINE",
+        help=f"a commit before this interval, with a line that begins with {', '.join(PARTS[:-1])} or {PARTS[-1]}; may be repeated")
+    add("--metric", action="append", default=[], metavar="INTERVAL:N", help="the same as --at INTERVAL:'metric N'")
     return result
-
-
-def opened(path: str) -> BinaryIO:
-    """The bytes of the trace. A path `-` is standard input."""
-    if path == "-":
-        return sys.stdin.buffer
-    if path.endswith(".xz"):
-        return lzma.open(path, "rb")
-    if path.endswith(".gz"):
-        return gzip.open(path, "rb")  # type: ignore[return-value]
-    return open(path, "rb")
 
 
 def letters_of(options: argparse.Namespace) -> bytes:
@@ -97,17 +89,18 @@ def letters_of(options: argparse.Namespace) -> bytes:
     return b"".join(KINDS[kind] for kind in kinds)
 
 
-def metrics_of(words: list[str]) -> tuple[tuple[int, int], ...]:
-    """The options --metric as pairs of an interval and a number."""
-    metrics: dict[int, int] = {}
-    for word in words:
-        match = METRIC.fullmatch(word)
-        if not match or int(match[2]) >= 1 << 32:
+def placed_lines(options: argparse.Namespace) -> list[tuple[int, str]]:
+    """The options --at and --metric as pairs of an interval and a line of a commit."""
+    lines = []
+    for word in options.at:
+        if not (match := PLACED.fullmatch(word)):
+            raise UsageError(f"--at needs INTERVAL:LINE, with a line that begins with one of {', '.join(PARTS)}, and not {word!r}")
+        lines.append((int(match[1]), match[2]))
+    for word in options.metric:
+        if not (match := METRIC.fullmatch(word)) or int(match[2]) >= 1 << 32:
             raise UsageError(f"--metric needs INTERVAL:N, with N below 2^32, and not {word!r}")
-        if int(match[1]) in metrics:
-            raise UsageError(f"--metric names the interval {int(match[1])} twice")
-        metrics[int(match[1])] = int(match[2])
-    return tuple(metrics.items())
+        lines.append((int(match[1]), f"metric {int(match[2])}"))
+    return lines
 
 
 def check_options(options: argparse.Namespace) -> None:
@@ -135,7 +128,7 @@ def settings_of(options: argparse.Namespace, pages: int) -> Settings:
         unit, least = 1, max(pages, 3)
         most = cap = least
     settings = Settings(options.seed, unit, cap, least, most, options.aggr,
-                        tuple(options.scheme), metrics_of(options.metric))
+                        tuple(options.scheme), commits_of(placed_lines(options)))
     check_settings(settings)
     return settings
 
@@ -146,9 +139,10 @@ def converted(options: argparse.Namespace) -> Result:
         options.interval = SHORTEST_FITTED if options.fit else USUAL_INTERVAL
     check_options(options)
     early = settings_of(options, 0)
-    check = too_much_to_fit(early.cap) if options.fit else too_much_at_all(early.cap, options.interval)
-    with opened(options.trace) as stream:
-        recording = record(accesses(stream, letters_of(options)), options.interval, check)
+    if is_there():
+        check_lines(early)
+    maps = read_maps(options.maps) if options.maps else None
+    trace, recording = read_trace(options, early)
     choice = chosen(grouped(touched(recording), options.gap, early.unit))
     if not choice.kept:
         raise UsageError("the trace has no access that is taken" if not choice.left_out
@@ -159,7 +153,31 @@ def converted(options: argparse.Namespace) -> Result:
         length, script = fitted(choice.kept, recording, settings)
     else:
         length, script = recording.length, written(choice.kept, iter(recording.intervals), settings)
-    return Result(script, choice, recording, length, settings)
+    return Result(script, choice, recording, length, options.clock, settings, trace, maps)
+
+
+def read_maps(path: str) -> list[Mapping]:
+    with opened_text(path) as stream:
+        try:
+            return mappings(stream)
+        except MapsError as error:
+            raise UsageError(f"{path}: {error}") from None
+
+
+def read_trace(options: argparse.Namespace, settings: Settings) -> tuple[Trace, Recording]:
+    """The trace, read to its end, and what is kept of it."""
+    check = too_much_to_fit(settings.cap) if options.fit else too_much_at_all(settings.cap, options.interval)
+    by_instructions = options.clock == "instructions"
+    progress = Progress(sys.stderr)
+    with opened(options.trace) as stream:
+        trace = Trace(stream, letters_of(options), instructions=by_instructions, progress=progress)
+        try:
+            recording = record(trace, options.interval, check, CLOCKS[options.clock])
+        finally:
+            progress.end()
+    if by_instructions and recording.intervals and not recording.duration:
+        raise UsageError("the trace has no instructions (lines `I`) to count: use --clock accesses")
+    return trace, recording
 
 
 def touched(recording: Recording) -> dict[int, int]:
@@ -171,49 +189,17 @@ def pages_of(areas: list[Area]) -> int:
     return sum(area.pages for area in areas)
 
 
-def notes(result: Result) -> list[str]:
-    """What a user should know beside the script."""
-    kept, left_out = result.choice.kept, result.choice.left_out
-    intervals = -(-result.recording.accesses // result.length)
-    lines = [
-        f"{result.recording.accesses} accesses in {intervals} intervals of {result.length}; "
-        f"{intervals // result.settings.aggr} aggregations; {len(kept)} targets with {pages_of(kept)} pages; "
-        f"{result.script.bytes} bytes, work {result.script.work}"
-    ]
-    if left_out:
-        lost = sum(area.accesses for area in left_out)
-        lines.append(
-            f"left out {len(left_out)} areas with {pages_of(left_out)} pages and {lost} accesses, by the limit of "
-            "64 targets and 1048576 pages: a larger or smaller --gap may help"
-        )
-    if intervals < result.settings.aggr:
-        lines.append("the intervals are too few for an aggregation: use a smaller --interval or --aggr")
-    late = [number for number, _ in result.settings.metrics if number >= intervals]
-    lines += [f"the metric for interval {number} is left out: there are {intervals} intervals" for number in late]
-    return lines
-
-
-def fail(message: str) -> NoReturn:
-    print(f"trace_to_script.py: {message}", file=sys.stderr)
-    sys.exit(2)
-
-
-def main() -> None:
+def work() -> None:
     options = parser().parse_args()
     try:
         result = converted(options)
-    except (UsageError, LimitError, TraceError) as error:
-        fail(str(error))
-    except (OSError, EOFError, lzma.LZMAError) as error:
-        fail(f"{options.trace}: {error}")
-    try:
-        sys.stdout.writelines(result.script.pieces)
-        sys.stdout.flush()
-    except OSError as error:
-        fail(f"writing failed: {error}")
-    for note in notes(result):
+    except (LimitError, TraceError) as error:
+        raise UsageError(str(error)) from None
+    sys.stdout.writelines(result.script.pieces)
+    sys.stdout.flush()
+    for note in notes.of(result):
         print(f"note: {note}", file=sys.stderr)
 
 
 if __name__ == "__main__":
-    main()
+    common.run(TOOL, work)

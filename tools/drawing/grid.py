@@ -8,11 +8,13 @@ from __future__ import annotations
 from bisect import bisect_left
 from dataclasses import dataclass
 
-from .report import Aggregation
+from reports.events import Snapshot
 
 MOST_COLUMNS = 480
 LEVELS = 9
 """The steps of the colour scale above 0."""
+UNWATCHED = -1
+"""The level of a cell that no region covers."""
 
 Rectangle = tuple[int, int, int, int]
 """Column, row, and how many of each; row 0 has the lowest addresses."""
@@ -20,10 +22,10 @@ Rectangle = tuple[int, int, int, int]
 
 @dataclass(frozen=True)
 class Columns:
-    """The ticks at which columns begin and end; each has the same number of aggregations."""
+    """The ticks at which columns begin and end; each has the same number of snapshots."""
 
     edges: list[int]
-    groups: list[list[Aggregation]]
+    groups: list[list[Snapshot]]
 
 
 @dataclass(frozen=True)
@@ -36,22 +38,20 @@ class Cells:
     applied: dict[int, list[Rectangle]]
 
 
-def columns_of(report: list[Aggregation]) -> Columns:
-    """Groups aggregations so that there are at most MOST_COLUMNS columns."""
+def columns_of(report: list[Snapshot]) -> Columns:
+    """Groups snapshots so that there are at most MOST_COLUMNS columns. There is at least one."""
     size = -(-len(report) // MOST_COLUMNS)
     groups = [report[start : start + size] for start in range(0, len(report), size)]
-    first = report[0].tick - report[0].passes
-    return Columns([first, *(group[-1].tick for group in groups)], groups)
+    return Columns([0, *(group[-1].tick for group in groups)], groups)
 
 
-def rows_of(report: list[Aggregation], target: int, low: int, high: int, most: int) -> list[int]:
+def rows_of(report: list[Snapshot], target: int, low: int, high: int, most: int) -> list[int]:
     """The edges of the rows of a panel: where regions begin and end, if that gives at most `most` rows."""
     edges = {low, high}
-    for aggregation in report:
-        for region in aggregation.by_target.get(target, ()):
+    for snapshot in report:
+        for region in snapshot.by_target.get(target, ()):
             edges.update((region.start, region.end))
-    edges.update(edge for aggregation in report for run in aggregation.applied
-                 if run.target == target for edge in (run.start, run.end))
+        edges.update(edge for run in snapshot.applied if run.target == target for edge in (run.start, run.end))
     if len(edges) - 1 <= most:
         return sorted(edges)
     return [low + (high - low) * number // most for number in range(most + 1)]
@@ -62,18 +62,15 @@ def level(share: float) -> int:
     return 0 if share <= 0 else min(LEVELS, 1 + int(share * LEVELS))
 
 
-def heat_column(group: list[Aggregation], target: int, rows: list[int]) -> list[int]:
-    """The levels of one column: the mean share of hits over its aggregations and the row's bytes.
-
-    A cell that no region covers has the level -1.
-    """
+def heat_column(group: list[Snapshot], target: int, rows: list[int]) -> list[int]:
+    """The levels of one column: the mean share of hits over its snapshots and the row's bytes, as far as they are watched."""
     count = len(rows) - 1
     hits, covered = [0.0] * count, [0.0] * count
-    for aggregation in group:
-        for region in aggregation.by_target.get(target, ()):
-            share = region.count / aggregation.passes
+    for snapshot in group:
+        for region in snapshot.by_target.get(target, ()):
+            share = region.hits / snapshot.passes
             spread(rows, region.start, region.end, share, hits, covered)
-    return [level(hit / cover) if cover else -1 for hit, cover in zip(hits, covered)]
+    return [level(hit / cover) if cover else UNWATCHED for hit, cover in zip(hits, covered)]
 
 
 def spread(rows: list[int], start: int, end: int, share: float, hits: list[float], covered: list[float]) -> None:
@@ -86,11 +83,11 @@ def spread(rows: list[int], start: int, end: int, share: float, hits: list[float
         row += 1
 
 
-def applied_column(group: list[Aggregation], target: int, rows: list[int], slot: int) -> list[int]:
+def applied_column(group: list[Snapshot], target: int, rows: list[int], slot: int) -> list[int]:
     """1 for each row with a page to which the slot's scheme was applied in this column."""
     marks = [0] * (len(rows) - 1)
-    for aggregation in group:
-        for run in aggregation.applied:
+    for snapshot in group:
+        for run in snapshot.applied:
             if run.target == target and run.slot == slot:
                 row = max(0, bisect_left(rows, run.start + 1) - 1)
                 while row < len(marks) and rows[row] < run.end:
@@ -125,11 +122,11 @@ def rectangles(columns: list[list[int]]) -> dict[int, list[Rectangle]]:
 
 
 def runs_of(cells: list[int]) -> list[tuple[int, int, int]]:
-    """The longest runs of equal cells that are above 0: first row, number of rows, level."""
+    """The longest runs of equal cells that are not 0: first row, number of rows, level."""
     runs, start = [], 0
     for row in range(1, len(cells) + 1):
         if row == len(cells) or cells[row] != cells[start]:
-            if cells[start] > 0:
+            if cells[start]:
                 runs.append((start, row - start, cells[start]))
             start = row
     return runs

@@ -3,9 +3,11 @@ from __future__ import annotations
 
 from typing import Callable, Iterator
 
+from scripts.grammar import MOST_BYTES, MOST_WORK
+
 from .areas import Area
 from .intervals import Recording, Runs, joined
-from .script import MOST_BYTES, MOST_WORK, LimitError, Settings, Writer, pass_work, written
+from .script import LimitError, Settings, Writer, pass_work, written
 
 FINER = 4
 """How many times more than fits in a script is collected, so that the interval can be chosen finely."""
@@ -30,8 +32,8 @@ def too_much_at_all(cap: int, length: int) -> Callable[[Recording], bool]:
     def too_much(recording: Recording) -> bool:
         if len(recording.intervals) * pass_work(cap) > MOST_WORK:
             raise LimitError(
-                f"the work of a script is at most {MOST_WORK}, and more than {recording.accesses} accesses "
-                f"in intervals of {length} need more: use --fit, a larger --interval or a smaller --cap"
+                f"the work of a script is at most {MOST_WORK}, and {len(recording.intervals)} intervals of {length} "
+                "need more: use --fit, a larger --interval or a smaller --cap"
             )
         return False
 
@@ -51,7 +53,7 @@ def fitted(areas: list[Area], recording: Recording, settings: Settings) -> tuple
     high, best = 1, attempt(1)
     while best is None:
         if high >= len(recording.intervals):
-            raise LimitError("no interval fits the limits of a script: use a smaller --cap, or fewer --metric")
+            raise LimitError("no interval fits the limits of a script: use a smaller --cap, or fewer --at and --metric")
         high *= 2
         best = attempt(high)
     low = high // 2

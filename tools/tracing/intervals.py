@@ -1,4 +1,4 @@
-"""Cuts a trace into sampling intervals of a number of accesses.
+"""Cuts a trace into sampling intervals, each of a number of accesses or of instructions.
 
 Of each interval only the runs of touched pages are kept. To find an interval that fits the limits of
 a script in one reading of the trace, neighbours are joined in pairs whenever too much was collected.
@@ -9,11 +9,14 @@ from array import array
 from collections import Counter
 from dataclasses import dataclass, field
 from itertools import chain, islice
-from typing import Callable, Iterable, Iterator
+from typing import TYPE_CHECKING, Callable, Iterable, Iterator, Protocol
 
-from .lackey import Pages
+from .lackey import INSTRUCTION, Pages
 
-Runs = array
+if TYPE_CHECKING:
+    Runs = array[int]
+else:
+    Runs = array
 """The touched pages of an interval, ascending: first page, page after the last one, and so on."""
 
 
@@ -22,27 +25,90 @@ class Recording:
     """What is kept of a trace."""
 
     length: int
-    """The accesses of each interval; the last interval may have fewer."""
+    """The accesses, or the instructions, of each interval; the last interval may have fewer."""
     intervals: list[Runs] = field(default_factory=list)
     uses: Counter[int] = field(default_factory=Counter)
     """The accesses of each page; one across a border counts for its first page alone."""
     more_pages: set[int] = field(default_factory=set)
     """Pages behind a border that an access crossed."""
     accesses: int = 0
+    duration: int = 0
+    """The accesses, or the instructions, of all intervals together."""
     runs: int = 0
     """The runs of all intervals together."""
 
 
-def record(trace: Iterable[Pages], length: int, too_much: Callable[[Recording], bool]) -> Recording:
-    """Reads a whole trace in intervals of `length` accesses.
+class Clock(Protocol):
+    """Says where an interval ends."""
+
+    passed: int
+    """The units of time of all intervals so far."""
+
+    def interval(self, length: int) -> list[Pages] | None:
+        """The accesses of the next `length` units of time, or fewer at the end; None after it."""
+
+
+class AccessClock:
+    """Time is counted in accesses."""
+
+    def __init__(self, trace: Iterable[Pages]) -> None:
+        self.trace = iter(trace)
+        self.passed = 0
+
+    def interval(self, length: int) -> list[Pages] | None:
+        found = list(islice(self.trace, length))
+        self.passed += len(found)
+        return found or None
+
+
+class InstructionClock:
+    """Time is counted in instructions; the accesses of an instruction follow its mark in the trace."""
+
+    def __init__(self, trace: Iterable[Pages]) -> None:
+        self.trace = iter(trace)
+        self.passed = 0
+        self.waiting: Pages | None = None
+        """The mark that ended the interval before, with its pages: it belongs to the next one."""
+
+    def interval(self, length: int) -> list[Pages] | None:
+        found: list[Pages] = []
+        left = length
+        for pages in self.rest():
+            if pages[0] == INSTRUCTION:
+                if left == 0:
+                    self.waiting = pages
+                    break
+                left -= 1
+                pages = pages[1:]
+            if pages:
+                found.append(pages)
+        self.passed += length - left
+        return found if found or left < length else None
+
+    def rest(self) -> Iterator[Pages]:
+        """What follows the interval before."""
+        if self.waiting is None:
+            return self.trace
+        waiting, self.waiting = self.waiting, None
+        return chain((waiting,), self.trace)
+
+
+def record(
+    trace: Iterable[Pages],
+    length: int,
+    too_much: Callable[[Recording], bool],
+    clock: Callable[[Iterable[Pages]], Clock] = AccessClock,
+) -> Recording:
+    """Reads a whole trace in intervals of `length` accesses, or of what the clock counts.
 
     Whenever `too_much` says so of what was collected so far, neighbours are joined in pairs and the
     length doubles. It may raise an error instead.
     """
     recording = Recording(length)
-    trace = iter(trace)
-    while interval := list(islice(trace, recording.length)):
+    time = clock(trace)
+    while (interval := time.interval(recording.length)) is not None:
         add(recording, interval)
+        recording.duration = time.passed
         # Joining needs an even number of whole intervals; a shorter one is the last of the trace.
         while len(recording.intervals) % 2 == 0 and too_much(recording):
             double(recording)

@@ -5,16 +5,17 @@ alone; the checks here are for messages that say which option helps.
 """
 from __future__ import annotations
 
-from dataclasses import dataclass
+from dataclasses import dataclass, field
 from typing import Iterator
 
+from scripts.grammar import HEADER, LEAST_REGIONS, MOST_AGGR, MOST_BYTES, MOST_CAP, MOST_UNIT, MOST_WORK
+from scripts.grammar import pass_work as work_of_call
+
 from .areas import Area, Lookup
+from .commits import Commits
+from .commits import written as commit_lines
 from .intervals import Runs, pairs
 from .lackey import PAGE_BITS
-
-MOST_BYTES = 16_777_216
-MOST_WORK = 16_777_216
-MOST_CAP = 4096
 
 
 class LimitError(Exception):
@@ -37,19 +38,18 @@ class Settings:
     """The sampling intervals of an aggregation."""
     schemes: tuple[str, ...] = ()
     """Lines as they stand in a script."""
-    metrics: tuple[tuple[int, int], ...] = ()
-    """Pairs of an interval, counted from 0, and the metric that is handed in before it."""
+    commits: Commits = field(default_factory=dict)
 
 
 def check_settings(settings: Settings) -> None:
     """Raises LimitError for the first setting that is outside its limits."""
     for name, value, low, high in (
         ("seed", settings.seed, 0, 2**64 - 1),
-        ("unit", settings.unit, 1, 1 << 20),
-        ("cap", settings.cap, 3, MOST_CAP),
-        ("min", settings.least, 3, settings.most),
+        ("unit", settings.unit, 1, MOST_UNIT),
+        ("cap", settings.cap, LEAST_REGIONS, MOST_CAP),
+        ("min", settings.least, LEAST_REGIONS, settings.most),
         ("max", settings.most, settings.least, settings.cap),
-        ("aggr", settings.aggr, 1, 1000),
+        ("aggr", settings.aggr, 1, MOST_AGGR),
     ):
         if not low <= value <= high:
             raise LimitError(f"{name} is {value} and must be from {low} to {high}: change --{name}{hint(name)}")
@@ -70,22 +70,27 @@ def check_ranges(areas: list[Area], settings: Settings) -> None:
 
 def pass_work(cap: int) -> int:
     """The work of `arm` and `finish` together."""
-    return 2 * (2 * cap + 3)
+    return 2 * work_of_call(cap)
 
 
 def address(page: int) -> str:
     return hex(page << PAGE_BITS)
 
 
-def setup(areas: list[Area], settings: Settings) -> list[str]:
-    """The lines up to `begin`."""
-    lines = [
-        "damon script 1",
+def opening(settings: Settings) -> list[str]:
+    """The lines before the targets."""
+    return [
+        HEADER,
         f"seed {settings.seed}",
         f"unit {settings.unit}",
         f"cap {settings.cap}",
         f"attrs {settings.least} {settings.most} {settings.aggr}",
     ]
+
+
+def setup(areas: list[Area], settings: Settings) -> list[str]:
+    """The lines up to `begin`."""
+    lines = opening(settings)
     lines += [f"target {address(area.first)} {area.pages}" for area in areas]
     lines += [
         f"range {target} {address(area.first)} {address(area.after)} 0" for target, area in enumerate(areas)
@@ -111,7 +116,6 @@ class Writer:
     def __init__(self, areas: list[Area], settings: Settings) -> None:
         self.settings = settings
         self.lookup = Lookup(areas)
-        self.metrics = dict(settings.metrics)
         self.pieces: list[str] = []
         self.bytes = 0
         self.work = 0
@@ -131,10 +135,10 @@ class Writer:
             )
 
     def interval(self, number: int, runs: Runs) -> None:
-        """Writes one sampling interval: its metric, `arm`, its pages, `finish`."""
+        """Writes one sampling interval: the commits before it, `arm`, its pages, `finish`."""
         lines: list[str] = []
-        if number in self.metrics:
-            lines += ["commit", f"metric {self.metrics[number]}", "apply"]
+        for commit in self.settings.commits.get(number, []):
+            lines += commit_lines(commit)
             self.charge(1)
         lines += ["arm", *touches(runs, self.lookup), "finish"]
         self.charge(pass_work(self.settings.cap) + self.pages_of(runs))

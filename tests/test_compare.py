@@ -1,0 +1,357 @@
+#!/usr/bin/env python3
+"""Tests of tools/compare.py: what a report missed, and what its schemes did."""
+from __future__ import annotations
+
+import json
+import os
+import random
+import re
+import subprocess
+import sys
+import tempfile
+import unittest
+from collections import Counter
+from pathlib import Path
+
+from tool_runs import PROGRAM, TOOLS, Refusals, need_program, random_trace, report_of, run, script_of
+
+from reports.pages import common, union, without
+
+TOOL = "compare.py"
+Page = tuple[int, int]
+EXACT = """\
+aggregate tick=4 threshold=0 rows=3
+row 0 0x10000-0x11000 count=0 last=0 age=1
+row 0 0x11000-0x12000 count=4 last=0 age=0
+row 1 0x20000-0x21000 count=1 last=0 age=0
+aggregate tick=6 threshold=0 rows=3
+row 0 0x10000-0x11000 count=1 last=0 age=0
+row 0 0x11000-0x12000 count=2 last=4 age=0
+row 1 0x20000-0x21000 count=0 last=1 age=0
+end ticks=6 rows=3 checks=18 hits=8
+"""
+FOUND = """\
+aggregate tick=4 threshold=0 rows=2
+apply 0 pageout 0 0x10000-0x12000 score=25
+slot 0 left=2 taken=2 lowest=25
+row 0 0x10000-0x12000 count=3 last=0 age=1
+row 1 0x20000-0x21000 count=0 last=0 age=0
+commit tick=4 ok rows=2 void=no
+aggregate tick=6 threshold=0 rows=2
+apply 0 pageout 1 0x20000-0x21000 score=25
+slot 0 left=none taken=1 lowest=25
+row 0 0x10000-0x12000 count=0 last=3 age=0
+row 1 0x20000-0x21000 count=0 last=0 age=0
+"""
+
+
+def setUpModule() -> None:
+    need_program()
+
+
+def compared(exact: str, found: str, *words: str) -> list[str]:
+    """The lines of the comparison of two texts."""
+    with tempfile.TemporaryDirectory() as folder:
+        paths = [Path(folder) / name for name in ("exact", "found")]
+        for path, text in zip(paths, (exact, found)):
+            path.write_text(text)
+        ran = run(TOOL, *map(str, paths), *words)
+    if ran.returncode != 0:
+        raise AssertionError(ran.stderr.decode())
+    return ran.stdout.decode().splitlines()
+
+
+def aggregations_of(report: str) -> list[dict]:
+    """The aggregations of a report, page by page. Shares nothing with the tools."""
+    result: list[dict] = []
+    is_inside = False
+    for line in report.splitlines():
+        word, *rest = line.split()
+        if word == "aggregate":
+            result.append({"tick": int(rest[0][5:]), "counts": {}, "applied": []})
+        is_inside = word in ("aggregate", "apply", "slot") or is_inside and word == "row"
+        if is_inside and word in ("apply", "row"):
+            target, span = rest[:2] if word == "row" else rest[2:4]
+            low, high = (int(address, 16) // 4096 for address in span.split("-"))
+            pages = [(int(target), page) for page in range(low, high)]
+            if word == "apply":
+                result[-1]["applied"].append((int(rest[0]), rest[1], pages))
+            else:
+                result[-1]["counts"].update(dict.fromkeys(pages, int(rest[2][6:])))
+    return result
+
+
+def percent(part: int, whole: int) -> list[str]:
+    return [f"{100 * part / whole:.1f}"] if whole else []
+
+
+def found_numbers(exact: list[dict], found: list[dict], hot: float) -> list[list[str]]:
+    """The numbers of the first lines, counted page by page."""
+    total: Counter[str] = Counter()
+    before = 0
+    for one, other in zip(exact, found):
+        passes, before = one["tick"] - before, one["tick"]
+        used = {page for page, count in one["counts"].items() if count}
+        called = {page for page, count in other["counts"].items() if count}
+        for page, count in one["counts"].items():
+            seen = other["counts"].get(page)
+            total["pages"] += 1
+            total["blind"] += seen is None
+            total["hot"] += count >= hot * passes
+            total["hot called"] += seen is not None and seen >= hot * passes
+            total["hot both"] += count >= hot * passes and seen is not None and seen >= hot * passes
+            total["cold"] += count == 0
+            total["cold called"] += seen == 0
+            total["cold both"] += count == 0 and seen == 0
+        total["used"] += len(used)
+        total["called"] += len(called)
+        total["off"] += abs(len(used) - len(called))
+    lines = [[len(exact), total["pages"]]] + [[total["blind"]]] * (total["blind"] > 0)
+    numbers = [[str(number) for number in line] for line in lines]
+    for name in ("hot", "cold"):
+        both, wrong = total[f"{name} both"], total[f"{name} called"] - total[f"{name} both"]
+        numbers.append([str(both), str(total[name]), *percent(both, total[name])])
+        numbers.append([str(wrong), str(total[f"{name} called"]), *percent(wrong, total[f"{name} called"])])
+    error = [f"{100 * (total['called'] - total['used']) / total['used']:+.1f}"] if total["used"] else []
+    averages = [f"{total[name] / len(exact):.1f}" for name in ("called", "used", "off")]
+    return [*numbers, [*averages[:2], *error, averages[2]]]
+
+
+def slot_numbers(exact: list[dict], found: list[dict], after: int) -> tuple[list[list[str]], set]:
+    """The numbers of the lines of slots, and the moves of single pages, followed page by page."""
+    out: dict[Page, tuple[int, int]] = {}
+    moves: set[tuple[int, Page, int, int | None]] = set()
+    total: dict[tuple[int, str], Counter] = {}
+    different: dict[int, set[Page]] = {}
+    for number, (one, other) in enumerate(zip(exact, found)):
+        for page, count in one["counts"].items():
+            if count and page in out:
+                slot, since = out.pop(page)
+                total[slot, "pageout"]["back"] += 1
+                total[slot, "pageout"]["soon"] += number - since <= after
+                moves.add((slot, page, found[since]["tick"], other["tick"]))
+        for slot, _ in out.values():
+            total[slot, "pageout"]["stay"] += 1
+        for slot, action, pages in other["applied"]:
+            sums = total.setdefault((slot, action), Counter())
+            sums["applied"] += len(pages)
+            soon = exact[number + 1 : number + 1 + after]
+            sums["used"] += sum(any(later["counts"][page] for later in soon) for page in pages)
+            for page in pages:
+                if action == "pageout" and page not in out:
+                    out[page] = (slot, number)
+                    sums["out"] += 1
+                    different.setdefault(slot, set()).add(page)
+    moves |= {(slot, page, found[since]["tick"], None) for page, (slot, since) in out.items()}
+    lines: list[list] = []
+    for (slot, action), sums in sorted(total.items()):
+        if action != "pageout":
+            lines.append([slot, sums["used"], sums["applied"], after, *percent(sums["used"], sums["applied"])])
+            continue
+        end = sum(1 for owner, _ in out.values() if owner == slot)
+        lines += [[slot, sums["applied"]], [slot, sums["out"], len(different.get(slot, ()))],
+                  [slot, sums["back"], *percent(sums["back"], sums["out"]), f"{sums['back'] / len(exact):.1f}"],
+                  [slot, sums["soon"], after, *percent(sums["soon"], sums["out"])],
+                  [slot, end, f"{sums['stay'] / len(exact):.1f}"]]
+    return [[str(number) for number in line] for line in lines], moves
+
+
+def moves_of(lines: list[str]) -> list[tuple[int, Page, int, int | None]]:
+    """The moves that were printed, as moves of single pages."""
+    result = []
+    for line in lines:
+        match = re.fullmatch(r"move: slot (\d+), target (\d+), 0x(\w+)-0x(\w+), (\d+) pages?, out at tick (\d+), "
+                             r"(?:back at tick (\d+)|still out at the end)", line)
+        if not match:
+            raise AssertionError(line)
+        low, high = int(match[3], 16) // 4096, int(match[4], 16) // 4096
+        if high - low != int(match[5]):
+            raise AssertionError(line)
+        back = int(match[7]) if match[7] else None
+        result += [(int(match[1]), (int(match[2]), page), int(match[6]), back) for page in range(low, high)]
+    return result
+
+
+def random_runs(seed: int) -> tuple[str, str]:
+    """An exact report and another one, with ranges that are not watched, two slots with `pageout` and other slots."""
+    source = random.Random(seed)
+    spans = {target: (source.randrange(20), source.randrange(25, 60)) for target in range(source.randrange(1, 4))}
+    exact, found, tick = [], [], 0
+    for _ in range(source.randrange(2, 40)):
+        passes = source.randrange(1, 9)
+        tick += passes
+        rows, regions, applied = [], [], []
+        for target, (low, high) in spans.items():
+            rows += [(target, page, page + 1, source.choice([0, 0, 0, source.randrange(passes + 1)])) for page in range(low, high)]
+            edges = sorted({low, high, *(source.randrange(low, high) for _ in range(6))})
+            regions += [(target, start, end, source.choice([0, source.randrange(passes + 1)]))
+                        for start, end in zip(edges, edges[1:]) if source.random() < 0.9]
+        for slot, action in ((0, "pageout"), (2, source.choice(["stat", "lru_prio"])), (7, "pageout"), (9, "willneed")):
+            runs = [(target, source.randrange(start, end), end) for target, start, end, _ in regions if source.random() < 0.3]
+            applied += [(slot, action, *taken) for taken in source.sample(runs, len(runs))]
+        exact.append(aggregation_text(tick, rows, []))
+        found.append(aggregation_text(tick, regions, applied))
+    return "".join(exact), "".join(found)
+
+
+def aggregation_text(tick: int, rows: list, applied: list) -> str:
+    lines = [f"aggregate tick={tick} threshold=0 rows={len(rows)}"]
+    lines += [f"apply {slot} {action} {target} {low << 12:#x}-{high << 12:#x} score=9" for slot, action, target, low, high in applied]
+    lines += [f"row {target} {low << 12:#x}-{high << 12:#x} count={count} last=0 age=0" for target, low, high, count in rows]
+    return "\n".join(lines) + "\n"
+
+
+class Arithmetic(unittest.TestCase):
+    """What is printed is what page by page counting gives."""
+
+    def check(self, exact: str, found: str, hot: float, after: int) -> None:
+        lines = compared(exact, found, "--hot", str(hot), "--after", str(after), "--moves")
+        moves = [line for line in lines if line.startswith("move:")]
+        numbers = [re.findall(r"[-+]?\b\d+(?:\.\d+)?", line) for line in lines if line not in moves]
+        one, other = aggregations_of(exact), aggregations_of(found)
+        wanted, wanted_moves = slot_numbers(one, other, after)
+        self.assertEqual(numbers, found_numbers(one, other, hot) + wanted)
+        self.assertEqual(sorted(moves_of(moves), key=str), sorted(wanted_moves, key=str))
+
+    def test_random_reports(self) -> None:
+        for seed in range(40):
+            with self.subTest(seed=seed):
+                self.check(*random_runs(seed), hot=(0.5, 1, 0.05)[seed % 3], after=1 + seed % 7)
+
+    def test_random_runs_of_the_program(self) -> None:
+        schemes = ("scheme 0 pageout count=0,1 age=1,9", "scheme 3 pageout age=2,99 quota=20480,10 prefer=cold", "scheme 5 lru_prio count=3,9")
+        for seed in range(6):
+            with self.subTest(seed=seed):
+                trace, words = random_trace(seed, 4000), ["--interval", "8", "--aggr", str(2 + seed)]
+                exact = report_of(script_of(trace, *words, "--exact"))
+                sampled = script_of(trace, *words, "--max", "40", *(word for line in schemes for word in ("--scheme", line)))
+                self.check(exact, report_of(sampled), hot=0.4, after=3)
+
+    def test_a_small_run(self) -> None:
+        self.assertEqual(compared(EXACT, FOUND, "--moves"), [
+            "2 aggregations, 6 page-aggregations",
+            "hot: 1 of 3 page-aggregations found: 33.3 %",
+            "hot: 1 of 2 page-aggregations called hot are not: 50.0 %",
+            "cold: 1 of 2 page-aggregations found: 50.0 %",
+            "cold: 3 of 4 page-aggregations called cold are not: 75.0 %",
+            "working set: 1.0 pages on average, exactly 2.0: -50.0 %; off by 1.0 pages on average",
+            "slot 0 pageout: applied to 3 page-aggregations",
+            "slot 0 pageout: 3 pages put out, 3 of them different",
+            "slot 0 pageout: 2 refaults of these: 66.7 %; 1.0 an aggregation",
+            "slot 0 pageout: 2 refaults within 5 aggregations: 66.7 %",
+            "slot 0 pageout: 1 page out at the end; 0.0 on average through an aggregation",
+            "move: slot 0, target 0, 0x10000-0x12000, 2 pages, out at tick 4, back at tick 6",
+            "move: slot 0, target 1, 0x20000-0x21000, 1 page, out at tick 6, still out at the end"])
+
+    def test_one_target(self) -> None:
+        lines = compared(EXACT, FOUND, "--target", "1", "--moves")
+        self.assertEqual(lines[0], "2 aggregations, 2 page-aggregations")
+        self.assertEqual(lines[-1], "move: slot 0, target 1, 0x20000-0x21000, 1 page, out at tick 6, still out at the end")
+
+    def test_sets_of_pages(self) -> None:
+        source = random.Random(3)
+        for _ in range(300):
+            one, other = ({source.randrange(30) for _ in range(source.randrange(30))} for _ in range(2))
+            runs, others = runs_of(one), runs_of(other)
+            self.assertEqual(pages_of(common(runs, others)), sorted(one & other))
+            self.assertEqual(pages_of(without(runs, others)), sorted(one - other))
+            self.assertEqual(union(runs, others), runs_of(one | other))
+
+
+def runs_of(pages: set[int]) -> list[tuple[int, int]]:
+    starts = sorted(page for page in pages if page - 1 not in pages)
+    ends = sorted(page + 1 for page in pages if page + 1 not in pages)
+    return list(zip(starts, ends))
+
+
+def pages_of(runs: list[tuple[int, int]]) -> list[int]:
+    return [page for start, end in runs for page in range(start, end)]
+
+
+class Forms(unittest.TestCase):
+    def test_json(self) -> None:
+        trace = random_trace(5, 3000)
+        scripts = [script_of(trace, "--interval", "10", "--aggr", "6", *words) for words in
+                   (["--exact"], ["--scheme", "scheme 0 pageout count=0,0", "--metric", "9:5"])]
+        texts = [report_of(script) for script in scripts]
+        lines = [subprocess.run([PROGRAM, "json"], input=script.encode(), capture_output=True, check=True).stdout.decode()
+                 for script in scripts]
+        self.assertTrue(all(json.loads(line) for line in lines[1].splitlines()))
+        self.assertEqual(compared(lines[0], lines[1], "--moves"), compared(texts[0], texts[1], "--moves"))
+        self.assertEqual(compared(lines[0], texts[1]), compared(texts[0], lines[1]))
+
+
+class Costs(unittest.TestCase):
+    """One aggregation of each report is kept at a time."""
+
+    def test_memory(self) -> None:
+        source = random.Random(1)
+        with tempfile.TemporaryDirectory() as folder:
+            path = Path(folder) / "exact"
+            with path.open("w") as stream:
+                for tick in range(1, 81):
+                    rows = [(0, page, page + 1, source.randrange(2)) for page in range(4096)]
+                    stream.write(aggregation_text(tick, rows, [(0, "pageout", 0, 8 * step, 8 * step + 5) for step in range(512)]))
+            self.assertGreater(path.stat().st_size, 16_000_000)
+            process = subprocess.Popen([sys.executable, TOOLS / TOOL, path, path], stdout=subprocess.DEVNULL)
+            _, status, used = os.wait4(process.pid, 0)
+            process.returncode = os.waitstatus_to_exitcode(status)
+        self.assertEqual(process.returncode, 0)
+        self.assertLess(used.ru_maxrss * 1024, 80_000_000)
+
+    def test_a_closed_pipe_ends_it_in_silence(self) -> None:
+        rows = [(0, page, page + 1, 0) for page in range(4000)]
+        text = aggregation_text(4, rows, [(0, "pageout", 0, page, page + 1) for page in range(0, 4000, 2)])
+        with tempfile.TemporaryDirectory() as folder:
+            path = Path(folder) / "exact"
+            path.write_text(text)
+            words = [sys.executable, str(TOOLS / TOOL), str(path), str(path), "--moves"]
+            process = subprocess.Popen(words, stdout=subprocess.PIPE, stderr=subprocess.PIPE)
+            assert process.stdout and process.stderr
+            process.stdout.close()
+            message = process.stderr.read()
+            process.stderr.close()
+            process.wait()
+        self.assertEqual(message, b"")
+
+
+class Errors(Refusals):
+    def check(self, parts: list[str], exact: str, found: str, *words: str) -> None:
+        with tempfile.TemporaryDirectory() as folder:
+            path = Path(folder) / "the-exact-one"
+            path.write_text(exact)
+            self.refused(TOOL, parts, found.encode(), str(path), "-", *words)
+
+    def test_the_first_report_is_exact(self) -> None:
+        self.check(["the-exact-one", "2 pages", "one page a region", "--exact"], FOUND, EXACT)
+
+    def test_reports_of_other_runs(self) -> None:
+        self.check(["different ticks", "--like"], EXACT, FOUND.replace("tick=6", "tick=7"))
+        self.check(["different ticks"], EXACT, FOUND[: FOUND.index("commit")])
+        self.check(["different ticks"], EXACT[: EXACT.index("aggregate tick=6")], FOUND)
+        self.check(["tick 4", "pages", "--gap"], EXACT, FOUND.replace("0x10000", "0xf000"))
+        self.check(["no aggregation"], "end ticks=0 rows=1 checks=0 hits=0\n", "end ticks=0 rows=1 checks=0 hits=0\n")
+
+    def test_faulty_reports(self) -> None:
+        self.check(["the-exact-one", "line 3", "not a line"], EXACT.replace("row 0 0x11000", "show 0 0x11000", 1), FOUND)
+        self.check(["the-exact-one", "line 4", "rows=3"], EXACT.replace("row 0 0x11000-0x12000 count=4 last=0 age=0\n", ""), FOUND)
+        self.check(["-: ", "count=3", "in 2 passes"], EXACT, FOUND.replace("tick=4", "tick=2"))
+        self.check(["the-exact-one", "0x10000", "follow"], EXACT.replace("row 0 0x11000-0x12000", "row 0 0x10000-0x11000"), FOUND)
+        self.check(["the-exact-one", "line 1"], "hello\n", FOUND)
+
+    def test_exact_counts_come_first(self) -> None:
+        self.check(["first of the two"], EXACT, "exact counts 1\n")
+
+    def test_options(self) -> None:
+        self.check(["--hot"], EXACT, FOUND, "--hot", "0")
+        self.check(["--after"], EXACT, FOUND, "--after", "0")
+        self.check(["the-exact-one", "target 9"], EXACT, FOUND, "--target", "9")
+        self.refused(TOOL, ["standard input"], b"", "-", "-")
+
+    def test_files_are_named_once(self) -> None:
+        ran = run(TOOL, "no-such-file", "-")
+        self.assertEqual(ran.stderr, b"compare.py: no-such-file: No such file or directory\n")
+
+
+if __name__ == "__main__":
+    unittest.main()

@@ -1,0 +1,175 @@
+"""Which pages schemes really put out, and when these came back.
+
+A page goes out when `pageout` is applied to it, at the end of an aggregation, unless it is out
+already. It comes back in a later aggregation, the first in which it was accessed: a refault of the
+slot that put it out. Nothing else brings a page back.
+"""
+from __future__ import annotations
+
+from dataclasses import dataclass, field
+from typing import Iterable, NamedTuple
+
+from reports.pages import Run, Runs, size, union, without
+
+Owner = tuple[int, str]
+"""A slot, and the action of its scheme."""
+PAGEOUT = "pageout"
+
+
+class Moment(NamedTuple):
+    """An aggregation, by its number from 0 and its tick."""
+
+    number: int
+    tick: int
+
+
+class Stay(NamedTuple):
+    """A run of pages that are out."""
+
+    start: int
+    end: int
+    slot: int
+    since: Moment
+
+
+class Move(NamedTuple):
+    """A run of pages that went out together, and came back together or not at all."""
+
+    stay: Stay
+    back: Moment | None
+
+
+@dataclass
+class Ledger:
+    """What the scheme of one slot did; numbers of pages, but for `applied`."""
+
+    applied: int = 0
+    """Page-aggregations."""
+    put_out: int = 0
+    """Each time that a page went out counts."""
+    different: Runs = field(default_factory=list)
+    """The pages that went out at least once."""
+    refaults: int = 0
+    soon: int = 0
+    """The refaults at most so many aggregations after the page went out."""
+    out: int = 0
+    out_sum: int = 0
+    """The pages that were out through a whole aggregation, added up."""
+
+
+class Paging:
+    """Follows all slots with `pageout` through the aggregations."""
+
+    def __init__(self, within: int, keep_moves: bool) -> None:
+        self.within = within
+        self.ledgers: dict[int, Ledger] = {}
+        self.stays: list[Stay] = []
+        """What is out, by page."""
+        self.moves: list[Move] | None = [] if keep_moves else None
+
+    def add(self, now: Moment, accessed: Runs, applied: dict[Owner, list[Run]]) -> None:
+        """Takes one aggregation: what was accessed in it comes in, and then what schemes take goes out."""
+        if self.stays:
+            self.come_in(now, accessed)
+        for ledger in self.ledgers.values():
+            ledger.out_sum += ledger.out
+        for (slot, action), runs in applied.items():
+            if action == PAGEOUT:
+                self.go_out(now, slot, runs)
+
+    def come_in(self, now: Moment, accessed: Runs) -> None:
+        remaining: list[Stay] = []
+        for stay, back in split(self.stays, accessed):
+            if not back:
+                remaining.append(stay)
+                continue
+            ledger, pages = self.ledgers[stay.slot], stay.end - stay.start
+            ledger.out -= pages
+            ledger.refaults += pages
+            if now.number - stay.since.number <= self.within:
+                ledger.soon += pages
+            self.keep(Move(stay, now))
+        self.stays = remaining
+
+    def go_out(self, now: Moment, slot: int, runs: list[Run]) -> None:
+        ledger = self.ledgers.setdefault(slot, Ledger())
+        ledger.applied += size(runs)
+        new = without(sorted(runs), [stay[:2] for stay in self.stays])
+        if new:
+            ledger.put_out += size(new)
+            ledger.out += size(new)
+            ledger.different = union(ledger.different, new)
+            self.stays = sorted(self.stays + [Stay(start, end, slot, now) for start, end in new])
+
+    def keep(self, move: Move) -> None:
+        if self.moves is not None:
+            self.moves.append(move)
+
+    def all_moves(self) -> list[Move]:
+        """The moves by the time they began and by page; the last ones are those of pages that are out now."""
+        moves = (self.moves or []) + [Move(stay, None) for stay in self.stays]
+        return joined(sorted(moves, key=lambda move: (move.stay.since, move.stay.slot, move.stay.start)))
+
+
+def split(stays: Iterable[Stay], accessed: Runs) -> Iterable[tuple[Stay, bool]]:
+    """The stays, cut where accessed pages begin and end, each with whether it was accessed."""
+    number = 0
+    for stay in stays:
+        while number < len(accessed) and accessed[number][1] <= stay.start:
+            number += 1
+        if number == len(accessed) or stay.end <= accessed[number][0]:
+            yield stay, False
+            continue
+        start, ahead = stay.start, number
+        while ahead < len(accessed) and accessed[ahead][0] < stay.end:
+            first, after = max(start, accessed[ahead][0]), min(stay.end, accessed[ahead][1])
+            if start < first:
+                yield stay._replace(start=start, end=first), False
+            yield stay._replace(start=first, end=after), True
+            start, ahead = after, ahead + 1
+        if start < stay.end:
+            yield stay._replace(start=start), False
+
+
+def joined(moves: Iterable[Move]) -> list[Move]:
+    """Joins moves of neighbours that went out and came back together."""
+    result: list[Move] = []
+    for move in moves:
+        last = result[-1] if result else None
+        if last and last == Move(move.stay._replace(start=last.stay.start, end=move.stay.start), move.back):
+            result[-1] = Move(last.stay._replace(end=move.stay.end), move.back)
+        else:
+            result.append(move)
+    return result
+
+
+@dataclass
+class Use:
+    """What a scheme of another action was applied to, in page-aggregations."""
+
+    applied: int = 0
+    accessed: int = 0
+    """Of these, what was accessed in at least one of the next aggregations."""
+
+
+class Uses:
+    """Follows the slots with other actions: are their pages accessed soon afterwards?"""
+
+    def __init__(self, within: int) -> None:
+        self.within = within
+        self.found: dict[Owner, Use] = {}
+        self.waiting: list[tuple[int, Owner, Runs]] = []
+        """Pages that were applied to and not accessed since, with the number of the aggregation."""
+
+    def add(self, now: Moment, accessed: Runs, applied: dict[Owner, list[Run]]) -> None:
+        still: list[tuple[int, Owner, Runs]] = []
+        for number, owner, runs in self.waiting:
+            rest = without(runs, accessed)
+            self.found[owner].accessed += size(runs) - size(rest)
+            if rest and now.number - number < self.within:
+                still.append((number, owner, rest))
+        for owner, runs in applied.items():
+            if owner[1] != PAGEOUT:
+                self.found.setdefault(owner, Use()).applied += size(runs)
+                still.append((now.number, owner, sorted(runs)))
+        self.waiting = still

@@ -1,0 +1,149 @@
+"""What a picture shows of a report: the columns of time, the commits, and when slots were active."""
+from __future__ import annotations
+
+from dataclasses import dataclass
+from typing import Iterable, Sequence
+
+from reports.events import Aggregation, Commit, Event, Show, Snapshot
+from reports.pages import Runs, key, size, union
+
+
+@dataclass(frozen=True)
+class Change:
+    """A commit, with its lines where the script is known."""
+
+    tick: int
+    answer: str
+    accepted: bool
+    parts: tuple[str, ...]
+
+    @property
+    def has_metric(self) -> bool:
+        return any(part.startswith("metric ") for part in self.parts)
+
+    @property
+    def is_line(self) -> bool:
+        """Whether it was accepted and is more than a metric, as far as its lines are known."""
+        return self.accepted and not (len(self.parts) == 1 and self.has_metric)
+
+
+@dataclass(frozen=True)
+class Span:
+    """Ticks in which a slot was set, and active or not."""
+
+    start: int
+    end: int
+    active: bool
+
+
+@dataclass
+class Slot:
+    """What is known of a slot."""
+
+    spans: list[Span]
+    actions: list[str]
+    """The actions with which it was applied to pages, in the order in which they came."""
+    pages: Runs
+    """The pages to which it was applied at least once."""
+
+    @property
+    def applied(self) -> int:
+        return size(self.pages)
+
+    @property
+    def action(self) -> str:
+        return self.actions[-1] if self.actions else ""
+
+
+@dataclass(frozen=True)
+class History:
+    """A report as a picture needs it."""
+
+    snapshots: list[Snapshot]
+    """Aggregations, and shows that say what an accepted commit found; all shows if there is no aggregation. Ticks rise."""
+    changes: list[Change]
+    """The commits up to the last snapshot."""
+    later: int
+    """The number of commits after it."""
+    slots: dict[int, Slot]
+
+
+class ScriptError(Exception):
+    """A script that is not the one of the report."""
+
+
+def history_of(events: Iterable[Event], commits: Sequence[tuple[str, ...]] | None) -> History:
+    """`commits` are the lines of each commit of the script, if that is known. Raises ScriptError."""
+    snapshots: list[Snapshot] = []
+    shows: list[Snapshot] = []
+    answers: list[Commit] = []
+    for event in events:
+        if isinstance(event, Show):
+            shows.append(event)
+        elif isinstance(event, Aggregation):
+            snapshots.append(event)
+            shows = []
+        else:
+            answers.append(event)
+            if event.accepted:
+                add_shows(snapshots, shows)
+                shows = []
+    if not snapshots:
+        add_shows(snapshots, shows)
+    if commits is not None and len(commits) != len(answers):
+        raise ScriptError(f"the script has {len(commits)} commits and the report {len(answers)}: it is not of this script")
+    parts = commits or [()] * len(answers)
+    changes = [Change(answer.tick, answer.answer, answer.accepted, lines) for answer, lines in zip(answers, parts)]
+    drawn = [change for change in changes if snapshots and change.tick <= snapshots[-1].tick]
+    return History(snapshots, drawn, len(changes) - len(drawn), slots_of(snapshots))
+
+
+def add_shows(snapshots: list[Snapshot], shows: Iterable[Snapshot]) -> None:
+    """Adds the shows that come later than what is there."""
+    for show in shows:
+        if show.tick > (snapshots[-1].tick if snapshots else 0):
+            snapshots.append(show)
+
+
+def slots_of(snapshots: Iterable[Snapshot]) -> dict[int, Slot]:
+    """The slots that were set, by number."""
+    slots: dict[int, Slot] = {}
+    before = 0
+    for found in snapshots:
+        for slot, active in found.active.items():
+            spans = slots.setdefault(slot, Slot([], [], [])).spans
+            if spans and (spans[-1].end, spans[-1].active) == (before, active):
+                spans[-1] = Span(spans[-1].start, found.tick, active)
+            else:
+                spans.append(Span(before, found.tick, active))
+        note_applied(slots, found)
+        before = found.tick
+    return dict(sorted(slots.items()))
+
+
+def note_applied(slots: dict[int, Slot], found: Snapshot) -> None:
+    """Adds the pages that schemes were applied to."""
+    runs: dict[int, Runs] = {}
+    for run in found.applied:
+        slot = slots.setdefault(run.slot, Slot([], [], []))
+        if slot.action != run.action:
+            slot.actions.append(run.action)
+        runs.setdefault(run.slot, []).append((key(run.target, run.start), key(run.target, run.end)))
+    for number, pages in runs.items():
+        slots[number].pages = union(slots[number].pages, pages)
+
+
+def commits_of(lines: Iterable[str]) -> list[tuple[str, ...]]:
+    """The lines of each commit of a script, without `commit` and `apply`."""
+    result: list[tuple[str, ...]] = []
+    parts: list[str] | None = None
+    for line in lines:
+        text = line.rstrip("\n")
+        if text == "commit":
+            parts = []
+        elif text == "apply" and parts is not None:
+            result.append(tuple(parts))
+            parts = None
+        elif parts is not None:
+            parts.append(text)
+    return result

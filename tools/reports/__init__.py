@@ -1,0 +1,1 @@
+"""Reports of damon, and exact counts in the same form."""

@@ -1,0 +1,139 @@
+"""What the lines before a rejected one say. Damon has accepted each of them."""
+from __future__ import annotations
+
+from dataclasses import dataclass, field
+from functools import cached_property
+
+from .grammar import (AFTER_IN_COMMIT, AFTER_IN_SETUP, BODY, PAGE, Piece, first_word, pass_work, words_of)
+
+PARTS_OF_COMMIT = ("commit", "attrs", "range", "scheme", "drop", "metric")
+
+
+@dataclass(frozen=True)
+class Target:
+    base: int
+    pages: int
+
+    @property
+    def end(self) -> int:
+        return self.base + PAGE * self.pages
+
+
+@dataclass(frozen=True)
+class Watched:
+    """A range of the setup."""
+
+    line: int
+    target: int
+    start: int
+    end: int
+
+
+@dataclass(frozen=True)
+class Work:
+    """The work of body lines."""
+
+    passes: int = 0
+    """That of `arm` and `finish`."""
+    others: int = 0
+
+    @property
+    def total(self) -> int:
+        return self.passes + self.others
+
+
+@dataclass
+class Context:
+    """A script up to a line that damon rejects."""
+
+    lines: list[str]
+    """The lines before it."""
+    line: str
+    """The rejected line itself; empty where the text has ended."""
+    rest: str = field(default="")
+    """What follows the last LF."""
+
+    @property
+    def number(self) -> int:
+        return len(self.lines) + 1
+
+    @cached_property
+    def setup(self) -> list[list[Piece]]:
+        """The words of the lines before `begin`."""
+        found = []
+        for line in self.lines:
+            if first_word(line) == "begin":
+                break
+            found.append(words_of(line))
+        return found
+
+    @property
+    def in_body(self) -> bool:
+        return len(self.setup) < len(self.lines)
+
+    @cached_property
+    def commit_line(self) -> int | None:
+        """The number of the line `commit` of a commit that is still open."""
+        if not self.in_body:
+            return None
+        for number in range(len(self.lines), 0, -1):
+            word = first_word(self.lines[number - 1])
+            if word == "commit":
+                return number
+            if word not in PARTS_OF_COMMIT:
+                return None
+        return None
+
+    @property
+    def allowed(self) -> tuple[str, ...]:
+        """The words that may begin the rejected line."""
+        word = first_word(self.lines[-1])
+        if not self.in_body:
+            return AFTER_IN_SETUP[word]
+        return AFTER_IN_COMMIT[word] if self.commit_line else BODY
+
+    def numbers(self, word: str) -> list[list[int]]:
+        """The numbers of each line of the setup with this first word."""
+        return [[piece.number() for piece in words[1:]] for words in self.setup if words[0].text == word]
+
+    def one(self, word: str) -> int:
+        """The number of `unit` or `cap`."""
+        return self.numbers(word)[0][0]
+
+    @cached_property
+    def targets(self) -> list[Target]:
+        return [Target(base, pages) for base, pages in self.numbers("target")]
+
+    @cached_property
+    def ranges(self) -> list[Watched]:
+        return [Watched(number, words[1].number(), words[2].number(), words[3].number())
+                for number, words in enumerate(self.setup, 1) if words[0].text == "range"]
+
+    def slot_line(self, slot: int) -> int:
+        """The number of the line of the setup that sets this slot."""
+        return next(number for number, words in enumerate(self.setup, 1)
+                    if words[0].text == "scheme" and words[1].number() == slot)
+
+    def work(self) -> Work:
+        """The work of the body up to the rejected line, which counts."""
+        passes = others = 0
+        of_pass = pass_work(self.one("cap"))
+        for line in [*self.lines[len(self.setup) + 1 :], self.line]:
+            word = first_word(line)
+            if word in ("arm", "finish"):
+                passes += of_pass
+            elif word == "sweep":
+                start, end = (piece.number() for piece in words_of(line)[2:])
+                others += (end - start) // PAGE
+            elif word == "step":
+                others += words_of(line)[1].number()
+            elif word in ("touch", "show", "apply"):
+                others += 1
+        return Work(passes, others)
+
+
+def context_of(script: bytes, number: int) -> Context:
+    """The script at its line of this number, counted from 1. Each byte is one character."""
+    *lines, rest = script.decode("latin-1").split("\n")
+    rejected = lines[number - 1] if number <= len(lines) else rest
+    return Context(lines[: number - 1], rejected, rest)

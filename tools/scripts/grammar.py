@@ -1,0 +1,152 @@
+"""The words of a script: which lines there are, which fields each has, and where each may stand.
+
+`docs/FORMATS.md` has the format. Whether a text is a script is decided by damon alone; this table only
+serves to say in words why damon rejected a line.
+"""
+from __future__ import annotations
+
+from dataclasses import dataclass
+
+HEADER = "damon script 1"
+PAGE = 4096
+MOST_BYTES = 16_777_216
+MOST_WORK = 16_777_216
+MOST_CAP = 4096
+MOST_UNIT = 1 << 20
+MOST_PAGES = 1 << 20
+"""The most pages of a target, and of all targets together."""
+MOST_TARGETS = 64
+MOST_STEPS = 1_000_000
+MOST_FILTERS = 8
+ADDRESS_END = 1 << 63
+"""Where every target has ended."""
+LAST_SLOT = 15
+LAST_CLASS = 15
+LEAST_REGIONS = 3
+MOST_AGGR = 1000
+
+
+@dataclass(frozen=True)
+class Piece:
+    """A part of a line, and the column at which it begins."""
+
+    text: str
+    start: int
+
+    def parts(self, separator: str) -> list[Piece]:
+        """The parts between the separators."""
+        result, start = [], self.start
+        for text in self.text.split(separator):
+            result.append(Piece(text, start))
+            start += len(text) + len(separator)
+        return result
+
+    def number(self) -> int:
+        """The value of a number or an address that damon has accepted."""
+        return int(self.text, 16 if self.text.startswith("0x") else 10)
+
+
+@dataclass(frozen=True)
+class Field:
+    """A number or an address of a line."""
+
+    name: str
+    bits: int
+    """Its greatest value has so many bits; 0 for an address."""
+
+
+def n8(name: str) -> Field:
+    return Field(name, 8)
+
+
+def n16(name: str) -> Field:
+    return Field(name, 16)
+
+
+def n32(name: str) -> Field:
+    return Field(name, 32)
+
+
+def n64(name: str) -> Field:
+    return Field(name, 64)
+
+
+def address(name: str) -> Field:
+    return Field(name, 0)
+
+
+FIELDS: dict[str, tuple[Field, ...]] = {
+    "seed": (n64("SEED"),),
+    "unit": (n32("PAGES"),),
+    "cap": (n32("REGIONS"),),
+    "attrs": (n32("MIN"), n32("MAX"), n32("AGGR")),
+    "target": (address("BASE"), n32("PAGES")),
+    "range": (n32("TARGET"), address("FROM"), address("TO"), n8("CLASS")),
+    "begin": (),
+    "touch": (n32("TARGET"), address("ADDRESS")),
+    "sweep": (n32("TARGET"), address("FROM"), address("TO")),
+    "step": (n32("STEPS"),),
+    "arm": (),
+    "finish": (),
+    "show": (),
+    "commit": (),
+    "drop": (n8("SLOT"),),
+    "metric": (n32("METRIC"),),
+    "apply": (),
+    "end": (),
+}
+"""The fields of each line but `scheme`, which has keys."""
+
+ACTIONS = ("stat", "willneed", "cold", "pageout", "hugepage", "nohugepage", "lru_prio", "lru_deprio")
+KEY_FIELDS: dict[str, tuple[Field, ...]] = {
+    "size": (n32("MIN"), n32("MAX")),
+    "count": (n32("MIN"), n32("MAX")),
+    "age": (n32("MIN"), n32("MAX")),
+    "quota": (n64("BYTES"), n32("TICKS")),
+    "weights": (n16("SIZE"), n16("COUNT"), n16("AGE")),
+    "prefer": (),
+    "marks": (n32("HIGH"), n32("MID"), n32("LOW")),
+    "filter": (),
+}
+"""The keys of a scheme in their order, with the numbers of each."""
+KEYS = tuple(KEY_FIELDS)
+FILTER_FIELDS: dict[str, tuple[Field, ...]] = {
+    "addr": (address("FROM"), address("TO")),
+    "target": (n32("TARGET"),),
+    "class": (n8("CLASS"),),
+}
+
+BODY = ("touch", "sweep", "step", "arm", "finish", "show", "commit", "end")
+AFTER_IN_SETUP: dict[str, tuple[str, ...]] = {
+    "damon": ("seed",),
+    "seed": ("unit",),
+    "unit": ("cap",),
+    "cap": ("attrs",),
+    "attrs": ("target",),
+    "target": ("target", "range"),
+    "range": ("range", "scheme", "begin"),
+    "scheme": ("scheme", "begin"),
+}
+"""The words that may begin the line after one with this word, before `begin`."""
+AFTER_IN_COMMIT: dict[str, tuple[str, ...]] = {
+    "commit": ("attrs", "range", "scheme", "drop", "metric", "apply"),
+    "attrs": ("range", "scheme", "drop", "metric", "apply"),
+    "range": ("range", "scheme", "drop", "metric", "apply"),
+    "scheme": ("metric", "apply"),
+    "drop": ("metric", "apply"),
+    "metric": ("apply",),
+}
+"""The same between `commit` and `apply`."""
+
+
+def words_of(line: str) -> list[Piece]:
+    return Piece(line, 0).parts(" ")
+
+
+def first_word(line: str) -> str:
+    return line.split(" ", 1)[0]
+
+
+def pass_work(cap: int) -> int:
+    """The work of `arm`, and of `finish`."""
+    return 2 * cap + 3

@@ -1,0 +1,93 @@
+"""The setup of a script that is there: it is taken apart, changed and put together again."""
+from __future__ import annotations
+
+import re
+from dataclasses import dataclass
+
+from common import UsageError
+
+from .grammar import PAGE, first_word, words_of
+
+BEGIN = b"\nbegin\n"
+METRIC = re.compile(rb"^metric ([0-9]{1,10})$", re.MULTILINE)
+ATTRS = re.compile(rb"^attrs [0-9]+ [0-9]+ ([0-9]{1,10})$", re.MULTILINE)
+
+
+@dataclass
+class Script:
+    """A script as the lines of its setup, and its body as it stands."""
+
+    lines: list[str]
+    """The lines before `begin`."""
+    body: bytes
+    """What follows the line `begin`."""
+
+    @staticmethod
+    def of(text: bytes) -> Script:
+        """Raises UsageError if there is no line `begin`."""
+        setup, begin, body = text.partition(BEGIN)
+        if not begin:
+            raise UsageError("there is no line `begin`: this is no script of damon")
+        return Script(setup.decode("latin-1").split("\n"), body)
+
+    def text(self) -> bytes:
+        return "\n".join(self.lines).encode("latin-1") + BEGIN + self.body
+
+    def place(self, word: str) -> int:
+        """Where the line with this first word stands. Raises UsageError if there is none."""
+        for number, line in enumerate(self.lines):
+            if first_word(line) == word:
+                return number
+        raise UsageError(f"there is no line `{word}` before `begin`: this is no script of damon")
+
+    def words(self, word: str) -> list[str]:
+        """The words of this line but its first one."""
+        return [piece.text for piece in words_of(self.lines[self.place(word)])[1:]]
+
+    def set_line(self, word: str, *values: object) -> None:
+        self.lines[self.place(word)] = " ".join([word, *map(str, values)])
+
+    def schemes(self) -> list[str]:
+        return [line for line in self.lines if first_word(line) == "scheme"]
+
+    def drop(self, slot: str) -> bool:
+        """Removes the scheme of this slot; False if there is none."""
+        kept = [line for line in self.lines if not sets(line, slot)]
+        dropped, self.lines = len(kept) < len(self.lines), kept
+        return dropped
+
+    def set_scheme(self, new: str) -> None:
+        """Puts a scheme line in the place of that of the same slot, or behind all others."""
+        slot = slot_of(new)
+        for number, line in enumerate(self.lines):
+            if sets(line, slot):
+                self.lines[number] = new
+                return
+        last = self.place("range")
+        while last + 1 < len(self.lines) and first_word(self.lines[last + 1]) in ("range", "scheme"):
+            last += 1
+        self.lines.insert(last + 1, new)
+
+    def metrics(self) -> tuple[int, ...]:
+        """The metrics that commits of the body hand in."""
+        return tuple(map(int, METRIC.findall(self.body)))
+
+    def most_aggr(self) -> int:
+        """The greatest `aggr` of the setup and the commits."""
+        return max(map(int, [self.words("attrs")[2], *ATTRS.findall(self.body)]))
+
+    def range_pages(self) -> list[int]:
+        ranges = [words_of(line) for line in self.lines if first_word(line) == "range"]
+        return [(words[3].number() - words[2].number()) // PAGE for words in ranges]
+
+    def targets(self) -> int:
+        return sum(first_word(line) == "target" for line in self.lines)
+
+
+def slot_of(line: str) -> str:
+    words = words_of(line)
+    return words[1].text if len(words) > 1 else ""
+
+
+def sets(line: str, slot: str) -> bool:
+    return first_word(line) == "scheme" and slot_of(line) == slot
