@@ -4,15 +4,16 @@ from __future__ import annotations
 
 import importlib.util
 import os
+import signal
 import subprocess
 import sys
 import tempfile
 import unittest
 from pathlib import Path
 
-from tool_runs import PROGRAM, TOOLS, TOP, need_program, run, script_of
+from tool_runs import PROGRAM, SECONDS, TOOLS, TOP, need_program, run, script_of
 
-from common import CLOSED_PIPE_STATUS, UsageError, opened, opened_text
+from common import CLOSED_PIPE_STATUS, INTERRUPTED_STATUS, UsageError, opened, opened_text
 
 NAMES = sorted(path.name for path in TOOLS.glob("*.py") if path.name != "common.py")
 
@@ -66,6 +67,19 @@ class ClosedPipes(unittest.TestCase):
         environment = {**os.environ, "DAMON": str(PROGRAM), "PYTHONUNBUFFERED": "1"}
         ran = subprocess.run([sys.executable, TOOLS / "settings.py"], input=script.encode(), capture_output=True, env=environment)
         self.assertEqual(ran.stdout.decode() == script, True)
+
+
+class Interrupts(unittest.TestCase):
+    def test_an_interrupted_tool_ends_without_a_word(self) -> None:
+        # A command in the background of a shell ignores this signal, and so would what it starts.
+        with subprocess.Popen([sys.executable, TOOLS / "trace_to_script.py"], stdin=subprocess.PIPE, stdout=subprocess.PIPE,
+                              stderr=subprocess.PIPE, preexec_fn=lambda: signal.signal(signal.SIGINT, signal.SIG_DFL)) as tool:
+            assert tool.stdin is not None
+            # A pipe does not hold so much, so the tool reads by then.
+            tool.stdin.write(b" L 00001000,4\n" * 100_000)
+            tool.send_signal(signal.SIGINT)
+            self.assertEqual(tool.communicate(timeout=SECONDS), (b"", b""))
+        self.assertEqual(tool.returncode, INTERRUPTED_STATUS)
 
 
 class Files(unittest.TestCase):

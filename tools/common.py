@@ -15,6 +15,7 @@ STANDARD_INPUT = "-"
 USAGE_STATUS = 2
 CLOSED_PIPE_STATUS = 128 + signal.SIGPIPE
 """What a shell says of a program that was ended by a closed pipe."""
+INTERRUPTED_STATUS = 128 + signal.SIGINT
 
 
 class UsageError(Exception):
@@ -74,7 +75,7 @@ def run(tool: str, work: Callable[[], int | None]) -> None:
     """Runs a tool to its end, with the status that `work` gives, or 0.
 
     A UsageError becomes one line on standard error, with status 2. Whoever reads the output may close
-    it early, as `head` does; then the tool ends without a word.
+    it early, as `head` does; then the tool ends without a word, and so it does where it is interrupted.
     """
     try:
         status = work()
@@ -86,6 +87,8 @@ def run(tool: str, work: Callable[[], int | None]) -> None:
         # The interpreter writes what is left when it ends, so it needs a place for it.
         os.dup2(os.open(os.devnull, os.O_WRONLY), sys.stdout.fileno())
         sys.exit(CLOSED_PIPE_STATUS)
+    except KeyboardInterrupt:
+        sys.exit(INTERRUPTED_STATUS)
     except OSError as error:
         print(f"{tool}: {error.filename or 'writing failed'}: {error.strerror or error}", file=sys.stderr)
         sys.exit(USAGE_STATUS)

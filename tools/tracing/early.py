@@ -20,19 +20,18 @@ def check_lines(settings: Settings) -> None:
     The script that damon is asked about has these lines, one target and no workload. Whether a commit is
     refused depends on the targets, so this is seen only at the end.
     """
-    lines = [*opening(settings), f"target 0x0 {settings.unit}", f"range 0 0x0 {settings.unit * PAGE:#x} 0"]
-    options = [""] * len(lines)
-    lines += settings.schemes
-    options += ["--scheme "] * len(settings.schemes)
-    lines.append("begin")
-    options.append("")
-    for interval, commits in settings.commits.items():
-        for line in [line for commit in commits for line in written(commit)]:
-            lines.append(line)
-            options.append(f"--at {interval}:")
-    script = "\n".join([*lines, "end", ""]).encode("latin-1", "replace")
+    setup = [*opening(settings), f"target 0x0 {settings.unit}", f"range 0 0x0 {settings.unit * PAGE:#x} 0"]
+    # Each line with the option that it comes from.
+    lines = [("", line) for line in setup]
+    lines += [("--scheme ", line) for line in settings.schemes]
+    lines.append(("", "begin"))
+    lines += [(f"--at {interval}:", line) for interval, commits in settings.commits.items()
+              for commit in commits for line in written(commit)]
+    lines.append(("", "end"))
+    script = "".join(f"{line}\n" for _, line in lines).encode("ascii")
     if fault := fault_of(script):
-        raise UsageError(f"{options[fault.line - 1]}{lines[fault.line - 1]!r}: {in_words(script, fault)}")
+        option, line = lines[fault.line - 1]
+        raise UsageError(f"{option}{line!r}: {in_words(script, fault)}")
 
 
 def in_words(script: bytes, fault: Fault) -> str:
