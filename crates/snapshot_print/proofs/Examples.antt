@@ -43,6 +43,7 @@ time_in_version_one : answer_text (Err (BadScheme TimeInOne)) ≡ codes "refused
 time_in_version_one = refl
 
 cost_of_slot_16 : answer_text (Err (BadCost 16)) ≡ codes "refused bad-cost slot=16"
+unfolding digits
 cost_of_slot_16 = refl
 
 pass_becomes_void_in_json : commit_text Json 120 (Ok (record { rows = 34; void = true })) ≡ codes "{\"answer\":\"ok rows=34 void=yes\",\"kind\":\"commit\",\"tick\":120}\n"
