@@ -293,8 +293,8 @@ def is_whole(body: List[str]) -> bool:
     if not any(CLAUSE.match(line) for line in body):
         return "{" in last or last.endswith(";")
     # A clause may have lines that look like these ends, but not outside of its braces.
-    before = is_closed(body[:-1])
-    return before and (last.startswith("{") or (last.endswith(";") and is_closed(body)))
+    starts_body = last.startswith("{") and is_closed(body[:-1])
+    return starts_body or (last.endswith(";") and is_closed(body))
 
 
 def is_closed(lines: List[str]) -> bool:

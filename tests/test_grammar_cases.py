@@ -1,5 +1,5 @@
 #!/usr/bin/env python3
-"""Checks that the program `grammar_cases` is given each case of `tests/cases/bad-script.jsonl` as it is now.
+"""Checks that the program `grammar_cases` is given each of its cases as they are now.
 
     tests/test_grammar_cases.py
 """
@@ -18,7 +18,7 @@ class GrammarCases(unittest.TestCase):
 
     def test_each_text_is_read_back(self) -> None:
         texts = [line.partition(" ") for line in (CRATE / "stdin").read_text().splitlines()]
-        cases = [json.loads(line) for line in CASES.read_text().splitlines()]
+        cases = [json.loads(line) for file in CASES for line in file.read_text().splitlines()]
         self.assertTrue(cases)
         self.assertEqual([name for name, _, _ in texts], [case["name"] for case in cases])
         for (name, _, text), case in zip(texts, cases):

@@ -62,6 +62,7 @@ timed_in Two time = Ok tt
 timed_in One None = Ok tt
 timed_in One (Some time) = Err TimeInOne
 
+-- a quota has a time in version Two alone
 abbrev pub checked_time : Version → Option Quota → Result (Unit {0}) SchemeFault
 checked_time version None = Ok tt
 checked_time version (Some q) = timed_in version q.time

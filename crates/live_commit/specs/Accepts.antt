@@ -84,6 +84,7 @@ abbrev pub checked_cost_of : Version → ℕ → Result (Unit {0}) CommitFault
 checked_cost_of One slot = Err (BadCost slot)
 checked_cost_of Two slot = if nat_le slot MAX_SLOT then Ok tt else Err (BadCost slot)
 
+-- a commit may have no cost
 abbrev pub checked_cost : Version → Option CostPart → Result (Unit {0}) CommitFault
 checked_cost version None = Ok tt
 checked_cost version (Some p) = checked_cost_of version p.slot
