@@ -1,4 +1,4 @@
-use Rattle.std.proofs.Common.{◌++◌, Ok, ap, subst}
+use Rattle.std.proofs.Common.{◌++◌, List, Ok, ℕ, length, ap, arith, subst}
 use Rattle.rand_core.specs.Steps.{stream_of, steps_u32}
 use Rattle.rand_pcg.specs.Pcg.{pcg32}
 use Rattle.damon_control.specs.ScriptView.{said_by}
@@ -27,3 +27,8 @@ returns-in-End c =
     let there = way-on stream (said_by c.args.script) Text c.pieces.player c.fill.new.self way.0 text way.1 on in
     let over = c.in_ok-fill.ensures.end (ap (λ f. Ok f) c.in-End.is) in
     (way-last stream (said_by c.args.script) Text c.fill.new.self (way.0 ++ text) there over).monitor
+
+pub pieces-smaller : goal.pieces-smaller
+pieces-smaller c =
+    let empty = ap (λ (xs : List ℕ). length xs) c.pieces.invariant.empty in
+    c.in_ok-fill.ensures.less (ap (λ f. Ok f) c.in-Piece.is) (omega (arith, empty, c.pieces.unread.ok))
