@@ -1,6 +1,6 @@
-use Rattle.std.proofs.Common.{◌++◌, Ok, ap, subst, arith}
+use Rattle.std.proofs.Common.{◌++◌, [], List, Ok, ℕ, length, ap, subst, arith}
 use Rattle.std.specs.Io.KnownBytes.{Appends}
-use Rattle.std.proofs.KnownBytes.{Appends-trans}
+use Rattle.std.proofs.KnownBytes.{Appends-nil, Appends-trans}
 use Rattle.std.proofs.lemmas.Result.{err_from_is_err_and}
 use Rattle.rand_core.specs.Steps.{stream_of, steps_u32}
 use Rattle.rand_pcg.specs.Pcg.{pcg32}
@@ -91,3 +91,15 @@ pub returns-in_err-fill-clause-answers : goal.returns-in_err-fill-clause-answers
 returns-in_err-fill-clause-answers g c =
     let p = err_from_is_err_and c.from_residual-in_err-fill.result c.from_residual-in_err-fill.ensures.1 in
     rw (p.1, p.2) tt
+
+pub pieces-init : goal.pieces-init
+pieces-init g c = record {
+  said = ([], c.in_ok-player.ensures, Appends-nil (g.K.Sink.taken c.args.sink.now));
+  empty = c.new-piece.ensures.items;
+  later = omega arith;
+}
+
+pub pieces-smaller : goal.pieces-smaller
+pieces-smaller g c =
+    let empty = ap (λ (xs : List ℕ). length xs) c.pieces.invariant.empty in
+    c.in_ok-fill.ensures.less (ap (λ f. Ok f) c.in-Piece.is) (omega (arith, empty, c.pieces.piece.ok))
