@@ -141,3 +141,18 @@ columns_revalued rows others ts ss ps cs ls gs cs' ls' gs' is same values = reco
   last = values.last;
   age = values.age;
 }
+
+-- several rows are appended
+pub columns_appended : (rows more : List Row) (ts ss ps cs ls gs ts' ss' ps' cs' ls' gs' : List ℕ) → AreColumns rows ts ss ps cs ls gs → ts' ≡ ts ++ map (λ r. r.target) more → ss' ≡ ss ++ map (λ r. r.start) more → ps' ≡ ps ++ map (λ r. r.pages) more → cs' ≡ cs ++ map (λ r. r.count) more → ls' ≡ ls ++ map (λ r. r.last) more → gs' ≡ gs ++ map (λ r. r.age) more → AreColumns (rows ++ more) ts' ss' ps' cs' ls' gs'
+columns_appended rows more ts ss ps cs ls gs ts' ss' ps' cs' ls' gs' is t s p c l g = record {
+  target = t ∙ ap (λ xs. xs ++ map (λ r. r.target) more) is.target ∙ sym (map-append (λ r. r.target) rows more);
+  start = s ∙ ap (λ xs. xs ++ map (λ r. r.start) more) is.start ∙ sym (map-append (λ r. r.start) rows more);
+  size = p ∙ ap (λ xs. xs ++ map (λ r. r.pages) more) is.size ∙ sym (map-append (λ r. r.pages) rows more);
+  count = c ∙ ap (λ xs. xs ++ map (λ r. r.count) more) is.count ∙ sym (map-append (λ r. r.count) rows more);
+  last = l ∙ ap (λ xs. xs ++ map (λ r. r.last) more) is.last ∙ sym (map-append (λ r. r.last) rows more);
+  age = g ∙ ap (λ xs. xs ++ map (λ r. r.age) more) is.age ∙ sym (map-append (λ r. r.age) rows more);
+}
+
+-- a stretch of a column
+pub stretch : (f : Row → ℕ) (from n : ℕ) (column : List ℕ) (rows : List Row) → column ≡ map f rows → take n (drop from column) ≡ map f (take n (drop from rows))
+stretch f from n column rows is = ap (λ xs. take n (drop from xs)) is ∙ ap (λ xs. take n xs) (drop-map f from rows) ∙ take-map f n (drop from rows)

@@ -1,4 +1,4 @@
-ghost use Rattle.std.specs.Prelude.{◌≡◌, ◌+◌, ◌≤◌, ◌<◌, [], ◌∷◌, ◌++◌, length, map, slice_get, slice_set, take, drop, vec_len, vec_capacity, IfOk};
+ghost use Rattle.std.specs.Prelude.{◌≡◌, ◌+◌, ◌-◌, ◌≤◌, ◌<◌, [], ◌∷◌, ◌++◌, length, map, slice_get, slice_set, take, drop, vec_len, vec_capacity, IfOk};
 ghost use Rattle.std.specs.List.{insert};
 ghost use Rattle.damon_types.specs.Span.{spans};
 ghost use Rattle.region_list.specs.Rows.{row_at, with_values};
@@ -273,6 +273,25 @@ impl RowBuf {
         append_reserved(&mut self.counts, &rows.counts);
         append_reserved(&mut self.lasts, &rows.lasts);
         append_reserved(&mut self.ages, &rows.ages);
+    }
+
+    /// Appends the rows of another list from index `from` to before `to`, for which there is room.
+    pub fn append_rows(&mut self, rows: &RowBuf, from: usize, to: usize)
+        requires order { from ≤ to }
+        requires within { to ≤ length rows.now.rows }
+        requires room { length self.old.rows + (to - from) ≤ self.old.cap }
+        ensures { self.new ≡ record self.old {
+          rows = self.old.rows ++ take (to - from) (drop from rows.now.rows);
+        } }
+    {
+        // For its clauses alone: each column has as many numbers as there are rows.
+        let _count = rows.count();
+        append_reserved(&mut self.targets, &rows.targets[from..to]);
+        append_reserved(&mut self.starts, &rows.starts[from..to]);
+        append_reserved(&mut self.pages, &rows.pages[from..to]);
+        append_reserved(&mut self.counts, &rows.counts[from..to]);
+        append_reserved(&mut self.lasts, &rows.lasts[from..to]);
+        append_reserved(&mut self.ages, &rows.ages[from..to]);
     }
 
     /// Empties the list. The capacity stays.

@@ -1,5 +1,5 @@
 -- The parts of a row, and of all rows: they cover the pages of the rows, they are few enough, and no count rises.
-use Rattle.std.proofs.Common.{◌≡◌, ℕ, ◌+◌, ◌-◌, ◌*◌, ◌≤◌, ◌<◌, Bool, true, false, List, [], ◌∷◌, ◌++◌, length, length-append, refl, subst, arith}
+use Rattle.std.proofs.Common.{◌≡◌, ℕ, ◌+◌, ◌-◌, ◌*◌, ◌≤◌, ◌<◌, Bool, true, false, List, [], ◌∷◌, ◌++◌, length, length-append, nat_lt, refl, ap, ◌∙◌, subst, arith}
 use Rattle.std.specs.Prelude.{slice_index}
 use Rattle.std.specs.List.{AllByRecursion}
 use Rattle.std.proofs.lemmas.Bool.Decides.{nat_tests}
@@ -127,3 +127,17 @@ split_counts limits most three words count i (r ∷ rows) few =
     let new = parts limits three count first second r in
     let rest = split_from limits three words (count + length new - 1) (i + 1) rows in
     all_append (λ q. q.count ≤ most) new rest (parts_counts limits most three count first second r few.0) (split_counts limits most three words (count + length new - 1) (i + 1) rows few.1)
+
+-- with as many rows as are allowed, a row stays
+row_stays : (limits : SplitLimits) (three : Bool) (count first second : ℕ) (r : Row) → limits.max ≤ count → parts limits three count first second r ≡ r ∷ []
+row_stays limits true count first second r full = let test : nat_lt count limits.max ≡ false = grind (arith, nat_tests) in rw test refl
+row_stays limits false count first second r full = let test : nat_lt count limits.max ≡ false = grind (arith, nat_tests) in rw test refl
+
+-- so the rows that are left stay
+pub rest_stays : (limits : SplitLimits) (three : Bool) (words : List ℕ) (count i : ℕ) (rows : List Row) → limits.max ≤ count → split_from limits three words count i rows ≡ rows
+rest_stays limits three words count i [] full = refl
+rest_stays limits three words count i (r ∷ rows) full =
+    let same : count + 1 - 1 ≡ count = omega arith in
+    ap (λ new. new ++ split_from limits three words (count + length new - 1) (i + 1) rows) (row_stays limits three count (slice_index words (2 * i)) (slice_index words (2 * i + 1)) r full)
+    ∙ ap (λ n. r ∷ split_from limits three words n (i + 1) rows) same
+    ∙ ap (λ rs. r ∷ rs) (rest_stays limits three words count (i + 1) rows full)

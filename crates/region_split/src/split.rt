@@ -69,6 +69,11 @@ impl RowPass for Split<'_> {
         // The number of rows now.
         let mut count = rows.len() as usize;
         for index in 0..rows.len() {
+            // No row is cut once there are as many as are allowed, so the rest is copied in one piece.
+            if count >= self.limits.max as usize {
+                made.append_rows(rows, index as usize, rows.count());
+                return;
+            }
             let first = self.words[2 * index as usize];
             let second = self.words[2 * index as usize + 1];
             count = if self.three {
