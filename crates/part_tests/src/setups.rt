@@ -1,7 +1,7 @@
 // Setups and the names of their faults.
 use damon_types::{
     Action, Attrs, AttrsFault, Filters, Pattern, Prefer, Range, RangeSpec, Scheme, SchemeFault,
-    SlotChange, Space, Span, Target, Weights,
+    SlotChange, Space, Span, Target, Version, Weights,
 };
 use live_commit::{Setup, SetupFault};
 use std::test::Fail;
@@ -106,6 +106,7 @@ fn a_setup_is_made(rt: HostRuntime) -> Result<(), Fail> {
     let slots = [set(3, span(1, 2)), emptied(4), set(5, span(1, 2))];
     let setup = Setup::new(
         rt.alloc(),
+        Version::One,
         space,
         2,
         8,
@@ -121,6 +122,7 @@ fn a_setup_is_made(rt: HostRuntime) -> Result<(), Fail> {
     };
     assert_eq!(rt; setup.ranges.len(), 1);
     assert_eq!(rt; setup.ranges.get(0), range);
+    assert_eq!(rt; setup.version, Version::One);
     assert_eq!(rt; setup.slots.as_slice(), [slots[0], slots[2]].as_slice());
     assert_eq!(rt; (setup.space.pages(), setup.unit, setup.cap), (16, 2, 8));
     Ok(())

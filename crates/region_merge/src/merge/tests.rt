@@ -40,9 +40,8 @@ fn five_rows_are_merged_to_two(rt: HostRuntime) -> Result<(), Fail> {
     // The sums of the first two rows are 2, 15 and 3: divided by 2 pages 1, 7 and 1. With the third
     // row they are 2 × 1 + 3, 2 × 7 + 0 and 2 × 1 + 6: divided by 3 pages 1, 4 and 2.
     merge_all(&mut regions, 2, 3);
-    assert_eq!(rt;
-        regions.rows(),
-        [row(3, 3, 1, 4, 2), row(6, 2, 5, 1, 1)].as_slice()
-    );
+    assert_eq!(rt; regions.len(), 2);
+    assert_eq!(rt; regions.row(0), row(3, 3, 1, 4, 2));
+    assert_eq!(rt; regions.row(1), row(6, 2, 5, 1, 1));
     Ok(())
 }
