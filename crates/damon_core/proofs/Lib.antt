@@ -17,6 +17,7 @@ pub mod Committing
 pub mod Rows
 pub mod Hits
 pub mod Passes
+pub mod Picks
 pub mod Bounding
 pub mod Choosing
 pub mod CommitStanding

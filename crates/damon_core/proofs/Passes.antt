@@ -35,7 +35,7 @@ enumerate_from-take-suc n (suc k) j (p ∷ ps) here is = ap (λ (xs : List (ℕ 
 enumerate_from-take_more : (k : ℕ) (ps : List ℕ) → k < length ps → enumerate_from 0 (take (k + 1) ps) ≡ enumerate_from 0 (take k ps) ++ (k, slice_index ps k) ∷ []
 enumerate_from-take_more k ps here = rw add-one (enumerate_from-take-suc 0 k k ps here (omega arith))
 
-length-from_OneInEach : (ps : List ℕ) (ss : List Span) → OneInEach ps ss → length ps ≡ length ss
+pub length-from_OneInEach : (ps : List ℕ) (ss : List Span) → OneInEach ps ss → length ps ≡ length ss
 length-from_OneInEach [] [] one = refl
 length-from_OneInEach (p ∷ ps) (s ∷ ss) one = ap suc (length-from_OneInEach ps ss one.2)
 length-from_OneInEach [] (s ∷ ss) one = absurd one

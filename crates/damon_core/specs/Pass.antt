@@ -1,5 +1,5 @@
 -- How far the pass under way has come.
-use Rattle.std.specs.Prelude.{ℕ, ◌≤◌, ◌<◌}
+use Rattle.std.specs.Prelude.{ℕ, ◌+◌, ◌≤◌, ◌<◌, List, [], ◌∷◌}
 use Rattle.live_commit.specs.declared.phase.Phase.{Phase}
 use Rattle.live_commit.specs.declared.phase.Phase.TheVariants.{Idle, Clearing, Armed, Checking, Due}
 
@@ -28,3 +28,8 @@ abbrev pub IsBetween : Phase → Type 0
 IsBetween Idle = Unit {0}
 IsBetween Due = Unit {0}
 IsBetween _ = ⊥
+
+-- pages that rise strictly, the first being at least p
+abbrev pub PagesRiseFrom : ℕ → List ℕ → Type 0
+PagesRiseFrom p [] = Unit {0}
+PagesRiseFrom p (q ∷ qs) = (p ≤ q) × PagesRiseFrom (q + 1) qs

@@ -1,25 +1,29 @@
 // What holds of each state to which events lead.
-ghost use Rattle.std.specs.Prelude.{◌≡◌, ℕ, List};
+ghost use Rattle.std.specs.Prelude.{◌≡◌, ℕ, List, length};
 ghost use Rattle.damon_types.specs.declared.scheme.Version.TheVariants as version;
 ghost use Rattle.live_commit.specs.Setup.{SetupValue};
 ghost use Rattle.damon_core.specs.Aggregate.{IsServedAlike, aggregated};
 ghost use Rattle.damon_core.specs.Note.{word_of};
-ghost use Rattle.damon_core.specs.State.{State, opening};
+ghost use Rattle.damon_core.specs.State.{State, opening, row_count};
 ghost use Rattle.damon_core.specs.Reached.{Reached, ReachedByHit};
 ghost use Rattle.damon_core.specs.Bound.{Bound};
 ghost use Rattle.damon_core.specs.Choosing.{ServesBest};
 ghost use Rattle.damon_core.specs.InPhase.{IsInPhase};
+ghost use Rattle.damon_core.specs.Pass.{IsInPass, PagesRiseFrom};
 ghost use Rattle.damon_core.specs.VersionOne.{AreOfVersionOne};
 
 /// In each state to which fitting events lead, whatever the results of the loads, there is at least
-/// one row and there are at most `cap`, and the next pick of a pass under way is that of a row; and an
-/// aggregation applies each active scheme to the best choice within what is left of its quota. What the
-/// engine does for the slots is what the notes say is done for them. Where the result of each load is
-/// that of its page, also the rows tile their ranges within the limits, each finished pass checked one
-/// page of each row, each hit rests on a touch of its page since the pass cleared it, and each run of a
-/// scheme is of a slot that is set and active, and within its quota.
+/// one row and there are at most `cap`, and the next pick of a pass under way is that of a row; the
+/// picks of such a pass rise, as each is a page of its own row; and an aggregation applies each active
+/// scheme to the best choice within what is left of its quota. What the engine does for the slots is
+/// what the notes say is done for them. Where the result of each load is that of its page, also the
+/// rows tile their ranges within the limits, each finished pass checked one page of each row, each hit
+/// rests on a touch of its page since the pass cleared it, and each run of a scheme is of a slot that
+/// is set and active, and within its quota.
 pub fn reached_states_are_bound()
     ensures in_phase { (s : State) → Reached s → IsInPhase s }
+    ensures picks { (s : State) → Reached s → IsInPass s.core.phase
+        → (length s.core.picks ≡ row_count s.core) × PagesRiseFrom 0 s.core.picks }
     ensures choices { (s : State) → Reached s → ServesBest s }
     ensures alike { (s : State) → Reached s → IsServedAlike s }
     ensures bound { (s : State) → ReachedByHit s → Bound s }

@@ -1,5 +1,5 @@
 ghost use Rattle.std.specs.List.{AllByRecursion};
-ghost use Rattle.std.specs.Prelude.{◌≡◌, ◌+◌, ◌*◌, ◌^◌, ◌≤◌, ◌<◌, ℕ, true, max, ◌/◌, [], ◌∷◌, length, slice_get, slice_index, IfOk, OnErr, Some, Ok};
+ghost use Rattle.std.specs.Prelude.{◌≡◌, ◌+◌, ◌*◌, ◌^◌, ◌≤◌, ◌<◌, ℕ, true, max, ◌/◌, [], ◌∷◌, length, slice_get, slice_index, slice_set, IfOk, OnErr, Some, Ok};
 ghost use Rattle.damon_types.specs.declared.scheme.CostPart.{CostPart as cost_part};
 ghost use Rattle.damon_types.specs.declared.scheme.SlotChange.{SlotChange as slot_change};
 ghost use Rattle.damon_types.specs.declared.scheme.TheConstants.{MAX_SLOT};
@@ -290,6 +290,8 @@ impl Monitor {
     pub fn loaded(&mut self, hit: bool)
         requires { IsLoading self.old.core.phase (row_count self.old.core) }
         ensures core { self.new.core ≡ loaded_core 1 self.old.core }
+        ensures bits { self.new.bits
+            ≡ slice_set self.old.bits (load_index self.old.core.phase) hit }
         ensures event { Makes Stands self.old self.new (load_event hit ∷ []) }
     {
         self.sampling.load(hit);

@@ -1,11 +1,12 @@
 -- The values and the boundaries of pieces, from the old rows.
-use Rattle.std.proofs.Common.{◌≡◌, ◌⊎◌, inl, inr, ℕ, zero, suc, ◌+◌, ◌-◌, ◌≤◌, ◌<◌, Bool, true, false, List, [], ◌∷◌, ◌++◌, length, length-append, drop, refl, sym, ap, ◌∙◌, Option, Some, None, arith}
+use Rattle.std.proofs.Common.{◌≡◌, ◌⊎◌, inl, inr, ℕ, zero, suc, ◌+◌, ◌-◌, ◌≤◌, ◌<◌, Bool, true, false, List, [], ◌∷◌, ◌++◌, length, length-append, take, drop, refl, sym, ap, ◌∙◌, Option, Some, None, arith}
 use Rattle.std.specs.Prelude.{if◌then◌else◌}
 use Rattle.std.proofs.lemmas.Bool.{cases_lt}
-use Rattle.std.proofs.lemmas.List.{drop_all}
+use Rattle.std.proofs.Math.Seq.{take-suc}
+use Rattle.std.proofs.lemmas.List.{drop_all, get_or-drop, length-drop}
 use Rattle.std.proofs.lemmas.Bool.Decides.{nat_tests}
 use Rattle.damon_types.specs.declared.row.Row.{Row}
-use Rattle.region_list.specs.Rows.{row_at, RowList}
+use Rattle.region_list.specs.Rows.{no_row, row_at, RowList}
 use Rattle.range_update.specs.Order.{row_end, RowsInOrder, EndBy}
 use Rattle.range_update.specs.Updated.{covers, covering_row, piece_of, piece, boundaries, may_keep, kept, pieces}
 use Rattle.range_update.specs.OpenPiece.{with_end, IsOpenPiece, pieces_from}
@@ -130,3 +131,14 @@ whole_row rows unit end from i some order here start keeps =
 -- a boundary that may be kept is not after the end of the range
 pub kept_within : (unit end from x : ℕ) → may_keep unit end from x ≡ true → x ≤ end
 kept_within unit end from x keeps = grind (arith, nat_tests)
+
+-- the rows from one index to before another, and one more
+pub stretch_more : (rows : List Row) (from next : ℕ) → from ≤ next → next < length rows → take (next + 1 - from) (drop from rows) ≡ take (next - from) (drop from rows) ++ row_at rows next ∷ []
+stretch_more rows from next low here =
+    let n = next - from in
+    let at : from + n ≡ next = omega arith in
+    let within : n < length (drop from rows) = omega (arith, length-drop from rows) in
+    let one_more : next + 1 - from ≡ suc n = omega arith in
+    ap (λ k. take k (drop from rows)) one_more
+    ∙ take-suc (drop from rows) n no_row within
+    ∙ ap (λ r. take n (drop from rows) ++ r ∷ []) (get_or-drop from rows n no_row ∙ ap (λ k. row_at rows k) at)

@@ -55,7 +55,7 @@ struct Progress {
 }
 
 // Appends the rows from the index `from` on that are pieces as they are, up to the first that is not.
-// Most rows of a range are such, and a copy takes a third of the time of two looks at boundaries.
+// Most rows of a range are such, and a whole stretch of them is copied at once, column by column.
 fn push_whole_rows(
     rows: &RowBuf,
     from: usize,
@@ -89,14 +89,13 @@ fn push_whole_rows(
     let mut next = from;
     let mut start = current.start;
     'whole: while is_whole(rows, next, end, unit, current.target, start) {
-        // Before the push, so that what was read for the test is not read again.
         start = row_end(rows, next);
-        made.push(rows.at(next));
         next += 1;
     }
     if next == from {
         return Progress { next, current };
     }
+    made.append_rows(rows, from, next);
     let row = covering_row(rows, next, start);
     Progress {
         next,

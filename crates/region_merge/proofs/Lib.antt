@@ -1,4 +1,5 @@
 pub mod GroupingLemmas
 pub mod MergedLemmas
+mod StayLemmas
 pub mod StepLemmas
 mod Examples

@@ -1,5 +1,6 @@
-ghost use Rattle.std.specs.Prelude.{◌≡◌, ◌+◌, ◌≤◌, ◌<◌, ◌^◌, ◌≢◌, ◌&&◌, ◌==◌, Some, not, length, slice_get};
+ghost use Rattle.std.specs.Prelude.{◌≡◌, false, List, ◌+◌, ◌≤◌, ◌<◌, ◌^◌, ◌≢◌, ◌&&◌, ◌==◌, Some, not, length, slice_get};
 ghost use Rattle.std.specs.Option.{option_map};
+ghost use Rattle.damon_types.specs.declared.range.Range.{Range as range};
 ghost use Rattle.damon_types.specs.Ranges.{end_of};
 ghost use Rattle.region_merge.specs.Merged.{row_end, is_within, merged};
 ghost use Rattle.region_merge.specs.Grouping.{IsMerged};
@@ -25,7 +26,36 @@ pub fn merge_all(regions: &mut Regions, threshold: u32, limit: u32)
     merged_rows_are_the_grouping();
     merged_rows_are_kept();
     let _count = regions.len();
-    regions.remake(&MergePass { threshold, limit });
+    if may_join_two(regions.rows(), threshold, limit) {
+        regions.remake(&MergePass { threshold, limit });
+    }
+}
+
+// Whether two adjacent rows may be joined, as far as their counts and pages tell. If not, no row changes, and
+// none is copied.
+fn may_join_two(rows: &RowBuf, threshold: u32, limit: u32) -> bool
+    ensures { result ≡ false
+        → (gs : List range) → merged gs threshold limit rows.now.rows ≡ rows.now.rows }
+{
+    // For its clauses alone: the number of rows is a u32.
+    let _count = rows.len();
+    let mut next = 1;
+    'pairs: while next < rows.count() {
+        if are_within(&rows.at(next - 1), &rows.at(next), threshold, limit) {
+            return true;
+        }
+        next += 1;
+    }
+    false
+}
+
+// Whether the counts of two rows differ by at most the threshold, and they have at most `limit` pages
+// together.
+fn are_within(first: &Row, second: &Row, threshold: u32, limit: u32) -> bool
+    ensures { result ≡ is_within threshold limit first.now second.now }
+{
+    first.count.abs_diff(second.count) <= threshold
+        && u64::from(first.pages) + u64::from(second.pages) <= u64::from(limit)
 }
 
 // The pass of a merge: by how much counts may differ, and how many pages joined rows may have.

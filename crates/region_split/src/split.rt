@@ -30,6 +30,10 @@ pub fn split_all(regions: &mut Regions, words: &[u32], before: u32)
     split_rows_are_kept();
     let count = regions.len();
     let max = regions.max();
+    // No row is cut where there are as many as are allowed, and then none is copied.
+    if count >= max {
+        return;
+    }
     let three = wants_three(count, max, before);
     let limits = Limits {
         max,

@@ -1,5 +1,5 @@
 -- The picks of rows.
-use Rattle.std.proofs.Common.{◌≡◌, ℕ, zero, suc, ◌+◌, ◌<◌, List, [], ◌∷◌, ◌++◌, length, set, take, Some, refl, ap, sym, ◌∙◌, arith}
+use Rattle.std.proofs.Common.{◌≡◌, ℕ, zero, suc, ◌+◌, ◌<◌, List, [], ◌∷◌, ◌++◌, length, map, set, take, get_or, Some, refl, ap, sym, ◌∙◌, arith}
 use Rattle.std.specs.Prelude.{slice_get}
 use Rattle.std.proofs.lemmas.Grind.{take-set_at}
 use Rattle.damon_types.specs.declared.row.Row.{Row}
@@ -11,6 +11,15 @@ picks_of-more [] ws i r w is word = absurd (cc is)
 picks_of-more (q ∷ rows) [] i r w is word = absurd (cc word)
 picks_of-more (q ∷ rows) (v ∷ ws) zero r w is word = let e : q ≡ r = cc in let f : v ≡ w = cc in ap (λ (x : Row). pick x v ∷ []) e ∙ ap (λ x. pick r x ∷ []) f
 picks_of-more (q ∷ rows) (v ∷ ws) (suc i) r w is word = ap (λ ps. pick q v ∷ ps) (picks_of-more rows ws i r w is word)
+
+-- a number of a column is that of its row
+in_column : (f : Row → ℕ) (rows : List Row) (i : ℕ) (r : Row) → slice_get rows i ≡ Some r → get_or (map f rows) i 0 ≡ f r
+in_column f [] i r is = absurd (cc is)
+in_column f (q ∷ rows) zero r is = let e : q ≡ r = cc is in ap f e
+in_column f (q ∷ rows) (suc i) r is = in_column f rows i r is
+
+pub place_at : (f : Row → ℕ) (rows : List Row) (column : List ℕ) (i : ℕ) (r : Row) → column ≡ map f rows → slice_get rows i ≡ Some r → get_or column i 0 ≡ f r
+place_at f rows column i r are is = ap (λ (ns : List ℕ). get_or ns i 0) are ∙ in_column f rows i r is
 
 -- as many picks as rows
 pub length-picks_of : (rows : List Row) (ws : List ℕ) → length ws ≡ length rows → length (picks_of rows ws) ≡ length rows

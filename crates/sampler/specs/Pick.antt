@@ -1,10 +1,15 @@
 -- The pages that a pass checks.
-use Rattle.std.specs.Prelude.{◌≡◌, ℕ, ◌+◌, ◌%◌, ◌≤◌, ◌<◌, ◌^◌, Bool, List, [], ◌∷◌, length}
+use Rattle.std.specs.Prelude.{◌≡◌, ℕ, ◌+◌, ◌%◌, ◌≤◌, ◌<◌, ◌^◌, Bool, List, [], ◌∷◌, length, map}
 use Rattle.damon_types.specs.declared.row.Row.{Row}
 
 -- the page of a row that a word picks
 abbrev pub pick : Row → ℕ → ℕ
 pick r w = r.start + w % r.pages
+
+-- these are the first pages and the numbers of pages of the rows
+pub record ArePlacesOf (rows : List Row) (starts sizes : List ℕ) : Type 0 where
+  pub start : starts ≡ map (λ r. r.start) rows
+  pub size : sizes ≡ map (λ r. r.pages) rows
 
 -- one pick for each row and its word
 abbrev pub picks_of : List Row → List ℕ → List ℕ

@@ -9,6 +9,8 @@ mod drawing;
 mod marks;
 /// One page of each row.
 mod picks;
+/// The columns that picks read.
+mod places;
 
 pub use counting::observe;
 pub use drawing::draw_words;

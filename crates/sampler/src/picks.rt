@@ -2,10 +2,11 @@ ghost use Rattle.std.specs.Prelude.{◌≡◌, ◌+◌, ◌%◌, ◌^◌, ◌≤
 ghost use Rattle.std.specs.List.{AllByRecursion, list_any};
 ghost use Rattle.rand_core.specs.Stream.{Stream};
 ghost use Rattle.sampler.specs.Draws.{drawn, drawn_rest};
-ghost use Rattle.sampler.specs.Pick.{PickList, picks_of};
+ghost use Rattle.sampler.specs.Pick.{ArePlacesOf, PickList, picks_of};
 ghost use Rattle.sampler.specs.Loaded.{loaded_bits, loaded_hits};
 
 use crate::Marks;
+use crate::places::Places;
 use rand_core::Rng;
 use reciprocal::Reciprocal;
 use region_list::Regions;
@@ -177,7 +178,13 @@ pub fn draw_picks<R: Rng>(regions: &Regions, source: &mut R, picks: &mut Picks)
     picks.passes = (picks.passes + 1) % RENEWAL;
     renew_at(picks.passes, regions, &mut picks.reciprocals);
     set_count(&mut picks.pages, regions.len());
-    pick_drawn(regions, source, &picks.reciprocals, &mut picks.pages);
+    pick_drawn(
+        regions,
+        Places::of(regions),
+        source,
+        &picks.reciprocals,
+        &mut picks.pages,
+    );
     clear_bits(&mut picks.bits, regions.len());
 }
 
@@ -195,19 +202,32 @@ pub fn set_picks(regions: &Regions, words: &[u32], picks: &mut Picks)
     picks.passes = (picks.passes + 1) % RENEWAL;
     renew_at(picks.passes, regions, &mut picks.reciprocals);
     set_count(&mut picks.pages, regions.len());
-    pick_given(regions, words, &picks.reciprocals, &mut picks.pages);
+    pick_given(
+        regions,
+        Places::of(regions),
+        words,
+        &picks.reciprocals,
+        &mut picks.pages,
+    );
     clear_bits(&mut picks.bits, regions.len());
 }
 
 // Picks a page of each row by the words that are given.
-fn pick_given(regions: &Regions, words: &[u32], reciprocals: &[Reciprocal], pages: &mut [u32])
+fn pick_given(
+    regions: &Regions,
+    places: Places<'_>,
+    words: &[u32],
+    reciprocals: &[Reciprocal],
+    pages: &mut [u32],
+)
+    requires places { ArePlacesOf regions.now.rows places.starts.now places.sizes.now }
     requires words { length words.now ≡ length regions.now.rows }
     requires reciprocals { length regions.now.rows ≤ length reciprocals.now }
     requires each { length pages.old ≡ length regions.now.rows }
     ensures { pages.new ≡ picks_of regions.now.rows words.now }
 {
     for index in 0..regions.len() {
-        let page = pick_at(regions, reciprocals, index, words[index as usize]);
+        let page = pick_at(regions, places, reciprocals, index, words[index as usize]);
         pages[index as usize] = page;
     }
 }
@@ -248,26 +268,37 @@ fn remainder(word: u32, pages: u32, reciprocal: &Reciprocal) -> u32
 }
 
 // The page that a word picks of the row with this index, which is below the number of rows.
-fn pick_at(regions: &Regions, reciprocals: &[Reciprocal], index: u32, word: u32) -> u32
+fn pick_at(
+    regions: &Regions,
+    places: Places<'_>,
+    reciprocals: &[Reciprocal],
+    index: u32,
+    word: u32,
+) -> u32
+    requires places { ArePlacesOf regions.now.rows places.starts.now places.sizes.now }
     requires reciprocals { length regions.now.rows ≤ length reciprocals.now }
     requires index { index < length regions.now.rows }
     ensures { (words : List ℕ) → slice_get words index ≡ Some word
         → picks_of (take (suc index) regions.now.rows) words
         ≡ picks_of (take index regions.now.rows) words ++ result ∷ [] }
 {
-    let row = regions.row(index);
-    let offset = remainder(word, row.pages, &reciprocals[index as usize]);
-    row.start + offset
+    // For its clauses alone: the row has a page, and ends below page 2^32.
+    let _row = regions.row(index);
+    let place = index as usize;
+    let offset = remainder(word, places.sizes[place], &reciprocals[place]);
+    places.starts[place] + offset
 }
 
 // Picks a page of each row by the next random words. It is kept apart, so that its loop has the registers.
 #[inline(never)]
 fn pick_drawn<R: Rng>(
     regions: &Regions,
+    places: Places<'_>,
     source: &mut R,
     reciprocals: &[Reciprocal],
     pages: &mut [u32],
 )
+    requires places { ArePlacesOf regions.now.rows places.starts.now places.sizes.now }
     requires reciprocals { length regions.now.rows ≤ length reciprocals.now }
     requires each { length pages.old ≡ length regions.now.rows }
     ensures pages { pages.new
@@ -277,11 +308,11 @@ fn pick_drawn<R: Rng>(
 {
     let rows = regions.len();
     'fours: for four in 0..rows / 4 {
-        pick_four(regions, source, reciprocals, 4 * four, pages);
+        pick_four(regions, places, source, reciprocals, 4 * four, pages);
     }
     'others: for index in rows / 4 * 4..rows {
         let word = source.next_u32();
-        pages[index as usize] = pick_at(regions, reciprocals, index, word);
+        pages[index as usize] = pick_at(regions, places, reciprocals, index, word);
     }
 }
 
@@ -291,11 +322,13 @@ fn pick_drawn<R: Rng>(
 #[inline]
 fn pick_four<R: Rng>(
     regions: &Regions,
+    places: Places<'_>,
     source: &mut R,
     reciprocals: &[Reciprocal],
     from: u32,
     pages: &mut [u32],
 )
+    requires places { ArePlacesOf regions.now.rows places.starts.now places.sizes.now }
     requires reciprocals { length regions.now.rows ≤ length reciprocals.now }
     requires within { from + 4 ≤ length regions.now.rows }
     requires each { length pages.old ≡ length regions.now.rows }
@@ -314,10 +347,10 @@ fn pick_four<R: Rng>(
     let third = source.next_u32();
     let fourth = source.next_u32();
     let index = from as usize;
-    pages[index] = pick_at(regions, reciprocals, from, first);
-    pages[index + 1] = pick_at(regions, reciprocals, from + 1, second);
-    pages[index + 2] = pick_at(regions, reciprocals, from + 2, third);
-    pages[index + 3] = pick_at(regions, reciprocals, from + 3, fourth);
+    pages[index] = pick_at(regions, places, reciprocals, from, first);
+    pages[index + 1] = pick_at(regions, places, reciprocals, from + 1, second);
+    pages[index + 2] = pick_at(regions, places, reciprocals, from + 2, third);
+    pages[index + 3] = pick_at(regions, places, reciprocals, from + 3, fourth);
 }
 
 // Makes the list one of `count` pages, whatever they are.

@@ -1,4 +1,4 @@
-ghost use Rattle.std.specs.Prelude.{◌≡◌};
+ghost use Rattle.std.specs.Prelude.{◌≡◌, ◌&&◌};
 ghost use Rattle.scheme_match.specs.Match.{is_in_span, is_match};
 
 use damon_types::{Pattern, Row, Span};
@@ -8,10 +8,17 @@ use damon_types::{Pattern, Row, Span};
 pub fn matches(pattern: &Pattern, row: &Row) -> bool
     ensures { result ≡ is_match pattern.now row.now }
 {
-    // `&` and not `&&`: one branch for six comparisons, of which a processor mispredicts fewer.
-    contains(pattern.size, row.pages)
-        & contains(pattern.count, row.count)
-        & contains(pattern.age, row.age)
+    fits(*pattern, row.pages, row.count, row.age)
+}
+
+// Whether a row of these pages, this count and this age matches a pattern.
+pub(crate) fn fits(pattern: Pattern, pages: u32, count: u32, age: u32) -> bool
+    ensures { result
+        ≡ (is_in_span pattern.size pages && is_in_span pattern.count count
+        && is_in_span pattern.age age) }
+{
+    // `&` and not `&&`: no branches, so that a loop over rows can test several at once.
+    contains(pattern.size, pages) & contains(pattern.count, count) & contains(pattern.age, age)
 }
 
 // Whether a number lies in a span.

@@ -45,13 +45,27 @@ fn print_line(
 {
     print_field(out, b"commit tick=", tick)?;
     out.extend_from_slice(b" ")?;
-    print_answer(out, answer)?;
+    append_answer(out, answer)?;
     end_line(out)
+}
+
+/// Appends the answer of a commit as text, without a tick and a line end: what it changed, or why it was
+/// refused. When out of memory, nothing is appended.
+pub fn print_answer(
+    out: &mut Vec<u8>,
+    answer: &Result<Changed, CommitFault>,
+) -> Result<(), AllocError>
+    ensures ok { OnOk result (out.new.items ≡ out.old.items ++ answer_text answer.now) }
+    ensures err { OnErr result (out.new.items ≡ out.old.items) }
+{
+    let before = out.len();
+    let printed = append_answer(out, answer);
+    whole_or_nothing(out, before, printed)
 }
 
 // Appends the answer of a commit: what it changed, or why it was refused.
 #[tactic(auto, using(crate::proofs::Appending::appends))]
-fn print_answer(out: &mut Vec<u8>, answer: &Result<Changed, CommitFault>) -> Result<(), AllocError>
+fn append_answer(out: &mut Vec<u8>, answer: &Result<Changed, CommitFault>) -> Result<(), AllocError>
     ensures ok { OnOk result (out.new.items ≡ out.old.items ++ answer_text answer.now) }
     ensures kept { KeepsFront out.old.items out.new.items }
 {

@@ -18,7 +18,7 @@ const BLOCK_ROOM: u32 = STRIDES + 2;
 // The commands of the generated script of a number.
 pub fn make_commands(alloc: Global, n: u64) -> Result<Commands, AllocError>
     ensures { IfOk result (λ commands.
-        commands ≡ blocks (access_of n) (zone_of n) BLOCKS) }
+        commands.list ≡ blocks (access_of n) (zone_of n) BLOCKS) }
 {
     let access = Access::of(n);
     let zone = zone_of(n);
@@ -42,10 +42,10 @@ fn room_of(access: Access) -> u32
 
 // Appends block `t`.
 fn add_block(commands: &mut Commands, access: Access, zone: u32, t: u32) -> Result<(), AllocError>
-    requires few { length commands.old ≤ 2 ^ 31 }
+    requires few { length commands.old.list ≤ 2 ^ 31 }
     requires zone { zone < 16 }
     requires block { t < BLOCKS }
-    ensures { OnOk result (commands.new ≡ commands.old ++ block access zone t) }
+    ensures { OnOk result (commands.new.list ≡ commands.old.list ++ block access zone t) }
 {
     commands.push(Command::Arm)?;
     match access {
@@ -59,10 +59,10 @@ fn add_block(commands: &mut Commands, access: Access, zone: u32, t: u32) -> Resu
 
 // Appends a sweep of `count` pages, the first of which is `page`.
 fn add_sweep(commands: &mut Commands, page: u32, count: u32) -> Result<(), AllocError>
-    requires few { length commands.old ≤ 2 ^ 31 + 1 }
+    requires few { length commands.old.list ≤ 2 ^ 31 + 1 }
     requires page { page + count ≤ 1024 }
-    ensures sweep { OnOk result (commands.new ≡ commands.old ++ sweep page count) }
-    ensures few { length commands.new ≤ length commands.old + 1 }
+    ensures sweep { OnOk result (commands.new.list ≡ commands.old.list ++ sweep page count) }
+    ensures few { length commands.new.list ≤ length commands.old.list + 1 }
 {
     commands.push(Command::Sweep {
         from: page,
@@ -72,10 +72,10 @@ fn add_sweep(commands: &mut Commands, page: u32, count: u32) -> Result<(), Alloc
 
 // Appends the touches of a stride that begins at page `t`.
 fn add_strides(commands: &mut Commands, t: u32) -> Result<(), AllocError>
-    requires few { length commands.old ≤ 2 ^ 31 + 1 }
+    requires few { length commands.old.list ≤ 2 ^ 31 + 1 }
     requires block { t < BLOCKS }
-    ensures touches { OnOk result (commands.new ≡ commands.old ++ strides t 128) }
-    ensures few { length commands.new ≤ length commands.old + 128 }
+    ensures touches { OnOk result (commands.new.list ≡ commands.old.list ++ strides t 128) }
+    ensures few { length commands.new.list ≤ length commands.old.list + 128 }
 {
     'strides: for j in 0..STRIDES {
         commands.push(Command::Touch {

@@ -19,9 +19,9 @@ pub fn generate(alloc: Global, n: u64) -> Result<Script, AllocError>
 
     // What the player of a script needs.
     ensures within { IfOk result (λ s.
-        AreCommandsWithin (pages_of s.setup.space) s.commands) }
+        AreCommandsWithin (pages_of s.setup.space) s.commands.list) }
     ensures work { IfOk result (λ s.
-        work_of s.setup.cap s.commands ≤ MAX_WORK) }
+        work_of s.setup.cap s.commands.list ≤ MAX_WORK) }
 {
     let setup = make_setup(alloc)?;
     let commands = make_commands(alloc, n)?;

@@ -3,6 +3,8 @@ use Rattle.damon_core.proofs.Bounding.{reached_bound}
 use Rattle.damon_core.proofs.Choosing.{serves_best}
 use Rattle.damon_core.proofs.Keeping.{any_result, reached_keeps}
 use Rattle.damon_core.proofs.Adapting.{merged_tiled}
+use Rattle.damon_core.proofs.Passes.{HasPasses, passes_kept}
+use Rattle.damon_core.proofs.Picks.{picks_rise}
 use Rattle.damon_core.proofs.Rows.{HasRows, RowLaws, rows_kept, rows_of}
 use Rattle.damon_core.proofs.Served.{RunLaws}
 use Rattle.damon_core.proofs.Serving.{served_alike}
@@ -45,6 +47,7 @@ returns c =
     let within : RunLaws = record { outcome = record { tiled = c.outcome_rows_are_kept.ensures.tiled; sum = c.outcome_runs_are_taken.ensures.sum }; within = c.outcome_runs_are_taken.ensures.within } in
     record {
       in_phase = λ s reached. (let rows = reached_keeps HasRows (rows_kept any_result laws) s reached in record { some = rows.some; few = omega (arith, rows.few, rows.most); pick = rows.within });
+      picks = λ s reached. picks_rise s (reached_keeps HasPasses (passes_kept any_result laws) s reached);
       choices = λ s reached. serves_best c.outcome_is_best.ensures.best laws s (reached_keeps HasRows (rows_kept any_result laws) s reached);
       alike = λ s reached. (let rows = reached_keeps HasRows (rows_kept any_result laws) s reached in served_alike within.outcome s (merged_tiled laws.adapt s.core rows.wide rows.order (rows_of s rows)));
       bound = reached_bound laws within;

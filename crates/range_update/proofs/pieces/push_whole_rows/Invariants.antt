@@ -1,4 +1,4 @@
-use Rattle.std.proofs.Common.{◌≡◌, ◌≤◌, ◌<◌, ◌-◌, ◌++◌, length, drop}
+use Rattle.std.proofs.Common.{◌≡◌, ◌≤◌, ◌<◌, ◌-◌, ◌++◌, length, take, drop}
 use Rattle.region_list.specs.Rows.{row_at}
 use Rattle.range_update.specs.Order.{EndBy, row_end}
 use Rattle.range_update.specs.Updated.{boundaries}
@@ -14,8 +14,7 @@ invariant-whole l = record {
   before : l.from < l.next → EndBy l.start l.rows.rows l.next;
   after : l.from < l.next → l.next < length l.rows.rows → l.start < row_end (row_at l.rows.rows l.next);
   low : l.current.start ≤ l.end → l.start ≤ l.end;
-  cap : l.made.cap ≡ l.fn.made.cap;
-  so_far : l.made.rows ++ pieces_from l.rows.rows l.current.target l.unit l.end l.start (boundaries (drop l.next l.rows.rows)) ≡ l.fn.made.rows ++ pieces_from l.rows.rows l.current.target l.unit l.end l.current.start (boundaries (drop l.from l.rows.rows));
+  so_far : take (l.next - l.from) (drop l.from l.rows.rows) ++ pieces_from l.rows.rows l.current.target l.unit l.end l.start (boundaries (drop l.next l.rows.rows)) ≡ pieces_from l.rows.rows l.current.target l.unit l.end l.current.start (boundaries (drop l.from l.rows.rows));
 }
 
 abbrev pub decreases-whole : goal.decreases-whole

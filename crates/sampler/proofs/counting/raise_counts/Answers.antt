@@ -1,7 +1,6 @@
-use Rattle.std.proofs.Common.{◌≡◌, ℕ, suc, ◌+◌, ◌<◌, ◌≤◌, List, false, cond, drop, take, get_or, set, map, length, sym, ap, ◌∙◌, add-one, arith}
+use Rattle.std.proofs.Common.{◌≡◌, ℕ, ◌+◌, ◌≤◌, List, false, cond, take, get_or, set, map, length, sym, ap, ◌∙◌, add-one, arith}
 use Rattle.std.proofs.lemmas.List.{drop-set-lt, get_or-drop, length-map}
 use Rattle.std.proofs.lemmas.Grind.{drop_more_same}
-use Rattle.damon_types.specs.declared.row.Row.{Row}
 use Rattle.sampler.specs.Counted.{raised}
 use Rattle.sampler.proofs.Raised.{counts_raised_more}
 use Rattle.sampler.proofs.counting.raise_counts.Goals as goal

@@ -4,6 +4,6 @@ use Rattle.trace_gen.proofs.commands.add_strides.Given as goal
 
 abbrev pub invariant-strides : goal.invariant-strides
 invariant-strides l = record {
-  touches : l.commands ≡ l.fn.commands ++ strides l.t l.j;
-  count : length l.commands ≡ length l.fn.commands + l.j;
+  touches : l.commands.list ≡ l.fn.commands.list ++ strides l.t l.j;
+  count : length l.commands.list ≡ length l.fn.commands.list + l.j;
 }

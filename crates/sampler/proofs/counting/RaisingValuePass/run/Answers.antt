@@ -1,4 +1,4 @@
-use Rattle.std.proofs.Common.{◌≡◌, ◌+◌, ◌^◌, ◌<◌, ℕ, List, sym, subst, ◌∙◌}
+use Rattle.std.proofs.Common.{◌+◌, ◌^◌, ◌<◌, ℕ, List, sym, subst, ◌∙◌}
 use Rattle.std.specs.List.{AllByRecursion}
 use Rattle.sampler.proofs.Raised.{raised_ages, raised_lasts, small_counts}
 use Rattle.sampler.proofs.counting.RaisingValuePass.run.Goals as goal
