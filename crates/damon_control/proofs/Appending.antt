@@ -1,5 +1,5 @@
 -- What appending keeps of a text.
-use Rattle.std.proofs.Common.{◌≡◌, ℕ, List, ◌++◌, length, take, drop, ap, subst, sym, ◌∙◌, arith, ◌≤◌}
+use Rattle.std.proofs.Common.{◌≡◌, ℕ, ◌-◌, List, [], ◌∷◌, ◌++◌, length, take, drop, ap, subst, sym, ◌∙◌, arith, ◌≤◌}
 use Rattle.std.proofs.Math.Seq.{take-append_seam, take-length}
 use Rattle.std.proofs.lemmas.List.{append_assoc, take-append-le, take-append-drop, length-append}
 use Rattle.std.proofs.lemmas.Result.{IfOk-equal}
@@ -25,6 +25,12 @@ keeps_through a b c first second =
           ∙ take-append-le (length a) b (drop (length b) c) within
           ∙ first.front;
     }
+
+-- a line without the LF at its end
+pub without_end : (n : ℕ) (text line : List ℕ) → n ≡ length text → text ≡ line ++ 10 ∷ [] → take (n - 1) text ≡ line
+without_end n text line count is =
+    let size : n - 1 ≡ length line = omega (arith, count, ap length is, length-append line (10 ∷ [])) in
+    (λ i. take (size i) (is i)) ∙ take-append_seam line (10 ∷ [])
 
 -- what several appends keep and what they append
 pub ruleset appends = (keeps_self, keeps-append, keeps_through, IfOk-equal, append_assoc)

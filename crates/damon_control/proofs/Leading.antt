@@ -1,4 +1,4 @@
--- Lines that say a setup lead from the first line of a text to its body, and those of a commit to its last line.
+-- Lines that say a setup lead from the first line of a text to its body or its end, and those of a commit to its last line.
 use Rattle.std.proofs.Common.{◌≡◌, ◌∷◌, [], ◌==◌, ◌||◌, ◌^◌, ◌<◌, ◌≤◌, ℕ, Bool, true, false, List, ◌++◌, length, map, codes, Some, Ok, Err, refl, sym, ap, subst, ◌∙◌, append_assoc, arith}
 use Rattle.std.proofs.lemmas.Bool.Decides.{nat_tests}
 use Rattle.std.proofs.lemmas.List.{append-nil, length-append}
@@ -27,7 +27,7 @@ use Rattle.target_ranges.specs.Checked.{checked_next, checked_ranges, fault_at}
 use Rattle.target_ranges.specs.Laws.{ChecksOneMore, KeepsFault}
 use Rattle.target_ranges.specs.Made.{ranges_of}
 use Rattle.damon_control.specs.declared.grammar.Grammar.{Grammar}
-use Rattle.damon_control.specs.declared.grammar.Grammar.TheVariants.{OfScript, OfLive}
+use Rattle.damon_control.specs.declared.grammar.Grammar.TheVariants.{OfScript, OfLive, OfJournal}
 use Rattle.script_lines.specs.declared.part.Part.{Part}
 use Rattle.script_lines.specs.declared.kind.ScriptKind.{ScriptKind}
 use Rattle.script_lines.specs.declared.setup.Frame.{Frame}
@@ -37,13 +37,14 @@ use Rattle.script_lines.specs.Head.{attrs_line, cap_line, is_changed, range_line
 use Rattle.script_lines.specs.Laws.{GivesScheme, IsPart, may_come}
 use Rattle.script_lines.specs.ReadBack.{LinesReadBack}
 use Rattle.script_lines.specs.Refusal.{◌>>=◌}
-use Rattle.damon_control.specs.Script.{AtAttrs, AtCap, AtEnd, AtHeader, AtRanges, AtSchemes, AtSeed, AtTargets, AtUnit, InBody, InCommit, Place, Said, Within, after_setup, header_of, place_after, reads, version_in}
+use Rattle.damon_control.specs.Script.{AtAttrs, AtCap, AtEnd, AtHeader, AtRanges, AtSchemes, AtSeed, AtTargets, AtUnit, InCommit, Place, Said, Within, after_setup, header_of, place_after, reads, scheme_line_in, version_in}
 use Rattle.script_lines.specs.Spelling.{spelled_attrs, spelled_cap, spelled_range, spelled_seed, spelled_target, spelled_unit}
 use Rattle.damon_control.specs.Text.{EachSays, SaySetup, come_in_order, with_parts}
 use Rattle.script_lines.specs.Lines.{lines_text}
 use Rattle.script_lines.specs.Words.{begins_with}
 use Rattle.damon_control.proofs.Leads.{leads, leads-line, leads-read, lines_apart}
 use Rattle.damon_control.proofs.LineWords.{begins_other, both_true, leads-IsPiece, part_begins, range_begins, scheme_begins, target_begins}
+use Rattle.damon_control.proofs.OneSpelling.{IsSpelledFor, scheme_in-Ok, scheme_in-read}
 use Rattle.damon_control.proofs.SetupLimits.{checked-Limits}
 use Rattle.damon_control.proofs.SpaceLimits.{accepted-FitsRange, checked-IsSpace, checked_before}
 
@@ -76,6 +77,8 @@ header_read OfScript One = refl
 header_read OfScript Two = refl
 header_read OfLive One = refl
 header_read OfLive Two = refl
+header_read OfJournal One = refl
+header_read OfJournal Two = refl
 
 frame_leads : LinesReadBack → (g : Grammar) (f : Frame) (lines : List (List ℕ)) → f.seed < 2 ^ 64 → checked_limits f.unit f.cap f.attrs ≡ Ok tt
     → leads g AtHeader (header_of g f.version ∷ spelled_seed f.seed ∷ spelled_unit f.unit ∷ spelled_cap f.cap ∷ spelled_attrs f.attrs ∷ lines) ≡ leads g (AtTargets f []) lines
@@ -191,11 +194,11 @@ past_ranges g f targets specs line lines some other = ap (λ r. r >>= λ next. l
 
 -- ---- schemes
 
-scheme_leads : (g : Grammar) (f : Frame) (targets : List Target) (specs : List RangeSpec) (before : List SlotChange) (line : List ℕ) (c : SlotChange) → scheme_line f.version before line ≡ Ok c
+scheme_leads : (g : Grammar) (f : Frame) (targets : List Target) (specs : List RangeSpec) (before : List SlotChange) (line : List ℕ) (c : SlotChange) → scheme_line_in g f.version before line ≡ Ok c
     → place_after g (AtSchemes f targets specs before) line ≡ Ok (AtSchemes f targets specs (before ++ c ∷ []))
 scheme_leads g f targets specs before line c read =
-    then_way (begins_with (codes "scheme") line) _ _ (scheme_begins f.version before line c read).begins
-    ∙ lead_to g (scheme_line f.version before line) c (λ d. AtSchemes f targets specs (before ++ d ∷ [])) read
+    then_way (begins_with (codes "scheme") line) _ _ (scheme_begins f.version before line c (scheme_in-Ok g f.version before line c read)).begins
+    ∙ lead_to g (scheme_line_in g f.version before line) c (λ d. AtSchemes f targets specs (before ++ d ∷ [])) read
 
 pub both_ok : (r s : Result (Unit {0}) SetupFault) → result_and r s ≡ Ok tt → (r ≡ Ok tt) × (s ≡ Ok tt)
 both_ok (Ok t) s ok = (refl, ok)
@@ -242,18 +245,18 @@ scheme_read back version before line c each gives ok =
     (none_sets c.slot before each (free_accepted (length before) (list_any (sets c.slot) before) both.1))
 
 schemes_lead : LinesReadBack → (g : Grammar) (f : Frame) (targets : List Target) (specs : List RangeSpec) (before : List SlotChange) (schemes : List (List ℕ)) (more : List SlotChange) (lines : List (List ℕ))
-    → AllByRecursion (λ c. has_scheme c ≡ true) before → EachSays (GivesScheme f.version) schemes more → checked_after f.version before more ≡ Ok tt
+    → AllByRecursion (λ c. has_scheme c ≡ true) before → EachSays (GivesScheme f.version) schemes more → EachSays (IsSpelledFor g) schemes more → checked_after f.version before more ≡ Ok tt
     → leads g (AtSchemes f targets specs before) (schemes ++ lines) ≡ leads g (AtSchemes f targets specs (before ++ more)) lines
-schemes_lead back g f targets specs before [] [] lines each gives ok = ap (λ cs. leads g (AtSchemes f targets specs cs) lines) (sym (append-nil before))
-schemes_lead back g f targets specs before (line ∷ schemes) (c ∷ more) lines each gives ok =
+schemes_lead back g f targets specs before [] [] lines each gives spelled ok = ap (λ cs. leads g (AtSchemes f targets specs cs) lines) (sym (append-nil before))
+schemes_lead back g f targets specs before (line ∷ schemes) (c ∷ more) lines each gives spelled ok =
     let both = both_ok (checked_slot f.version (length before) before c) (checked_after f.version (before ++ c ∷ []) more) ok in
     let set : has_scheme c ≡ true = rw gives.0.1 refl in
     leads-line g (AtSchemes f targets specs before) (AtSchemes f targets specs (before ++ c ∷ [])) line (schemes ++ lines)
-    (scheme_leads g f targets specs before line c (scheme_read back f.version before line c each gives.0 both.0))
-    ∙ schemes_lead back g f targets specs (before ++ c ∷ []) schemes more lines (each_set-more before c each set) gives.1 both.1
+    (scheme_leads g f targets specs before line c (scheme_in-read g f.version before line c (scheme_read back f.version before line c each gives.0 both.0) spelled.0))
+    ∙ schemes_lead back g f targets specs (before ++ c ∷ []) schemes more lines (each_set-more before c each set) gives.1 spelled.1 both.1
     ∙ ap (λ cs. leads g (AtSchemes f targets specs cs) lines) (append_assoc before (c ∷ []) more)
-schemes_lead back g f targets specs before [] (c ∷ more) lines each gives ok = absurd gives
-schemes_lead back g f targets specs before (line ∷ schemes) [] lines each gives ok = absurd gives
+schemes_lead back g f targets specs before [] (c ∷ more) lines each gives spelled ok = absurd gives
+schemes_lead back g f targets specs before (line ∷ schemes) [] lines each gives spelled ok = absurd gives
 
 -- ---- commits
 
@@ -286,15 +289,15 @@ targets_ranges_lead laws g f targets (r ∷ specs) lines space sound some few =
     (begins_other (codes "range") (codes "target") (spelled_range r) begins.begins refl)
     ∙ ranges_lead laws g f targets [] (r ∷ specs) lines space sound few
 
--- the line that opens a body is of no range and no scheme, and leads to this body
-pub record Opens (g : Grammar) (seed : ℕ) (setup : SetupValue) (opening : List ℕ) (b : Within g) : Type 0 where
+-- the line after a setup is of no range and no scheme, and leads to this place
+pub record Opens (g : Grammar) (seed : ℕ) (setup : SetupValue) (opening : List ℕ) (next : Place g) : Type 0 where
   pub no_range : begins_with (codes "range") opening ≡ false
   pub no_scheme : begins_with (codes "scheme") opening ≡ false
   pub opens :
       (specs : List RangeSpec) → ranges_of setup.space specs ≡ setup.ranges
-      → after_setup g (frame_of seed setup) setup.space specs setup.slots opening ≡ Ok (InBody b)
+      → after_setup g (frame_of seed setup) setup.space specs setup.slots opening ≡ Ok next
 
--- its schemes follow its ranges, and the line that opens the body its schemes
+-- its schemes follow its ranges, and the line after the setup its schemes
 ranges_schemes_lead : LeadLaws → (g : Grammar) (f : Frame) (targets : List Target) (specs : List RangeSpec) (schemes : List (List ℕ)) (slots : List SlotChange) (opening : List ℕ) (lines : List (List ℕ)) → 1 ≤ length specs
     → EachSays (GivesScheme f.version) schemes slots → checked_slots f.version slots ≡ Ok tt → begins_with (codes "range") opening ≡ false
     → leads g (AtRanges f targets specs) (schemes ++ opening ∷ lines) ≡ leads g (AtSchemes f targets specs []) (schemes ++ opening ∷ lines)
@@ -309,10 +312,10 @@ ranges_schemes_lead laws g f targets specs (line ∷ schemes) [] opening lines s
 regroup : (a b c d : List (List ℕ)) → ((a ++ b) ++ c) ++ d ≡ a ++ (b ++ (c ++ d))
 regroup a b c d = simp append_assoc
 
--- a setup's lines, and the one that opens the body, lead to the body
-pub setup_leads : LeadLaws → (g : Grammar) (seed : ℕ) (setup : SetupValue) (lines : List (List ℕ)) (opening : List ℕ) (b : Within g) (back : List (List ℕ)) → SaySetup lines seed setup → Opens g seed setup opening b
-    → leads g AtHeader (header_of g setup.version ∷ (lines ++ opening ∷ back)) ≡ leads g (InBody b) back
-setup_leads laws g seed setup lines opening b back says opens =
+-- a setup's lines, and the one after them, lead to the place that this one opens
+pub setup_leads : LeadLaws → (g : Grammar) (seed : ℕ) (setup : SetupValue) (lines : List (List ℕ)) (opening : List ℕ) (next : Place g) (back : List (List ℕ)) (says : SaySetup lines seed setup) → EachSays (IsSpelledFor g) says.schemes setup.slots
+    → Opens g seed setup opening next → leads g AtHeader (header_of g setup.version ∷ (lines ++ opening ∷ back)) ≡ leads g next back
+setup_leads laws g seed setup lines opening next back says spelled opens =
     let f = frame_of seed setup in
     let space = setup.space in
     let after_ranges = says.schemes ++ opening ∷ back in
@@ -322,7 +325,7 @@ setup_leads laws g seed setup lines opening b back says opens =
     ap (λ ls. header_of g setup.version ∷ (ls ++ opening ∷ back)) says.spelled
     ∙ ap frame_lines (regroup (map spelled_target space) (map spelled_range says.specs) says.schemes (opening ∷ back))
     in
-    let last : place_after g (AtSchemes f space says.specs setup.slots) opening ≡ Ok (InBody b) =
+    let last : place_after g (AtSchemes f space says.specs setup.slots) opening ≡ Ok next =
     else_way (begins_with (codes "scheme") opening) _ _ opens.no_scheme ∙ opens.opens says.specs says.watched
     in
     ap (leads g AtHeader) lines_are
@@ -330,8 +333,8 @@ setup_leads laws g seed setup lines opening b back says opens =
     ∙ targets_lead laws.lines g f [] space after_targets says.targets
     ∙ targets_ranges_lead laws g f space says.specs after_ranges says.targets says.ranges says.some_range says.few_ranges
     ∙ ranges_schemes_lead laws g f space says.specs says.schemes setup.slots opening back says.some_range says.give says.slots opens.no_range
-    ∙ schemes_lead laws.lines g f space says.specs [] says.schemes setup.slots (opening ∷ back) tt says.give says.slots
-    ∙ leads-line g (AtSchemes f space says.specs setup.slots) (InBody b) opening back last
+    ∙ schemes_lead laws.lines g f space says.specs [] says.schemes setup.slots (opening ∷ back) tt says.give spelled says.slots
+    ∙ leads-line g (AtSchemes f space says.specs setup.slots) next opening back last
 
 -- lines that lead to the end of a text are read as what it says
 pub led_read : TakesApartPieces → (g : Grammar) (lines : List (List ℕ)) (s : Said g) → leads g AtHeader lines ≡ Ok (AtEnd s) → reads g 1 AtHeader (parts 10 (lines_text lines)) ≡ Ok s

@@ -30,6 +30,7 @@ use Rattle.damon_control.proofs.Leading.{LeadLaws, Opens, either_true, else_way,
 use Rattle.damon_control.proofs.Leads.{leads, leads-line}
 use Rattle.damon_control.proofs.LineWords.{begins_other, passes_begins}
 use Rattle.damon_control.proofs.LiveLemmas.{count_all-more, some_more, to_last-more, touches_after}
+use Rattle.damon_control.proofs.OneSpelling.{each_in_any}
 use Rattle.damon_control.proofs.SayPlaces.{both_ways}
 use Rattle.damon_control.proofs.Steps.{bind-Ok, either_way}
 
@@ -231,7 +232,7 @@ controllers_lead back v cs (group ∷ groups) [] lines each few sum = absurd eac
 -- ---- a whole text
 
 -- `passes N` opens the blocks of a live script
-pub passes_opens : LinesReadBack → (seed : ℕ) (setup : SetupValue) (n : ℕ) → 1 ≤ n → n ≤ MAX_PASSES → Opens OfLive seed setup (spelled_passes n) (live_begun seed setup n)
+pub passes_opens : LinesReadBack → (seed : ℕ) (setup : SetupValue) (n : ℕ) → 1 ≤ n → n ≤ MAX_PASSES → Opens OfLive seed setup (spelled_passes n) (InBody (live_begun seed setup n))
 passes_opens back seed setup n some few =
     let read = back.passes n some few in
     let begins = passes_begins (spelled_passes n) n read in
@@ -252,7 +253,8 @@ live_lines text v says =
 lines_lead : LeadLaws → (text : List ℕ) (v : LiveValue) (says : IsLiveText text v) → leads OfLive AtHeader (live_lines text v says) ≡ Ok (AtEnd v)
 lines_lead laws text v says =
     let ends = codes "end" ∷ [] in
-    setup_leads laws OfLive v.seed v.setup says.setup (spelled_passes v.passes) (live_begun v.seed v.setup v.passes) (all_lines says.workers ++ (all_lines says.controllers ++ ends)) says.says_setup
+    setup_leads laws OfLive v.seed v.setup says.setup (spelled_passes v.passes) (InBody (live_begun v.seed v.setup v.passes)) (all_lines says.workers ++ (all_lines says.controllers ++ ends)) says.says_setup
+    (each_in_any OfLive (λ line c. tt) v.setup.version says.says_setup.schemes v.setup.slots says.says_setup.give)
     (passes_opens laws.lines v.seed v.setup v.passes says.limits.some_pass says.limits.passes)
     ∙ workers_lead laws.lines v [] says.workers v.workers (all_lines says.controllers ++ ends) says.say_workers says.limits.workers says.limits.touches
     ∙ controllers_lead laws.lines v [] says.controllers v.controllers ends says.say_controllers says.limits.controllers says.limits.calls

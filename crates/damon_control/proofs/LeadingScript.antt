@@ -19,6 +19,7 @@ use Rattle.script_lines.specs.Words.{begins_with}
 use Rattle.damon_control.proofs.Leading.{LeadLaws, Opens, else_way, led_read, parts_lead, setup_leads, then_way}
 use Rattle.damon_control.proofs.Leads.{leads, leads-line}
 use Rattle.damon_control.proofs.LineWords.{command_begins}
+use Rattle.damon_control.proofs.OneSpelling.{each_in_any}
 
 -- a body with more commands, and their work
 abbrev with_commands : Body → List CommandValue → Body
@@ -94,7 +95,7 @@ commands_lead back b (group ∷ groups) [] lines each few = absurd each
 -- ---- a whole text
 
 -- `begin` opens the body of a script
-pub begin_opens : (seed : ℕ) (setup : SetupValue) → Opens OfScript seed setup (codes "begin") (begun seed setup)
+pub begin_opens : (seed : ℕ) (setup : SetupValue) → Opens OfScript seed setup (codes "begin") (InBody (begun seed setup))
 begin_opens seed setup = record {
   no_range = refl;
   no_scheme = refl;
@@ -108,7 +109,9 @@ script_lines text s says = header_of OfScript s.setup.version ∷ (says.setup ++
 -- lines that say a script lead to its end
 lines_lead : LeadLaws → (text : List ℕ) (s : ScriptValue) (says : IsText text s) → leads OfScript AtHeader (script_lines text s says) ≡ Ok (AtEnd s)
 lines_lead laws text s says =
-    setup_leads laws OfScript s.seed s.setup says.setup (codes "begin") (begun s.seed s.setup) (all_lines says.commands ++ codes "end" ∷ []) says.says_setup (begin_opens s.seed s.setup)
+    setup_leads laws OfScript s.seed s.setup says.setup (codes "begin") (InBody (begun s.seed s.setup)) (all_lines says.commands ++ codes "end" ∷ []) says.says_setup
+    (each_in_any OfScript (λ line c. tt) s.setup.version says.says_setup.schemes s.setup.slots says.says_setup.give)
+    (begin_opens s.seed s.setup)
     ∙ commands_lead laws.lines (begun s.seed s.setup) says.commands s.commands (codes "end" ∷ []) says.say_commands (omega (arith, says.work))
 
 -- a text that says a script is read as it

@@ -3,11 +3,13 @@ pub mod PartLemmas
 pub mod TouchLemmas
 pub mod PlaceLemmas
 pub mod Leads
+pub mod OneSpelling
 pub mod SpaceLimits
 pub mod SetupLimits
 pub mod TextLimits
 pub mod LineWords
 pub mod LiveLemmas
+pub mod LiveLimits
 pub mod SayPlaces
 pub mod SayCommands
 pub mod SayBlocks
@@ -22,5 +24,8 @@ pub mod Appending
 pub mod WrittenLemmas
 pub mod WrittenRanges
 pub mod ReadWritten
+pub mod HeadWritten
+pub mod CommitParts
 pub mod CommitLemmas
 mod WrittenExamples
+mod HeadExamples

@@ -12,7 +12,7 @@ use Rattle.damon_types.specs.declared.space.Target.{Target}
 use Rattle.line_text.specs.Parts.{IsPiece, is_plain, is_printable, is_word, parts}
 use Rattle.live_commit.specs.Commit.{CommitValue}
 use Rattle.damon_control.specs.declared.grammar.Grammar.{Grammar}
-use Rattle.damon_control.specs.declared.grammar.Grammar.TheVariants.{OfScript, OfLive}
+use Rattle.damon_control.specs.declared.grammar.Grammar.TheVariants.{OfScript, OfLive, OfJournal}
 use Rattle.script_lines.specs.declared.part.Part.{Part}
 use Rattle.script_lines.specs.declared.part.Part.TheVariants.{Attrs, Range, Slot, Metric, Cost}
 use Rattle.script_lines.specs.declared.kind.ScriptKind.{ScriptKind}
@@ -27,9 +27,10 @@ use Rattle.script_lines.specs.Keys.{scheme_in}
 use Rattle.damon_control.specs.Live.{LiveValue, count_all, controller_line, has_controller, show_line, touches_line, worker_line}
 use Rattle.script_lines.specs.Blocks.{block_line, passes_line, touches_within, touching}
 use Rattle.script_lines.specs.Refusal.{◌>>=◌}
-use Rattle.damon_control.specs.Script.{AtAttrs, AtCap, AtEnd, AtHeader, AtRanges, AtSchemes, AtSeed, AtTargets, AtUnit, Body, InBody, InCommit, Place, Within, after_body, after_commit, after_live, after_ranges, after_schemes, after_setup, after_targets, after_within, header_of, place_after, version_in, version_said}
+use Rattle.damon_control.specs.Script.{AtAttrs, AtCap, AtEnd, AtHeader, AtRanges, AtSchemes, AtSeed, AtTargets, AtUnit, Body, InBody, InCommit, Place, Within, after_body, after_commit, after_live, after_ranges, after_schemes, after_setup, after_targets, after_within, header_of, place_after, scheme_line_in, version_in, version_said}
 use Rattle.script_lines.specs.Words.{alone, arguments, begins_with, no_word, number_8, number_32, number_64, one_word, same_word}
 use Rattle.damon_control.proofs.Leads.{leads}
+use Rattle.damon_control.proofs.OneSpelling.{scheme_in-Ok}
 use Rattle.damon_control.proofs.Steps.{bind-Ok, either_way, tested_way}
 
 -- a well-formed line that begins with this word
@@ -210,10 +211,11 @@ read_plain r to next line each e =
 setup_plain : (g : Grammar) (f : Frame) (targets : List Target) (specs : List RangeSpec) (slots : List SlotChange) (line : List ℕ) (next : Place g) → after_setup g f targets specs slots line ≡ Ok next → is_plain line ≡ true
 setup_plain OfScript f targets specs slots line next e = read_plain (alone (codes "begin") line) _ next line (λ t read. (alone_begins (codes "begin") line t read).plain) e
 setup_plain OfLive f targets specs slots line next e = read_plain (passes_line line) _ next line (λ n read. (passes_begins line n read).plain) e
+setup_plain OfJournal f targets specs slots line next e = read_plain (alone (codes "begin") line) _ next line (λ t read. (alone_begins (codes "begin") line t read).plain) e
 
 schemes_plain : (g : Grammar) (f : Frame) (targets : List Target) (specs : List RangeSpec) (slots : List SlotChange) (line : List ℕ) (next : Place g) → after_schemes g f targets specs slots line ≡ Ok next → is_plain line ≡ true
 schemes_plain g f targets specs slots line next e =
-    either_way (begins_with (codes "scheme") line) _ _ _ (read_plain (scheme_line f.version slots line) _ next line (λ c read. (scheme_begins f.version slots line c read).plain))
+    either_way (begins_with (codes "scheme") line) _ _ _ (read_plain (scheme_line_in g f.version slots line) _ next line (λ c read. (scheme_begins f.version slots line c (scheme_in-Ok g f.version slots line c read)).plain))
     (setup_plain g f targets specs slots line next) e
 
 ranges_plain : (g : Grammar) (f : Frame) (targets : List Target) (specs : List RangeSpec) (line : List ℕ) (next : Place g) → after_ranges g f targets specs line ≡ Ok next → is_plain line ≡ true
@@ -261,6 +263,7 @@ live_plain v line next e =
 within_plain : (g : Grammar) (b : Within g) (line : List ℕ) (next : Place g) → after_within g b line ≡ Ok next → is_plain line ≡ true
 within_plain OfScript b line next e = body_plain b line next e
 within_plain OfLive v line next e = live_plain v line next e
+within_plain OfJournal none line next e = absurd none
 
 commit_plain : (g : Grammar) (b : Within g) (commit : CommitValue) (line : List ℕ) (next : Place g) → after_commit g b commit line ≡ Ok next → is_plain line ≡ true
 commit_plain g b commit line next e =
@@ -272,6 +275,8 @@ header_plain OfScript One = refl
 header_plain OfScript Two = refl
 header_plain OfLive One = refl
 header_plain OfLive Two = refl
+header_plain OfJournal One = refl
+header_plain OfJournal Two = refl
 
 -- a first line that says a version is the one of this version
 pub version_said-Ok : (g : Grammar) (line : List ℕ) (version : Version) → version_said g line ≡ Ok version → line ≡ header_of g version

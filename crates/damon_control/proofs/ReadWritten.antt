@@ -24,7 +24,7 @@ use Rattle.live_commit.specs.Commit.{CommitValue}
 use Rattle.live_commit.specs.Setup.{IsSetup, SetupValue}
 use Rattle.live_commit.specs.Slots.{checked_after, checked_slot}
 use Rattle.damon_control.specs.declared.grammar.Grammar.{Grammar}
-use Rattle.damon_control.specs.declared.grammar.Grammar.TheVariants.{OfScript, OfLive}
+use Rattle.damon_control.specs.declared.grammar.Grammar.TheVariants.{OfScript, OfLive, OfJournal}
 use Rattle.script_lines.specs.declared.part.Part.{Part}
 use Rattle.script_lines.specs.declared.part.Part.TheVariants.{Attrs as AttrsPart, Range as RangePart, Slot, Metric, Cost}
 use Rattle.script_lines.specs.Body.{no_commit}
@@ -45,6 +45,7 @@ use Rattle.damon_control.proofs.LeadingLive.{passes_opens}
 use Rattle.damon_control.proofs.LeadingScript.{begin_opens}
 use Rattle.damon_control.proofs.Leads.{leads, leads-line}
 use Rattle.damon_control.proofs.LineWords.{leads-IsPiece, plain-IsPiece}
+use Rattle.damon_control.proofs.OneSpelling.{IsSpelledFor, each_written_for}
 use Rattle.damon_control.proofs.PartLemmas.{parts-some, reads_line, reads_more}
 use Rattle.damon_control.proofs.Steps.{bind-Ok}
 use Rattle.damon_control.proofs.WrittenLemmas.{lines_text-append}
@@ -105,14 +106,14 @@ map_both : {A B C : Type 0} (f : B → C) (g : A → B) (xs : List A) → map (�
 map_both f g [] = refl
 map_both f g (x ∷ xs) = ap (λ ys. f (g x) ∷ ys) (map_both f g xs)
 
--- the lines that are written of a setup say it
-written-SaySetup : ChangesAreReadBack → (seed : ℕ) (s : SetupValue) → IsWritable seed s → SaySetup (written_setup seed s) seed s
-written-SaySetup back seed s is =
+-- the lines that are written of a setup say it, its schemes in the spelling that the grammar wants
+pub written-SaySetup : ChangesAreReadBack → (g : Grammar) (seed : ℕ) (s : SetupValue) → IsWritable seed s → (says : SaySetup (written_setup seed s) seed s) × EachSays (IsSpelledFor g) says.schemes s.slots
+written-SaySetup back g seed s is =
     let setup = is.setup in
     let specs = map (spec_of s.space) s.ranges in
     let count : length specs ≡ length s.ranges = length-map s.ranges (spec_of s.space) in
     let changes = map change_text s.slots in
-    record {
+    let says : SaySetup (written_setup seed s) seed s = record {
       specs = specs;
       schemes = changes;
       spelled =
@@ -127,7 +128,8 @@ written-SaySetup back seed s is =
       watched = ranges_again s.space s.unit is.space setup.unit_some s.ranges setup.within setup.wide;
       slots = setup.slots;
       give = changes_give back s.version [] s.slots setup.slots setup.set is.changes;
-    }
+    } in
+    (says, each_written_for g s.slots)
 
 -- ---- lines before others in a text
 
@@ -176,33 +178,34 @@ whole_text first others last rest =
     ∙ ap (λ t. t ++ rest) (sym (lines_text-append others (last ∷ []))))
     ∙ sym (append_assoc first (10 ∷ lines_text (others ++ last ∷ [])) rest)
 
--- the lines of a setup and the one that opens the body lead to this body
-opening_read_back : LeadLaws → ChangesAreReadBack → PutsPartsTogether → (g : Grammar) (seed : ℕ) (s : SetupValue) (opening : List ℕ) (b : Within g) (rest : List ℕ) → IsWritable seed s → Opens g seed s opening b
+-- the lines of a setup and the one after them lead to the place that this one opens
+opening_read_back : LeadLaws → ChangesAreReadBack → PutsPartsTogether → (g : Grammar) (seed : ℕ) (s : SetupValue) (opening : List ℕ) (next : Place g) (rest : List ℕ) → IsWritable seed s → Opens g seed s opening next
     → reads g 1 AtHeader (parts 10 (header_of g s.version ++ (codes "\n" ++ (setup_text seed s ++ (opening ++ (codes "\n" ++ rest))))))
-    ≡ reads g (3 + length (written_setup seed s)) (InBody b) (parts 10 rest)
-opening_read_back laws back together g seed s opening b rest is opens =
+    ≡ reads g (3 + length (written_setup seed s)) next (parts 10 rest)
+opening_read_back laws back together g seed s opening next rest is opens =
+    let says = written-SaySetup back g seed s is in
     let written = written_setup seed s in
     let lines = header_of g s.version ∷ (written ++ opening ∷ []) in
-    let lead : leads g AtHeader lines ≡ Ok (InBody b) = setup_leads laws g seed s written opening b [] (written-SaySetup back seed s is) opens in
+    let lead : leads g AtHeader lines ≡ Ok next = setup_leads laws g seed s written opening next [] says.0 says.1 opens in
     let count : 1 + length lines ≡ 3 + length written = omega (arith, length-append written (opening ∷ [])) in
     ap (λ t. reads g 1 AtHeader (parts 10 t)) (whole_text (header_of g s.version) written opening rest)
-    ∙ ap (reads g 1 AtHeader) (parts_before laws.apart together lines rest (leads-IsPiece g AtHeader lines (InBody b) lead))
-    ∙ reads_led g 1 AtHeader lines (parts 10 rest) (InBody b) (parts-some 10 rest) lead
-    ∙ ap (λ n. reads g n (InBody b) (parts 10 rest)) count
+    ∙ ap (reads g 1 AtHeader) (parts_before laws.apart together lines rest (leads-IsPiece g AtHeader lines next lead))
+    ∙ reads_led g 1 AtHeader lines (parts 10 rest) next (parts-some 10 rest) lead
+    ∙ ap (λ n. reads g n next (parts 10 rest)) count
 
 -- the lines of a setup up to `begin` lead to its body
 pub setup_read_back : LeadLaws → ChangesAreReadBack → PutsPartsTogether → SetupsAreReadBack
-setup_read_back laws back together seed s body is = opening_read_back laws back together OfScript seed s (codes "begin") (begun seed s) body is (begin_opens seed s)
+setup_read_back laws back together seed s body is = opening_read_back laws back together OfScript seed s (codes "begin") (InBody (begun seed s)) body is (begin_opens seed s)
 
 -- the lines of a setup up to `passes` lead to its blocks
 pub live_setup_read_back : LeadLaws → ChangesAreReadBack → PutsPartsTogether → LiveSetupsAreReadBack
 live_setup_read_back laws back together seed s passes blocks is some few =
-    opening_read_back laws back together OfLive seed s (spelled_passes passes) (live_begun seed s passes) blocks is (passes_opens laws.lines seed s passes some few)
+    opening_read_back laws back together OfLive seed s (spelled_passes passes) (InBody (live_begun seed s passes)) blocks is (passes_opens laws.lines seed s passes some few)
 
 -- ---- a commit
 
 -- the line of a part says it
-abbrev IsSaid : Version → Part → Type 0
+abbrev pub IsSaid : Version → Part → Type 0
 IsSaid version part = IsPart version (part_text part) part
 
 each_said : (version : Version) (parts : List Part) → AllByRecursion (IsSaid version) parts → EachSays (IsPart version) (map part_text parts) parts
@@ -266,7 +269,7 @@ cost_said : (version : Version) (cost : Option CostPart) → IfSome cost FitsCos
 cost_said version None fits = tt
 cost_said version (Some p) fits = ((refl, fits), tt)
 
-parts_said : ChangesAreReadBack → (version : Version) (c : CommitValue) → FitsCommit c → IsSpelledIn version c → AllByRecursion (IsSaid version) (parts_of c)
+pub parts_said : ChangesAreReadBack → (version : Version) (c : CommitValue) → FitsCommit c → IsSpelledIn version c → AllByRecursion (IsSaid version) (parts_of c)
 parts_said back version c fits spelled =
     let attrs = part_given (λ a. AttrsPart a) c.attrs in
     let ranges = ranges_given c.ranges in
@@ -279,10 +282,10 @@ parts_said back version c fits spelled =
     (said-append version metric cost (metric_said version c.metric fits.metric_fits) (cost_said version c.cost fits.cost_fits))))
 
 -- the parts of a commit after its ranges
-record Rest : Type 0 where
-  slot : Option SlotChange
-  metric : Option ℕ
-  cost : Option CostPart
+pub record Rest : Type 0 where
+  pub slot : Option SlotChange
+  pub metric : Option ℕ
+  pub cost : Option CostPart
 
 -- these parts, as lines say them
 abbrev last_parts : Rest → List Part
@@ -293,16 +296,16 @@ abbrev with_ranges : Option Attrs → Option (List RangeSpec) → CommitValue
 with_ranges attrs ranges = record no_commit { attrs = attrs; ranges = ranges }
 
 -- a commit with these parts
-abbrev commit_of : Option Attrs → Option (List RangeSpec) → Rest → CommitValue
+abbrev pub commit_of : Option Attrs → Option (List RangeSpec) → Rest → CommitValue
 commit_of attrs ranges r = record { attrs = attrs; ranges = ranges; slot = r.slot; metric = r.metric; cost = r.cost }
 
 -- the parts are in order, and make a commit
-record AreIn (version : Version) (before : CommitValue) (parts : List Part) (c : CommitValue) : Type 0 where
-  in_order : come_in_order version before parts ≡ true
-  made : with_parts before parts ≡ c
+pub record AreIn (version : Version) (before : CommitValue) (parts : List Part) (c : CommitValue) : Type 0 where
+  pub in_order : come_in_order version before parts ≡ true
+  pub made : with_parts before parts ≡ c
 
 -- a cost comes in version Two alone
-abbrev CostIsIn : Version → Option CostPart → Type 0
+abbrev pub CostIsIn : Version → Option CostPart → Type 0
 CostIsIn One cost = cost ≡ None
 CostIsIn Two cost = Unit {0}
 
@@ -327,7 +330,7 @@ more_in version attrs before (r ∷ ranges) rest c are =
     let others = more_in version attrs (before ++ r ∷ []) ranges rest c (subst (λ (rs : List RangeSpec). AreIn version (with_ranges attrs (Some rs)) rest c) all are) in
     record { in_order = others.in_order; made = others.made }
 
-parts_in : (version : Version) (attrs : Option Attrs) (ranges : Option (List RangeSpec)) (rest : Rest) → CostIsIn version rest.cost → IfSome ranges (λ rs. 1 ≤ length rs)
+pub parts_in : (version : Version) (attrs : Option Attrs) (ranges : Option (List RangeSpec)) (rest : Rest) → CostIsIn version rest.cost → IfSome ranges (λ rs. 1 ≤ length rs)
     → AreIn version no_commit (parts_of (commit_of attrs ranges rest)) (commit_of attrs ranges rest)
 parts_in version None None rest is some = last_in version None None rest.slot rest.metric rest.cost is
 parts_in version (Some a) None rest is some =
@@ -341,7 +344,7 @@ parts_in version (Some a) (Some (r ∷ ranges)) rest is some =
     let others = more_in version (Some a) (r ∷ []) ranges (last_parts rest) (commit_of (Some a) (Some (r ∷ ranges)) rest) (last_in version (Some a) (Some (r ∷ ranges)) rest.slot rest.metric rest.cost is) in
     record { in_order = others.in_order; made = others.made }
 
-cost_is_in : (version : Version) (c : CommitValue) → IsSpelledIn version c → CostIsIn version c.cost
+pub cost_is_in : (version : Version) (c : CommitValue) → IsSpelledIn version c → CostIsIn version c.cost
 cost_is_in One c is = is.0
 cost_is_in Two c is = tt
 
@@ -349,6 +352,7 @@ cost_is_in Two c is = tt
 commit_opens : (g : Grammar) (b : Within g) → MayCommit g b → place_after g (InBody b) (codes "commit") ≡ Ok (InCommit b no_commit)
 commit_opens OfScript b may = refl
 commit_opens OfLive v may = rw may refl
+commit_opens OfJournal none may = absurd none
 
 -- the text of a commit is read as it
 pub commit_read_back : LeadLaws → ChangesAreReadBack → PutsPartsTogether → CommitsAreReadBack

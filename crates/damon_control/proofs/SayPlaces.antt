@@ -16,7 +16,7 @@ use Rattle.target_ranges.specs.Laws.{ChecksOneMore}
 use Rattle.script_lines.specs.declared.part.Part.{Part}
 use Rattle.script_lines.specs.declared.kind.ScriptKind.{ScriptKind}
 use Rattle.damon_control.specs.declared.grammar.Grammar.{Grammar}
-use Rattle.damon_control.specs.declared.grammar.Grammar.TheVariants.{OfScript, OfLive}
+use Rattle.damon_control.specs.declared.grammar.Grammar.TheVariants.{OfScript, OfLive, OfJournal}
 use Rattle.script_lines.specs.declared.setup.Frame.{Frame}
 use Rattle.damon_control.specs.declared.script.TheConstants.{MAX_WORK}
 use Rattle.script_lines.specs.Body.{no_commit, with_part}
@@ -27,11 +27,12 @@ use Rattle.damon_control.specs.LineLaws.{LineLaws}
 use Rattle.damon_control.specs.Live.{LiveValue}
 use Rattle.damon_control.specs.LiveText.{IsLiveText, KeepsLimits, SayController, SayWorker}
 use Rattle.script_lines.specs.Refusal.{◌>>=◌}
-use Rattle.damon_control.specs.Script.{AtAttrs, AtCap, AtEnd, AtHeader, AtRanges, AtSchemes, AtSeed, AtTargets, AtUnit, Body, InBody, InCommit, Place, Said, Within, header_of, version_in}
+use Rattle.damon_control.specs.Script.{AtAttrs, AtCap, AtEnd, AtHeader, AtRanges, AtSchemes, AtSeed, AtTargets, AtUnit, Body, HeadValue, InBody, InCommit, Place, Said, Within, header_of, version_in}
 use Rattle.script_lines.specs.Spelling.{spelled_attrs, spelled_cap, spelled_passes, spelled_range, spelled_seed, spelled_target, spelled_unit}
 use Rattle.damon_control.specs.Text.{EachSays, IsText, SayCommand, SaySetup, all_lines, come_in_order, with_parts}
 use Rattle.script_lines.specs.Lines.{lines_text}
 use Rattle.damon_control.specs.WriteBack.{MayCommit}
+use Rattle.damon_control.proofs.OneSpelling.{IsSpelledFor}
 use Rattle.damon_control.proofs.Steps.{bind-Ok}
 
 -- what is known of lines, and of the checks of ranges and slots
@@ -64,11 +65,12 @@ pub record SayRanges (g : Grammar) (lines : List (List ℕ)) (f : Frame) (target
   pub sound : checked_ranges targets f.unit f.cap specs ≡ Ok tt
   pub few : length specs ≤ f.attrs.max
 
--- and of schemes: the first line, and those of a setup
+-- and of schemes: the first line, and those of a setup, its schemes in the spelling that the grammar wants
 pub record SaySchemes (g : Grammar) (lines : List (List ℕ)) (seed : ℕ) (setup : SetupValue) : Type 0 where
   pub others : List (List ℕ)
   pub spelled : lines ≡ header_of g setup.version ∷ others
   pub says : SaySetup others seed setup
+  pub in_spelling : EachSays (IsSpelledFor g) says.schemes setup.slots
 
 -- lines of a script up to a line of its body
 pub record SayBody (lines : List (List ℕ)) (b : Body) : Type 0 where
@@ -95,6 +97,7 @@ pub record SayBlocks (lines : List (List ℕ)) (v : LiveValue) : Type 0 where
 abbrev pub SayWithin : (g : Grammar) → List (List ℕ) → Within g → Type 0
 SayWithin OfScript lines b = SayBody lines b
 SayWithin OfLive lines v = SayBlocks lines v
+SayWithin OfJournal lines none = ⊥
 
 -- and of a commit that is not at its end
 pub record SayCommit (g : Grammar) (lines : List (List ℕ)) (b : Within g) (commit : CommitValue) : Type 0 where
@@ -108,10 +111,18 @@ pub record SayCommit (g : Grammar) (lines : List (List ℕ)) (b : Within g) (com
   pub in_order : come_in_order (version_in g b) no_commit parts ≡ true
   pub made : with_parts no_commit parts ≡ commit
 
+-- a text says the head of a journal: its first line with the version, the lines of its setup, the schemes in their one spelling, and `begin`
+pub record SaysHead (text : List ℕ) (h : HeadValue) : Type 0 where
+  pub setup : List (List ℕ)
+  pub spelled : text ≡ lines_text (header_of OfJournal h.setup.version ∷ (setup ++ codes "begin" ∷ []))
+  pub says_setup : SaySetup setup h.seed h.setup
+  pub in_spelling : EachSays (IsSpelledFor OfJournal) says_setup.schemes h.setup.slots
+
 -- a text says what was read
 abbrev pub IsTextOf : (g : Grammar) → List ℕ → Said g → Type 0
 IsTextOf OfScript text s = IsText text s
 IsTextOf OfLive text v = IsLiveText text v
+IsTextOf OfJournal text h = SaysHead text h
 
 -- lines that lead to a place say this
 abbrev pub Says : (g : Grammar) → List (List ℕ) → Place g → Type 0

@@ -9,25 +9,27 @@ use Rattle.line_text.specs.Parts.{parts}
 use Rattle.live_commit.specs.Commit.{CommitValue}
 use Rattle.target_ranges.specs.Checked.{fault_at}
 use Rattle.damon_control.specs.declared.grammar.Grammar.{Grammar}
-use Rattle.damon_control.specs.declared.grammar.Grammar.TheVariants.{OfScript, OfLive}
+use Rattle.damon_control.specs.declared.grammar.Grammar.TheVariants.{OfScript, OfLive, OfJournal}
 use Rattle.script_lines.specs.declared.setup.Frame.{Frame}
 use Rattle.script_lines.specs.Body.{no_commit, part_line, with_part}
 use Rattle.script_lines.specs.Command.{Commit}
-use Rattle.script_lines.specs.Head.{attrs_line, cap_line, range_line, scheme_line, seed_line, setup_said, target_line, unit_line}
+use Rattle.script_lines.specs.Head.{attrs_line, cap_line, range_line, seed_line, setup_said, target_line, unit_line}
 use Rattle.script_lines.specs.Laws.{GivesScheme, IsPart, may_come}
 use Rattle.damon_control.specs.Live.{CommitCall, LiveValue, live_begun}
 use Rattle.script_lines.specs.Blocks.{passes_line}
 use Rattle.damon_control.specs.LiveText.{IsLiveText}
 use Rattle.script_lines.specs.Refusal.{◌>>=◌}
-use Rattle.damon_control.specs.Script.{AtAttrs, AtCap, AtEnd, AtHeader, AtRanges, AtSchemes, AtSeed, AtTargets, AtUnit, InBody, InCommit, Place, Said, ScriptValue, Within, after_commit, after_ranges, after_schemes, after_setup, after_targets, after_within, live_of, opened, place_after, reads, script_of, version_in, version_said, with_commit}
+use Rattle.damon_control.specs.Script.{AtAttrs, AtCap, AtEnd, AtHeader, AtRanges, AtSchemes, AtSeed, AtTargets, AtUnit, HeadValue, InBody, InCommit, Place, Said, ScriptValue, Within, after_commit, after_ranges, after_schemes, after_setup, after_targets, after_within, head_of, live_of, opened, place_after, reads, scheme_line_in, script_of, version_in, version_said, with_commit}
+use Rattle.script_lines.specs.Lines.{lines_text}
 use Rattle.script_lines.specs.Spelling.{spelled_range, spelled_target}
 use Rattle.damon_control.specs.Text.{AreCommit, IsText, setup_lines}
 use Rattle.script_lines.specs.Words.{alone, begins_with}
 use Rattle.damon_control.proofs.Leads.{leads, read-Lead}
 use Rattle.damon_control.proofs.LineWords.{version_said-Ok}
+use Rattle.damon_control.proofs.OneSpelling.{IsSpelledFor, scheme_in-Ok, scheme_in-spelled}
 use Rattle.damon_control.proofs.SayBlocks.{in_blocks, more_call}
 use Rattle.damon_control.proofs.SayCommands.{in_body, more_command}
-use Rattle.damon_control.proofs.SayPlaces.{IsTextOf, SayCommit, SayRanges, SaySchemes, SayTargets, SayWithin, Says, TextLaws, both_ways, each_more, frame_lines, order-more, read_to, with_parts-more}
+use Rattle.damon_control.proofs.SayPlaces.{IsTextOf, SayCommit, SayRanges, SaySchemes, SayTargets, SayWithin, Says, SaysHead, TextLaws, both_ways, each_more, frame_lines, order-more, read_to, with_parts-more}
 use Rattle.damon_control.proofs.Steps.{bind-Ok, either_way}
 
 -- the lines of a commit, when its last line is there
@@ -46,6 +48,7 @@ committed : (g : Grammar) (lines : List (List ℕ)) (b : Within g) (commit : Com
 committed OfScript lines b commit next before e = more_command (lines ++ codes "apply" ∷ []) before.front b (group_of before.between) (Commit commit) next before.body (group_is OfScript lines b commit before) (inr (commit, refl, group_says OfScript lines b commit before)) e
 committed OfLive lines v commit next before e =
     more_call (lines ++ codes "apply" ∷ []) before.front v (group_of before.between) (CommitCall commit) next before.body before.begins (group_is OfLive lines v commit before) (group_says OfLive lines v commit before) e
+committed OfJournal lines none commit next before e = absurd none
 
 in_commit : (laws : TextLaws) (g : Grammar) (lines : List (List ℕ)) (b : Within g) (commit : CommitValue) (line : List ℕ) (next : Place g) → SayCommit g lines b commit → after_commit g b commit line ≡ Ok next
     → Says g (lines ++ line ∷ []) next
@@ -104,32 +107,42 @@ at_opening laws OfLive lines f targets specs slots line next before =
         calls = omega arith;
       };
     })
+at_opening laws OfJournal lines f targets specs slots line next before =
+    read_to (Says OfJournal (lines ++ line ∷ [])) (alone (codes "begin") line) (λ _. AtEnd (record { seed = f.seed; setup = setup_said f targets specs slots })) next (λ t read. record {
+      setup = before.others;
+      spelled = λ i. lines_text (before.spelled i ++ laws.lines.word (codes "begin") line read i ∷ []);
+      says_setup = before.says;
+      in_spelling = before.in_spelling;
+    })
 
 at_schemes : (laws : TextLaws) (g : Grammar) (lines : List (List ℕ)) (f : Frame) (targets : List Target) (specs : List RangeSpec) (slots : List SlotChange) (line : List ℕ) (next : Place g)
     → SaySchemes g lines f.seed (setup_said f targets specs slots) → after_schemes g f targets specs slots line ≡ Ok next → Says g (lines ++ line ∷ []) next
 at_schemes laws g lines f targets specs slots line next before e = either_way (begins_with (codes "scheme") line) _ _ _ at_scheme (at_opening laws g lines f targets specs slots line next before) e
   where
-    at_scheme : (scheme_line f.version slots line >>= λ change. Ok (AtSchemes f targets specs (slots ++ change ∷ []))) ≡ Ok next → Says g (lines ++ line ∷ []) next
-    at_scheme = read_to (Says g (lines ++ line ∷ [])) (scheme_line f.version slots line) (λ change. AtSchemes f targets specs (slots ++ change ∷ [])) next (λ change read. record {
-      others = before.others ++ line ∷ [];
-      spelled = ap (λ ls. ls ++ line ∷ []) before.spelled;
-      says = record {
-        specs = before.says.specs;
-        schemes = before.says.schemes ++ line ∷ [];
-        spelled =
-            ap (λ ls. ls ++ line ∷ []) before.says.spelled
-            ∙ append_assoc (setup_lines f.seed (setup_said f targets specs slots) before.says.specs) before.says.schemes (line ∷ []);
-        seed_fits = before.says.seed_fits;
-        limits = before.says.limits;
-        targets = before.says.targets;
-        ranges = before.says.ranges;
-        some_range = before.says.some_range;
-        few_ranges = before.says.few_ranges;
-        watched = before.says.watched;
-        slots = laws.slots f.version slots change before.says.slots ∙ laws.lines.within.scheme f.version slots line change read;
-        give = each_more (GivesScheme f.version) before.says.schemes slots line change before.says.give (laws.lines.scheme f.version slots line change read);
-      };
-    })
+    at_scheme : (scheme_line_in g f.version slots line >>= λ change. Ok (AtSchemes f targets specs (slots ++ change ∷ []))) ≡ Ok next → Says g (lines ++ line ∷ []) next
+    at_scheme = read_to (Says g (lines ++ line ∷ [])) (scheme_line_in g f.version slots line) (λ change. AtSchemes f targets specs (slots ++ change ∷ [])) next (λ change read.
+        let said = scheme_in-Ok g f.version slots line change read in
+        record {
+          others = before.others ++ line ∷ [];
+          spelled = ap (λ ls. ls ++ line ∷ []) before.spelled;
+          says = record {
+            specs = before.says.specs;
+            schemes = before.says.schemes ++ line ∷ [];
+            spelled =
+                ap (λ ls. ls ++ line ∷ []) before.says.spelled
+                ∙ append_assoc (setup_lines f.seed (setup_said f targets specs slots) before.says.specs) before.says.schemes (line ∷ []);
+            seed_fits = before.says.seed_fits;
+            limits = before.says.limits;
+            targets = before.says.targets;
+            ranges = before.says.ranges;
+            some_range = before.says.some_range;
+            few_ranges = before.says.few_ranges;
+            watched = before.says.watched;
+            slots = laws.slots f.version slots change before.says.slots ∙ laws.lines.within.scheme f.version slots line change said;
+            give = each_more (GivesScheme f.version) before.says.schemes slots line change before.says.give (laws.lines.scheme f.version slots line change said);
+          };
+          in_spelling = each_more (IsSpelledFor g) before.says.schemes slots line change before.in_spelling (scheme_in-spelled g f.version slots line change read);
+        })
 
 -- after its ranges a setup has no scheme yet
 ranges-SaySchemes : (g : Grammar) (lines : List (List ℕ)) (f : Frame) (targets : List Target) (specs : List RangeSpec) → SayRanges g lines f targets specs → 1 ≤ length specs
@@ -151,6 +164,7 @@ ranges-SaySchemes g lines f targets specs before some = record {
     slots = refl;
     give = tt;
   };
+  in_spelling = tt;
 }
 
 some_of : {A : Type 0} (begins : Bool) (xs : List A) → (begins || (length xs == 0)) ≡ false → 1 ≤ length xs
@@ -204,6 +218,7 @@ at_targets laws g lines f targets line next before e = both_ways (begins_with (c
 in_within : (laws : TextLaws) (g : Grammar) (lines : List (List ℕ)) (b : Within g) (line : List ℕ) (next : Place g) → SayWithin g lines b → after_within g b line ≡ Ok next → Says g (lines ++ line ∷ []) next
 in_within laws OfScript lines b line next before e = in_body laws lines b line next before e
 in_within laws OfLive lines v line next before e = in_blocks laws lines v line next before e
+in_within laws OfJournal lines none line next before e = absurd none
 
 -- one line more, and what it says
 line-Says : (laws : TextLaws) (g : Grammar) (lines : List (List ℕ)) (place : Place g) (line : List ℕ) (next : Place g) → Says g lines place → place_after g place line ≡ Ok next → Says g (lines ++ line ∷ []) next
@@ -255,3 +270,7 @@ script_of-IsText laws text s e = read-IsTextOf laws OfScript text s e
 -- a text that is read as a live script says it
 pub live_of-IsLiveText : TextLaws → (text : List ℕ) (v : LiveValue) → live_of text ≡ Ok v → IsLiveText text v
 live_of-IsLiveText laws text v e = read-IsTextOf laws OfLive text v e
+
+-- a text that is read as the head of a journal says it
+pub head_of-SaysHead : TextLaws → (text : List ℕ) (h : HeadValue) → head_of text ≡ Ok h → SaysHead text h
+head_of-SaysHead laws text h e = read-IsTextOf laws OfJournal text h e

@@ -83,6 +83,10 @@ checked-IsSpace ts ok =
       total = grind (arith, nat_tests, found.total);
     }
 
+-- and so is each of them
+pub each_accepted : (ts : List Target) → checked ts ≡ Ok tt → AllByRecursion IsTarget ts
+each_accepted ts ok = each_target 0 ts (targets_accepted ts ok).each
+
 each_before : (i : ℕ) (front back : List Target) → checked_targets_from i (front ++ back) ≡ Ok tt → checked_targets_from i front ≡ Ok tt
 each_before i [] back ok = refl
 each_before i (t ∷ front) back ok =
@@ -112,10 +116,10 @@ checked_before front back some ok =
 -- ---- ranges
 
 -- a range that is accepted
-record IsAccepted (ts : List Target) (unit : ℕ) (s : RangeSpec) : Type 0 where
-  placed : IsPlaced ts s
-  wide : unit ≤ page_count s
-  class : s.class ≤ 15
+pub record IsAccepted (ts : List Target) (unit : ℕ) (s : RangeSpec) : Type 0 where
+  pub placed : IsPlaced ts s
+  pub wide : unit ≤ page_count s
+  pub class : s.class ≤ 15
 
 accepted_in : (ts : List Target) (unit : ℕ) (before : Option RangeSpec) (s : RangeSpec) (found : Option Target) → slice_get ts s.target ≡ found → checked_within unit before s found ≡ Ok tt → IsAccepted ts unit s
 accepted_in ts unit before s None is ok = absurd cc
@@ -158,7 +162,7 @@ no_fault : (index : ℕ) (r : Result (Unit {0}) RangeWhy) (rest : Result (Unit {
 no_fault index (Ok t) rest ok = (refl, ok)
 no_fault index (Err why) rest ok = absurd cc
 
-each_range : (ts : List Target) (unit cap index : ℕ) (before : Option RangeSpec) (specs : List RangeSpec) → checked_ranges_from ts unit cap index before specs ≡ Ok tt → AllByRecursion (IsAccepted ts unit) specs
+pub each_range : (ts : List Target) (unit cap index : ℕ) (before : Option RangeSpec) (specs : List RangeSpec) → checked_ranges_from ts unit cap index before specs ≡ Ok tt → AllByRecursion (IsAccepted ts unit) specs
 each_range ts unit cap index before [] ok = tt
 each_range ts unit cap index before (s ∷ specs) ok =
     let both = no_fault index (checked_range ts unit cap index before s) _ ok in

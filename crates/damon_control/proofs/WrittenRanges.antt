@@ -17,7 +17,7 @@ use Rattle.damon_control.specs.Written.{spec_of}
 use Rattle.damon_control.proofs.SpaceLimits.{base_of_there, offset-next, offset-suc}
 
 -- the place of a page of target j, the first target of which is numbered i
-place_there : (i : ℕ) (ts : List Target) (j page : ℕ) (t : Target) → slice_get ts j ≡ Some t → offset ts j ≤ page → page < offset ts j + t.pages
+pub place_there : (i : ℕ) (ts : List Target) (j page : ℕ) (t : Target) → slice_get ts j ≡ Some t → offset ts j ≤ page → page < offset ts j + t.pages
     → place_from i ts page ≡ record { target = i + j; addr = t.base + 4096 * (page - offset ts j) }
 place_there i [] j page t is from to = absurd cc
 place_there i (u ∷ us) zero page t is from to =

@@ -1,5 +1,5 @@
 -- How the commands of a script are stored. No public clause cites this file.
-use Rattle.std.specs.Prelude.{◌≡◌, ℕ, ◌<◌, List, length, map, option_map, slice_get, unwrap_or}
+use Rattle.std.specs.Prelude.{◌≡◌, ℕ, ◌<◌, ◌≤◌, List, length, map, option_map, slice_get, unwrap_or}
 use Rattle.std.specs.Global.{Box}
 use Rattle.live_commit.specs.declared.commit.Commit.{Commit}
 use Rattle.live_commit.specs.Commit.{CommitValue, commit_value}
@@ -28,3 +28,8 @@ NamesCommit commits _ = Unit {0}
 -- an entry with a commit that was there says the same as before
 abbrev pub StaysSame : List (Box Commit) → List (Box Commit) → Type 0
 StaysSame old new = (entry : Command ℕ) → NamesCommit old entry → NamesCommit new entry × (entry_value new entry ≡ entry_value old entry)
+
+-- the commit of a command, if it has one, fits into this many places
+abbrev pub FitsIn : ℕ → Command (Box Commit) → Type 0
+FitsIn places (CommitEntry commit) = 1 ≤ places
+FitsIn places _ = Unit {0}

@@ -12,3 +12,5 @@ pub mod LineLaws
 pub mod Sound
 pub mod Written
 pub mod WriteBack
+pub mod JournalHead
+pub mod CommitLines

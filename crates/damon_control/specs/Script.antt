@@ -10,9 +10,9 @@ use Rattle.live_commit.specs.Setup.{SetupValue}
 use Rattle.line_text.specs.Parts.{parts}
 use Rattle.damon_control.specs.declared.fault.ScriptFault.{ScriptFault}
 use Rattle.script_lines.specs.declared.kind.ScriptKind.{ScriptKind}
-use Rattle.script_lines.specs.declared.kind.ScriptKind.TheVariants.{After, Cut, Header, TooMuch}
+use Rattle.script_lines.specs.declared.kind.ScriptKind.TheVariants.{After, Cut, Form, Header, TooMuch}
 use Rattle.damon_control.specs.declared.grammar.Grammar.{Grammar}
-use Rattle.damon_control.specs.declared.grammar.Grammar.TheVariants.{OfScript, OfLive}
+use Rattle.damon_control.specs.declared.grammar.Grammar.TheVariants.{OfScript, OfLive, OfJournal}
 use Rattle.script_lines.specs.declared.setup.Frame.{Frame}
 use Rattle.damon_control.specs.declared.script.TheConstants.{MAX_WORK}
 use Rattle.script_lines.specs.Body.{command_line, no_commit, part_line, with_part}
@@ -22,6 +22,7 @@ use Rattle.damon_control.specs.Live.{CommitCall, LiveValue, controller_line, has
 use Rattle.script_lines.specs.Blocks.{passes_line}
 use Rattle.script_lines.specs.Refusal.{◌>>=◌, only_if}
 use Rattle.script_lines.specs.Words.{alone, begins_with, same_word}
+use Rattle.script_lines.specs.WrittenLine.{change_text}
 
 -- what a script says
 pub record ScriptValue : Type 0 where
@@ -34,15 +35,22 @@ pub record Body : Type 0 where
   pub said : ScriptValue
   pub work : ℕ
 
+-- what the head of a journal says
+pub record HeadValue : Type 0 where
+  pub seed : ℕ
+  pub setup : SetupValue
+
 -- what a text of each grammar says
 abbrev pub Said : Grammar → Type 0
 Said OfScript = ScriptValue
 Said OfLive = LiveValue
+Said OfJournal = HeadValue
 
--- what the lines of a body have said so far
+-- what the lines of a body have said so far; the head of a journal has no body
 abbrev pub Within : Grammar → Type 0
 Within OfScript = Body
 Within OfLive = LiveValue
+Within OfJournal = ⊥
 
 -- a place between two lines: what the lines before it have said, and so what the next may say
 pub data Place (g : Grammar) : Type 0 where
@@ -78,6 +86,8 @@ header_of OfScript One = codes "damon script 1"
 header_of OfScript Two = codes "damon script 2"
 header_of OfLive One = codes "damon live 1"
 header_of OfLive Two = codes "damon live 2"
+header_of OfJournal One = codes "damon journal 1"
+header_of OfJournal Two = codes "damon journal 2"
 
 -- the version that a first line says
 abbrev pub version_said : Grammar → List ℕ → Result Version ScriptKind
@@ -90,16 +100,23 @@ version_said g line =
 abbrev pub version_in : (g : Grammar) → Within g → Version
 version_in OfScript b = b.said.setup.version
 version_in OfLive v = v.setup.version
+version_in OfJournal none = absurd none
 
--- the place after the line that opens the body: `begin`, or `passes N` in a live script
+-- the place after the line that opens the body: `begin`, or `passes N` in a live script. The head of a journal ends with `begin`.
 abbrev pub after_setup : (g : Grammar) → Frame → List Target → List RangeSpec → List SlotChange → List ℕ → Result (Place g) ScriptKind
 after_setup OfScript f targets ranges slots line = alone (codes "begin") line >>= λ _. Ok (InBody (opened f targets ranges slots))
 after_setup OfLive f targets ranges slots line = passes_line line >>= λ passes. Ok (InBody (live_begun f.seed (setup_said f targets ranges slots) passes))
+after_setup OfJournal f targets ranges slots line = alone (codes "begin") line >>= λ _. Ok (AtEnd (record { seed = f.seed; setup = setup_said f targets ranges slots }))
+
+-- the change that a line of schemes says; in a journal the line is the one that is written of it
+abbrev pub scheme_line_in : Grammar → Version → List SlotChange → List ℕ → Result SlotChange ScriptKind
+scheme_line_in OfJournal version slots line = scheme_line version slots line >>= λ change. only_if (same_word line (change_text change)) Form change
+scheme_line_in _ version slots line = scheme_line version slots line
 
 -- the place after a line of schemes, or after the one that opens the body
 abbrev pub after_schemes : (g : Grammar) → Frame → List Target → List RangeSpec → List SlotChange → List ℕ → Result (Place g) ScriptKind
 after_schemes g f targets ranges slots line =
-    if begins_with (codes "scheme") line then (scheme_line f.version slots line >>= λ change. Ok (AtSchemes f targets ranges (slots ++ change ∷ [])))
+    if begins_with (codes "scheme") line then (scheme_line_in g f.version slots line >>= λ change. Ok (AtSchemes f targets ranges (slots ++ change ∷ [])))
     else after_setup g f targets ranges slots line
 
 -- the place after a line of ranges, of which there is at least one, or after the first line that follows them
@@ -141,11 +158,13 @@ after_live v line =
 abbrev pub after_within : (g : Grammar) → Within g → List ℕ → Result (Place g) ScriptKind
 after_within OfScript b line = after_body b line
 after_within OfLive v line = after_live v line
+after_within OfJournal none line = absurd none
 
 -- the place after the last line of a commit
 abbrev pub with_commit : (g : Grammar) → Within g → CommitValue → Result (Place g) ScriptKind
 with_commit OfScript b commit = with_command b (Commit commit)
 with_commit OfLive v commit = live_within (with_call v (CommitCall commit))
+with_commit OfJournal none commit = absurd none
 
 -- the place after a line of a commit
 abbrev pub after_commit : (g : Grammar) → Within g → CommitValue → List ℕ → Result (Place g) ScriptKind
@@ -192,3 +211,7 @@ script_of text = reads OfScript 1 AtHeader (parts 10 text)
 -- the live script that a text says, or its first rejected line and the kind of its fault
 abbrev pub live_of : List ℕ → Result LiveValue ScriptFault
 live_of text = reads OfLive 1 AtHeader (parts 10 text)
+
+-- the head of a journal that a text says, or its first rejected line and the kind of its fault
+abbrev pub head_of : List ℕ → Result HeadValue ScriptFault
+head_of text = reads OfJournal 1 AtHeader (parts 10 text)

@@ -9,7 +9,7 @@ use Rattle.line_text.specs.Parts.{parts}
 use Rattle.live_commit.specs.Commit.{CommitValue}
 use Rattle.live_commit.specs.Setup.{IsSetup, SetupValue}
 use Rattle.damon_control.specs.declared.grammar.Grammar.{Grammar}
-use Rattle.damon_control.specs.declared.grammar.Grammar.TheVariants.{OfScript, OfLive}
+use Rattle.damon_control.specs.declared.grammar.Grammar.TheVariants.{OfScript, OfLive, OfJournal}
 use Rattle.script_lines.specs.declared.blocks.TheConstants.{MAX_PASSES}
 use Rattle.script_lines.specs.Fits.{FitsAttrs, FitsChange, FitsCost, FitsRange}
 use Rattle.script_lines.specs.Refusal.{◌>>=◌}
@@ -62,6 +62,7 @@ LiveSetupsAreReadBack =
 abbrev pub MayCommit : (g : Grammar) → Within g → Type 0
 MayCommit OfScript b = Unit {0}
 MayCommit OfLive v = has_controller v ≡ true
+MayCommit OfJournal none = ⊥
 
 -- the text of a commit between `commit` and `apply`, from line n of a body on, is read as that commit
 abbrev pub CommitsAreReadBack : Type 0

@@ -36,13 +36,13 @@ pub fn read_body(alloc: Global, lines: &mut Lines, setup: &Setup) -> Result<Comm
     requires { IsShort lines.old }
     ensures ok { IfOk result (λ commands. (seed : ℕ) →
         MovesTo of_script (InBody (begun seed (value_of setup.now))) lines.old
-        (AtEnd (script_at seed (value_of setup.now) commands)) lines.new) }
+        (AtEnd (script_at seed (value_of setup.now) commands.list)) lines.new) }
     ensures fault { (seed : ℕ) →
         FaultOf result (reads_left of_script (InBody (begun seed (value_of setup.now))) lines.old) }
     ensures within { IfOk result (λ commands.
-        AreCommandsWithin (pages_of setup.now.space) commands) }
+        AreCommandsWithin (pages_of setup.now.space) commands.list) }
     ensures work { IfOk result (λ commands.
-        work_of setup.now.cap commands ≤ MAX_WORK) }
+        work_of setup.now.cap commands.list ≤ MAX_WORK) }
     ensures small { IsShort lines.new }
 {
     let mut commands = Commands::new(alloc);
@@ -63,25 +63,25 @@ fn take_command(
     work: u64,
 ) -> Result<Option<u64>, ReadFail>
     requires small { IsShort lines.old }
-    requires few { length commands.old ≤ lines.old.taken }
+    requires few { length commands.old.list ≤ lines.old.taken }
     requires most { work ≤ MAX_WORK }
     ensures more { IfOk result (λ answer. IfSome answer (λ sum. (seed : ℕ) →
-        MovesTo of_script (InBody (body_at seed (value_of setup.now) commands.old work)) lines.old
-        (InBody (body_at seed (value_of setup.now) commands.new sum)) lines.new)) }
+        MovesTo of_script (InBody (body_at seed (value_of setup.now) commands.old.list work)) lines.old
+        (InBody (body_at seed (value_of setup.now) commands.new.list sum)) lines.new)) }
     ensures end { IfOk result (λ answer. answer ≡ None → (seed : ℕ) →
-        MovesTo of_script (InBody (body_at seed (value_of setup.now) commands.old work)) lines.old
-        (AtEnd (script_at seed (value_of setup.now) commands.new)) lines.new) }
+        MovesTo of_script (InBody (body_at seed (value_of setup.now) commands.old.list work)) lines.old
+        (AtEnd (script_at seed (value_of setup.now) commands.new.list)) lines.new) }
     ensures fault { (seed : ℕ) →
-        let body = body_at seed (value_of setup.now) commands.old work in
+        let body = body_at seed (value_of setup.now) commands.old.list work in
         FaultOf result (reads_left of_script (InBody body) lines.old) }
     ensures sum { IfOk result (λ answer. IfSome answer (λ sum.
-        sum + work_of setup.now.cap commands.old
-        ≡ work + work_of setup.now.cap commands.new)) }
+        sum + work_of setup.now.cap commands.old.list
+        ≡ work + work_of setup.now.cap commands.new.list)) }
     ensures same { IfOk result (λ answer.
         answer ≡ None → commands.new ≡ commands.old) }
-    ensures within { OnOk result (AreCommandsWithin (pages_of setup.now.space) commands.old
-        → AreCommandsWithin (pages_of setup.now.space) commands.new) }
-    ensures few { OnOk result (length commands.new ≤ lines.new.taken) }
+    ensures within { OnOk result (AreCommandsWithin (pages_of setup.now.space) commands.old.list
+        → AreCommandsWithin (pages_of setup.now.space) commands.new.list) }
+    ensures few { OnOk result (length commands.new.list ≤ lines.new.taken) }
     ensures most { IfOk result (λ answer. IfSome answer (λ sum. sum ≤ MAX_WORK)) }
     ensures small { IsShort lines.new }
     ensures shorter { OnOk result (length lines.new.rest.now < length lines.old.rest.now) }

@@ -1,6 +1,6 @@
 ghost use Rattle.std.specs.Prelude.{◌≡◌, ◌≤◌, ◌<◌, ◌+◌, ◌-◌, ◌^◌, IfOk, IfSome, OnOk, Ok, Err, Some, None, option_map, length, Result};
 ghost use Rattle.live_commit.specs.Commit.{commit_value};
-ghost use Rattle.script_lines.specs.Body.{no_commit, with_range};
+ghost use Rattle.script_lines.specs.Body.{no_commit, with_part, with_range};
 ghost use Rattle.damon_control.specs.declared.grammar.Grammar.{Grammar as grammar};
 ghost use Rattle.damon_control.specs.Left.{FaultOf, IsShort, reads_commit, reads_left};
 ghost use Rattle.damon_control.specs.Script.{InCommit, Within, version_in};
@@ -37,14 +37,25 @@ pub fn read_commit(alloc: Global, lines: &mut Lines, version: Version) -> Result
             lines.refuse(alone(b"apply", line))?;
             return Ok(commit);
         }
-        match lines.refuse(read_part(version, &commit, line))? {
-            Part::Attrs(attrs) => commit.attrs = Some(attrs),
-            Part::Range(range) => add_range(alloc, &mut commit.ranges, range)?,
-            Part::Slot(change) => commit.slot = Some(change),
-            Part::Metric(value) => commit.metric = Some(value),
-            Part::Cost(cost) => commit.cost = Some(cost),
-        }
+        let part = lines.refuse(read_part(version, &commit, line))?;
+        add_part(alloc, &mut commit, part)?;
     }
+}
+
+/// Adds a part to those of a commit: new ranges come after those that are there, and any other part
+/// takes the place of the one that is there. When out of memory, nothing is added.
+pub fn add_part(alloc: Global, commit: &mut Commit, part: Part) -> Result<(), AllocError>
+    requires { IfSome commit.old.ranges (λ l. length l.list < 2 ^ 32 - 1) }
+    ensures ok { OnOk result (commit_value commit.new ≡ with_part (commit_value commit.old) part) }
+{
+    match part {
+        Part::Range(range) => return add_range(alloc, &mut commit.ranges, range),
+        Part::Attrs(attrs) => commit.attrs = Some(attrs),
+        Part::Slot(change) => commit.slot = Some(change),
+        Part::Metric(value) => commit.metric = Some(value),
+        Part::Cost(cost) => commit.cost = Some(cost),
+    }
+    Ok(())
 }
 
 // Adds a range to those of a commit.

@@ -3,24 +3,27 @@ ghost use Rattle.damon_types.specs.Space.{checked};
 ghost use Rattle.target_ranges.specs.Checked.{checked_ranges};
 ghost use Rattle.script_lines.specs.declared.setup.Frame.{Frame as frame};
 ghost use Rattle.live_commit.specs.Checked.{checked_cap, checked_unit};
-ghost use Rattle.live_commit.specs.Slots.{checked_slots, kept_slots};
+ghost use Rattle.live_commit.specs.Slots.{checked_slot, checked_slots, has_scheme, kept_slots};
 ghost use Rattle.script_lines.specs.Limits.{AreLimits};
 ghost use Rattle.damon_control.specs.Left.{FaultOf, IsShort, IsWanted, MovesTo, first_begins, reads_left};
-ghost use Rattle.damon_control.specs.Script.{AtAttrs, AtHeader, AtRanges, AtSchemes, AtTargets, header_of, version_said};
+ghost use Rattle.damon_control.specs.Script.{AtAttrs, AtHeader, AtRanges, AtSchemes, AtTargets, header_of, scheme_line_in, version_said};
 ghost use Rattle.damon_control.specs.declared.grammar.Grammar.{Grammar as grammar};
 ghost use Rattle.script_lines.specs.Refusal.{only_if};
 ghost use Rattle.script_lines.specs.declared.kind.ScriptKind.TheVariants.{Limit};
+ghost use Rattle.script_lines.specs.Words.{same_word};
+ghost use Rattle.script_lines.specs.WrittenLine.{change_text};
+ghost use Rattle.damon_control.specs.declared.grammar.Grammar.TheVariants.{OfJournal as of_journal};
 
 use crate::grammar::Grammar;
 use crate::lines::Lines;
 use crate::{MAX_BYTES, ReadFail, ScriptFault};
-use damon_types::{RangeSpecs, SlotChanges, Space, Target, Version};
+use damon_types::{RangeSpecs, SlotChange, SlotChanges, Space, Target, Version};
 use live_commit::{MAX_CAP, slots_are_checked_in_turn};
 use script_lines::{
     Frame, ScriptKind, read_attrs_line, read_cap, read_range_line, read_scheme_line, read_seed,
-    read_target_line, read_unit, same_word,
+    read_target_line, read_unit, same_word, write_change_line,
 };
-use std::alloc::Global;
+use std::alloc::{AllocError, Global};
 use target_ranges::{accepted_has_room, next_decides};
 
 // Reads the lines before the targets.
@@ -181,16 +184,17 @@ fn take_range(
 pub fn read_slots(
     alloc: Global,
     lines: &mut Lines,
+    form: Grammar,
     frame: &Frame,
     space: &Space,
     specs: &RangeSpecs,
 ) -> Result<SlotChanges, ReadFail>
     requires small { IsShort lines.old }
-    ensures ok { IfOk result (λ slots. (g : grammar) →
-        MovesTo g (AtSchemes frame.now space.now specs.now.list []) lines.old
+    ensures ok { IfOk result (λ slots.
+        MovesTo form (AtSchemes frame.now space.now specs.now.list []) lines.old
         (AtSchemes frame.now space.now specs.now.list slots.list) lines.new) }
-    ensures fault { (g : grammar) →
-        FaultOf result (reads_left g (AtSchemes frame.now space.now specs.now.list []) lines.old) }
+    ensures fault { FaultOf result
+        (reads_left form (AtSchemes frame.now space.now specs.now.list []) lines.old) }
     ensures all { OnOk result (first_begins (codes "scheme") lines.new.rest.now ≡ false) }
     ensures sound { IfOk result (λ slots. checked_slots frame.now.version slots.list ≡ Ok tt) }
     ensures set { IfOk result (λ slots. kept_slots slots.list ≡ slots.list) }
@@ -201,10 +205,67 @@ pub fn read_slots(
     let mut slots = SlotChanges::new(alloc);
     'schemes: while lines.next_is(b"scheme") {
         let line = lines.take_line()?;
-        let change = lines.refuse(read_scheme_line(frame.version, slots.as_slice(), line))?;
+        let said = read_change(alloc, form, frame.version, slots.as_slice(), line)?;
+        let change = lines.refuse(said)?;
         slots.push(change)?;
     }
     Ok(slots)
+}
+
+// Reads a line of schemes. In a journal the line is compared with its one spelling.
+fn read_change(
+    alloc: Global,
+    form: Grammar,
+    version: Version,
+    before: &[SlotChange],
+    line: &[u8],
+) -> Result<Result<SlotChange, ScriptKind>, AllocError>
+    ensures exact { IfOk result (λ said. said ≡ scheme_line_in form version before.now line.now) }
+    ensures accepted { IfOk result (λ said.
+        IfOk said (λ c. checked_slot version (length before.now) before.now c ≡ Ok tt)) }
+    ensures set { IfOk result (λ said. IfOk said (λ c. has_scheme c ≡ true)) }
+{
+    match form {
+        Grammar::OfScript | Grammar::OfLive => Ok(read_scheme_line(version, before, line)),
+        Grammar::OfJournal => read_spelled(alloc, version, before, line),
+    }
+}
+
+// Reads a line of schemes that is in its one spelling.
+fn read_spelled(
+    alloc: Global,
+    version: Version,
+    before: &[SlotChange],
+    line: &[u8],
+) -> Result<Result<SlotChange, ScriptKind>, AllocError>
+    ensures exact { IfOk result (λ said.
+        said ≡ scheme_line_in of_journal version before.now line.now) }
+    ensures accepted { IfOk result (λ said.
+        IfOk said (λ c. checked_slot version (length before.now) before.now c ≡ Ok tt)) }
+    ensures set { IfOk result (λ said. IfOk said (λ c. has_scheme c ≡ true)) }
+{
+    match read_scheme_line(version, before, line) {
+        Ok(change) => {
+            let spelling = spell(alloc, &change)?;
+            if same_word(line, &spelling) {
+                Ok(Ok(change))
+            } else {
+                Ok(Err(ScriptKind::Form))
+            }
+        }
+        Err(kind) => Ok(Err(kind)),
+    }
+}
+
+// The line that is written of a slot change.
+fn spell(alloc: Global, change: &SlotChange) -> Result<Vec<u8>, AllocError>
+    ensures { IfOk result (λ text. text.items ≡ change_text change.now) }
+{
+    let mut text = Vec::new(alloc);
+    write_change_line(&mut text, change)?;
+    // Its LF is not part of the line.
+    text.pop();
+    Ok(text)
 }
 
 // Reads the first line.
@@ -221,7 +282,7 @@ fn read_header(line: &[u8], form: Grammar) -> Result<Version, ScriptKind>
 }
 
 // The first line of a text of this version.
-fn header_of(form: Grammar, version: Version) -> &'static [u8]
+pub fn header_of(form: Grammar, version: Version) -> &'static [u8]
     ensures { result.now ≡ header_of form version }
 {
     match (form, version) {
@@ -229,5 +290,7 @@ fn header_of(form: Grammar, version: Version) -> &'static [u8]
         (Grammar::OfScript, Version::Two) => b"damon script 2",
         (Grammar::OfLive, Version::One) => b"damon live 1",
         (Grammar::OfLive, Version::Two) => b"damon live 2",
+        (Grammar::OfJournal, Version::One) => b"damon journal 1",
+        (Grammar::OfJournal, Version::Two) => b"damon journal 2",
     }
 }

@@ -1,8 +1,10 @@
 // Laws of the definitions that the contracts cite: a text is read as a script exactly where it says that
 // script. These functions do nothing.
+ghost use Rattle.damon_control.specs.CommitLines.{ReadsPartsBack, WritesPartsInTurn};
+ghost use Rattle.damon_control.specs.JournalHead.{ReadsHeadsBack, ReadsOnlyHeads};
 ghost use Rattle.damon_control.specs.LineLaws.{LineLaws};
 ghost use Rattle.damon_control.specs.LiveText.{LiveTextsAreRead};
-ghost use Rattle.damon_control.specs.Sound.{ScriptsAreSound};
+ghost use Rattle.damon_control.specs.Sound.{LiveScriptsAreSound, ScriptsAreSound};
 ghost use Rattle.damon_control.specs.Text.{TextsAreRead};
 ghost use Rattle.damon_control.specs.WriteBack.{CommitsAreReadBack, LiveSetupsAreReadBack, SetupsAreReadBack};
 
@@ -62,6 +64,15 @@ pub fn scripts_are_sound()
     pages_rise();
 }
 
+/// A live script that a text is read as is within its limits: those of a setup, whose ranges are in
+/// order, of its passes, workers and controllers; and each of its commits can be spelled.
+pub fn live_scripts_are_sound()
+    ensures sound { LiveScriptsAreSound }
+{
+    live_texts_are_exactly_read();
+    made_in_order();
+}
+
 /// What [`write_setup`](crate::write_setup) appends, in its place after the first line of a text of the
 /// setup's version, is read as the same seed and setup: in a script before `begin`, in a live script
 /// before `passes`. What follows is read as the body.
@@ -85,4 +96,28 @@ pub fn commits_are_read_back()
     written_changes_are_read_back();
     next_decides();
     fault_stays();
+}
+
+/// A text is read as the head of a journal exactly where it is the one spelling of a seed and a
+/// setup within their types: the first line with the version, the lines of the setup as they are
+/// written, and `begin`.
+pub fn journal_heads_are_exactly_read()
+    ensures spelled { ReadsOnlyHeads }
+    ensures back { ReadsHeadsBack }
+{
+    lines_have_laws();
+    written_changes_are_read_back();
+    next_decides();
+    fault_stays();
+    slots_are_checked_in_turn();
+}
+
+/// The lines of a commit are those of its parts: a part that may come after the others is one line
+/// more, and each line that is written is read as its part, in order.
+pub fn commits_are_read_in_parts()
+    ensures turn { WritesPartsInTurn }
+    ensures back { ReadsPartsBack }
+{
+    lines_have_laws();
+    written_changes_are_read_back();
 }

@@ -14,6 +14,8 @@ mod fault;
 mod grammar;
 /// The lines of a setup.
 mod head;
+/// The head of a journal.
+mod journal_head;
 /// Laws: a text is read exactly where it says a script.
 mod laws;
 /// A text, line by line.
@@ -32,9 +34,12 @@ mod script;
 mod spelling;
 
 pub use commands::Commands;
+pub use commit::add_part;
 pub use fault::{ReadFail, ScriptFault};
+pub use journal_head::{JournalHead, read_journal_head, write_journal_head};
 pub use laws::{
-    commits_are_read_back, live_texts_are_exactly_read, scripts_are_sound, setups_are_read_back,
+    commits_are_read_back, commits_are_read_in_parts, journal_heads_are_exactly_read,
+    live_scripts_are_sound, live_texts_are_exactly_read, scripts_are_sound, setups_are_read_back,
     texts_are_exactly_read,
 };
 pub use live::{
@@ -47,4 +52,4 @@ pub use script_lines::{
     Command, MAX_PASSES, MAX_STEPS, MAX_TOUCHES, ScriptKind, body_lines_are_spelled,
     fields_are_spelled, schemes_are_spelled, setup_lines_are_spelled, spelled_lines_are_read,
 };
-pub use spelling::{write_commit, write_setup};
+pub use spelling::{write_commit, write_part, write_setup};

@@ -31,10 +31,10 @@ use std::alloc::{AllocError, Global};
 /// first line that is rejected and the first kind that applies to it. By the law
 /// [`live_texts_are_exactly_read`](crate::live_texts_are_exactly_read) a text is a live script exactly
 /// where it says one, line by line. Allocates; returns `Memory` only if out of memory.
-pub fn read_live(alloc: Global, text: &[u8]) -> Result<LiveScript, ReadFail>
-    requires { length text.now ≤ MAX_BYTES }
-    ensures script { IfOk result (λ s. live_of text.now ≡ Ok (live_said s)) }
-    ensures fault { FaultOf result (live_of text.now) }
+pub fn read_live(alloc: Global, bytes: &[u8]) -> Result<LiveScript, ReadFail>
+    requires { length bytes.now ≤ MAX_BYTES }
+    ensures script { IfOk result (λ s. live_of bytes.now ≡ Ok (live_said s)) }
+    ensures fault { FaultOf result (live_of bytes.now) }
     ensures some_pass { IfOk result (λ s. 1 ≤ s.passes) }
     ensures passes { IfOk result (λ s. s.passes ≤ MAX_PASSES) }
     ensures workers { IfOk result (λ s. length s.workers.list ≤ MAX_WORKERS) }
@@ -44,7 +44,7 @@ pub fn read_live(alloc: Global, text: &[u8]) -> Result<LiveScript, ReadFail>
     ensures pages { IfOk result (λ s.
         All (λ t. All (λ p. p < pages_of s.setup.space) t.list) s.workers.list) }
 {
-    let mut lines = Lines::new(text);
+    let mut lines = Lines::new(bytes);
     let Opening {
         seed,
         setup,

@@ -36,16 +36,16 @@ pub const MAX_BYTES: usize = 16_777_216;
 ///
 /// [`texts_are_exactly_read`]: crate::texts_are_exactly_read
 /// [`scripts_are_sound`]: crate::scripts_are_sound
-pub fn read_script(alloc: Global, text: &[u8]) -> Result<Script, ReadFail>
-    requires { length text.now ≤ MAX_BYTES }
-    ensures script { IfOk result (λ s. script_of text.now ≡ Ok (said_by s)) }
-    ensures fault { FaultOf result (script_of text.now) }
+pub fn read_script(alloc: Global, bytes: &[u8]) -> Result<Script, ReadFail>
+    requires { length bytes.now ≤ MAX_BYTES }
+    ensures script { IfOk result (λ s. script_of bytes.now ≡ Ok (said_by s)) }
+    ensures fault { FaultOf result (script_of bytes.now) }
     ensures within { IfOk result (λ s.
-        AreCommandsWithin (pages_of s.setup.space) s.commands) }
+        AreCommandsWithin (pages_of s.setup.space) s.commands.list) }
     ensures work { IfOk result (λ s.
-        work_of s.setup.cap s.commands ≤ MAX_WORK) }
+        work_of s.setup.cap s.commands.list ≤ MAX_WORK) }
 {
-    let mut lines = Lines::new(text);
+    let mut lines = Lines::new(bytes);
     let Opening { seed, setup } = read_opening(alloc, &mut lines)?;
     let commands = read_body(alloc, &mut lines, &setup)?;
     lines.end()?;
@@ -86,7 +86,7 @@ pub fn read_head(alloc: Global, lines: &mut Lines, form: Grammar) -> Result<Head
     let targets = read_targets(alloc, lines, &frame)?;
     let space = make_space(alloc, &targets)?;
     let specs = read_ranges(alloc, lines, &frame, &space)?;
-    let slots = read_slots(alloc, lines, &frame, &space, &specs)?;
+    let slots = read_slots(alloc, lines, form, &frame, &space, &specs)?;
     Ok(Head {
         frame,
         space,

@@ -18,7 +18,7 @@ use damon_types::{
 };
 use live_commit::{Commit, Setup};
 use script_lines::{
-    write_attrs, write_change_line, write_cost, write_number_line, write_range, write_target,
+    Part, write_attrs, write_change_line, write_cost, write_number_line, write_range, write_target,
 };
 use std::alloc::{AllocError, Global};
 
@@ -66,6 +66,23 @@ pub fn write_commit(
     whole_or_nothing(out, before, written)
 }
 
+/// Appends the line of one part of a commit, with its LF. When out of memory, a prefix was
+/// appended.
+#[tactic(auto, using(crate::proofs::Appending::appends))]
+pub fn write_part(alloc: Global, out: &mut Vec<u8>, part: &Part) -> Result<(), AllocError>
+    ensures ok { OnOk result (out.new.items
+        ≡ out.old.items ++ lines_text (part_text part.now ∷ [])) }
+    ensures kept { KeepsFront out.old.items out.new.items }
+{
+    match part {
+        Part::Attrs(attrs) => write_attrs(out, attrs),
+        Part::Range(range) => write_range(out, range),
+        Part::Slot(change) => write_change_line(out, change),
+        Part::Metric(value) => write_number_line(out, b"metric ", u64::from(*value)),
+        Part::Cost(cost) => write_cost(out, cost),
+    }
+}
+
 // Removes what was appended after the first `before` bytes if writing failed.
 fn whole_or_nothing(
     out: &mut Vec<u8>,
@@ -83,7 +100,7 @@ fn whole_or_nothing(
 }
 
 // Appends the lines of a seed and a setup.
-fn write_setup_lines(out: &mut Vec<u8>, seed: u64, setup: &Setup) -> Result<(), AllocError>
+pub fn write_setup_lines(out: &mut Vec<u8>, seed: u64, setup: &Setup) -> Result<(), AllocError>
     ensures ok { OnOk result (out.new.items ≡ out.old.items ++ setup_text seed (value_of setup.now)) }
     ensures kept { KeepsFront out.old.items out.new.items }
 {

@@ -11,4 +11,4 @@ mod player;
 mod random;
 
 pub use laws::{each_choice_is_best, each_script_is_bound, passes_reach_their_phase};
-pub use player::{Filled, PIECE, Player, open_player, play_to_end};
+pub use player::{Filled, Player, open_player, play_to_end};

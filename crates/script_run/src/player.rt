@@ -30,9 +30,7 @@ use rand_pcg::Lcg64Xsh32;
 use snapshot_print::{Form, print_aggregate, print_commit, print_end, print_show};
 use std::alloc::{AllocError, Global};
 use std::marker::Model;
-
-/// The bytes that are made, read or handed over at once: 64 KiB.
-pub const PIECE: usize = 65_536;
+use text_io::PIECE;
 
 /// Where [`Player::fill`] stopped.
 #[derive(Clone, Copy, Debug, PartialEq, Eq)]
@@ -69,12 +67,12 @@ impl<R: Rng> Model for Player<R> {
       world = p.world;
       form = p.form;
       part = part_value p.part;
-      later = parts_of p.cap (drop p.begun p.commands);
+      later = parts_of p.cap (drop p.begun p.commands.list);
     } };
 
     ghost invariant = { λ p.
         IsPlayer p.world
-        (part_value p.part ∷ parts_of p.cap (drop p.begun p.commands)) };
+        (part_value p.part ∷ parts_of p.cap (drop p.begun p.commands.list)) };
 }
 
 impl<R: Rng + Drop> Player<R> {
@@ -331,8 +329,8 @@ pub fn open_player(
     script: Script,
     form: Form,
 ) -> Result<Player<Lcg64Xsh32>, AllocError>
-    requires within { AreCommandsWithin (pages_of script.setup.space) script.commands }
-    requires work { work_of script.setup.cap script.commands ≤ MAX_WORK }
+    requires within { AreCommandsWithin (pages_of script.setup.space) script.commands.list }
+    requires work { work_of script.setup.cap script.commands.list ≤ MAX_WORK }
     ensures { IfOk result (λ p.
         IsOnItsWay (stream_of (steps_u32 pcg32)) (said_by script) form p []) }
 {
@@ -356,8 +354,8 @@ pub fn open_player(
 /// A player after the last event of a script, whose text is not kept. The pages of the commands are pages
 /// of the script's space, and their work is at most [`MAX_WORK`]. Takes memory.
 pub fn play_to_end(alloc: Global, script: Script) -> Result<Player<Lcg64Xsh32>, AllocError>
-    requires within { AreCommandsWithin (pages_of script.setup.space) script.commands }
-    requires work { work_of script.setup.cap script.commands ≤ MAX_WORK }
+    requires within { AreCommandsWithin (pages_of script.setup.space) script.commands.list }
+    requires work { work_of script.setup.cap script.commands.list ≤ MAX_WORK }
     ensures { IfOk result (λ p. Stands p.world.monitor (last_state (said_by script))) }
 {
     let mut player = open_player(alloc, script, Form::Text)?;

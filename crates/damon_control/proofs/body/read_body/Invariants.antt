@@ -13,10 +13,10 @@ use Rattle.damon_control.proofs.body.read_body.Given as goal
 abbrev pub invariant-lines : goal.invariant-lines
 invariant-lines l = record {
   said : (seed : ℕ) → reads_left OfScript (InBody (begun seed (value_of l.setup))) l.fn.lines
-      ≡ reads_left OfScript (InBody (body_at seed (value_of l.setup) l.commands l.work)) l.lines;
-  within : AreCommandsWithin (pages_of l.setup.space) l.commands;
-  few : length l.commands ≤ l.lines.taken;
-  sum : l.work ≡ work_of l.setup.cap l.commands;
+      ≡ reads_left OfScript (InBody (body_at seed (value_of l.setup) l.commands.list l.work)) l.lines;
+  within : AreCommandsWithin (pages_of l.setup.space) l.commands.list;
+  few : length l.commands.list ≤ l.lines.taken;
+  sum : l.work ≡ work_of l.setup.cap l.commands.list;
   most : l.work ≤ MAX_WORK;
   small : IsShort l.lines;
 }

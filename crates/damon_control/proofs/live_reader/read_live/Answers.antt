@@ -28,7 +28,7 @@ returns-in_err-workers-clause-fault c =
     let o = c.in_ok-seed.field-0 in
     let v = live_begun o.seed (value_of o.setup) o.passes in
     let p = err_from_is_err_and c.from_residual-in_err-workers.result c.from_residual-in_err-workers.ensures.1 in
-    let start = at_start c.args.text.now c.new-lines.result c.new-lines.ensures.rest c.new-lines.ensures.taken ∙ c.in_ok-seed.ensures.ok in
+    let start = at_start c.args.bytes.now c.new-lines.result c.new-lines.ensures.rest c.new-lines.ensures.taken ∙ c.in_ok-seed.ensures.ok in
     rw (p.1, p.2) (subst (FaultIs c.in_err-workers.field-0.0) (sym start) (c.in_err-workers.ensures.fault v refl))
 
 pub returns-in_err-controllers-clause-fault : goal.returns-in_err-controllers-clause-fault
@@ -37,7 +37,7 @@ returns-in_err-controllers-clause-fault c =
     let v = live_begun o.seed (value_of o.setup) o.passes in
     let w = with_workers v (traces_of c.in_ok-workers.workers.list) in
     let p = err_from_is_err_and c.from_residual-in_err-controllers.result c.from_residual-in_err-controllers.ensures.1 in
-    let start = at_start c.args.text.now c.new-lines.result c.new-lines.ensures.rest c.new-lines.ensures.taken ∙ c.in_ok-seed.ensures.ok ∙ c.in_ok-workers.ensures.ok v refl in
+    let start = at_start c.args.bytes.now c.new-lines.result c.new-lines.ensures.rest c.new-lines.ensures.taken ∙ c.in_ok-seed.ensures.ok ∙ c.in_ok-workers.ensures.ok v refl in
     rw (p.1, p.2) (subst (FaultIs c.in_err-controllers.field-0.0) (sym start) (c.in_err-controllers.ensures.fault w refl))
 
 pub returns-in_err-read_end-clause-fault : goal.returns-in_err-read_end-clause-fault
@@ -50,7 +50,7 @@ returns-in_err-read_end-clause-fault c =
     let block = no_block done c.read_controllers.new.lines.rest.now lists refl c.in_ok-controllers.ensures.past c.in_ok-controllers.ensures.calls
     (λ none. subst (λ (l : Lines). NoWorker done.workers l.rest.now) (sym (c.in_ok-controllers.ensures.same none)) c.in_ok-workers.ensures.past)
     in
-    let start = at_start c.args.text.now c.new-lines.result c.new-lines.ensures.rest c.new-lines.ensures.taken
+    let start = at_start c.args.bytes.now c.new-lines.result c.new-lines.ensures.rest c.new-lines.ensures.taken
     ∙ c.in_ok-seed.ensures.ok
     ∙ c.in_ok-workers.ensures.ok v refl
     ∙ c.in_ok-controllers.ensures.ok w refl
@@ -68,7 +68,7 @@ returns-in_err-end-clause-fault c =
     let block = no_block done c.read_controllers.new.lines.rest.now lists refl c.in_ok-controllers.ensures.past c.in_ok-controllers.ensures.calls
     (λ none. subst (λ (l : Lines). NoWorker done.workers l.rest.now) (sym (c.in_ok-controllers.ensures.same none)) c.in_ok-workers.ensures.past)
     in
-    let start = at_start c.args.text.now c.new-lines.result c.new-lines.ensures.rest c.new-lines.ensures.taken
+    let start = at_start c.args.bytes.now c.new-lines.result c.new-lines.ensures.rest c.new-lines.ensures.taken
     ∙ c.in_ok-seed.ensures.ok
     ∙ c.in_ok-workers.ensures.ok v refl
     ∙ c.in_ok-controllers.ensures.ok w refl
@@ -86,7 +86,7 @@ returns-clause-script c =
     let block = no_block done c.read_controllers.new.lines.rest.now lists refl c.in_ok-controllers.ensures.past c.in_ok-controllers.ensures.calls
     (λ none. subst (λ (l : Lines). NoWorker done.workers l.rest.now) (sym (c.in_ok-controllers.ensures.same none)) c.in_ok-workers.ensures.past)
     in
-    at_start c.args.text.now c.new-lines.result c.new-lines.ensures.rest c.new-lines.ensures.taken
+    at_start c.args.bytes.now c.new-lines.result c.new-lines.ensures.rest c.new-lines.ensures.taken
     ∙ c.in_ok-seed.ensures.ok
     ∙ c.in_ok-workers.ensures.ok v refl
     ∙ c.in_ok-controllers.ensures.ok w refl

@@ -28,7 +28,7 @@ left_in-parts cap (c ∷ cs) =
 pub invariant_of-result : goal.invariant_of-result
 invariant_of-result c =
     let s = c.args.script in
-    let cs = s.commands in
+    let cs = s.commands.list in
     let space : s.setup.space ≡ c.in_ok-world.world.monitor.core.space = ap (λ x. x.space) (sym c.in_ok-world.ensures.core) in
     record {
       within = (

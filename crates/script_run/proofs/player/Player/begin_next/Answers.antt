@@ -21,48 +21,48 @@ returns-then-self-len-clause-on g c = on-none g.R.Rng.stream c.args.self.now c.a
 pub returns-then-self-len-clause-end : goal.returns-then-self-len-clause-end
 returns-then-self-len-clause-end g c false =
     let p = c.self.inside in
-    let over : length p.commands ≤ p.begun = omega (arith, c.if-self-len.true, c.len.ensures) in
-    let none = ap (parts_of p.cap) (drop_all p.begun p.commands over) in
+    let over : length p.commands.list ≤ p.begun = omega (arith, c.if-self-len.true, c.len.ensures) in
+    let none = ap (parts_of p.cap) (drop_all p.begun p.commands.list over) in
     is_over g.R.Rng.stream c.args.self.now (sym (ap (λ v. v.later) c.self.view_is) ∙ none) c.requires
 
 pub invariant_of-self : goal.invariant_of-self
 invariant_of-self g c =
     let p = c.self.inside in
-    let here : p.begun < length p.commands = omega (arith, c.if-self-len.false, c.len.ensures) in
-    player-next p.world (part_value p.part) (part_value c.in-Part.part) p.cap p.begun p.commands (lent_value c.get.result) here c.get.ensures c.in-Part.ensures c.self.invariant
+    let here : p.begun < length p.commands.list = omega (arith, c.if-self-len.false, c.len.ensures) in
+    player-next p.world (part_value p.part) (part_value c.in-Part.part) p.cap p.begun p.commands.list (lent_value c.get.result) here c.get.ensures c.in-Part.ensures c.self.invariant
 
 pub invariant_of-self-in_err-make_commit-in-Commit :
     goal.invariant_of-self-in_err-make_commit-in-Commit
 invariant_of-self-in_err-make_commit-in-Commit g c =
     let p = c.self.inside in
-    let here : p.begun < length p.commands = omega (arith, c.if-self-len.false, c.len.ensures) in
+    let here : p.begun < length p.commands.list = omega (arith, c.if-self-len.false, c.len.ensures) in
     let q = part.Commit (commit_value c.in-Commit.commit.now) in
-    let new = parts_of p.cap (drop (p.begun + 1) p.commands) in
+    let new = parts_of p.cap (drop (p.begun + 1) p.commands.list) in
     player-made p.world c.make_commit.new.world q new (omega arith) c.make_commit.ensures.space c.make_commit.ensures.ticks
-    (player-next p.world (part_value p.part) q p.cap p.begun p.commands (lent_value c.get.result) here c.get.ensures c.in-Commit.ensures c.self.invariant)
+    (player-next p.world (part_value p.part) q p.cap p.begun p.commands.list (lent_value c.get.result) here c.get.ensures c.in-Commit.ensures c.self.invariant)
 
 pub invariant_of-self-in-Commit : goal.invariant_of-self-in-Commit
 invariant_of-self-in-Commit g c =
     let p = c.self.inside in
-    let here : p.begun < length p.commands = omega (arith, c.if-self-len.false, c.len.ensures) in
+    let here : p.begun < length p.commands.list = omega (arith, c.if-self-len.false, c.len.ensures) in
     let q = part.Commit (commit_value c.in-Commit.commit.now) in
-    let new = parts_of p.cap (drop (p.begun + 1) p.commands) in
+    let new = parts_of p.cap (drop (p.begun + 1) p.commands.list) in
     player-made p.world c.make_commit.new.world q new (omega arith) c.make_commit.ensures.space c.make_commit.ensures.ticks
-    (player-next p.world (part_value p.part) q p.cap p.begun p.commands (lent_value c.get.result) here c.get.ensures c.in-Commit.ensures c.self.invariant)
+    (player-next p.world (part_value p.part) q p.cap p.begun p.commands.list (lent_value c.get.result) here c.get.ensures c.in-Commit.ensures c.self.invariant)
 
 pub returns-in-Part-clause-on : goal.returns-in-Part-clause-on
 returns-in-Part-clause-on g c =
     let p = c.self.inside in
     let is = c.self.view_is in
-    let here : p.begun < length p.commands = omega (arith, c.if-self-len.false, c.len.ensures) in
+    let here : p.begun < length p.commands.list = omega (arith, c.if-self-len.false, c.len.ensures) in
     next_begins g.R.Rng.stream c.args.self.now _ c.args.out.now.items c.requires (ap (λ v. v.world) is) (ap (λ v. v.form) is)
-    (sym (ap (λ v. v.later) is) ∙ next_part p.cap p.begun p.commands (lent_value c.get.result) (part_value c.in-Part.part) here c.get.ensures c.in-Part.ensures)
+    (sym (ap (λ v. v.later) is) ∙ next_part p.cap p.begun p.commands.list (lent_value c.get.result) (part_value c.in-Part.part) here c.get.ensures c.in-Part.ensures)
 
 pub returns-in-Part-clause-less : goal.returns-in-Part-clause-less
 returns-in-Part-clause-less g c true =
     let p = c.self.inside in
-    let here : p.begun < length p.commands = omega (arith, c.if-self-len.false, c.len.ensures) in
-    let later = sym (ap (λ v. v.later) c.self.view_is) ∙ next_part p.cap p.begun p.commands (lent_value c.get.result) (part_value c.in-Part.part) here c.get.ensures c.in-Part.ensures in
+    let here : p.begun < length p.commands.list = omega (arith, c.if-self-len.false, c.len.ensures) in
+    let later = sym (ap (λ v. v.later) c.self.view_is) ∙ next_part p.cap p.begun p.commands.list (lent_value c.get.result) (part_value c.in-Part.part) here c.get.ensures c.in-Part.ensures in
     omega (arith, less_left c.args.self.now.part c.args.self.now.later, ap left_in later)
 
 pub returns-in_ok-make_commit-in-Commit-clause-on :
@@ -72,9 +72,9 @@ returns-in_ok-make_commit-in-Commit-clause-on g c =
     let is = c.self.view_is in
     let k = commit_value c.in-Commit.commit.now in
     let new = c.make_commit.new.world in
-    let here : p.begun < length p.commands = omega (arith, c.if-self-len.false, c.len.ensures) in
+    let here : p.begun < length p.commands.list = omega (arith, c.if-self-len.false, c.len.ensures) in
     commit_made g.R.Rng.stream c.args.self.now _ c.args.out.now.items _ k c.requires
-    (sym (ap (λ v. v.later) is) ∙ next_part p.cap p.begun p.commands (lent_value c.get.result) (part.Commit k) here c.get.ensures c.in-Commit.ensures)
+    (sym (ap (λ v. v.later) is) ∙ next_part p.cap p.begun p.commands.list (lent_value c.get.result) (part.Commit k) here c.get.ensures c.in-Commit.ensures)
     refl (ap (λ v. v.form) is) (c.make_commit.ensures.source ∙ ap (λ v. v.world.source) is)
     (subst (λ w. Makes StandsFor w new (commit k ∷ [])) (ap (λ v. v.world) is) c.make_commit.ensures.event)
     (c.in_ok-make_commit-in-Commit.ensures.ok ∙ ap (λ v. c.args.out.now.items ++ commit_text v.form v.world.monitor.core.ticks (commit_answer k v.world.monitor.core)) is)
@@ -84,7 +84,7 @@ pub returns-in_ok-make_commit-in-Commit-clause-less :
 returns-in_ok-make_commit-in-Commit-clause-less g c true =
     let p = c.self.inside in
     let q = part.Commit (commit_value c.in-Commit.commit.now) in
-    let new = parts_of p.cap (drop (p.begun + 1) p.commands) in
-    let here : p.begun < length p.commands = omega (arith, c.if-self-len.false, c.len.ensures) in
-    let later = sym (ap (λ v. v.later) c.self.view_is) ∙ next_part p.cap p.begun p.commands (lent_value c.get.result) q here c.get.ensures c.in-Commit.ensures in
+    let new = parts_of p.cap (drop (p.begun + 1) p.commands.list) in
+    let here : p.begun < length p.commands.list = omega (arith, c.if-self-len.false, c.len.ensures) in
+    let later = sym (ap (λ v. v.later) c.self.view_is) ∙ next_part p.cap p.begun p.commands.list (lent_value c.get.result) q here c.get.ensures c.in-Commit.ensures in
     omega (arith, less_left c.args.self.now.part c.args.self.now.later, ap left_in later, less_left q new, less_left (part.Touches 0 0) new)

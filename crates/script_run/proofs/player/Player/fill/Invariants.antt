@@ -1,5 +1,5 @@
 use Rattle.std.proofs.Common.{◌<◌, ◌≤◌, vec_len}
-use Rattle.script_run.specs.declared.player.TheConstants.{PIECE}
+use Rattle.text_io.specs.declared.output.TheConstants.{PIECE}
 use Rattle.script_run.specs.Player.{GoesOn, left_moves}
 use Rattle.script_run.proofs.player.Player.fill.Given as goal
 

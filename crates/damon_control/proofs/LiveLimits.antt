@@ -1,0 +1,62 @@
+-- What a live text says keeps the limits of a live script, and a text can spell it.
+use Rattle.std.proofs.Common.{◌≤◌, ◌∷◌, [], ℕ, List, Option, Some, None, length, subst, arith, length-append}
+use Rattle.std.specs.Prelude.{IfSome}
+use Rattle.std.specs.List.{AllByRecursion}
+use Rattle.damon_types.specs.declared.range.RangeSpec.{RangeSpec}
+use Rattle.damon_types.specs.declared.scheme.Version.{Version}
+use Rattle.live_commit.specs.Commit.{CommitValue}
+use Rattle.target_ranges.specs.Laws.{MakesEach, MakesInOrder}
+use Rattle.script_lines.specs.declared.part.Part.{Part}
+use Rattle.script_lines.specs.declared.part.Part.TheVariants.{Attrs, Cost, Metric, Range, Slot}
+use Rattle.script_lines.specs.Body.{no_commit, with_part, with_range}
+use Rattle.damon_control.specs.Live.{CallValue, CommitCall, LiveValue, ShowCall}
+use Rattle.damon_control.specs.LiveText.{IsLiveText, SayCall, SayController}
+use Rattle.damon_control.specs.Sound.{IsLiveSound, IsSpelledCall}
+use Rattle.damon_control.specs.Text.{EachSays, with_parts}
+use Rattle.damon_control.specs.WriteBack.{SpellsRanges}
+use Rattle.damon_control.proofs.SetupLimits.{SaySetup-InOrder, SaySetup-IsSetup}
+use Rattle.damon_control.proofs.SpaceLimits.{checked-IsSpace}
+
+-- one more range
+with_range-some : (ranges : Option (List RangeSpec)) (r : RangeSpec) → IfSome (with_range ranges r) (λ rs. 1 ≤ length rs)
+with_range-some None r = omega arith
+with_range-some (Some rs) r = omega (arith, length-append rs (r ∷ []))
+
+part_spelled : (c : CommitValue) (part : Part) → SpellsRanges c → SpellsRanges (with_part c part)
+part_spelled c (Attrs attrs) fine = fine
+part_spelled c (Range range) fine = with_range-some c.ranges range
+part_spelled c (Slot change) fine = fine
+part_spelled c (Metric value) fine = fine
+part_spelled c (Cost cost) fine = fine
+
+parts_spelled : (c : CommitValue) (parts : List Part) → SpellsRanges c → SpellsRanges (with_parts c parts)
+parts_spelled c [] fine = fine
+parts_spelled c (part ∷ parts) fine = parts_spelled (with_part c part) parts (part_spelled c part fine)
+
+call_spelled : (version : Version) (lines : List (List ℕ)) (call : CallValue) → SayCall version lines call → IsSpelledCall call
+call_spelled version lines ShowCall says = tt
+call_spelled version lines (CommitCall commit) says = subst SpellsRanges says.made (parts_spelled no_commit says.parts tt)
+
+calls_spelled : (version : Version) (groups : List (List (List ℕ))) (calls : List CallValue) → EachSays (SayCall version) groups calls → AllByRecursion IsSpelledCall calls
+calls_spelled version [] [] each = tt
+calls_spelled version (group ∷ groups) (call ∷ calls) each = (call_spelled version group call each.0, calls_spelled version groups calls each.1)
+calls_spelled version [] (call ∷ calls) each = absurd each
+calls_spelled version (group ∷ groups) [] each = absurd each
+
+controllers_spelled : (version : Version) (groups : List (List (List ℕ))) (controllers : List (List CallValue)) → EachSays (SayController version) groups controllers
+    → AllByRecursion (λ calls. AllByRecursion IsSpelledCall calls) controllers
+controllers_spelled version [] [] each = tt
+controllers_spelled version (group ∷ groups) (calls ∷ controllers) each =
+    (calls_spelled version each.0.groups calls each.0.each, controllers_spelled version groups controllers each.1)
+controllers_spelled version [] (calls ∷ controllers) each = absurd each
+controllers_spelled version (group ∷ groups) [] each = absurd each
+
+-- a text says a live script within its limits
+pub IsLiveText-IsLiveSound : MakesEach → MakesInOrder → (text : List ℕ) (v : LiveValue) → IsLiveText text v → IsLiveSound v
+IsLiveText-IsLiveSound each order text v says = record {
+  space = checked-IsSpace v.setup.space says.says_setup.targets;
+  setup = SaySetup-IsSetup each says.setup v.seed v.setup says.says_setup;
+  order = SaySetup-InOrder order says.setup v.seed v.setup says.says_setup;
+  limits = says.limits;
+  spelled = controllers_spelled v.setup.version says.controllers v.controllers says.say_controllers;
+}

@@ -1,0 +1,16 @@
+use Rattle.damon_control.proofs.HeadWritten.{head_read_back, head_spelled}
+use Rattle.damon_control.proofs.laws.journal_heads_are_exactly_read.Goals as goal
+
+pub returns : goal.returns
+returns c =
+    let lines = c.lines_have_laws.ensures.laws in
+    let ranges = c.next_decides.ensures.next in
+    record {
+      spelled = head_spelled (record { lines = lines; ranges = ranges; slots = c.slots_are_checked_in_turn.ensures.next });
+      back = head_read_back (record {
+        lines = lines.back;
+        one_more = ranges;
+        keeps_fault = c.fault_stays.ensures.first;
+        apart = lines.apart;
+      }) c.written_changes_are_read_back.ensures.changes;
+    }

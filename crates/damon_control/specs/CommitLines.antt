@@ -1,0 +1,34 @@
+-- The lines of a commit, one by one: each part is a line, and a part more is a line more.
+use Rattle.std.specs.Prelude.{◌≡◌, true, List, [], ◌∷◌, ◌++◌, Ok}
+use Rattle.damon_types.specs.declared.scheme.Version.{Version}
+use Rattle.live_commit.specs.Commit.{CommitValue}
+use Rattle.script_lines.specs.declared.part.Part.{Part}
+use Rattle.script_lines.specs.Body.{no_commit, part_line, with_part}
+use Rattle.script_lines.specs.Laws.{may_come}
+use Rattle.damon_control.specs.Text.{come_in_order, with_parts}
+use Rattle.damon_control.specs.WriteBack.{FitsCommit, IsSpelledIn, SpellsRanges}
+use Rattle.damon_control.specs.Written.{part_text, parts_of, written_commit}
+
+-- a part that may come after those of a commit is written after them
+abbrev pub WritesPartsInTurn : Type 0
+WritesPartsInTurn =
+    (version : Version) (commit : CommitValue) (part : Part) → may_come version commit part ≡ true
+    → written_commit (with_part commit part) ≡ written_commit commit ++ part_text part ∷ []
+
+-- the lines of parts are read as them, one after another, from a commit with the parts before them
+abbrev pub AreReadAfter : Version → CommitValue → List Part → Type 0
+AreReadAfter version before [] = Unit {0}
+AreReadAfter version before (part ∷ parts) =
+    (part_line version before (part_text part) ≡ Ok part) × AreReadAfter version (with_part before part) parts
+
+-- the parts of a commit come in order, make it, and their lines are read as them
+pub record IsReadInParts (version : Version) (commit : CommitValue) : Type 0 where
+  pub in_order : come_in_order version no_commit (parts_of commit) ≡ true
+  pub made : with_parts no_commit (parts_of commit) ≡ commit
+  pub each : AreReadAfter version no_commit (parts_of commit)
+
+-- so it is with each commit that a text of the version can spell
+abbrev pub ReadsPartsBack : Type 0
+ReadsPartsBack =
+    (version : Version) (commit : CommitValue) → FitsCommit commit → SpellsRanges commit → IsSpelledIn version commit
+    → IsReadInParts version commit
