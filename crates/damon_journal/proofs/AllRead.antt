@@ -1,0 +1,138 @@
+-- The lines of all entries of a journal are read back.
+use Rattle.std.proofs.Common.{◌≡◌, ℕ, zero, suc, ◌<◌, Bool, List, [], ◌∷◌, ◌++◌, length, map, Some, refl, sym, ap, ◌∙◌, subst, append_assoc, append-nil, length-append, take-append-drop, arith}
+use Rattle.std.proofs.lemmas.List.{length-map}
+use Rattle.std.specs.Prelude.{slice_index_or}
+use Rattle.damon_control.specs.Live.{CallValue, LiveValue}
+use Rattle.damon_journal.specs.declared.entry.Entry.{Entry}
+use Rattle.damon_journal.specs.declared.entry.Entry.TheVariants.{Prepare, Check, Void, Aggregate, Call}
+use Rattle.damon_journal.specs.EntryLine.{added_to}
+use Rattle.damon_journal.specs.Growth.{longer, replay_with}
+use Rattle.damon_journal.specs.Place.{InEntries}
+use Rattle.damon_journal.specs.Replay.{EntriesFit, EntryFits, IsJournalOf, JournalValue, Replayed, bits_taken, call_at, carried, replay, replay_from}
+use Rattle.damon_journal.specs.Room.{nothing_said}
+use Rattle.damon_journal.specs.Rules.{CallsInTurn, CanCall, InTurn, one_more}
+use Rattle.damon_journal.specs.Steps.{entry_steps, steps, steps_from}
+use Rattle.damon_journal.specs.Text.{entries_lines, entry_lines, journal_lines}
+use Rattle.damon_journal.proofs.EntriesRead.{EntryLaws, ReadsOn, aggregate_reads, call_reads, check_reads, left, prepare_reads, so_far, taken, void_reads}
+use Rattle.damon_journal.proofs.Leading.{leads_to}
+use Rattle.damon_journal.proofs.Longer.{length-added}
+
+-- ---- the calls so far, counted
+
+-- the number of calls of a controller
+counts-index : (done : List (List CallValue)) (c : ℕ) → slice_index_or (map length done) c 0 ≡ length (slice_index_or done c [])
+counts-index [] zero = refl
+counts-index [] (suc c) = refl
+counts-index (l ∷ done) zero = refl
+counts-index (l ∷ done) (suc c) = counts-index done c
+
+-- one call more is counted for its controller
+counts-added : (done : List (List CallValue)) (c : ℕ) (call : CallValue) → map length (added_to c call done) ≡ one_more c (map length done)
+counts-added [] zero call = refl
+counts-added [] (suc c) call = refl
+counts-added (l ∷ done) zero call = ap (λ k. k ∷ map length done) (length-append l (call ∷ []))
+counts-added (l ∷ done) (suc c) call = ap (λ ks. length l ∷ ks) (counts-added done c call)
+
+-- ---- all entries
+
+-- an entry is read, and the calls after it are in turn
+record NextRead (v : LiveValue) (done : List (List CallValue)) (j : JournalValue) (b : List Bool) (e : Entry) (es : List Entry) : Type 0 where
+  later : List (List CallValue)
+  four : length later ≡ 4
+  reads : ReadsOn v done j b e later
+  turn : InTurn (map length later) es
+
+-- an entry that fits is read, and after a call the indexes go on
+next_read : EntryLaws → (v : LiveValue) → CanCall v → (done : List (List CallValue)) (j : JournalValue) (b : List Bool) (e : Entry) (es : List Entry) → length done ≡ 4 → IsJournalOf (so_far v done) j
+    → EntryFits v (replay_with (so_far v done) j b) e → InTurn (map length done) (e ∷ es) → NextRead v done j b e es
+next_read laws v can done j b (Prepare pass pos) es four is fits turn = record { later = done; four = four; reads = prepare_reads v done j b pass pos is fits; turn = turn }
+next_read laws v can done j b (Check pass) es four is fits turn = record { later = done; four = four; reads = check_reads laws v done j b pass is fits; turn = turn }
+next_read laws v can done j b (Void pass) es four is fits turn = record { later = done; four = four; reads = void_reads v done j b pass is fits; turn = turn }
+next_read laws v can done j b (Aggregate tick pos) es four is fits turn = record { later = done; four = four; reads = aggregate_reads v done j b tick pos is fits; turn = turn }
+next_read laws v can done j b (Call c i answer) es four is fits turn =
+    let call = fits.1.0 in
+    let count : i ≡ length (slice_index_or done c []) = turn.1 ∙ counts-index done c in
+    let few : c < 4 = omega (arith, turn.0, length-map done length, four) in
+    let there : call_at v c (length (slice_index_or done c [])) ≡ Some call = ap (call_at v c) (sym count) ∙ fits.1.1 in
+    record {
+      later = added_to c call done;
+      four = length-added done c call ∙ four;
+      reads = subst (λ k. ReadsOn v done j b (Call c k answer) (added_to c call done)) (sym count)
+          (call_reads laws v done j b c answer call four few (can c i call fits.1.1) is fits.0 there fits.1.2);
+      turn = subst (λ ks. InTurn ks es) (sym (counts-added done c call)) turn.2;
+    }
+
+-- entries are read to their end, from a journal that was read before them
+record AllRead (v : LiveValue) (done : List (List CallValue)) (j : JournalValue) (r : Replayed) (b : List Bool) (es : List Entry) : Type 0 where
+  later : List (List CallValue)
+  new : JournalValue
+  journal : IsJournalOf (so_far v later) new
+  entries : new.entries ≡ j.entries ++ es
+  bits : new.bits ++ (replay_from v r es).bits ≡ j.bits ++ b
+  next : replay_from v r es ≡ replay_with (so_far v later) new (replay_from v r es).bits
+  leads : (lines : List (List ℕ)) → leads_to (InEntries (so_far v done) j) (entries_lines v r es ++ lines) ≡ leads_to (InEntries (so_far v later) new) lines
+  steps_are : steps (so_far v later) new ≡ steps (so_far v done) j ++ steps_from v r es
+
+-- entries that fit are read, one after another
+all_read : EntryLaws → (v : LiveValue) → CanCall v → (done : List (List CallValue)) (j : JournalValue) (b : List Bool) (es : List Entry) → length done ≡ 4 → IsJournalOf (so_far v done) j
+    → EntriesFit v (replay_with (so_far v done) j b) es → InTurn (map length done) es → AllRead v done j (replay_with (so_far v done) j b) b es
+all_read laws v can done j b [] four is fit turn = record { later = done; new = j; journal = is; entries = sym (append-nil j.entries); bits = refl; next = refl; leads = λ lines. refl; steps_are = sym (append-nil (steps (so_far v done) j)) }
+all_read laws v can done j b (e ∷ es) four is fit turn =
+    let r = replay_with (so_far v done) j b in
+    let here = next_read laws v can done j b e es four is fit.0 turn in
+    let bs = taken v done j b e in
+    let b2 = left v done j b e in
+    let j2 = longer j e bs in
+    let next = here.reads.next in
+    let rest = all_read laws v can here.later j2 b2 es here.four here.reads.journal (subst (λ y. EntriesFit v y es) next fit.1) here.turn in
+    record {
+      later = rest.later;
+      new = rest.new;
+      journal = rest.journal;
+      entries = rest.entries ∙ append_assoc j.entries (e ∷ []) es;
+      bits =
+          ap (λ y. rest.new.bits ++ (replay_from v y es).bits) next
+          ∙ rest.bits
+          ∙ append_assoc j.bits bs b2
+          ∙ ap (λ l. j.bits ++ l) (take-append-drop (bits_taken (replay (so_far v done) j).state.core e) b);
+      next = subst (λ y. replay_from v y es ≡ replay_with (so_far v rest.later) rest.new (replay_from v y es).bits) (sym next) rest.next;
+      leads = λ lines.
+          ap (leads_to (InEntries (so_far v done) j)) (append_assoc (entry_lines v bs e) (entries_lines v (carried v r e) es) lines)
+          ∙ here.reads.leads (entries_lines v (carried v r e) es ++ lines)
+          ∙ ap (λ y. leads_to (InEntries (so_far v here.later) j2) (entries_lines v y es ++ lines)) next
+          ∙ rest.leads lines;
+      steps_are =
+          rest.steps_are
+          ∙ ap (λ l. l ++ steps_from v (replay_with (so_far v here.later) j2 b2) es) here.reads.steps_are
+          ∙ append_assoc (steps (so_far v done) j) (entry_steps v r e) (steps_from v (replay_with (so_far v here.later) j2 b2) es)
+          ∙ ap (λ y. steps (so_far v done) j ++ (entry_steps v r e ++ steps_from v y es)) (sym next);
+    }
+
+-- four controllers without calls
+abbrev pub no_calls : List (List CallValue)
+no_calls = [] ∷ [] ∷ [] ∷ [] ∷ []
+
+-- the lines of a journal's entries are read as the journal, and the state is that of its replay
+pub record JournalIsRead (v : LiveValue) (j : JournalValue) : Type 0 where
+  pub later : List (List CallValue)
+  pub journal : IsJournalOf (so_far v later) j
+  pub state : (replay (so_far v later) j).state ≡ (replay v j).state
+  pub leads :
+      (lines : List (List ℕ)) → leads_to (InEntries (so_far v no_calls) nothing_said) (journal_lines v j ++ lines)
+      ≡ leads_to (InEntries (so_far v later) j) lines
+  pub steps_are : steps (so_far v later) j ≡ steps v j
+
+-- from the first entry to the last
+pub journal_read : EntryLaws → (v : LiveValue) → CanCall v → (j : JournalValue) → IsJournalOf v j → CallsInTurn j.entries → JournalIsRead v j
+journal_read laws v can j is turn =
+    let all = all_read laws v can no_calls nothing_said j.bits j.entries refl (record { fit = tt; none_left = refl }) is.fit turn in
+    let bits : all.new.bits ≡ j.bits = sym (append-nil all.new.bits) ∙ ap (λ l. all.new.bits ++ l) (sym is.none_left) ∙ all.bits in
+    let same : all.new ≡ j = λ i. record { entries = all.entries i; bits = bits i } in
+    let state : (replay (so_far v all.later) all.new).state ≡ (replay v j).state = sym (ap (λ (r : Replayed). r.state) all.next) in
+    record {
+      later = all.later;
+      journal = subst (λ x. IsJournalOf (so_far v all.later) x) same all.journal;
+      state = subst (λ x. (replay (so_far v all.later) x).state ≡ (replay v j).state) same state;
+      leads = λ lines. all.leads lines ∙ ap (λ x. leads_to (InEntries (so_far v all.later) x) lines) same;
+      steps_are = subst (λ x. steps (so_far v all.later) x ≡ steps v j) same all.steps_are;
+    }

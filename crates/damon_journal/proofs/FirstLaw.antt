@@ -1,0 +1,99 @@
+-- What is read from a text is lawful, and the text is its text.
+use Rattle.std.proofs.Common.{◌≡◌, ℕ, List, [], ◌∷◌, ◌++◌, codes, Ok, refl, sym, ap, ◌∙◌, subst, append_assoc, append-nil, arith}
+use Rattle.damon_types.specs.Space.{pages_of}
+use Rattle.line_text.specs.Laws.{PutsPartsTogether, TakesApartPieces}
+use Rattle.line_text.specs.Parts.{joined, parts}
+use Rattle.script_lines.specs.Lines.{lines_text}
+use Rattle.damon_control.specs.declared.grammar.Grammar.TheVariants.{OfJournal}
+use Rattle.damon_control.specs.JournalHead.{ReadsOnlyHeads, head_lines}
+use Rattle.damon_control.specs.Script.{AtHeader, HeadValue, head_of, reads}
+use Rattle.damon_journal.specs.Place.{AtLast, InEntries, InHead, JournalRead, uncalled}
+use Rattle.damon_journal.specs.Replay.{replay}
+use Rattle.damon_journal.specs.Room.{nothing_said}
+use Rattle.damon_journal.specs.Rules.{IsTextOfLawful, ReadsOnlyLawful}
+use Rattle.damon_journal.specs.Steps.{steps}
+use Rattle.damon_journal.specs.Text.{journal_lines, last_text, seen_lines, settled_lines}
+use Rattle.damon_journal.proofs.Appended.{lines_text-append}
+use Rattle.damon_journal.proofs.Common.{Pieces, joined_before, parts-some, parts_before, pieces_front}
+use Rattle.damon_journal.proofs.EntriesSay.{SayLast, SayLaws}
+use Rattle.damon_journal.proofs.HeadSay.{head_led}
+use Rattle.damon_journal.proofs.Leading.{Led, said_led}
+use Rattle.damon_journal.proofs.LinesSay.{lines_say}
+use Rattle.damon_journal.proofs.SeenSay.{all_seen}
+
+-- the laws of the crates below
+pub record FirstLaws : Type 0 where
+  pub say : SayLaws
+  pub heads : ReadsOnlyHeads
+  pub together : PutsPartsTogether
+  pub apart : TakesApartPieces
+
+-- a text whose head and whose other lines say this
+record SayText (text : List ℕ) (said : JournalRead) : Type 0 where
+  head : HeadValue
+  front : List (List ℕ)
+  body : List (List ℕ)
+  last : List ℕ
+  whole : text ≡ lines_text (front ++ body) ++ last
+  head_is : lines_text front ≡ lines_text (head_lines head.seed head.setup)
+  says : SayLast (head_lines head.seed head.setup) body said (last ∷ [])
+
+-- that text is the one of what was read, which is lawful
+text_of_lawful : PutsPartsTogether → (text : List ℕ) (said : JournalRead) → SayText text said → IsTextOfLawful text said
+text_of_lawful together text said is =
+    let v = said.live in
+    let j = said.journal in
+    let own = head_lines v.seed v.setup in
+    let entries = journal_lines v j in
+    let seen = seen_lines v.setup.space 0 said.receipts in
+    let shown = is.says.shown in
+    let all = settled_lines v j said.receipts in
+    let heads : lines_text is.front ≡ lines_text own = is.head_is ∙ ap lines_text (sym is.says.seen.head_is) in
+    let group : own ++ (entries ++ codes "receipts" ∷ (seen ++ codes "settled" ∷ shown)) ≡ all ++ shown = simp append_assoc in
+    let lines : lines_text (is.front ++ is.body) ≡ lines_text all ++ lines_text shown =
+    lines_text-append is.front is.body
+    ∙ (λ i. heads i ++ lines_text (is.says.seen.spelled i))
+    ∙ sym (lines_text-append own (entries ++ codes "receipts" ∷ (seen ++ codes "settled" ∷ shown)))
+    ∙ ap lines_text group
+    ∙ lines_text-append all shown
+    in
+    let ends : lines_text shown ++ is.last ≡ last_text (replay v j).state =
+    sym (joined_before shown (is.last ∷ []) (omega arith)) ∙ ap (joined 10) is.says.rest ∙ (together 10 (last_text (replay v j).state)).0
+    in
+    record {
+      lawful = record {
+        journal = is.says.seen.journal;
+        idle = is.says.seen.idle;
+        receipts = all_seen (pages_of v.setup.space) (steps v j) said.receipts is.says.seen.seen is.says.received;
+      };
+      spelled = is.whole ∙ ap (λ t. t ++ is.last) lines ∙ append_assoc (lines_text all) (lines_text shown) is.last ∙ ap (λ t. lines_text all ++ t) ends;
+    }
+
+-- a text that is read, with its lines
+read_says : FirstLaws → (text : List ℕ) (said : JournalRead) → Led (InHead AtHeader) (parts 10 text) said → SayText text said
+read_says laws text said led =
+    let head = head_led AtHeader led.lines said (led.last ∷ []) led.lead in
+    let pieces : Pieces (led.lines ++ led.last ∷ []) = subst Pieces led.whole (laws.together 10 text).1 in
+    let front : Pieces head.front = pieces_front head.front head.body (subst Pieces head.split (pieces_front led.lines (led.last ∷ []) pieces)) in
+    let h = head.head in
+    let apart : parts 10 (lines_text head.front ++ []) ≡ head.front ++ [] ∷ [] = parts_before laws.apart laws.together head.front [] front in
+    let is_head : head_of (lines_text head.front ++ []) ≡ Ok h = ap (reads OfJournal 1 AtHeader) apart ∙ head.read 1 in
+    let nothing : lines_text head.front ++ [] ≡ lines_text head.front = append-nil (lines_text head.front) in
+    record {
+      head = h;
+      front = head.front;
+      body = head.body;
+      last = led.last;
+      whole =
+          sym (laws.together 10 text).0
+          ∙ ap (joined 10) (led.whole ∙ ap (λ ls. ls ++ led.last ∷ []) head.split)
+          ∙ joined_before (head.front ++ head.body) (led.last ∷ []) (omega arith);
+      head_is = sym nothing ∙ laws.heads (lines_text head.front ++ []) h is_head;
+      says = lines_say laws.say (head_lines h.seed h.setup) [] (InEntries (uncalled h) nothing_said) head.body (AtLast said (led.last ∷ []))
+          (record { spelled = refl; journal = record { fit = tt; none_left = refl }; head_is = refl; four = refl })
+          head.lead;
+    }
+
+-- each text that is read is the text of a lawful journal
+pub first_law : FirstLaws → ReadsOnlyLawful
+first_law laws text said e = text_of_lawful laws.together text said (read_says laws text said (said_led 1 (InHead AtHeader) (parts 10 text) said (parts-some 10 text) e))

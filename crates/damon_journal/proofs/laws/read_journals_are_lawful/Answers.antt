@@ -1,0 +1,17 @@
+use Rattle.damon_journal.proofs.FirstLaw.{first_law}
+use Rattle.damon_journal.proofs.laws.read_journals_are_lawful.Goals as goal
+
+pub returns : goal.returns
+returns c = record {
+  law = first_law (record {
+    say = record {
+      strips = c.stripped_front_was_first.ensures.only;
+      parts = c.body_lines_are_spelled.ensures.parts;
+      more = c.commits_are_read_in_parts.ensures.turn;
+      below = c.pages_rise.ensures.below;
+    };
+    heads = c.journal_heads_are_exactly_read.ensures.spelled;
+    together = c.parts_are_pieces.ensures.only;
+    apart = c.pieces_are_parts.ensures.read_back;
+  });
+}

@@ -1,0 +1,114 @@
+-- What a text asks of a journal besides that it is lawful, and how texts and lawful journals belong together.
+use Rattle.std.specs.Prelude.{◌≡◌, ℕ, ◌+◌, ◌^◌, ◌≤◌, ◌<◌, zero, suc, List, [], ◌∷◌, ◌++◌, length, replicate, slice_index_or, Some, Ok}
+use Rattle.std.specs.List.{AllByRecursion}
+use Rattle.damon_types.specs.declared.scheme.Version.{Version}
+use Rattle.live_commit.specs.declared.fault.CommitFault.{CommitFault}
+use Rattle.live_commit.specs.declared.fault.CommitFault.TheVariants.{Busy, BadRange, RangesOverMax, OverCap, BadCost}
+use Rattle.damon_control.specs.declared.live.TheConstants.{MAX_WORKERS}
+use Rattle.damon_control.specs.Live.{CallValue, CommitCall, LiveValue, ShowCall}
+use Rattle.damon_control.specs.WriteBack.{FitsCommit, IsSpelledIn, IsWritable, SpellsRanges}
+use Rattle.damon_journal.specs.declared.entry.CallAnswer.{CallAnswer}
+use Rattle.damon_journal.specs.declared.entry.CallAnswer.TheVariants.{Shown, Changed, Refused}
+use Rattle.damon_journal.specs.declared.entry.Entry.{Entry}
+use Rattle.damon_journal.specs.declared.entry.Entry.TheVariants.{Prepare, Check, Void, Aggregate, Call}
+use Rattle.damon_journal.specs.declared.entry.Receipt.{Receipt}
+use Rattle.damon_journal.specs.Lawful.{IsLawful}
+use Rattle.damon_journal.specs.Place.{JournalRead}
+use Rattle.damon_journal.specs.Reading.{read_journal}
+use Rattle.damon_journal.specs.Replay.{JournalValue, call_at}
+use Rattle.damon_journal.specs.Text.{journal_text}
+
+-- ---- the three rules
+
+-- numbers of which the one with this index is one greater
+abbrev pub one_more : ℕ → List ℕ → List ℕ
+one_more n [] = []
+one_more zero (k ∷ ks) = (k + 1) ∷ ks
+one_more (suc n) (k ∷ ks) = k ∷ one_more n ks
+
+-- the index of each call is the next one of its controller
+abbrev pub InTurn : List ℕ → List Entry → Type 0
+InTurn next [] = Unit {0}
+InTurn next (Call controller index answer ∷ es) =
+    (controller < length next) × (index ≡ slice_index_or next controller 0) × InTurn (one_more controller next) es
+InTurn next (Prepare pass position ∷ es) = InTurn next es
+InTurn next (Check pass ∷ es) = InTurn next es
+InTurn next (Void pass ∷ es) = InTurn next es
+InTurn next (Aggregate tick position ∷ es) = InTurn next es
+
+-- the calls of each of four controllers are numbered 0, 1, 2 and so on
+abbrev pub CallsInTurn : List Entry → Type 0
+CallsInTurn es = InTurn (0 ∷ 0 ∷ 0 ∷ 0 ∷ []) es
+
+-- ---- values within their types
+
+-- a text of this version can spell a call
+abbrev pub FitsCall : Version → CallValue → Type 0
+FitsCall version ShowCall = Unit {0}
+FitsCall version (CommitCall commit) = FitsCommit commit × SpellsRanges commit × IsSpelledIn version commit
+
+-- it can spell each call of a script
+abbrev pub CanCall : LiveValue → Type 0
+CanCall v = (controller index : ℕ) (call : CallValue) → call_at v controller index ≡ Some call → FitsCall v.setup.version call
+
+-- the numbers of a refusal are within their types
+abbrev pub FaultFits : CommitFault → Type 0
+FaultFits (Busy next) = next < 2 ^ 64
+FaultFits (BadRange index why) = index < 2 ^ 64
+FaultFits (RangesOverMax ranges max) = (ranges < 2 ^ 64) × (max < 2 ^ 64)
+FaultFits (OverCap max cap) = (max < 2 ^ 64) × (cap < 2 ^ 64)
+FaultFits (BadCost slot) = slot < 2 ^ 8
+FaultFits _ = Unit {0}
+
+-- those of an answer
+abbrev pub AnswerFits : CallAnswer → Type 0
+AnswerFits (Shown tick rows) = (tick < 2 ^ 64) × (rows < 2 ^ 64)
+AnswerFits (Changed rows void) = rows < 2 ^ 64
+AnswerFits (Refused fault) = FaultFits fault
+
+-- those of an entry
+abbrev pub EntryNumbersFit : Entry → Type 0
+EntryNumbersFit (Prepare pass position) = (pass < 2 ^ 64) × (position < 2 ^ 64)
+EntryNumbersFit (Check pass) = pass < 2 ^ 64
+EntryNumbersFit (Void pass) = pass < 2 ^ 64
+EntryNumbersFit (Aggregate tick position) = (tick < 2 ^ 64) × (position < 2 ^ 64)
+EntryNumbersFit (Call controller index answer) = (controller < 2 ^ 64) × (index < 2 ^ 64) × AnswerFits answer
+
+-- each tag is a number of 64 bits
+abbrev pub TagsFit : List (List Receipt) → Type 0
+TagsFit all = AllByRecursion (λ rs. AllByRecursion (λ r. r.tag < 2 ^ 64) rs) all
+
+-- What a text asks of a journal and receipts besides that they are lawful: what it spells are values of their types, its commits have
+-- no empty list of ranges and none of what its version does not spell, its calls are numbered in turn, and there are at most 16 workers.
+pub record IsSpellable (v : LiveValue) (j : JournalValue) (all : List (List Receipt)) : Type 0 where
+  pub setup : IsWritable v.seed v.setup
+  pub calls : CanCall v
+  pub turn : CallsInTurn j.entries
+  pub numbers : AllByRecursion EntryNumbersFit j.entries
+  pub workers : length all ≤ MAX_WORKERS
+  pub tags : TagsFit all
+
+-- ---- the laws
+
+-- what was read is lawful, and this is its text
+pub record IsTextOfLawful (text : List ℕ) (said : JournalRead) : Type 0 where
+  pub lawful : IsLawful said.live said.journal said.receipts
+  pub spelled : text ≡ journal_text said.live said.journal said.receipts
+
+-- each text that is read is the text of a lawful journal, which is what was read
+abbrev pub ReadsOnlyLawful : Type 0
+ReadsOnlyLawful = (text : List ℕ) (said : JournalRead) → read_journal text ≡ Ok said → IsTextOfLawful text said
+
+-- the text is read as the same seed, setup and journal, and the same receipts but for workers without any at the end
+pub record IsReadBack (v : LiveValue) (j : JournalValue) (all : List (List Receipt)) : Type 0 where
+  pub said : JournalRead
+  pub read : read_journal (journal_text v j all) ≡ Ok said
+  pub seed : said.live.seed ≡ v.seed
+  pub setup : said.live.setup ≡ v.setup
+  pub journal : said.journal ≡ j
+  pub receipts : (n : ℕ) × (said.receipts ++ replicate n [] ≡ all)
+
+-- the text of each lawful journal that a text can spell is read back
+abbrev pub ReadsLawfulBack : Type 0
+ReadsLawfulBack =
+    (v : LiveValue) (j : JournalValue) (all : List (List Receipt)) → IsLawful v j all → IsSpellable v j all → IsReadBack v j all

@@ -1,0 +1,73 @@
+// The lines of receipts.
+ghost use Rattle.std.specs.Prelude.{◌≡◌, ◌≤◌, ◌<◌, ◌++◌, ◌∷◌, [], drop, length, map, OnOk};
+ghost use Rattle.std.specs.List.{AllByRecursion};
+ghost use Rattle.damon_types.specs.Space.{pages_of};
+ghost use Rattle.script_lines.specs.Kept.{KeepsFront};
+ghost use Rattle.script_lines.specs.Lines.{lines_text};
+ghost use Rattle.damon_journal.specs.Lawful.{all_of, receipts_said};
+ghost use Rattle.damon_journal.specs.Spelled.{spelled_seen};
+ghost use Rattle.damon_journal.specs.Text.{seen_lines};
+
+use crate::entry::{Receipt, Receipts};
+use crate::line_parts::{address_field_before, field_before, text_before};
+use damon_types::Space;
+use std::alloc::AllocError;
+
+// Bytes enough for the line of a receipt, which has at most 87.
+const LINE_ROOM: usize = 88;
+
+// Appends the lines of the receipts of all workers.
+pub(crate) fn write_receipts(
+    out: &mut Vec<u8>,
+    space: &Space,
+    receipts: &Receipts,
+) -> Result<(), AllocError>
+    requires { AllByRecursion (λ r. r.page < pages_of space.now)
+        (all_of (receipts_said receipts.now)) }
+    ensures ok { OnOk result (out.new.items ≡ out.old.items
+        ++ lines_text (seen_lines space.now 0 (receipts_said receipts.now))) }
+    ensures kept { KeepsFront out.old.items out.new.items }
+{
+    for worker in 0..receipts.len() {
+        write_seen(out, space, worker, receipts.get(worker).as_slice())?;
+    }
+    Ok(())
+}
+
+// Appends the lines of the receipts of a worker. Each is put together in a small array first.
+fn write_seen(
+    out: &mut Vec<u8>,
+    space: &Space,
+    worker: u32,
+    receipts: &[Receipt],
+) -> Result<(), AllocError>
+    requires { AllByRecursion (λ r. r.page < pages_of space.now) receipts.now }
+    ensures ok { OnOk result (out.new.items ≡ out.old.items
+        ++ lines_text (map (spelled_seen space.now worker) receipts.now)) }
+    ensures kept { KeepsFront out.old.items out.new.items }
+{
+    let mut line = [0; LINE_ROOM];
+    for receipt in receipts {
+        let start = seen_before(&mut line, space, worker, receipt);
+        out.extend_from_slice(&line[start..])?;
+    }
+    Ok(())
+}
+
+// Writes the line of a receipt so that it ends where the array ends, and returns the index where it
+// begins.
+fn seen_before(line: &mut [u8], space: &Space, worker: u32, receipt: &Receipt) -> usize
+    requires page { receipt.now.page < pages_of space.now }
+    requires room { 87 ≤ length line.old }
+    ensures start { result ≤ length line.new }
+    ensures written { drop result line.new
+        ≡ lines_text (spelled_seen space.now worker receipt.now ∷ []) }
+{
+    let place = space.addr_of(receipt.page);
+    let end = line.len();
+    let tag_end = text_before(line, end, b"\n");
+    let addr_end = field_before(line, tag_end, b" ", receipt.tag);
+    let target_end = address_field_before(line, addr_end, b" ", place.addr);
+    let worker_end = field_before(line, target_end, b" ", u64::from(place.target));
+    field_before(line, worker_end, b"seen ", u64::from(worker))
+}
