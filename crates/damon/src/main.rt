@@ -2,18 +2,23 @@
 //! standard output.
 #![tactic(auto)]
 
-use damon_app::{Status, replay_main};
+use damon_app::replay_main;
+use damon_journal::Status;
 use damon_types::{StdSink, StdSource};
 use std::env::Env;
 use std::process::ExitCode;
 use std::{env, io};
 
+const USAGE: &str = "usage: damon replay, json or gen N";
+
 fn main(rt: HostRuntime) -> ExitCode {
     let status = run(&rt);
-    if status != Status::Ok {
-        // Where standard error is closed there is nobody to tell.
-        let _ = rt.eprintln(status);
-    }
+    // Where standard error is closed there is nobody to tell.
+    let _ = match status {
+        Status::Ok => Ok(()),
+        Status::Usage => rt.eprintln(USAGE),
+        _ => rt.eprintln(status),
+    };
     ExitCode::from(status.number())
 }
 

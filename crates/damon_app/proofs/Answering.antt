@@ -10,16 +10,17 @@ use Rattle.damon_control.specs.declared.fault.ScriptFault.{ScriptFault}
 use Rattle.script_lines.specs.declared.kind.ScriptKind.{ScriptKind}
 use Rattle.snapshot_print.specs.declared.form.Form.{Form}
 use Rattle.script_run.specs.Report.{report}
-use Rattle.damon_app.specs.declared.input.InputFault.{InputFault}
-use Rattle.damon_app.specs.declared.input.InputFault.TheVariants as inputs
-use Rattle.damon_app.specs.declared.status.Status.{Status}
-use Rattle.damon_app.specs.declared.status.Status.TheVariants as statuses
-use Rattle.damon_app.specs.Given.{GaveOver, GaveUpTo}
-use Rattle.damon_app.specs.Taken.{WritesPart}
-use Rattle.damon_app.specs.Causes.{input_status, read_status}
+use Rattle.text_io.specs.declared.input.InputFault.{InputFault}
+use Rattle.text_io.specs.declared.input.InputFault.TheVariants as inputs
+use Rattle.damon_journal.specs.declared.status.Status.{Status}
+use Rattle.damon_journal.specs.declared.status.Status.TheVariants as statuses
+use Rattle.text_io.specs.Given.{GaveOver, GaveUpTo}
+use Rattle.text_io.specs.Taken.{WritesPart}
 use Rattle.damon_app.specs.Replay.{Replays, TellsFault, WritesPrefix}
-use Rattle.damon_app.specs.StatusOf.{IsFailure, status_of_input, status_of_spelled}
-use Rattle.damon_app.specs.Answers.{Ends, EndsRun, IsReport}
+use Rattle.damon_journal.specs.Status.{EndsRun, IsFailure, input_status, read_status}
+use Rattle.text_io.specs.Ends.{Ends}
+use Rattle.damon_app.specs.StatusOf.{status_of_input, status_of_spelled}
+use Rattle.damon_app.specs.Answers.{IsReport}
 use Rattle.damon_app.proofs.Known.{GaveUpTo-not_over, WritesPart-whole}
 use Rattle.damon_app.proofs.Statuses.{had_over, status_of_input-long, status_of_input-short}
 
@@ -53,6 +54,7 @@ left_alone limit form source source' sink same status is report = record {
   read = report.read;
   write = report.write;
   asked = report.asked;
+  no_live = report.no_live;
   unwritten = λ yes. is;
   prefix = alone form source.bytes sink.bytes sink.bytes same is;
 }
@@ -77,6 +79,7 @@ module _ (limit : ℕ) (form : Form) (source source' sink sink' : Ends) (same : 
     read = λ e. absurd (cc e);
     write = λ e. absurd (cc e);
     asked = λ e. absurd (cc e);
+    no_live = λ passes cap e. absurd (cc e);
     unwritten = λ no. absurd no;
     prefix = part;
   }
@@ -97,6 +100,7 @@ module _ (limit : ℕ) (form : Form) (source source' sink sink' : Ends) (same : 
     read = λ e. cause refl;
     write = λ e. absurd (cc e);
     asked = λ e. absurd (cc e);
+    no_live = λ passes cap e. absurd (cc e);
     unwritten = λ yes. is;
     prefix = alone form source.bytes sink.bytes sink'.bytes same is;
   }
@@ -109,6 +113,7 @@ module _ (limit : ℕ) (form : Form) (source source' sink sink' : Ends) (same : 
     read = λ e. absurd (cc e);
     write = λ e. absurd (cc e);
     asked = λ e. absurd (cc e);
+    no_live = λ passes cap e. absurd (cc e);
     unwritten = λ yes. is;
     prefix = alone form source.bytes sink.bytes sink'.bytes same is;
   }
@@ -139,6 +144,7 @@ module _ (limit : ℕ) (form : Form) (source source' sink sink' : Ends) (same : 
       read = λ e. absurd (cc e);
       write = λ e. absurd (cc e);
       asked = λ e. absurd (cc e);
+      no_live = λ passes cap e. absurd (cc e);
       unwritten = λ yes. is;
       prefix = alone form source.bytes sink.bytes sink'.bytes same is;
     }
@@ -169,6 +175,7 @@ module _ (limit : ℕ) (form : Form) (source source' sink sink' : Ends) (same : 
         read = λ e. absurd (cc e);
         write = λ e. cause refl;
         asked = λ e. absurd (cc e);
+        no_live = λ passes cap e. absurd (cc e);
         unwritten = λ no. absurd no;
         prefix = prefix_of part;
       }
@@ -178,6 +185,7 @@ module _ (limit : ℕ) (form : Form) (source source' sink sink' : Ends) (same : 
       not_run (statuses.Script line kind) ends cause part = absurd ends
       not_run statuses.TooLong ends cause part = absurd ends
       not_run statuses.ReadFault ends cause part = absurd ends
+      not_run (statuses.TooManyPasses passes cap) ends cause part = absurd ends
 
       -- the whole report was written
       pub replayed : Appends sink.bytes sink'.bytes (report form s) → IsReport limit form source source' sink sink' same statuses.Ok
@@ -190,6 +198,7 @@ module _ (limit : ℕ) (form : Form) (source source' sink sink' : Ends) (same : 
         read = λ e. absurd (cc e);
         write = λ e. absurd (cc e);
         asked = λ e. absurd (cc e);
+        no_live = λ passes cap e. absurd (cc e);
         unwritten = λ no. absurd no;
         prefix = prefix_of (WritesPart-whole sink.bytes sink'.bytes (report form s) all_written);
       }

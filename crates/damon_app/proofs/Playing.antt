@@ -8,7 +8,7 @@ use Rattle.script_run.specs.Player.{GoesOn, IsOver, PlayerView, WritesLast}
 use Rattle.script_run.specs.Report.{last_text, report}
 use Rattle.script_run.specs.Unfold.{start}
 use Rattle.script_run.specs.Way.{IsOnItsWay, way-on, way-prefix, way-report}
-use Rattle.damon_app.specs.Taken.{WritesPart}
+use Rattle.text_io.specs.Taken.{WritesPart}
 use Rattle.damon_app.proofs.Known.{WritesPart-longer}
 
 module _ {R : Type 0} (stream : R → Stream) (s : ScriptValue) (form : Form) where

@@ -5,17 +5,19 @@ use Rattle.std.specs.Io.KnownBytes.{Appends}
 use Rattle.damon_types.specs.Causes.{Rose}
 use Rattle.snapshot_print.specs.declared.form.Form.{Form}
 use Rattle.damon_app.specs.declared.request.Request.TheVariants.{Report, Generate}
-use Rattle.damon_app.specs.declared.status.Status.{Status}
-use Rattle.damon_app.specs.declared.status.Status.TheVariants as statuses
+use Rattle.damon_journal.specs.declared.status.Status.{Status}
+use Rattle.damon_journal.specs.declared.status.Status.TheVariants as statuses
 use Rattle.damon_app.specs.Generated.{gen_text}
-use Rattle.damon_app.specs.Given.{GaveOver}
-use Rattle.damon_app.specs.Taken.{WritesPart}
+use Rattle.text_io.specs.Given.{GaveOver}
+use Rattle.text_io.specs.Taken.{WritesPart}
 use Rattle.damon_app.specs.declared.request.Request.{Request}
-use Rattle.damon_app.specs.StatusOf.{IsFailure, status_of_input}
+use Rattle.damon_journal.specs.Status.{EndsRun, IsFailure, status_of}
+use Rattle.text_io.specs.Ends.{Ends}
+use Rattle.damon_app.specs.StatusOf.{status_of_input}
 use Rattle.damon_app.specs.Replay.{IsBegun, IsExpected, WritesPrefix}
 use Rattle.std.proofs.KnownBytes.{Appends-nil}
 use Rattle.damon_app.proofs.Answering.{untold}
-use Rattle.damon_app.specs.Answers.{Ends, EndsRun, IsAnswer, IsReport, status_of}
+use Rattle.damon_app.specs.Answers.{IsAnswer, IsReport}
 use Rattle.damon_app.proofs.Known.{GaveUpTo-none, GaveUpTo-not_over}
 
 -- a source that was left alone gave nothing
@@ -29,6 +31,7 @@ reported limit form source source' sink sink' unread same status is = record {
   end = λ reads. is.end;
   complete = is.complete;
   usage = λ free. ((λ e. absurd (is.asked e)), (λ e. absurd (cc e)));
+  no_live = is.no_live;
   too_long = is.too_long;
   script = λ reads. is.script;
   read = is.read;
@@ -45,6 +48,7 @@ not_asked limit source sink unread same left_alone is = record {
   end = λ reads. absurd reads;
   complete = inl refl;
   usage = λ free. ((λ e. refl), (λ e. refl));
+  no_live = λ passes cap e. absurd (cc e);
   too_long = λ not known. ((λ e. absurd (cc e)), (λ gave. absurd (none_given limit source.bytes known gave)));
   script = λ reads. absurd reads;
   read = λ e. absurd (cc e);
@@ -61,6 +65,7 @@ no_room limit request source sink alone same left_alone is = record {
   end = λ reads no. absurd no;
   complete = expected request;
   usage = λ free. absurd (free refl);
+  no_live = λ passes cap e. absurd (cc e);
   too_long = λ free. absurd (free refl);
   script = λ reads no. absurd no;
   read = λ e. absurd (cc e);
@@ -88,6 +93,7 @@ module _ (limit n : ℕ) (source sink sink' : Ends) (unread same : Type 0) (left
     end = λ reads. absurd reads;
     complete = inl refl;
     usage = λ free. ((λ e. absurd (cc e)), (λ e. absurd (cc e)));
+    no_live = λ passes cap e. absurd (cc e);
     too_long = λ not known. ((λ e. absurd (cc e)), (λ gave. absurd (none_given limit source.bytes known gave)));
     script = λ reads. absurd reads;
     read = λ e. absurd (cc e);
@@ -103,6 +109,7 @@ module _ (limit n : ℕ) (source sink sink' : Ends) (unread same : Type 0) (left
     end = λ reads. absurd reads;
     complete = inr (cause refl);
     usage = λ free. ((λ e. absurd (cc e)), (λ e. absurd (cc e)));
+    no_live = λ passes cap e. absurd (cc e);
     too_long = λ not known. ((λ e. absurd (cc e)), (λ gave. absurd (none_given limit source.bytes known gave)));
     script = λ reads. absurd reads;
     read = λ e. absurd (cc e);
@@ -116,6 +123,7 @@ module _ (limit n : ℕ) (source sink sink' : Ends) (unread same : Type 0) (left
     end = λ reads. absurd reads;
     complete = inr tt;
     usage = λ free. ((λ e. absurd (cc e)), (λ e. absurd (cc e)));
+    no_live = λ passes cap e. absurd (cc e);
     too_long = λ not known. absurd (not refl);
     script = λ reads. absurd reads;
     read = λ e. absurd (cc e);
@@ -129,6 +137,7 @@ module _ (limit n : ℕ) (source sink sink' : Ends) (unread same : Type 0) (left
   not_generated (statuses.Script line kind) ends cause = absurd ends
   not_generated statuses.TooLong ends cause = absurd ends
   not_generated statuses.ReadFault ends cause = absurd ends
+  not_generated (statuses.TooManyPasses passes cap) ends cause = absurd ends
 
   pub summarized : (r : Result (Unit {0}) Status) → OnOk r (Appends sink.bytes sink'.bytes (gen_text n)) → IfErr r EndsRun → (IsErrOf r statuses.WriteFault → Rose sink.faults sink'.faults) → IsAnswer limit (Some (Generate n)) source source sink sink' unread same (status_of r)
   summarized (Ok done) all ends cause = generated all

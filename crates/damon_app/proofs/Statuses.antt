@@ -4,8 +4,8 @@ use Rattle.std.specs.Prelude.{IfSome}
 use Rattle.std.proofs.lemmas.Bool.{lt-ltb, le-ltb}
 use Rattle.damon_control.specs.Script.{ScriptValue, script_of}
 use Rattle.damon_control.specs.declared.fault.ScriptFault.{ScriptFault}
-use Rattle.damon_app.specs.declared.status.Status.TheVariants as statuses
-use Rattle.damon_app.specs.Given.{GaveOver}
+use Rattle.damon_journal.specs.declared.status.Status.TheVariants as statuses
+use Rattle.text_io.specs.Given.{GaveOver}
 use Rattle.damon_app.specs.StatusOf.{status_of_input, status_of_spelled}
 
 -- known bytes of which more were given are more

@@ -1,32 +1,18 @@
 -- The clauses of the top call in one record, for the private functions below it. No public clause cites this file.
-use Rattle.std.specs.Prelude.{◌≡◌, ◌≢◌, ◌⊎◌, ◌↔◌, ℕ, ◌≤◌, List, length, Option, None, Result, Ok, Err, IfSome, IsSome}
+use Rattle.std.specs.Prelude.{◌≡◌, ◌≢◌, ◌⊎◌, ◌↔◌, ℕ, ◌≤◌, List, length, Option, None, Ok, IfSome, IsSome}
 use Rattle.std.specs.Io.KnownBytes.{Consumes, IsAtEnd}
 use Rattle.damon_types.specs.Causes.{Rose}
 use Rattle.damon_control.specs.Script.{ScriptValue, script_of}
 use Rattle.snapshot_print.specs.declared.form.Form.{Form}
 use Rattle.damon_app.specs.declared.request.Request.{Request}
-use Rattle.damon_app.specs.declared.status.Status.{Status}
-use Rattle.damon_app.specs.declared.status.Status.TheVariants as statuses
-use Rattle.damon_app.specs.Given.{GaveOver}
+use Rattle.damon_journal.specs.declared.status.Status.{Status}
+use Rattle.damon_journal.specs.declared.status.Status.TheVariants as statuses
+use Rattle.text_io.specs.Given.{GaveOver}
 use Rattle.damon_app.specs.Request.{ReadsInput}
-use Rattle.damon_app.specs.StatusOf.{IsFailure, status_of_input}
-use Rattle.damon_app.specs.Replay.{IsBegun, IsDone, IsExpected, IsRead, IsUnwritten, Replays, TellsFault, WritesPrefix}
-
--- the status that a result becomes
-abbrev pub status_of : Result (Unit {0}) Status → Status
-status_of (Ok done) = statuses.Ok
-status_of (Err status) = status
-
--- a failure with which a run ends early
-abbrev pub EndsRun : Status → Type 0
-EndsRun statuses.WriteFault = Unit {0}
-EndsRun statuses.Memory = Unit {0}
-EndsRun _ = ⊥
-
--- a stream before or after a call: the bytes that it tells, and how often it has failed
-pub record Ends : Type 0 where
-  pub bytes : Option (List ℕ)
-  pub faults : ℕ
+use Rattle.text_io.specs.Ends.{Ends}
+use Rattle.damon_journal.specs.Status.{IsFailure, IsRead, IsUnwritten}
+use Rattle.damon_app.specs.StatusOf.{status_of_input}
+use Rattle.damon_app.specs.Replay.{IsBegun, IsDone, IsExpected, Replays, TellsFault, WritesPrefix}
 
 -- what a status says of a report, where `same` is that the sink was left alone
 pub record IsReport (limit : ℕ) (form : Form) (source source' sink sink' : Ends) (same : Type 0) (status : Status) : Type 0 where
@@ -41,6 +27,7 @@ pub record IsReport (limit : ℕ) (form : Form) (source source' sink sink' : End
   pub read : status ≡ statuses.ReadFault → Rose source.faults source'.faults
   pub write : status ≡ statuses.WriteFault → Rose sink.faults sink'.faults
   pub asked : status ≢ statuses.Usage
+  pub no_live : (passes cap : ℕ) → status ≢ statuses.TooManyPasses passes cap
   pub unwritten : IsUnwritten status → same
   pub prefix : IfSome source.bytes (λ bytes. same ⊎ WritesPrefix form bytes sink.bytes sink'.bytes)
 
@@ -63,6 +50,7 @@ pub record IsAnswer (limit : ℕ) (request : Option Request) (source source' sin
   pub end : ReadsInput request → IsRead status → IsAtEnd source'.bytes
   pub complete : IsExpected request status limit source.bytes (Rose source.faults source'.faults) (Rose sink.faults sink'.faults)
   pub usage : status ≢ statuses.Memory → (status ≡ statuses.Usage) ↔ (request ≡ None)
+  pub no_live : (passes cap : ℕ) → status ≢ statuses.TooManyPasses passes cap
   pub too_long : status ≢ statuses.Memory → IsSome source.bytes
       → (status ≡ statuses.TooLong) ↔ GaveOver limit source.bytes source'.bytes
   pub script : ReadsInput request → IsRead status → IfSome source.bytes (TellsFault status)

@@ -1,6 +1,3 @@
-pub mod Given
-pub mod Taken
-pub mod Causes
 pub mod StatusOf
 pub mod Request
 pub mod Parser

@@ -6,12 +6,13 @@ use Rattle.damon_control.specs.declared.fault.ScriptFault.{ScriptFault}
 use Rattle.snapshot_print.specs.declared.form.Form.{Form}
 use Rattle.script_run.specs.Report.{report}
 use Rattle.damon_app.specs.Generated.{gen_text}
-use Rattle.damon_app.specs.StatusOf.{IsFailure, status_of_input}
-use Rattle.damon_app.specs.Taken.{WritesPart}
+use Rattle.damon_journal.specs.Status.{IsFailure}
+use Rattle.damon_app.specs.StatusOf.{status_of_input}
+use Rattle.text_io.specs.Taken.{WritesPart}
 use Rattle.damon_app.specs.declared.request.Request.{Request}
 use Rattle.damon_app.specs.declared.request.Request.TheVariants.{Report, Generate}
-use Rattle.damon_app.specs.declared.status.Status.{Status}
-use Rattle.damon_app.specs.declared.status.Status.TheVariants as statuses
+use Rattle.damon_journal.specs.declared.status.Status.{Status}
+use Rattle.damon_journal.specs.declared.status.Status.TheVariants as statuses
 
 -- The bytes spell a script, and the sink gained exactly its report in this form.
 pub record Replays (form : Form) (bytes : List ℕ) (old new : Option (List ℕ)) : Type 0 where
@@ -50,18 +51,3 @@ IsExpected None status limit input read write = (status ≡ statuses.Usage) ⊎ 
 abbrev pub TellsFault : Status → List ℕ → Type 0
 TellsFault status bytes =
     (fault : ScriptFault) → (status ≡ statuses.Script fault.line fault.kind) ↔ (script_of bytes ≡ Err fault)
-
--- the input was read to its end, if one is read
-abbrev pub IsRead : Status → Type 0
-IsRead statuses.Ok = Unit {0}
-IsRead (statuses.Script line kind) = Unit {0}
-IsRead statuses.WriteFault = Unit {0}
-IsRead _ = ⊥
-
--- nothing was written
-abbrev pub IsUnwritten : Status → Type 0
-IsUnwritten statuses.Usage = Unit {0}
-IsUnwritten (statuses.Script line kind) = Unit {0}
-IsUnwritten statuses.TooLong = Unit {0}
-IsUnwritten statuses.ReadFault = Unit {0}
-IsUnwritten _ = ⊥

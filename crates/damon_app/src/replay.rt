@@ -1,4 +1,4 @@
-ghost use Rattle.std.specs.Prelude.{◌≡◌, ◌≢◌, ◌≤◌, ◌↔◌, None, Some, IfErr, IfOk, IfSome, IsSome, IsErrOf, OnOk};
+ghost use Rattle.std.specs.Prelude.{◌≡◌, ◌≢◌, ◌≤◌, ◌↔◌, ℕ, None, Some, IfErr, IfOk, IfSome, IsSome, IsErrOf, OnOk};
 ghost use Rattle.std.specs.Io.KnownBytes.{Appends, IsAtEnd};
 ghost use Rattle.damon_types.specs.Causes.{Rose};
 ghost use Rattle.damon_types.specs.Space.{pages_of};
@@ -6,23 +6,26 @@ ghost use Rattle.script_lines.specs.Command.{work_of};
 ghost use Rattle.script_lines.specs.Limits.{AreCommandsWithin};
 ghost use Rattle.damon_control.specs.ScriptView.{said_by};
 ghost use Rattle.script_run.specs.Report.{report};
-ghost use Rattle.damon_app.specs.Given.{GaveOver};
-ghost use Rattle.damon_app.specs.Taken.{WritesPart};
+ghost use Rattle.text_io.specs.Given.{GaveOver};
+ghost use Rattle.text_io.specs.Taken.{WritesPart};
 ghost use Rattle.damon_app.specs.Request.{ReadsInput, asked};
 ghost use Rattle.damon_app.specs.Generated.{gen_text};
 ghost use Rattle.damon_app.specs.Runs.{EachRunChoosesBest, EachRunIsBound};
-ghost use Rattle.damon_app.specs.Replay.{IsBegun, IsDone, IsExpected, IsRead, IsUnwritten, TellsFault};
-ghost use Rattle.damon_app.specs.Answers.{EndsRun, IsAnswer, IsRefused, IsReport, IsTaken, status_of};
+ghost use Rattle.damon_journal.specs.Status.{EndsRun, IsRead, IsUnwritten, status_of};
+ghost use Rattle.damon_app.specs.Replay.{IsBegun, IsDone, IsExpected, TellsFault};
+ghost use Rattle.damon_app.specs.Answers.{IsAnswer, IsRefused, IsReport, IsTaken};
 
+use crate::Request;
 use crate::laws::{each_run_chooses_best, each_run_is_bound};
 use crate::request::read_request;
 use crate::summary::make_summary;
-use crate::{INPUT_LIMIT, Request, Status, read_all, write_all};
 use damon_control::{MAX_WORK, Script, read_script};
+use damon_journal::Status;
 use damon_types::{Sink, Source};
 use script_run::{Filled, open_player};
 use snapshot_print::Form;
 use std::alloc::Global;
+use text_io::{INPUT_LIMIT, read_all, write_all};
 
 /// Does all of the program `damon`. For `replay` and `json` it reads a script to its end and writes the
 /// report of its run; for `gen N` it reads nothing, runs the generated script of N, and writes one line
@@ -53,6 +56,7 @@ pub fn replay_main<S: Source, K: Sink>(
     // When each other status comes; memory may run out at any time.
     ensures usage { result ≢ Status.Memory →
         (result ≡ Status.Usage) ↔ (asked words.now ≡ None) }
+    ensures no_live { (passes cap : ℕ) → result ≢ Status.TooManyPasses passes cap }
     ensures too_long { result ≢ Status.Memory → IsSome (S.left source.old) →
         (result ≡ Status.TooLong) ↔ GaveOver INPUT_LIMIT (S.left source.old) (S.left source.new) }
     ensures script { ReadsInput (asked words.now) → IsRead result →
@@ -154,9 +158,9 @@ fn take_script<S: Source>(alloc: Global, source: &mut S) -> Result<Script, Statu
 
     // What the player of a script needs.
     ensures within { IfOk result (λ script.
-        AreCommandsWithin (pages_of script.setup.space) script.commands) }
+        AreCommandsWithin (pages_of script.setup.space) script.commands.list) }
     ensures work { IfOk result (λ script.
-        work_of script.setup.cap script.commands ≤ MAX_WORK) }
+        work_of script.setup.cap script.commands.list ≤ MAX_WORK) }
 {
     let bytes = read_all(alloc, source)?;
     let script = read_script(alloc, &bytes)?;
@@ -170,8 +174,8 @@ fn write_report<K: Sink>(
     form: Form,
     sink: &mut K,
 ) -> Result<(), Status>
-    requires within { AreCommandsWithin (pages_of script.setup.space) script.commands }
-    requires work { work_of script.setup.cap script.commands ≤ MAX_WORK }
+    requires within { AreCommandsWithin (pages_of script.setup.space) script.commands.list }
+    requires work { work_of script.setup.cap script.commands.list ≤ MAX_WORK }
 
     // The sink gained the report of the script.
     ensures all { OnOk result

@@ -1,5 +1,6 @@
 // Runs whose input or output fails in the middle. Other whole runs are cases of tests/cases.
-use damon_app::{Status, replay_main};
+use damon_app::replay_main;
+use damon_journal::Status;
 use damon_types::{FaultSink, FaultSource, MemSource};
 use std::alloc::{AllocError, Global};
 use std::test::Fail;

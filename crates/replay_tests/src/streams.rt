@@ -2,11 +2,11 @@
 ghost use Rattle.std.specs.Prelude.{◌≤◌};
 
 use crate::fakes::KeptSink;
-use damon_app::{read_all, write_all};
 use damon_types::FaultSource;
 use std::alloc::{AllocError, Global};
 use std::process::Abort;
 use std::test::Fail;
+use text_io::{read_all, write_all};
 
 // This number of bytes, where each one tells its place.
 fn placed_bytes(alloc: Global, count: u32) -> Result<Vec<u8>, AllocError> {

@@ -1,5 +1,5 @@
 use Rattle.std.proofs.Common.{◌≡◌, refl}
-use Rattle.damon_app.specs.declared.input.TheConstants.{INPUT_LIMIT}
+use Rattle.text_io.specs.declared.input.TheConstants.{INPUT_LIMIT}
 use Rattle.damon_app.proofs.Serving.{reported, summarized}
 use Rattle.damon_app.proofs.replay.fulfil.Goals as goal
 

@@ -1,8 +1,8 @@
 use Rattle.std.proofs.Common.{◌≡◌, Err, ap, refl}
 use Rattle.std.proofs.lemmas.Result.{err_from_is_err_and}
 use Rattle.damon_control.specs.ScriptView.{said_by}
-use Rattle.damon_app.specs.Answers.{Ends}
-use Rattle.damon_app.specs.declared.input.TheConstants.{INPUT_LIMIT}
+use Rattle.text_io.specs.Ends.{Ends}
+use Rattle.text_io.specs.declared.input.TheConstants.{INPUT_LIMIT}
 use Rattle.damon_app.proofs.Answering.{left_alone, not_run, replayed}
 use Rattle.damon_app.proofs.replay.replay.Goals as goal
 

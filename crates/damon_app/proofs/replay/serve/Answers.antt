@@ -1,8 +1,9 @@
 use Rattle.std.proofs.Common.{◌≡◌, Option, None, refl, sym, subst, ◌∙◌}
-use Rattle.damon_app.specs.declared.input.TheConstants.{INPUT_LIMIT}
+use Rattle.text_io.specs.declared.input.TheConstants.{INPUT_LIMIT}
 use Rattle.damon_app.specs.declared.request.Request.{Request}
-use Rattle.damon_app.specs.declared.status.Status.TheVariants.{Usage}
-use Rattle.damon_app.specs.Answers.{Ends, IsAnswer}
+use Rattle.damon_journal.specs.declared.status.Status.TheVariants.{Usage}
+use Rattle.text_io.specs.Ends.{Ends}
+use Rattle.damon_app.specs.Answers.{IsAnswer}
 use Rattle.damon_app.specs.Request.{asked}
 use Rattle.damon_app.proofs.Serving.{not_asked}
 use Rattle.damon_app.proofs.replay.serve.Goals as goal

@@ -1,7 +1,7 @@
 use Rattle.std.proofs.Common.{◌≡◌, Err, ap, sym, ◌∙◌, subst}
 use Rattle.std.proofs.lemmas.Result.{err_from_is_err_and}
 use Rattle.damon_control.specs.Script.{script_of}
-use Rattle.damon_app.specs.declared.input.TheConstants.{INPUT_LIMIT}
+use Rattle.text_io.specs.declared.input.TheConstants.{INPUT_LIMIT}
 use Rattle.damon_app.proofs.Answering.{not_read, not_spelled}
 use Rattle.damon_app.proofs.replay.take_script.Goals as goal
 

@@ -5,7 +5,7 @@ use Rattle.std.proofs.lemmas.Result.{err_from_is_err_and}
 use Rattle.rand_core.specs.Steps.{stream_of, steps_u32}
 use Rattle.rand_pcg.specs.Pcg.{pcg32}
 use Rattle.damon_control.specs.ScriptView.{said_by}
-use Rattle.damon_app.specs.Taken.{WritesPart}
+use Rattle.text_io.specs.Taken.{WritesPart}
 use Rattle.damon_app.proofs.Known.{WritesPart-after, WritesPart-whole}
 use Rattle.damon_app.proofs.Playing.{way-ended, way-filled, way-part}
 use Rattle.damon_app.proofs.replay.write_report.Goals as goal

@@ -1,0 +1,338 @@
+-- What the status of a run says, end by end.
+use Rattle.std.proofs.Common.{◌≡◌, ◌⊎◌, inl, inr, ◌≤◌, ◌<◌, ℕ, true, false, List, length, Some, Result, Ok, Err, refl, sym, ap, ◌∙◌, subst, arith}
+use Rattle.std.proofs.lemmas.Bool.{lt-ltb, le-ltb}
+use Rattle.std.proofs.lemmas.Bool.Decides.{nat_tests}
+use Rattle.std.specs.Prelude.{nat_le}
+use Rattle.std.specs.Prelude.{IsSome, IfErr, IfSome, IsErrOf, OnOk}
+use Rattle.std.specs.Io.KnownBytes.{Appends, Consumes, IsAtEnd}
+use Rattle.damon_types.specs.Causes.{Rose}
+use Rattle.text_io.specs.declared.input.InputFault.{InputFault}
+use Rattle.text_io.specs.declared.input.InputFault.TheVariants as inputs
+use Rattle.text_io.specs.Ends.{Ends}
+use Rattle.text_io.specs.Given.{GaveOver, GaveUpTo}
+use Rattle.text_io.specs.Taken.{WritesPart}
+use Rattle.script_lines.specs.declared.kind.ScriptKind.{ScriptKind}
+use Rattle.damon_control.specs.declared.fault.ReadFail.{ReadFail}
+use Rattle.damon_control.specs.declared.fault.ReadFail.TheVariants as reads
+use Rattle.damon_control.specs.declared.fault.ScriptFault.{ScriptFault}
+use Rattle.damon_control.specs.Live.{LiveValue}
+use Rattle.damon_control.specs.Script.{live_of}
+use Rattle.damon_journal.specs.declared.entry.Receipt.{Receipt}
+use Rattle.damon_journal.specs.declared.status.Status.{Status}
+use Rattle.damon_journal.specs.declared.status.Status.TheVariants as statuses
+use Rattle.damon_journal.specs.Replay.{JournalValue}
+use Rattle.damon_journal.specs.Status.{EndsRun, IsFailure, input_status, read_status, status_of}
+use Rattle.damon_journal.specs.Text.{journal_text}
+use Rattle.damon_live.specs.declared.top.TheConstants.{MAX_RESULTS}
+use Rattle.damon_live.specs.Answers.{IsEnding}
+use Rattle.damon_live.specs.Ending.{Ending, TellsFault, TellsPasses, ended_early, most_results, status_of_input, status_of_spelled}
+use Rattle.damon_live.specs.Whole.{IsWholeRun}
+use Rattle.damon_live.proofs.Known.{few_not_over, had_over, none_given, read_whole, untold}
+
+-- a fault is its line and its kind
+same_fault : (f g : ScriptFault) → f.line ≡ g.line → f.kind ≡ g.kind → f ≡ g
+same_fault f g line kind = ap (λ (n : ℕ). record f { line = n }) line ∙ ap (λ (k : ScriptKind). record g { kind = k }) kind
+
+-- ---- the status of an input
+
+input_is_long : (limit : ℕ) (bytes : List ℕ) → limit < length bytes → status_of_input limit bytes ≡ statuses.TooLong
+input_is_long limit bytes over = rw (lt-ltb limit (length bytes) over) refl
+
+input_is_spelled : (limit : ℕ) (bytes : List ℕ) (spelled : Result LiveValue ScriptFault) → length bytes ≤ limit → live_of bytes ≡ spelled → status_of_input limit bytes ≡ status_of_spelled spelled
+input_is_spelled limit bytes spelled few spells = by ∙ ap status_of_spelled spells
+  where
+    by : status_of_input limit bytes ≡ status_of_spelled (live_of bytes)
+    by = rw (le-ltb limit (length bytes) few) refl
+
+pub fits_results : (v : LiveValue) → most_results v ≤ MAX_RESULTS → status_of_spelled (Ok v) ≡ statuses.Ok
+fits_results v few = let tests : nat_le (most_results v) MAX_RESULTS ≡ true = grind (arith, nat_tests, few) in rw tests refl
+
+pub too_many_results : (v : LiveValue) → MAX_RESULTS < most_results v → status_of_spelled (Ok v) ≡ statuses.TooManyPasses v.passes v.setup.cap
+too_many_results v many = let tests : nat_le (most_results v) MAX_RESULTS ≡ false = grind (arith, nat_tests, many) in rw tests refl
+
+-- ---- other words
+
+-- the answer to other words than `run`
+pub not_asked : (limit : ℕ) (source sink : Ends) (alone same : Type 0) → alone → same → IsEnding limit false source source sink sink alone same (ended_early statuses.Usage)
+not_asked limit source sink alone same left is = record {
+  run = tt;
+  script = tt;
+  ran = λ no. absurd no;
+  none = record { journal = refl; receipts = refl };
+  ok = λ e. absurd (cc e);
+  part = tt;
+  unwritten = is;
+  early = λ yes. is;
+  end = λ e. absurd (cc e);
+  complete = refl;
+  usage = ((λ e f. absurd (cc f)), (λ not. refl));
+  too_long = λ not known. ((λ e. absurd (cc e)), (λ gave. absurd (none_given limit source.bytes known gave)));
+  fault = λ e. absurd (cc e);
+  passes = λ e. absurd (cc e);
+  read = λ e. absurd (cc e);
+  write = λ e. absurd (cc e);
+  unread = λ not. left;
+}
+
+-- ---- no script was carried out
+
+-- the same of a sink in other words for that it was left alone
+pub left_alone : (limit : ℕ) (source source' sink : Ends) (alone same : Type 0) (status : Status) → same → IsEnding limit true source source' sink sink (Unit {0}) (Unit {0}) (ended_early status) → IsEnding limit true source source' sink sink alone same (ended_early status)
+left_alone limit source source' sink alone same status is e = record {
+  run = e.run;
+  script = e.script;
+  ran = e.ran;
+  none = e.none;
+  ok = e.ok;
+  part = e.part;
+  unwritten = is;
+  early = λ yes. is;
+  end = e.end;
+  complete = e.complete;
+  usage = e.usage;
+  too_long = e.too_long;
+  fault = e.fault;
+  passes = e.passes;
+  read = e.read;
+  write = e.write;
+  unread = λ not. absurd (not refl);
+}
+
+module _ (limit : ℕ) (source source' sink : Ends) where
+  -- the status is the one of the bytes, or a failure
+  abbrev HasStatus : Status → List ℕ → Type 0
+  HasStatus status bytes = (status ≡ status_of_input limit bytes) ⊎ IsFailure status (Rose source.faults source'.faults) (Rose sink.faults sink.faults)
+
+  abbrev Refused : Status → Type 0
+  Refused status = IsEnding limit true source source' sink sink (Unit {0}) (Unit {0}) (ended_early status)
+
+  -- there was no memory
+  pub out_of_memory : Refused statuses.Memory
+  out_of_memory = record {
+    run = tt;
+    script = tt;
+    ran = λ no. absurd no;
+    none = record { journal = refl; receipts = refl };
+    ok = λ e. absurd (cc e);
+    part = tt;
+    unwritten = tt;
+    early = λ no. tt;
+    end = λ asked no. absurd no;
+    complete = untold (HasStatus statuses.Memory) source.bytes (λ bytes. inr tt);
+    usage = ((λ e. absurd (cc e)), (λ not. absurd (not refl)));
+    too_long = λ not known. absurd (not refl);
+    fault = λ asked no. absurd no;
+    passes = λ asked no. absurd no;
+    read = λ e. absurd (cc e);
+    write = λ e. absurd (cc e);
+    unread = λ not. tt;
+  }
+
+  -- the input was not read to its end
+  pub not_read : (fault : InputFault) → (fault ≡ inputs.TooLong → GaveOver limit source.bytes source'.bytes) → (fault ≡ inputs.Fault → GaveUpTo limit source.bytes source'.bytes) → (fault ≡ inputs.Fault → Rose source.faults source'.faults) → Refused (input_status fault)
+  not_read inputs.Memory over within cause = out_of_memory
+  not_read inputs.Fault over within cause = record {
+    run = tt;
+    script = tt;
+    ran = λ no. absurd no;
+    none = record { journal = refl; receipts = refl };
+    ok = λ e. absurd (cc e);
+    part = tt;
+    unwritten = tt;
+    early = λ no. tt;
+    end = λ asked no. absurd no;
+    complete = untold (HasStatus statuses.ReadFault) source.bytes (λ bytes. inr (cause refl));
+    usage = ((λ e. absurd (cc e)), (λ not. absurd (not refl)));
+    too_long = λ not known. ((λ e. absurd (cc e)), (λ gave. absurd (few_not_over limit source.bytes source'.bytes known (within refl) gave)));
+    fault = λ asked no. absurd no;
+    passes = λ asked no. absurd no;
+    read = λ e. cause refl;
+    write = λ e. absurd (cc e);
+    unread = λ not. tt;
+  }
+  not_read inputs.TooLong over within cause = record {
+    run = tt;
+    script = tt;
+    ran = λ no. absurd no;
+    none = record { journal = refl; receipts = refl };
+    ok = λ e. absurd (cc e);
+    part = tt;
+    unwritten = tt;
+    early = λ no. tt;
+    end = λ asked no. absurd no;
+    complete = had_over limit source.bytes source'.bytes (HasStatus statuses.TooLong) (over refl) (λ bytes long. inl (sym (input_is_long limit bytes long)));
+    usage = ((λ e. absurd (cc e)), (λ not. absurd (not refl)));
+    too_long = λ not known. ((λ e. over refl), (λ gave. refl));
+    fault = λ asked no. absurd no;
+    passes = λ asked no. absurd no;
+    read = λ e. absurd (cc e);
+    write = λ e. absurd (cc e);
+    unread = λ not. tt;
+  }
+
+  -- what is known of an input that was read to its end
+  module _ (bytes : List ℕ) (all : Consumes source.bytes source'.bytes bytes) (end : IsAtEnd source'.bytes) (few : length bytes ≤ limit) where
+    of_bytes : (P : List ℕ → Type 0) → P bytes → IfSome source.bytes P
+    of_bytes P holds = read_whole P source.bytes source'.bytes bytes all end holds
+
+    not_over : IsSome source.bytes → GaveOver limit source.bytes source'.bytes → ⊥
+    not_over known gave = few_not_over limit source.bytes source'.bytes known (bytes, few, all) gave
+
+    has_status : (spelled : Result LiveValue ScriptFault) → live_of bytes ≡ spelled → IfSome source.bytes (HasStatus (status_of_spelled spelled))
+    has_status spelled spells = of_bytes (HasStatus (status_of_spelled spelled)) (inl (sym (input_is_spelled limit bytes spelled few spells)))
+
+    -- the text has this fault
+    faulty : (fault : ScriptFault) → live_of bytes ≡ Err fault → Refused (statuses.Script fault.line fault.kind)
+    faulty fault spells = record {
+      run = tt;
+      script = tt;
+      ran = λ no. absurd no;
+      none = record { journal = refl; receipts = refl };
+      ok = λ e. absurd (cc e);
+      part = tt;
+      unwritten = tt;
+      early = λ yes. tt;
+      end = λ asked yes. end;
+      complete = has_status (Err fault) spells;
+      usage = ((λ e. absurd (cc e)), (λ not. absurd (not refl)));
+      too_long = λ not known. ((λ e. absurd (cc e)), (λ gave. absurd (not_over known gave)));
+      fault = λ asked yes. of_bytes (TellsFault (statuses.Script fault.line fault.kind)) (λ other. (
+        (λ e. spells ∙ ap (λ f. Err f) (same_fault fault other (cc e) (cc e))),
+        (λ e. let one : Err fault ≡ Err other = sym spells ∙ e in let equal : fault ≡ other = cc one in rw equal refl),
+      ));
+      passes = λ asked yes. of_bytes (TellsPasses (statuses.Script fault.line fault.kind)) (λ v says. absurd (let two : Err fault ≡ Ok v = sym spells ∙ says in cc two));
+      read = λ e. absurd (cc e);
+      write = λ e. absurd (cc e);
+      unread = λ not. tt;
+    }
+
+    -- the text was not read as a live script
+    pub not_spelled : (fail : ReadFail) → ((fault : ScriptFault) → fail ≡ reads.Script fault → live_of bytes ≡ Err fault) → Refused (read_status fail)
+    not_spelled reads.Memory fault = out_of_memory
+    not_spelled (reads.Script f) fault = faulty f (fault f refl)
+
+    -- the text is a live script with too many passes
+    pub too_many : (v : LiveValue) → live_of bytes ≡ Ok v → MAX_RESULTS < most_results v → Refused (statuses.TooManyPasses v.passes v.setup.cap)
+    too_many v spells many = record {
+      run = tt;
+      script = tt;
+      ran = λ no. absurd no;
+      none = record { journal = refl; receipts = refl };
+      ok = λ e. absurd (cc e);
+      part = tt;
+      unwritten = tt;
+      early = λ yes. tt;
+      end = λ asked yes. end;
+      complete = subst (λ status. IfSome source.bytes (HasStatus status)) (too_many_results v many) (has_status (Ok v) spells);
+      usage = ((λ e. absurd (cc e)), (λ not. absurd (not refl)));
+      too_long = λ not known. ((λ e. absurd (cc e)), (λ gave. absurd (not_over known gave)));
+      fault = λ asked yes. of_bytes (TellsFault (statuses.TooManyPasses v.passes v.setup.cap)) (λ other. (
+        (λ e. absurd (cc e)),
+        (λ e. absurd (let two : Ok v ≡ Err other = sym spells ∙ e in cc two)),
+      ));
+      passes = λ asked yes. of_bytes (TellsPasses (statuses.TooManyPasses v.passes v.setup.cap)) (λ w says.
+          let same : v ≡ w = cc (sym spells ∙ says) in
+          ((λ e. subst (λ u. MAX_RESULTS < most_results u) same many), (λ e. rw same refl)));
+      read = λ e. absurd (cc e);
+      write = λ e. absurd (cc e);
+      unread = λ not. tt;
+    }
+
+-- ---- a script was carried out
+
+module _ (limit : ℕ) (source source' sink sink' : Ends) (alone same : Type 0) (bytes : List ℕ) (all : Consumes source.bytes source'.bytes bytes) (end : IsAtEnd source'.bytes) (few : length bytes ≤ limit)
+    (v : LiveValue) (j : JournalValue) (receipts : List (List Receipt)) (spells : live_of bytes ≡ Ok v) (fits : most_results v ≤ MAX_RESULTS) (whole : IsWholeRun v j receipts) (part : WritesPart sink.bytes sink'.bytes (journal_text v j receipts)) where
+  abbrev ended : Status → Ending
+  ended status = record { status = status; script = Some v; journal = j; receipts = receipts }
+
+  abbrev HasRunStatus : Status → List ℕ → Type 0
+  HasRunStatus status bs = (status ≡ status_of_input limit bs) ⊎ IsFailure status (Rose source.faults source'.faults) (Rose sink.faults sink'.faults)
+
+  of_read : (P : List ℕ → Type 0) → P bytes → IfSome source.bytes P
+  of_read P holds = read_whole P source.bytes source'.bytes bytes all end holds
+
+  no_over : IsSome source.bytes → GaveOver limit source.bytes source'.bytes → ⊥
+  no_over known gave = few_not_over limit source.bytes source'.bytes known (bytes, few, all) gave
+
+  -- the status is no fault of the text, and tells of no passes
+  no_fault : (status : Status) → ((fault : ScriptFault) → status ≡ statuses.Script fault.line fault.kind → ⊥) → TellsFault status bytes
+  no_fault status not fault = ((λ e. absurd (not fault e)), (λ e. absurd (let two : Ok v ≡ Err fault = sym spells ∙ e in cc two)))
+
+  no_passes : (status : Status) → ((passes cap : ℕ) → status ≡ statuses.TooManyPasses passes cap → ⊥) → TellsPasses status bytes
+  no_passes status not w says =
+      let one : v ≡ w = cc (sym spells ∙ says) in
+      ((λ e. absurd (not w.passes w.setup.cap e)), (λ many. absurd (omega (arith, many, subst (λ u. most_results u ≤ MAX_RESULTS) one fits))))
+
+  -- all of the text was written
+  written : Appends sink.bytes sink'.bytes (journal_text v j receipts) → IsEnding limit true source source' sink sink' alone same (ended statuses.Ok)
+  written taken = record {
+    run = whole;
+    script = of_read (λ bs. live_of bs ≡ Ok v) spells;
+    ran = λ yes. refl;
+    none = tt;
+    ok = λ e. taken;
+    part = part;
+    unwritten = tt;
+    early = λ no. absurd no;
+    end = λ asked yes. end;
+    complete = of_read (HasRunStatus statuses.Ok) (inl (sym (input_is_spelled limit bytes (Ok v) few spells ∙ fits_results v fits)));
+    usage = ((λ e. absurd (cc e)), (λ not. absurd (not refl)));
+    too_long = λ not known. ((λ e. absurd (cc e)), (λ gave. absurd (no_over known gave)));
+    fault = λ asked yes. of_read (TellsFault statuses.Ok) (no_fault statuses.Ok (λ fault e. cc e));
+    passes = λ asked yes. of_read (TellsPasses statuses.Ok) (no_passes statuses.Ok (λ passes cap e. cc e));
+    read = λ e. absurd (cc e);
+    write = λ e. absurd (cc e);
+    unread = λ not. absurd (not refl);
+  }
+
+  -- the text was not written whole
+  not_written : (status : Status) → EndsRun status → (status ≡ statuses.WriteFault → Rose sink.faults sink'.faults) → IsEnding limit true source source' sink sink' alone same (ended status)
+  not_written statuses.WriteFault ends cause = record {
+    run = whole;
+    script = of_read (λ bs. live_of bs ≡ Ok v) spells;
+    ran = λ yes. refl;
+    none = tt;
+    ok = λ e. absurd (cc e);
+    part = part;
+    unwritten = tt;
+    early = λ no. absurd no;
+    end = λ asked yes. end;
+    complete = of_read (HasRunStatus statuses.WriteFault) (inr (cause refl));
+    usage = ((λ e. absurd (cc e)), (λ not. absurd (not refl)));
+    too_long = λ not known. ((λ e. absurd (cc e)), (λ gave. absurd (no_over known gave)));
+    fault = λ asked yes. of_read (TellsFault statuses.WriteFault) (no_fault statuses.WriteFault (λ fault e. cc e));
+    passes = λ asked yes. of_read (TellsPasses statuses.WriteFault) (no_passes statuses.WriteFault (λ passes cap e. cc e));
+    read = λ e. absurd (cc e);
+    write = λ e. cause refl;
+    unread = λ not. absurd (not refl);
+  }
+  not_written statuses.Memory ends cause = record {
+    run = whole;
+    script = of_read (λ bs. live_of bs ≡ Ok v) spells;
+    ran = λ no. absurd no;
+    none = tt;
+    ok = λ e. absurd (cc e);
+    part = part;
+    unwritten = tt;
+    early = λ no. absurd no;
+    end = λ asked no. absurd no;
+    complete = of_read (HasRunStatus statuses.Memory) (inr tt);
+    usage = ((λ e. absurd (cc e)), (λ not. absurd (not refl)));
+    too_long = λ not known. absurd (not refl);
+    fault = λ asked no. absurd no;
+    passes = λ asked no. absurd no;
+    read = λ e. absurd (cc e);
+    write = λ e. absurd (cc e);
+    unread = λ not. absurd (not refl);
+  }
+  not_written statuses.Ok ends cause = absurd ends
+  not_written statuses.Usage ends cause = absurd ends
+  not_written (statuses.Script line kind) ends cause = absurd ends
+  not_written statuses.TooLong ends cause = absurd ends
+  not_written statuses.ReadFault ends cause = absurd ends
+  not_written (statuses.TooManyPasses passes cap) ends cause = absurd ends
+
+  -- what the status says of a run whose text was handed over
+  pub handed_over : (r : Result (Unit {0}) Status) → OnOk r (Appends sink.bytes sink'.bytes (journal_text v j receipts)) → IfErr r EndsRun → (IsErrOf r statuses.WriteFault → Rose sink.faults sink'.faults) → IsEnding limit true source source' sink sink' alone same (ended (status_of r))
+  handed_over (Ok done) taken ends cause = written taken
+  handed_over (Err status) taken ends cause = not_written status ends (λ e. cause (ap (λ s. Err s) e))

@@ -1,0 +1,14 @@
+pub mod Draws
+pub mod Stepping
+pub mod Preparing
+pub mod Checking
+pub mod Between
+pub mod Rooms
+pub mod Calling
+pub mod Turns
+pub mod Opening
+pub mod Resting
+pub mod Working
+pub mod Wholes
+pub mod Known
+pub mod Ending

@@ -1,0 +1,6 @@
+use Rattle.std.proofs.Common.{ap}
+use Rattle.damon_live.specs.Machine.{passes_open}
+use Rattle.damon_live.proofs.rest.make_passes.Goals as goal
+
+pub check-requires-clause-begun : goal.check-requires-clause-begun
+check-requires-clause-begun g c = ap passes_open c.arm.ensures.armed

@@ -1,0 +1,7 @@
+use Rattle.std.proofs.Common.{length}
+use Rattle.damon_control.specs.LiveView.{live_said}
+use Rattle.damon_live.proofs.threads.run_threads.Given as goal
+
+-- the table that was just made, and the script that was given
+abbrev pub ghosts-run_named : goal.ghosts-run_named
+ghosts-run_named g a = record { table = a.words; script = live_said a.script; seats = length (live_said a.script).workers }

@@ -1,0 +1,10 @@
+pub mod Names
+pub mod Passes
+pub mod Machine
+pub mod Called
+pub mod Kept
+pub mod Plain
+pub mod Whole
+pub mod Work
+pub mod Ending
+pub mod Answers

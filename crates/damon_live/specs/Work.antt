@@ -1,0 +1,23 @@
+-- What workers are given, and what they did.
+use Rattle.std.specs.Prelude.{◌≡◌, ℕ, ◌<◌, List, [], ◌∷◌, ◌++◌, length, slice_index_or}
+use Rattle.page_words.specs.declared.view.Entry.{Entry as Step}
+use Rattle.page_words.specs.declared.view.Entry.TheVariants.{Gathered}
+use Rattle.damon_control.specs.Live.{LiveValue}
+use Rattle.damon_journal.specs.declared.entry.Receipt.{Receipt}
+use Rattle.damon_journal.specs.Lawful.{touches_of}
+use Rattle.damon_live.specs.Whole.{pages_touched}
+
+-- the trace of a worker, without a page where there is no such worker
+abbrev pub trace_of : LiveValue → ℕ → List ℕ
+trace_of v worker = slice_index_or v.workers worker []
+
+-- the numbers of these are 0, 1, 2 and so on
+abbrev pub AreNumbered : {A : Type 0} → (A → ℕ) → List A → Type 0
+AreNumbered {A = A} number xs = (i : ℕ) (x : A) → i < length xs → number (slice_index_or xs i x) ≡ i
+
+-- a worker's seat was gathered: its receipts are one list more, and their pages are those of its trace
+pub record IsGathered (v : LiveValue) (worker : ℕ) (old new : List Step) (before after : List (List Receipt)) : Type 0 where
+  pub receipts : List Receipt
+  pub more : after ≡ before ++ receipts ∷ []
+  pub entries : new ≡ old ++ Gathered worker (touches_of receipts) ∷ []
+  pub trace : pages_touched receipts ≡ trace_of v worker

@@ -1,0 +1,204 @@
+// Workers, controllers and passes beside each other.
+ghost use Rattle.std.specs.Prelude.{◌≡◌, ℕ, ◌<◌, IfOk, length, vec_len, slice_index_or};
+ghost use Rattle.damon_types.specs.Space.{pages_of};
+ghost use Rattle.damon_control.specs.LiveView.{live_said};
+ghost use Rattle.damon_live.specs.Whole.{AreInSpace};
+ghost use Rattle.damon_live.specs.Work.{AreNumbered};
+
+use crate::kept::Kept;
+use crate::named::Named;
+use crate::pace::{Pace, Spot};
+use crate::work::{Done, Job, work};
+use damon_control::LiveScript;
+use live_commit::Phase;
+use page_words::PageWords;
+use std::alloc::{AllocError, Global};
+use std::sync::{Mutex, Wait};
+use std::thread;
+use std::thread::Threads;
+
+/// Makes the touches of each worker and the calls of each controller in threads of their own, and the
+/// passes in this one.
+pub(crate) fn run_beside<N: Named + Send + Sync, R: Threads + Wait + Sync, P: Pace + Sync>(
+    rt: &R,
+    alloc: Global,
+    words: &PageWords,
+    kept: Kept<N>,
+    told: &LiveScript,
+    jobs: Vec<Job<N>>,
+    pace: &P,
+) -> Result<(Kept<N>, Vec<Done<N>>), AllocError>
+    requires table { words.now ≡ N.table }
+    requires told { live_said told.now ≡ N.script }
+    requires space { N.table.words ≡ pages_of N.script.setup.space }
+    requires pages { AreInSpace N.script }
+    requires numbered { AreNumbered (λ j. j.worker) jobs.items }
+    ensures len { IfOk result (λ r. vec_len r.1 ≡ vec_len jobs) }
+    ensures numbered { IfOk result (λ r. AreNumbered (λ d. d.worker) r.1.items) }
+{
+    let lock = Mutex::new(kept);
+    let shared = &lock;
+    let (made, called) = thread::join(
+        rt,
+        || -> Result<Vec<Done<N>>, AllocError>
+            requires { (words.now ≡ N.table)
+                × (live_said told.now ≡ N.script)
+                × (N.table.words ≡ pages_of N.script.setup.space)
+                × AreInSpace N.script
+                × AreNumbered (λ j. j.worker) jobs.items }
+            ensures { IfOk result (λ d. (vec_len d ≡ vec_len jobs) × AreNumbered (λ d. d.worker) d.items) }
+        { work_beside(rt, words, told, jobs, pace) },
+        || -> Result<Vec<u32>, AllocError>
+            requires { words.now ≡ N.table }
+        { call_beside(rt, alloc, words, shared, told, pace) },
+    );
+    let made = made?;
+    called?;
+    Ok((lock.into_inner(), made))
+}
+
+// Makes the touches of each worker in a thread of its own. What the workers did is in their order.
+fn work_beside<N: Named + Send + Sync, R: Threads + Sync, P: Pace + Sync>(
+    rt: &R,
+    words: &PageWords,
+    told: &LiveScript,
+    jobs: Vec<Job<N>>,
+    pace: &P,
+) -> Result<Vec<Done<N>>, AllocError>
+    requires table { words.now ≡ N.table }
+    requires told { live_said told.now ≡ N.script }
+    requires space { N.table.words ≡ pages_of N.script.setup.space }
+    requires pages { AreInSpace N.script }
+    requires numbered { AreNumbered (λ j. j.worker) jobs.items }
+    ensures len { IfOk result (λ d. vec_len d ≡ vec_len jobs) }
+    ensures numbered { IfOk result (λ d. AreNumbered (λ d. d.worker) d.items) }
+{
+    let made = touch_beside(rt, words, told, jobs, pace)?;
+    Ok(made)
+}
+
+// The same, each worker with the number of its job.
+fn touch_beside<N: Named + Send + Sync, R: Threads + Sync, P: Pace + Sync>(
+    rt: &R,
+    words: &PageWords,
+    told: &LiveScript,
+    jobs: Vec<Job<N>>,
+    pace: &P,
+) -> Result<Vec<Done<N>>, AllocError>
+    requires table { words.now ≡ N.table }
+    requires told { live_said told.now ≡ N.script }
+    requires space { N.table.words ≡ pages_of N.script.setup.space }
+    requires pages { AreInSpace N.script }
+    ensures len { IfOk result (λ d. vec_len d ≡ vec_len jobs) }
+    ensures each { IfOk result (λ v. (i : ℕ) (d : _) (j : _) → i < vec_len jobs
+        → (slice_index_or v.items i d).worker ≡ (slice_index_or jobs.items i j).worker) }
+{
+    thread::map_vec(
+        rt,
+        jobs,
+        &|job: Job<N>| -> Done<N>
+            requires { (words.now ≡ N.table)
+                × (live_said told.now ≡ N.script)
+                × (N.table.words ≡ pages_of N.script.setup.space)
+                × AreInSpace N.script }
+            ensures { result.worker ≡ job.worker }
+        { work(words, told, job, pace) },
+    )
+}
+
+// Makes the calls of each controller in a thread of its own, and the passes in this one.
+fn call_beside<N: Named + Send + Sync, R: Threads + Wait + Sync, P: Pace + Sync>(
+    rt: &R,
+    alloc: Global,
+    words: &PageWords,
+    lock: &Mutex<Kept<N>>,
+    told: &LiveScript,
+    pace: &P,
+) -> Result<Vec<u32>, AllocError>
+    requires { words.now ≡ N.table }
+{
+    let (called, ()) = thread::join(
+        rt,
+        || thread::map_indices(
+            rt,
+            alloc,
+            told.controllers.len() as usize,
+            &|controller| call_all(rt, lock, told, controller, pace),
+        ),
+        || -> ()
+            requires { words.now ≡ N.table }
+        { pass_all(rt, lock, words, told.passes, pace) },
+    );
+    called
+}
+
+// Makes the calls of a controller, each in one hold of the lock, and returns how many were made.
+fn call_all<N: Named, P: Pace>(
+    rt: &impl Wait,
+    lock: &Mutex<Kept<N>>,
+    told: &LiveScript,
+    controller: usize,
+    pace: &P,
+) -> u32 {
+    let controller = controller.min(u32::MAX as usize) as u32;
+    if controller >= told.controllers.len() {
+        return 0;
+    }
+    let calls = told.controllers.get(controller).len();
+    for index in 0..calls {
+        pace.wait(Spot::BeforeCall { controller, index });
+        call_next(rt, lock, controller);
+        pace.wait(Spot::AfterCall { controller, index });
+    }
+    calls
+}
+
+// Makes the next call of a controller, if one is left, in one hold of the lock.
+fn call_next<N: Named>(rt: &impl Wait, lock: &Mutex<Kept<N>>, controller: u32) {
+    let mut kept = lock.lock(rt);
+    if kept.calls(controller) < kept.call_limit(controller) {
+        kept.call(controller);
+    }
+}
+
+// Makes the passes, each in two holds of the lock.
+fn pass_all<N: Named, P: Pace>(
+    rt: &impl Wait,
+    lock: &Mutex<Kept<N>>,
+    words: &PageWords,
+    passes: u32,
+    pace: &P,
+)
+    requires { words.now ≡ N.table }
+{
+    for pass in 1..=u64::from(passes) {
+        pace.wait(Spot::BeforePass { pass });
+        arm_next(rt, lock, words);
+        pace.wait(Spot::Armed { pass });
+        check_begun(rt, lock, words);
+    }
+}
+
+// Arms the next pass, if one is left, in one hold of the lock.
+fn arm_next<N: Named>(rt: &impl Wait, lock: &Mutex<Kept<N>>, words: &PageWords)
+    requires { words.now ≡ N.table }
+{
+    let mut kept = lock.lock(rt);
+    if let Phase::Idle = kept.phase() {
+        if kept.passes() < kept.limit() {
+            kept.arm(words);
+        }
+    }
+}
+
+// Ends the pass that is begun, if there is one, in one hold of the lock.
+fn check_begun<N: Named>(rt: &impl Wait, lock: &Mutex<Kept<N>>, words: &PageWords)
+    requires { words.now ≡ N.table }
+{
+    let mut kept = lock.lock(rt);
+    match kept.phase() {
+        Phase::Armed => kept.check(words),
+        Phase::Void => kept.check(words),
+        _ => {}
+    }
+}

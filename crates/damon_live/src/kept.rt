@@ -1,0 +1,224 @@
+ghost use Rattle.std.specs.Prelude.{◌≡◌, ℕ, ◌+◌, ◌*◌, ◌<◌, ◌≤◌, [], IfOk, length, replicate, slice_index};
+ghost use Rattle.damon_types.specs.Space.{pages_of};
+ghost use Rattle.live_commit.specs.declared.phase.Phase.TheVariants.{Armed, Idle};
+ghost use Rattle.damon_core.specs.Reached.{CanOpen};
+ghost use Rattle.damon_core.specs.Stands.{Stands};
+ghost use Rattle.damon_control.specs.LiveText.{KeepsLimits};
+ghost use Rattle.damon_control.specs.LiveView.{live_said};
+ghost use Rattle.damon_journal.specs.declared.entry.Entry.TheVariants.{Call};
+ghost use Rattle.damon_journal.specs.Phases.{IsFree};
+ghost use Rattle.damon_journal.specs.Replay.{IsJournalOf, check_sizes, replay};
+ghost use Rattle.damon_journal.specs.Room.{nothing_said};
+ghost use Rattle.damon_journal.specs.Steps.{steps};
+ghost use Rattle.damon_live.specs.Kept.{CallsAreInOrder, HasEnded, calls_asked, calls_made};
+ghost use Rattle.damon_live.specs.Machine.{passes_made, passes_open, prepare_after, with_one};
+ghost use Rattle.damon_live.specs.Plain.{AddsPlain};
+
+use crate::machine::Machine;
+use crate::named::Named;
+use damon_control::LiveScript;
+use damon_core::Monitor;
+use damon_journal::{CallAnswer, Journal};
+use live_commit::Phase;
+use page_words::{MonitorSeat, PageWords};
+use std::alloc::{AllocError, Global};
+use std::marker::Model;
+
+/// What a call of a controller answered, and the number of its entry in the journal.
+#[derive(Clone, Copy)]
+pub struct Kept1 {
+    pub place: u32,
+    pub answer: CallAnswer,
+}
+
+/// What a run is made of, once no lock holds it.
+#[derive(Drop)]
+pub struct KeptParts {
+    pub script: LiveScript,
+    pub monitor: Monitor,
+    pub seat: MonitorSeat,
+    pub journal: Journal,
+}
+
+/// What the lock keeps: a machine between two passes, or within an armed or void one. In contracts it is
+/// what its journal says.
+#[derive(Drop)]
+pub struct Kept<N: Named> {
+    machine: Machine<N>,
+    // How many calls each controller has made.
+    counts: Vec<u32>,
+}
+
+impl<N: Named> Model for Kept<N> {
+    ghost use Rattle.damon_journal.specs.Replay.{JournalValue};
+    ghost use Rattle.damon_live.specs.Kept.{IsKept};
+
+    ghost Value = { JournalValue };
+
+    ghost view = { λ k. k.machine };
+
+    ghost invariant = { λ k. IsKept N.script k.machine k.counts.items };
+}
+
+impl<N: Named> Kept<N> {
+    /// The monitor before its first pass, with a journal that says nothing. Takes memory; no other call
+    /// does.
+    pub fn new(alloc: Global, script: LiveScript, seat: MonitorSeat) -> Result<Kept<N>, AllocError>
+        requires said { live_said script ≡ N.script }
+        requires seat { seat ≡ record { table = N.table; entries = []; out = N.seats } }
+        requires pages { N.table.words ≡ pages_of N.script.setup.space }
+        requires limits { KeepsLimits N.script }
+        requires product { N.script.passes * N.script.setup.cap ≤ 4194304 }
+        ensures { IfOk result (λ k. k ≡ nothing_said) }
+    {
+        let controllers = script.controllers.len();
+        let counts = vec![in alloc; 0u32; controllers as usize]?;
+        let machine = Machine::new(alloc, script, seat)?;
+        Ok(Kept { machine, counts })
+    }
+
+    /// Where the monitor is: Idle, Armed or Void.
+    pub fn phase(&self) -> Phase
+        ensures phase { result ≡ (replay N.script self.now).state.core.phase }
+        ensures free { IsFree result }
+    {
+        self.machine.phase()
+    }
+
+    /// The passes that were prepared.
+    pub fn passes(&self) -> u32
+        ensures { result ≡ passes_made self.now }
+    {
+        self.machine.passes()
+    }
+
+    /// The passes that the script asks for.
+    pub fn limit(&self) -> u32
+        ensures { result ≡ N.script.passes }
+    {
+        self.machine.limit()
+    }
+
+    /// How many controllers the script has.
+    pub fn controllers(&self) -> u32
+        ensures { result ≡ length N.script.controllers }
+    {
+        self.machine.script().controllers.len()
+    }
+
+    /// How many calls of a controller are in the script, 0 if there is no such controller.
+    pub fn call_limit(&self, controller: u32) -> u32
+        ensures { result ≡ calls_asked controller N.script }
+    {
+        self.machine.call_limit(controller)
+    }
+
+    /// How many calls a controller has made.
+    pub fn calls(&self, controller: u32) -> u32
+        ensures { result ≡ calls_made controller self.now }
+    {
+        count_of(&self.counts, controller)
+    }
+
+    /// The script.
+    pub fn script(&self) -> &LiveScript
+        ensures { live_said result.now ≡ N.script }
+    {
+        self.machine.script()
+    }
+
+    /// Prepares a pass and clears its picks. The phase is Idle, and passes are left.
+    pub fn arm(&mut self, words: &PageWords)
+        requires table { words.now ≡ N.table }
+        requires idle { (replay N.script self.old).state.core.phase ≡ Idle }
+        requires left { passes_made self.old < N.script.passes }
+        ensures entry { self.new ≡ with_one (prepare_after (replay N.script self.old)) self.old }
+        ensures armed { (replay N.script self.new).state.core.phase ≡ Armed }
+        ensures made { passes_made self.new ≡ passes_made self.old + 1 }
+    {
+        self.machine.prepare(words);
+    }
+
+    /// Ends the pass that is armed or void, and makes the aggregation if one is due.
+    pub fn check(&mut self, words: &PageWords)
+        requires table { words.now ≡ N.table }
+        requires begun { passes_open (replay N.script self.old).state.core.phase ≡ 1 }
+        ensures idle { (replay N.script self.new).state.core.phase ≡ Idle }
+        ensures made { passes_made self.new ≡ passes_made self.old }
+    {
+        end_pass(&mut self.machine, words);
+        make_due(&mut self.machine);
+    }
+
+    /// Carries out the next call of a controller. It has one left.
+    pub fn call(&mut self, controller: u32) -> Kept1
+        requires { calls_made controller self.old < calls_asked controller N.script }
+        ensures entry { self.new
+            ≡ with_one (Call controller (calls_made controller self.old) result.answer) self.old }
+        ensures place { result.place ≡ length self.old.entries }
+        ensures idle { (replay N.script self.old).state.core.phase ≡ Idle
+            → (replay N.script self.new).state.core.phase ≡ Idle }
+        ensures made { passes_made self.new ≡ passes_made self.old }
+    {
+        let index = count_of(&self.counts, controller);
+        let answer = self.machine.call(controller, index);
+        self.counts[controller as usize] = index + 1;
+        answer
+    }
+
+    /// Takes what is kept apart, once no lock holds it.
+    pub fn into_parts(self) -> KeptParts
+        ensures script { live_said result.script ≡ N.script }
+        ensures journal { result.journal.value ≡ self }
+        ensures fits { IsJournalOf N.script self }
+        ensures sizes { result.journal.checked ≡ check_sizes N.script self }
+        ensures stands { Stands result.monitor (replay N.script self).state }
+        ensures free { IsFree (replay N.script self).state.core.phase }
+        ensures seat { result.seat
+            ≡ record { table = N.table; entries = steps N.script self; out = N.seats } }
+        ensures can { CanOpen N.script.setup }
+        ensures pages { N.table.words ≡ pages_of N.script.setup.space }
+        ensures most { passes_made self ≤ N.script.passes }
+        ensures calls { CallsAreInOrder N.script self }
+    {
+        let Kept { machine, counts: _ } = self;
+        machine.into_parts()
+    }
+}
+
+// Ends the pass.
+fn end_pass<N: Named>(machine: &mut Machine<N>, words: &PageWords)
+    requires table { words.now ≡ N.table }
+    requires free { IsFree (replay N.script machine.old).state.core.phase }
+    requires begun { passes_open (replay N.script machine.old).state.core.phase ≡ 1 }
+    ensures adds { AddsPlain machine.old machine.new }
+    ensures ended { HasEnded (replay N.script machine.new).state.core.phase }
+    ensures made { passes_made machine.new ≡ passes_made machine.old }
+{
+    match machine.phase() {
+        Phase::Void => machine.void(),
+        _ => machine.check(words),
+    }
+}
+
+// Makes the aggregation if one is due.
+fn make_due<N: Named>(machine: &mut Machine<N>)
+    requires { HasEnded (replay N.script machine.old).state.core.phase }
+    ensures adds { AddsPlain machine.old machine.new }
+    ensures idle { (replay N.script machine.new).state.core.phase ≡ Idle }
+    ensures made { passes_made machine.new ≡ passes_made machine.old }
+{
+    if let Phase::Due = machine.phase() {
+        machine.aggregate();
+    }
+}
+
+// The number of calls of a controller, 0 for one that the script lacks.
+fn count_of(counts: &[u32], controller: u32) -> u32
+    ensures { result ≡ slice_index counts.now controller }
+{
+    match counts.get(controller as usize) {
+        Some(count) => *count,
+        None => 0,
+    }
+}

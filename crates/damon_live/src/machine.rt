@@ -1,0 +1,255 @@
+ghost use Rattle.std.specs.Prelude.{◌≡◌, ◌+◌, ◌*◌, ◌<◌, ◌≤◌, [], Bool, List, IfOk, IsSome, Some, length, slice_index_or};
+ghost use Rattle.live_commit.specs.declared.phase.Phase.TheVariants.{Idle, Armed, Due, Void as VoidPhase};
+ghost use Rattle.damon_journal.specs.declared.entry.Entry.TheVariants.{Call, Check, Void};
+ghost use Rattle.damon_types.specs.Space.{pages_of};
+ghost use Rattle.damon_control.specs.Live.{CallValue};
+ghost use Rattle.damon_control.specs.LiveText.{KeepsLimits};
+ghost use Rattle.damon_control.specs.LiveView.{live_said};
+ghost use Rattle.damon_journal.specs.Growth.{longer};
+ghost use Rattle.damon_journal.specs.Phases.{IsFree};
+ghost use Rattle.damon_journal.specs.Room.{nothing_said};
+ghost use Rattle.damon_core.specs.Reached.{CanOpen};
+ghost use Rattle.damon_core.specs.Stands.{Stands};
+ghost use Rattle.damon_journal.specs.Replay.{IsJournalOf, call_answer, call_at, check_sizes, replay};
+ghost use Rattle.damon_journal.specs.Steps.{steps};
+ghost use Rattle.damon_live.specs.Kept.{HasEnded};
+ghost use Rattle.damon_live.specs.Machine.{aggregate_after, calls_left, passes_made, passes_open, prepare_after, with_one};
+
+use crate::calls::make_call;
+use crate::kept::{Kept1, KeptParts};
+use crate::named::Named;
+use crate::passes::{clear_all, load_all};
+use damon_control::{LiveScript, MAX_CALLS};
+use damon_core::Monitor;
+use damon_journal::{Journal, generator, journals_grow};
+use live_commit::Phase;
+use page_words::{MonitorSeat, PageWords};
+use rand_pcg::Lcg64Xsh32;
+use sampler::draw_words;
+use std::alloc::{AllocError, Global};
+use std::marker::{Model, PhantomData};
+
+/// The monitor of a live run with its journal and its seat. In contracts it is what the journal says: all
+/// else is what that replays to.
+#[derive(Drop)]
+pub struct Machine<N: Named> {
+    script: LiveScript,
+    monitor: Monitor,
+    seat: MonitorSeat,
+    journal: Journal,
+    words: Lcg64Xsh32,
+    drawn: u64,
+    passes: u32,
+    // The random words of an aggregation; the room for them is taken once.
+    buffer: Vec<u32>,
+    of: PhantomData<N>,
+}
+
+impl<N: Named> Model for Machine<N> {
+    ghost use Rattle.std.specs.Prelude.{vec_capacity};
+    ghost use Rattle.damon_journal.specs.Replay.{JournalValue};
+    ghost use Rattle.damon_live.specs.Machine.{IsMachine};
+
+    ghost Value = { JournalValue };
+
+    ghost view = { λ m. m.journal.value };
+
+    ghost invariant = { λ m. IsMachine N.script N.table N.seats m.script m.monitor m.seat m.journal m.words m.drawn m.passes (vec_capacity m.buffer) };
+}
+
+impl<N: Named> Machine<N> {
+    /// A machine before the first pass. Takes memory; no other call does.
+    pub fn new(
+        alloc: Global,
+        script: LiveScript,
+        seat: MonitorSeat,
+    ) -> Result<Machine<N>, AllocError>
+        requires said { live_said script ≡ N.script }
+        requires seat { seat ≡ record { table = N.table; entries = []; out = N.seats } }
+        requires pages { N.table.words ≡ pages_of N.script.setup.space }
+        requires limits { KeepsLimits N.script }
+        requires product { N.script.passes * N.script.setup.cap ≤ 4194304 }
+        ensures { IfOk result (λ m. m ≡ nothing_said) }
+    {
+        // For their clauses alone: the space and the ranges are within their limits.
+        let (_targets, _ranges) = (script.setup.space.targets(), script.setup.ranges.len());
+        let monitor = Monitor::new(alloc, &script.setup)?;
+        let journal = Journal::new(alloc, script.passes, script.setup.cap, MAX_CALLS)?;
+        let buffer = Vec::with_capacity(alloc, 2 * script.setup.cap as usize)?;
+        let words = generator(script.seed);
+        Ok(Machine {
+            script,
+            monitor,
+            seat,
+            journal,
+            words,
+            drawn: 0,
+            passes: 0,
+            buffer,
+            of: PhantomData,
+        })
+    }
+
+    /// Where the monitor is.
+    pub fn phase(&self) -> Phase
+        ensures { result ≡ (replay N.script self.now).state.core.phase }
+    {
+        self.monitor.phase()
+    }
+
+    /// The passes that were prepared.
+    pub fn passes(&self) -> u32
+        ensures { result ≡ passes_made self.now }
+    {
+        self.passes
+    }
+
+    /// The passes that the script asks for.
+    pub fn limit(&self) -> u32
+        ensures { result ≡ N.script.passes }
+    {
+        self.script.passes
+    }
+
+    /// How many calls of a controller are in the script.
+    pub fn call_limit(&self, controller: u32) -> u32
+        ensures { result ≡ length (slice_index_or N.script.controllers controller []) }
+    {
+        let controllers = &self.script.controllers;
+        if controller < controllers.len() {
+            controllers.get(controller).len()
+        } else {
+            0
+        }
+    }
+
+    /// Prepares a pass and clears its picks. The phase is Idle, and not all passes were made.
+    pub fn prepare(&mut self, words: &PageWords)
+        requires table { words.now ≡ N.table }
+        requires idle { (replay N.script self.old).state.core.phase ≡ Idle }
+        requires left { passes_made self.old < N.script.passes }
+        ensures entry { self.new ≡ with_one (prepare_after (replay N.script self.old)) self.old }
+        ensures armed { (replay N.script self.new).state.core.phase ≡ Armed }
+        ensures made { passes_made self.new ≡ passes_made self.old + 1 }
+    {
+        journals_grow();
+        let pass = self.monitor.ticks() + 1;
+        let at = self.drawn;
+        let rows = self.monitor.rows().len();
+        self.monitor.prepare_from(&mut self.words);
+        self.drawn += u64::from(rows);
+        clear_all(words, &mut self.seat, self.monitor.picks(), pass);
+        self.monitor.cleared_next(rows);
+        self.journal.prepare(pass, at);
+        self.passes += 1;
+    }
+
+    /// Loads the picks and ends the pass. The phase is Armed.
+    pub fn check(&mut self, words: &PageWords)
+        requires table { words.now ≡ N.table }
+        requires armed { (replay N.script self.old).state.core.phase ≡ Armed }
+        ensures entry { (results : List Bool) × (self.new
+            ≡ longer self.old (Check ((replay N.script self.old).state.core.ticks + 1)) results) }
+        ensures ended { HasEnded (replay N.script self.new).state.core.phase }
+        ensures made { passes_made self.new ≡ passes_made self.old }
+    {
+        journals_grow();
+        // For their clauses alone: each row has a pick with a result, and there are at most `cap` rows.
+        let (_picks, _rows) = (self.monitor.picks().len(), self.monitor.rows().len());
+        let pass = self.monitor.ticks() + 1;
+        load_all(words, &mut self.seat, &mut self.monitor);
+        self.journal.check(pass, self.monitor.picks());
+        self.monitor.observe();
+    }
+
+    /// Ends a void pass. The phase is Void.
+    pub fn void(&mut self)
+        requires { (replay N.script self.old).state.core.phase ≡ VoidPhase }
+        ensures entry { self.new
+            ≡ with_one (Void ((replay N.script self.old).state.core.ticks + 1)) self.old }
+        ensures ended { HasEnded (replay N.script self.new).state.core.phase }
+        ensures made { passes_made self.new ≡ passes_made self.old }
+    {
+        journals_grow();
+        let pass = self.monitor.ticks() + 1;
+        self.monitor.observe();
+        self.journal.void(pass);
+    }
+
+    /// Carries out the aggregation that is due.
+    pub fn aggregate(&mut self)
+        requires { (replay N.script self.old).state.core.phase ≡ Due }
+        ensures entry { self.new ≡ with_one (aggregate_after (replay N.script self.old)) self.old }
+        ensures idle { (replay N.script self.new).state.core.phase ≡ Idle }
+        ensures made { passes_made self.new ≡ passes_made self.old }
+    {
+        journals_grow();
+        let tick = self.monitor.ticks();
+        let at = self.drawn;
+        let max = self.monitor.attrs().max;
+        draw_words(&mut self.words, 2 * max as usize, &mut self.buffer);
+        self.drawn += 2 * u64::from(max);
+        self.monitor.aggregate(&self.buffer);
+        self.journal.aggregate(tick, at);
+    }
+
+    /// Carries out call `index` of a controller. No aggregation is due, and not all calls were made.
+    pub fn call(&mut self, controller: u32, index: u32) -> Kept1
+        requires free { IsFree (replay N.script self.old).state.core.phase }
+        requires call { IsSome (call_at N.script controller index) }
+        requires left { 0 < calls_left N.script self.old.entries }
+        ensures answer { (call : CallValue) → call_at N.script controller index ≡ Some call
+            → result.answer ≡ call_answer call (replay N.script self.old).state.core }
+        ensures entry { self.new ≡ with_one (Call controller index result.answer) self.old }
+        ensures place { result.place ≡ length self.old.entries }
+        ensures free { IsFree (replay N.script self.new).state.core.phase }
+        ensures open { passes_open (replay N.script self.new).state.core.phase
+            ≡ passes_open (replay N.script self.old).state.core.phase }
+        ensures made { passes_made self.new ≡ passes_made self.old }
+    {
+        journals_grow();
+        let call = self.script.controllers.get(controller).get(index);
+        let answer = make_call(&mut self.monitor, call);
+        let place = self.journal.call(controller, index, answer);
+        Kept1 { place, answer }
+    }
+
+    /// The script.
+    pub fn script(&self) -> &LiveScript
+        ensures { live_said result.now ≡ N.script }
+    {
+        &self.script
+    }
+
+    /// Takes the machine apart.
+    pub fn into_parts(self) -> KeptParts
+        ensures script { live_said result.script ≡ N.script }
+        ensures journal { result.journal.value ≡ self }
+        ensures fits { IsJournalOf N.script self }
+        ensures sizes { result.journal.checked ≡ check_sizes N.script self }
+        ensures stands { Stands result.monitor (replay N.script self).state }
+        ensures seat { result.seat
+            ≡ record { table = N.table; entries = steps N.script self; out = N.seats } }
+        ensures can { CanOpen N.script.setup }
+        ensures pages { N.table.words ≡ pages_of N.script.setup.space }
+        ensures most { passes_made self ≤ N.script.passes }
+    {
+        let Machine {
+            script,
+            monitor,
+            seat,
+            journal,
+            words: _,
+            drawn: _,
+            passes: _,
+            buffer: _,
+            of: _,
+        } = self;
+        KeptParts {
+            script,
+            monitor,
+            seat,
+            journal,
+        }
+    }
+}

@@ -1,0 +1,89 @@
+// A whole run in threads.
+ghost use Rattle.std.specs.Prelude.{◌≡◌, ◌*◌, ◌≤◌, [], IfOk, length, vec_len};
+ghost use Rattle.damon_types.specs.Space.{pages_of};
+ghost use Rattle.damon_core.specs.Stands.{Stands};
+ghost use Rattle.damon_control.specs.LiveText.{KeepsLimits};
+ghost use Rattle.damon_control.specs.LiveView.{live_said};
+ghost use Rattle.damon_journal.specs.Lawful.{receipts_said};
+ghost use Rattle.damon_journal.specs.Replay.{check_sizes, replay};
+ghost use Rattle.damon_live.specs.Whole.{AreInSpace, IsWholeRun, TracesAreInSpace};
+ghost use Rattle.damon_live.specs.Work.{AreNumbered};
+
+use crate::begin::{Begun, begin_run};
+use crate::beside::run_beside;
+use crate::ends::{AloneRun, end_run};
+use crate::jobs::make_words;
+use crate::named::Named;
+use crate::pace::Pace;
+use crate::rest::make_rest;
+use damon_control::LiveScript;
+use page_words::{MonitorSeat, PageWords, WordsAndSeat};
+use std::alloc::{AllocError, Global};
+use std::marker::Brand;
+use std::sync::Wait;
+use std::thread::Threads;
+
+/// Carries out a live script in threads: each worker and each controller in one of its own, and the passes
+/// in this one, all beside each other. Where a thread cannot be made, its work is done by a thread that
+/// goes on. What is left of passes and calls after the threads have ended is made by this one.
+///
+/// `told` says the same as the script, which lies behind the lock; the workers take their traces from it.
+/// The script is within its limits, at most 4,194,304 results of loads fit in its passes, and each page
+/// of its traces is a page of its space. Takes memory; on an error both are dropped. May wait.
+pub fn run_threads<R: Threads + Wait + Sync, P: Pace + Sync>(
+    rt: &R,
+    alloc: Global,
+    script: LiveScript,
+    told: LiveScript,
+    pace: &P,
+) -> Result<AloneRun, AllocError>
+    requires same { live_said told ≡ live_said script }
+    requires limits { KeepsLimits (live_said script) }
+    requires product { script.passes * script.setup.cap ≤ 4194304 }
+    requires pages { TracesAreInSpace told }
+    ensures script { IfOk result (λ r. live_said r.script ≡ live_said script) }
+    ensures run { IfOk result (λ r.
+        IsWholeRun (live_said script) r.journal.value (receipts_said r.receipts)) }
+    ensures stands { IfOk result (λ r.
+        Stands r.monitor (replay (live_said script) r.journal.value).state) }
+    ensures sizes { IfOk result (λ r.
+        r.journal.checked ≡ check_sizes (live_said script) r.journal.value) }
+{
+    let WordsAndSeat { words, seat } = make_words(alloc, &script)?;
+    run_named::<Brand, R, P>(rt, alloc, words, seat, script, told, pace)
+}
+
+// The same on the named table.
+fn run_named<N: Named + Send + Sync, R: Threads + Wait + Sync, P: Pace + Sync>(
+    rt: &R,
+    alloc: Global,
+    words: PageWords,
+    seat: MonitorSeat,
+    script: LiveScript,
+    told: LiveScript,
+    pace: &P,
+) -> Result<AloneRun, AllocError>
+    requires table { words ≡ N.table }
+    requires seat { seat ≡ record { table = N.table; entries = []; out = 0 } }
+    requires said { live_said script ≡ N.script }
+    requires told { live_said told ≡ N.script }
+    requires seats { length N.script.workers ≡ N.seats }
+    requires space { N.table.words ≡ pages_of N.script.setup.space }
+    requires limits { KeepsLimits N.script }
+    requires product { N.script.passes * N.script.setup.cap ≤ 4194304 }
+    requires pages { AreInSpace N.script }
+    ensures script { IfOk result (λ r. live_said r.script ≡ N.script) }
+    ensures run { IfOk result (λ r.
+        IsWholeRun N.script r.journal.value (receipts_said r.receipts)) }
+    ensures stands { IfOk result (λ r. Stands r.monitor (replay N.script r.journal.value).state) }
+    ensures sizes { IfOk result (λ r. r.journal.checked ≡ check_sizes N.script r.journal.value) }
+{
+    let Begun {
+        kept,
+        jobs,
+        receipts,
+    } = begin_run::<N>(alloc, &words, seat, script)?;
+    let (mut kept, made) = run_beside(rt, alloc, &words, kept, &told, jobs, pace)?;
+    make_rest(&mut kept, &words);
+    Ok(end_run(words, kept, made, receipts))
+}

@@ -1,0 +1,284 @@
+ghost use Rattle.std.specs.Prelude.{◌≡◌, ◌≢◌, ◌↔◌, ◌≤◌, ◌<◌, true, Ok, Some, IfErr, IfNone, IfOk, IfSome, IsErrOf, IsSome, OnOk};
+ghost use Rattle.std.specs.List.{AllByRecursion};
+ghost use Rattle.std.specs.Io.KnownBytes.{Appends, IsAtEnd};
+ghost use Rattle.damon_types.specs.Causes.{Rose};
+ghost use Rattle.damon_types.specs.Space.{pages_of};
+ghost use Rattle.damon_core.specs.Stands.{Stands};
+ghost use Rattle.damon_control.specs.LiveText.{KeepsLimits};
+ghost use Rattle.damon_control.specs.LiveView.{live_said};
+ghost use Rattle.damon_control.specs.Script.{live_of};
+ghost use Rattle.damon_control.specs.Sound.{SpellsCalls};
+ghost use Rattle.text_io.specs.Given.{GaveOver};
+ghost use Rattle.text_io.specs.Taken.{WritesPart};
+ghost use Rattle.damon_journal.specs.Lawful.{all_of, receipts_said};
+ghost use Rattle.damon_journal.specs.Replay.{check_sizes, replay};
+ghost use Rattle.damon_journal.specs.Status.{EndsRun, IsRead, IsUnwritten, status_of};
+ghost use Rattle.damon_journal.specs.Text.{journal_text};
+ghost use Rattle.damon_live.specs.Answers.{IsEnding, IsRefused, IsTaken};
+ghost use Rattle.damon_live.specs.Ending.{HasRun, IsExpected, NothingRan, TellsFault, TellsPasses, asks_run, ended_early, ending, most_results};
+ghost use Rattle.damon_live.specs.Whole.{IsWholeRun, TracesAreInSpace};
+
+use crate::ends::AloneRun;
+use crate::pace::Pace;
+use crate::threads::run_threads;
+use damon_control::{LiveScript, live_scripts_are_sound, read_live};
+use damon_journal::{Journal, Receipts, Status, journal_text};
+use damon_types::{PlainList, Sink, Source};
+use std::alloc::Global;
+use std::sync::Wait;
+use std::thread::Threads;
+use text_io::{INPUT_LIMIT, read_all, write_all};
+
+/// The most results of loads that a journal keeps: the passes of a script times its `cap`.
+pub const MAX_RESULTS: u32 = 4_194_304;
+
+/// What a run of the program ended with.
+#[derive(Drop)]
+pub struct LiveEnd {
+    pub status: Status,
+    /// The script that was carried out, if one was.
+    pub script: Option<LiveScript>,
+    /// The journal of its run, else an empty one.
+    pub journal: Journal,
+    /// The receipts of each of its workers, else none.
+    pub receipts: Receipts,
+}
+
+/// Does all of the program `damond`. For the word `run` it reads a live script to its end, carries it out in
+/// threads, and writes the text of its journal once they have ended. It may wait, and what it promises
+/// holds if it returns.
+pub fn live_main<R: Threads + Wait + Sync, S: Source, K: Sink, P: Pace + Sync>(
+    rt: &R,
+    alloc: Global,
+    words: &[String],
+    source: &mut S,
+    sink: &mut K,
+    pace: &P,
+) -> LiveEnd
+    // Where a script was carried out, it is the one that was read, and the journal and the receipts are those
+    // of a whole run of it; else both are empty.
+    ensures run { IfSome (ending result).script (λ v.
+        IsWholeRun v (ending result).journal (ending result).receipts) }
+    ensures script { IfSome (ending result).script (λ v.
+        IfSome (S.left source.old) (λ bytes. live_of bytes ≡ Ok v)) }
+    ensures ran { HasRun result.status → IsSome (ending result).script }
+    ensures none { IfNone (ending result).script (NothingRan (ending result)) }
+
+    // What was written is the text of the journal and the receipts that are returned, in any case a prefix
+    // of it, and nothing where no script was carried out.
+    ensures ok { result.status ≡ Status.Ok → IfSome (ending result).script (λ v.
+        Appends (K.taken sink.old) (K.taken sink.new)
+        (journal_text v (ending result).journal (ending result).receipts)) }
+    ensures part { IfSome (ending result).script (λ v.
+        WritesPart (K.taken sink.old) (K.taken sink.new)
+        (journal_text v (ending result).journal (ending result).receipts)) }
+    ensures unwritten { IfNone (ending result).script (sink.new ≡ sink.old) }
+    ensures early { IsUnwritten result.status → sink.new ≡ sink.old }
+
+    // The status is the one that is expected, or a failure.
+    ensures complete { IsExpected (asks_run words.now) result.status INPUT_LIMIT (S.left source.old)
+        (Rose (S.faults source.old) (S.faults source.new))
+        (Rose (K.faults sink.old) (K.faults sink.new)) }
+
+    // When each other status comes; memory may run out at any time.
+    ensures usage { (result.status ≡ Status.Usage) ↔ (asks_run words.now ≢ true) }
+    ensures too_long { result.status ≢ Status.Memory → IsSome (S.left source.old) →
+        (result.status ≡ Status.TooLong) ↔ GaveOver INPUT_LIMIT (S.left source.old) (S.left source.new) }
+    ensures fault { asks_run words.now ≡ true → IsRead result.status →
+        IfSome (S.left source.old) (TellsFault result.status) }
+    ensures passes { asks_run words.now ≡ true → IsRead result.status →
+        IfSome (S.left source.old) (TellsPasses result.status) }
+    ensures read { result.status ≡ Status.ReadFault →
+        Rose (S.faults source.old) (S.faults source.new) }
+    ensures write { result.status ≡ Status.WriteFault →
+        Rose (K.faults sink.old) (K.faults sink.new) }
+
+    // What was read.
+    ensures end { asks_run words.now ≡ true → IsRead result.status → IsAtEnd (S.left source.new) }
+    ensures unread { asks_run words.now ≢ true → source.new ≡ source.old }
+{
+    serve(rt, alloc, words, source, sink, pace)
+}
+
+// Does what the words ask for.
+fn serve<R: Threads + Wait + Sync, S: Source, K: Sink, P: Pace + Sync>(
+    rt: &R,
+    alloc: Global,
+    words: &[String],
+    source: &mut S,
+    sink: &mut K,
+    pace: &P,
+) -> LiveEnd
+    ensures { IsEnding INPUT_LIMIT (asks_run words.now)
+        (record { bytes = S.left source.old; faults = S.faults source.old })
+        (record { bytes = S.left source.new; faults = S.faults source.new })
+        (record { bytes = K.taken sink.old; faults = K.faults sink.old })
+        (record { bytes = K.taken sink.new; faults = K.faults sink.new })
+        (source.new ≡ source.old) (sink.new ≡ sink.old) (ending result) }
+{
+    if !asks_run(words) {
+        return end_early(alloc, Status::Usage);
+    }
+    match carry_out(rt, alloc, source, pace) {
+        Ok(run) => {
+            let status = status_of(hand_over(alloc, &run, sink));
+            end_run(status, run)
+        }
+        Err(status) => end_early(alloc, status),
+    }
+}
+
+// Whether the words ask for a run.
+fn asks_run(words: &[String]) -> bool
+    ensures { result ≡ asks_run words.now }
+{
+    match words {
+        [word] => word.as_bytes() == b"run".as_slice(),
+        _ => false,
+    }
+}
+
+// The end where no script was carried out.
+fn end_early(alloc: Global, status: Status) -> LiveEnd
+    ensures { ending result ≡ ended_early status }
+{
+    LiveEnd {
+        status,
+        script: None,
+        journal: Journal::empty(alloc),
+        receipts: PlainList::new(alloc),
+    }
+}
+
+// The end of a run.
+fn end_run(status: Status, run: AloneRun) -> LiveEnd
+    ensures { ending result ≡ record {
+      status = status;
+      script = Some (live_said run.script);
+      journal = run.journal.value;
+      receipts = receipts_said run.receipts;
+    } }
+{
+    let AloneRun {
+        script,
+        journal,
+        receipts,
+        monitor: _,
+    } = run;
+    LiveEnd {
+        status,
+        script: Some(script),
+        journal,
+        receipts,
+    }
+}
+
+// The status with which the program ends.
+fn status_of(done: Result<(), Status>) -> Status
+    ensures { result ≡ status_of done }
+{
+    match done {
+        Ok(()) => Status::Ok,
+        Err(status) => status,
+    }
+}
+
+// The live script of an input, twice: what a lock holds is known by its type alone, so one of them lies
+// behind the lock, and the workers take their traces from the other.
+struct Scripts {
+    kept: LiveScript,
+    told: LiveScript,
+}
+
+// Reads a live script to its end and carries it out.
+fn carry_out<R: Threads + Wait + Sync, S: Source, P: Pace + Sync>(
+    rt: &R,
+    alloc: Global,
+    source: &mut S,
+    pace: &P,
+) -> Result<AloneRun, Status>
+    ensures taken { IfOk result (λ run. IsTaken INPUT_LIMIT
+        (record { bytes = S.left source.old; faults = S.faults source.old })
+        (record { bytes = S.left source.new; faults = S.faults source.new })
+        (live_said run.script)) }
+    ensures few { IfOk result (λ run. most_results (live_said run.script) ≤ MAX_RESULTS) }
+    ensures spelled { IfOk result (λ run. SpellsCalls (live_said run.script)) }
+    ensures run { IfOk result (λ run.
+        IsWholeRun (live_said run.script) run.journal.value (receipts_said run.receipts)) }
+    ensures stands { IfOk result (λ run.
+        Stands run.monitor (replay (live_said run.script) run.journal.value).state) }
+    ensures sizes { IfOk result (λ run.
+        run.journal.checked ≡ check_sizes (live_said run.script) run.journal.value) }
+    ensures refused { IfErr result (IsRefused INPUT_LIMIT
+        (record { bytes = S.left source.old; faults = S.faults source.old })
+        (record { bytes = S.left source.new; faults = S.faults source.new })) }
+{
+    let Scripts { kept, told } = take_scripts(alloc, source)?;
+    let run = run_threads(rt, alloc, kept, told, pace)?;
+    Ok(run)
+}
+
+// Reads a source to its end, and returns the live script that its bytes spell, twice. The bytes are dropped
+// at the end of this function.
+fn take_scripts<S: Source>(alloc: Global, source: &mut S) -> Result<Scripts, Status>
+    ensures taken { IfOk result (λ scripts. IsTaken INPUT_LIMIT
+        (record { bytes = S.left source.old; faults = S.faults source.old })
+        (record { bytes = S.left source.new; faults = S.faults source.new })
+        (live_said scripts.kept)) }
+    ensures same { IfOk result (λ scripts. live_said scripts.told ≡ live_said scripts.kept) }
+    ensures limits { IfOk result (λ scripts. KeepsLimits (live_said scripts.kept)) }
+    ensures pages { IfOk result (λ scripts. TracesAreInSpace scripts.told) }
+    ensures few { IfOk result (λ scripts. most_results (live_said scripts.kept) ≤ MAX_RESULTS) }
+    ensures spelled { IfOk result (λ scripts. SpellsCalls (live_said scripts.kept)) }
+    ensures refused { IfErr result (IsRefused INPUT_LIMIT
+        (record { bytes = S.left source.old; faults = S.faults source.old })
+        (record { bytes = S.left source.new; faults = S.faults source.new })) }
+{
+    live_scripts_are_sound();
+    let bytes = read_all(alloc, source)?;
+    let kept = read_live(alloc, &bytes)?;
+    let told = read_live(alloc, &bytes)?;
+    check_passes(&kept)?;
+    Ok(Scripts { kept, told })
+}
+
+// Whether a journal has room for the results of all passes of a script.
+fn check_passes(script: &LiveScript) -> Result<(), Status>
+    ensures ok { OnOk result (most_results (live_said script.now) ≤ MAX_RESULTS) }
+    ensures err { IfErr result (λ status. (status ≡ Status.TooManyPasses script.now.passes script.now.setup.cap)
+        × (MAX_RESULTS < most_results (live_said script.now))) }
+{
+    let (passes, cap) = (script.passes, script.setup.cap);
+    if u64::from(passes) * u64::from(cap) <= u64::from(MAX_RESULTS) {
+        Ok(())
+    } else {
+        Err(Status::TooManyPasses { passes, cap })
+    }
+}
+
+// Hands the text of a run to the sink.
+fn hand_over<K: Sink>(alloc: Global, run: &AloneRun, sink: &mut K) -> Result<(), Status>
+    requires run { IsWholeRun (live_said run.now.script) run.now.journal.value (receipts_said run.now.receipts) }
+    requires stands { Stands run.now.monitor (replay (live_said run.now.script) run.now.journal.value).state }
+    requires sizes { run.now.journal.checked ≡ check_sizes (live_said run.now.script) run.now.journal.value }
+    requires spelled { SpellsCalls (live_said run.now.script) }
+    ensures all { OnOk result (Appends (K.taken sink.old) (K.taken sink.new)
+        (journal_text (live_said run.now.script) run.now.journal.value (receipts_said run.now.receipts))) }
+    ensures answers { IfErr result EndsRun }
+    ensures cause { IsErrOf result Status.WriteFault →
+        Rose (K.faults sink.old) (K.faults sink.new) }
+    ensures part { WritesPart (K.taken sink.old) (K.taken sink.new)
+        (journal_text (live_said run.now.script) run.now.journal.value (receipts_said run.now.receipts)) }
+{
+    let mut text = Vec::new(alloc);
+    journal_text(
+        alloc,
+        &mut text,
+        &run.script,
+        &run.journal,
+        &run.receipts,
+        &run.monitor,
+    )?;
+    write_all(sink, &text)?;
+    Ok(())
+}
