@@ -5,7 +5,7 @@
 
 The heads of that page's tables say what is in them:
 
-    | clause | ..        a clause of `damon_app::replay_main` in each line; the table has all of them
+    | clause | ..        a clause in each line, of the top call that the section's title names; the table has all of them
     | law | ..           an exported function, with its crate
     | .. | contract |    exported functions and methods of the crate that the section's title names, and
                          in brackets the names of clauses that at least one of them has. A definition
@@ -18,7 +18,7 @@ from typing import Iterator, List
 from sources import TOP, Repository
 
 PAGE = TOP / "docs/PROMISES.md"
-TOP_CALL = "damon_app::replay_main"
+TOP_CALLS = ("damon_app::replay_main", "damon_live::live_main")
 NAME = re.compile(r"`([^`]*)`")
 # Functions, and the bracket with clauses that may follow them.
 GROUP = re.compile(r"((?:[^`(]*`[^`]*`)+)\s*(?:\(([^)]*)\))?")
@@ -31,7 +31,7 @@ def main() -> int:
     named = list(names_in_page())
     faults = [f"there is no {names[0]}" for names in named if not known & set(names)]
     listed = {name for names in named for name in names}
-    there = {name for name in repository.clauses if name.startswith(TOP_CALL + ".")}
+    there = {name for name in repository.clauses if name.startswith(tuple(call + "." for call in TOP_CALLS))}
     faults += [f"{name} is missing" for name in sorted(there - listed)]
     if not there or len(named) < len(there):
         faults.append("too few names were found in its tables")
@@ -52,7 +52,7 @@ def names_in_page() -> Iterator[List[str]]:
         elif not head:
             head = "contract" if cells[-1] == "contract" else cells[0]
         elif head == "clause":
-            yield from ([f"{TOP_CALL}.{name}"] for name in NAME.findall(cells[0]))
+            yield from ([f"{crate}.{name}"] for name in NAME.findall(cells[0]))
         elif head == "law":
             yield from ([name] for name in NAME.findall(cells[0]))
         elif head == "contract":

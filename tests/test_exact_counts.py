@@ -157,7 +157,9 @@ class Errors(Refusals):
         message = process.stderr.read()
         process.stderr.close()
         process.wait()
-        self.assertEqual(message, b"")
+        # A slow machine may have been told how far the reading was, which is no error.
+        errors = [line for line in message.splitlines() if not line.endswith(b"million lines read")]
+        self.assertEqual(errors, [])
 
 
 if __name__ == "__main__":

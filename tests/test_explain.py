@@ -44,9 +44,26 @@ show
 end
 """
 
+GOOD_2 = GOOD.replace("damon script 1", "damon script 2").replace("quota=409600,20", "quota=409600,20 time=1000").replace(
+    "metric 5\n", "metric 5\ncost 3 4000\n")
+"""The same in version 2, with a time of the quota and a cost."""
+
+EDITS_2 = (
+    ("cost 3 4000\n", "cost 3 4000\ncost 3 4000\n", "unexpected word", "in the commit of line 16 must come apply", "cost"),
+    ("metric 5\ncost 3 4000\n", "cost 3 4000\nmetric 5\n", "unexpected word", "must come apply", "metric"),
+    ("cost 3 4000", "cost 3", "bad form", "1 word after 'cost', and the line is `cost SLOT NANOS`", "3"),
+    ("cost 3 4000", "cost 256 4000", "bad number", "256 is above 255, the greatest SLOT", "256"),
+    ("damon script 2", "damon script 1", "bad form", "there is no key 'time' in version 1: the keys are size,", "time"),
+    ("quota=409600,20 time", "time", "bad form", "key 'time' stands directly after 'quota'", "time"),
+    ("time=1000", "time=1,2", "bad form", "'time' needs 1 number, `time=NANOS`, and has 2", "1,2"),
+    ("time=1000", "time=x", "bad number", "'x' is not a decimal number", "x"),
+    ("time=1000", "times=1000", "bad form", "there is no key 'times' (is it 'time'?)", "times"),
+    ("step 4\n", "stop 4\n", "unexpected word", "there is no line 'stop' (is it 'step'?)", "stop"),
+)
+
 EDITS = (
     # The place and the text before and after; the kind, the reason, and the words that are marked.
-    ("damon script 1", "damon script 3", "no header", "the first line must be exactly `damon script 1`, and it is", "damon script 3"),
+    ("damon script 1", "damon script 3", "no header", "the first line must be exactly `damon script 1` or `damon script 2`, and it is", "damon script 3"),
     ("damon script 1", "damon script 1\r", "no header", "ends with CR LF", "\r"),
     ("damon script 1", "damon script 1 ", "no header", "without a space before or after it", "damon script 1 "),
     ("seed 42", "seed 042", "bad number", "'042' has a leading zero", "042"),
@@ -173,14 +190,25 @@ class Cases(unittest.TestCase):
 class Edits(unittest.TestCase):
     """A good script with one fault of which the reason is known."""
 
-    def test_the_script_is_good(self) -> None:
+    def test_the_scripts_are_good(self) -> None:
         self.assertIsNone(fault_of(GOOD.encode()))
+        self.assertIsNone(fault_of(GOOD_2.encode()))
+
+    def test_a_cost_in_version_1(self) -> None:
+        script = GOOD.replace("metric 5\n", "metric 5\ncost 3 4000\n")
+        self.assertIn("'cost' is not allowed at this place (costs came with version 2)", self.reason(script))
 
     def test_reasons(self) -> None:
-        for before, after, kind, part, marked in EDITS:
+        self.try_edits(GOOD, EDITS)
+
+    def test_reasons_in_version_2(self) -> None:
+        self.try_edits(GOOD_2, EDITS_2)
+
+    def try_edits(self, good: str, edits: tuple[tuple[str, str, str | None, str, str | None], ...]) -> None:
+        for before, after, kind, part, marked in edits:
             with self.subTest(before=before, after=after[:60]):
-                self.assertIn(before, GOOD)
-                script = GOOD.replace(before, after, 1).encode()
+                self.assertIn(before, good)
+                script = good.replace(before, after, 1).encode()
                 fault = fault_of(script)
                 if kind is None:
                     self.assertIsNone(fault)

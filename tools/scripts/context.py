@@ -4,9 +4,9 @@ from __future__ import annotations
 from dataclasses import dataclass, field
 from functools import cached_property
 
-from .grammar import (AFTER_IN_COMMIT, AFTER_IN_SETUP, BODY, PAGE, Piece, first_word, pass_work, words_of)
+from .grammar import (AFTER_IN_SETUP, BODY, HEADERS, PAGE, Piece, after_in_commit, first_word, pass_work, words_of)
 
-PARTS_OF_COMMIT = ("commit", "attrs", "range", "scheme", "drop", "metric")
+PARTS_OF_COMMIT = ("commit", "attrs", "range", "scheme", "drop", "metric", "cost")
 
 
 @dataclass(frozen=True)
@@ -58,6 +58,11 @@ class Context:
         return len(self.lines) + 1
 
     @cached_property
+    def version(self) -> int | None:
+        """The version of the script; None where its first line is no header."""
+        return next((version for version, header in HEADERS.items() if self.lines[:1] == [header]), None)
+
+    @cached_property
     def setup(self) -> list[list[Piece]]:
         """The words of the lines before `begin`."""
         found = []
@@ -90,7 +95,7 @@ class Context:
         word = first_word(self.lines[-1])
         if not self.in_body:
             return AFTER_IN_SETUP[word]
-        return AFTER_IN_COMMIT[word] if self.commit_line else BODY
+        return after_in_commit(word, self.version or 1) if self.commit_line else BODY
 
     def numbers(self, word: str) -> list[list[int]]:
         """The numbers of each line of the setup with this first word."""

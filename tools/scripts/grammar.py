@@ -7,7 +7,9 @@ from __future__ import annotations
 
 from dataclasses import dataclass
 
-HEADER = "damon script 1"
+HEADERS = {1: "damon script 1", 2: "damon script 2"}
+"""The first line of each version."""
+HEADER = HEADERS[1]
 PAGE = 4096
 MOST_BYTES = 16_777_216
 MOST_WORK = 16_777_216
@@ -92,6 +94,7 @@ FIELDS: dict[str, tuple[Field, ...]] = {
     "commit": (),
     "drop": (n8("SLOT"),),
     "metric": (n32("METRIC"),),
+    "cost": (n8("SLOT"), n64("NANOS")),
     "apply": (),
     "end": (),
 }
@@ -103,13 +106,15 @@ KEY_FIELDS: dict[str, tuple[Field, ...]] = {
     "count": (n32("MIN"), n32("MAX")),
     "age": (n32("MIN"), n32("MAX")),
     "quota": (n64("BYTES"), n32("TICKS")),
+    "time": (n64("NANOS"),),
     "weights": (n16("SIZE"), n16("COUNT"), n16("AGE")),
     "prefer": (),
     "marks": (n32("HIGH"), n32("MID"), n32("LOW")),
     "filter": (),
 }
 """The keys of a scheme in their order, with the numbers of each."""
-KEYS = tuple(KEY_FIELDS)
+KEYS = {1: tuple(key for key in KEY_FIELDS if key != "time"), 2: tuple(KEY_FIELDS)}
+"""The keys of each version: the time of a quota came with version 2."""
 FILTER_FIELDS: dict[str, tuple[Field, ...]] = {
     "addr": (address("FROM"), address("TO")),
     "target": (n32("TARGET"),),
@@ -136,7 +141,15 @@ AFTER_IN_COMMIT: dict[str, tuple[str, ...]] = {
     "drop": ("metric", "apply"),
     "metric": ("apply",),
 }
-"""The same between `commit` and `apply`."""
+"""The same between `commit` and `apply`, in version 1."""
+
+
+def after_in_commit(word: str, version: int) -> tuple[str, ...]:
+    """The words that may follow a line of a commit: in version 2 a cost may stand before `apply`."""
+    if word == "cost":
+        return ("apply",)
+    words = AFTER_IN_COMMIT[word]
+    return words if version == 1 else (*words[:-1], "cost", "apply")
 
 
 def words_of(line: str) -> list[Piece]:

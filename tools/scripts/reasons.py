@@ -9,7 +9,7 @@ from typing import Callable, Optional
 
 from . import schemes
 from .context import Context, context_of
-from .grammar import (ADDRESS_END, FIELDS, HEADER, LAST_CLASS, LEAST_REGIONS, MOST_AGGR, MOST_CAP, MOST_PAGES,
+from .grammar import (ADDRESS_END, FIELDS, HEADER, HEADERS, LAST_CLASS, LEAST_REGIONS, MOST_AGGR, MOST_CAP, MOST_PAGES,
                       MOST_STEPS, MOST_TARGETS, MOST_UNIT, MOST_WORK, PAGE, Piece, first_word, pass_work, words_of)
 from .judge import Fault
 from .schemes import Finding, like
@@ -19,6 +19,7 @@ from .wording import counted, listed
 Reason = tuple[str, Optional[Piece]]
 """A reason in words, and the part of the line that it is about, if there is one."""
 LIMITS = {"unit": (1, MOST_UNIT), "cap": (LEAST_REGIONS, MOST_CAP), "step": (1, MOST_STEPS)}
+WANTED_HEADER = "` or `".join(HEADERS.values())
 SHOWN = 40
 """The most characters of a word in a sentence."""
 
@@ -28,7 +29,7 @@ def reason_of(script: bytes, fault: Fault) -> Reason | None:
     find = BY_KIND.get(fault.kind)
     context = context_of(script, fault.line)
     # The lines of another version of the format are not known here.
-    if find is None or context.lines and context.lines[0] != HEADER:
+    if find is None or context.lines and context.version is None:
         return None
     return find(context)
 
@@ -45,7 +46,7 @@ def cut(context: Context) -> Reason:
     if context.rest:
         return f"the text ends before the LF of this line, {short(context.rest)}", None
     if not context.lines:
-        return f"the text is empty, and its first line must be `{HEADER}`", None
+        return f"the text is empty, and its first line must be `{WANTED_HEADER}`", None
     if context.commit_line:
         return f"the text ends in the commit that begins at line {context.commit_line}: `apply` is missing", None
     missing = "`end` is missing" if context.in_body else f"{listed(context.allowed)} must follow"
@@ -58,10 +59,10 @@ def after_end(context: Context) -> Reason:
 
 
 def header(context: Context) -> Reason:
-    line, wanted = context.line, f"the first line must be exactly `{HEADER}`"
-    if line == HEADER + "\r":
+    line, wanted = context.line, f"the first line must be exactly `{WANTED_HEADER}`"
+    if line.removesuffix("\r") in HEADERS.values():
         return f"{wanted}, and it ends with CR LF: lines end with LF alone", Piece("\r", len(HEADER))
-    if line.strip() == HEADER:
+    if line.strip() in HEADERS.values():
         return f"{wanted}, without a space before or after it", whole(context)
     if line.startswith("\xef\xbb\xbf"):
         return f"{wanted}, and it begins with a byte order mark", Piece(line[:3], 0)
@@ -83,11 +84,13 @@ def unexpected_word(context: Context) -> Reason:
         return f"{short(context.line)}: a script has no comments", word
     if word.text not in FIELDS and word.text != "scheme":
         return f"there is no line {short(word.text)}{like(word.text, (*FIELDS, 'scheme'))}: {here}", word
-    return f"{word.text!r} is not allowed at this place{slots_twice(context, word.text)}: {here}", word
+    return f"{word.text!r} is not allowed at this place{why_not(context, word.text)}: {here}", word
 
 
-def slots_twice(context: Context, word: str) -> str:
-    """What to say of a second change of a slot in one commit."""
+def why_not(context: Context, word: str) -> str:
+    """What to say of a second change of a slot in one commit, and of a cost in version 1."""
+    if context.commit_line and word == "cost" and context.version == 1:
+        return " (costs came with version 2)"
     if not context.commit_line or word not in ("scheme", "drop"):
         return ""
     before = [first_word(line) for line in context.lines[context.commit_line :]]
@@ -105,7 +108,7 @@ def bad_form(context: Context) -> Reason | None:
     if line.endswith(" "):
         return "a space at the end of the line", Piece(" ", len(line) - 1)
     word = first_word(line)
-    return schemes.wrong_form(line) if word == "scheme" else wrong_count(line, word)
+    return schemes.wrong_form(line, context.version or 1) if word == "scheme" else wrong_count(line, word)
 
 
 def wrong_count(line: str, word: str) -> Reason | None:

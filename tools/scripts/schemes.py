@@ -7,7 +7,7 @@ from typing import Iterator
 
 from .grammar import (ACTIONS, FILTER_FIELDS, KEY_FIELDS, KEYS, LAST_CLASS, LAST_SLOT, MOST_FILTERS, PAGE, Field, Piece,
                       n8, words_of)
-from .wording import listed
+from .wording import counted, listed
 
 Finding = tuple[str, Piece]
 """A reason in words, and the part of the line that it is about."""
@@ -63,8 +63,8 @@ def like(word: str, known: tuple[str, ...]) -> str:
     return f" (is it {close[0]!r}?)" if close else ""
 
 
-def wrong_form(line: str) -> Finding | None:
-    """Why the form of a scheme line is wrong, where its spaces are right."""
+def wrong_form(line: str, version: int) -> Finding | None:
+    """Why the form of a scheme line is wrong in a script of this version, where its spaces are right."""
     words = words_of(line)
     if len(words) < 3:
         return "a scheme needs a slot and an action: `scheme SLOT ACTION KEYS`", words[-1]
@@ -75,22 +75,25 @@ def wrong_form(line: str) -> Finding | None:
         if "=" not in word.text:
             return f"{word.text!r} is not a word `key=value`", word
         key = Key.of(word)
-        if wrong := wrong_key(key, before) or wrong_value(key):
+        if wrong := wrong_key(key, before, version) or wrong_value(key):
             return wrong
         before = key.name.text
     return None
 
 
-def wrong_key(key: Key, before: str | None) -> Finding | None:
+def wrong_key(key: Key, before: str | None, version: int) -> Finding | None:
     """Why this key cannot stand here, after the key `before`."""
-    name = key.name.text
-    if name not in KEYS:
-        return f"there is no key {name!r}{like(name, KEYS)}: the keys are {', '.join(KEYS)}", key.name
-    if before is None or KEYS.index(name) > KEYS.index(before) or name == before == "filter":
+    name, keys = key.name.text, KEYS[version]
+    if name not in keys:
+        later = " in version 1" if name in KEY_FIELDS else like(name, keys)
+        return f"there is no key {name!r}{later}: the keys are {', '.join(keys)}", key.name
+    if name == "time" and before != "quota":
+        return "key 'time' stands directly after 'quota', of which it is a part", key.name
+    if before is None or keys.index(name) > keys.index(before) or name == before == "filter":
         return None
     if name == before:
         return f"key {name!r} twice: only 'filter' may be repeated", key.name
-    return f"key {name!r} after {before!r}: the order is {', '.join(KEYS)}", key.name
+    return f"key {name!r} after {before!r}: the order is {', '.join(keys)}", key.name
 
 
 def wrong_value(key: Key) -> Finding | None:
@@ -104,7 +107,7 @@ def wrong_value(key: Key) -> Finding | None:
     if len(parts) == len(wanted):
         return None
     names = ",".join(field.name for field in wanted)
-    return f"'{name}' needs {len(wanted)} numbers, `{name}={names}`, and has {len(parts)}", value
+    return f"'{name}' needs {counted(len(wanted), 'number')}, `{name}={names}`, and has {len(parts)}", value
 
 
 def wrong_filter(value: Piece) -> Finding | None:
