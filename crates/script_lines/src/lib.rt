@@ -44,7 +44,10 @@ pub use setup::{
     read_target_line, read_unit,
 };
 pub use touches::leading_touch;
-pub use words::{alone, first_word, same_word};
+pub use words::{
+    Words, alone, arguments, first_word, four_words, read_8, read_32, read_64, read_byte_address,
+    same_word,
+};
 pub use writers::{
     write_attrs, write_change_line, write_cost, write_number_line, write_range, write_target,
 };

@@ -11,6 +11,7 @@ use damon_types::{Attrs, CostPart, RangeSpec, SlotChange, Version};
 use live_commit::Commit;
 
 /// What one line of a commit says.
+#[derive(Drop)]
 pub enum Part {
     Attrs(Attrs),
     Range(RangeSpec),

@@ -11,7 +11,7 @@ use line_text::{
     three_parts, two_parts,
 };
 
-// The words after the first of a line, as text. None if there are none.
+/// The words after the first of a line, as text. None if there are none.
 pub type Words<'a> = Option<&'a [u8]>;
 
 /// Whether two words are the same.
@@ -29,7 +29,7 @@ pub fn first_word(line: &[u8]) -> &[u8]
     first
 }
 
-// The words after the first, of a well-formed line that begins with this one.
+/// The words after the first, of a well-formed line that begins with this one.
 pub fn arguments<'a>(word: &[u8], line: &'a [u8]) -> Result<Words<'a>, ScriptKind>
     ensures { shown_words result ≡ arguments word.now line.now }
 {
@@ -79,7 +79,7 @@ pub fn three_words<'a>(words: Words<'a>) -> Result<(&'a [u8], &'a [u8], &'a [u8]
     three_parts(words.ok_or(ScriptKind::Form)?, b' ').ok_or(ScriptKind::Form)
 }
 
-// The four words that there are.
+/// The four words that there are.
 pub fn four_words<'a>(
     words: Words<'a>,
 ) -> Result<(&'a [u8], &'a [u8], &'a [u8], &'a [u8]), ScriptKind>
@@ -88,12 +88,14 @@ pub fn four_words<'a>(
     four_parts(words.ok_or(ScriptKind::Form)?, b' ').ok_or(ScriptKind::Form)
 }
 
+/// A number of 8 bits.
 pub fn read_8(word: &[u8]) -> Result<u8, ScriptKind>
     ensures { result ≡ number_8 word.now }
 {
     read_number_8(word).ok_or(ScriptKind::Number)
 }
 
+// A number of 16 bits.
 pub fn read_16(word: &[u8]) -> Result<u16, ScriptKind>
     ensures { result ≡ number_16 word.now }
 {
@@ -101,18 +103,21 @@ pub fn read_16(word: &[u8]) -> Result<u16, ScriptKind>
     Ok(number as u16)
 }
 
+/// A number of 32 bits.
 pub fn read_32(word: &[u8]) -> Result<u32, ScriptKind>
     ensures { result ≡ number_32 word.now }
 {
     read_number_32(word).ok_or(ScriptKind::Number)
 }
 
+/// A number of 64 bits.
 pub fn read_64(word: &[u8]) -> Result<u64, ScriptKind>
     ensures { result ≡ number_64 word.now }
 {
     read_number(word, u64::MAX).ok_or(ScriptKind::Number)
 }
 
+/// An address.
 pub fn read_byte_address(word: &[u8]) -> Result<u64, ScriptKind>
     ensures { result ≡ byte_address word.now }
 {
