@@ -1,5 +1,5 @@
 -- The lines of all entries of a journal are read back.
-use Rattle.std.proofs.Common.{◌≡◌, ℕ, zero, suc, ◌<◌, Bool, List, [], ◌∷◌, ◌++◌, length, map, Some, refl, sym, ap, ◌∙◌, subst, append_assoc, append-nil, length-append, take-append-drop, arith}
+use Rattle.std.proofs.Common.{◌≡◌, ℕ, ◌<◌, Bool, List, [], ◌∷◌, ◌++◌, length, map, Some, refl, sym, ap, ◌∙◌, subst, append_assoc, append-nil, take-append-drop, arith}
 use Rattle.std.proofs.lemmas.List.{length-map}
 use Rattle.std.specs.Prelude.{slice_index_or}
 use Rattle.damon_control.specs.Live.{CallValue, LiveValue}
@@ -10,28 +10,13 @@ use Rattle.damon_journal.specs.Growth.{longer, replay_with}
 use Rattle.damon_journal.specs.Place.{InEntries}
 use Rattle.damon_journal.specs.Replay.{EntriesFit, EntryFits, IsJournalOf, JournalValue, Replayed, bits_taken, call_at, carried, replay, replay_from}
 use Rattle.damon_journal.specs.Room.{nothing_said}
-use Rattle.damon_journal.specs.Rules.{CallsInTurn, CanCall, InTurn, one_more}
+use Rattle.damon_journal.specs.Rules.{CallsInTurn, CanCall, InTurn}
 use Rattle.damon_journal.specs.Steps.{entry_steps, steps, steps_from}
 use Rattle.damon_journal.specs.Text.{entries_lines, entry_lines, journal_lines}
 use Rattle.damon_journal.proofs.EntriesRead.{EntryLaws, ReadsOn, aggregate_reads, call_reads, check_reads, left, prepare_reads, so_far, taken, void_reads}
 use Rattle.damon_journal.proofs.Leading.{leads_to}
 use Rattle.damon_journal.proofs.Longer.{length-added}
-
--- ---- the calls so far, counted
-
--- the number of calls of a controller
-counts-index : (done : List (List CallValue)) (c : ℕ) → slice_index_or (map length done) c 0 ≡ length (slice_index_or done c [])
-counts-index [] zero = refl
-counts-index [] (suc c) = refl
-counts-index (l ∷ done) zero = refl
-counts-index (l ∷ done) (suc c) = counts-index done c
-
--- one call more is counted for its controller
-counts-added : (done : List (List CallValue)) (c : ℕ) (call : CallValue) → map length (added_to c call done) ≡ one_more c (map length done)
-counts-added [] zero call = refl
-counts-added [] (suc c) call = refl
-counts-added (l ∷ done) zero call = ap (λ k. k ∷ map length done) (length-append l (call ∷ []))
-counts-added (l ∷ done) (suc c) call = ap (λ ks. length l ∷ ks) (counts-added done c call)
+use Rattle.damon_journal.proofs.Turns.{counts-added, counts-at}
 
 -- ---- all entries
 
@@ -51,7 +36,7 @@ next_read laws v can done j b (Void pass) es four is fits turn = record { later 
 next_read laws v can done j b (Aggregate tick pos) es four is fits turn = record { later = done; four = four; reads = aggregate_reads v done j b tick pos is fits; turn = turn }
 next_read laws v can done j b (Call c i answer) es four is fits turn =
     let call = fits.1.0 in
-    let count : i ≡ length (slice_index_or done c []) = turn.1 ∙ counts-index done c in
+    let count : i ≡ length (slice_index_or done c []) = turn.1 ∙ counts-at done c in
     let few : c < 4 = omega (arith, turn.0, length-map done length, four) in
     let there : call_at v c (length (slice_index_or done c [])) ≡ Some call = ap (call_at v c) (sym count) ∙ fits.1.1 in
     record {
@@ -59,7 +44,7 @@ next_read laws v can done j b (Call c i answer) es four is fits turn =
       four = length-added done c call ∙ four;
       reads = subst (λ k. ReadsOn v done j b (Call c k answer) (added_to c call done)) (sym count)
           (call_reads laws v done j b c answer call four few (can c i call fits.1.1) is fits.0 there fits.1.2);
-      turn = subst (λ ks. InTurn ks es) (sym (counts-added done c call)) turn.2;
+      turn = subst (λ ks. InTurn ks es) (counts-added done c call) turn.2;
     }
 
 -- entries are read to their end, from a journal that was read before them

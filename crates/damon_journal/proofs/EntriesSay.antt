@@ -1,5 +1,5 @@
 -- Lines that are read as entries are the lines of the journal that was read.
-use Rattle.std.proofs.Common.{◌≡◌, ℕ, ◌+◌, ◌<◌, ◌&&◌, ◌==◌, Bool, true, false, List, [], ◌∷◌, ◌++◌, codes, length, map, take, Some, None, Ok, Err, refl, sym, ap, ◌∙◌, subst, append_assoc, drop_of_length-le, arith}
+use Rattle.std.proofs.Common.{◌≡◌, ℕ, ◌+◌, ◌≤◌, ◌<◌, ◌&&◌, ◌==◌, Bool, true, false, List, [], ◌∷◌, ◌++◌, codes, length, map, take, Some, None, Ok, Err, refl, sym, ap, ◌∙◌, subst, append_assoc, drop_of_length-le, arith}
 use Rattle.std.proofs.lemmas.Bool.Decides.{nat_tests}
 use Rattle.std.proofs.Math.Seq.{take-length}
 use Rattle.std.specs.Prelude.{Option, Result, option_map, if◌then◌else◌}
@@ -19,6 +19,7 @@ use Rattle.script_lines.specs.Body.{no_commit, part_line, with_part}
 use Rattle.script_lines.specs.Laws.{ReadsOnlyParts}
 use Rattle.script_lines.specs.Words.{same_word}
 use Rattle.damon_core.specs.State.{row_count}
+use Rattle.damon_control.specs.declared.live.TheConstants.{MAX_WORKERS}
 use Rattle.damon_control.specs.CommitLines.{WritesPartsInTurn}
 use Rattle.damon_control.specs.Live.{CallValue, CommitCall, LiveValue, ShowCall}
 use Rattle.damon_control.specs.JournalHead.{head_lines}
@@ -32,6 +33,7 @@ use Rattle.damon_journal.specs.Lawful.{all_of}
 use Rattle.damon_journal.specs.Phases.{IsFree, IsIdle}
 use Rattle.damon_journal.specs.Place.{AtAnswer, AtLast, InBlock, InEntries, InHead, InReceipts, JournalPlace, JournalRead}
 use Rattle.damon_journal.specs.Replay.{EntryFits, IsJournalOf, JournalValue, Replayed, bits_taken, call_answer, carried, replay}
+use Rattle.damon_journal.specs.Rules.{CallsInTurn}
 use Rattle.damon_journal.specs.SeenLine.{has_receipt}
 use Rattle.damon_journal.specs.Spelled.{answered_lines, bit_digit, call_front, call_lines, check_front, spelled_aggregate, spelled_answer, spelled_check, spelled_prepare, spelled_void}
 use Rattle.damon_journal.specs.Steps.{steps}
@@ -40,6 +42,7 @@ use Rattle.damon_journal.proofs.Common.{both_are, if_other, if_some, is_line, ma
 use Rattle.damon_journal.proofs.Leading.{so_some}
 use Rattle.damon_journal.proofs.Longer.{added-keeps, added-last, called_in, length-added, lengthened}
 use Rattle.damon_journal.proofs.SeenSay.{AreSeen, none_seen}
+use Rattle.damon_journal.proofs.Turns.{AreInTurn, IsNoCall, turn_called, turn_same}
 
 -- the laws of the crates below
 pub record SayLaws : Type 0 where
@@ -50,8 +53,9 @@ pub record SayLaws : Type 0 where
 
 -- ---- entries that are no calls
 
--- an entry that a line says: it fits, it takes these results, and its line is this one
+-- an entry that a line says: it is no call, it fits, it takes these results, and its line is this one
 record SaidFits (v : LiveValue) (r : Replayed) (line : List ℕ) (said : Entry × List Bool) : Type 0 where
+  no_call : IsNoCall said.0
   fits : EntryFits v (record r { bits = said.1 }) said.0
   none : (carried v (record r { bits = said.1 }) said.0).bits ≡ []
   lines : entry_lines v (take (bits_taken r.state.core said.0) said.1) said.0 ≡ line ∷ []
@@ -69,7 +73,7 @@ bits_are (c ∷ cs) bits e =
     rest.2
 
 -- and as many as were wanted
-n_bits_are : (n : ℕ) (cs : List ℕ) (bits : List Bool) → n_bits_of n cs ≡ Some bits → (cs ≡ map bit_digit bits) × (length bits ≡ n)
+pub n_bits_are : (n : ℕ) (cs : List ℕ) (bits : List Bool) → n_bits_of n cs ≡ Some bits → (cs ≡ map bit_digit bits) × (length bits ≡ n)
 n_bits_are n cs bits e =
     let some = then_some (bits_of cs) _ bits e in
     let count = if_some (length some.0 == n) some.0 bits some.2 in
@@ -82,6 +86,7 @@ said_fits strips v r Idle line said phase e =
     let prepare : Entry × List Bool = (Prepare (r.state.core.ticks + 1) r.drawn, []) in
     let is = if_some (same_word line (spelled_prepare (r.state.core.ticks + 1) r.drawn)) prepare said e in
     subst (SaidFits v r line) is.1 (record {
+      no_call = tt;
       fits = (phase, refl, refl);
       none = refl;
       lines = ap (λ l. l ∷ []) (sym (is_line line (spelled_prepare (r.state.core.ticks + 1) r.drawn) is.0));
@@ -96,6 +101,7 @@ said_fits strips v r Armed line said phase e =
     let whole : line ≡ spelled_check pass bits = strips (check_front pass) line rest.0 rest.1 ∙ ap (λ l. check_front pass ++ l) are.0 in
     let all : take n bits ≡ bits = ap (λ k. take k bits) (sym are.1) ∙ take-length bits in
     subst (SaidFits v r line) some.2 (record {
+      no_call = tt;
       fits = (phase, refl, omega (arith, are.1));
       none = drop_of_length-le bits (omega (arith, are.1));
       lines = ap (λ bs. spelled_check pass bs ∷ []) all ∙ ap (λ l. l ∷ []) (sym whole);
@@ -104,6 +110,7 @@ said_fits strips v r VoidPhase line said phase e =
     let void : Entry × List Bool = (Void (r.state.core.ticks + 1), []) in
     let is = if_some (same_word line (spelled_void (r.state.core.ticks + 1))) void said e in
     subst (SaidFits v r line) is.1 (record {
+      no_call = tt;
       fits = (phase, refl);
       none = refl;
       lines = ap (λ l. l ∷ []) (sym (is_line line (spelled_void (r.state.core.ticks + 1)) is.0));
@@ -112,6 +119,7 @@ said_fits strips v r Due line said phase e =
     let aggregate : Entry × List Bool = (Aggregate r.state.core.ticks r.drawn, []) in
     let is = if_some (same_word line (spelled_aggregate r.state.core.ticks r.drawn)) aggregate said e in
     subst (SaidFits v r line) is.1 (record {
+      no_call = tt;
       fits = (phase, refl, refl);
       none = refl;
       lines = ap (λ l. l ∷ []) (sym (is_line line (spelled_aggregate r.state.core.ticks r.drawn) is.0));
@@ -127,6 +135,7 @@ pub record SayJournal (head : List (List ℕ)) (lines : List (List ℕ)) (v : Li
   pub journal : IsJournalOf v j
   pub head_is : head_lines v.seed v.setup ≡ head
   pub four : length v.controllers ≡ 4
+  pub turn : AreInTurn v j.entries
 
 -- and some lines of a call
 pub record SayCallOf (head : List (List ℕ)) (lines more : List (List ℕ)) (v : LiveValue) (j : JournalValue) (c : ℕ) : Type 0 where
@@ -134,6 +143,7 @@ pub record SayCallOf (head : List (List ℕ)) (lines more : List (List ℕ)) (v 
   pub journal : IsJournalOf v j
   pub head_is : head_lines v.seed v.setup ≡ head
   pub four : length v.controllers ≡ 4
+  pub turn : AreInTurn v j.entries
   pub free : IsFree (replay v j).state.core.phase
   pub few : c < 4
 
@@ -142,6 +152,8 @@ pub record SaySeen (head : List (List ℕ)) (lines more : List (List ℕ)) (v : 
   pub spelled : lines ≡ journal_lines v j ++ codes "receipts" ∷ (seen_lines v.setup.space 0 all ++ more)
   pub journal : IsJournalOf v j
   pub head_is : head_lines v.seed v.setup ≡ head
+  pub turn : CallsInTurn j.entries
+  pub workers : length all ≤ MAX_WORKERS
   pub idle : IsIdle (replay v j).state.core.phase
   pub seen : AreSeen (pages_of v.setup.space) (steps v j) all
 
@@ -197,6 +209,7 @@ entry_says laws head lines v j line next before e =
       journal = more.journal;
       head_is = before.head_is;
       four = before.four;
+      turn = turn_same v j.entries some.0.0 fits.no_call before.turn;
     })
 
 -- the first line of a call of this controller
@@ -211,6 +224,7 @@ call_says laws head lines v j c line next few free before e =
       journal = before.journal;
       head_is = before.head_is;
       four = before.four;
+      turn = before.turn;
       free = free;
       few = few;
     }))
@@ -221,6 +235,7 @@ call_says laws head lines v j c line next few free before e =
       journal = before.journal;
       head_is = before.head_is;
       four = before.four;
+      turn = before.turn;
       free = free;
       few = few;
     }))
@@ -257,6 +272,8 @@ in_entries laws head lines v j line next before e =
           spelled = (λ i. before.spelled i ++ is_line line (codes "receipts") both.0 i ∷ []);
           journal = before.journal;
           head_is = before.head_is;
+          turn = before.turn.turn;
+          workers = omega arith;
           idle = is_idle-IsIdle (replay v j).state.core.phase both.1;
           seen = none_seen (pages_of v.setup.space) (steps v j);
         })
@@ -278,6 +295,7 @@ in_block laws head lines v j c commit line next before e =
       journal = before.journal;
       head_is = before.head_is;
       four = before.four;
+      turn = before.turn;
       free = before.free;
       few = before.few;
     })
@@ -295,6 +313,7 @@ in_block laws head lines v j c commit line next before e =
           journal = before.journal;
           head_is = before.head_is;
           four = before.four;
+          turn = before.turn;
           free = before.free;
           few = before.few;
         })
@@ -318,4 +337,5 @@ at_answer head lines v j c call line next before e =
       journal = more.journal;
       head_is = before.head_is;
       four = length-added v.controllers c call ∙ before.four;
+      turn = turn_called v j.entries c call answer (omega (arith, before.four, before.few)) before.turn;
     })

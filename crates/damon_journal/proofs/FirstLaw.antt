@@ -66,6 +66,7 @@ text_of_lawful together text said is =
         idle = is.says.seen.idle;
         receipts = all_seen (pages_of v.setup.space) (steps v j) said.receipts is.says.seen.seen is.says.received;
       };
+      rules = record { turn = is.says.seen.turn; workers = is.says.seen.workers };
       spelled = is.whole ∙ ap (λ t. t ++ is.last) lines ∙ append_assoc (lines_text all) (lines_text shown) is.last ∙ ap (λ t. lines_text all ++ t) ends;
     }
 
@@ -90,7 +91,7 @@ read_says laws text said led =
           ∙ joined_before (head.front ++ head.body) (led.last ∷ []) (omega arith);
       head_is = sym nothing ∙ laws.heads (lines_text head.front ++ []) h is_head;
       says = lines_say laws.say (head_lines h.seed h.setup) [] (InEntries (uncalled h) nothing_said) head.body (AtLast said (led.last ∷ []))
-          (record { spelled = refl; journal = record { fit = tt; none_left = refl }; head_is = refl; four = refl })
+          (record { spelled = refl; journal = record { fit = tt; none_left = refl }; head_is = refl; four = refl; turn = record { turn = tt; next = refl } })
           head.lead;
     }
 

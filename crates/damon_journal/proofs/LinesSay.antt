@@ -25,6 +25,7 @@ use Rattle.damon_journal.specs.Text.{journal_lines, last_text, seen_lines}
 use Rattle.damon_journal.proofs.Common.{both_are, if_some, is_line, map_some, or_cases, then_some}
 use Rattle.damon_journal.proofs.EntriesSay.{SayLast, SayLaws, SaySeen, SaysEntries, at_answer, in_block, in_entries}
 use Rattle.damon_journal.proofs.Leading.{leads_to, so_some}
+use Rattle.damon_journal.proofs.SeenAfter.{count_more}
 use Rattle.damon_journal.proofs.SeenSay.{count_padded, seen_added}
 
 -- ---- lines of receipts
@@ -84,6 +85,7 @@ said_seen laws space line x e =
 -- a receipt that may come next
 record MayCome (v : LiveValue) (j : JournalValue) (all : List (List Receipt)) (w : ℕ) (r : Receipt) : Type 0 where
   few : length all ≤ w + 1
+  within : w < MAX_WORKERS
   named : is_tag (steps v j) r.page r.tag ≡ true
   risen : is_risen (receipts_so_far all w) r ≡ true
 
@@ -93,7 +95,7 @@ may_come_next v j all w r e =
     let may = both_are (nat_le (length all) (w + 1) && nat_lt w MAX_WORKERS) (is_tag (steps v j) r.page r.tag && is_risen (receipts_so_far all w) r) e in
     let worker = both_are (nat_le (length all) (w + 1)) (nat_lt w MAX_WORKERS) may.0 in
     let tests = both_are (is_tag (steps v j) r.page r.tag) (is_risen (receipts_so_far all w) r) may.1 in
-    record { few = grind (arith, nat_tests, worker.0); named = tests.0; risen = tests.1 }
+    record { few = grind (arith, nat_tests, worker.0); within = grind (arith, nat_tests, worker.1); named = tests.0; risen = tests.1 }
 
 -- a `seen` line
 seen_says : SayLaws → (head lines : List (List ℕ)) (v : LiveValue) (j : JournalValue) (all : List (List Receipt)) (line : List ℕ) (next : JournalPlace)
@@ -116,6 +118,8 @@ seen_says laws head lines v j all line next before e =
           ∙ ap (λ ls. journal_lines v j ++ codes "receipts" ∷ ls) (append_assoc so_far [] (own ∷ []) ∙ sym (seen_more space all w r may.few) ∙ sym (append-nil later));
       journal = before.journal;
       head_is = before.head_is;
+      turn = before.turn;
+      workers = omega (arith, may.within, count_more all w r may.few);
       idle = before.idle;
       seen = seen_added (pages_of space) (steps v j) all w r may.few before.seen said.below may.named may.risen;
     })
@@ -137,6 +141,8 @@ settled_says head lines v j all line next before e =
             ∙ ap (λ ls. journal_lines v j ++ codes "receipts" ∷ ls) (append_assoc so_far [] (codes "settled" ∷ []));
         journal = before.journal;
         head_is = before.head_is;
+        turn = before.turn;
+        workers = before.workers;
         idle = before.idle;
         seen = before.seen;
       };
@@ -163,6 +169,8 @@ at_last head lines said (w ∷ wanted ∷ more) line next before e =
             ∙ ap (λ ls. entries ++ codes "receipts" ∷ ls) (append_assoc seen (codes "settled" ∷ before.shown) (w ∷ []));
         journal = before.seen.journal;
         head_is = before.seen.head_is;
+        turn = before.seen.turn;
+        workers = before.seen.workers;
         idle = before.seen.idle;
         seen = before.seen.seen;
       };

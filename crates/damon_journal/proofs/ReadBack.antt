@@ -66,8 +66,8 @@ lawful_read_back laws numbered v j all lawful can =
       setup = can.setup;
       places = places;
       can = can.calls;
-      turn = can.turn;
-      workers = can.workers;
+      turn = can.rules.turn;
+      workers = can.rules.workers;
       tags = can.tags;
-      lines = body_pieces laws.words laws.entries.block v j all places can.calls can.workers can.numbers (receipts_fit v.setup.space all lawful.receipts.within can.tags);
+      lines = body_pieces laws.words laws.entries.block v j all places can.calls can.rules.workers can.numbers (receipts_fit v.setup.space all lawful.receipts.within can.tags);
     })

@@ -24,6 +24,10 @@ use Rattle.damon_journal.specs.Spelled.{call_front, check_front, spelled_aggrega
 abbrev pub where_so : Bool → JournalPlace → Option JournalPlace
 where_so test place = if test then Some place else None
 
+-- the result that a digit says
+abbrev pub bit_of : ℕ → Option Bool
+bit_of c = if c == 49 then Some true else if c == 48 then Some false else None
+
 -- the results that digits say
 abbrev pub bits_of : List ℕ → Option (List Bool)
 bits_of [] = Some []

@@ -13,7 +13,16 @@ pub mod Spelled
 pub mod Results
 pub mod Place
 pub mod EntryLine
+pub mod Replaying
 pub mod SeenLine
+pub mod Ahead
 pub mod Reading
 pub mod Rules
 pub mod Examples
+pub mod Counted
+pub mod LinesLeft
+pub mod EndsOfText
+pub mod Folding
+pub mod SeenPart
+pub mod Verified
+pub mod CallLine

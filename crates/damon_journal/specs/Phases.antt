@@ -1,7 +1,7 @@
 -- Where entries of a journal fit.
-use Rattle.std.specs.Prelude.{◌≡◌}
+use Rattle.std.specs.Prelude.{◌≡◌, ℕ, zero, suc}
 use Rattle.live_commit.specs.declared.phase.Phase.{Phase}
-use Rattle.live_commit.specs.declared.phase.Phase.TheVariants.{Idle, Armed, Void, Due}
+use Rattle.live_commit.specs.declared.phase.Phase.TheVariants.{Idle, Armed, Checking, Void, Due}
 
 -- no pass is under way
 abbrev pub IsIdle : Phase → Type 0
@@ -25,3 +25,8 @@ IsFree Idle = Unit {0}
 IsFree Armed = Unit {0}
 IsFree Void = Unit {0}
 IsFree _ = ⊥
+
+-- the phase in which this many picks are loaded
+abbrev pub phase_loaded : ℕ → Phase
+phase_loaded zero = Armed
+phase_loaded (suc k) = Checking (suc k)

@@ -18,7 +18,7 @@ use Rattle.damon_journal.specs.Reading.{read_journal}
 use Rattle.damon_journal.specs.Replay.{JournalValue, call_at}
 use Rattle.damon_journal.specs.Text.{journal_text}
 
--- ---- the three rules
+-- ---- the rules
 
 -- numbers of which the one with this index is one greater
 abbrev pub one_more : ℕ → List ℕ → List ℕ
@@ -39,6 +39,12 @@ InTurn next (Aggregate tick position ∷ es) = InTurn next es
 -- the calls of each of four controllers are numbered 0, 1, 2 and so on
 abbrev pub CallsInTurn : List Entry → Type 0
 CallsInTurn es = InTurn (0 ∷ 0 ∷ 0 ∷ 0 ∷ []) es
+
+-- The rules that a text keeps beside those of lawful runs: the calls are numbered in turn, and there are at most 16 workers. That
+-- workers come in order, and each page by the address of its first byte, is how a text is made of receipts.
+pub record KeepsRules (j : JournalValue) (all : List (List Receipt)) : Type 0 where
+  pub turn : CallsInTurn j.entries
+  pub workers : length all ≤ MAX_WORKERS
 
 -- ---- values within their types
 
@@ -78,21 +84,21 @@ EntryNumbersFit (Call controller index answer) = (controller < 2 ^ 64) × (index
 abbrev pub TagsFit : List (List Receipt) → Type 0
 TagsFit all = AllByRecursion (λ rs. AllByRecursion (λ r. r.tag < 2 ^ 64) rs) all
 
--- What a text asks of a journal and receipts besides that they are lawful: what it spells are values of their types, its commits have
--- no empty list of ranges and none of what its version does not spell, its calls are numbered in turn, and there are at most 16 workers.
+-- What a text asks of a journal and receipts besides that they are lawful and keep the rules: what it spells are values of their types,
+-- and its commits have no empty list of ranges and none of what its version does not spell.
 pub record IsSpellable (v : LiveValue) (j : JournalValue) (all : List (List Receipt)) : Type 0 where
   pub setup : IsWritable v.seed v.setup
   pub calls : CanCall v
-  pub turn : CallsInTurn j.entries
+  pub rules : KeepsRules j all
   pub numbers : AllByRecursion EntryNumbersFit j.entries
-  pub workers : length all ≤ MAX_WORKERS
   pub tags : TagsFit all
 
 -- ---- the laws
 
--- what was read is lawful, and this is its text
+-- what was read is lawful and keeps the rules, and this is its text
 pub record IsTextOfLawful (text : List ℕ) (said : JournalRead) : Type 0 where
   pub lawful : IsLawful said.live said.journal said.receipts
+  pub rules : KeepsRules said.journal said.receipts
   pub spelled : text ≡ journal_text said.live said.journal said.receipts
 
 -- each text that is read is the text of a lawful journal, which is what was read

@@ -4,6 +4,8 @@ use Rattle.text_io.specs.declared.input.InputFault.{InputFault}
 use Rattle.text_io.specs.declared.input.InputFault.TheVariants as inputs
 use Rattle.damon_control.specs.declared.fault.ReadFail.{ReadFail}
 use Rattle.damon_control.specs.declared.fault.ReadFail.TheVariants as reads
+use Rattle.damon_journal.specs.declared.lawful.VerifyFault.{VerifyFault}
+use Rattle.damon_journal.specs.declared.lawful.VerifyFault.TheVariants as faults
 use Rattle.damon_journal.specs.declared.status.Status.{Status}
 use Rattle.damon_journal.specs.declared.status.Status.TheVariants as statuses
 
@@ -17,6 +19,7 @@ number_of statuses.ReadFault = 5
 number_of statuses.WriteFault = 6
 number_of statuses.Memory = 7
 number_of (statuses.TooManyPasses passes cap) = 9
+number_of (statuses.Unlawful line) = 10
 
 -- the status where an input was not read to its end
 abbrev pub input_status : InputFault → Status
@@ -28,6 +31,11 @@ input_status inputs.TooLong = statuses.TooLong
 abbrev pub read_status : ReadFail → Status
 read_status (reads.Script fault) = statuses.Script fault.line fault.kind
 read_status reads.Memory = statuses.Memory
+
+-- the status where a text was not verified
+abbrev pub verify_status : VerifyFault → Status
+verify_status (faults.Unlawful line) = statuses.Unlawful line
+verify_status faults.Memory = statuses.Memory
 
 -- the status is a failure: memory ran out, a read failed, or a write failed
 abbrev pub IsFailure : Status → Type 0 → Type 0 → Type 0
@@ -48,6 +56,7 @@ IsRead statuses.Ok = Unit {0}
 IsRead (statuses.Script line kind) = Unit {0}
 IsRead statuses.WriteFault = Unit {0}
 IsRead (statuses.TooManyPasses passes cap) = Unit {0}
+IsRead (statuses.Unlawful line) = Unit {0}
 IsRead _ = ⊥
 
 -- nothing was written
@@ -57,6 +66,7 @@ IsUnwritten (statuses.Script line kind) = Unit {0}
 IsUnwritten statuses.TooLong = Unit {0}
 IsUnwritten statuses.ReadFault = Unit {0}
 IsUnwritten (statuses.TooManyPasses passes cap) = Unit {0}
+IsUnwritten (statuses.Unlawful line) = Unit {0}
 IsUnwritten _ = ⊥
 
 -- the status that a result becomes

@@ -148,7 +148,7 @@ fn write_front(out: &mut Vec<u8>, controller: u32, index: u32) -> Result<(), All
 
 // Appends `answer ANSWER`.
 #[tactic(auto, using(crate::proofs::Appending::appends))]
-fn write_answer(out: &mut Vec<u8>, answer: CallAnswer) -> Result<(), AllocError>
+pub(crate) fn write_answer(out: &mut Vec<u8>, answer: CallAnswer) -> Result<(), AllocError>
     ensures ok { OnOk result (out.new.items
         ≡ out.old.items ++ lines_text (spelled_answer answer ∷ [])) }
     ensures kept { KeepsFront out.old.items out.new.items }

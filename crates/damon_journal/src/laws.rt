@@ -1,5 +1,5 @@
 // Laws of the definitions. No function here does anything.
-ghost use Rattle.std.specs.Prelude.{List, ℕ, ◌≤◌};
+ghost use Rattle.std.specs.Prelude.{List, ℕ, ◌≡◌, ◌≤◌, Err};
 ghost use Rattle.damon_control.specs.Live.{LiveValue};
 ghost use Rattle.damon_core.specs.Reached.{CanOpen};
 ghost use Rattle.damon_journal.specs.declared.entry.Receipt.{Receipt as receipt};
@@ -7,8 +7,10 @@ ghost use Rattle.damon_journal.specs.Examples.{Comes};
 ghost use Rattle.damon_journal.specs.Few.{hits_of, receipts_of};
 ghost use Rattle.damon_journal.specs.Growth.{GrowsByEntries, GrowsByOthers};
 ghost use Rattle.damon_journal.specs.Lawful.{IsLawful, SettledReceiptsAreLawful};
+ghost use Rattle.damon_journal.specs.Reading.{read_journal};
 ghost use Rattle.damon_journal.specs.Replay.{JournalValue};
 ghost use Rattle.damon_journal.specs.Rules.{ReadsLawfulBack, ReadsOnlyLawful};
+ghost use Rattle.damon_journal.specs.Verified.{IsOfNoLawfulRun};
 ghost use Rattle.damon_journal.specs.Woven.{WovenRuns};
 
 use damon_control::{commits_are_read_in_parts, journal_heads_are_exactly_read};
@@ -88,4 +90,11 @@ pub fn lawful_journals_are_read()
     commits_are_read_in_parts();
     journal_heads_are_exactly_read();
     pages_are_numbered();
+}
+
+/// A text with a rejected line is that of no lawful journal that a text can spell.
+pub fn rejected_texts_are_unlawful()
+    ensures { (text : List ℕ) (line : ℕ) → read_journal text ≡ Err line → IsOfNoLawfulRun text }
+{
+    lawful_journals_are_read();
 }

@@ -2,33 +2,63 @@
 //! text; and how a run of a program ended.
 #![tactic(auto)]
 
+/// Receipts that are read ahead.
+mod ahead;
+/// The calls of controllers.
+mod calls;
+/// The head and the last lines of a journal text.
+mod ends;
 /// The entries of a journal, and receipts.
 mod entry;
 /// The lines of entries.
 mod entry_lines;
+/// The entries of a journal text that were read.
+mod fold;
+/// The lines of calls in a journal text.
+mod fold_calls;
 /// The journal.
 mod journal;
+/// Which receipts may follow one another.
+mod last_seen;
+/// A journal text, line by line.
+mod journal_lines;
+/// What is counted of a lawful journal, and why a text is none.
+mod lawful;
 /// Laws of the definitions.
 mod laws;
 /// Parts of lines.
 mod line_parts;
+/// The monitor that carries out a journal.
+mod replaying;
 /// The results of checks, one check after another.
 mod results;
+/// Lines that are compared with those that a state wants.
+mod same_lines;
 /// The lines of receipts.
 mod seen_lines;
+/// The receipts of a journal text.
+mod seen_part;
+/// Reading the lines of receipts.
+mod seen_words;
 /// How a run of a program ended.
 mod status;
+/// Tables of pages, and receipts in the order of their tags.
+mod tables;
 /// The text of a journal.
 mod text;
+/// The check of a journal text.
+mod verifying;
 /// Random words by their position.
 mod words;
 
 pub use entry::{CallAnswer, Entry, Receipt, Receipts};
 pub use journal::Journal;
+pub use lawful::{Lawful, VerifyFault};
 pub use laws::{
     hits_are_few, journals_grow, lawful_journals_are_read, one_pass_by_hand,
-    read_journals_are_lawful, settled_receipts_are_lawful, woven_runs,
+    read_journals_are_lawful, rejected_texts_are_unlawful, settled_receipts_are_lawful, woven_runs,
 };
 pub use status::Status;
 pub use text::journal_text;
+pub use verifying::verify;
 pub use words::{generator, words_at};

@@ -1,5 +1,5 @@
 // Parts of lines that are appended, and parts that are written in front of others.
-ghost use Rattle.std.specs.Prelude.{◌≡◌, ◌+◌, ◌≤◌, ◌++◌, ◌∷◌, [], codes, drop, length, OnOk};
+ghost use Rattle.std.specs.Prelude.{◌≡◌, ℕ, List, ◌+◌, ◌≤◌, ◌++◌, ◌∷◌, [], codes, drop, length, OnOk};
 ghost use Rattle.std.specs.Fmt.{decimal};
 ghost use Rattle.line_text.specs.Address.{spelled_address};
 ghost use Rattle.script_lines.specs.Kept.{KeepsFront};
@@ -69,6 +69,16 @@ pub(crate) fn write_pair_line(
 {
     write_pair(out, name, first, between, second)?;
     end_line(out)
+}
+
+// A line without its LF.
+pub(crate) fn without_end(line: &[u8]) -> &[u8]
+    ensures { (text : List ℕ) → line.now ≡ lines_text (text ∷ []) → result.now ≡ text }
+{
+    match line {
+        [text @ .., _] => text,
+        [] => line,
+    }
 }
 
 // Writes a text so that it ends right before index `end`, and returns the index where it begins. The

@@ -1,16 +1,18 @@
 // The lines of receipts.
-ghost use Rattle.std.specs.Prelude.{◌≡◌, ◌≤◌, ◌<◌, ◌++◌, ◌∷◌, [], drop, length, map, OnOk};
+ghost use Rattle.std.specs.Prelude.{◌≡◌, ℕ, List, ◌≤◌, ◌<◌, ◌++◌, ◌∷◌, [], drop, length, map, OnOk};
 ghost use Rattle.std.specs.List.{AllByRecursion};
 ghost use Rattle.damon_types.specs.Space.{pages_of};
 ghost use Rattle.script_lines.specs.Kept.{KeepsFront};
 ghost use Rattle.script_lines.specs.Lines.{lines_text};
+ghost use Rattle.script_lines.specs.Words.{same_word};
 ghost use Rattle.damon_journal.specs.Lawful.{all_of, receipts_said};
 ghost use Rattle.damon_journal.specs.Spelled.{spelled_seen};
 ghost use Rattle.damon_journal.specs.Text.{seen_lines};
 
 use crate::entry::{Receipt, Receipts};
-use crate::line_parts::{address_field_before, field_before, text_before};
+use crate::line_parts::{address_field_before, field_before, text_before, without_end};
 use damon_types::Space;
+use script_lines::same_word;
 use std::alloc::AllocError;
 
 // Bytes enough for the line of a receipt, which has at most 87.
@@ -52,6 +54,16 @@ fn write_seen(
         out.extend_from_slice(&line[start..])?;
     }
     Ok(())
+}
+
+// Whether a line is the one spelling of a receipt.
+pub(crate) fn is_seen_line(space: &Space, worker: u32, receipt: &Receipt, line: &[u8]) -> bool
+    requires { receipt.now.page < pages_of space.now }
+    ensures { result ≡ same_word line.now (spelled_seen space.now worker receipt.now) }
+{
+    let mut written = [0; LINE_ROOM];
+    let start = seen_before(&mut written, space, worker, receipt);
+    same_word(line, without_end(&written[start..]))
 }
 
 // Writes the line of a receipt so that it ends where the array ends, and returns the index where it

@@ -1,6 +1,7 @@
 ghost use Rattle.std.specs.Prelude.{◌≡◌};
 ghost use Rattle.damon_journal.specs.Status.{number_of};
 
+use crate::lawful::VerifyFault;
 use damon_control::{ReadFail, ScriptKind};
 use damon_types::Failed;
 use std::alloc::AllocError;
@@ -29,6 +30,8 @@ pub enum Status {
     /// The live script asks for more results of loads than a journal keeps: its passes times its `cap` are
     /// above 4,194,304.
     TooManyPasses { passes: u32, cap: u32 },
+    /// The input is not the text of a lawful journal: its first rejected line.
+    Unlawful { line: u64 },
 }
 
 impl Status {
@@ -45,6 +48,7 @@ impl Status {
             Status::WriteFault => 6,
             Status::Memory => 7,
             Status::TooManyPasses { .. } => 9,
+            Status::Unlawful { .. } => 10,
         }
     }
 }
@@ -59,6 +63,7 @@ impl fmt::Display for Status {
             Status::WriteFault => f.write_str("writing failed"),
             Status::Memory => f.write_str("out of memory"),
             Status::TooManyPasses { .. } => f.write_str("passes times cap is above 4194304"),
+            Status::Unlawful { line } => write!(f, "line {line}: not a lawful journal"),
         }
     }
 }
@@ -91,6 +96,20 @@ impl From<ReadFail> for Status {
                 kind: fault.kind,
             },
             ReadFail::Memory => Status::Memory,
+        }
+    }
+}
+
+impl From<VerifyFault> for Status {
+    ghost use Rattle.std.specs.Prelude.{◌≡◌};
+    ghost use Rattle.damon_journal.specs.Status.{verify_status};
+
+    ghost from_gives = { λ fault status. status ≡ verify_status fault };
+
+    fn from(fault: VerifyFault) -> Status {
+        match fault {
+            VerifyFault::Unlawful { line } => Status::Unlawful { line },
+            VerifyFault::Memory => Status::Memory,
         }
     }
 }

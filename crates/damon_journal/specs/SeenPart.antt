@@ -1,0 +1,34 @@
+-- The receipts of a journal text, taken line by line.
+use Rattle.std.specs.Prelude.{◌≡◌, ℕ, zero, suc, List, [], ◌∷◌, ◌++◌, if◌then◌else◌}
+use Rattle.page_words.specs.declared.view.Entry.{Entry as Step}
+use Rattle.damon_control.specs.Live.{LiveValue}
+use Rattle.damon_journal.specs.declared.entry.Receipt.{Receipt}
+use Rattle.damon_journal.specs.declared.journal_lines.JournalLines.{JournalLines}
+use Rattle.damon_journal.specs.Ahead.{receipts_of, seen_ahead}
+use Rattle.damon_journal.specs.Lawful.{all_of}
+use Rattle.damon_journal.specs.LinesLeft.{lines_left, said_left}
+use Rattle.damon_journal.specs.Place.{AtLast, InReceipts, JournalPlace}
+use Rattle.damon_journal.specs.Replay.{JournalValue, replay}
+use Rattle.damon_journal.specs.SeenLine.{may_be_seen, with_receipt}
+use Rattle.damon_journal.specs.Steps.{steps}
+use Rattle.damon_journal.specs.Text.{last_text}
+use Rattle.line_text.specs.Parts.{parts}
+
+-- how many receipts come before the first that may not be seen
+abbrev pub accepted : List Step → List (List Receipt) → List (ℕ × Receipt) → ℕ
+accepted done all [] = zero
+accepted done all (x ∷ xs) = if may_be_seen done all x.0 x.1 then suc (accepted done (with_receipt all x.0 x.1) xs) else zero
+
+-- the receipts of the lines that are left
+abbrev pub seen_left : LiveValue → JournalLines → List (ℕ × Receipt)
+seen_left v lines = seen_ahead v.setup.space (lines_left lines)
+
+-- Lines of receipts were taken, which make these receipts of each worker; so many of those that are left may still be seen.
+pub record AreSeen (left : ℕ) (v : LiveValue) (j : JournalValue) (all : List (List Receipt)) (old new : JournalLines) : Type 0 where
+  pub said : said_left (InReceipts v j []) old ≡ said_left (InReceipts v j all) new
+  pub few : accepted (steps v j) all (seen_left v new) ≡ left
+  pub whole : all_of all ++ receipts_of (seen_left v new) ≡ receipts_of (seen_left v old)
+
+-- the place after the receipts
+abbrev pub after_all_receipts : LiveValue → JournalValue → List (List Receipt) → JournalPlace
+after_all_receipts v j all = AtLast (record { live = v; journal = j; receipts = all }) (parts 10 (last_text (replay v j).state))

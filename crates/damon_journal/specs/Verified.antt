@@ -1,0 +1,32 @@
+-- A text that is verified.
+use Rattle.std.specs.Prelude.{◌≡◌, ◌≢◌, ℕ, List, Ok, Result}
+use Rattle.damon_control.specs.Live.{LiveValue}
+use Rattle.damon_journal.specs.declared.entry.Receipt.{Receipt}
+use Rattle.damon_journal.specs.declared.lawful.Lawful.{Lawful}
+use Rattle.damon_journal.specs.Counted.{CountsOf}
+use Rattle.damon_journal.specs.Lawful.{IsLawful}
+use Rattle.damon_journal.specs.Place.{JournalRead}
+use Rattle.damon_journal.specs.Replay.{JournalValue}
+use Rattle.damon_journal.specs.Rules.{IsSpellable, KeepsRules}
+use Rattle.damon_journal.specs.Text.{journal_text}
+
+-- the text is that of a lawful journal with lawful receipts that keep the rules of texts, and these are its counts
+pub record IsVerified (text : List ℕ) (counts : Lawful) : Type 0 where
+  pub live : LiveValue
+  pub journal : JournalValue
+  pub receipts : List (List Receipt)
+  pub lawful : IsLawful live journal receipts
+  pub rules : KeepsRules journal receipts
+  pub spelled : text ≡ journal_text live journal receipts
+  pub counted : CountsOf journal counts
+
+-- no lawful journal that a text can spell has this text
+abbrev pub IsOfNoLawfulRun : List ℕ → Type 0
+IsOfNoLawfulRun text =
+    (v : LiveValue) (j : JournalValue) (all : List (List Receipt)) → IsLawful v j all → IsSpellable v j all → text ≢ journal_text v j all
+
+-- the text says a journal with these counts
+pub record HasCounts (said : Result JournalRead ℕ) (counts : Lawful) : Type 0 where
+  pub read : JournalRead
+  pub is : said ≡ Ok read
+  pub counted : CountsOf read.journal counts

@@ -1,0 +1,133 @@
+// Receipts that are read ahead of the entries of a journal.
+ghost use Rattle.std.specs.Prelude.{◌≡◌, ◌<◌, [], All, IfOk, length, List};
+ghost use Rattle.std.specs.List.{list_any};
+ghost use Rattle.damon_types.specs.Space.{pages_of};
+ghost use Rattle.line_text.specs.Parts.{parts};
+ghost use Rattle.page_words.specs.declared.view.Entry.{Entry as Step};
+ghost use Rattle.damon_journal.specs.Ahead.{IsPrepared, after_receipts, first_refused, named_by, named_by_none, receipts_of, seen_ahead};
+ghost use Rattle.damon_journal.specs.SeenLine.{is_receipt};
+
+use crate::last_seen::first_wrong;
+use crate::seen_words::{Seen, read_receipts};
+use crate::tables::{Numbered, by_tag, mark_pass, named_by_none, received_at_first, unset_table};
+use damon_types::Space;
+use sampler::Picks;
+use std::alloc::{AllocError, Global};
+use std::marker::Model;
+
+// The receipts of a text, each with its worker, and whether each names a pass that cleared its
+// page. They are read ahead of the entries, so that no list of all clears is kept: each pass marks
+// those that name it.
+#[derive(Drop)]
+pub(crate) struct Ahead {
+    receipts: Vec<Seen>,
+    named: Vec<bool>,
+    // The receipts in the order of their tags.
+    order: Vec<Numbered>,
+    // For each page, whether it is a pick of the pass in preparation; between calls none is.
+    picked: Vec<bool>,
+    // For each page, whether a receipt has it with the number of the pass as its tag.
+    received: Vec<bool>,
+    pass: u64,
+    pages: u32,
+}
+
+impl Model for Ahead {
+    ghost use Rattle.damon_journal.specs.Ahead.{AheadView, IsAhead};
+
+    ghost Value = { AheadView };
+
+    ghost view = { λ a. record {
+      receipts = a.receipts.items;
+      named = a.named.items;
+      pass = a.pass;
+      pages = a.pages;
+    } };
+
+    ghost invariant = { λ a. IsAhead a.receipts.items a.named.items a.order.items a.picked.items
+        a.received.items a.pass a.pages };
+}
+
+impl Ahead {
+    // Reads the receipts of a text, which is what follows the head of a journal. No pass is
+    // prepared yet. The error is that memory ran out.
+    pub(crate) fn read(alloc: Global, space: &Space, text: &[u8]) -> Result<Ahead, AllocError>
+        ensures receipts { IfOk result (λ a. a.receipts
+            ≡ seen_ahead space.now (after_receipts (parts 10 text.now))) }
+        ensures named { IfOk result (λ a. a.named ≡ named_by_none a.receipts) }
+        ensures pass { IfOk result (λ a. a.pass ≡ 0) }
+        ensures pages { IfOk result (λ a. a.pages ≡ pages_of space.now) }
+    {
+        let receipts = read_receipts(alloc, space, text)?;
+        Ahead::of(alloc, receipts, space.pages())
+    }
+
+    // These receipts, whose pages are below `pages`. No pass is prepared yet. The error is that
+    // memory ran out.
+    fn of(alloc: Global, receipts: Vec<Seen>, pages: u32) -> Result<Ahead, AllocError>
+        requires { All (λ x. x.1.page < pages) receipts.items }
+        ensures { IfOk result (λ a. a ≡ record {
+          receipts = receipts.items;
+          named = named_by_none receipts.items;
+          pass = 0;
+          pages = pages;
+        }) }
+    {
+        let named = named_by_none(alloc, &receipts)?;
+        let order = by_tag(alloc, &receipts)?;
+        let picked = unset_table(alloc, pages)?;
+        let received = received_at_first(alloc, &order, pages)?;
+        Ok(Ahead {
+            receipts,
+            named,
+            order,
+            picked,
+            received,
+            pass: 0,
+            pages,
+        })
+    }
+
+    // The number of receipts.
+    pub(crate) fn len(&self) -> usize
+        ensures { result ≡ length self.now.receipts }
+    {
+        self.receipts.len()
+    }
+
+    // Marks the receipts that name a pass with these picks. Takes no memory.
+    pub(crate) fn prepare(&mut self, pass: u64, picks: &Picks)
+        requires { All (λ p. p < self.old.pages) picks.now.pages }
+        ensures { IsPrepared pass picks.now.pages self.old self.new }
+    {
+        mark_pass(
+            &mut self.named,
+            &mut self.picked,
+            &mut self.received,
+            &self.order,
+            self.pass,
+            pass,
+            picks,
+        );
+        self.pass = pass;
+    }
+
+    // Whether a receipt has this page with the last prepared pass as its tag.
+    pub(crate) fn has(&self, page: u32) -> bool
+        requires { page < self.now.pages }
+        ensures { result ≡ list_any (is_receipt page self.now.pass)
+            (receipts_of self.now.receipts) }
+    {
+        self.received[page as usize]
+    }
+
+    // The index of the first receipt that may not be seen after those before it. Takes memory by
+    // the number of pages; the error is that there is none left.
+    pub(crate) fn refused(&self, alloc: Global) -> Result<Option<usize>, AllocError>
+        ensures { (done : List Step) → self.now.named ≡ named_by done self.now.receipts
+            → IfOk result (λ index. index ≡ first_refused done [] self.now.receipts) }
+    {
+        let index = first_wrong(alloc, &self.receipts, &self.named, self.pages)?;
+        Ok(index)
+    }
+}

@@ -1,0 +1,87 @@
+// Which receipts may follow one another.
+ghost use Rattle.std.specs.Prelude.{◌≡◌, ◌<◌, ◌&&◌, [], true, length, All, IfOk};
+ghost use Rattle.damon_journal.specs.Ahead.{ByWorker, KeepsLast, first_wrong, may_come, may_follow};
+ghost use Rattle.damon_journal.specs.SeenLine.{with_receipt};
+
+use crate::entry::Receipt;
+use crate::seen_words::Seen;
+use damon_control::MAX_WORKERS;
+use std::alloc::{AllocError, Global};
+
+// The last worker with a receipt of a page, and the tag of its last one there. At first both are 0,
+// which refuses no tag.
+type Last = (u8, u64);
+
+// What is kept of the receipts so far to tell which may come next.
+#[derive(Drop)]
+struct LastSeen {
+    // One more than the number of the last worker; 0 before the first receipt.
+    workers: u32,
+    // For each page.
+    pages: Vec<Last>,
+}
+
+// The index of the first receipt that is not named or may not come next, where all pages are below
+// `pages`. Allocates.
+#[tactic(auto, using(crate::proofs::LastSeen::wrong_here, crate::proofs::LastSeen::left_none))]
+pub(crate) fn first_wrong(
+    alloc: Global,
+    receipts: &[Seen],
+    named: &[bool],
+    pages: u32,
+) -> Result<Option<usize>, AllocError>
+    requires within { All (λ x. x.1.page < pages) receipts.now }
+    requires count { length named.now ≡ length receipts.now }
+    ensures { IfOk result (λ index. index ≡ first_wrong named.now [] receipts.now) }
+{
+    let mut last = LastSeen::new(alloc, pages)?;
+    for index in 0..receipts.len() {
+        let (worker, receipt) = receipts[index];
+        let admitted = last.admit(named[index], worker, &receipt);
+        if !admitted {
+            return Ok(Some(index));
+        }
+    }
+    Ok(None)
+}
+
+impl LastSeen {
+    // Before the first receipt. Allocates.
+    fn new(alloc: Global, pages: u32) -> Result<LastSeen, AllocError>
+        ensures last { IfOk result (λ last. KeepsLast [] last.workers last.pages.items) }
+        ensures len { IfOk result (λ last. length last.pages.items ≡ pages) }
+    {
+        let pages = vec![in alloc; (0, 0); pages as usize]?;
+        Ok(LastSeen { workers: 0, pages })
+    }
+
+    // Whether a receipt is named and may come next; if so, it is kept.
+    fn admit(&mut self, named: bool, worker: u8, receipt: &Receipt) -> bool
+        requires { receipt.now.page < length self.old.pages.items }
+        ensures may { (all : ByWorker) → KeepsLast all self.old.workers self.old.pages.items
+            → result ≡ (named && may_follow all worker receipt.now) }
+        ensures next { (all : ByWorker) → KeepsLast all self.old.workers self.old.pages.items
+            → result ≡ true
+            → KeepsLast (with_receipt all worker receipt.now) self.new.workers self.new.pages.items }
+        ensures len { length self.new.pages.items ≡ length self.old.pages.items }
+    {
+        let page = receipt.page as usize;
+        let come = may_come(self.workers, self.pages[page], worker, receipt.tag);
+        let may = named & come;
+        if may {
+            let number = u32::from(worker);
+            self.workers = number + 1;
+            self.pages[page] = (worker, receipt.tag);
+        }
+        may
+    }
+}
+
+// Whether a receipt with this tag may come next, after receipts of so many workers, where `last` is
+// what is kept of its page.
+fn may_come(workers: u32, last: Last, worker: u8, tag: u64) -> bool
+    ensures { result ≡ may_come workers last worker tag }
+{
+    let number = u32::from(worker);
+    (workers <= number + 1) & (number < MAX_WORKERS) & ((last.0 != worker) | (last.1 <= tag))
+}

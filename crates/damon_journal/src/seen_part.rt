@@ -1,0 +1,101 @@
+// The receipts of a journal text, after its entries.
+ghost use Rattle.std.specs.Prelude.{◌≡◌, ◌==◌, ◌&&◌, ◌++◌, [], List, codes, IfOk, OnOk};
+ghost use Rattle.script_lines.specs.Words.{same_word};
+ghost use Rattle.damon_control.specs.Live.{LiveValue};
+ghost use Rattle.damon_journal.specs.declared.entry.Receipt.{Receipt as receipt};
+ghost use Rattle.damon_journal.specs.Ahead.{receipts_of};
+ghost use Rattle.damon_journal.specs.Folding.{AreNext, FoldStands};
+ghost use Rattle.damon_journal.specs.Lawful.{all_of};
+ghost use Rattle.damon_journal.specs.LinesLeft.{FaultIs, IsShort, said_left};
+ghost use Rattle.damon_journal.specs.Place.{InReceipts};
+ghost use Rattle.damon_journal.specs.Replay.{JournalValue};
+ghost use Rattle.damon_journal.specs.SeenPart.{AreSeen, accepted, after_all_receipts, seen_left};
+ghost use Rattle.damon_journal.specs.Steps.{steps};
+
+use crate::fold::Fold;
+use crate::journal_lines::JournalLines;
+use crate::lawful::VerifyFault;
+use script_lines::same_word;
+use std::alloc::{AllocError, Global};
+
+// Takes the lines of the receipts, which were read ahead, and `settled`.
+pub(crate) fn take_receipts(
+    alloc: Global,
+    fold: &Fold,
+    lines: &mut JournalLines,
+) -> Result<(), VerifyFault>
+    requires short { IsShort lines.old }
+    requires next { AreNext fold.now lines.old }
+    ensures settled { OnOk result ((v : LiveValue) (j : JournalValue) → FoldStands v j fold.now
+        → (all : List (List receipt)) × (said_left (InReceipts v j []) lines.old
+        ≡ said_left (after_all_receipts v j all) lines.new)) }
+    ensures fault { (v : LiveValue) (j : JournalValue) → FoldStands v j fold.now
+        → FaultIs result (said_left (InReceipts v j []) lines.old) }
+    ensures short { IsShort lines.new }
+{
+    let count = count_accepted(alloc, fold)?;
+    skip_seen(lines, count)?;
+    take_settled(fold, lines)
+}
+
+// How many of the receipts that were read ahead come before the first that may not be seen.
+#[tactic(auto, using(crate::proofs::AllSeen::count_before, crate::proofs::AllSeen::count_all))]
+fn count_accepted(alloc: Global, fold: &Fold) -> Result<usize, AllocError>
+    ensures { (v : LiveValue) (j : JournalValue) → FoldStands v j fold.now → IfOk result
+        (λ count. count ≡ accepted (steps v j) [] fold.now.ahead.receipts) }
+{
+    match fold.ahead.refused(alloc)? {
+        Some(number) => Ok(number),
+        None => Ok(fold.ahead.len()),
+    }
+}
+
+// Takes the lines of this many receipts, all that come before the first that may not be seen.
+fn skip_seen(lines: &mut JournalLines, count: usize) -> Result<(), VerifyFault>
+    requires { IsShort lines.old }
+    ensures seen { OnOk result ((v : LiveValue) (j : JournalValue)
+        → count ≡ accepted (steps v j) [] (seen_left v lines.old)
+        → (all : List (List receipt)) × AreSeen 0 v j all lines.old lines.new) }
+    ensures fault { (v : LiveValue) (j : JournalValue)
+        → count ≡ accepted (steps v j) [] (seen_left v lines.old)
+        → FaultIs result (said_left (InReceipts v j []) lines.old) }
+    ensures short { IsShort lines.new }
+{
+    let mut left = count;
+    'seen: while left > 0 {
+        let _seen = lines.take_line()?;
+        left -= 1;
+    }
+    Ok(())
+}
+
+// Takes the line `settled`, before which no receipt may be seen that was not taken.
+fn take_settled(fold: &Fold, lines: &mut JournalLines) -> Result<(), VerifyFault>
+    requires { IsShort lines.old }
+    ensures settled { OnOk result ((v : LiveValue) (j : JournalValue) (all : List (List receipt))
+        → FoldStands v j fold.now → accepted (steps v j) all (seen_left v lines.old) ≡ 0
+        → all_of all ++ receipts_of (seen_left v lines.old) ≡ receipts_of fold.now.ahead.receipts
+        → said_left (InReceipts v j all) lines.old
+        ≡ said_left (after_all_receipts v j all) lines.new) }
+    ensures fault { (v : LiveValue) (j : JournalValue) (all : List (List receipt))
+        → FoldStands v j fold.now → accepted (steps v j) all (seen_left v lines.old) ≡ 0
+        → all_of all ++ receipts_of (seen_left v lines.old) ≡ receipts_of fold.now.ahead.receipts
+        → FaultIs result (said_left (InReceipts v j all) lines.old) }
+    ensures short { IsShort lines.new }
+{
+    let line = lines.take_line()?;
+    if fold.is_settled(line) {
+        Ok(())
+    } else {
+        Err(lines.refuse())
+    }
+}
+
+impl Fold {
+    // Whether a line is `settled`, and no hit is without a receipt.
+    fn is_settled(&self, line: &[u8]) -> bool
+        ensures { result ≡ (same_word line.now (codes "settled") && (self.now.unreceived == 0)) }
+    {
+        same_word(line, b"settled") && self.unreceived == 0
+    }
+}

@@ -1,0 +1,70 @@
+ghost use Rattle.std.specs.Prelude.{◌≢◌, ◌≤◌, length, IfErr, IfOk, OnOk};
+ghost use Rattle.damon_control.specs.Live.{LiveValue};
+ghost use Rattle.damon_journal.specs.Folding.{AreAhead, FoldStands, IsWithin, ReadsReceipts};
+ghost use Rattle.damon_journal.specs.LinesLeft.{FaultIs, IsFault, IsShort, said_left};
+ghost use Rattle.damon_journal.specs.Place.{InEntries};
+ghost use Rattle.damon_journal.specs.Reading.{read_journal};
+ghost use Rattle.damon_journal.specs.Replay.{JournalValue};
+ghost use Rattle.damon_journal.specs.Verified.{HasCounts, IsOfNoLawfulRun, IsVerified};
+
+use crate::ends::{compare_last, open_text};
+use crate::fold::Fold;
+use crate::journal_lines::JournalLines;
+use crate::lawful::{Lawful, VerifyFault};
+use crate::laws::{read_journals_are_lawful, rejected_texts_are_unlawful};
+use crate::seen_part::take_receipts;
+use damon_control::{JournalHead, MAX_BYTES};
+use std::alloc::Global;
+
+/// Checks whether a text of at most [`MAX_BYTES`] bytes is the journal text of a lawful run, and returns
+/// the counts of its journal.
+///
+/// The text is read once, line by line, and each entry is carried out as it is read. Allocates.
+///
+/// # Errors
+///
+/// `Unlawful` with the first rejected line if it is none; `Memory` if memory runs out.
+pub fn verify(alloc: Global, bytes: &[u8]) -> Result<Lawful, VerifyFault>
+    requires { length bytes.now ≤ MAX_BYTES }
+    ensures lawful { IfOk result (λ counts. IsVerified bytes.now counts) }
+    ensures unlawful { IfErr result (λ fault. fault ≢ VerifyFault.Memory → IsOfNoLawfulRun bytes.now) }
+
+    // It is accepted exactly where it is read line by line; else its first rejected line is named.
+    ensures read { IfOk result (λ counts. HasCounts (read_journal bytes.now) counts) }
+    ensures line { IfErr result (λ fault. IsFault fault (read_journal bytes.now)) }
+{
+    // For their clauses alone: what is read is lawful, and what is rejected is not.
+    read_journals_are_lawful();
+    rejected_texts_are_unlawful();
+    read_text(alloc, bytes)
+}
+
+// Reads a journal text, and counts what it has.
+fn read_text(alloc: Global, bytes: &[u8]) -> Result<Lawful, VerifyFault>
+    requires { length bytes.now ≤ MAX_BYTES }
+    ensures counts { IfOk result (λ counts. HasCounts (read_journal bytes.now) counts) }
+    ensures fault { FaultIs result (read_journal bytes.now) }
+{
+    let (head, mut lines) = open_text(alloc, bytes)?;
+    let JournalHead { seed, setup } = head;
+    let mut fold = Fold::new(alloc, seed, &setup, &lines)?;
+    take_entries(alloc, &mut fold, &mut lines)?;
+    take_receipts(alloc, &fold, &mut lines)?;
+    compare_last(alloc, fold.replay.monitor(), lines)?;
+    Ok(fold.counts)
+}
+
+// Carries out all entries that are left, and takes the line `receipts` after them.
+fn take_entries(alloc: Global, fold: &mut Fold, lines: &mut JournalLines) -> Result<(), VerifyFault>
+    requires short { IsShort lines.old }
+    requires ahead { AreAhead fold.old lines.old }
+    requires within { IsWithin fold.old lines.old.taken }
+    ensures entries { OnOk result ((v : LiveValue) (j : JournalValue) → FoldStands v j fold.old
+        → ReadsReceipts (said_left (InEntries v j) lines.old) lines.new fold.new) }
+    ensures fault { (v : LiveValue) (j : JournalValue) → FoldStands v j fold.old
+        → FaultIs result (said_left (InEntries v j) lines.old) }
+    ensures short { IsShort lines.new }
+{
+    'entries: while fold.next_entry(alloc, lines)? {}
+    Ok(())
+}
