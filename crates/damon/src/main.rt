@@ -1,5 +1,5 @@
 //! `damon`: runs a script that comes on standard input, or a generated one, and writes its report to
-//! standard output.
+//! standard output; or checks the text of a journal.
 #![tactic(auto)]
 
 use damon_app::replay_main;
@@ -9,7 +9,7 @@ use std::env::Env;
 use std::process::ExitCode;
 use std::{env, io};
 
-const USAGE: &str = "usage: damon replay, json or gen N";
+const USAGE: &str = "usage: damon replay, json, verify or gen N";
 
 fn main(rt: HostRuntime) -> ExitCode {
     let status = run(&rt);

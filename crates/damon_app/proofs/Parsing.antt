@@ -21,9 +21,9 @@ use Rattle.clap.specs.Walk.{Held, Names, Row, Rule, Text, Walk, first_of, nothin
 use Rattle.clap.proofs.OnLiterals.{clap_on_literals}
 use Rattle.damon_app.specs.Parser.{begins_with_hyphen, damon_app, has_option, number_found, request_by, request_found}
 use Rattle.damon_app.specs.declared.request.Request.{Request}
-use Rattle.damon_app.specs.declared.request.Request.TheVariants.{Report}
+use Rattle.damon_app.specs.declared.request.Request.TheVariants.{Report, Verify}
 use Rattle.snapshot_print.specs.declared.form.Form.TheVariants.{Text as TextForm, Json as JsonForm}
-use Rattle.damon_app.specs.Request.{asked, generation_of, report_of, request_of}
+use Rattle.damon_app.specs.Request.{asked, asked_alone, generation_of, request_of}
 
 pub free : is_simple_and_free damon_app ≡ true
 unfolding clap_on_literals
@@ -44,9 +44,9 @@ IsPlainWord [] = Unit {0}
 IsPlainWord (c ∷ cs) = (c == 45) ≡ false
 
 module _ (c : ℕ) (cs : List ℕ) (dash : (c == 45) ≡ false) where
-  other_fails : (ws : List Text) → bytes_eq (codes "replay") (c ∷ cs) ≡ false → bytes_eq (codes "json") (c ∷ cs) ≡ false → bytes_eq (codes "gen") (c ∷ cs) ≡ false → fault_of damon_app ((c ∷ cs) ∷ ws) ≡ kind.UnknownArgument ∷ kind.InvalidSubcommand ∷ []
+  other_fails : (ws : List Text) → bytes_eq (codes "replay") (c ∷ cs) ≡ false → bytes_eq (codes "json") (c ∷ cs) ≡ false → bytes_eq (codes "verify") (c ∷ cs) ≡ false → bytes_eq (codes "gen") (c ∷ cs) ≡ false → fault_of damon_app ((c ∷ cs) ∷ ws) ≡ kind.UnknownArgument ∷ kind.InvalidSubcommand ∷ []
   unfolding clap_on_literals
-  other_fails ws r j g = rw (r, j, g, dash, dash) refl
+  other_fails ws r j v g = rw (r, j, v, g, dash, dash) refl
 
   gen_passes : fault_of damon_app (codes "gen" ∷ (c ∷ cs) ∷ []) ≡ []
   unfolding clap_on_literals
@@ -110,6 +110,19 @@ unfolding clap_on_literals
 json_fails [] ws dash = sub_fails (codes "json") ([] ∷ ws) kind.UnknownArgument [] refl refl (json_empty ws)
 json_fails (c ∷ cs) ws dash = sub_fails (codes "json") ((c ∷ cs) ∷ ws) kind.UnknownArgument [] refl refl (json_more c cs ws dash)
 
+verify_more : (c : ℕ) (cs : List ℕ) (ws : List Text) → (c == 45) ≡ false → entered_fault built_app (Some (codes "verify", (c ∷ cs) ∷ ws)) ≡ kind.UnknownArgument ∷ []
+unfolding clap_on_literals
+verify_more c cs ws dash = rw (dash, dash) refl
+
+verify_empty : (ws : List Text) → entered_fault built_app (Some (codes "verify", [] ∷ ws)) ≡ kind.UnknownArgument ∷ []
+unfolding clap_on_literals
+verify_empty ws = refl
+
+verify_fails : (x : Text) (ws : List Text) → IsPlainWord x → fault_of damon_app (codes "verify" ∷ x ∷ ws) ≡ kind.UnknownArgument ∷ []
+unfolding clap_on_literals
+verify_fails [] ws dash = sub_fails (codes "verify") ([] ∷ ws) kind.UnknownArgument [] refl refl (verify_empty ws)
+verify_fails (c ∷ cs) ws dash = sub_fails (codes "verify") ((c ∷ cs) ∷ ws) kind.UnknownArgument [] refl refl (verify_more c cs ws dash)
+
 -- two numbers
 gen_more : (c d : ℕ) (cs ds : List ℕ) (ws : List Text) → (c == 45) ≡ false → (d == 45) ≡ false → entered_fault built_app (Some (codes "gen", (c ∷ cs) ∷ (d ∷ ds) ∷ ws)) ≡ kind.UnknownArgument ∷ []
 unfolding clap_on_literals
@@ -145,6 +158,7 @@ named [] = None
 named (word ∷ []) =
     if bytes_eq word (codes "replay") then Some (codes "replay", None)
     else if bytes_eq word (codes "json") then Some (codes "json", None)
+    else if bytes_eq word (codes "verify") then Some (codes "verify", None)
     else None
 named (word ∷ digits ∷ []) = if bytes_eq word (codes "gen") then Some (codes "gen", Some digits) else None
 named (word ∷ digits ∷ more ∷ words) = None
@@ -175,6 +189,12 @@ json_parsed [] plain = inl (refl, refl)
 json_parsed (x ∷ []) plain = inr (kind.UnknownArgument, [], json_fails x [] plain.0, refl)
 json_parsed (x ∷ y ∷ ws) plain = inr (kind.UnknownArgument, [], json_fails x (y ∷ ws) plain.0, refl)
 
+verify_parsed : (ws : List Text) → ArePlain ws → IsParsedAs (codes "verify" ∷ ws)
+unfolding clap_on_literals
+verify_parsed [] plain = inl (refl, refl)
+verify_parsed (x ∷ []) plain = inr (kind.UnknownArgument, [], verify_fails x [] plain.0, refl)
+verify_parsed (x ∷ y ∷ ws) plain = inr (kind.UnknownArgument, [], verify_fails x (y ∷ ws) plain.0, refl)
+
 gen_parsed : (ws : List Text) → ArePlain ws → IsParsedAs (codes "gen" ∷ ws)
 unfolding clap_on_literals
 gen_parsed [] plain = inr (kind.MissingRequiredArgument, [], refl, refl)
@@ -183,10 +203,10 @@ gen_parsed ((c ∷ cs) ∷ []) plain = inl (gen_passes c cs plain.0, gen_finds c
 gen_parsed (x ∷ y ∷ ws) plain = inr (kind.UnknownArgument, [], gen_fails x y ws plain.0 plain.1.0, refl)
 
 -- words that name no subcommand
-none_named : (word : Text) (ws : List Text) → bytes_eq word (codes "replay") ≡ false → bytes_eq word (codes "json") ≡ false → bytes_eq word (codes "gen") ≡ false → named (word ∷ ws) ≡ None
-none_named word [] r j g = rw (r, j) refl
-none_named word (x ∷ []) r j g = rw g refl
-none_named word (x ∷ y ∷ ws) r j g = refl
+none_named : (word : Text) (ws : List Text) → bytes_eq word (codes "replay") ≡ false → bytes_eq word (codes "json") ≡ false → bytes_eq word (codes "verify") ≡ false → bytes_eq word (codes "gen") ≡ false → named (word ∷ ws) ≡ None
+none_named word [] r j v g = rw (r, j, v) refl
+none_named word (x ∷ []) r j v g = rw g refl
+none_named word (x ∷ y ∷ ws) r j v g = refl
 
 flipped : (a b : Text) → bytes_eq a b ≡ false → bytes_eq b a ≡ false
 flipped a b not = by (bytes_eq b a) refl
@@ -195,11 +215,11 @@ flipped a b not = by (bytes_eq b a) refl
     by false is = refl
     by true is = let same : b ≡ a = (bytes_eq-Decides b a).0 is in let yes : bytes_eq a b ≡ true = (bytes_eq-Decides a b).1 (sym same) in absurd (let no : true ≡ false = sym yes ∙ not in cc no)
 
-unnamed_parsed : (word : Text) (ws : List Text) → IsPlainWord word → bytes_eq word (codes "replay") ≡ false → bytes_eq word (codes "json") ≡ false → bytes_eq word (codes "gen") ≡ false → IsParsedAs (word ∷ ws)
+unnamed_parsed : (word : Text) (ws : List Text) → IsPlainWord word → bytes_eq word (codes "replay") ≡ false → bytes_eq word (codes "json") ≡ false → bytes_eq word (codes "verify") ≡ false → bytes_eq word (codes "gen") ≡ false → IsParsedAs (word ∷ ws)
 unfolding clap_on_literals
-unnamed_parsed [] ws plain r j g = inr (kind.UnknownArgument, kind.InvalidSubcommand ∷ [], refl, none_named [] ws r j g)
-unnamed_parsed (c ∷ cs) ws plain r j g =
-    inr (kind.UnknownArgument, kind.InvalidSubcommand ∷ [], other_fails c cs plain ws (flipped (c ∷ cs) (codes "replay") r) (flipped (c ∷ cs) (codes "json") j) (flipped (c ∷ cs) (codes "gen") g), none_named (c ∷ cs) ws r j g)
+unnamed_parsed [] ws plain r j v g = inr (kind.UnknownArgument, kind.InvalidSubcommand ∷ [], refl, none_named [] ws r j v g)
+unnamed_parsed (c ∷ cs) ws plain r j v g =
+    inr (kind.UnknownArgument, kind.InvalidSubcommand ∷ [], other_fails c cs plain ws (flipped (c ∷ cs) (codes "replay") r) (flipped (c ∷ cs) (codes "json") j) (flipped (c ∷ cs) (codes "verify") v) (flipped (c ∷ cs) (codes "gen") g), none_named (c ∷ cs) ws r j v g)
 
 is_word : (word name : Text) (ws : List Text) → bytes_eq word name ≡ true → IsParsedAs (name ∷ ws) → IsParsedAs (word ∷ ws)
 is_word word name ws same parsed = subst (λ (w : Text). IsParsedAs (w ∷ ws)) (sym ((bytes_eq-Decides word name).0 same)) parsed
@@ -209,13 +229,17 @@ pub words_parsed : (words : List Text) → ArePlain words → IsParsedAs words
 words_parsed [] plain = none_parsed
 words_parsed (word ∷ ws) plain = by_replay (bytes_eq word (codes "replay")) refl
   where
-    by_gen : (t : Bool) → bytes_eq word (codes "gen") ≡ t → bytes_eq word (codes "replay") ≡ false → bytes_eq word (codes "json") ≡ false → IsParsedAs (word ∷ ws)
-    by_gen true is r j = is_word word (codes "gen") ws is (gen_parsed ws plain.1)
-    by_gen false is r j = unnamed_parsed word ws plain.0 r j is
+    by_gen : (t : Bool) → bytes_eq word (codes "gen") ≡ t → bytes_eq word (codes "replay") ≡ false → bytes_eq word (codes "json") ≡ false → bytes_eq word (codes "verify") ≡ false → IsParsedAs (word ∷ ws)
+    by_gen true is r j v = is_word word (codes "gen") ws is (gen_parsed ws plain.1)
+    by_gen false is r j v = unnamed_parsed word ws plain.0 r j v is
+
+    by_verify : (t : Bool) → bytes_eq word (codes "verify") ≡ t → bytes_eq word (codes "replay") ≡ false → bytes_eq word (codes "json") ≡ false → IsParsedAs (word ∷ ws)
+    by_verify true is r j = is_word word (codes "verify") ws is (verify_parsed ws plain.1)
+    by_verify false is r j = by_gen (bytes_eq word (codes "gen")) refl r j is
 
     by_json : (t : Bool) → bytes_eq word (codes "json") ≡ t → bytes_eq word (codes "replay") ≡ false → IsParsedAs (word ∷ ws)
     by_json true is r = is_word word (codes "json") ws is (json_parsed ws plain.1)
-    by_json false is r = by_gen (bytes_eq word (codes "gen")) refl r is
+    by_json false is r = by_verify (bytes_eq word (codes "verify")) refl r is
 
     by_replay : (t : Bool) → bytes_eq word (codes "replay") ≡ t → IsParsedAs (word ∷ ws)
     by_replay true is = is_word word (codes "replay") ws is (replay_parsed ws plain.1)
@@ -223,10 +247,13 @@ words_parsed (word ∷ ws) plain = by_replay (bytes_eq word (codes "replay")) re
 
 -- ---- what the words ask for
 
-one_asks : (t u : Bool) → request_found (if t then Some (codes "replay", None) else if u then Some (codes "json", None) else None) ≡ (if t then Some (Report TextForm) else if u then Some (Report JsonForm) else None)
-one_asks true u = refl
-one_asks false true = refl
-one_asks false false = refl
+one_asks : (t u v : Bool)
+    → request_found (if t then Some (codes "replay", None) else if u then Some (codes "json", None) else if v then Some (codes "verify", None) else None)
+    ≡ (if t then Some (Report TextForm) else if u then Some (Report JsonForm) else if v then Some Verify else None)
+one_asks true u v = refl
+one_asks false true v = refl
+one_asks false false true = refl
+one_asks false false false = refl
 
 two_ask : (t : Bool) (digits : Text) → request_found (if t then Some (codes "gen", Some digits) else None) ≡ (if t then generation_of (codes "gen") digits else None)
 two_ask true digits = refl
@@ -235,7 +262,7 @@ two_ask false digits = refl
 -- what words name is what they ask for
 named_asks : (words : List Text) → request_found (named words) ≡ request_of words
 named_asks [] = refl
-named_asks (word ∷ []) = one_asks (bytes_eq word (codes "replay")) (bytes_eq word (codes "json"))
+named_asks (word ∷ []) = one_asks (bytes_eq word (codes "replay")) (bytes_eq word (codes "json")) (bytes_eq word (codes "verify"))
 named_asks (word ∷ digits ∷ []) = two_ask (bytes_eq word (codes "gen")) digits
 named_asks (word ∷ digits ∷ more ∷ words) = refl
 
@@ -283,9 +310,9 @@ simple = refl
 is_hyphen : (c : ℕ) → (c == 45) ≡ true → c ≡ 45
 is_hyphen c is = grind (arith, nat_tests)
 
-no_report : (word : Text) → begins_with_hyphen word ≡ true → report_of word ≡ None
+no_report : (word : Text) → begins_with_hyphen word ≡ true → asked_alone word ≡ None
 no_report [] is = absurd cc
-no_report (c ∷ cs) is = subst (λ (b : ℕ). report_of (b ∷ cs) ≡ None) (sym (is_hyphen c is)) refl
+no_report (c ∷ cs) is = subst (λ (b : ℕ). asked_alone (b ∷ cs) ≡ None) (sym (is_hyphen c is)) refl
 
 no_run : (word digits : Text) → begins_with_hyphen word ≡ true → generation_of word digits ≡ None
 no_run [] digits is = absurd cc
@@ -310,7 +337,7 @@ pub option_asks : (words : List (String Global)) → has_option words ≡ true �
 option_asks [] is = absurd cc
 option_asks (word ∷ []) is = by (begins_with_hyphen (string_bytes word)) refl is
   where
-    by : (t : Bool) → begins_with_hyphen (string_bytes word) ≡ t → (t || false) ≡ true → report_of (string_bytes word) ≡ None
+    by : (t : Bool) → begins_with_hyphen (string_bytes word) ≡ t → (t || false) ≡ true → asked_alone (string_bytes word) ≡ None
     by true first is = no_report (string_bytes word) first
     by false first is = absurd cc
 option_asks (word ∷ digits ∷ []) is = by (begins_with_hyphen (string_bytes word)) refl (begins_with_hyphen (string_bytes digits)) refl is

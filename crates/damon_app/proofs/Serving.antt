@@ -1,12 +1,14 @@
 -- What the program answers to each request.
-use Rattle.std.proofs.Common.{◌≡◌, ◌⊎◌, inl, inr, ℕ, List, Option, Some, None, Result, Ok, Err, refl, ap, arith}
-use Rattle.std.specs.Prelude.{IsSome, IfErr, IsErrOf, OnOk}
+use Rattle.std.proofs.Common.{◌≡◌, ◌⊎◌, inl, inr, ℕ, List, Option, Some, None, Result, Ok, Err, refl, sym, ap, subst, arith}
+use Rattle.std.specs.Prelude.{IfSome, IsSome, IfErr, IsErrOf, OnOk}
 use Rattle.std.specs.Io.KnownBytes.{Appends}
 use Rattle.damon_types.specs.Causes.{Rose}
+use Rattle.damon_control.specs.Script.{script_of}
 use Rattle.snapshot_print.specs.declared.form.Form.{Form}
-use Rattle.damon_app.specs.declared.request.Request.TheVariants.{Report, Generate}
+use Rattle.damon_app.specs.declared.request.Request.TheVariants.{Report, Verify, Generate}
 use Rattle.damon_journal.specs.declared.status.Status.{Status}
 use Rattle.damon_journal.specs.declared.status.Status.TheVariants as statuses
+use Rattle.damon_journal.specs.Reading.{read_journal}
 use Rattle.damon_app.specs.Generated.{gen_text}
 use Rattle.text_io.specs.Given.{GaveOver}
 use Rattle.text_io.specs.Taken.{WritesPart}
@@ -14,43 +16,97 @@ use Rattle.damon_app.specs.declared.request.Request.{Request}
 use Rattle.damon_journal.specs.Status.{EndsRun, IsFailure, status_of}
 use Rattle.text_io.specs.Ends.{Ends}
 use Rattle.damon_app.specs.StatusOf.{status_of_input}
-use Rattle.damon_app.specs.Replay.{IsBegun, IsExpected, WritesPrefix}
+use Rattle.damon_app.specs.Replay.{IsBegun, IsExpected, IsOfInput, Replays, TellsFault, Verifies, VerifiesPrefix, WritesCounts, WritesPrefix}
 use Rattle.std.proofs.KnownBytes.{Appends-nil}
 use Rattle.damon_app.proofs.Answering.{untold}
-use Rattle.damon_app.specs.Answers.{IsAnswer, IsReport}
+use Rattle.damon_app.specs.Answers.{IsAnswer, IsOutcome, MayWrite, RefusesAs, WritesWanted}
+use Rattle.damon_app.proofs.Statuses.{journal_line, spelled_fault}
 use Rattle.damon_app.proofs.Known.{GaveUpTo-none, GaveUpTo-not_over}
 
 -- a source that was left alone gave nothing
 none_given : (limit : ℕ) (a : Option (List ℕ)) → IsSome a → GaveOver limit a a → ⊥
 none_given limit a known gave = GaveUpTo-not_over limit a a known (GaveUpTo-none limit a) gave
 
+-- what is told of each text is told of the bytes
+each : (P Q : List ℕ → Type 0) (told : Option (List ℕ)) → ((bytes : List ℕ) → P bytes → Q bytes) → IfSome told P → IfSome told Q
+each P Q None more is = tt
+each P Q (Some bytes) more is = more bytes is
+
 -- the answer to a request for a report
-pub reported : (limit : ℕ) (form : Form) (source source' sink sink' : Ends) (unread same : Type 0) (status : Status) → IsReport limit form source source' sink sink' same status → IsAnswer limit (Some (Report form)) source source' sink sink' unread same status
-reported limit form source source' sink sink' unread same status is = record {
-  ok = is.ok;
-  end = λ reads. is.end;
-  complete = is.complete;
-  usage = λ free. ((λ e. absurd (is.asked e)), (λ e. absurd (cc e)));
-  no_live = is.no_live;
-  too_long = is.too_long;
-  script = λ reads. is.script;
-  read = is.read;
-  write = is.write;
-  unread = λ not. absurd (not tt);
-  unwritten = is.unwritten;
-  prefix = is.prefix;
-}
+module _ (limit : ℕ) (form : Form) (source source' sink sink' : Ends) (unread same : Type 0) (status : Status) where
+  replays : (bytes : List ℕ) → WritesWanted (Report form) bytes sink.bytes sink'.bytes → Replays form bytes sink.bytes sink'.bytes
+  replays bytes (text, (s, spells, is), all) = record { script = s; spells = spells; report = subst (Appends sink.bytes sink'.bytes) (sym is) all }
+
+  begins_report : (bytes : List ℕ) → MayWrite (Report form) same bytes sink.bytes sink'.bytes → same ⊎ WritesPrefix form bytes sink.bytes sink'.bytes
+  begins_report bytes (inl is) = inl is
+  begins_report bytes (inr (text, (s, spells, is), part)) = inr (s, spells, subst (WritesPart sink.bytes sink'.bytes) (sym is) part)
+
+  tells_script : (bytes : List ℕ) → RefusesAs (Report form) status bytes → TellsFault (Some (Report form)) status bytes
+  tells_script bytes refuses fault =
+      let by = refuses (statuses.Script fault.line fault.kind) tt in
+      let says = spelled_fault (script_of bytes) fault in
+      ((λ e. says.0 (by.0 e)), (λ e. by.1 (says.1 e)))
+
+  pub reported : IsOutcome limit (Report form) source source' sink sink' same status → IsAnswer limit (Some (Report form)) source source' sink sink' unread same status
+  reported is = record {
+    ok = λ e. each (λ bytes. WritesWanted (Report form) bytes sink.bytes sink'.bytes) (λ bytes. Replays form bytes sink.bytes sink'.bytes) source.bytes replays (is.ok e);
+    lawful = λ e reads. absurd reads;
+    end = λ reads. is.end;
+    complete = is.complete;
+    usage = λ free. ((λ e. absurd (is.asked e)), (λ e. absurd (cc e)));
+    comes = is.comes;
+    too_long = is.too_long;
+    refused = λ reads yes. each (RefusesAs (Report form) status) (TellsFault (Some (Report form)) status) source.bytes tells_script (is.refused yes);
+    read = is.read;
+    write = is.write;
+    unread = λ not. absurd (not tt);
+    unwritten = is.unwritten;
+    prefix = each (λ bytes. MayWrite (Report form) same bytes sink.bytes sink'.bytes) (λ bytes. same ⊎ WritesPrefix form bytes sink.bytes sink'.bytes) source.bytes begins_report is.prefix;
+  }
+
+-- the answer to a request to check a journal
+module _ (limit : ℕ) (source source' sink sink' : Ends) (unread same : Type 0) (status : Status) where
+  verifies : (bytes : List ℕ) → WritesWanted Verify bytes sink.bytes sink'.bytes → Verifies bytes sink.bytes sink'.bytes
+  verifies bytes (text, (counts, lawful, is), all) = record { counts = counts; lawful = lawful; line = subst (Appends sink.bytes sink'.bytes) (sym is) all }
+
+  begins_line : (bytes : List ℕ) → MayWrite Verify same bytes sink.bytes sink'.bytes → same ⊎ VerifiesPrefix bytes sink.bytes sink'.bytes
+  begins_line bytes (inl is) = inl is
+  begins_line bytes (inr (text, (counts, lawful, is), part)) = inr (counts, lawful, subst (WritesPart sink.bytes sink'.bytes) (sym is) part)
+
+  tells_line : (bytes : List ℕ) → RefusesAs Verify status bytes → TellsFault (Some Verify) status bytes
+  tells_line bytes refuses line =
+      let by = refuses (statuses.Unlawful line) tt in
+      let says = journal_line (read_journal bytes) line in
+      ((λ e. says.0 (by.0 e)), (λ e. by.1 (says.1 e)))
+
+  pub checked : IsOutcome limit Verify source source' sink sink' same status → IsAnswer limit (Some Verify) source source' sink sink' unread same status
+  checked is = record {
+    ok = λ e. each (λ bytes. WritesWanted Verify bytes sink.bytes sink'.bytes) (λ bytes. WritesCounts sink.bytes sink'.bytes) source.bytes (λ bytes wrote. let is = verifies bytes wrote in (is.counts, is.line)) (is.ok e);
+    lawful = λ e reads. each (λ bytes. WritesWanted Verify bytes sink.bytes sink'.bytes) (λ bytes. Verifies bytes sink.bytes sink'.bytes) source.bytes verifies (is.ok e);
+    end = λ reads. is.end;
+    complete = is.complete;
+    usage = λ free. ((λ e. absurd (is.asked e)), (λ e. absurd (cc e)));
+    comes = is.comes;
+    too_long = is.too_long;
+    refused = λ reads yes. each (RefusesAs Verify status) (TellsFault (Some Verify) status) source.bytes tells_line (is.refused yes);
+    read = is.read;
+    write = is.write;
+    unread = λ not. absurd (not tt);
+    unwritten = is.unwritten;
+    prefix = each (λ bytes. MayWrite Verify same bytes sink.bytes sink'.bytes) (λ bytes. same ⊎ VerifiesPrefix bytes sink.bytes sink'.bytes) source.bytes begins_line is.prefix;
+  }
 
 -- the answer to no request
 pub not_asked : (limit : ℕ) (source sink : Ends) (unread same : Type 0) → unread → same → IsAnswer limit None source source sink sink unread same statuses.Usage
 not_asked limit source sink unread same left_alone is = record {
   ok = λ e. absurd (cc e);
+  lawful = λ e. absurd (cc e);
   end = λ reads. absurd reads;
   complete = inl refl;
   usage = λ free. ((λ e. refl), (λ e. refl));
-  no_live = λ passes cap e. absurd (cc e);
+  comes = tt;
   too_long = λ not known. ((λ e. absurd (cc e)), (λ gave. absurd (none_given limit source.bytes known gave)));
-  script = λ reads. absurd reads;
+  refused = λ reads. absurd reads;
   read = λ e. absurd (cc e);
   write = λ e. absurd (cc e);
   unread = λ not. left_alone;
@@ -62,12 +118,13 @@ not_asked limit source sink unread same left_alone is = record {
 pub no_room : (limit : ℕ) (request : Option Request) (source sink : Ends) (alone same : Type 0) → alone → same → IsAnswer limit request source source sink sink alone same statuses.Memory
 no_room limit request source sink alone same left_alone is = record {
   ok = λ e. absurd (cc e);
+  lawful = λ e. absurd (cc e);
   end = λ reads no. absurd no;
   complete = expected request;
   usage = λ free. absurd (free refl);
-  no_live = λ passes cap e. absurd (cc e);
+  comes = tt;
   too_long = λ free. absurd (free refl);
-  script = λ reads no. absurd no;
+  refused = λ reads no. absurd no;
   read = λ e. absurd (cc e);
   write = λ e. absurd (cc e);
   unread = λ not. left_alone;
@@ -75,13 +132,18 @@ no_room limit request source sink alone same left_alone is = record {
   prefix = begun request;
 }
   where
+    unknown : (r : Request) → IsOfInput r statuses.Memory limit source.bytes (Rose source.faults source.faults) (Rose sink.faults sink.faults)
+    unknown r = untold (λ bytes. (statuses.Memory ≡ status_of_input r limit bytes) ⊎ IsFailure statuses.Memory (Rose source.faults source.faults) (Rose sink.faults sink.faults)) source.bytes (λ bytes. inr tt)
+
     expected : (request : Option Request) → IsExpected request statuses.Memory limit source.bytes (Rose source.faults source.faults) (Rose sink.faults sink.faults)
-    expected (Some (Report form)) = untold (λ bytes. (statuses.Memory ≡ status_of_input limit bytes) ⊎ IsFailure statuses.Memory (Rose source.faults source.faults) (Rose sink.faults sink.faults)) source.bytes (λ bytes. inr tt)
+    expected (Some (Report form)) = unknown (Report form)
+    expected (Some Verify) = unknown Verify
     expected (Some (Generate n)) = inr tt
     expected None = inr tt
 
     begun : (request : Option Request) → IsBegun request same source.bytes sink.bytes sink.bytes
     begun (Some (Report form)) = untold (λ bytes. same ⊎ WritesPrefix form bytes sink.bytes sink.bytes) source.bytes (λ bytes. inl is)
+    begun (Some Verify) = untold (λ bytes. same ⊎ VerifiesPrefix bytes sink.bytes sink.bytes) source.bytes (λ bytes. inl is)
     begun (Some (Generate n)) = (0, omega arith, Appends-nil sink.bytes)
     begun None = is
 
@@ -90,12 +152,13 @@ module _ (limit n : ℕ) (source sink sink' : Ends) (unread same : Type 0) (left
   pub generated : Appends sink.bytes sink'.bytes (gen_text n) → IsAnswer limit (Some (Generate n)) source source sink sink' unread same statuses.Ok
   generated all = record {
     ok = λ e. all;
+    lawful = λ e reads. absurd reads;
     end = λ reads. absurd reads;
     complete = inl refl;
     usage = λ free. ((λ e. absurd (cc e)), (λ e. absurd (cc e)));
-    no_live = λ passes cap e. absurd (cc e);
+    comes = tt;
     too_long = λ not known. ((λ e. absurd (cc e)), (λ gave. absurd (none_given limit source.bytes known gave)));
-    script = λ reads. absurd reads;
+    refused = λ reads. absurd reads;
     read = λ e. absurd (cc e);
     write = λ e. absurd (cc e);
     unread = λ not. left_alone;
@@ -106,12 +169,13 @@ module _ (limit n : ℕ) (source sink sink' : Ends) (unread same : Type 0) (left
   pub not_generated : (status : Status) → EndsRun status → (status ≡ statuses.WriteFault → Rose sink.faults sink'.faults) → IsAnswer limit (Some (Generate n)) source source sink sink' unread same status
   not_generated statuses.WriteFault ends cause = record {
     ok = λ e. absurd (cc e);
+    lawful = λ e. absurd (cc e);
     end = λ reads. absurd reads;
     complete = inr (cause refl);
     usage = λ free. ((λ e. absurd (cc e)), (λ e. absurd (cc e)));
-    no_live = λ passes cap e. absurd (cc e);
+    comes = tt;
     too_long = λ not known. ((λ e. absurd (cc e)), (λ gave. absurd (none_given limit source.bytes known gave)));
-    script = λ reads. absurd reads;
+    refused = λ reads. absurd reads;
     read = λ e. absurd (cc e);
     write = λ e. cause refl;
     unread = λ not. left_alone;
@@ -120,12 +184,13 @@ module _ (limit n : ℕ) (source sink sink' : Ends) (unread same : Type 0) (left
   }
   not_generated statuses.Memory ends cause = record {
     ok = λ e. absurd (cc e);
+    lawful = λ e. absurd (cc e);
     end = λ reads. absurd reads;
     complete = inr tt;
     usage = λ free. ((λ e. absurd (cc e)), (λ e. absurd (cc e)));
-    no_live = λ passes cap e. absurd (cc e);
+    comes = tt;
     too_long = λ not known. absurd (not refl);
-    script = λ reads. absurd reads;
+    refused = λ reads. absurd reads;
     read = λ e. absurd (cc e);
     write = λ e. absurd (cc e);
     unread = λ not. left_alone;
@@ -138,6 +203,7 @@ module _ (limit n : ℕ) (source sink sink' : Ends) (unread same : Type 0) (left
   not_generated statuses.TooLong ends cause = absurd ends
   not_generated statuses.ReadFault ends cause = absurd ends
   not_generated (statuses.TooManyPasses passes cap) ends cause = absurd ends
+  not_generated (statuses.Unlawful line) ends cause = absurd ends
 
   pub summarized : (r : Result (Unit {0}) Status) → OnOk r (Appends sink.bytes sink'.bytes (gen_text n)) → IfErr r EndsRun → (IsErrOf r statuses.WriteFault → Rose sink.faults sink'.faults) → IsAnswer limit (Some (Generate n)) source source sink sink' unread same (status_of r)
   summarized (Ok done) all ends cause = generated all

@@ -1,59 +1,96 @@
 -- The clauses of the top call in one record, for the private functions below it. No public clause cites this file.
-use Rattle.std.specs.Prelude.{◌≡◌, ◌≢◌, ◌⊎◌, ◌↔◌, ℕ, ◌≤◌, List, length, Option, None, Ok, IfSome, IsSome}
-use Rattle.std.specs.Io.KnownBytes.{Consumes, IsAtEnd}
+use Rattle.std.specs.Prelude.{◌≡◌, ◌≢◌, ◌⊎◌, ◌↔◌, ℕ, ◌≤◌, List, length, Option, Some, None, Ok, IfSome, IsSome}
+use Rattle.std.specs.Io.KnownBytes.{Appends, Consumes, IsAtEnd}
 use Rattle.damon_types.specs.Causes.{Rose}
 use Rattle.damon_control.specs.Script.{ScriptValue, script_of}
 use Rattle.snapshot_print.specs.declared.form.Form.{Form}
+use Rattle.script_run.specs.Report.{report}
 use Rattle.damon_app.specs.declared.request.Request.{Request}
+use Rattle.damon_app.specs.declared.request.Request.TheVariants.{Report, Verify, Generate}
+use Rattle.damon_journal.specs.declared.lawful.Lawful.{Lawful}
 use Rattle.damon_journal.specs.declared.status.Status.{Status}
 use Rattle.damon_journal.specs.declared.status.Status.TheVariants as statuses
 use Rattle.text_io.specs.Given.{GaveOver}
-use Rattle.damon_app.specs.Request.{ReadsInput}
+use Rattle.text_io.specs.Taken.{WritesPart}
+use Rattle.damon_app.specs.Request.{ReadsInput, ReadsJournal}
 use Rattle.text_io.specs.Ends.{Ends}
-use Rattle.damon_journal.specs.Status.{IsFailure, IsRead, IsUnwritten}
-use Rattle.damon_app.specs.StatusOf.{status_of_input}
-use Rattle.damon_app.specs.Replay.{IsBegun, IsDone, IsExpected, Replays, TellsFault, WritesPrefix}
+use Rattle.damon_journal.specs.Status.{IsRead, IsUnwritten}
+use Rattle.damon_journal.specs.Verified.{IsVerified}
+use Rattle.damon_app.specs.StatusOf.{status_of_text}
+use Rattle.damon_app.specs.Replay.{IsBegun, IsDone, IsExpected, IsOfInput, MayCome, TellsFault, Verifies}
+use Rattle.damon_app.specs.Verifying.{counts_line}
 
--- what a status says of a report, where `same` is that the sink was left alone
-pub record IsReport (limit : ℕ) (form : Form) (source source' sink sink' : Ends) (same : Type 0) (status : Status) : Type 0 where
-  pub ok : status ≡ statuses.Ok → IfSome source.bytes (λ bytes. Replays form bytes sink.bytes sink'.bytes)
+-- the bytes of an input call for this text
+abbrev pub CallsFor : Request → List ℕ → List ℕ → Type 0
+CallsFor (Report form) bytes text = (s : ScriptValue) × (script_of bytes ≡ Ok s) × (report form s ≡ text)
+CallsFor Verify bytes text = (counts : Lawful) × IsVerified bytes counts × (counts_line counts ≡ text)
+CallsFor (Generate n) bytes text = ⊥
+
+-- the sink gained the text that the bytes call for
+abbrev pub WritesWanted : Request → List ℕ → Option (List ℕ) → Option (List ℕ) → Type 0
+WritesWanted request bytes old new = (text : List ℕ) × CallsFor request bytes text × Appends old new text
+
+-- the sink was left alone, which is `same`, or it gained a prefix of that text
+abbrev pub MayWrite : Request → Type 0 → List ℕ → Option (List ℕ) → Option (List ℕ) → Type 0
+MayWrite request same bytes old new = same ⊎ ((text : List ℕ) × CallsFor request bytes text × WritesPart old new text)
+
+-- a status that refuses an input for what it says
+abbrev pub IsRefusal : Status → Type 0
+IsRefusal (statuses.Script line kind) = Unit {0}
+IsRefusal (statuses.Unlawful line) = Unit {0}
+IsRefusal _ = ⊥
+
+-- the status refuses the bytes exactly where what they are read for does
+abbrev pub RefusesAs : Request → Status → List ℕ → Type 0
+RefusesAs request status bytes = (refusal : Status) → IsRefusal refusal → (status ≡ refusal) ↔ (status_of_text request bytes ≡ refusal)
+
+-- what a status says of a request for which an input is read, where `same` is that the sink was left alone
+pub record IsOutcome (limit : ℕ) (request : Request) (source source' sink sink' : Ends) (same : Type 0) (status : Status) : Type 0 where
+  pub ok : status ≡ statuses.Ok → IfSome source.bytes (λ bytes. WritesWanted request bytes sink.bytes sink'.bytes)
   pub end : IsRead status → IsAtEnd source'.bytes
-  pub complete : IfSome source.bytes (λ bytes.
-      (status ≡ status_of_input limit bytes)
-      ⊎ IsFailure status (Rose source.faults source'.faults) (Rose sink.faults sink'.faults))
+  pub complete : IsOfInput request status limit source.bytes (Rose source.faults source'.faults) (Rose sink.faults sink'.faults)
   pub too_long : status ≢ statuses.Memory → IsSome source.bytes
       → (status ≡ statuses.TooLong) ↔ GaveOver limit source.bytes source'.bytes
-  pub script : IsRead status → IfSome source.bytes (TellsFault status)
+  pub refused : IsRead status → IfSome source.bytes (RefusesAs request status)
   pub read : status ≡ statuses.ReadFault → Rose source.faults source'.faults
   pub write : status ≡ statuses.WriteFault → Rose sink.faults sink'.faults
   pub asked : status ≢ statuses.Usage
-  pub no_live : (passes cap : ℕ) → status ≢ statuses.TooManyPasses passes cap
+  pub comes : MayCome status (Some request)
   pub unwritten : IsUnwritten status → same
-  pub prefix : IfSome source.bytes (λ bytes. same ⊎ WritesPrefix form bytes sink.bytes sink'.bytes)
+  pub prefix : IfSome source.bytes (λ bytes. MayWrite request same bytes sink.bytes sink'.bytes)
 
--- the source was read to its end, and its bytes spell this script
-pub record IsTaken (limit : ℕ) (source source' : Ends) (script : ScriptValue) : Type 0 where
+-- the source was read to its end, and its bytes call for this text
+pub record IsTaken (limit : ℕ) (request : Request) (source source' : Ends) (text : List ℕ) : Type 0 where
   pub bytes : List ℕ
   pub all : Consumes source.bytes source'.bytes bytes
   pub end : IsAtEnd source'.bytes
   pub few : length bytes ≤ limit
-  pub spells : script_of bytes ≡ Ok script
+  pub wanted : CallsFor request bytes text
+  pub status : status_of_text request bytes ≡ statuses.Ok
 
--- what a status says where no script was read: it is right for a report of each form, and for each sink that was left alone
-abbrev pub IsRefused : ℕ → Ends → Ends → Status → Type 0
-IsRefused limit source source' status =
-    (form : Form) (sink : Ends) → IsReport limit form source source' sink sink (Unit {0}) status
+-- what a status says where the input was not taken: it is right for each sink that was left alone
+abbrev pub IsRefused : ℕ → Request → Ends → Ends → Status → Type 0
+IsRefused limit request source source' status = (sink : Ends) → IsOutcome limit request source source' sink sink (Unit {0}) status
+
+-- the source was read to its end, and its bytes spell this script
+abbrev pub IsScriptTaken : ℕ → Ends → Ends → ScriptValue → Type 0
+IsScriptTaken limit source source' script = (form : Form) → IsTaken limit (Report form) source source' (report form script)
+
+-- what a status says where no script was read, whatever the form of its report
+abbrev pub IsScriptRefused : ℕ → Ends → Ends → Status → Type 0
+IsScriptRefused limit source source' status = (form : Form) → IsRefused limit (Report form) source source' status
 
 -- what a status says of what was asked for, where `alone` and `same` are that the source and the sink were left alone
 pub record IsAnswer (limit : ℕ) (request : Option Request) (source source' sink sink' : Ends) (alone same : Type 0) (status : Status) : Type 0 where
   pub ok : status ≡ statuses.Ok → IsDone request source.bytes sink.bytes sink'.bytes
+  pub lawful : status ≡ statuses.Ok → ReadsJournal request → IfSome source.bytes (λ bytes. Verifies bytes sink.bytes sink'.bytes)
   pub end : ReadsInput request → IsRead status → IsAtEnd source'.bytes
   pub complete : IsExpected request status limit source.bytes (Rose source.faults source'.faults) (Rose sink.faults sink'.faults)
   pub usage : status ≢ statuses.Memory → (status ≡ statuses.Usage) ↔ (request ≡ None)
-  pub no_live : (passes cap : ℕ) → status ≢ statuses.TooManyPasses passes cap
+  pub comes : MayCome status request
   pub too_long : status ≢ statuses.Memory → IsSome source.bytes
       → (status ≡ statuses.TooLong) ↔ GaveOver limit source.bytes source'.bytes
-  pub script : ReadsInput request → IsRead status → IfSome source.bytes (TellsFault status)
+  pub refused : ReadsInput request → IsRead status → IfSome source.bytes (TellsFault request status)
   pub read : status ≡ statuses.ReadFault → Rose source.faults source'.faults
   pub write : status ≡ statuses.WriteFault → Rose sink.faults sink'.faults
   pub unread : (ReadsInput request → ⊥) → alone

@@ -6,7 +6,7 @@ use Rattle.clap.specs.Simple.{App, Shape, new_app, new_rule, with_rule, with_sub
 use Rattle.clap.specs.Walk.{Row, Rule, first_of}
 use Rattle.clap.specs.declared.builder.action.ArgAction.TheVariants.{Set}
 use Rattle.damon_app.specs.declared.request.Request.{Request}
-use Rattle.damon_app.specs.Request.{generation_of, report_of}
+use Rattle.damon_app.specs.Request.{asked_alone, generation_of}
 
 -- the argument of `gen`
 abbrev pub number_rule : Rule
@@ -22,7 +22,7 @@ top_app = record (new_app (codes "damon")) { top = record (new_app (codes "damon
 
 -- the command
 abbrev pub damon_app : App
-damon_app = with_subcommand (with_subcommand (with_subcommand top_app (new_app (codes "replay")).top) (new_app (codes "json")).top) generate_shape
+damon_app = with_subcommand (with_subcommand (with_subcommand (with_subcommand top_app (new_app (codes "replay")).top) (new_app (codes "json")).top) (new_app (codes "verify")).top) generate_shape
 
 -- whether a word begins with a hyphen
 abbrev pub begins_with_hyphen : List ℕ → Bool
@@ -39,7 +39,7 @@ number_found found = option_map (λ p. (p.0, first_of (codes "number") p.1)) fou
 
 -- what a subcommand with or without a number asks for
 abbrev pub request_by : List ℕ → Option (List ℕ) → Option Request
-request_by name None = report_of name
+request_by name None = asked_alone name
 request_by name (Some digits) = generation_of name digits
 
 -- what a subcommand asks for, if one was found

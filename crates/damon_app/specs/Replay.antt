@@ -6,11 +6,16 @@ use Rattle.damon_control.specs.declared.fault.ScriptFault.{ScriptFault}
 use Rattle.snapshot_print.specs.declared.form.Form.{Form}
 use Rattle.script_run.specs.Report.{report}
 use Rattle.damon_app.specs.Generated.{gen_text}
+use Rattle.damon_journal.specs.Reading.{read_journal}
 use Rattle.damon_journal.specs.Status.{IsFailure}
+use Rattle.damon_journal.specs.Verified.{IsVerified}
+use Rattle.damon_journal.specs.declared.lawful.Lawful.{Lawful}
+use Rattle.damon_app.specs.Request.{ReadsJournal, ReadsScript}
 use Rattle.damon_app.specs.StatusOf.{status_of_input}
+use Rattle.damon_app.specs.Verifying.{counts_line}
 use Rattle.text_io.specs.Taken.{WritesPart}
 use Rattle.damon_app.specs.declared.request.Request.{Request}
-use Rattle.damon_app.specs.declared.request.Request.TheVariants.{Report, Generate}
+use Rattle.damon_app.specs.declared.request.Request.TheVariants.{Report, Verify, Generate}
 use Rattle.damon_journal.specs.declared.status.Status.{Status}
 use Rattle.damon_journal.specs.declared.status.Status.TheVariants as statuses
 
@@ -25,29 +30,60 @@ abbrev pub WritesPrefix : Form → List ℕ → Option (List ℕ) → Option (Li
 WritesPrefix form bytes old new =
     (s : ScriptValue) × (script_of bytes ≡ Ok s) × WritesPart old new (report form s)
 
+-- The bytes are the text of a lawful journal, and the sink gained exactly the line of its counts.
+pub record Verifies (bytes : List ℕ) (old new : Option (List ℕ)) : Type 0 where
+  pub counts : Lawful
+  pub lawful : IsVerified bytes counts
+  pub line : Appends old new (counts_line counts)
+
+-- the bytes are the text of a lawful journal, and the sink gained a prefix of the line of its counts
+abbrev pub VerifiesPrefix : List ℕ → Option (List ℕ) → Option (List ℕ) → Type 0
+VerifiesPrefix bytes old new = (counts : Lawful) × IsVerified bytes counts × WritesPart old new (counts_line counts)
+
+-- the sink gained the line of some counts; `Verifies` says of which
+abbrev pub WritesCounts : Option (List ℕ) → Option (List ℕ) → Type 0
+WritesCounts old new = (counts : Lawful) × Appends old new (counts_line counts)
+
 -- What was asked for was done, where `input` is what the source had and the sink went from `old` to `new`: the sink gained
--- the report of the script that the input spells, or the line of the generated script.
+-- the report of the script that the input spells, the line of a journal's counts, or the line of the generated script.
 abbrev pub IsDone : Option Request → (input old new : Option (List ℕ)) → Type 0
 IsDone (Some (Report form)) input old new = IfSome input (λ bytes. Replays form bytes old new)
+IsDone (Some Verify) input old new = IfSome input (λ bytes. WritesCounts old new)
 IsDone (Some (Generate n)) input old new = Appends old new (gen_text n)
 IsDone None input old new = ⊥
 
 -- The sink was left alone, which is `same`, or it gained a prefix of what was asked for.
 abbrev pub IsBegun : Option Request → Type 0 → (input old new : Option (List ℕ)) → Type 0
 IsBegun (Some (Report form)) same input old new = IfSome input (λ bytes. same ⊎ WritesPrefix form bytes old new)
+IsBegun (Some Verify) same input old new = IfSome input (λ bytes. same ⊎ VerifiesPrefix bytes old new)
 IsBegun (Some (Generate n)) same input old new = WritesPart old new (gen_text n)
 IsBegun None same input old new = same
 
--- The status is the one that is expected, or a failure: for a report, of which the input may have at most `limit` bytes, the
--- status of the input; for a generated run, in which no read can fail, `Ok`; for other words, where nothing is read or
--- written, `Usage`.
+-- the status is the one of the input, of which at most `limit` bytes are allowed, or a failure
+abbrev pub IsOfInput : Request → Status → ℕ → Option (List ℕ) → Type 0 → Type 0 → Type 0
+IsOfInput request status limit input read write =
+    IfSome input (λ bytes. (status ≡ status_of_input request limit bytes) ⊎ IsFailure status read write)
+
+-- The status is the one that is expected, or a failure: for a report or a check, of which the input may have at most `limit`
+-- bytes, the status of the input; for a generated run, in which no read can fail, `Ok`; for other words, where nothing is
+-- read or written, `Usage`.
 abbrev pub IsExpected : Option Request → Status → ℕ → Option (List ℕ) → Type 0 → Type 0 → Type 0
-IsExpected (Some (Report form)) status limit input read write =
-    IfSome input (λ bytes. (status ≡ status_of_input limit bytes) ⊎ IsFailure status read write)
+IsExpected (Some (Report form)) status limit input read write = IsOfInput (Report form) status limit input read write
+IsExpected (Some Verify) status limit input read write = IsOfInput Verify status limit input read write
 IsExpected (Some (Generate n)) status limit input read write = (status ≡ statuses.Ok) ⊎ IsFailure status ⊥ write
 IsExpected None status limit input read write = (status ≡ statuses.Usage) ⊎ IsFailure status ⊥ ⊥
 
--- the status is a fault of the text exactly where the bytes have it
-abbrev pub TellsFault : Status → List ℕ → Type 0
-TellsFault status bytes =
+-- the status refuses the text exactly where the bytes have this fault of a script, or this first rejected line of a journal
+abbrev pub TellsFault : Option Request → Status → List ℕ → Type 0
+TellsFault (Some (Report form)) status bytes =
     (fault : ScriptFault) → (status ≡ statuses.Script fault.line fault.kind) ↔ (script_of bytes ≡ Err fault)
+TellsFault (Some Verify) status bytes = (line : ℕ) → (status ≡ statuses.Unlawful line) ↔ (read_journal bytes ≡ Err line)
+TellsFault _ status bytes = Unit {0}
+
+-- a status that what was asked for can have: a fault of a script only where one is read, a rejected line of a journal only where
+-- its text is read, and none that is of live scripts
+abbrev pub MayCome : Status → Option Request → Type 0
+MayCome (statuses.Script line kind) request = ReadsScript request
+MayCome (statuses.Unlawful line) request = ReadsJournal request
+MayCome (statuses.TooManyPasses passes cap) request = ⊥
+MayCome _ request = Unit {0}

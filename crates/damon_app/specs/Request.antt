@@ -6,13 +6,14 @@ use Rattle.line_text.specs.Number.{number}
 use Rattle.script_lines.specs.Words.{same_word}
 use Rattle.snapshot_print.specs.declared.form.Form.TheVariants.{Text, Json}
 use Rattle.damon_app.specs.declared.request.Request.{Request}
-use Rattle.damon_app.specs.declared.request.Request.TheVariants.{Report, Generate}
+use Rattle.damon_app.specs.declared.request.Request.TheVariants.{Report, Verify, Generate}
 
--- the report that one word asks for, in its form
-abbrev pub report_of : List ℕ → Option Request
-report_of word =
+-- what one word asks for: the report of a script in its form, or the check of a journal
+abbrev pub asked_alone : List ℕ → Option Request
+asked_alone word =
     if same_word word (codes "replay") then Some (Report Text)
     else if same_word word (codes "json") then Some (Report Json)
+    else if same_word word (codes "verify") then Some Verify
     else None
 
 -- the generated run that two words ask for: `gen`, and a number of at most 64 bits in its one spelling
@@ -20,10 +21,10 @@ abbrev pub generation_of : List ℕ → List ℕ → Option Request
 generation_of word digits =
     if same_word word (codes "gen") then option_map (λ n. Generate n) (number (2 ^ 64 - 1) digits) else None
 
--- what words ask for, each given by its bytes: `replay` or `json` alone, or `gen N`, and nothing else
+-- what words ask for, each given by its bytes: `replay`, `json` or `verify` alone, or `gen N`, and nothing else
 abbrev pub request_of : List (List ℕ) → Option Request
 request_of [] = None
-request_of (word ∷ []) = report_of word
+request_of (word ∷ []) = asked_alone word
 request_of (word ∷ digits ∷ []) = generation_of word digits
 request_of (word ∷ digits ∷ more ∷ words) = None
 
@@ -31,8 +32,19 @@ request_of (word ∷ digits ∷ more ∷ words) = None
 abbrev pub asked : List (String Global) → Option Request
 asked words = request_of (map string_bytes words)
 
--- an input is read for what was asked
+-- a script is read for what was asked
+abbrev pub ReadsScript : Option Request → Type 0
+ReadsScript (Some (Report form)) = Unit {0}
+ReadsScript _ = ⊥
+
+-- the text of a journal is read for it
+abbrev pub ReadsJournal : Option Request → Type 0
+ReadsJournal (Some Verify) = Unit {0}
+ReadsJournal _ = ⊥
+
+-- an input is read for it
 abbrev pub ReadsInput : Option Request → Type 0
 ReadsInput (Some (Report form)) = Unit {0}
+ReadsInput (Some Verify) = Unit {0}
 ReadsInput (Some (Generate n)) = ⊥
 ReadsInput None = ⊥

@@ -15,6 +15,7 @@ pub(crate) fn make_command<'a>(alloc: Global) -> Result<Command<'a>, AllocError>
     let generate = Command::new(alloc, "gen").arg(number)?;
     let replay = Command::new(alloc, "replay");
     let json = Command::new(alloc, "json");
+    let verify = Command::new(alloc, "verify");
     Command::new(alloc, "damon")
         .no_binary_name(true)
         .disable_help_flag(true)
@@ -22,5 +23,6 @@ pub(crate) fn make_command<'a>(alloc: Global) -> Result<Command<'a>, AllocError>
         .subcommand_required(true)
         .subcommand(replay)?
         .subcommand(json)?
+        .subcommand(verify)?
         .subcommand(generate)
 }

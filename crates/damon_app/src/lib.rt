@@ -1,8 +1,10 @@
-//! The program that replays scripts and runs generated ones.
+//! The program that replays scripts, checks journals and runs generated scripts.
 #![tactic(auto)]
 
 /// The command that parses the words.
 mod command;
+/// The line of a lawful journal.
+mod counts;
 /// What holds of all runs.
 mod laws;
 /// The top call.

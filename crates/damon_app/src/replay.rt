@@ -8,19 +8,22 @@ ghost use Rattle.damon_control.specs.ScriptView.{said_by};
 ghost use Rattle.script_run.specs.Report.{report};
 ghost use Rattle.text_io.specs.Given.{GaveOver};
 ghost use Rattle.text_io.specs.Taken.{WritesPart};
-ghost use Rattle.damon_app.specs.Request.{ReadsInput, asked};
+ghost use Rattle.damon_app.specs.Request.{ReadsInput, ReadsJournal, asked};
 ghost use Rattle.damon_app.specs.Generated.{gen_text};
 ghost use Rattle.damon_app.specs.Runs.{EachRunChoosesBest, EachRunIsBound};
 ghost use Rattle.damon_journal.specs.Status.{EndsRun, IsRead, IsUnwritten, status_of};
-ghost use Rattle.damon_app.specs.Replay.{IsBegun, IsDone, IsExpected, TellsFault};
-ghost use Rattle.damon_app.specs.Answers.{IsAnswer, IsRefused, IsReport, IsTaken};
+ghost use Rattle.damon_journal.specs.Verified.{IsOfNoLawfulRun};
+ghost use Rattle.damon_app.specs.Replay.{IsBegun, IsDone, IsExpected, MayCome, TellsFault, Verifies};
+ghost use Rattle.damon_app.specs.Answers.{IsAnswer, IsOutcome, IsRefused, IsScriptRefused, IsScriptTaken, IsTaken};
+ghost use Rattle.damon_app.specs.declared.request.Request.TheVariants.{Report as report_in, Verify as verify};
 
 use crate::Request;
+use crate::counts::make_line;
 use crate::laws::{each_run_chooses_best, each_run_is_bound};
 use crate::request::read_request;
 use crate::summary::make_summary;
 use damon_control::{MAX_WORK, Script, read_script};
-use damon_journal::Status;
+use damon_journal::{Status, rejected_texts_are_unlawful, verify};
 use damon_types::{Sink, Source};
 use script_run::{Filled, open_player};
 use snapshot_print::Form;
@@ -28,7 +31,8 @@ use std::alloc::Global;
 use text_io::{INPUT_LIMIT, read_all, write_all};
 
 /// Does all of the program `damon`. For `replay` and `json` it reads a script to its end and writes the
-/// report of its run; for `gen N` it reads nothing, runs the generated script of N, and writes one line
+/// report of its run; for `verify` it reads the text of a journal to its end, checks it, and writes one
+/// line of its counts; for `gen N` it reads nothing, runs the generated script of N, and writes one line
 /// about the end of the run. It takes no lock and always returns.
 pub fn replay_main<S: Source, K: Sink>(
     alloc: Global,
@@ -36,10 +40,12 @@ pub fn replay_main<S: Source, K: Sink>(
     source: &mut S,
     sink: &mut K,
 ) -> Status
-    // What was written is what the words ask for: the report of the script that was read, or the line of
-    // the generated one.
+    // What was written is what the words ask for: the report of the script that was read, the line of the
+    // lawful journal whose text was read, or the line of the generated script.
     ensures ok { result ≡ Status.Ok →
         IsDone (asked words.now) (S.left source.old) (K.taken sink.old) (K.taken sink.new) }
+    ensures lawful { result ≡ Status.Ok → ReadsJournal (asked words.now) → IfSome (S.left source.old)
+        (λ bytes. Verifies bytes (K.taken sink.old) (K.taken sink.new)) }
     ensures end { ReadsInput (asked words.now) → IsRead result → IsAtEnd (S.left source.new) }
 
     // Whatever the status, the states along the run of every script that can be run are bound; and each
@@ -56,11 +62,13 @@ pub fn replay_main<S: Source, K: Sink>(
     // When each other status comes; memory may run out at any time.
     ensures usage { result ≢ Status.Memory →
         (result ≡ Status.Usage) ↔ (asked words.now ≡ None) }
-    ensures no_live { (passes cap : ℕ) → result ≢ Status.TooManyPasses passes cap }
+    ensures comes { MayCome result (asked words.now) }
     ensures too_long { result ≢ Status.Memory → IsSome (S.left source.old) →
         (result ≡ Status.TooLong) ↔ GaveOver INPUT_LIMIT (S.left source.old) (S.left source.new) }
-    ensures script { ReadsInput (asked words.now) → IsRead result →
-        IfSome (S.left source.old) (TellsFault result) }
+    ensures fault { ReadsInput (asked words.now) → IsRead result →
+        IfSome (S.left source.old) (TellsFault (asked words.now) result) }
+    ensures unlawful { (line : ℕ) → result ≡ Status.Unlawful line →
+        IfSome (S.left source.old) IsOfNoLawfulRun }
     ensures read { result ≡ Status.ReadFault → Rose (S.faults source.old) (S.faults source.new) }
     ensures write { result ≡ Status.WriteFault → Rose (K.faults sink.old) (K.faults sink.new) }
 
@@ -70,8 +78,10 @@ pub fn replay_main<S: Source, K: Sink>(
     ensures prefix { IsBegun (asked words.now) (sink.new ≡ sink.old)
         (S.left source.old) (K.taken sink.old) (K.taken sink.new) }
 {
+    // For their clauses alone: what holds of every script, and that no lawful journal is rejected.
     each_run_is_bound();
     each_run_chooses_best();
+    rejected_texts_are_unlawful();
     serve(alloc, words, source, sink)
 }
 
@@ -112,6 +122,7 @@ fn fulfil<S: Source, K: Sink>(
 {
     match request {
         Request::Report { form } => status_of(replay(alloc, form, source, sink)),
+        Request::Verify => status_of(check_journal(alloc, source, sink)),
         Request::Generate { number } => status_of(summarize(alloc, number, sink)),
     }
 }
@@ -133,7 +144,7 @@ fn replay<S: Source, K: Sink>(
     source: &mut S,
     sink: &mut K,
 ) -> Result<(), Status>
-    ensures { IsReport INPUT_LIMIT form
+    ensures { IsOutcome INPUT_LIMIT (report_in form)
         (record { bytes = S.left source.old; faults = S.faults source.old })
         (record { bytes = S.left source.new; faults = S.faults source.new })
         (record { bytes = K.taken sink.old; faults = K.faults sink.old })
@@ -148,11 +159,11 @@ fn replay<S: Source, K: Sink>(
 // Reads a source to its end, and returns the script that its bytes spell. The bytes are dropped at the end
 // of this function: the run needs only the script, and does not keep the memory of both.
 fn take_script<S: Source>(alloc: Global, source: &mut S) -> Result<Script, Status>
-    ensures taken { IfOk result (λ script. IsTaken INPUT_LIMIT
+    ensures taken { IfOk result (λ script. IsScriptTaken INPUT_LIMIT
         (record { bytes = S.left source.old; faults = S.faults source.old })
         (record { bytes = S.left source.new; faults = S.faults source.new })
         (said_by script)) }
-    ensures refused { IfErr result (IsRefused INPUT_LIMIT
+    ensures refused { IfErr result (IsScriptRefused INPUT_LIMIT
         (record { bytes = S.left source.old; faults = S.faults source.old })
         (record { bytes = S.left source.new; faults = S.faults source.new })) }
 
@@ -202,6 +213,40 @@ fn write_report<K: Sink>(
             }
         }
     }
+}
+
+// Reads the text of a journal, checks it, and hands the line of its counts to the sink.
+fn check_journal<S: Source, K: Sink>(
+    alloc: Global,
+    source: &mut S,
+    sink: &mut K,
+) -> Result<(), Status>
+    ensures { IsOutcome INPUT_LIMIT verify
+        (record { bytes = S.left source.old; faults = S.faults source.old })
+        (record { bytes = S.left source.new; faults = S.faults source.new })
+        (record { bytes = K.taken sink.old; faults = K.faults sink.old })
+        (record { bytes = K.taken sink.new; faults = K.faults sink.new })
+        (sink.new ≡ sink.old) (status_of result) }
+{
+    let line = take_journal(alloc, source)?;
+    write_all(sink, &line)?;
+    Ok(())
+}
+
+// Reads a source to its end, and returns the line of the lawful journal of which its bytes are the text.
+fn take_journal<S: Source>(alloc: Global, source: &mut S) -> Result<Vec<u8>, Status>
+    ensures taken { IfOk result (λ line. IsTaken INPUT_LIMIT verify
+        (record { bytes = S.left source.old; faults = S.faults source.old })
+        (record { bytes = S.left source.new; faults = S.faults source.new })
+        line.items) }
+    ensures refused { IfErr result (IsRefused INPUT_LIMIT verify
+        (record { bytes = S.left source.old; faults = S.faults source.old })
+        (record { bytes = S.left source.new; faults = S.faults source.new })) }
+{
+    let bytes = read_all(alloc, source)?;
+    let counts = verify(alloc, &bytes)?;
+    let line = make_line(alloc, counts)?;
+    Ok(line)
 }
 
 // Runs the generated script of a number, and hands its line to the sink.

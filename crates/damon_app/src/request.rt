@@ -1,7 +1,7 @@
 ghost use Rattle.std.specs.Prelude.{◌≡◌, ◌≢◌, IfOk, None, false};
 ghost use Rattle.clap.specs.Words.{kind_of, subcommand_rows_of};
 ghost use Rattle.damon_app.specs.Parser.{begins_with_hyphen, has_option, number_found, request_found};
-ghost use Rattle.damon_app.specs.Request.{asked, generation_of, report_of};
+ghost use Rattle.damon_app.specs.Request.{asked, asked_alone, generation_of};
 
 use crate::command::make_command;
 use clap::error::ErrorKind;
@@ -16,6 +16,8 @@ pub enum Request {
     /// To read a script, to run it, and to write its report in a form: `replay` for lines of text, `json`
     /// for JSON lines.
     Report { form: Form },
+    /// To check the text of a journal, and to write a line of its counts: `verify`.
+    Verify,
     /// To run the generated script of a number, and to write a line about it: `gen N`. Nothing is
     /// read.
     Generate { number: u64 },
@@ -81,18 +83,20 @@ fn request_in(matches: &ArgMatches) -> Option<Request>
     let (name, found) = matches.subcommand()?;
     match found.get_str("number") {
         Some(number) => generation_of(name.as_bytes(), number.as_bytes()),
-        None => report_of(name.as_bytes()),
+        None => asked_alone(name.as_bytes()),
     }
 }
 
-// The report that one word asks for.
-fn report_of(word: &[u8]) -> Option<Request>
-    ensures { result ≡ report_of word.now }
+// What one word asks for.
+fn asked_alone(word: &[u8]) -> Option<Request>
+    ensures { result ≡ asked_alone word.now }
 {
     if word == b"replay".as_slice() {
         Some(Request::Report { form: Form::Text })
     } else if word == b"json".as_slice() {
         Some(Request::Report { form: Form::Json })
+    } else if word == b"verify".as_slice() {
+        Some(Request::Verify)
     } else {
         None
     }

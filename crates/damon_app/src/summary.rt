@@ -62,7 +62,7 @@ fn applied(monitor: &Monitor) -> u64
 }
 
 // Appends a field's name and a number in decimal.
-fn print_field(out: &mut Vec<u8>, name: &[u8], value: u64) -> Result<(), AllocError>
+pub(crate) fn print_field(out: &mut Vec<u8>, name: &[u8], value: u64) -> Result<(), AllocError>
     ensures { OnOk result (out.new.items ≡ out.old.items ++ (name.now ++ decimal value)) }
 {
     out.extend_from_slice(name)?;

@@ -19,4 +19,6 @@ returns c =
     ∙ ap₂ with_subcommand top_is (ap (λ (a : App). a.top) c.new-replay.ensures.app) in
     let json_is : app_of c.in_ok-subcommand-2.field-0 ≡ with_subcommand (with_subcommand top_app (new_app (codes "replay")).top) (new_app (codes "json")).top = c.in_ok-subcommand-2.ensures.shape c.new-json.ensures.local
     ∙ ap₂ with_subcommand replay_is (ap (λ (a : App). a.top) c.new-json.ensures.app) in
-    IfOk-weaker c.subcommand-3.result _ _ (λ r h. h.shape (search rules) ∙ ap₂ with_subcommand json_is (ap (λ (a : App). a.top) gen_is)) c.subcommand-3.ensures
+    let verify_is : app_of c.in_ok-subcommand-3.field-0 ≡ with_subcommand (with_subcommand (with_subcommand top_app (new_app (codes "replay")).top) (new_app (codes "json")).top) (new_app (codes "verify")).top = c.in_ok-subcommand-3.ensures.shape c.new-verify.ensures.local
+    ∙ ap₂ with_subcommand json_is (ap (λ (a : App). a.top) c.new-verify.ensures.app) in
+    IfOk-weaker c.subcommand-4.result _ _ (λ r h. h.shape (search rules) ∙ ap₂ with_subcommand verify_is (ap (λ (a : App). a.top) gen_is)) c.subcommand-4.ensures

@@ -1,6 +1,6 @@
 use Rattle.std.proofs.Common.{◌≡◌, refl}
 use Rattle.text_io.specs.declared.input.TheConstants.{INPUT_LIMIT}
-use Rattle.damon_app.proofs.Serving.{reported, summarized}
+use Rattle.damon_app.proofs.Serving.{checked, reported, summarized}
 use Rattle.damon_app.proofs.replay.fulfil.Goals as goal
 
 pub returns-in-Report : goal.returns-in-Report
@@ -12,6 +12,16 @@ returns-in-Report g c =
     (record { bytes = g.K.Sink.taken c.args.sink.now; faults = g.K.Sink.faults c.args.sink.now })
     (record { bytes = g.K.Sink.taken c.replay.new.sink; faults = g.K.Sink.faults c.replay.new.sink })
     (c.replay.new.source ≡ c.args.source.now) (c.replay.new.sink ≡ c.args.sink.now) _ c.replay.ensures)
+
+pub returns-in-Verify : goal.returns-in-Verify
+returns-in-Verify g c =
+    rw (c.in-Verify.is, c.status_of-in-Verify.ensures)
+    (checked INPUT_LIMIT
+    (record { bytes = g.S.Source.left c.args.source.now; faults = g.S.Source.faults c.args.source.now })
+    (record { bytes = g.S.Source.left c.check_journal.new.source; faults = g.S.Source.faults c.check_journal.new.source })
+    (record { bytes = g.K.Sink.taken c.args.sink.now; faults = g.K.Sink.faults c.args.sink.now })
+    (record { bytes = g.K.Sink.taken c.check_journal.new.sink; faults = g.K.Sink.faults c.check_journal.new.sink })
+    (c.check_journal.new.source ≡ c.args.source.now) (c.check_journal.new.sink ≡ c.args.sink.now) _ c.check_journal.ensures)
 
 pub returns-in-Generate : goal.returns-in-Generate
 returns-in-Generate g c =

@@ -1,7 +1,10 @@
-use Rattle.std.proofs.Common.{◌≡◌, Err, ap, sym, ◌∙◌, subst}
+use Rattle.std.proofs.Common.{◌≡◌, Err, Ok, ap, sym, ◌∙◌, refl, subst}
 use Rattle.std.proofs.lemmas.Result.{err_from_is_err_and}
 use Rattle.damon_control.specs.Script.{script_of}
+use Rattle.damon_control.specs.ScriptView.{said_by}
 use Rattle.text_io.specs.declared.input.TheConstants.{INPUT_LIMIT}
+use Rattle.damon_app.specs.declared.request.Request.TheVariants.{Report}
+use Rattle.damon_app.specs.StatusOf.{status_of_spelled}
 use Rattle.damon_app.proofs.Answering.{not_read, not_spelled}
 use Rattle.damon_app.proofs.replay.take_script.Goals as goal
 
@@ -9,7 +12,7 @@ pub returns-in_err-bytes-clause-refused : goal.returns-in_err-bytes-clause-refus
 returns-in_err-bytes-clause-refused g c =
     let p = err_from_is_err_and c.from_residual.result c.from_residual.ensures.1 in
     let failed = c.in_err-bytes.ensures in
-    rw (p.1, p.2) (λ form sink. not_read INPUT_LIMIT form
+    rw (p.1, p.2) (λ form sink. not_read INPUT_LIMIT (Report form)
     (record { bytes = g.S.Source.left c.args.source.now; faults = g.S.Source.faults c.args.source.now })
     (record { bytes = g.S.Source.left c.read_all.new.source; faults = g.S.Source.faults c.read_all.new.source })
     sink sink (Unit {0}) c.in_err-bytes.field-0.0 tt
@@ -19,19 +22,21 @@ pub returns-in_err-script-clause-refused : goal.returns-in_err-script-clause-ref
 returns-in_err-script-clause-refused g c =
     let p = err_from_is_err_and c.from_residual-in_err-script.result c.from_residual-in_err-script.ensures.1 in
     let read = c.in_ok-bytes.ensures in
-    rw (p.1, p.2) (λ form sink. not_spelled INPUT_LIMIT form
+    rw (p.1, p.2) (λ form sink. not_spelled INPUT_LIMIT (Report form)
     (record { bytes = g.S.Source.left c.args.source.now; faults = g.S.Source.faults c.args.source.now })
     (record { bytes = g.S.Source.left c.read_all.new.source; faults = g.S.Source.faults c.read_all.new.source })
     sink sink (Unit {0}) c.in_ok-bytes.bytes.items read.all read.end read.limit c.in_err-script.field-0.0 tt
-    (λ f e. subst (λ bs. script_of bs ≡ Err f) c.deref.ensures.value (rw e at c.in_err-script.ensures.fault)))
+    (λ f e. ap status_of_spelled (subst (λ bs. script_of bs ≡ Err f) c.deref.ensures.value (rw e at c.in_err-script.ensures.fault))))
 
 pub returns-clause-taken : goal.returns-clause-taken
 returns-clause-taken g c =
     let read = c.in_ok-bytes.ensures in
-    record {
+    let spells : script_of c.in_ok-bytes.bytes.items ≡ Ok (said_by c.in_ok-script.script) = ap script_of (sym c.deref.ensures.value) ∙ c.in_ok-script.ensures.script in
+    λ form. record {
       bytes = c.in_ok-bytes.bytes.items;
       all = read.all;
       end = read.end;
       few = read.limit;
-      spells = ap script_of (sym c.deref.ensures.value) ∙ c.in_ok-script.ensures.script;
+      wanted = (said_by c.in_ok-script.script, spells, refl);
+      status = ap status_of_spelled spells;
     }

@@ -1,7 +1,7 @@
 use Rattle.std.proofs.Common.{Some, None, codes, ap, ap₂, ◌∙◌}
 use Rattle.clap.specs.Words.{found_of, rows_of}
 use Rattle.clap.proofs.WalkLemmas.{first_value-rows}
-use Rattle.damon_app.specs.Request.{generation_of, report_of}
+use Rattle.damon_app.specs.Request.{asked_alone, generation_of}
 use Rattle.damon_app.proofs.Parsing.{subcommand_asks}
 use Rattle.damon_app.proofs.request.request_in.Goals as goal
 
@@ -13,6 +13,6 @@ returns-in-Some c =
 
 pub returns-in-None : goal.returns-in-None
 returns-in-None c =
-    c.report_of.ensures
-    ∙ ap report_of c.as_bytes-in-None.ensures.value
+    c.asked_alone.ensures
+    ∙ ap asked_alone c.as_bytes-in-None.ensures.value
     ∙ subcommand_asks c.args.matches.now c.in_ok-name.name.now (rows_of (found_of c.in_ok-name.found.now)) None c.in_ok-name.ensures.name c.in_ok-name.ensures.rows (c.in-None.ensures ∙ first_value-rows (found_of c.in_ok-name.found.now) (codes "number"))

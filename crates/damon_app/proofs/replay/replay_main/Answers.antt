@@ -1,0 +1,7 @@
+use Rattle.damon_app.specs.Request.{asked}
+use Rattle.damon_app.proofs.Judging.{unlawful_text}
+use Rattle.damon_app.proofs.replay.replay_main.Goals as goal
+
+pub returns-clause-unlawful : goal.returns-clause-unlawful
+returns-clause-unlawful g c = λ line e.
+    unlawful_text c.rejected_texts_are_unlawful.ensures (asked c.args.words.now) c.serve.result (g.S.Source.left c.args.source.now) line c.serve.ensures.comes c.serve.ensures.refused e
