@@ -59,6 +59,12 @@ called_by v j line controller place free few is none =
     ap (λ (b : Bool). if b then tries (λ k. after_call_of v j k line) else None) free
     ∙ first_try (λ k. after_call_of v j k line) controller place few is none
 
+-- the line is the first of no call of a controller
+pub called_by_none : (v : LiveValue) (j : JournalValue) (line : List ℕ) → is_free (replay v j).state.core.phase ≡ true → ((i : ℕ) → i < 4 → after_call_of v j i line ≡ None) → after_call v j line ≡ None
+called_by_none v j line free none =
+    ap (λ (b : Bool). if b then tries (λ k. after_call_of v j k line) else None) free
+    ∙ next_is (after_call_of v j 0 line) _ _ (none 0 (omega arith)) (next_is (after_call_of v j 1 line) _ _ (none 1 (omega arith)) (next_is (after_call_of v j 2 line) _ _ (none 2 (omega arith)) (none 3 (omega arith))))
+
 -- the phase of the state is that of the monitor
 pub free_is : (v : LiveValue) (j : JournalValue) (f : Fold) → FoldStands v j f → is_free (replay v j).state.core.phase ≡ is_free f.replay.monitor.core.phase
 free_is v j f h = ap (λ (c : Core). is_free c.phase) (sym h.replay.stands.same)

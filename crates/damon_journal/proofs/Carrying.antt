@@ -15,7 +15,7 @@ use Rattle.damon_core.specs.After.{cleared_core, phase_after_pass, phase_cleared
 use Rattle.damon_core.specs.Commit.{becomes_void, check_of, committed_core, core_after_commit, if_accepted, phase_after_commit}
 use Rattle.damon_core.specs.Event.{aggregate, clear_index, load, observe, prepare}
 use Rattle.damon_core.specs.Makes.{Makes, Makes-append, Reached-run}
-use Rattle.damon_core.specs.Reached.{Reached, run}
+use Rattle.damon_core.specs.Reached.{CanOpen, Reached, run}
 use Rattle.damon_core.specs.Several.{clears}
 use Rattle.damon_core.specs.State.{Core, row_count}
 use Rattle.damon_core.specs.Stands.{MonitorView, Stands, last_pass}
@@ -45,11 +45,11 @@ pub record HasMade (w : LiveValue) (r : Replayed) (e : Entry) (old new : Replayi
   pub drawn : new.drawn ≡ old.drawn + words_taken r.state.core e
   pub rest : words_from new.words ≡ drawn_rest (words_taken r.state.core e) (words_from old.words)
 
--- an entry that fits, and whose events were made, is carried out in a script with the same seed
-pub carried_by : (v w : LiveValue) (j : JournalValue) (e : Entry) (bits : List Bool) (old new : ReplayingView) → v.seed ≡ w.seed → IsReplayOf v j old → IsJournalOf w (longer j e bits)
+-- an entry that fits, and whose events were made, is carried out in a script with the same seed and setup
+pub carried_by : (v w : LiveValue) (j : JournalValue) (e : Entry) (bits : List Bool) (old new : ReplayingView) → v.seed ≡ w.seed → v.setup ≡ w.setup → IsReplayOf v j old → IsJournalOf w (longer j e bits)
     → replay w (longer j e bits) ≡ carried w (replay_with v j bits) e → steps w (longer j e bits) ≡ steps v j ++ entry_steps w (replay_with v j bits) e → EntryFits w (replay_with v j bits) e
     → HasMade w (replay_with v j bits) e old new → IsCarried v w j e bits new
-carried_by v w j e bits old new seed h journal is steps_are fits has =
+carried_by v w j e bits old new seed setup h journal is steps_are fits has =
     let s = (replay v j).state in
     let r = replay_with v j bits in
     let n = words_taken s.core e in
@@ -58,6 +58,7 @@ carried_by v w j e bits old new seed h journal is steps_are fits has =
     record {
       fits = fits;
       replays = record {
+        opens = subst CanOpen setup h.opens;
         journal = journal;
         reached = subst Reached state (Reached-run s (entry_events w r e) h.reached made.0);
         stands = subst (Stands new.monitor) state made.1;
@@ -77,7 +78,7 @@ pub carries : GrowsByEntries → (v : LiveValue) (j : JournalValue) (e : Entry) 
     → (carried v (replay_with v j bits) e).bits ≡ [] → HasMade v (replay_with v j bits) e old new → IsCarried v v j e bits new
 carries grow v j e bits old new h fits none has =
     let grown = grow v j (longer j e bits) e bits refl h.journal fits none in
-    carried_by v v j e bits old new refl h grown.journal grown.is grown.steps_are fits has
+    carried_by v v j e bits old new refl refl h grown.journal grown.is grown.steps_are fits has
 
 -- ---- a pass is prepared
 
@@ -190,7 +191,7 @@ carries_call old new controller call answer made drawn words free told v j h bel
     let longer_is = lengthened v later j e [] (added-keeps v.controllers controller call) h.journal fits refl in
     let events : call_event call ∷ [] ≡ entry_events w r e = ap (λ o. option_map_or (λ (x : CallValue). call_event x ∷ []) o []) (sym last) in
     let none_more : old.drawn ≡ old.drawn + 0 = omega arith in
-    carried_by v w j e [] old new refl h longer_is.journal longer_is.is longer_is.steps_are fits (record {
+    carried_by v w j e [] old new refl refl h longer_is.journal longer_is.is longer_is.steps_are fits (record {
       events = subst (Makes Stands old.monitor new.monitor) events made;
       drawn = drawn ∙ none_more;
       rest = ap words_from words;

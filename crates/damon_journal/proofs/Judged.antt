@@ -1,21 +1,27 @@
 -- What the reading of a text says of lawful journals.
 use Rattle.std.proofs.Common.{◌≡◌, ◌≢◌, ℕ, List, Result, Ok, Err, refl, sym, ap, ◌∙◌}
 use Rattle.std.specs.Prelude.{IfErr}
+use Rattle.damon_core.specs.Reached.{CanOpen}
+use Rattle.damon_control.specs.Live.{LiveValue}
+use Rattle.damon_journal.specs.declared.entry.Receipt.{Receipt}
 use Rattle.damon_journal.specs.declared.lawful.Lawful.{Lawful}
 use Rattle.damon_journal.specs.declared.lawful.VerifyFault.{VerifyFault}
 use Rattle.damon_journal.specs.declared.lawful.VerifyFault.TheVariants.{Memory, Unlawful}
+use Rattle.damon_journal.specs.Lawful.{IsLawful}
 use Rattle.damon_journal.specs.LinesLeft.{FaultIs, IsFault}
 use Rattle.damon_journal.specs.Place.{JournalRead}
 use Rattle.damon_journal.specs.Reading.{read_journal}
+use Rattle.damon_journal.specs.Replay.{JournalValue}
 use Rattle.damon_journal.specs.Rules.{ReadsLawfulBack, ReadsOnlyLawful}
 use Rattle.damon_journal.specs.Verified.{HasCounts, IsOfNoLawfulRun, IsVerified}
+use Rattle.damon_journal.specs.Woven.{WovenRuns}
 
--- a text that is read is that of a lawful journal
-pub read_is_lawful : ReadsOnlyLawful → (text : List ℕ) (counts : Lawful) → HasCounts (read_journal text) counts → IsVerified text counts
-read_is_lawful law text counts has =
+-- a text that is read is that of a lawful journal, which with its receipts is one run
+pub read_is_lawful : ReadsOnlyLawful → ((v : LiveValue) (j : JournalValue) (all : List (List Receipt)) → CanOpen v.setup → IsLawful v j all → WovenRuns v j all) → (text : List ℕ) (counts : Lawful) → HasCounts (read_journal text) counts → IsVerified text counts
+read_is_lawful law weaves text counts has =
     let said = has.read in
     let is = law text said has.is in
-    record { live = said.live; journal = said.journal; receipts = said.receipts; lawful = is.lawful; rules = is.rules; spelled = is.spelled; counted = has.counted }
+    record { live = said.live; journal = said.journal; receipts = said.receipts; lawful = is.lawful; rules = is.rules; woven = weaves said.live said.journal said.receipts has.opens is.lawful; spelled = is.spelled; counted = has.counted }
 
 -- a text that has a rejected line is of no lawful journal that a text can spell
 pub rejected_is_unlawful : ReadsLawfulBack → (text : List ℕ) (line : ℕ) → read_journal text ≡ Err line → IsOfNoLawfulRun text

@@ -18,6 +18,7 @@ use Rattle.live_commit.specs.declared.phase.Phase.TheVariants.{Idle, Clearing, A
 use Rattle.live_commit.specs.Commit.{CommitValue}
 use Rattle.live_commit.specs.Setup.{SetupValue}
 use Rattle.page_words.specs.declared.view.Entry.TheVariants.{Load}
+use Rattle.damon_core.specs.Bound.{Bound}
 use Rattle.damon_core.specs.Note.{Note, set}
 use Rattle.damon_core.specs.Commit.{becomes_void, check_of, committed, committed_core, if_accepted, slot_note, with_cost, with_metric, with_slot}
 use Rattle.damon_core.specs.State.{Core, State, opening, row_count, set_note}
@@ -27,7 +28,7 @@ use Rattle.damon_core.specs.InPhase.{IsInPhase}
 use Rattle.damon_core.specs.Makes.{AllFit-append, run-append}
 use Rattle.damon_core.specs.Pass.{IsInPass, PagesRiseFrom}
 use Rattle.damon_core.specs.Several.{clears}
-use Rattle.damon_core.specs.Reached.{AllByHit, AllFit, CanOpen, Reached, run}
+use Rattle.damon_core.specs.Reached.{AllByHit, AllFit, CanOpen, Reached, ReachedByHit, run}
 use Rattle.damon_control.specs.Live.{CallValue, CommitCall, LiveValue, ShowCall}
 use Rattle.damon_journal.specs.declared.entry.CallAnswer.{CallAnswer}
 use Rattle.damon_journal.specs.declared.entry.Entry.{Entry}
@@ -44,6 +45,7 @@ use Rattle.damon_journal.proofs.Quiet.{HitsReceived, IsArmedBy, Quiet, all_clear
 
 -- what is known of states that are reached
 pub record PassLaws : Type 0 where
+  pub bound : (s : State) → ReachedByHit s → Bound s
   pub in_phase : (s : State) → Reached s → IsInPhase s
   pub picks : (s : State) → Reached s → IsInPass s.core.phase → (length s.core.picks ≡ row_count s.core) × PagesRiseFrom 0 s.core.picks
 
@@ -362,6 +364,15 @@ set_untouched (change ∷ changes) = by_scheme change.scheme (set_untouched chan
 opening_untouched : (v : SetupValue) → untouched (opening v) ≡ opening v
 opening_untouched v = ap (λ ns. record (opening v) { notes = ns }) (set_untouched v.slots)
 
+-- what holds of all events holds of the first ones
+front_fits : (s : State) (es fs : List Event) → AllFit s (es ++ fs) → AllFit s es
+front_fits s [] fs fit = tt
+front_fits s (e ∷ es) fs fit = (fit.0, front_fits (after s e) es fs fit.1)
+
+front_by_hit : (s : State) (es fs : List Event) → AllByHit s (es ++ fs) → AllByHit s es
+front_by_hit s [] fs right = tt
+front_by_hit s (e ∷ es) fs right = (right.0, front_by_hit (after s e) es fs right.1)
+
 pub weaves : PassLaws → (v : LiveValue) (j : JournalValue) (all : List (List Receipt)) → CanOpen v.setup → IsLawful v j all → WovenRuns v j all
 weaves laws v j all can lawful =
     let rs = all_of all in
@@ -373,8 +384,18 @@ weaves laws v j all can lawful =
     let reached : Reached s = record { setup = v.setup; events = []; can_open = can; fit = tt; is = refl } in
     let first : IsBefore v r (run s b) = record { reached = reached; space = refl; same = before.same ∙ opening_untouched v.setup; ready = λ may. absurd may } in
     let others = weave laws v rs lawful.receipts.within j.entries r (run s b) lawful.journal.fit first lawful.receipts.hits in
+    let fit = AllFit-append s b rest before.fit others.fit in
+    let by_hit = AllByHit-append s b rest before.by_hit others.by_hit in
     record {
-      fit = AllFit-append s b rest before.fit others.fit;
-      by_hit = AllByHit-append s b rest before.by_hit others.by_hit;
+      fit = fit;
+      by_hit = by_hit;
+      bound = λ events more split. laws.bound (run s events) (record {
+        setup = v.setup;
+        events = events;
+        can_open = can;
+        fit = front_fits s events more (subst (AllFit s) split fit);
+        by_hit = front_by_hit s events more (subst (AllByHit s) split by_hit);
+        is = refl;
+      });
       same = ap untouched (run-append s b rest) ∙ others.same;
     }

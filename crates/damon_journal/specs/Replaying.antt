@@ -1,7 +1,7 @@
 -- A journal that is carried out by a monitor, entry by entry.
 use Rattle.std.specs.Prelude.{◌≡◌, ℕ, ◌<◌, Bool, List, [], ◌++◌, length}
 use Rattle.rand_pcg.specs.Lcg.{Lcg}
-use Rattle.damon_core.specs.Reached.{Reached}
+use Rattle.damon_core.specs.Reached.{CanOpen, Reached}
 use Rattle.damon_core.specs.Stands.{MonitorView, Stands}
 use Rattle.damon_control.specs.Live.{CallValue, LiveValue}
 use Rattle.damon_journal.specs.declared.entry.CallAnswer.{CallAnswer}
@@ -19,9 +19,10 @@ pub record ReplayingView : Type 0 where
   pub words : Lcg
   pub drawn : ℕ
 
--- the entries of a journal are carried out: the monitor stands for the state of its replay, and the words to come are those after
+-- the entries of a journal are carried out, from a setup within its limits: the monitor stands for the state of its replay, and the words to come are those after
 -- the ones that were drawn
 pub record IsReplayOf (v : LiveValue) (j : JournalValue) (r : ReplayingView) : Type 0 where
+  pub opens : CanOpen v.setup
   pub journal : IsJournalOf v j
   pub reached : Reached (replay v j).state
   pub stands : Stands r.monitor (replay v j).state

@@ -1,5 +1,6 @@
 -- One list of events for a journal and receipts: the touches stand where the loads found them.
 use Rattle.std.specs.Prelude.{◌≡◌, ℕ, Bool, true, false, ◌&&◌, ◌||◌, ◌==◌, not, List, [], ◌∷◌, ◌++◌, filter, map, take}
+use Rattle.damon_core.specs.Bound.{Bound}
 use Rattle.damon_core.specs.Event.{Event, touch}
 use Rattle.damon_core.specs.Note.{Note, touched}
 use Rattle.damon_core.specs.Reached.{AllByHit, AllFit, run}
@@ -57,9 +58,10 @@ is_no_touch _ = true
 abbrev pub untouched : State → State
 untouched s = record s { notes = filter is_no_touch s.notes }
 
--- The woven events fit; each load has the result of its page, which is the kept one; and they lead to the state of the
--- replay, but for the touches.
+-- The woven events fit; each load has the result of its page, which is the kept one; each state to which a prefix of them leads is
+-- bound; and they lead to the state of the replay, but for the touches.
 pub record WovenRuns (v : LiveValue) (j : JournalValue) (all : List (List Receipt)) : Type 0 where
   pub fit : AllFit (opening v.setup) (woven v j all)
   pub by_hit : AllByHit (opening v.setup) (woven v j all)
+  pub bound : (events rest : List Event) → woven v j all ≡ events ++ rest → Bound (run (opening v.setup) events)
   pub same : untouched (run (opening v.setup) (woven v j all)) ≡ (replay v j).state

@@ -24,7 +24,8 @@ use script_lines::body_lines_are_spelled;
 
 /// Where a journal and receipts are lawful, the events of the journal can be woven with the touches of
 /// the receipts: they fit, each load is a hit by the touches before it exactly where the journal says
-/// so, and they lead to the state of the replay, but for the notes of touches.
+/// so, each state along them is bound, and they lead to the state of the replay, but for the notes of
+/// touches.
 pub fn woven_runs()
     ensures { (v : LiveValue) (j : JournalValue) (all : List (List receipt)) → CanOpen v.setup
         → IsLawful v j all → WovenRuns v j all }

@@ -3,6 +3,7 @@ ghost use Rattle.live_commit.specs.declared.phase.Phase.TheVariants.{Idle, Armed
 ghost use Rattle.live_commit.specs.SetupView.{value_of};
 ghost use Rattle.damon_core.specs.Event.{load};
 ghost use Rattle.damon_core.specs.Makes.{Makes};
+ghost use Rattle.damon_core.specs.Reached.{CanOpen};
 ghost use Rattle.damon_core.specs.Stands.{Stands, last_pass};
 ghost use Rattle.damon_core.specs.State.{opening_core, row_count};
 ghost use Rattle.damon_control.specs.Live.{LiveValue};
@@ -54,6 +55,7 @@ impl Replaying {
         ensures drawn { IfOk result (λ r. r.drawn ≡ 0) }
         ensures opening { IfOk result (λ r. r.monitor.core ≡ opening_core (value_of setup.now)) }
     {
+        setup_opens(setup);
         let monitor = Monitor::new(alloc, setup)?;
         let buffer = Vec::with_capacity(alloc, 2 * monitor.rows().cap() as usize)?;
         Ok(Replaying {
@@ -176,4 +178,12 @@ fn load_all(monitor: &mut Monitor, bits: &[bool])
     for k in 0..bits.len() {
         monitor.loaded(bits[k]);
     }
+}
+
+// A setup is within its limits, its targets too, and its ranges are in order. It does nothing.
+fn setup_opens(setup: &Setup)
+    ensures { CanOpen (value_of setup.now) }
+{
+    // For their clauses alone.
+    let (_targets, _ranges) = (setup.space.targets(), setup.ranges.len());
 }

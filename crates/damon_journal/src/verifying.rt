@@ -11,7 +11,7 @@ use crate::ends::{compare_last, open_text};
 use crate::fold::Fold;
 use crate::journal_lines::JournalLines;
 use crate::lawful::{Lawful, VerifyFault};
-use crate::laws::{read_journals_are_lawful, rejected_texts_are_unlawful};
+use crate::laws::{read_journals_are_lawful, rejected_texts_are_unlawful, woven_runs};
 use crate::seen_part::take_receipts;
 use damon_control::{JournalHead, MAX_BYTES};
 use std::alloc::Global;
@@ -33,8 +33,9 @@ pub fn verify(alloc: Global, bytes: &[u8]) -> Result<Lawful, VerifyFault>
     ensures read { IfOk result (λ counts. HasCounts (read_journal bytes.now) counts) }
     ensures line { IfErr result (λ fault. IsFault fault (read_journal bytes.now)) }
 {
-    // For their clauses alone: what is read is lawful, and what is rejected is not.
+    // For their clauses alone: what is read is lawful and so one run, and what is rejected is not lawful.
     read_journals_are_lawful();
+    woven_runs();
     rejected_texts_are_unlawful();
     read_text(alloc, bytes)
 }

@@ -39,5 +39,6 @@ returns-clause-counts c =
     record {
       read = said;
       is = c.in_ok-head.ensures.head ∙ read.goes_on ∙ settled.1 ∙ c.in_ok-compare_last.ensures.ok state said stands;
+      opens = read.stands.replay.opens;
       counted = read.stands.counts;
     }

@@ -10,7 +10,7 @@ use Rattle.damon_journal.proofs.verifying.verify.Goals as goal
 pub returns-clause-lawful : goal.returns-clause-lawful
 returns-clause-lawful c =
     let text = c.args.bytes.now in
-    IfOk-weaker c.read_text.result (HasCounts (read_journal text)) (IsVerified text) (read_is_lawful c.read_journals_are_lawful.ensures.law text) c.read_text.ensures.counts
+    IfOk-weaker c.read_text.result (HasCounts (read_journal text)) (IsVerified text) (read_is_lawful c.read_journals_are_lawful.ensures.law c.woven_runs.ensures text) c.read_text.ensures.counts
 
 pub returns-clause-line : goal.returns-clause-line
 returns-clause-line c = fault_said c.read_text.result (read_journal c.args.bytes.now) c.read_text.ensures.fault

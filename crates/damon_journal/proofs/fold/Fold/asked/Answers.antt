@@ -4,7 +4,7 @@ use Rattle.damon_core.specs.Stands.{MonitorView}
 use Rattle.damon_journal.specs.CallLine.{place_asked}
 use Rattle.damon_journal.specs.EntryLine.{after_call_of, is_free}
 use Rattle.damon_journal.specs.Replay.{replay}
-use Rattle.damon_journal.proofs.CallsTaken.{called_by, free_is}
+use Rattle.damon_journal.proofs.CallsTaken.{called_by, called_by_none, free_is}
 use Rattle.damon_journal.proofs.fold.Fold.asked.Goals as goal
 
 pub returns-in-Some-clause-place : goal.returns-in-Some-clause-place
@@ -21,3 +21,10 @@ loop-controller-preserved c = λ v j h.
     let k : ℕ = c.loop-controller.controller in
     let here : after_call_of v j k c.args.line.now ≡ None = sym (c.asked_of.ensures v j h) ∙ ap (option_map (place_asked v j k)) c.in_default.is in
     below_more (λ (i : ℕ). after_call_of v j i c.args.line.now ≡ None) k (c.loop-controller.invariant v j h) here
+
+pub returns-clause-place : goal.returns-clause-place
+returns-clause-place c = λ v j h.
+    let f = c.args.self.now in
+    let phase = c.phase.ensures.phase ∙ ap (λ (m : MonitorView). m.core.phase) c.monitor.ensures in
+    let free : is_free (replay v j).state.core.phase ≡ true = free_is v j f h ∙ (ap is_free (sym phase) ∙ (sym c.is_free-free.ensures.is ∙ c.if-not-free.false)) in
+    sym (called_by_none v j c.args.line.now free (λ i few. c.loop-controller.invariant v j h i (omega (arith, few, c.loop-controller-test.false))))
