@@ -1,8 +1,8 @@
 -- Which receipts may follow one another: the last one of each page tells it.
-use Rattle.std.proofs.Common.{◌≡◌, ℕ, zero, suc, ◌+◌, ◌≤◌, ◌<◌, ◌==◌, ◌&&◌, ◌||◌, not, Bool, true, false, List, [], ◌∷◌, length, drop, get_or, nat_le, nat_lt, refl, sym, ap, ◌∙◌, arith, Some, None}
+use Rattle.std.proofs.Common.{◌≡◌, ℕ, suc, ◌+◌, ◌≤◌, ◌<◌, ◌==◌, ◌&&◌, ◌||◌, not, Bool, true, false, List, [], ◌∷◌, length, drop, get_or, nat_le, nat_lt, refl, sym, ap, ◌∙◌, arith, Some, None}
 use Rattle.std.proofs.lemmas.Bool.Decides.{nat_tests}
-use Rattle.std.proofs.lemmas.List.{drop_all, drop_more, get_or-replicate, length-set, get_or-set_same, get_or-set_other}
-use Rattle.std.specs.Prelude.{Option, option_map, replicate, if◌then◌else◌, ◌≢◌}
+use Rattle.std.proofs.lemmas.List.{drop_all, drop_more, length-set, get_or-set_same, get_or-set_other}
+use Rattle.std.specs.Prelude.{Option, option_map, if◌then◌else◌, ◌≢◌}
 use Rattle.std.specs.Prelude.{slice_set}
 use Rattle.page_words.specs.declared.view.Entry.{Entry as Step}
 use Rattle.damon_control.specs.declared.live.TheConstants.{MAX_WORKERS}
@@ -11,27 +11,6 @@ use Rattle.damon_journal.specs.Ahead.{KeepsLast, first_refused, first_wrong, is_
 use Rattle.damon_journal.specs.SeenLine.{is_risen, is_tag, receipts_so_far, with_receipt}
 use Rattle.damon_journal.proofs.AheadLemmas.{risen_step}
 use Rattle.damon_journal.proofs.SeenAfter.{count_more, none_yet, own_more}
-
--- before the first receipt
-pub keeps_none : (pages : ℕ) → KeepsLast [] 0 (replicate pages (0, 0))
-keeps_none pages = record {
-  count = refl;
-  rises = λ worker r d below few.
-      let first : get_or (replicate pages (0, 0)) r.page d ≡ (0, 0) = get_or-replicate pages r.page (0, 0) d (none_within pages r.page (0, 0) below) in
-      ap (λ rs. is_risen rs r) (none_yet [] worker (omega arith)) ∙ sym (ap (λ last. is_later last worker r.tag) first ∙ (ap (λ b. not (0 == worker) || b) (least r.tag) ∙ either (not (0 == worker))));
-}
-  where
-    none_within : (n page : ℕ) (x : ℕ × ℕ) → page < length (replicate n x) → page < n
-    none_within zero page x below = absurd (omega (arith, below))
-    none_within (suc n) zero x below = omega arith
-    none_within (suc n) (suc page) x below = let rest = none_within n page x (omega (arith, below)) in omega (arith, rest)
-
-    least : (tag : ℕ) → nat_le 0 tag ≡ true
-    least tag = grind (arith, nat_tests)
-
-    either : (b : Bool) → (b || true) ≡ true
-    either true = refl
-    either false = refl
 
 -- whether a receipt may come next, by what is kept
 pub may_by_last : (all : List (List Receipt)) (workers : ℕ) (last : List (ℕ × ℕ)) (worker : ℕ) (r : Receipt) (d : ℕ × ℕ) → KeepsLast all workers last → r.page < length last

@@ -44,6 +44,8 @@ pub mod Carrying
 pub mod AheadLemmas
 pub mod SeenAfter
 pub mod SeenTaken
+pub mod SeenColumns
+pub mod TagLinks
 pub mod AheadTables
 pub mod LastSeen
 pub mod NamedSteps

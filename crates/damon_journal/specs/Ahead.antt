@@ -1,8 +1,7 @@
 -- Receipts that are read ahead of the entries: which they are, what passes name them, and which is refused.
-use Rattle.std.specs.Prelude.{◌≡◌, ℕ, ◌+◌, ◌≤◌, ◌<◌, ◌==◌, Bool, false, not, ◌&&◌, ◌||◌, nat_le, nat_lt, suc, List, [], ◌∷◌, codes, length, map, slice_index_or, All, IsPermutation, Option, Some, None, Result, Ok, option_map, if◌then◌else◌}
+use Rattle.std.specs.Prelude.{◌≡◌, ℕ, ◌+◌, ◌≤◌, ◌<◌, ◌==◌, Bool, false, not, ◌&&◌, ◌||◌, nat_le, nat_lt, suc, List, [], ◌∷◌, codes, length, map, slice_index_or, All, Option, Some, None, Result, Ok, option_map, if◌then◌else◌}
 use Rattle.std.specs.Borrow.{Bor}
 use Rattle.std.specs.List.{list_any}
-use Rattle.std.specs.List.Sorted.{IsNonDecreasingBy}
 use Rattle.damon_types.specs.declared.space.Target.{Target}
 use Rattle.page_words.specs.declared.view.Entry.{Entry as Step}
 use Rattle.line_text.specs.Parts.{parts}
@@ -10,8 +9,9 @@ use Rattle.script_lines.specs.declared.kind.ScriptKind.{ScriptKind}
 use Rattle.script_lines.specs.Refusal.{◌>>=◌}
 use Rattle.script_lines.specs.Words.{arguments, byte_address, number_8, number_32, number_64, same_word}
 use Rattle.damon_control.specs.declared.live.TheConstants.{MAX_WORKERS}
+use Rattle.damon_control.specs.declared.reader.TheConstants.{MAX_BYTES}
 use Rattle.damon_journal.specs.declared.entry.Receipt.{Receipt}
-use Rattle.damon_journal.specs.SeenLine.{is_risen, is_tag, may_be_seen, receipts_so_far, seen_fields, seen_line, with_receipt}
+use Rattle.damon_journal.specs.SeenLine.{is_receipt, is_risen, is_tag, may_be_seen, receipts_so_far, seen_fields, seen_line, with_receipt}
 
 -- ---- which receipts a text has
 
@@ -114,20 +114,6 @@ first_wrong (name ∷ named) all (x ∷ xs) =
     if name && may_follow all x.0 x.1 then option_map suc (first_wrong named (with_receipt all x.0 x.1) xs) else Some 0
 first_wrong _ all _ = None
 
--- receipts with their numbers in the list in place of their workers
-abbrev pub numbered : ℕ → List (ℕ × Receipt) → List (ℕ × Receipt)
-numbered n [] = []
-numbered n (x ∷ xs) = (n, x.1) ∷ numbered (n + 1) xs
-
--- each number and each page is below these
-abbrev pub AreBelow : ℕ → ℕ → List (ℕ × Receipt) → Type 0
-AreBelow numbers pages xs = All (λ x. (x.0 < numbers) × (x.1.page < pages)) xs
-
--- the numbers of receipts in the order of the tags
-pub record AreInOrder (receipts order : List (ℕ × Receipt)) : Type 0 where
-  pub all : IsPermutation (numbered 0 receipts) order
-  pub rise : IsNonDecreasingBy (λ (x : ℕ × Receipt). x.1.tag) order
-
 -- whether a pick is of this page
 abbrev pub is_picked : List ℕ → ℕ → Bool
 is_picked picks page = list_any (λ p. p == page) picks
@@ -138,24 +124,23 @@ IsUnset table = (page : ℕ) → slice_index_or table page false ≡ false
 
 -- a table says of each page whether a receipt has it with this tag
 abbrev pub ShowsTag : ℕ → List (ℕ × Receipt) → List Bool → Type 0
-ShowsTag tag order table = (page : ℕ) → page < length table → slice_index_or table page false ≡ list_any (λ x. (x.1.tag == tag) && (x.1.page == page)) order
+ShowsTag tag receipts table = (page : ℕ) → page < length table → slice_index_or table page false ≡ list_any (is_receipt page tag) (receipts_of receipts)
 
 -- each receipt is named that was named before or that a pass with these picks names
 abbrev pub NamesMore : ℕ → List ℕ → List (ℕ × Receipt) → List Bool → List Bool → Type 0
-NamesMore pass picks order before after =
-    (number : ℕ) → number < length before
-    → slice_index_or after number false ≡ (slice_index_or before number false || list_any (λ x. (x.1.tag == pass) && ((x.0 == number) && is_picked picks x.1.page)) order)
+NamesMore pass picks receipts before after =
+    (i : ℕ) (d : ℕ × Receipt) → i < length receipts
+    → slice_index_or after i false ≡ (slice_index_or before i false || is_named pass picks (slice_index_or receipts i d).1)
 
 -- receipts with what is kept of them
-pub record IsAhead (receipts : List (ℕ × Receipt)) (named : List Bool) (order : List (ℕ × Receipt)) (picked received : List Bool) (pass pages : ℕ) : Type 0 where
+pub record IsAhead (receipts : List (ℕ × Receipt)) (named picked received : List Bool) (pass pages : ℕ) : Type 0 where
   pub count : length named ≡ length receipts
   pub within : All (λ x. x.1.page < pages) receipts
-  pub sorted : AreInOrder receipts order
-  pub below : AreBelow (length receipts) pages order
   pub table : length picked ≡ pages
   pub unpicked : IsUnset picked
   pub marks : length received ≡ pages
-  pub shows : ShowsTag pass order received
+  pub early : pass ≤ MAX_BYTES + 1
+  pub shows : ShowsTag pass receipts received
 
 -- a tag may come after the last one of its page, where that is of the same worker
 abbrev pub is_later : ℕ × ℕ → ℕ → ℕ → Bool

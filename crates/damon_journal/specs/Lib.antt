@@ -16,6 +16,8 @@ pub mod EntryLine
 pub mod Replaying
 pub mod SeenLine
 pub mod Ahead
+pub mod SeenColumns
+pub mod TagLinks
 pub mod Reading
 pub mod Rules
 pub mod Examples

@@ -1,15 +1,18 @@
 // Receipts that are read ahead of the entries of a journal.
-ghost use Rattle.std.specs.Prelude.{◌≡◌, ◌<◌, [], All, IfOk, length, List};
+ghost use Rattle.std.specs.Prelude.{◌≡◌, ◌+◌, ◌≤◌, ◌<◌, [], All, IfOk, length, List};
 ghost use Rattle.std.specs.List.{list_any};
 ghost use Rattle.damon_types.specs.Space.{pages_of};
+ghost use Rattle.damon_control.specs.declared.reader.TheConstants.{MAX_BYTES};
 ghost use Rattle.line_text.specs.Parts.{parts};
 ghost use Rattle.page_words.specs.declared.view.Entry.{Entry as Step};
 ghost use Rattle.damon_journal.specs.Ahead.{IsPrepared, after_receipts, first_refused, named_by, named_by_none, receipts_of, seen_ahead};
 ghost use Rattle.damon_journal.specs.SeenLine.{is_receipt};
 
+use crate::by_tag::SeenByTag;
 use crate::last_seen::first_wrong;
-use crate::seen_words::{Seen, read_receipts};
-use crate::tables::{Numbered, by_tag, mark_pass, named_by_none, received_at_first, unset_table};
+use crate::seen_list::SeenList;
+use crate::seen_words::read_receipts;
+use crate::tables::{name_due, named_by_none, received_at_first, show_pass, unset_table};
 use damon_types::Space;
 use sampler::Picks;
 use std::alloc::{AllocError, Global};
@@ -20,10 +23,8 @@ use std::marker::Model;
 // those that name it.
 #[derive(Drop)]
 pub(crate) struct Ahead {
-    receipts: Vec<Seen>,
+    seen: SeenByTag,
     named: Vec<bool>,
-    // The receipts in the order of their tags.
-    order: Vec<Numbered>,
     // For each page, whether it is a pick of the pass in preparation; between calls none is.
     picked: Vec<bool>,
     // For each page, whether a receipt has it with the number of the pass as its tag.
@@ -38,20 +39,21 @@ impl Model for Ahead {
     ghost Value = { AheadView };
 
     ghost view = { λ a. record {
-      receipts = a.receipts.items;
+      receipts = a.seen;
       named = a.named.items;
       pass = a.pass;
       pages = a.pages;
     } };
 
-    ghost invariant = { λ a. IsAhead a.receipts.items a.named.items a.order.items a.picked.items
-        a.received.items a.pass a.pages };
+    ghost invariant = { λ a. IsAhead a.seen a.named.items a.picked.items a.received.items
+        a.pass a.pages };
 }
 
 impl Ahead {
     // Reads the receipts of a text, which is what follows the head of a journal. No pass is
     // prepared yet. The error is that memory ran out.
     pub(crate) fn read(alloc: Global, space: &Space, text: &[u8]) -> Result<Ahead, AllocError>
+        requires { length text.now ≤ MAX_BYTES }
         ensures receipts { IfOk result (λ a. a.receipts
             ≡ seen_ahead space.now (after_receipts (parts 10 text.now))) }
         ensures named { IfOk result (λ a. a.named ≡ named_by_none a.receipts) }
@@ -64,23 +66,23 @@ impl Ahead {
 
     // These receipts, whose pages are below `pages`. No pass is prepared yet. The error is that
     // memory ran out.
-    fn of(alloc: Global, receipts: Vec<Seen>, pages: u32) -> Result<Ahead, AllocError>
-        requires { All (λ x. x.1.page < pages) receipts.items }
+    fn of(alloc: Global, receipts: SeenList, pages: u32) -> Result<Ahead, AllocError>
+        requires few { length receipts ≤ MAX_BYTES }
+        requires within { All (λ x. x.1.page < pages) receipts }
         ensures { IfOk result (λ a. a ≡ record {
-          receipts = receipts.items;
-          named = named_by_none receipts.items;
+          receipts = receipts;
+          named = named_by_none receipts;
           pass = 0;
           pages = pages;
         }) }
     {
         let named = named_by_none(alloc, &receipts)?;
-        let order = by_tag(alloc, &receipts)?;
+        let seen = SeenByTag::of(alloc, receipts)?;
         let picked = unset_table(alloc, pages)?;
-        let received = received_at_first(alloc, &order, pages)?;
+        let received = received_at_first(alloc, &seen, pages)?;
         Ok(Ahead {
-            receipts,
+            seen,
             named,
-            order,
             picked,
             received,
             pass: 0,
@@ -92,23 +94,17 @@ impl Ahead {
     pub(crate) fn len(&self) -> usize
         ensures { result ≡ length self.now.receipts }
     {
-        self.receipts.len()
+        self.seen.len()
     }
 
     // Marks the receipts that name a pass with these picks. Takes no memory.
     pub(crate) fn prepare(&mut self, pass: u64, picks: &Picks)
-        requires { All (λ p. p < self.old.pages) picks.now.pages }
+        requires early { pass ≤ MAX_BYTES + 1 }
+        requires picks { All (λ p. p < self.old.pages) picks.now.pages }
         ensures { IsPrepared pass picks.now.pages self.old self.new }
     {
-        mark_pass(
-            &mut self.named,
-            &mut self.picked,
-            &mut self.received,
-            &self.order,
-            self.pass,
-            pass,
-            picks,
-        );
+        show_pass(&mut self.received, &self.seen, self.pass, pass);
+        name_due(&mut self.named, &mut self.picked, &self.seen, pass, picks);
         self.pass = pass;
     }
 
@@ -127,7 +123,7 @@ impl Ahead {
         ensures { (done : List Step) → self.now.named ≡ named_by done self.now.receipts
             → IfOk result (λ index. index ≡ first_refused done [] self.now.receipts) }
     {
-        let index = first_wrong(alloc, &self.receipts, &self.named, self.pages)?;
+        let index = first_wrong(alloc, self.seen.list(), &self.named, self.pages)?;
         Ok(index)
     }
 }

@@ -4,7 +4,7 @@ ghost use Rattle.damon_journal.specs.Ahead.{ByWorker, KeepsLast, first_wrong, ma
 ghost use Rattle.damon_journal.specs.SeenLine.{with_receipt};
 
 use crate::entry::Receipt;
-use crate::seen_words::Seen;
+use crate::seen_list::SeenList;
 use damon_control::MAX_WORKERS;
 use std::alloc::{AllocError, Global};
 
@@ -23,10 +23,10 @@ struct LastSeen {
 
 // The index of the first receipt that is not named or may not come next, where all pages are below
 // `pages`. Allocates.
-#[tactic(auto, using(crate::proofs::LastSeen::wrong_here, crate::proofs::LastSeen::left_none))]
+#[tactic(auto, using(crate::proofs::LastSeen::left_none))]
 pub(crate) fn first_wrong(
     alloc: Global,
-    receipts: &[Seen],
+    receipts: &SeenList,
     named: &[bool],
     pages: u32,
 ) -> Result<Option<usize>, AllocError>
@@ -36,7 +36,7 @@ pub(crate) fn first_wrong(
 {
     let mut last = LastSeen::new(alloc, pages)?;
     for index in 0..receipts.len() {
-        let (worker, receipt) = receipts[index];
+        let (worker, receipt) = receipts.get(index);
         let admitted = last.admit(named[index], worker, &receipt);
         if !admitted {
             return Ok(Some(index));

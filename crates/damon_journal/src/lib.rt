@@ -4,6 +4,8 @@
 
 /// Receipts that are read ahead.
 mod ahead;
+/// Receipts that are found by their tags.
+mod by_tag;
 /// The calls of controllers.
 mod calls;
 /// The head and the last lines of a journal text.
@@ -36,13 +38,15 @@ mod results;
 mod same_lines;
 /// The lines of receipts.
 mod seen_lines;
+/// Receipts with their workers, in columns.
+mod seen_list;
 /// The receipts of a journal text.
 mod seen_part;
 /// Reading the lines of receipts.
 mod seen_words;
 /// How a run of a program ended.
 mod status;
-/// Tables of pages, and receipts in the order of their tags.
+/// Tables of pages and of receipts, which passes set.
 mod tables;
 /// The text of a journal.
 mod text;

@@ -1,5 +1,5 @@
 // Reading the receipts of a journal text ahead of its entries.
-ghost use Rattle.std.specs.Prelude.{◌≡◌, ◌<◌, length, All, IfOk, IfSome};
+ghost use Rattle.std.specs.Prelude.{◌≡◌, ◌≤◌, ◌<◌, length, All, IfOk, IfSome};
 ghost use Rattle.std.specs.Option.{option_copied};
 ghost use Rattle.damon_types.specs.Space.{pages_of};
 ghost use Rattle.line_text.specs.Parts.{parts, parts_left};
@@ -8,15 +8,13 @@ ghost use Rattle.damon_journal.specs.SeenLine.{seen_line, seen_of};
 
 use crate::entry::Receipt;
 use crate::seen_lines::is_seen_line;
+use crate::seen_list::{Seen, SeenList};
 use damon_types::{Space, pages_rise};
 use line_text::split_front;
 use script_lines::{
     ScriptKind, arguments, four_words, read_8, read_32, read_64, read_byte_address, same_word,
 };
 use std::alloc::{AllocError, Global};
-
-// A receipt with its worker.
-pub(crate) type Seen = (u8, Receipt);
 
 // The numbers of a `seen` line: its worker, target, address and tag.
 type SeenNumbers = (u8, (u32, (u64, u64)));
@@ -26,20 +24,22 @@ pub(crate) fn read_receipts(
     alloc: Global,
     space: &Space,
     text: &[u8],
-) -> Result<Vec<Seen>, AllocError>
-    ensures exact { IfOk result (λ seen. seen.items
+) -> Result<SeenList, AllocError>
+    ensures exact { IfOk result (λ seen. seen
         ≡ seen_ahead space.now (after_receipts (parts 10 text.now))) }
-    ensures within { IfOk result (λ seen. All (λ x. x.1.page < pages_of space.now) seen.items) }
+    ensures within { IfOk result (λ seen. All (λ x. x.1.page < pages_of space.now) seen) }
+    ensures few { IfOk result (λ seen. length seen ≤ length text.now) }
 {
     match after_receipts(text) {
         Some(lines) => read_seen_lines(alloc, space, lines),
-        None => Ok(Vec::new(alloc)),
+        None => Ok(SeenList::new(alloc)),
     }
 }
 
 // What follows the first line `receipts`.
 fn after_receipts(text: &[u8]) -> Option<&[u8]>
-    ensures { parts_left 10 (option_copied result) ≡ after_receipts (parts 10 text.now) }
+    ensures exact { parts_left 10 (option_copied result) ≡ after_receipts (parts 10 text.now) }
+    ensures shorter { IfSome result (λ rest. length rest.now < length text.now) }
 {
     let mut rest = Some(text);
     'lines: while let Some(left) = rest {
@@ -53,11 +53,12 @@ fn after_receipts(text: &[u8]) -> Option<&[u8]>
 }
 
 // The receipts of the lines of a text, up to the first line that says none.
-fn read_seen_lines(alloc: Global, space: &Space, lines: &[u8]) -> Result<Vec<Seen>, AllocError>
-    ensures exact { IfOk result (λ seen. seen.items ≡ seen_ahead space.now (parts 10 lines.now)) }
-    ensures within { IfOk result (λ seen. All (λ x. x.1.page < pages_of space.now) seen.items) }
+fn read_seen_lines(alloc: Global, space: &Space, lines: &[u8]) -> Result<SeenList, AllocError>
+    ensures exact { IfOk result (λ seen. seen ≡ seen_ahead space.now (parts 10 lines.now)) }
+    ensures within { IfOk result (λ seen. All (λ x. x.1.page < pages_of space.now) seen) }
+    ensures few { IfOk result (λ seen. length seen ≤ length lines.now) }
 {
-    let mut seen = Vec::new(alloc);
+    let mut seen = SeenList::new(alloc);
     let mut rest = lines;
     'lines: while let Some((receipt, next)) = next_seen(space, rest) {
         seen.push(receipt)?;

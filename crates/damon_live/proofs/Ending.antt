@@ -331,6 +331,7 @@ module _ (limit : ℕ) (source source' sink sink' : Ends) (alone same : Type 0) 
   not_written statuses.TooLong ends cause = absurd ends
   not_written statuses.ReadFault ends cause = absurd ends
   not_written (statuses.TooManyPasses passes cap) ends cause = absurd ends
+  not_written (statuses.Unlawful line) ends cause = absurd ends
 
   -- what the status says of a run whose text was handed over
   pub handed_over : (r : Result (Unit {0}) Status) → OnOk r (Appends sink.bytes sink'.bytes (journal_text v j receipts)) → IfErr r EndsRun → (IsErrOf r statuses.WriteFault → Rose sink.faults sink'.faults) → IsEnding limit true source source' sink sink' alone same (ended (status_of r))

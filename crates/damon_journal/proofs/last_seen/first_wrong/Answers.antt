@@ -1,5 +1,8 @@
-use Rattle.std.proofs.Common.{◌≡◌, ◌<◌, ◌∙◌, true, length, rules, sym, arith}
-use Rattle.damon_journal.proofs.LastSeen.{left_first, left_more}
+use Rattle.std.proofs.Common.{◌≡◌, ◌<◌, ◌&&◌, ◌∙◌, ℕ, true, false, length, get_or, rules, sym, ap, subst, arith}
+use Rattle.damon_journal.specs.declared.entry.Receipt.{Receipt}
+use Rattle.damon_journal.specs.Ahead.{KeepsLast, may_follow}
+use Rattle.damon_journal.specs.SeenLine.{with_receipt}
+use Rattle.damon_journal.proofs.LastSeen.{left_first, left_more, wrong_here}
 use Rattle.damon_journal.proofs.last_seen.first_wrong.Goals as goal
 
 pub loop-index-init : goal.loop-index-init
@@ -8,16 +11,37 @@ loop-index-init c = record {
   len = c.in_ok-last.ensures.len;
 }
 
+pub admit-admitted-requires : goal.admit-admitted-requires
+admit-admitted-requires c =
+    let x = c.get-worker.result in
+    let below : c.loop-index.index < length c.args.receipts.now = search rules in
+    let page : x.1.page ≡ (get_or c.args.receipts.now c.loop-index.index x).1.page = ap (λ (y : ℕ × Receipt). y.1.page) (c.get-worker.ensures x) in
+    omega (arith, page, c.requires.within c.loop-index.index x below, c.loop-index.invariant.len)
+
+pub returns-then-not-admitted : goal.returns-then-not-admitted
+returns-then-not-admitted c =
+    let left = c.loop-index.invariant.left in
+    let named = c.args.named.now in
+    let x = c.get-worker.result in
+    let k = c.loop-index.index in
+    let below : k < length c.args.receipts.now = search rules in
+    let within : k < length named = omega (arith, below, c.requires.count) in
+    let is : c.admit-admitted.result ≡ false = search rules in
+    wrong_here named c.args.receipts.now _ _ k x left below within
+    (subst (λ (y : ℕ × Receipt). (get_or named k false && may_follow left.all y.0 y.1) ≡ false) (c.get-worker.ensures x) (sym (c.admit-admitted.ensures.may left.all left.keeps) ∙ is))
+
 pub loop-index-preserved : goal.loop-index-preserved
 loop-index-preserved c =
     let left = c.loop-index.invariant.left in
     let named = c.args.named.now in
-    let receipts = c.args.receipts.now in
+    let x = c.get-worker.result in
     let k = c.loop-index.index in
-    let below : k < length receipts = search rules in
+    let below : k < length c.args.receipts.now = search rules in
     let within : k < length named = omega (arith, below, c.requires.count) in
     let is : c.admit-admitted.result ≡ true = search rules in
     record {
-      left = left_more named receipts _ _ _ _ k (0, record { page = 0; tag = 0 }) left below within (sym (c.admit-admitted.ensures.may left.all left.keeps) ∙ is) (c.admit-admitted.ensures.next left.all left.keeps is);
+      left = left_more named c.args.receipts.now _ _ _ _ k x left below within
+          (subst (λ (y : ℕ × Receipt). (get_or named k false && may_follow left.all y.0 y.1) ≡ true) (c.get-worker.ensures x) (sym (c.admit-admitted.ensures.may left.all left.keeps) ∙ is))
+          (subst (λ (y : ℕ × Receipt). KeepsLast (with_receipt left.all y.0 y.1) c.admit-admitted.new.self.workers c.admit-admitted.new.self.pages.items) (c.get-worker.ensures x) (c.admit-admitted.ensures.next left.all left.keeps is));
       len = c.admit-admitted.ensures.len ∙ c.loop-index.invariant.len;
     }

@@ -1,4 +1,4 @@
-use Rattle.std.proofs.Common.{◌≡◌}
+use Rattle.std.proofs.Common.{◌≡◌, ◌≤◌, suc, length}
 use Rattle.std.specs.Option.{option_copied}
 use Rattle.line_text.specs.Parts.{parts, parts_left}
 use Rattle.damon_journal.specs.Ahead.{after_receipts}
@@ -6,7 +6,10 @@ use Rattle.damon_journal.proofs.SeenTaken.{size_left}
 use Rattle.damon_journal.proofs.seen_words.after_receipts.Given as goal
 
 abbrev pub invariant-lines : goal.invariant-lines
-invariant-lines l = after_receipts (parts_left 10 (option_copied l.rest)) ≡ after_receipts (parts 10 l.text)
+invariant-lines l = record {
+  exact : after_receipts (parts_left 10 (option_copied l.rest)) ≡ after_receipts (parts 10 l.text);
+  shorter : size_left l.rest ≤ suc (length l.text);
+}
 
 abbrev pub decreases-lines : goal.decreases-lines
 decreases-lines l = size_left l.rest

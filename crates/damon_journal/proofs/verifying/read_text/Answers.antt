@@ -9,6 +9,13 @@ use Rattle.damon_journal.specs.Replay.{replay}
 use Rattle.damon_journal.specs.Room.{nothing_said}
 use Rattle.damon_journal.proofs.verifying.read_text.Goals as goal
 
+pub returns-in_err-take_entries-clause-fault : goal.returns-in_err-take_entries-clause-fault
+returns-in_err-take_entries-clause-fault c =
+    let fault = c.in_err-take_entries.field-0.0 in
+    let p = err_from_is_err_and c.from_residual-in_err-take_entries.result c.from_residual-in_err-take_entries.ensures.1 in
+    rw (p.1, p.2)
+    (subst (λ (r : Result JournalRead ℕ). IsFault fault r) (sym c.in_ok-head.ensures.head) (c.in_err-take_entries.ensures.fault (uncalled (head_said c.in_ok-head.head)) nothing_said c.in_ok-fold.ensures.begins))
+
 pub returns-in_err-take_receipts-clause-fault : goal.returns-in_err-take_receipts-clause-fault
 returns-in_err-take_receipts-clause-fault c =
     let read = c.in_ok-take_entries.ensures.entries (uncalled (head_said c.in_ok-head.head)) nothing_said c.in_ok-fold.ensures.begins in
