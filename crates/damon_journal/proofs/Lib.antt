@@ -5,6 +5,7 @@ pub mod OpenHits
 pub mod SeenText
 pub mod SpelledCalls
 pub mod EntriesText
+pub mod LeftText
 pub mod Streams
 pub mod Untouched
 pub mod Fitting

@@ -11,6 +11,7 @@ pub mod Woven
 pub mod Text
 pub mod Spelled
 pub mod Results
+pub mod TextParts
 pub mod Place
 pub mod EntryLine
 pub mod Replaying

@@ -50,6 +50,8 @@ mod status;
 mod tables;
 /// The text of a journal.
 mod text;
+/// The text of a journal, a piece at a time.
+mod text_parts;
 /// The check of a journal text.
 mod verifying;
 /// Random words by their position.
@@ -64,5 +66,6 @@ pub use laws::{
 };
 pub use status::Status;
 pub use text::journal_text;
+pub use text_parts::{Filled, TextParts};
 pub use verifying::verify;
 pub use words::{generator, words_at};

@@ -1,15 +1,13 @@
 // The lines of receipts.
-ghost use Rattle.std.specs.Prelude.{◌≡◌, ℕ, List, ◌≤◌, ◌<◌, ◌++◌, ◌∷◌, [], drop, length, map, OnOk};
+ghost use Rattle.std.specs.Prelude.{◌≡◌, ℕ, List, ◌≤◌, ◌<◌, ◌++◌, ◌∷◌, [], drop, length, map, vec_len, IfOk};
 ghost use Rattle.std.specs.List.{AllByRecursion};
 ghost use Rattle.damon_types.specs.Space.{pages_of};
 ghost use Rattle.script_lines.specs.Kept.{KeepsFront};
 ghost use Rattle.script_lines.specs.Lines.{lines_text};
 ghost use Rattle.script_lines.specs.Words.{same_word};
-ghost use Rattle.damon_journal.specs.Lawful.{all_of, receipts_said};
 ghost use Rattle.damon_journal.specs.Spelled.{spelled_seen};
-ghost use Rattle.damon_journal.specs.Text.{seen_lines};
 
-use crate::entry::{Receipt, Receipts};
+use crate::entry::Receipt;
 use crate::line_parts::{address_field_before, field_before, text_before, without_end};
 use damon_types::Space;
 use script_lines::same_word;
@@ -18,42 +16,34 @@ use std::alloc::AllocError;
 // Bytes enough for the line of a receipt, which has at most 87.
 const LINE_ROOM: usize = 88;
 
-// Appends the lines of the receipts of all workers.
-pub(crate) fn write_receipts(
-    out: &mut Vec<u8>,
-    space: &Space,
-    receipts: &Receipts,
-) -> Result<(), AllocError>
-    requires { AllByRecursion (λ r. r.page < pages_of space.now)
-        (all_of (receipts_said receipts.now)) }
-    ensures ok { OnOk result (out.new.items ≡ out.old.items
-        ++ lines_text (seen_lines space.now 0 (receipts_said receipts.now))) }
-    ensures kept { KeepsFront out.old.items out.new.items }
-{
-    for worker in 0..receipts.len() {
-        write_seen(out, space, worker, receipts.get(worker).as_slice())?;
-    }
-    Ok(())
-}
-
-// Appends the lines of the receipts of a worker. Each is put together in a small array first.
-fn write_seen(
+// Appends the lines of the receipts of a worker from the one with index `next` on, until `out` has `limit`
+// bytes or none is left, and returns the index after them. Each is put together in a small array first.
+pub(crate) fn write_seen(
     out: &mut Vec<u8>,
     space: &Space,
     worker: u32,
     receipts: &[Receipt],
-) -> Result<(), AllocError>
+    next: usize,
+    limit: usize,
+) -> Result<usize, AllocError>
     requires { AllByRecursion (λ r. r.page < pages_of space.now) receipts.now }
-    ensures ok { OnOk result (out.new.items ≡ out.old.items
-        ++ lines_text (map (spelled_seen space.now worker) receipts.now)) }
+    ensures ok { IfOk result (λ at.
+        out.new.items ++ lines_text (map (spelled_seen space.now worker) (drop at receipts.now))
+        ≡ out.old.items ++ lines_text (map (spelled_seen space.now worker) (drop next receipts.now))) }
+    ensures stops { IfOk result (λ at. at < length receipts.now → limit ≤ vec_len out.new) }
     ensures kept { KeepsFront out.old.items out.new.items }
 {
     let mut line = [0; LINE_ROOM];
-    for receipt in receipts {
-        let start = seen_before(&mut line, space, worker, receipt);
+    let mut at = next;
+    'receipts: while at < receipts.len() {
+        if out.len() >= limit {
+            return Ok(at);
+        }
+        let start = seen_before(&mut line, space, worker, &receipts[at]);
         out.extend_from_slice(&line[start..])?;
+        at += 1;
     }
-    Ok(())
+    Ok(at)
 }
 
 // Whether a line is the one spelling of a receipt.

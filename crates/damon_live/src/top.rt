@@ -22,7 +22,7 @@ use crate::ends::AloneRun;
 use crate::pace::Pace;
 use crate::threads::run_threads;
 use damon_control::{LiveScript, live_scripts_are_sound, read_live};
-use damon_journal::{Journal, Receipts, Status, journal_text};
+use damon_journal::{Filled, Journal, Receipts, Status, TextParts};
 use damon_types::{PlainList, Sink, Source};
 use std::alloc::Global;
 use std::sync::Wait;
@@ -256,7 +256,7 @@ fn check_passes(script: &LiveScript) -> Result<(), Status>
     }
 }
 
-// Hands the text of a run to the sink.
+// Hands the text of a run to the sink, a piece at a time.
 fn hand_over<K: Sink>(alloc: Global, run: &AloneRun, sink: &mut K) -> Result<(), Status>
     requires run { IsWholeRun (live_said run.now.script) run.now.journal.value (receipts_said run.now.receipts) }
     requires stands { Stands run.now.monitor (replay (live_said run.now.script) run.now.journal.value).state }
@@ -270,15 +270,14 @@ fn hand_over<K: Sink>(alloc: Global, run: &AloneRun, sink: &mut K) -> Result<(),
     ensures part { WritesPart (K.taken sink.old) (K.taken sink.new)
         (journal_text (live_said run.now.script) run.now.journal.value (receipts_said run.now.receipts)) }
 {
-    let mut text = Vec::new(alloc);
-    journal_text(
-        alloc,
-        &mut text,
-        &run.script,
-        &run.journal,
-        &run.receipts,
-        &run.monitor,
-    )?;
-    write_all(sink, &text)?;
-    Ok(())
+    let mut parts = TextParts::new(&run.script, &run.journal, &run.receipts, &run.monitor);
+    let mut piece = Vec::new(alloc);
+    'pieces: loop {
+        let filled = parts.fill(alloc, &mut piece)?;
+        write_all(sink, &piece)?;
+        match filled {
+            Filled::Piece => piece.clear(),
+            Filled::End => return Ok(()),
+        }
+    }
 }
