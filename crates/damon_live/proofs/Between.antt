@@ -17,7 +17,7 @@ use Rattle.live_commit.specs.Commit.{CommitValue}
 use Rattle.page_words.specs.Clears.{last_clear_of}
 use Rattle.page_words.specs.Seats.{MonitorSeatView}
 use Rattle.damon_core.specs.Commit.{becomes_void, phase_after_commit, check_of, committed_core, core_after_commit, if_accepted}
-use Rattle.damon_core.specs.Event.{aggregate, commit, show}
+use Rattle.damon_core.specs.Event.{aggregate, commit}
 use Rattle.damon_core.specs.Makes.{Makes, Reached-run}
 use Rattle.damon_core.specs.Reached.{Reached, run}
 use Rattle.damon_core.specs.State.{Core}

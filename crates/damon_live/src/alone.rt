@@ -3,7 +3,7 @@ ghost use Rattle.std.specs.Prelude.{◌≡◌, ◌*◌, ◌≤◌, [], IfOk, len
 ghost use Rattle.damon_types.specs.Space.{pages_of};
 ghost use Rattle.damon_core.specs.Stands.{Stands};
 ghost use Rattle.damon_control.specs.LiveText.{KeepsLimits};
-ghost use Rattle.damon_control.specs.LiveView.{live_said};
+ghost use Rattle.damon_control.specs.LiveView.{live_said, traces_of};
 ghost use Rattle.damon_journal.specs.Lawful.{receipts_said};
 ghost use Rattle.damon_journal.specs.Replay.{check_sizes, replay};
 ghost use Rattle.damon_live.specs.Whole.{AreInSpace, IsWholeRun, TracesAreInSpace};
@@ -16,7 +16,7 @@ use crate::named::Named;
 use crate::pace::NoPace;
 use crate::rest::make_rest;
 use crate::work::{Done, Job, work};
-use damon_control::LiveScript;
+use damon_control::{LiveScript, Traces};
 use page_words::{MonitorSeat, PageWords, WordsAndSeat};
 use std::alloc::{AllocError, Global};
 use std::marker::Brand;
@@ -69,7 +69,7 @@ fn run_named<N: Named>(
         receipts,
     } = begin_run::<N>(alloc, &words, seat, script)?;
     make_rest(&mut kept, &words);
-    let made = work_all(alloc, &words, kept.script(), jobs)?;
+    let made = work_all(alloc, &words, &kept.script().workers, jobs)?;
     Ok(end_run(words, kept, made, receipts))
 }
 
@@ -77,11 +77,11 @@ fn run_named<N: Named>(
 fn work_all<N: Named>(
     alloc: Global,
     words: &PageWords,
-    script: &LiveScript,
+    traces: &Traces,
     jobs: Vec<Job<N>>,
 ) -> Result<Vec<Done<N>>, AllocError>
     requires table { words.now ≡ N.table }
-    requires script { live_said script.now ≡ N.script }
+    requires traces { traces_of traces.now.list ≡ N.script.workers }
     requires space { N.table.words ≡ pages_of N.script.setup.space }
     requires pages { AreInSpace N.script }
     requires numbered { AreNumbered (λ j. j.worker) jobs.items }
@@ -90,7 +90,7 @@ fn work_all<N: Named>(
 {
     let mut made = Vec::with_capacity(alloc, jobs.len())?;
     for job in jobs {
-        made.push_reserved(work(words, script, job, &NoPace));
+        made.push_reserved(work(words, traces, job, &NoPace));
     }
     Ok(made)
 }

@@ -1,15 +1,15 @@
 // Workers, controllers and passes beside each other.
 ghost use Rattle.std.specs.Prelude.{◌≡◌, ℕ, ◌<◌, IfOk, length, vec_len, slice_index_or};
 ghost use Rattle.damon_types.specs.Space.{pages_of};
-ghost use Rattle.damon_control.specs.LiveView.{live_said};
+ghost use Rattle.damon_control.specs.LiveView.{traces_of};
 ghost use Rattle.damon_live.specs.Whole.{AreInSpace};
 ghost use Rattle.damon_live.specs.Work.{AreNumbered};
 
 use crate::kept::Kept;
 use crate::named::Named;
 use crate::pace::{Pace, Spot};
+use crate::told::Told;
 use crate::work::{Done, Job, work};
-use damon_control::LiveScript;
 use live_commit::Phase;
 use page_words::PageWords;
 use std::alloc::{AllocError, Global};
@@ -24,12 +24,12 @@ pub(crate) fn run_beside<N: Named + Send + Sync, R: Threads + Wait + Sync, P: Pa
     alloc: Global,
     words: &PageWords,
     kept: Kept<N>,
-    told: &LiveScript,
+    told: &Told,
     jobs: Vec<Job<N>>,
     pace: &P,
 ) -> Result<(Kept<N>, Vec<Done<N>>), AllocError>
     requires table { words.now ≡ N.table }
-    requires told { live_said told.now ≡ N.script }
+    requires told { traces_of told.now.traces.list ≡ N.script.workers }
     requires space { N.table.words ≡ pages_of N.script.setup.space }
     requires pages { AreInSpace N.script }
     requires numbered { AreNumbered (λ j. j.worker) jobs.items }
@@ -42,7 +42,7 @@ pub(crate) fn run_beside<N: Named + Send + Sync, R: Threads + Wait + Sync, P: Pa
         rt,
         || -> Result<Vec<Done<N>>, AllocError>
             requires { (words.now ≡ N.table)
-                × (live_said told.now ≡ N.script)
+                × (traces_of told.now.traces.list ≡ N.script.workers)
                 × (N.table.words ≡ pages_of N.script.setup.space)
                 × AreInSpace N.script
                 × AreNumbered (λ j. j.worker) jobs.items }
@@ -61,12 +61,12 @@ pub(crate) fn run_beside<N: Named + Send + Sync, R: Threads + Wait + Sync, P: Pa
 fn work_beside<N: Named + Send + Sync, R: Threads + Sync, P: Pace + Sync>(
     rt: &R,
     words: &PageWords,
-    told: &LiveScript,
+    told: &Told,
     jobs: Vec<Job<N>>,
     pace: &P,
 ) -> Result<Vec<Done<N>>, AllocError>
     requires table { words.now ≡ N.table }
-    requires told { live_said told.now ≡ N.script }
+    requires told { traces_of told.now.traces.list ≡ N.script.workers }
     requires space { N.table.words ≡ pages_of N.script.setup.space }
     requires pages { AreInSpace N.script }
     requires numbered { AreNumbered (λ j. j.worker) jobs.items }
@@ -81,12 +81,12 @@ fn work_beside<N: Named + Send + Sync, R: Threads + Sync, P: Pace + Sync>(
 fn touch_beside<N: Named + Send + Sync, R: Threads + Sync, P: Pace + Sync>(
     rt: &R,
     words: &PageWords,
-    told: &LiveScript,
+    told: &Told,
     jobs: Vec<Job<N>>,
     pace: &P,
 ) -> Result<Vec<Done<N>>, AllocError>
     requires table { words.now ≡ N.table }
-    requires told { live_said told.now ≡ N.script }
+    requires told { traces_of told.now.traces.list ≡ N.script.workers }
     requires space { N.table.words ≡ pages_of N.script.setup.space }
     requires pages { AreInSpace N.script }
     ensures len { IfOk result (λ d. vec_len d ≡ vec_len jobs) }
@@ -98,11 +98,11 @@ fn touch_beside<N: Named + Send + Sync, R: Threads + Sync, P: Pace + Sync>(
         jobs,
         &|job: Job<N>| -> Done<N>
             requires { (words.now ≡ N.table)
-                × (live_said told.now ≡ N.script)
+                × (traces_of told.now.traces.list ≡ N.script.workers)
                 × (N.table.words ≡ pages_of N.script.setup.space)
                 × AreInSpace N.script }
             ensures { result.worker ≡ job.worker }
-        { work(words, told, job, pace) },
+        { work(words, &told.traces, job, pace) },
     )
 }
 
@@ -112,7 +112,7 @@ fn call_beside<N: Named + Send + Sync, R: Threads + Wait + Sync, P: Pace + Sync>
     alloc: Global,
     words: &PageWords,
     lock: &Mutex<Kept<N>>,
-    told: &LiveScript,
+    told: &Told,
     pace: &P,
 ) -> Result<Vec<u32>, AllocError>
     requires { words.now ≡ N.table }
@@ -122,7 +122,7 @@ fn call_beside<N: Named + Send + Sync, R: Threads + Wait + Sync, P: Pace + Sync>
         || thread::map_indices(
             rt,
             alloc,
-            told.controllers.len() as usize,
+            told.calls.len(),
             &|controller| call_all(rt, lock, told, controller, pace),
         ),
         || -> ()
@@ -136,15 +136,16 @@ fn call_beside<N: Named + Send + Sync, R: Threads + Wait + Sync, P: Pace + Sync>
 fn call_all<N: Named, P: Pace>(
     rt: &impl Wait,
     lock: &Mutex<Kept<N>>,
-    told: &LiveScript,
+    told: &Told,
     controller: usize,
     pace: &P,
 ) -> u32 {
     let controller = controller.min(u32::MAX as usize) as u32;
-    if controller >= told.controllers.len() {
+    let place = controller as usize;
+    if place >= told.calls.len() {
         return 0;
     }
-    let calls = told.controllers.get(controller).len();
+    let calls = told.calls[place];
     for index in 0..calls {
         pace.wait(Spot::BeforeCall { controller, index });
         call_next(rt, lock, controller);

@@ -37,6 +37,8 @@ mod passes;
 mod rest;
 /// A whole run in threads.
 mod threads;
+/// What the threads of a run read of its script.
+mod told;
 /// The top call.
 mod top;
 /// Workers.

@@ -3,7 +3,7 @@ ghost use Rattle.std.specs.Prelude.{◌≡◌, ◌*◌, ◌≤◌, [], IfOk, len
 ghost use Rattle.damon_types.specs.Space.{pages_of};
 ghost use Rattle.damon_core.specs.Stands.{Stands};
 ghost use Rattle.damon_control.specs.LiveText.{KeepsLimits};
-ghost use Rattle.damon_control.specs.LiveView.{live_said};
+ghost use Rattle.damon_control.specs.LiveView.{live_said, traces_of};
 ghost use Rattle.damon_journal.specs.Lawful.{receipts_said};
 ghost use Rattle.damon_journal.specs.Replay.{check_sizes, replay};
 ghost use Rattle.damon_live.specs.Whole.{AreInSpace, IsWholeRun, TracesAreInSpace};
@@ -16,6 +16,7 @@ use crate::jobs::make_words;
 use crate::named::Named;
 use crate::pace::Pace;
 use crate::rest::make_rest;
+use crate::told::{Told, tell};
 use damon_control::LiveScript;
 use page_words::{MonitorSeat, PageWords, WordsAndSeat};
 use std::alloc::{AllocError, Global};
@@ -27,20 +28,18 @@ use std::thread::Threads;
 /// in this one, all beside each other. Where a thread cannot be made, its work is done by a thread that
 /// goes on. What is left of passes and calls after the threads have ended is made by this one.
 ///
-/// `told` says the same as the script, which lies behind the lock; the workers take their traces from it.
-/// The script is within its limits, at most 4,194,304 results of loads fit in its passes, and each page
-/// of its traces is a page of its space. Takes memory; on an error both are dropped. May wait.
+/// The script lies behind the lock, so the workers read a copy of their traces. It is within its limits, at
+/// most 4,194,304 results of loads fit in its passes, and each page of its traces is a page of its space.
+/// Takes memory; on an error the script is dropped. May wait.
 pub fn run_threads<R: Threads + Wait + Sync, P: Pace + Sync>(
     rt: &R,
     alloc: Global,
     script: LiveScript,
-    told: LiveScript,
     pace: &P,
 ) -> Result<AloneRun, AllocError>
-    requires same { live_said told ≡ live_said script }
     requires limits { KeepsLimits (live_said script) }
     requires product { script.passes * script.setup.cap ≤ 4194304 }
-    requires pages { TracesAreInSpace told }
+    requires pages { TracesAreInSpace script }
     ensures script { IfOk result (λ r. live_said r.script ≡ live_said script) }
     ensures run { IfOk result (λ r.
         IsWholeRun (live_said script) r.journal.value (receipts_said r.receipts)) }
@@ -50,6 +49,7 @@ pub fn run_threads<R: Threads + Wait + Sync, P: Pace + Sync>(
         r.journal.checked ≡ check_sizes (live_said script) r.journal.value) }
 {
     let WordsAndSeat { words, seat } = make_words(alloc, &script)?;
+    let told = tell(alloc, &script)?;
     run_named::<Brand, R, P>(rt, alloc, words, seat, script, told, pace)
 }
 
@@ -60,13 +60,13 @@ fn run_named<N: Named + Send + Sync, R: Threads + Wait + Sync, P: Pace + Sync>(
     words: PageWords,
     seat: MonitorSeat,
     script: LiveScript,
-    told: LiveScript,
+    told: Told,
     pace: &P,
 ) -> Result<AloneRun, AllocError>
     requires table { words ≡ N.table }
     requires seat { seat ≡ record { table = N.table; entries = []; out = 0 } }
     requires said { live_said script ≡ N.script }
-    requires told { live_said told ≡ N.script }
+    requires told { traces_of told.traces.list ≡ N.script.workers }
     requires seats { length N.script.workers ≡ N.seats }
     requires space { N.table.words ≡ pages_of N.script.setup.space }
     requires limits { KeepsLimits N.script }

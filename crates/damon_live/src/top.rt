@@ -183,13 +183,6 @@ fn status_of(done: Result<(), Status>) -> Status
     }
 }
 
-// The live script of an input, twice: what a lock holds is known by its type alone, so one of them lies
-// behind the lock, and the workers take their traces from the other.
-struct Scripts {
-    kept: LiveScript,
-    told: LiveScript,
-}
-
 // Reads a live script to its end and carries it out.
 fn carry_out<R: Threads + Wait + Sync, S: Source, P: Pace + Sync>(
     rt: &R,
@@ -213,33 +206,31 @@ fn carry_out<R: Threads + Wait + Sync, S: Source, P: Pace + Sync>(
         (record { bytes = S.left source.old; faults = S.faults source.old })
         (record { bytes = S.left source.new; faults = S.faults source.new })) }
 {
-    let Scripts { kept, told } = take_scripts(alloc, source)?;
-    let run = run_threads(rt, alloc, kept, told, pace)?;
+    let script = take_script(alloc, source)?;
+    let run = run_threads(rt, alloc, script, pace)?;
     Ok(run)
 }
 
-// Reads a source to its end, and returns the live script that its bytes spell, twice. The bytes are dropped
-// at the end of this function.
-fn take_scripts<S: Source>(alloc: Global, source: &mut S) -> Result<Scripts, Status>
-    ensures taken { IfOk result (λ scripts. IsTaken INPUT_LIMIT
+// Reads a source to its end, and returns the live script that its bytes spell. The bytes are dropped at the
+// end of this function.
+fn take_script<S: Source>(alloc: Global, source: &mut S) -> Result<LiveScript, Status>
+    ensures taken { IfOk result (λ script. IsTaken INPUT_LIMIT
         (record { bytes = S.left source.old; faults = S.faults source.old })
         (record { bytes = S.left source.new; faults = S.faults source.new })
-        (live_said scripts.kept)) }
-    ensures same { IfOk result (λ scripts. live_said scripts.told ≡ live_said scripts.kept) }
-    ensures limits { IfOk result (λ scripts. KeepsLimits (live_said scripts.kept)) }
-    ensures pages { IfOk result (λ scripts. TracesAreInSpace scripts.told) }
-    ensures few { IfOk result (λ scripts. most_results (live_said scripts.kept) ≤ MAX_RESULTS) }
-    ensures spelled { IfOk result (λ scripts. SpellsCalls (live_said scripts.kept)) }
+        (live_said script)) }
+    ensures limits { IfOk result (λ script. KeepsLimits (live_said script)) }
+    ensures pages { IfOk result (λ script. TracesAreInSpace script) }
+    ensures few { IfOk result (λ script. most_results (live_said script) ≤ MAX_RESULTS) }
+    ensures spelled { IfOk result (λ script. SpellsCalls (live_said script)) }
     ensures refused { IfErr result (IsRefused INPUT_LIMIT
         (record { bytes = S.left source.old; faults = S.faults source.old })
         (record { bytes = S.left source.new; faults = S.faults source.new })) }
 {
     live_scripts_are_sound();
     let bytes = read_all(alloc, source)?;
-    let kept = read_live(alloc, &bytes)?;
-    let told = read_live(alloc, &bytes)?;
-    check_passes(&kept)?;
-    Ok(Scripts { kept, told })
+    let script = read_live(alloc, &bytes)?;
+    check_passes(&script)?;
+    Ok(script)
 }
 
 // Whether a journal has room for the results of all passes of a script.

@@ -1,14 +1,14 @@
 // Workers.
 ghost use Rattle.std.specs.Prelude.{◌≡◌, ◌-◌, ◌<◌, ◌≤◌, ◌++◌, ◌∷◌, [], All, length};
 ghost use Rattle.damon_types.specs.Space.{pages_of};
-ghost use Rattle.damon_control.specs.LiveView.{live_said};
+ghost use Rattle.damon_control.specs.LiveView.{traces_of};
 ghost use Rattle.damon_journal.specs.Lawful.{touches_of};
 ghost use Rattle.damon_live.specs.Whole.{AreInSpace, pages_touched};
 ghost use Rattle.damon_live.specs.Work.{trace_of};
 
 use crate::named::Named;
 use crate::pace::{Pace, Spot};
-use damon_control::{LiveScript, Trace};
+use damon_control::{Trace, Traces};
 use damon_journal::Receipt;
 use damon_types::PlainList;
 use page_words::{PageWords, TouchSeat};
@@ -45,12 +45,12 @@ pub(crate) struct Done<N: Named> {
 /// Touches each page of the worker's trace, in order. Each touch is one atomic step.
 pub(crate) fn work<N: Named, P: Pace>(
     words: &PageWords,
-    script: &LiveScript,
+    traces: &Traces,
     job: Job<N>,
     pace: &P,
 ) -> Done<N>
     requires table { words.now ≡ N.table }
-    requires script { live_said script.now ≡ N.script }
+    requires traces { traces_of traces.now.list ≡ N.script.workers }
     requires space { N.table.words ≡ pages_of N.script.setup.space }
     requires pages { AreInSpace N.script }
     ensures { result.worker ≡ job.worker }
@@ -61,7 +61,7 @@ pub(crate) fn work<N: Named, P: Pace>(
         mut receipts,
         of: _,
     } = job;
-    let trace = script.workers.get(worker);
+    let trace = traces.get(worker);
     touch_all(words, trace, worker, &mut seat, &mut receipts, pace);
     make_done(worker, seat, receipts)
 }

@@ -6,7 +6,7 @@ use Rattle.damon_control.specs.LiveView.{live_said}
 use Rattle.damon_journal.specs.declared.status.Status.{Status}
 use Rattle.damon_journal.specs.Lawful.{receipts_said}
 use Rattle.damon_live.specs.Answers.{IsEnding}
-use Rattle.damon_live.specs.Ending.{Ending, asks_run, ending}
+use Rattle.damon_live.specs.Ending.{Ending}
 use Rattle.damon_live.proofs.Ending.{handed_over, left_alone, not_asked}
 use Rattle.damon_live.proofs.top.serve.Goals as goal
 

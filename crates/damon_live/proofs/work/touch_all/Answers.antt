@@ -1,4 +1,4 @@
-use Rattle.std.proofs.Common.{ℕ, ◌<◌, ◌+◌, ◌++◌, ◌∷◌, [], refl, sym, ap, ◌∙◌, arith}
+use Rattle.std.proofs.Common.{ℕ, ◌<◌, ◌++◌, ◌∷◌, [], refl, sym, ap, ◌∙◌, arith}
 use Rattle.damon_journal.specs.Lawful.{touches_of}
 use Rattle.damon_live.specs.Whole.{pages_touched}
 use Rattle.damon_live.proofs.Stepping.{take_next}

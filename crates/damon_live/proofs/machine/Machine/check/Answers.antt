@@ -1,4 +1,4 @@
-use Rattle.std.proofs.Common.{◌≡◌, ℕ, ◌+◌, ◌-◌, ◌≤◌, ◌<◌, length, refl, ap, sym, ◌∙◌, subst, arith}
+use Rattle.std.proofs.Common.{◌≡◌, ℕ, ◌+◌, ◌≤◌, ◌<◌, length, refl, ap, sym, ◌∙◌, subst, arith}
 use Rattle.live_commit.specs.declared.phase.Phase.TheVariants.{Armed}
 use Rattle.region_list.specs.Regions.{RegionList}
 use Rattle.page_words.specs.Seats.{MonitorSeatView}

@@ -4,7 +4,7 @@ use Rattle.damon_control.specs.LiveView.{live_said}
 use Rattle.damon_control.specs.Script.{live_of}
 use Rattle.text_io.specs.declared.input.TheConstants.{INPUT_LIMIT}
 use Rattle.damon_live.proofs.Ending.{not_read, too_many}
-use Rattle.damon_live.proofs.top.take_scripts.Goals as goal
+use Rattle.damon_live.proofs.top.take_script.Goals as goal
 
 pub returns-in_err-bytes-clause-refused : goal.returns-in_err-bytes-clause-refused
 returns-in_err-bytes-clause-refused g c =
@@ -24,9 +24,9 @@ returns-in_err-check_passes-clause-refused g c =
     rw (p.1, p.2, many.0) (λ sink. too_many INPUT_LIMIT
     (record { bytes = g.S.Source.left c.args.source.now; faults = g.S.Source.faults c.args.source.now })
     (record { bytes = g.S.Source.left c.read_all.new.source; faults = g.S.Source.faults c.read_all.new.source })
-    sink c.in_ok-bytes.bytes.items read.all read.end read.limit (live_said c.in_ok-kept.kept)
-    (ap live_of (sym c.deref.ensures.value) ∙ c.in_ok-kept.ensures.script) many.1)
+    sink c.in_ok-bytes.bytes.items read.all read.end read.limit (live_said c.in_ok-script.script)
+    (ap live_of (sym c.deref.ensures.value) ∙ c.in_ok-script.ensures.script) many.1)
 
 pub returns-clause-spelled : goal.returns-clause-spelled
 returns-clause-spelled g c =
-    (c.live_scripts_are_sound.ensures.sound c.in_ok-bytes.bytes.items (live_said c.in_ok-kept.kept) (ap live_of (sym c.deref.ensures.value) ∙ c.in_ok-kept.ensures.script)).spelled
+    (c.live_scripts_are_sound.ensures.sound c.in_ok-bytes.bytes.items (live_said c.in_ok-script.script) (ap live_of (sym c.deref.ensures.value) ∙ c.in_ok-script.ensures.script)).spelled
