@@ -6,7 +6,7 @@
 Each PROGRAM is run on each workload (`speed_workloads.py`), TURNS times, in turn with the others. A line has the
 name of the workload and, for each program, its best time in milliseconds and its greatest resident set in
 MiB; for each program but the last also its time divided by that of the last one. `--only` takes the
-workloads whose names begin with NAME.
+workloads whose names begin with NAME. The workloads are those of the program by its name, `damon` or `damond`.
 
 With `--growth` each workload that has several sizes is run at all of them by the first PROGRAM alone. A
 table of times by size is printed, and a plot of them is written to FILE.svg.
@@ -121,9 +121,10 @@ def main() -> None:
     parser.add_argument("--only", default="", metavar="NAME", help="the workloads whose names begin with NAME")
     parser.add_argument("--growth", metavar="FILE.svg", help="times of the first program by size, and a plot of them")
     words = parser.parse_args()
-    workloads = [it for it in WORKLOADS if it.name.startswith(words.only)]
+    named = [it for it in WORKLOADS if it.program == Path(words.programs[0]).name]
+    workloads = [it for it in named if it.name.startswith(words.only)]
     if not workloads:
-        parser.error(f"no workload begins with {words.only}: there are {', '.join(it.name for it in WORKLOADS)}")
+        parser.error(f"no workload begins with {words.only}: there are {', '.join(it.name for it in named)}")
     if not Path(TIMER).exists():
         parser.error(f"there is no {TIMER}, which measures memory")
     if words.growth:

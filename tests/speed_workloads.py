@@ -1,9 +1,12 @@
 """The inputs on which programs are measured. They keep the limits of a script; each is made here, and none needs a file."""
 import random
+import subprocess
+from pathlib import Path
 from typing import Callable, Iterator, NamedTuple, Tuple
 
 PAGE = 4096
 MILLION = 1_048_576
+DAMOND = Path(__file__).resolve().parent.parent / "crates/damond/out/damond"
 
 
 class Workload(NamedTuple):
@@ -16,6 +19,8 @@ class Workload(NamedTuple):
     # From the greatest to the smallest; the first one is the size that is compared with other programs.
     sizes: Tuple[int, ...]
     text: Callable[[int], bytes]
+    # The name of the program that has these words.
+    program: str = "damon"
 
 
 def script(cap: int, attrs: str, pages: int, commands: Iterator[str]) -> bytes:
@@ -101,7 +106,37 @@ def with_schemes(times: int) -> bytes:
     return aggregations(times, tuple(sixteen_schemes()))
 
 
+def live(sweeps_each: int) -> bytes:
+    """Eight workers that sweep 4,096 pages at a time, two controllers, and the most passes with 4,096 regions."""
+    choose = random.Random(7)
+    lines = ["damon live 1", "seed 7", "unit 1", "cap 4096", "attrs 1024 4096 20", f"target 0x0 {MILLION}", f"range 0 0x0 {MILLION * PAGE:#x} 0"]
+    lines += ["scheme 0 pageout count=0,0 age=2,4294967295 quota=4096000,20 prefer=cold", "passes 1024"]
+    for _ in range(8):
+        firsts = [choose.randrange(MILLION - 4096) for _ in range(sweeps_each)]
+        lines += ["worker", *(f"sweep 0 {first * PAGE:#x} {(first + 4096) * PAGE:#x}" for first in firsts)]
+    for _ in range(2):
+        lines += ["controller", *(["show"] * 9 + ["commit", "metric 5", "apply"]) * 20]
+    return "\n".join([*lines, "end", ""]).encode()
+
+
+def small_live(touches: int) -> bytes:
+    """Eight workers that go round their own pages, of which some are of all."""
+    choose = random.Random(7)
+    lines = ["damon live 1", "seed 7", "unit 1", "cap 100", "attrs 10 100 20", "target 0x0 1024", f"range 0 0x0 {1024 * PAGE:#x} 0", "passes 2000"]
+    for worker in range(8):
+        pages = [choose.randrange(8) if i % 16 == 0 else worker * 128 + i % 64 for i in range(touches)]
+        lines += ["worker", *(f"touch 0 {page * PAGE:#x}" for page in pages)]
+    return "\n".join([*lines, "end", ""]).encode()
+
+
+def journal_of(script: Callable[[int], bytes]) -> Callable[[int], bytes]:
+    """The journal of a run of a live script."""
+    return lambda size: subprocess.run([str(DAMOND), "run"], input=script(size), capture_output=True, check=True).stdout
+
+
 REPLAY = ("replay",)
+VERIFY = ("verify",)
+RUN = ("run",)
 JSON = ("json",)
 WORKLOADS = (
     Workload("sweeps", "pages in each of 16 sweeps", REPLAY, (MILLION, 104_858, 10_486), sweeps),
@@ -115,5 +150,9 @@ WORKLOADS = (
     Workload("showing", "shows of 4,096 regions", REPLAY, (1000, 100, 10), showing),
     Workload("json", "aggregations of some 3,700 regions as JSON", JSON, (366, 36, 4), aggregations),
     Workload("json schemes", "such aggregations with 16 schemes", JSON, (366, 36, 4), with_schemes),
+    Workload("verify", "touches of each of 8 workers, 2,000 passes", VERIFY, (70_000, 7_000, 700), journal_of(small_live)),
+    Workload("verify wide", "sweeps of each of 8 workers over 1,048,576 pages", VERIFY, (10, 1), journal_of(live)),
+    Workload("live", "sweeps of each of 8 workers over 1,048,576 pages", RUN, (32, 3), live, "damond"),
+    Workload("small live", "touches of each of 8 workers, 2,000 passes", RUN, (20_000, 2_000, 200), small_live, "damond"),
     *(Workload(f"gen {n}", "", ("gen", str(n)), (1,), lambda _: b"") for n in range(4)),
 )
