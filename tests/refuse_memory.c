@@ -9,6 +9,8 @@
 #include <stdatomic.h>
 #include <stdio.h>
 #include <stdlib.h>
+#include <sys/syscall.h>
+#include <unistd.h>
 
 extern void *__libc_malloc(size_t size);
 extern void *__libc_calloc(size_t count, size_t size);
@@ -54,4 +56,11 @@ __attribute__((destructor)) static void tell(void) {
         fprintf(file, "%ld\n", all);
         fclose(file);
     }
+}
+
+// A program with threads ends by this call, which runs no destructor.
+void _exit(int status) {
+    tell();
+    for (;;)
+        syscall(SYS_exit_group, status);
 }

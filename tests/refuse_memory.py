@@ -65,6 +65,7 @@ class Refuser:
     def count(self, run: Run) -> int:
         """How many allocations a run makes."""
         place = self.folder / "count.txt"
+        place.unlink(missing_ok=True)
         self.end(run, 0, place)
         return int(place.read_text())
 
