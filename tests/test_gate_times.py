@@ -21,20 +21,20 @@ PROVER = "/opt/kit/bin/rattle"
 class Jobs(unittest.TestCase):
     def test_a_proof_and_its_tests(self) -> None:
         words = [PROVER, "build", "--crate-name", "low", "src/lib.rt", "--incremental", "out/incremental"]
-        self.assertEqual(job_of(words, "/work/crates/low"), Job("low", "proof"))
-        self.assertEqual(job_of([*words, "--test"], "/work/crates/low"), Job("low", "tests"))
+        self.assertEqual(job_of(words, "/top/crates/low"), Job("low", "proof"))
+        self.assertEqual(job_of([*words, "--test"], "/top/crates/low"), Job("low", "tests"))
 
     def test_edits_and_what_they_begin_with(self) -> None:
         words = [PROVER, "check", "--crate-name", "low", "src/lib.rt"]
-        self.assertEqual(job_of([*words, "--incremental", "/tmp/a/seed"], "/tmp/rt-edit-1/low"), Job("low", "base"))
-        self.assertEqual(job_of([*words, "--incremental", "/tmp/a/kept"], "/tmp/rt-edit-1/low"), Job("low", "edits"))
+        self.assertEqual(job_of([*words, "--incremental", "/rt/a/seed"], "/rt/rt-edit-1/low"), Job("low", "base"))
+        self.assertEqual(job_of([*words, "--incremental", "/rt/a/kept"], "/rt/rt-edit-1/low"), Job("low", "edits"))
         # A toolchain without a base of its own gives its edits no such folder.
-        self.assertEqual(job_of(words, "/tmp/rt-edit-1/low"), Job("low", "edits"))
-        self.assertEqual(job_of([*words, "--incremental"], "/tmp/rt-edit-1/low"), Job("low", "edits"))
+        self.assertEqual(job_of(words, "/rt/rt-edit-1/low"), Job("low", "edits"))
+        self.assertEqual(job_of([*words, "--incremental"], "/rt/rt-edit-1/low"), Job("low", "edits"))
 
     def test_other_processes_prove_nothing(self) -> None:
         for words in ([""], ["/bin/rattle-link", "--crate-name", "low"], [PROVER, "fmt"], [PROVER, "--crate-name"]):
-            self.assertIsNone(job_of(words, "/work/crates/low"))
+            self.assertIsNone(job_of(words, "/top/crates/low"))
 
 
 class Printing(unittest.TestCase):
