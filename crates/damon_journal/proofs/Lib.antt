@@ -35,6 +35,7 @@ pub mod Ticks
 pub mod Pigeons
 pub mod FewHits
 pub mod Examples
+pub mod SplitLine
 pub mod Lefts
 pub mod LastLines
 pub mod HeadTells
@@ -45,6 +46,7 @@ pub mod Carrying
 pub mod AheadLemmas
 pub mod SeenAfter
 pub mod SeenTaken
+pub mod SeenFront
 pub mod SeenColumns
 pub mod TagLinks
 pub mod AheadTables

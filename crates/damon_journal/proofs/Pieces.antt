@@ -32,6 +32,7 @@ use Rattle.damon_journal.specs.declared.entry.Entry.TheVariants.{Prepare, Check,
 use Rattle.damon_journal.specs.declared.entry.Receipt.{Receipt}
 use Rattle.damon_journal.specs.Replay.{JournalValue, Replayed, begun, bits_taken, call_at, carried}
 use Rattle.damon_journal.specs.Rules.{AnswerFits, CanCall, EntryNumbersFit, FaultFits, FitsCall}
+use Rattle.damon_journal.specs.SeenFront.{PlaceFits}
 use Rattle.damon_journal.specs.Spelled.{answer_said, answered_lines, bit_digit, call_front, call_lines, check_front, spelled_aggregate, spelled_answer, spelled_check, spelled_prepare, spelled_seen, spelled_void}
 use Rattle.damon_journal.specs.Text.{entries_lines, entry_lines, journal_lines, seen_lines}
 use Rattle.damon_journal.proofs.Common.{Pieces, both_pieces, no_pieces, piece_first}
@@ -164,13 +165,13 @@ entries_pieces laws blocks v can r (e ∷ es) fits =
 abbrev pub ReceiptsFit : List Target → List (List Receipt) → Type 0
 ReceiptsFit space all = AllByRecursion (λ rs. AllByRecursion (λ r. (r.page < pages_of space) × (r.tag < 2 ^ 64)) rs) all
 
-seen_piece : WordLaws → (space : List Target) → PlacesFit space → (w : ℕ) (r : Receipt) → w < 2 ^ 8 → r.page < pages_of space → r.tag < 2 ^ 64 → IsPiece 10 (spelled_seen space w r)
-seen_piece laws space fit w r few page tag = literal (spelled_seen space w r) (line_prints (codes "seen") (seen_words space w r) (words_plain laws space fit w r few page tag))
+pub seen_piece : WordLaws → (space : List Target) (w : ℕ) (r : Receipt) → PlaceFits space r.page → w < 2 ^ 8 → r.tag < 2 ^ 64 → IsPiece 10 (spelled_seen space w r)
+seen_piece laws space w r fit few tag = literal (spelled_seen space w r) (line_prints (codes "seen") (seen_words space w r) (words_plain laws space w r fit few tag))
 
 worker_pieces : WordLaws → (space : List Target) → PlacesFit space → (w : ℕ) (rs : List Receipt) → w < 2 ^ 8 → AllByRecursion (λ r. (r.page < pages_of space) × (r.tag < 2 ^ 64)) rs → Pieces (map (spelled_seen space w) rs)
 worker_pieces laws space fit w [] few each = no_pieces
 worker_pieces laws space fit w (r ∷ rs) few each =
-    piece_first (spelled_seen space w r) (map (spelled_seen space w) rs) (seen_piece laws space fit w r few each.0.0 each.0.1) (worker_pieces laws space fit w rs few each.1)
+    piece_first (spelled_seen space w r) (map (spelled_seen space w) rs) (seen_piece laws space w r (fit r.page each.0.0) few each.0.1) (worker_pieces laws space fit w rs few each.1)
 
 seen_pieces : WordLaws → (space : List Target) → PlacesFit space → (w : ℕ) (all : List (List Receipt)) → w + length all ≤ MAX_WORKERS → ReceiptsFit space all → Pieces (seen_lines space w all)
 seen_pieces laws space fit w [] few each = no_pieces

@@ -40,11 +40,9 @@ byte_fits ts is target addr page e = by (slice_get ts target) refl e
 
 -- so the place of each page can be spelled
 places_fit : ArePagesNumbered → (ts : List Target) → IsSpace ts → PlacesFit ts
-places_fit numbered ts is = record {
-  target = λ page below. (byte_fits ts is (place_of ts page).target (place_of ts page).addr page (numbered ts page is below)).target_fits;
-  addr = λ page below. (byte_fits ts is (place_of ts page).target (place_of ts page).addr page (numbered ts page is below)).addr_fits;
-  numbered = λ page below. numbered ts page is below;
-}
+places_fit numbered ts is page below =
+    let fits = byte_fits ts is (place_of ts page).target (place_of ts page).addr page (numbered ts page is below) in
+    record { target = fits.target_fits; addr = fits.addr_fits; numbered = numbered ts page is below }
 
 -- the receipts of a worker are within their types
 worker_fits : (pages : ℕ) (rs : List Receipt) → AllByRecursion (λ r. r.page < pages) rs → AllByRecursion (λ r. r.tag < 2 ^ 64) rs → AllByRecursion (λ r. (r.page < pages) × (r.tag < 2 ^ 64)) rs

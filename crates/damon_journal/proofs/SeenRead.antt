@@ -22,6 +22,7 @@ use Rattle.damon_journal.specs.EntryLine.{added_to, where_so}
 use Rattle.damon_journal.specs.Lawful.{touches_of}
 use Rattle.damon_journal.specs.Place.{InReceipts}
 use Rattle.damon_journal.specs.Replay.{JournalValue}
+use Rattle.damon_journal.specs.SeenFront.{PlaceFits}
 use Rattle.damon_journal.specs.SeenLine.{after_receipt, is_below, is_risen, is_tag, may_be_seen, receipts_so_far, seen_fields, seen_line, seen_of, with_receipt}
 use Rattle.damon_journal.specs.Spelled.{spelled_seen}
 use Rattle.damon_journal.specs.Steps.{steps}
@@ -33,44 +34,42 @@ use Rattle.damon_journal.proofs.SeenSay.{Rises, padded_at}
 
 -- ---- one line
 
--- the place of each page is one of the space, and can be spelled
-pub record PlacesFit (space : List Target) : Type 0 where
-  pub target : (page : ℕ) → page < pages_of space → (place_of space page).target < 2 ^ 32
-  pub addr : (page : ℕ) → page < pages_of space → (place_of space page).addr < 2 ^ 64
-  pub numbered : (page : ℕ) → page < pages_of space → page_of space (place_of space page).target (place_of space page).addr ≡ Some page
+-- the place of each page of a space fits
+abbrev pub PlacesFit : List Target → Type 0
+PlacesFit space = (page : ℕ) → page < pages_of space → PlaceFits space page
 
 -- the words of a `seen` line
 abbrev pub seen_words : List Target → ℕ → Receipt → List (List ℕ)
 seen_words space w r = decimal w ∷ decimal (place_of space r.page).target ∷ spelled_address (place_of space r.page).addr ∷ decimal r.tag ∷ []
 
 -- they are plain words
-pub words_plain : WordLaws → (space : List Target) → PlacesFit space → (w : ℕ) (r : Receipt) → w < 2 ^ 8 → r.page < pages_of space → r.tag < 2 ^ 64 → list_all is_plain_word (codes "seen" ∷ seen_words space w r) ≡ true
-words_plain laws space fit w r worker page tag =
-    let target : (place_of space r.page).target < 2 ^ 64 = omega (arith, fit.target r.page page) in
+pub words_plain : WordLaws → (space : List Target) (w : ℕ) (r : Receipt) → PlaceFits space r.page → w < 2 ^ 8 → r.tag < 2 ^ 64 → list_all is_plain_word (codes "seen" ∷ seen_words space w r) ≡ true
+words_plain laws space w r fit worker tag =
+    let target : (place_of space r.page).target < 2 ^ 64 = omega (arith, fit.target) in
     both_true (decimal_word laws w (omega (arith, worker)))
     (both_true (decimal_word laws (place_of space r.page).target target)
-    (both_true (address_word laws (place_of space r.page).addr (fit.addr r.page page))
+    (both_true (address_word laws (place_of space r.page).addr (fit.addr))
     (both_true (decimal_word laws r.tag tag) refl)))
 
 -- and are read as the numbers that they spell
-fields_back : WordLaws → (space : List Target) → PlacesFit space → (w : ℕ) (r : Receipt) → w < 2 ^ 8 → r.page < pages_of space → r.tag < 2 ^ 64
+fields_back : WordLaws → (space : List Target) (w : ℕ) (r : Receipt) → PlaceFits space r.page → w < 2 ^ 8 → r.tag < 2 ^ 64
     → seen_fields (seen_words space w r) ≡ Ok (w, ((place_of space r.page).target, ((place_of space r.page).addr, r.tag)))
-fields_back laws space fit w r worker page tag =
+fields_back laws space w r fit worker tag =
     let target = (place_of space r.page).target in
     let addr = (place_of space r.page).addr in
     then-Ok (number_8 (decimal w)) _ w _ (ap (λ o. ok_or o Number) (laws.spelled_numbers (2 ^ 8 - 1) w (omega (arith, worker)) (omega arith)))
-    (then-Ok (number_32 (decimal target)) _ target _ (ap (λ o. ok_or o Number) (laws.spelled_numbers (2 ^ 32 - 1) target (omega (arith, fit.target r.page page)) (omega arith)))
-    (then-Ok (byte_address (spelled_address addr)) _ addr _ (ap (λ o. ok_or o Number) (laws.spelled_addresses addr (fit.addr r.page page)))
+    (then-Ok (number_32 (decimal target)) _ target _ (ap (λ o. ok_or o Number) (laws.spelled_numbers (2 ^ 32 - 1) target (omega (arith, fit.target)) (omega arith)))
+    (then-Ok (byte_address (spelled_address addr)) _ addr _ (ap (λ o. ok_or o Number) (laws.spelled_addresses addr (fit.addr)))
     (then-Ok (number_64 (decimal r.tag)) _ r.tag _ (ap (λ o. ok_or o Number) (laws.spelled_numbers (2 ^ 64 - 1) r.tag (omega (arith, tag)) (omega arith))) refl)))
 
 -- a `seen` line is read as its worker and its receipt
-seen_back : WordLaws → (space : List Target) → PlacesFit space → (w : ℕ) (r : Receipt) → w < 2 ^ 8 → r.page < pages_of space → r.tag < 2 ^ 64 → seen_line space (spelled_seen space w r) ≡ Some (w, r)
-seen_back laws space fit w r worker page tag =
+pub seen_back : WordLaws → (space : List Target) (w : ℕ) (r : Receipt) → PlaceFits space r.page → w < 2 ^ 8 → r.tag < 2 ^ 64 → seen_line space (spelled_seen space w r) ≡ Some (w, r)
+seen_back laws space w r fit worker tag =
     let line = spelled_seen space w r in
     let only : ℕ × Receipt = (w, r) in
-    ap (λ a. option_and_then (λ (x : ℕ × Receipt). if same_word line (spelled_seen space x.0 x.1) then Some x else None) (seen_of space (a >>= seen_fields))) (arguments-spaced laws (codes "seen") (seen_words space w r) refl (words_plain laws space fit w r worker page tag))
-    ∙ ap (λ f. option_and_then (λ (x : ℕ × Receipt). if same_word line (spelled_seen space x.0 x.1) then Some x else None) (seen_of space f)) (fields_back laws space fit w r worker page tag)
-    ∙ ap (λ o. option_and_then (λ (x : ℕ × Receipt). if same_word line (spelled_seen space x.0 x.1) then Some x else None) (option_map (λ p. (w, record { page = p; tag = r.tag })) o)) (fit.numbered r.page page)
+    ap (λ a. option_and_then (λ (x : ℕ × Receipt). if same_word line (spelled_seen space x.0 x.1) then Some x else None) (seen_of space (a >>= seen_fields))) (arguments-spaced laws (codes "seen") (seen_words space w r) refl (words_plain laws space w r fit worker tag))
+    ∙ ap (λ f. option_and_then (λ (x : ℕ × Receipt). if same_word line (spelled_seen space x.0 x.1) then Some x else None) (seen_of space f)) (fields_back laws space w r fit worker tag)
+    ∙ ap (λ o. option_and_then (λ (x : ℕ × Receipt). if same_word line (spelled_seen space x.0 x.1) then Some x else None) (option_map (λ p. (w, record { page = p; tag = r.tag })) o)) (fit.numbered)
     ∙ ap (λ t. if t then Some only else None) (same_line line)
 
 -- ---- what may come next
@@ -176,7 +175,7 @@ receipt_leads : WordLaws → (v : LiveValue) (j : JournalValue) → PlacesFit v.
     → after_receipt v j before (spelled_seen v.setup.space (length front) r) ≡ Some (InReceipts v j (with_receipt before (length front) r))
 receipt_leads laws v j fit before front rs r more few next rise read =
     let w = length front in
-    let back = seen_back laws v.setup.space fit w r (omega (arith, few)) read.page read.tag in
+    let back = seen_back laws v.setup.space w r (fit r.page read.page) (omega (arith, few)) read.tag in
     let one : nat_le (length before) (w + 1) ≡ true = grind (arith, nat_tests, next.few) in
     let two : nat_lt w MAX_WORKERS ≡ true = grind (arith, nat_tests, few) in
     let risen : is_risen (receipts_so_far before w) r ≡ true = ap (λ qs. is_risen qs r) next.those ∙ risen_back rs r more rise in

@@ -17,6 +17,7 @@ pub mod EntryLine
 pub mod Replaying
 pub mod SeenLine
 pub mod Ahead
+pub mod SeenFront
 pub mod SeenColumns
 pub mod TagLinks
 pub mod Reading

@@ -13,9 +13,10 @@ ghost use Rattle.damon_journal.specs.Text.{last_text};
 
 use crate::journal_lines::JournalLines;
 use crate::lawful::VerifyFault;
+use crate::split_line::split_line;
 use damon_control::{JournalHead, MAX_BYTES, ReadFail, read_journal_head};
 use damon_core::Monitor;
-use line_text::{parts_are_pieces, pieces_are_parts, split_front};
+use line_text::{parts_are_pieces, pieces_are_parts};
 use script_lines::{body_lines_are_spelled, same_word};
 use snapshot_print::{Form, print_end, print_show};
 use std::alloc::Global;
@@ -79,7 +80,7 @@ fn skip_head(lines: &mut JournalLines) -> bool
     ensures shorter { length lines.new.rest.now ≤ length lines.old.rest.now }
 {
     'lines: loop {
-        let (line, rest) = split_front(lines.rest, b'\n');
+        let (line, rest) = split_line(lines.rest);
         let Some(rest) = rest else {
             return false;
         };
@@ -130,8 +131,8 @@ fn compare(text: &[u8], wanted: &[u8], taken: u64) -> Result<(), VerifyFault>
     let mut lines = JournalLines { rest: text, taken };
     let mut left = wanted;
     'lines: loop {
-        let (want, after) = split_front(left, b'\n');
-        let (line, rest) = split_front(lines.rest, b'\n');
+        let (want, after) = split_line(left);
+        let (line, rest) = split_line(lines.rest);
         lines.taken += 1;
         if !same_word(line, want) {
             return Err(lines.refuse());

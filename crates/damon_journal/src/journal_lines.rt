@@ -4,7 +4,7 @@ ghost use Rattle.damon_journal.specs.LinesLeft.{IsFault, IsShort, WantsLine, lin
 ghost use Rattle.damon_journal.specs.Place.{JournalPlace};
 
 use crate::lawful::VerifyFault;
-use line_text::split_front;
+use crate::split_line::split_line;
 
 // A journal text that is read line by line.
 #[derive(Drop)]
@@ -29,7 +29,7 @@ impl<'a> JournalLines<'a> {
         ensures shorter { IfOk result (λ line. length self.new.rest.now < length self.old.rest.now) }
         ensures small { IsShort self.new }
     {
-        match split_front(self.rest, b'\n') {
+        match split_line(self.rest) {
             (line, Some(rest)) => {
                 self.rest = rest;
                 self.taken += 1;

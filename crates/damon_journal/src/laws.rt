@@ -9,6 +9,7 @@ ghost use Rattle.damon_journal.specs.Growth.{GrowsByEntries, GrowsByOthers};
 ghost use Rattle.damon_journal.specs.Lawful.{IsLawful, SettledReceiptsAreLawful};
 ghost use Rattle.damon_journal.specs.Reading.{read_journal};
 ghost use Rattle.damon_journal.specs.Replay.{JournalValue};
+ghost use Rattle.damon_journal.specs.SeenFront.{ReadsLeadingSeen};
 ghost use Rattle.damon_journal.specs.Rules.{ReadsLawfulBack, ReadsOnlyLawful};
 ghost use Rattle.damon_journal.specs.Verified.{IsOfNoLawfulRun};
 ghost use Rattle.damon_journal.specs.Woven.{WovenRuns};
@@ -98,4 +99,19 @@ pub fn rejected_texts_are_unlawful()
     ensures { (text : List ℕ) (line : ℕ) → read_journal text ≡ Err line → IsOfNoLawfulRun text }
 {
     lawful_journals_are_read();
+}
+
+// A text that begins with the line of a receipt says that receipt first, and then those of its rest.
+pub(crate) fn leading_receipts_are_read()
+    ensures { ReadsLeadingSeen }
+{
+    parts_are_pieces();
+    pieces_are_parts();
+    number_is_decimal();
+    decimal_is_read();
+    decimal_has_digits();
+    address_is_spelled();
+    spelled_address_is_read();
+    spelled_address_has_digits();
+    stripped_front_was_first();
 }

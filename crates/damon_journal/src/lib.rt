@@ -36,6 +36,8 @@ mod replaying;
 mod results;
 /// Lines that are compared with those that a state wants.
 mod same_lines;
+/// Lines of receipts at the front of a text.
+mod seen_front;
 /// The lines of receipts.
 mod seen_lines;
 /// Receipts with their workers, in columns.
@@ -44,6 +46,8 @@ mod seen_list;
 mod seen_part;
 /// Reading the lines of receipts.
 mod seen_words;
+/// The lines of a text.
+mod split_line;
 /// How a run of a program ended.
 mod status;
 /// Tables of pages and of receipts, which passes set.

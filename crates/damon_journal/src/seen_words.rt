@@ -7,10 +7,12 @@ ghost use Rattle.damon_journal.specs.Ahead.{after_receipts, seen_ahead, seen_nex
 ghost use Rattle.damon_journal.specs.SeenLine.{seen_line, seen_of};
 
 use crate::entry::Receipt;
+use crate::laws::leading_receipts_are_read;
+use crate::seen_front::leading_seen;
 use crate::seen_lines::is_seen_line;
 use crate::seen_list::{Seen, SeenList};
+use crate::split_line::split_line;
 use damon_types::{Space, pages_rise};
-use line_text::split_front;
 use script_lines::{
     ScriptKind, arguments, four_words, read_8, read_32, read_64, read_byte_address, same_word,
 };
@@ -43,7 +45,7 @@ fn after_receipts(text: &[u8]) -> Option<&[u8]>
 {
     let mut rest = Some(text);
     'lines: while let Some(left) = rest {
-        let (line, more) = split_front(left, b'\n');
+        let (line, more) = split_line(left);
         if same_word(line, b"receipts") {
             return more;
         }
@@ -68,13 +70,27 @@ fn read_seen_lines(alloc: Global, space: &Space, lines: &[u8]) -> Result<SeenLis
 }
 
 // The receipt of the first line of a text, and the text after that line.
-#[tactic(auto, using(crate::proofs::SeenTaken::line_says))]
 fn next_seen<'a>(space: &Space, text: &'a [u8]) -> Option<(Seen, &'a [u8])>
     ensures exact { seen_next space.now result ≡ seen_ahead space.now (parts 10 text.now) }
     ensures within { IfSome result (λ x. x.0.1.page < pages_of space.now) }
     ensures shorter { IfSome result (λ x. length x.1.now < length text.now) }
 {
-    match split_front(text, b'\n') {
+    // For its clause alone: what a line at the front says.
+    leading_receipts_are_read();
+    match leading_seen(space, text) {
+        Some((receipt, rest)) => Some((receipt, rest)),
+        None => next_line(space, text),
+    }
+}
+
+// The same, by the reader of any line.
+#[tactic(auto, using(crate::proofs::SeenTaken::line_says))]
+fn next_line<'a>(space: &Space, text: &'a [u8]) -> Option<(Seen, &'a [u8])>
+    ensures exact { seen_next space.now result ≡ seen_ahead space.now (parts 10 text.now) }
+    ensures within { IfSome result (λ x. x.0.1.page < pages_of space.now) }
+    ensures shorter { IfSome result (λ x. length x.1.now < length text.now) }
+{
+    match split_line(text) {
         (line, Some(rest)) => {
             let receipt = read_seen(space, line)?;
             Some((receipt, rest))

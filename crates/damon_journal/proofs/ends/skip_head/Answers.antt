@@ -11,10 +11,10 @@ pub lines-preserved : goal.lines-preserved
 lines-preserved c =
     let before : JournalLines = c.lines.lines in
     let after : JournalLines = record { rest = c.in-Some.rest; taken = before.taken + 1 } in
-    let line : List ℕ = c.split_front.result.0.now in
+    let line : List ℕ = c.split_line.result.0.now in
     let taken = c.lines.invariant.taken in
     let split : lines_left before ≡ line ∷ lines_left after =
-    c.split_front.ensures.exact ∙ ap (λ (r : Option (Bor (List ℕ))). line ∷ parts_left 10 (option_copied r)) c.in-Some.is in
+    c.split_line.ensures.exact ∙ ap (λ (r : Option (Bor (List ℕ))). line ∷ parts_left 10 (option_copied r)) c.in-Some.is in
     record {
       taken = (taken.0 ++ line ∷ [], more_taken c.args.lines.now before after taken.0 line taken.1 split refl (sym c.same_word.ensures ∙ c.if-same_word.false));
       short = search rules;
