@@ -1,12 +1,12 @@
 -- Tables by page and by receipt, which passes set.
-use Rattle.std.proofs.Common.{◌≡◌, ℕ, zero, suc, ◌+◌, ◌-◌, ◌≤◌, ◌<◌, ◌==◌, ◌&&◌, ◌||◌, Bool, true, false, List, [], ◌∷◌, length, drop, get_or, refl, sym, ap, ◌∙◌, arith}
+use Rattle.std.proofs.Common.{◌≡◌, ℕ, zero, suc, ◌+◌, ◌-◌, ◌≤◌, ◌<◌, ◌==◌, ◌&&◌, ◌||◌, Bool, true, false, List, [], ◌∷◌, length, drop, get_or, refl, sym, ap, subst, ◌∙◌, arith}
 use Rattle.std.proofs.lemmas.Bool.Decides.{nat_tests}
-use Rattle.std.proofs.lemmas.List.{drop_more, get_or-set_other, length-map, length-replicate, length-set}
+use Rattle.std.proofs.lemmas.List.{drop_more, get_or-map, get_or-set_other, length-map, length-replicate, length-set}
 use Rattle.std.proofs.lemmas.Grind.{get_or-set_at}
 use Rattle.std.specs.Prelude.{◌≢◌, All, if◌then◌else◌, slice_get, slice_set, Some, nat_eq, nat_lt, replicate}
 use Rattle.std.specs.List.{list_any}
 use Rattle.damon_journal.specs.declared.entry.Receipt.{Receipt}
-use Rattle.damon_journal.specs.Ahead.{IsAhead, IsUnset, ShowsTag, is_picked, named_by_none, receipts_of}
+use Rattle.damon_journal.specs.Ahead.{AreNamedEarly, IsAhead, IsUnset, ShowsTag, is_picked, named_by_none, receipts_of}
 use Rattle.damon_journal.specs.SeenLine.{is_receipt}
 use Rattle.damon_journal.specs.TagLinks.{HasTag, IsNext}
 
@@ -173,12 +173,20 @@ unset_list zero page = refl
 unset_list (suc n) zero = refl
 unset_list (suc n) (suc page) = unset_list n page
 
+-- before the first pass only tag 0 is named
+early_at_first : (receipts : List (ℕ × Receipt)) → AreNamedEarly receipts (named_by_none receipts)
+early_at_first receipts i d below named =
+    let test : ((get_or receipts i d).1.tag == 0) ≡ true = sym (get_or-map (λ (x : ℕ × Receipt). x.1.tag == 0) receipts i d false below) ∙ named in
+    let none : (get_or receipts i d).1.tag ≡ 0 = grind (arith, nat_tests, test) in
+    omega (arith, none)
+
 -- receipts before the first pass
 pub ahead_at_first : (receipts : List (ℕ × Receipt)) (named picked received : List Bool) (pages : ℕ) → All (λ x. x.1.page < pages) receipts → named ≡ named_by_none receipts → picked ≡ replicate pages false → length received ≡ pages → ShowsTag 0 receipts received
     → IsAhead receipts named picked received 0 pages
 ahead_at_first receipts named picked received pages within names empty marks shows = record {
   count = ap length names ∙ length-map receipts (λ (x : ℕ × Receipt). x.1.tag == 0);
   within = within;
+  tags = subst (AreNamedEarly receipts) (sym names) (early_at_first receipts);
   table = ap length empty ∙ length-replicate pages false;
   unpicked = λ page. ap (λ (table : List Bool). get_or table page false) empty ∙ unset_list pages page;
   marks = marks;

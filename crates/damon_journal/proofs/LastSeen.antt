@@ -1,15 +1,16 @@
 -- Which receipts may follow one another: the last one of each page tells it.
 use Rattle.std.proofs.Common.{◌≡◌, ℕ, suc, ◌+◌, ◌≤◌, ◌<◌, ◌==◌, ◌&&◌, ◌||◌, not, Bool, true, false, List, [], ◌∷◌, length, drop, get_or, nat_le, nat_lt, refl, sym, ap, ◌∙◌, arith, Some, None}
 use Rattle.std.proofs.lemmas.Bool.Decides.{nat_tests}
-use Rattle.std.proofs.lemmas.List.{drop_all, drop_more, length-set, get_or-set_same, get_or-set_other}
+use Rattle.std.proofs.lemmas.List.{drop_all, drop_more, get_or-map, get_or-replicate, get_or-set_other, get_or-set_same, length-map, length-replicate, length-set}
 use Rattle.std.specs.Prelude.{Option, option_map, if◌then◌else◌, ◌≢◌}
-use Rattle.std.specs.Prelude.{slice_set}
+use Rattle.std.specs.Prelude.{map, replicate, slice_set}
 use Rattle.page_words.specs.declared.view.Entry.{Entry as Step}
 use Rattle.damon_control.specs.declared.live.TheConstants.{MAX_WORKERS}
 use Rattle.damon_journal.specs.declared.entry.Receipt.{Receipt}
-use Rattle.damon_journal.specs.Ahead.{KeepsLast, first_refused, first_wrong, is_later, may_come, may_follow, named_by}
+use Rattle.damon_journal.specs.Ahead.{KeepsLast, first_refused, first_wrong, is_later, last_in, may_come, may_follow, named_by}
 use Rattle.damon_journal.specs.SeenLine.{is_risen, is_tag, receipts_so_far, with_receipt}
 use Rattle.damon_journal.proofs.AheadLemmas.{risen_step}
+use Rattle.damon_journal.proofs.Common.{or_second}
 use Rattle.damon_journal.proofs.SeenAfter.{count_more, none_yet, own_more}
 
 -- whether a receipt may come next, by what is kept
@@ -36,6 +37,22 @@ may_parts {G} all worker r may f = by (nat_le (length all) (worker + 1)) (nat_lt
     by true true false few risen e = absurd cc
     by true false risen few is e = absurd cc
     by false small risen few is e = absurd cc
+
+-- before the first receipt 0 is kept of each page
+pub keeps_none : (pages : ℕ) → KeepsLast [] 0 (map last_in (replicate pages 0))
+keeps_none pages = record {
+  count = refl;
+  rises = λ worker r d below few.
+      let none : ℕ = 0 in
+      let zeros = replicate pages none in
+      let inside : r.page < pages = omega (arith, below, length-map zeros last_in, length-replicate pages none) in
+      let is : get_or (map last_in zeros) r.page d ≡ (0, 0) =
+          get_or-map last_in zeros r.page none d (omega (arith, inside, length-replicate pages none))
+          ∙ ap last_in (get_or-replicate pages r.page none none inside) in
+      let low : nat_le 0 r.tag ≡ true = grind (arith, nat_tests) in
+      ap (λ rs. is_risen rs r) (none_yet [] worker (omega arith))
+      ∙ sym (ap (λ l. is_later l worker r.tag) is ∙ or_second (not (0 == worker)) (nat_le 0 r.tag) low);
+}
 
 -- one more receipt is kept
 pub keeps_more : (all : List (List Receipt)) (workers : ℕ) (last : List (ℕ × ℕ)) (worker : ℕ) (r : Receipt) → KeepsLast all workers last → r.page < length last → may_follow all worker r ≡ true

@@ -1,5 +1,5 @@
 -- Receipts that are read ahead of the entries: which they are, what passes name them, and which is refused.
-use Rattle.std.specs.Prelude.{◌≡◌, ℕ, ◌+◌, ◌≤◌, ◌<◌, ◌==◌, Bool, false, not, ◌&&◌, ◌||◌, nat_le, nat_lt, suc, List, [], ◌∷◌, codes, length, map, slice_index_or, All, Option, Some, None, Result, Ok, option_map, if◌then◌else◌}
+use Rattle.std.specs.Prelude.{◌≡◌, ℕ, ◌+◌, ◌/◌, ◌%◌, ◌≤◌, ◌<◌, ◌==◌, Bool, true, false, not, ◌&&◌, ◌||◌, nat_le, nat_lt, suc, List, [], ◌∷◌, codes, length, map, slice_index_or, All, Option, Some, None, Result, Ok, option_map, if◌then◌else◌}
 use Rattle.std.specs.Borrow.{Bor}
 use Rattle.std.specs.List.{list_any}
 use Rattle.damon_types.specs.declared.space.Target.{Target}
@@ -11,6 +11,7 @@ use Rattle.script_lines.specs.Words.{arguments, byte_address, number_8, number_3
 use Rattle.damon_control.specs.declared.live.TheConstants.{MAX_WORKERS}
 use Rattle.damon_control.specs.declared.reader.TheConstants.{MAX_BYTES}
 use Rattle.damon_journal.specs.declared.entry.Receipt.{Receipt}
+use Rattle.damon_journal.specs.declared.last_seen.TheConstants.{TAGS}
 use Rattle.damon_journal.specs.SeenLine.{is_receipt, is_risen, is_tag, may_be_seen, receipts_so_far, seen_fields, seen_line, with_receipt}
 
 -- ---- which receipts a text has
@@ -132,15 +133,25 @@ NamesMore pass picks receipts before after =
     (i : ℕ) (d : ℕ × Receipt) → i < length receipts
     → slice_index_or after i false ≡ (slice_index_or before i false || is_named pass picks (slice_index_or receipts i d).1)
 
+-- a receipt that names a pass has a tag that is the number of a pass of a text
+abbrev pub AreNamedEarly : List (ℕ × Receipt) → List Bool → Type 0
+AreNamedEarly receipts named =
+    (i : ℕ) (d : ℕ × Receipt) → i < length receipts → slice_index_or named i false ≡ true → (slice_index_or receipts i d).1.tag ≤ MAX_BYTES + 1
+
 -- receipts with what is kept of them
 pub record IsAhead (receipts : List (ℕ × Receipt)) (named picked received : List Bool) (pass pages : ℕ) : Type 0 where
   pub count : length named ≡ length receipts
   pub within : All (λ x. x.1.page < pages) receipts
+  pub tags : AreNamedEarly receipts named
   pub table : length picked ≡ pages
   pub unpicked : IsUnset picked
   pub marks : length received ≡ pages
   pub early : pass ≤ MAX_BYTES + 1
   pub shows : ShowsTag pass receipts received
+
+-- a worker and the number of a pass that are kept in one number
+abbrev pub last_in : ℕ → ℕ × ℕ
+last_in n = (n / TAGS, n % TAGS)
 
 -- a tag may come after the last one of its page, where that is of the same worker
 abbrev pub is_later : ℕ × ℕ → ℕ → ℕ → Bool

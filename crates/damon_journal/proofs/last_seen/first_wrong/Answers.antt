@@ -1,6 +1,6 @@
-use Rattle.std.proofs.Common.{◌≡◌, ◌<◌, ◌&&◌, ◌∙◌, ℕ, true, false, length, get_or, rules, sym, ap, subst, arith}
+use Rattle.std.proofs.Common.{◌≡◌, ◌<◌, ◌&&◌, ◌∙◌, ℕ, true, false, length, get_or, rules, sym, ap, subst, map, arith}
 use Rattle.damon_journal.specs.declared.entry.Receipt.{Receipt}
-use Rattle.damon_journal.specs.Ahead.{KeepsLast, may_follow}
+use Rattle.damon_journal.specs.Ahead.{KeepsLast, last_in, may_follow}
 use Rattle.damon_journal.specs.SeenLine.{with_receipt}
 use Rattle.damon_journal.proofs.LastSeen.{left_first, left_more, wrong_here}
 use Rattle.damon_journal.proofs.last_seen.first_wrong.Goals as goal
@@ -11,12 +11,19 @@ loop-index-init c = record {
   len = c.in_ok-last.ensures.len;
 }
 
-pub admit-admitted-requires : goal.admit-admitted-requires
-admit-admitted-requires c =
+pub admit-admitted-requires-clause-inside : goal.admit-admitted-requires-clause-inside
+admit-admitted-requires-clause-inside c =
     let x = c.get-worker.result in
     let below : c.loop-index.index < length c.args.receipts.now = search rules in
     let page : x.1.page ≡ (get_or c.args.receipts.now c.loop-index.index x).1.page = ap (λ (y : ℕ × Receipt). y.1.page) (c.get-worker.ensures x) in
     omega (arith, page, c.requires.within c.loop-index.index x below, c.loop-index.invariant.len)
+
+pub admit-admitted-requires-clause-early : goal.admit-admitted-requires-clause-early
+admit-admitted-requires-clause-early c = λ named.
+    let x = c.get-worker.result in
+    let below : c.loop-index.index < length c.args.receipts.now = search rules in
+    let tag : x.1.tag ≡ (get_or c.args.receipts.now c.loop-index.index x).1.tag = ap (λ (y : ℕ × Receipt). y.1.tag) (c.get-worker.ensures x) in
+    omega (arith, tag, c.requires.early c.loop-index.index x below named)
 
 pub returns-then-not-admitted : goal.returns-then-not-admitted
 returns-then-not-admitted c =
@@ -42,6 +49,6 @@ loop-index-preserved c =
     record {
       left = left_more named c.args.receipts.now _ _ _ _ k x left below within
           (subst (λ (y : ℕ × Receipt). (get_or named k false && may_follow left.all y.0 y.1) ≡ true) (c.get-worker.ensures x) (sym (c.admit-admitted.ensures.may left.all left.keeps) ∙ is))
-          (subst (λ (y : ℕ × Receipt). KeepsLast (with_receipt left.all y.0 y.1) c.admit-admitted.new.self.workers c.admit-admitted.new.self.pages.items) (c.get-worker.ensures x) (c.admit-admitted.ensures.next left.all left.keeps is));
+          (subst (λ (y : ℕ × Receipt). KeepsLast (with_receipt left.all y.0 y.1) c.admit-admitted.new.self.workers (map last_in c.admit-admitted.new.self.pages.items)) (c.get-worker.ensures x) (c.admit-admitted.ensures.next left.all left.keeps is));
       len = c.admit-admitted.ensures.len ∙ c.loop-index.invariant.len;
     }

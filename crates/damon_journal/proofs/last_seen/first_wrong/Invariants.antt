@@ -1,9 +1,10 @@
-use Rattle.std.proofs.Common.{◌≡◌, length}
+use Rattle.std.proofs.Common.{◌≡◌, length, map}
+use Rattle.damon_journal.specs.Ahead.{last_in}
 use Rattle.damon_journal.proofs.LastSeen.{IsLeft}
 use Rattle.damon_journal.proofs.last_seen.first_wrong.Given as goal
 
 abbrev pub invariant-loop-index : goal.invariant-loop-index
 invariant-loop-index l = record {
-  left : IsLeft l.named l.receipts l.index l.last.workers l.last.pages.items;
+  left : IsLeft l.named l.receipts l.index l.last.workers (map last_in l.last.pages.items);
   len : length l.last.pages.items ≡ l.pages;
 }
