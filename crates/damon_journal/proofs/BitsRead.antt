@@ -1,50 +1,45 @@
 -- Results that are read digit by digit.
 use Rattle.std.proofs.Common.{◌≡◌, ℕ, suc, ◌+◌, ◌<◌, ◌≤◌, ◌==◌, Bool, true, false, List, [], ◌∷◌, ◌++◌, length, drop, get_or, append_assoc, append-nil, IfSome, refl, sym, ap, ◌∙◌, arith, Some, None}
 use Rattle.std.proofs.lemmas.Bool.Decides.{nat_tests}
-use Rattle.std.proofs.lemmas.List.{drop_all, drop_more}
-use Rattle.std.specs.Prelude.{◌≢◌, Option, option_and_then, option_map, unwrap_or, if◌then◌else◌}
-use Rattle.damon_journal.specs.EntryLine.{bit_of, bits_of, n_bits_of}
+use Rattle.std.proofs.lemmas.List.{length-map}
+use Rattle.std.specs.Prelude.{◌≢◌, ◌&&◌, Option, map, option_and_then, if◌then◌else◌}
+use Rattle.std.specs.List.{list_all}
+use Rattle.damon_journal.proofs.Common.{both_are}
+use Rattle.damon_journal.specs.EntryLine.{bits_of, is_bit, is_one, n_bits_of}
 
--- ---- digits one after another
+-- ---- digits
 
--- after some results one more, and then those of the digits that are left
-digit_more : (one none bit : Bool) (bits : List Bool) (left : Option (List Bool)) → (if one then Some true else if none then Some false else None) ≡ Some bit
-    → option_map (λ rest. bits ++ rest) (option_and_then (λ rest. if one then Some (true ∷ rest) else if none then Some (false ∷ rest) else None) left)
-    ≡ option_map (λ rest. (bits ++ bit ∷ []) ++ rest) left
-digit_more one none bit bits None is = refl
-digit_more true none bit bits (Some rest) is =
-    let same : true ≡ bit = ap (λ (o : Option Bool). unwrap_or o false) is in
-    ap (λ l. Some l) (ap (λ b. bits ++ (b ∷ rest)) same ∙ sym (append_assoc bits (bit ∷ []) rest))
-digit_more false true bit bits (Some rest) is =
-    let same : false ≡ bit = ap (λ (o : Option Bool). unwrap_or o true) is in
-    ap (λ l. Some l) (ap (λ b. bits ++ (b ∷ rest)) same ∙ sym (append_assoc bits (bit ∷ []) rest))
-digit_more false false bit bits (Some rest) is = absurd cc
+-- digits that are all `0` or `1` say whether they are `1`
+all_said : (digits : List ℕ) → list_all is_bit digits ≡ true → bits_of digits ≡ Some (map is_one digits)
+all_said [] each = refl
+all_said (c ∷ cs) each =
+    let both = both_are (is_bit c) (list_all is_bit cs) each in
+    ap (λ o. option_and_then (λ bits. if c == 49 then Some (true ∷ bits) else if c == 48 then Some (false ∷ bits) else None) o) (all_said cs both.1)
+    ∙ by (c == 49) (c == 48) refl (λ none. grind (arith, nat_tests, none, both.0))
+  where
+    by : (one none : Bool) → (c == 49) ≡ one → ((c == 49) ≡ false → none ≡ true)
+        → (if one then Some (true ∷ map is_one cs) else if none then Some (false ∷ map is_one cs) else None) ≡ Some ((c == 49) ∷ map is_one cs)
+    by true none is other = ap (λ b. Some (b ∷ map is_one cs)) (sym is)
+    by false true is other = ap (λ b. Some (b ∷ map is_one cs)) (sym is)
+    by false false is other = absurd (let clash : false ≡ true = other is in cc)
 
--- one digit more was read
-pub bits_next : (digits : List ℕ) (k : ℕ) (bits : List Bool) (bit : Bool) → k < length digits → Some bit ≡ bit_of (get_or digits k 0)
-    → bits_of digits ≡ option_map (λ rest. bits ++ rest) (bits_of (drop k digits))
-    → bits_of digits ≡ option_map (λ rest. (bits ++ bit ∷ []) ++ rest) (bits_of (drop (k + 1) digits))
-bits_next digits k bits bit below is so_far =
-    so_far
-    ∙ ap (λ l. option_map (λ rest. bits ++ rest) (bits_of l)) (drop_more digits k 0 below)
-    ∙ digit_more (get_or digits k 0 == 49) (get_or digits k 0 == 48) bit bits (bits_of (drop (k + 1) digits)) (sym is)
+-- other bytes say nothing
+none_said : (digits : List ℕ) → list_all is_bit digits ≡ false → bits_of digits ≡ None
+none_said [] other = absurd cc
+none_said (c ∷ cs) other = by (is_bit c) refl other (none_said cs)
+  where
+    lost : (o : Option (List Bool)) → option_and_then (λ (bits : List Bool). if false then Some (false ∷ bits) else None) o ≡ None
+    lost None = refl
+    lost (Some bits) = refl
 
-no_digit : (one none : Bool) (bits : List Bool) (left : Option (List Bool)) → (if one then Some true else if none then Some false else None) ≡ None
-    → option_map (λ rest. bits ++ rest) (option_and_then (λ rest. if one then Some (true ∷ rest) else if none then Some (false ∷ rest) else None) left) ≡ None
-no_digit one none bits None is = refl
-no_digit true none bits (Some rest) is = absurd cc
-no_digit false true bits (Some rest) is = absurd cc
-no_digit false false bits (Some rest) is = refl
-
--- another byte is no digit, and no results are said
-pub bits_end : (digits : List ℕ) (count k : ℕ) (bits : List Bool) → k < length digits → None ≡ bit_of (get_or digits k 0)
-    → bits_of digits ≡ option_map (λ rest. bits ++ rest) (bits_of (drop k digits)) → None ≡ n_bits_of count digits
-bits_end digits count k bits below is so_far =
-    let none : bits_of digits ≡ None =
-    so_far
-    ∙ ap (λ l. option_map (λ rest. bits ++ rest) (bits_of l)) (drop_more digits k 0 below)
-    ∙ no_digit (get_or digits k 0 == 49) (get_or digits k 0 == 48) bits (bits_of (drop (k + 1) digits)) (sym is) in
-    ap (λ o. option_and_then (λ bs. if length bs == count then Some bs else None) o) (sym none)
+    by : (bit : Bool) → is_bit c ≡ bit → (bit && list_all is_bit cs) ≡ false → (list_all is_bit cs ≡ false → bits_of cs ≡ None) → bits_of (c ∷ cs) ≡ None
+    by true is rest later = ap (λ o. option_and_then (λ bits. if c == 49 then Some (true ∷ bits) else if c == 48 then Some (false ∷ bits) else None) o) (later rest)
+    by false is rest later =
+        let one : (c == 49) ≡ false = grind (arith, nat_tests, is) in
+        let none : (c == 48) ≡ false = grind (arith, nat_tests, is) in
+        ap (λ t. option_and_then (λ bits. if t then Some (true ∷ bits) else if c == 48 then Some (false ∷ bits) else None) (bits_of cs)) one
+        ∙ ap (λ t. option_and_then (λ (bits : List Bool). if t then Some (false ∷ bits) else None) (bits_of cs)) none
+        ∙ lost (bits_of cs)
 
 -- ---- as many as are wanted
 
@@ -70,19 +65,13 @@ other_count digits count other = by (bits_of digits) (same_count digits)
         let differs : (length bits == count) ≡ false = grind (arith, nat_tests, same, other) in
         rw differs refl
 
--- all digits were read
-pub bits_read : (digits : List ℕ) (count k : ℕ) (bits : List Bool) → length digits ≡ count → length digits ≤ k
-    → bits_of digits ≡ option_map (λ rest. bits ++ rest) (bits_of (drop k digits)) → Some bits ≡ n_bits_of count digits
-bits_read digits count k bits many all so_far = by (bits_of digits) (same_count digits) whole
-  where
-    whole : bits_of digits ≡ Some bits
-    whole =
-        so_far
-        ∙ ap (λ l. option_map (λ rest. bits ++ rest) (bits_of l)) (drop_all k digits all)
-        ∙ ap (λ l. Some l) (append-nil bits)
+-- so many digits that are all `0` or `1`
+pub bits_read : (digits : List ℕ) (count : ℕ) → length digits ≡ count → list_all is_bit digits ≡ true → Some (map is_one digits) ≡ n_bits_of count digits
+bits_read digits count many each =
+    let right : (length (map is_one digits) == count) ≡ true = grind (arith, nat_tests, length-map digits is_one, many) in
+    sym (ap (λ o. option_and_then (λ bits. if length bits == count then Some bits else None) o) (all_said digits each)
+    ∙ ap (λ t. if t then Some (map is_one digits) else None) right)
 
-    by : (o : Option (List Bool)) → IfSome o (λ bs. length bs ≡ length digits) → o ≡ Some bits → Some bits ≡ option_and_then (λ bs. if length bs == count then Some bs else None) o
-    by None same is = absurd cc
-    by (Some bs) same is =
-        let right : (length bs == count) ≡ true = grind (arith, nat_tests, same, many) in
-        rw right (sym is)
+-- any other digits
+pub other_digits : (digits : List ℕ) (count : ℕ) → list_all is_bit digits ≡ false → None ≡ n_bits_of count digits
+other_digits digits count other = sym (ap (λ o. option_and_then (λ bits. if length bits == count then Some bits else None) o) (none_said digits other))

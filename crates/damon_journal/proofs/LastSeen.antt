@@ -47,8 +47,8 @@ keeps_none pages = record {
       let zeros = replicate pages none in
       let inside : r.page < pages = omega (arith, below, length-map zeros last_in, length-replicate pages none) in
       let is : get_or (map last_in zeros) r.page d ≡ (0, 0) =
-          get_or-map last_in zeros r.page none d (omega (arith, inside, length-replicate pages none))
-          ∙ ap last_in (get_or-replicate pages r.page none none inside) in
+      get_or-map last_in zeros r.page none d (omega (arith, inside, length-replicate pages none))
+      ∙ ap last_in (get_or-replicate pages r.page none none inside) in
       let low : nat_le 0 r.tag ≡ true = grind (arith, nat_tests) in
       ap (λ rs. is_risen rs r) (none_yet [] worker (omega arith))
       ∙ sym (ap (λ l. is_later l worker r.tag) is ∙ or_second (not (0 == worker)) (nat_le 0 r.tag) low);

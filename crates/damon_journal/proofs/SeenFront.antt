@@ -32,10 +32,10 @@ seen_front space worker r text first second third rest one two three four =
     let last : second ≡ tag ++ end = three ∙ ap (λ t. codes " " ++ (decimal r.tag ++ t)) four in
     let address = spelled_address addr ++ tag in
     let place : first ≡ (codes " " ++ (decimal target ++ (codes " " ++ address))) ++ end =
-        two
-        ∙ ap (λ t. codes " " ++ (decimal target ++ (codes " " ++ (spelled_address addr ++ t)))) last
-        ∙ ap (λ t. codes " " ++ (decimal target ++ (codes " " ++ t))) (sym (append_assoc (spelled_address addr) tag end))
-        ∙ behind (codes " ") target (codes " " ++ address) end in
+    two
+    ∙ ap (λ t. codes " " ++ (decimal target ++ (codes " " ++ (spelled_address addr ++ t)))) last
+    ∙ ap (λ t. codes " " ++ (decimal target ++ (codes " " ++ t))) (sym (append_assoc (spelled_address addr) tag end))
+    ∙ behind (codes " ") target (codes " " ++ address) end in
     one ∙ ap (λ t. codes "seen " ++ (decimal worker ++ t)) place
     ∙ behind (codes "seen ") worker (codes " " ++ (decimal target ++ (codes " " ++ address))) end
 

@@ -34,6 +34,6 @@ line_before apart together text at found =
 pub only_part : TakesApartPieces → (text : List ℕ) → Nowhere (Passes (is_byte 10) text) 0 (length text) → parts 10 text ≡ text ∷ []
 only_part apart text none =
     let piece : IsPiece 10 text = λ k d below same.
-        let here : get_or text k 0 ≡ 10 = sym (get_or_default_zero text k d below) ∙ same in
-        none k (omega arith) below (grind (arith, nat_tests, here)) in
+    let here : get_or text k 0 ≡ 10 = sym (get_or_default_zero text k d below) ∙ same in
+    none k (omega arith) below (grind (arith, nat_tests, here)) in
     apart 10 text [] (piece_first text [] piece no_pieces)

@@ -1,6 +1,6 @@
 -- The lines of entries: what a line may say after the entries before it. Where the state determines a line, it is compared with that
 -- line; only the results of a check, the controller of a call and the parts of its commit are read.
-use Rattle.std.specs.Prelude.{ℕ, zero, suc, ◌+◌, Bool, true, false, ◌&&◌, ◌==◌, List, [], ◌∷◌, ◌++◌, codes, length, Option, Some, None, Result, Ok, Err, option_and_then, option_map, slice_index_or, if◌then◌else◌}
+use Rattle.std.specs.Prelude.{ℕ, zero, suc, ◌+◌, Bool, true, false, ◌&&◌, ◌==◌, nat_le, List, [], ◌∷◌, ◌++◌, codes, length, Option, Some, None, Result, Ok, Err, option_and_then, option_map, slice_index_or, if◌then◌else◌}
 use Rattle.std.specs.Option.{option_or}
 use Rattle.line_text.specs.Line.{after_prefix}
 use Rattle.live_commit.specs.declared.phase.Phase.{Phase}
@@ -24,9 +24,13 @@ use Rattle.damon_journal.specs.Spelled.{call_front, check_front, spelled_aggrega
 abbrev pub where_so : Bool → JournalPlace → Option JournalPlace
 where_so test place = if test then Some place else None
 
--- the result that a digit says
-abbrev pub bit_of : ℕ → Option Bool
-bit_of c = if c == 49 then Some true else if c == 48 then Some false else None
+-- whether a digit is `0` or `1`
+abbrev pub is_bit : ℕ → Bool
+is_bit c = nat_le 48 c && nat_le c 49
+
+-- whether it is `1`
+abbrev pub is_one : ℕ → Bool
+is_one c = c == 49
 
 -- the results that digits say
 abbrev pub bits_of : List ℕ → Option (List Bool)

@@ -250,9 +250,7 @@ fn hits_in(bits: &[bool]) -> u64
 {
     let mut hits = 0;
     for k in 0..bits.len() {
-        if bits[k] {
-            hits += 1;
-        }
+        hits += u64::from(bits[k]);
     }
     hits
 }

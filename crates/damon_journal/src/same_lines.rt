@@ -4,7 +4,8 @@ ghost use Rattle.std.specs.Fmt.{decimal};
 ghost use Rattle.std.specs.Option.{option_copied};
 ghost use Rattle.line_text.specs.Line.{after_prefix};
 ghost use Rattle.script_lines.specs.Words.{same_word};
-ghost use Rattle.damon_journal.specs.EntryLine.{bit_of, n_bits_of};
+ghost use Rattle.std.specs.List.{list_all};
+ghost use Rattle.damon_journal.specs.EntryLine.{is_bit, is_one, n_bits_of};
 ghost use Rattle.damon_journal.specs.Spelled.{call_front, check_front, spelled_answer};
 
 use crate::entry::CallAnswer;
@@ -69,7 +70,6 @@ pub(crate) fn call_word(line: &[u8], controller: u32, index: u32) -> Option<&[u8
 }
 
 // The results that digits say, if there are this many.
-#[tactic(auto, using(crate::proofs::BitsRead::bits_next, crate::proofs::BitsRead::bits_end))]
 pub(crate) fn read_bits(
     alloc: Global,
     digits: &[u8],
@@ -80,25 +80,34 @@ pub(crate) fn read_bits(
     if digits.len() != count {
         return Ok(None);
     }
-    let mut bits = Vec::with_capacity(alloc, count)?;
-    for digit in digits {
-        let Some(bit) = bit_of(*digit) else {
-            return Ok(None);
-        };
-        bits.push_reserved(bit);
+    if !are_bits(digits) {
+        return Ok(None);
     }
+    let bits = bits_in(alloc, digits)?;
     Ok(Some(bits))
 }
 
-// The result that a digit says.
-fn bit_of(digit: u8) -> Option<bool>
-    ensures { result ≡ bit_of digit }
+// Whether each digit is `0` or `1`.
+fn are_bits(digits: &[u8]) -> bool
+    ensures { result ≡ list_all is_bit digits.now }
 {
-    match digit {
-        b'1' => Some(true),
-        b'0' => Some(false),
-        _ => None,
+    let mut all = true;
+    // No early return: without one the compiler tests many digits at once.
+    'digits: for digit in digits {
+        all &= (b'0'..=b'1').contains(digit);
     }
+    all
+}
+
+// The results that such digits say.
+fn bits_in(alloc: Global, digits: &[u8]) -> Result<Vec<bool>, AllocError>
+    ensures { IfOk result (λ bits. bits.items ≡ map is_one digits.now) }
+{
+    let mut bits = Vec::with_capacity(alloc, digits.len())?;
+    'digits: for digit in digits {
+        bits.push_reserved(*digit == b'1');
+    }
+    Ok(bits)
 }
 
 // Whether a line is the one of this answer.
