@@ -12,15 +12,16 @@ use Rattle.damon_control.specs.Live.{LiveValue}
 use Rattle.damon_types.specs.declared.space.Target.{Target}
 use Rattle.damon_journal.specs.declared.entry.Receipt.{Receipt}
 use Rattle.damon_journal.specs.declared.journal_lines.JournalLines.{JournalLines}
-use Rattle.damon_journal.specs.Ahead.{first_refused, in_front_of, receipts_of, seen_ahead}
+use Rattle.damon_journal.specs.Ahead.{AheadView, first_refused, in_front_of, receipts_of, seen_ahead}
 use Rattle.damon_journal.specs.EntryLine.{where_so}
-use Rattle.damon_journal.specs.Folding.{open_hits}
+use Rattle.damon_journal.specs.declared.fold.Fold.{Fold}
+use Rattle.damon_journal.specs.Folding.{AreNext, FoldStands, open_hits}
 use Rattle.damon_journal.specs.Lawful.{all_of}
 use Rattle.damon_journal.specs.LinesLeft.{lines_left, said_left, said_on}
 use Rattle.damon_journal.specs.Place.{InReceipts, JournalPlace}
 use Rattle.damon_journal.specs.Replay.{JournalValue}
 use Rattle.damon_journal.specs.SeenLine.{after_receipt, after_seen, after_settled, has_receipt, may_be_seen, seen_line, with_receipt}
-use Rattle.damon_journal.specs.SeenPart.{AreSeen, accepted, after_all_receipts, seen_left}
+use Rattle.damon_journal.specs.SeenPart.{AreAllSeen, AreSeen, ReceiptsStand, accepted, after_all_receipts, seen_left}
 use Rattle.damon_journal.specs.Steps.{steps}
 use Rattle.damon_journal.proofs.Common.{is_line}
 use Rattle.damon_journal.proofs.SeenAfter.{seen_few}
@@ -117,10 +118,9 @@ or_none true place = refl
 or_none false place = refl
 
 -- after the last receipt the line leads on where it is `settled` and no hit is without a receipt
-pub settled_place : (v : LiveValue) (j : JournalValue) (all : List (List Receipt)) (line : List ℕ) (rs : List Receipt) (unreceived : ℕ) (old new : JournalLines) → lines_left old ≡ line ∷ lines_left new
-    → accepted (steps v j) all (seen_left v old) ≡ 0 → all_of all ++ receipts_of (seen_left v old) ≡ rs → unreceived ≡ open_hits rs (steps v j)
+pub settled_place : (v : LiveValue) (j : JournalValue) (all : List (List Receipt)) (line : List ℕ) (unreceived : ℕ) (old new : JournalLines) → lines_left old ≡ line ∷ lines_left new → AreAllSeen v j all unreceived old
     → after_receipt v j all line ≡ where_so (same_word line (codes "settled") && (unreceived == 0)) (after_all_receipts v j all)
-settled_place v j all line rs unreceived old new split few whole count =
+settled_place v j all line unreceived old new split seen =
     ap (λ o. option_or (after_settled v j all line) o) none
     ∙ or_none (same_word line (codes "settled") && list_all (has_receipt (all_of all)) (steps v j)) (after_all_receipts v j all)
     ∙ by (same_word line (codes "settled")) refl
@@ -129,15 +129,26 @@ settled_place v j all line rs unreceived old new split few whole count =
     parts_are = seen_split v old new line split
 
     none : after_seen v j all line ≡ None
-    none = none_seen v j all line (seen_left v new) (sym (ap (accepted (steps v j) all) parts_are) ∙ few)
+    none = none_seen v j all line (seen_left v new) (sym (ap (accepted (steps v j) all) parts_are) ∙ seen.none)
 
     by : (test : Bool) → same_word line (codes "settled") ≡ test
         → where_so (test && list_all (has_receipt (all_of all)) (steps v j)) (after_all_receipts v j all) ≡ where_so (test && (unreceived == 0)) (after_all_receipts v j all)
     by false e = refl
     by true e =
         let no_more : seen_left v old ≡ [] = parts_are ∙ ap (in_front_of (seen_left v new)) (no_receipt v.setup.space line e) in
-        let same : all_of all ≡ rs = sym (append-nil (all_of all)) ∙ ap (λ xs. all_of all ++ receipts_of xs) (sym no_more) ∙ whole in
-        ap (λ t. where_so t (after_all_receipts v j all)) (all_received (all_of all) (steps v j) ∙ ap (λ (qs : List Receipt). open_hits qs (steps v j) == 0) same ∙ ap (λ n. n == 0) (sym count))
+        let same : all_of all ≡ all_of all ++ receipts_of (seen_left v old) = sym (append-nil (all_of all)) ∙ ap (λ xs. all_of all ++ receipts_of xs) (sym no_more) in
+        ap (λ t. where_so t (after_all_receipts v j all)) (all_received (all_of all) (steps v j) ∙ ap (λ (qs : List Receipt). open_hits qs (steps v j) == 0) same ∙ ap (λ n. n == 0) (sym seen.open_is))
+
+-- after the entries of a text the receipts that were read ahead are those of the next lines
+pub receipts_stand : {v : LiveValue} {j : JournalValue} {f : Fold} {lines : JournalLines} → FoldStands v j f → AreNext f lines → ReceiptsStand v j f.ahead f.unreceived lines
+receipts_stand {v} {j} {f} {lines} stands next = record { next = next ∙ ap (λ space. seen_ahead space (lines_left lines)) stands.space; named = stands.named; open_is = stands.open_is }
+
+-- the receipts that were taken are all that may be seen, where they are as many as may be
+pub seen_all : (v : LiveValue) (j : JournalValue) (all : List (List Receipt)) (ahead : AheadView) (unreceived : ℕ) (old new : JournalLines) → ReceiptsStand v j ahead unreceived old → AreSeen 0 v j all old new → AreAllSeen v j all unreceived new
+seen_all v j all ahead unreceived old new stand seen = record {
+  none = seen.few;
+  open_is = stand.open_is ∙ ap (λ xs. open_hits (receipts_of xs) (steps v j)) stand.next ∙ ap (λ rs. open_hits rs (steps v j)) (sym seen.whole);
+}
 
 -- ---- how many are accepted
 

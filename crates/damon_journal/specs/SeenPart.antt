@@ -4,7 +4,8 @@ use Rattle.page_words.specs.declared.view.Entry.{Entry as Step}
 use Rattle.damon_control.specs.Live.{LiveValue}
 use Rattle.damon_journal.specs.declared.entry.Receipt.{Receipt}
 use Rattle.damon_journal.specs.declared.journal_lines.JournalLines.{JournalLines}
-use Rattle.damon_journal.specs.Ahead.{receipts_of, seen_ahead}
+use Rattle.damon_journal.specs.Ahead.{AheadView, named_by, receipts_of, seen_ahead}
+use Rattle.damon_journal.specs.Folding.{open_hits}
 use Rattle.damon_journal.specs.Lawful.{all_of}
 use Rattle.damon_journal.specs.LinesLeft.{lines_left, said_left}
 use Rattle.damon_journal.specs.Place.{AtLast, InReceipts, JournalPlace}
@@ -13,6 +14,13 @@ use Rattle.damon_journal.specs.SeenLine.{may_be_seen, with_receipt}
 use Rattle.damon_journal.specs.Steps.{steps}
 use Rattle.damon_journal.specs.Text.{last_text}
 use Rattle.line_text.specs.Parts.{parts}
+
+-- The receipts that were read ahead are those of the lines that are left; it is known which of them name a pass that cleared their
+-- page, and how many hits have no receipt.
+pub record ReceiptsStand (v : LiveValue) (j : JournalValue) (ahead : AheadView) (unreceived : ℕ) (lines : JournalLines) : Type 0 where
+  pub next : ahead.receipts ≡ seen_ahead v.setup.space (lines_left lines)
+  pub named : ahead.named ≡ named_by (steps v j) ahead.receipts
+  pub open_is : unreceived ≡ open_hits (receipts_of ahead.receipts) (steps v j)
 
 -- how many receipts come before the first that may not be seen
 abbrev pub accepted : List Step → List (List Receipt) → List (ℕ × Receipt) → ℕ
@@ -28,6 +36,11 @@ pub record AreSeen (left : ℕ) (v : LiveValue) (j : JournalValue) (all : List (
   pub said : said_left (InReceipts v j []) old ≡ said_left (InReceipts v j all) new
   pub few : accepted (steps v j) all (seen_left v new) ≡ left
   pub whole : all_of all ++ receipts_of (seen_left v new) ≡ receipts_of (seen_left v old)
+
+-- these are all receipts that may be seen, and of the hits it is known how many have none, of these receipts and those that are left
+pub record AreAllSeen (v : LiveValue) (j : JournalValue) (all : List (List Receipt)) (unreceived : ℕ) (lines : JournalLines) : Type 0 where
+  pub none : accepted (steps v j) all (seen_left v lines) ≡ 0
+  pub open_is : unreceived ≡ open_hits (all_of all ++ receipts_of (seen_left v lines)) (steps v j)
 
 -- the place after the receipts
 abbrev pub after_all_receipts : LiveValue → JournalValue → List (List Receipt) → JournalPlace

@@ -118,12 +118,23 @@ impl Ahead {
     }
 
     // The index of the first receipt that may not be seen after those before it. Takes memory by
-    // the number of pages; the error is that there is none left.
-    pub(crate) fn refused(&self, alloc: Global) -> Result<Option<usize>, AllocError>
-        ensures { (done : List Step) → self.now.named ≡ named_by done self.now.receipts
-            → IfOk result (λ index. index ≡ first_refused done [] self.now.receipts) }
+    // the number of pages, after it has freed what the entries needed; the error is that there is
+    // none left.
+    pub(crate) fn refused(self, alloc: Global) -> Result<Option<usize>, AllocError>
+        ensures { (done : List Step) → self.named ≡ named_by done self.receipts
+            → IfOk result (λ index. index ≡ first_refused done [] self.receipts) }
     {
-        let index = first_wrong(alloc, self.seen.list(), &self.named, self.pages)?;
+        let Ahead {
+            seen,
+            named,
+            picked,
+            received,
+            pages,
+            ..
+        } = self;
+        drop(picked);
+        drop(received);
+        let index = first_wrong(alloc, &seen.into_list(), &named, pages)?;
         Ok(index)
     }
 }

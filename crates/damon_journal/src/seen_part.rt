@@ -1,18 +1,17 @@
 // The receipts of a journal text, after its entries.
-ghost use Rattle.std.specs.Prelude.{◌≡◌, ◌==◌, ◌&&◌, ◌++◌, [], List, codes, IfOk, OnOk};
+ghost use Rattle.std.specs.Prelude.{◌≡◌, ◌==◌, ◌&&◌, [], List, codes, IfOk, OnOk};
 ghost use Rattle.script_lines.specs.Words.{same_word};
 ghost use Rattle.damon_control.specs.Live.{LiveValue};
 ghost use Rattle.damon_journal.specs.declared.entry.Receipt.{Receipt as receipt};
-ghost use Rattle.damon_journal.specs.Ahead.{receipts_of};
-ghost use Rattle.damon_journal.specs.Folding.{AreNext, FoldStands};
-ghost use Rattle.damon_journal.specs.Lawful.{all_of};
+ghost use Rattle.page_words.specs.declared.view.Entry.{Entry as step};
+ghost use Rattle.damon_journal.specs.Ahead.{named_by};
 ghost use Rattle.damon_journal.specs.LinesLeft.{FaultIs, IsShort, said_left};
 ghost use Rattle.damon_journal.specs.Place.{InReceipts};
 ghost use Rattle.damon_journal.specs.Replay.{JournalValue};
-ghost use Rattle.damon_journal.specs.SeenPart.{AreSeen, accepted, after_all_receipts, seen_left};
+ghost use Rattle.damon_journal.specs.SeenPart.{AreAllSeen, AreSeen, ReceiptsStand, accepted, after_all_receipts, seen_left};
 ghost use Rattle.damon_journal.specs.Steps.{steps};
 
-use crate::fold::Fold;
+use crate::ahead::Ahead;
 use crate::journal_lines::JournalLines;
 use crate::lawful::VerifyFault;
 use script_lines::same_word;
@@ -21,32 +20,35 @@ use std::alloc::{AllocError, Global};
 // Takes the lines of the receipts, which were read ahead, and `settled`.
 pub(crate) fn take_receipts(
     alloc: Global,
-    fold: &Fold,
+    ahead: Ahead,
+    unreceived: u64,
     lines: &mut JournalLines,
 ) -> Result<(), VerifyFault>
-    requires short { IsShort lines.old }
-    requires next { AreNext fold.now lines.old }
-    ensures settled { OnOk result ((v : LiveValue) (j : JournalValue) → FoldStands v j fold.now
+    requires { IsShort lines.old }
+    ensures settled { OnOk result ((v : LiveValue) (j : JournalValue)
+        → ReceiptsStand v j ahead unreceived lines.old
         → (all : List (List receipt)) × (said_left (InReceipts v j []) lines.old
         ≡ said_left (after_all_receipts v j all) lines.new)) }
-    ensures fault { (v : LiveValue) (j : JournalValue) → FoldStands v j fold.now
+    ensures fault { (v : LiveValue) (j : JournalValue)
+        → ReceiptsStand v j ahead unreceived lines.old
         → FaultIs result (said_left (InReceipts v j []) lines.old) }
     ensures short { IsShort lines.new }
 {
-    let count = count_accepted(alloc, fold)?;
+    let count = count_accepted(alloc, ahead)?;
     skip_seen(lines, count)?;
-    take_settled(fold, lines)
+    take_settled(unreceived, lines)
 }
 
 // How many of the receipts that were read ahead come before the first that may not be seen.
 #[tactic(auto, using(crate::proofs::AllSeen::count_before, crate::proofs::AllSeen::count_all))]
-fn count_accepted(alloc: Global, fold: &Fold) -> Result<usize, AllocError>
-    ensures { (v : LiveValue) (j : JournalValue) → FoldStands v j fold.now → IfOk result
-        (λ count. count ≡ accepted (steps v j) [] fold.now.ahead.receipts) }
+fn count_accepted(alloc: Global, ahead: Ahead) -> Result<usize, AllocError>
+    ensures { (done : List step) → ahead.named ≡ named_by done ahead.receipts → IfOk result
+        (λ count. count ≡ accepted done [] ahead.receipts) }
 {
-    match fold.ahead.refused(alloc)? {
+    let all = ahead.len();
+    match ahead.refused(alloc)? {
         Some(number) => Ok(number),
-        None => Ok(fold.ahead.len()),
+        None => Ok(all),
     }
 }
 
@@ -69,33 +71,30 @@ fn skip_seen(lines: &mut JournalLines, count: usize) -> Result<(), VerifyFault>
     Ok(())
 }
 
-// Takes the line `settled`, before which no receipt may be seen that was not taken.
-fn take_settled(fold: &Fold, lines: &mut JournalLines) -> Result<(), VerifyFault>
+// Takes the line `settled`, before which no receipt may be seen that was not taken, and no hit may be
+// without a receipt.
+fn take_settled(unreceived: u64, lines: &mut JournalLines) -> Result<(), VerifyFault>
     requires { IsShort lines.old }
     ensures settled { OnOk result ((v : LiveValue) (j : JournalValue) (all : List (List receipt))
-        → FoldStands v j fold.now → accepted (steps v j) all (seen_left v lines.old) ≡ 0
-        → all_of all ++ receipts_of (seen_left v lines.old) ≡ receipts_of fold.now.ahead.receipts
+        → AreAllSeen v j all unreceived lines.old
         → said_left (InReceipts v j all) lines.old
         ≡ said_left (after_all_receipts v j all) lines.new) }
     ensures fault { (v : LiveValue) (j : JournalValue) (all : List (List receipt))
-        → FoldStands v j fold.now → accepted (steps v j) all (seen_left v lines.old) ≡ 0
-        → all_of all ++ receipts_of (seen_left v lines.old) ≡ receipts_of fold.now.ahead.receipts
+        → AreAllSeen v j all unreceived lines.old
         → FaultIs result (said_left (InReceipts v j all) lines.old) }
     ensures short { IsShort lines.new }
 {
     let line = lines.take_line()?;
-    if fold.is_settled(line) {
+    if is_settled(line, unreceived) {
         Ok(())
     } else {
         Err(lines.refuse())
     }
 }
 
-impl Fold {
-    // Whether a line is `settled`, and no hit is without a receipt.
-    fn is_settled(&self, line: &[u8]) -> bool
-        ensures { result ≡ (same_word line.now (codes "settled") && (self.now.unreceived == 0)) }
-    {
-        same_word(line, b"settled") && self.unreceived == 0
-    }
+// Whether a line is `settled`, and no hit is without a receipt.
+fn is_settled(line: &[u8], unreceived: u64) -> bool
+    ensures { result ≡ (same_word line.now (codes "settled") && (unreceived == 0)) }
+{
+    same_word(line, b"settled") && unreceived == 0
 }

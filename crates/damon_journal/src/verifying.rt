@@ -50,9 +50,16 @@ fn read_text(alloc: Global, bytes: &[u8]) -> Result<Lawful, VerifyFault>
     let JournalHead { seed, setup } = head;
     let mut fold = Fold::new(alloc, seed, &setup, &lines)?;
     take_entries(alloc, &mut fold, &mut lines)?;
-    take_receipts(alloc, &fold, &mut lines)?;
-    compare_last(alloc, fold.replay.monitor(), lines)?;
-    Ok(fold.counts)
+    let Fold {
+        replay,
+        counts,
+        ahead,
+        unreceived,
+        ..
+    } = fold;
+    take_receipts(alloc, ahead, unreceived, &mut lines)?;
+    compare_last(alloc, replay.monitor(), lines)?;
+    Ok(counts)
 }
 
 // Carries out all entries that are left, and takes the line `receipts` after them.

@@ -7,6 +7,7 @@ use Rattle.damon_journal.specs.LinesLeft.{IsFault}
 use Rattle.damon_journal.specs.Place.{JournalRead, uncalled}
 use Rattle.damon_journal.specs.Replay.{replay}
 use Rattle.damon_journal.specs.Room.{nothing_said}
+use Rattle.damon_journal.proofs.AllSeen.{receipts_stand}
 use Rattle.damon_journal.proofs.verifying.read_text.Goals as goal
 
 pub returns-in_err-take_entries-clause-fault : goal.returns-in_err-take_entries-clause-fault
@@ -22,12 +23,12 @@ returns-in_err-take_receipts-clause-fault c =
     let fault = c.in_err-take_receipts.field-0.0 in
     let p = err_from_is_err_and c.from_residual-in_err-take_receipts.result c.from_residual-in_err-take_receipts.ensures.1 in
     rw (p.1, p.2)
-    (subst (λ (r : Result JournalRead ℕ). IsFault fault r) (sym (c.in_ok-head.ensures.head ∙ read.goes_on)) (c.in_err-take_receipts.ensures.fault read.live read.journal read.stands))
+    (subst (λ (r : Result JournalRead ℕ). IsFault fault r) (sym (c.in_ok-head.ensures.head ∙ read.goes_on)) (c.in_err-take_receipts.ensures.fault read.live read.journal (receipts_stand read.stands read.next)))
 
 pub returns-in_err-compare_last-clause-fault : goal.returns-in_err-compare_last-clause-fault
 returns-in_err-compare_last-clause-fault c =
     let read = c.in_ok-take_entries.ensures.entries (uncalled (head_said c.in_ok-head.head)) nothing_said c.in_ok-fold.ensures.begins in
-    let settled = c.in_ok-take_receipts.ensures.settled read.live read.journal read.stands in
+    let settled = c.in_ok-take_receipts.ensures.settled read.live read.journal (receipts_stand read.stands read.next) in
     let state = (replay read.live read.journal).state in
     let said : JournalRead = record { live = read.live; journal = read.journal; receipts = settled.0 } in
     let stands = subst (λ (m : MonitorView). Stands m state) (sym c.monitor.ensures) read.stands.replay.stands in
@@ -39,7 +40,7 @@ returns-in_err-compare_last-clause-fault c =
 pub returns-clause-counts : goal.returns-clause-counts
 returns-clause-counts c =
     let read = c.in_ok-take_entries.ensures.entries (uncalled (head_said c.in_ok-head.head)) nothing_said c.in_ok-fold.ensures.begins in
-    let settled = c.in_ok-take_receipts.ensures.settled read.live read.journal read.stands in
+    let settled = c.in_ok-take_receipts.ensures.settled read.live read.journal (receipts_stand read.stands read.next) in
     let state = (replay read.live read.journal).state in
     let said : JournalRead = record { live = read.live; journal = read.journal; receipts = settled.0 } in
     let stands = subst (λ (m : MonitorView). Stands m state) (sym c.monitor.ensures) read.stands.replay.stands in
