@@ -1,0 +1,7 @@
+pub mod Pages
+pub mod Places
+pub mod Borders
+pub mod Starts
+pub mod Adding
+pub mod Walking
+pub mod Whole

@@ -1,12 +1,12 @@
 // The heat of the columns of a target.
-ghost use Rattle.std.specs.Prelude.{◌≡◌, ℕ, ◌+◌, ◌*◌, ◌≤◌, ◌<◌, ◌^◌, List, length, replicate, slice_index, sum, drop};
+ghost use Rattle.std.specs.Prelude.{◌≡◌, ℕ, ◌+◌, ◌*◌, ◌≤◌, ◌<◌, ◌^◌, List, length, replicate, slice_index, sum, take, drop};
 ghost use Rattle.std.specs.List.{AllByRecursion};
 ghost use Rattle.damon_types.specs.declared.attrs.TheConstants.{MAX_AGGR};
-ghost use Rattle.damon_types.specs.Space.{IsSpace, offset};
+ghost use Rattle.damon_types.specs.Space.{offset};
 ghost use Rattle.region_list.specs.Find.{AscendFrom};
-ghost use Rattle.region_list.specs.Rows.{row_at};
 ghost use Rattle.heat_report.specs.InSpace.{LieIn};
-ghost use Rattle.heat_report.specs.Heat.{border, target_heats, target_pages};
+ghost use Rattle.heat_report.specs.Freq.{row_pages};
+ghost use Rattle.heat_report.specs.Heat.{border, target_heats};
 ghost use Rattle.heat_report.specs.Overlap.{added, pages_in};
 
 use crate::columns::Columns;
@@ -28,6 +28,8 @@ pub fn heat_row<const N: usize>(rows: &RowBuf, space: &Space, target: u32, out: 
     requires counts { AllByRecursion (λ r. r.count ≤ MAX_AGGR) rows.now.rows }
     ensures { out.new ≡ target_heats rows.now.rows space.now target N }
 {
+    // For its clause alone: the targets are within their limits.
+    let _count = space.targets();
     let columns = Columns {
         first: first_page(space, target),
         pages: space.target(target).pages,
@@ -55,9 +57,8 @@ fn first_page(space: &Space, target: u32) -> u32
 fn rows_before(rows: &RowBuf, page: u32) -> u32
     requires { AscendFrom 0 rows.now.rows }
     ensures within { result ≤ length rows.now.rows }
-    ensures before { (i : ℕ) → i < result → (row_at rows.now.rows i).start < page }
-    ensures after { (i : ℕ) → result ≤ i → i < length rows.now.rows
-        → page ≤ (row_at rows.now.rows i).start }
+    ensures before { AllByRecursion (λ r. r.start < page) (take result rows.now.rows) }
+    ensures after { AscendFrom page (drop result rows.now.rows) }
 {
     // For its clause alone: the number of rows is a u32.
     let _len = rows.len();
@@ -67,6 +68,7 @@ fn rows_before(rows: &RowBuf, page: u32) -> u32
 // Adds the heat of the rows from index `from` on, which begin at or after the first page.
 fn add_rows<const N: usize>(rows: &RowBuf, from: u32, columns: &Columns, out: &mut Histogram<N>)
     requires some { 1 ≤ N }
+    requires few { N ≤ 4096 }
     requires number { columns.now.number ≡ N }
     requires pages { columns.now.first + columns.now.pages < 2 ^ 32 }
     requires within { from ≤ length rows.now.rows }
@@ -74,7 +76,7 @@ fn add_rows<const N: usize>(rows: &RowBuf, from: u32, columns: &Columns, out: &m
     requires rows { AllByRecursion (λ r. r.start + r.pages < 2 ^ 32) (drop from rows.now.rows) }
     requires counts { AllByRecursion (λ r. r.count ≤ MAX_AGGR) (drop from rows.now.rows) }
     requires len { length out.old ≡ N }
-    requires zeros { sum out.old ≡ 0 }
+    requires fits { sum out.old + MAX_AGGR * row_pages (drop from rows.now.rows) < 2 ^ 64 }
     ensures len { length out.new ≡ N }
     ensures heat { (j : ℕ) → j < N → slice_index out.new j ≡ slice_index out.old j
         + added columns.now.first columns.now.pages N j (drop from rows.now.rows) }
@@ -92,12 +94,14 @@ fn add_rows<const N: usize>(rows: &RowBuf, from: u32, columns: &Columns, out: &m
     }
 }
 
-// Adds the heat of a row that begins in a column or after it, and returns the column in which it ends.
-fn add_row<const N: usize>(row: &Row, column: u32, columns: &Columns, out: &mut Histogram<N>) -> u32
+// Adds the heat of a row, which begins in the column `from` or after it, and returns the column in which
+// it ends.
+fn add_row<const N: usize>(row: &Row, from: u32, columns: &Columns, out: &mut Histogram<N>) -> u32
+    requires few { N ≤ 4096 }
     requires number { columns.now.number ≡ N }
     requires pages { columns.now.first + columns.now.pages < 2 ^ 32 }
-    requires column { column < N }
-    requires after { border columns.now.first columns.now.pages N column ≤ row.now.start }
+    requires from { from < N }
+    requires after { border columns.now.first columns.now.pages N from ≤ row.now.start }
     requires row { row.now.start + row.now.pages < 2 ^ 32 }
     requires len { length out.old ≡ N }
     requires fits { sum out.old + row.now.count * row.now.pages < 2 ^ 64 }
@@ -110,7 +114,7 @@ fn add_row<const N: usize>(row: &Row, column: u32, columns: &Columns, out: &mut 
         + row.now.count * pages_in columns.now.first columns.now.pages N j row.now }
 {
     let end = row.start + row.pages;
-    let mut column = column;
+    let mut column = from;
     'columns: loop {
         let pages = columns.pages_in(column, row);
         out.add(column, u64::from(row.count) * u64::from(pages));
