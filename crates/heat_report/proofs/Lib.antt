@@ -5,3 +5,4 @@ pub mod Starts
 pub mod Adding
 pub mod Walking
 pub mod Whole
+pub mod Tenths
