@@ -6,3 +6,6 @@ pub mod Adding
 pub mod Walking
 pub mod Whole
 pub mod Tenths
+pub mod Ends
+pub mod Medians
+pub mod Tiled
