@@ -70,9 +70,10 @@ greatest_is n (o ∷ os) = by (greatest_is o os) (cases_lt n (greatest (o ∷ os
 
 -- what passes a test is in the list and passes
 pub filter_contains : (p : ℕ → Bool) (xs : List ℕ) (x : ℕ) → Contains (filter p xs) x → Contains xs x × (p x ≡ true)
-filter_contains p xs x inside =
-    (All-contains (Contains xs) (filter p xs) x (All-filter p (Contains xs) xs (All-contains_itself xs)) inside,
-    All-contains (λ y. p y ≡ true) (filter p xs) x (filter_passes p xs) inside)
+filter_contains p xs x inside = (
+  All-contains (Contains xs) (filter p xs) x (All-filter p (Contains xs) xs (All-contains_itself xs)) inside,
+  All-contains (λ y. p y ≡ true) (filter p xs) x (filter_passes p xs) inside,
+)
 
 -- what is in the list and passes is among those that pass
 pub contains_filter : (p : ℕ → Bool) (xs : List ℕ) (x : ℕ) → Contains xs x → p x ≡ true → Contains (filter p xs) x

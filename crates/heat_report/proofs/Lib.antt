@@ -9,3 +9,4 @@ pub mod Tenths
 pub mod Ends
 pub mod Medians
 pub mod Tiled
+pub mod Texts

@@ -63,11 +63,11 @@ tally_next aggr rows count k pages r ns new left rest left_is fits few k_is page
       len = length-set ns k (slice_index ns k + pages) ∙ tally.len;
       fits = omega (arith, tally.fits, sum_added ns k pages inside, fits, pages_is);
       each = λ i below.
-      let more : row_pages (filter (λ s. tenths aggr s == i) left) ≡ (if tenths aggr r == i then r.pages else 0) + row_pages (filter (λ s. tenths aggr s == i) rest) =
-      ap (λ rs. row_pages (filter (λ s. tenths aggr s == i) rs)) left_is ∙ pages_more (λ s. tenths aggr s == i) r rest in
-      let same : (if k == i then pages else 0) ≡ (if tenths aggr r == i then r.pages else 0) =
-      ap (λ j. if j == i then pages else 0) k_is ∙ ap (λ n. if tenths aggr r == i then n else 0) pages_is in
-      omega (arith, tally.each i below, added_there ns k pages i inside, more, same);
+          let more : row_pages (filter (λ s. tenths aggr s == i) left) ≡ (if tenths aggr r == i then r.pages else 0) + row_pages (filter (λ s. tenths aggr s == i) rest) =
+          ap (λ rs. row_pages (filter (λ s. tenths aggr s == i) rs)) left_is ∙ pages_more (λ s. tenths aggr s == i) r rest in
+          let same : (if k == i then pages else 0) ≡ (if tenths aggr r == i then r.pages else 0) =
+          ap (λ j. if j == i then pages else 0) k_is ∙ ap (λ n. if tenths aggr r == i then n else 0) pages_is in
+          omega (arith, tally.each i below, added_there ns k pages i inside, more, same);
     })
 
 -- no row is left

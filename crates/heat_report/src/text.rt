@@ -182,6 +182,8 @@ fn append_numbers<const N: usize>(
         ≡ out.old.items ++ (numbers histogram.now ++ codes "\n")) }
     ensures kept { KeepsFront out.old.items out.new.items }
 {
+    // For its clause alone: the histogram has N numbers.
+    let _none = histogram.from(N as u32);
     for index in 0..N as u32 {
         append_field(b" ", histogram.sum(index), out)?;
     }

@@ -9,18 +9,37 @@ add_rows-requires g c =
     let rows = c.args.rows.now.rows in
     let from = c.rows_before-from.result in
     let pages = pages_read ts c.args.target c.target.result c.target.ensures in
-    let end = target_ends ts c.args.target c.targets-count.ensures.sound c.requires.target in
-    (omega (arith, c.requires.few),
-    (c.requires.some,
-    (c.requires.few,
-    (refl,
-    (omega (arith, c.first_page.ensures, pages, end),
-    (c.rows_before-from.ensures.within,
-    (c.rows_before-from.ensures.after,
-    (all_left (λ r. r.start + r.pages < 2 ^ 32) rows from (rows_end ts rows c.targets-count.ensures.sound c.requires.rows.each),
-    (all_left _ rows from c.requires.counts,
-    (ap length c.requires.zeros ∙ length-replicate g.row.N 0,
-    room_for_all ts rows g.row.N from c.args.out.now c.targets-count.ensures.sound c.requires.rows c.requires.zeros))))))))))
+    let end = target_ends ts c.args.target c.targets-count.ensures.sound c.requires.target in (
+      omega (arith, c.requires.few),
+      (
+        c.requires.some,
+        (
+          c.requires.few,
+          (
+            refl,
+            (
+              omega (arith, c.first_page.ensures, pages, end),
+              (
+                c.rows_before-from.ensures.within,
+                (
+                  c.rows_before-from.ensures.after,
+                  (
+                    all_left (λ r. r.start + r.pages < 2 ^ 32) rows from (rows_end ts rows c.targets-count.ensures.sound c.requires.rows.each),
+                    (
+                      all_left _ rows from c.requires.counts,
+                      (
+                        ap length c.requires.zeros ∙ length-replicate g.row.N 0,
+                        room_for_all ts rows g.row.N from c.args.out.now c.targets-count.ensures.sound c.requires.rows c.requires.zeros,
+                      ),
+                    ),
+                  ),
+                ),
+              ),
+            ),
+          ),
+        ),
+      ),
+    )
 
 pub returns : goal.returns
 returns g c =
