@@ -1,12 +1,12 @@
 -- What a row adds to the columns.
-use Rattle.std.proofs.Common.{◌≡◌, ◌≢◌, ◌⊎◌, inl, inr, ℕ, zero, suc, ◌+◌, ◌-◌, ◌*◌, ◌≤◌, ◌<◌, true, false, List, length, set, get_or, length-set, get_or-set_same, get_or-set_other, refl, sym, ap, ◌∙◌, subst, arith, mul-add, mul-le-mul_left}
+use Rattle.std.proofs.Common.{◌≡◌, ◌≢◌, ◌⊎◌, inl, inr, ℕ, ◌+◌, ◌-◌, ◌*◌, ◌≤◌, ◌<◌, true, false, List, length, length-set, get_or-set_same, get_or-set_other, refl, sym, ap, ◌∙◌, subst, arith, mul-add, mul-le-mul_left}
 use Rattle.std.specs.Prelude.{sum, max, nat_lt, slice_index, slice_set, if◌then◌else◌}
 use Rattle.std.proofs.lemmas.Bool.{cases_eq, cases_lt}
 use Rattle.std.proofs.lemmas.Bool.Decides.{nat_tests}
 use Rattle.std.proofs.lemmas.List.Sums.{sum_by-set}
 use Rattle.damon_types.specs.declared.row.Row.{Row}
 use Rattle.heat_report.specs.Heat.{border}
-use Rattle.heat_report.specs.Overlap.{overlap, pages_in}
+use Rattle.heat_report.specs.Overlap.{pages_in}
 use Rattle.heat_report.proofs.Borders.{borders_rise}
 
 -- a number that is added at an index

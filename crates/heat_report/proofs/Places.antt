@@ -1,6 +1,6 @@
 -- The first pages of targets, and where rows lie.
-use Rattle.std.proofs.Common.{◌≡◌, ◌⊎◌, inl, inr, ℕ, zero, suc, ◌+◌, ◌-◌, ◌*◌, ◌≤◌, ◌<◌, Bool, true, false, List, [], ◌∷◌, Some, None, length, take, drop, get_or, refl, sym, ap, ◌∙◌, subst, arith}
-use Rattle.std.specs.Prelude.{◌==◌, cond, filter, sum_by, slice_get, if◌then◌else◌}
+use Rattle.std.proofs.Common.{◌≡◌, ◌⊎◌, inl, inr, ℕ, zero, suc, ◌+◌, ◌*◌, ◌≤◌, ◌<◌, Bool, true, false, List, [], ◌∷◌, length, take, refl, ap, ◌∙◌, arith}
+use Rattle.std.specs.Prelude.{◌==◌, cond, filter, sum_by, if◌then◌else◌}
 use Rattle.std.specs.List.{AllByRecursion}
 use Rattle.std.proofs.lemmas.Bool.{cases_lt}
 use Rattle.std.proofs.lemmas.Bool.Decides.{nat_tests}
@@ -9,7 +9,7 @@ use Rattle.damon_types.specs.declared.row.Row.{Row}
 use Rattle.damon_types.specs.declared.space.Target.{Target}
 use Rattle.damon_types.specs.Space.{offset, pages_of}
 use Rattle.region_list.specs.Find.{AscendFrom}
-use Rattle.heat_report.specs.InSpace.{IsRowOf, LieIn}
+use Rattle.heat_report.specs.InSpace.{IsRowOf}
 use Rattle.heat_report.specs.Freq.{row_pages}
 use Rattle.heat_report.specs.Heat.{target_pages, target_total}
 use Rattle.heat_report.specs.Overlap.{overlap}

@@ -1,6 +1,6 @@
 -- Pages by tenths of the passes.
-use Rattle.std.proofs.Common.{◌≡◌, ◌≢◌, ◌⊎◌, inl, inr, ℕ, zero, suc, ◌+◌, ◌-◌, ◌*◌, ◌≤◌, ◌<◌, ◌^◌, Bool, true, false, List, [], ◌∷◌, length, drop, get_or, length-set, get_or-set_same, get_or-set_other, replicate, map, refl, sym, ap, ◌∙◌, subst, arith}
-use Rattle.std.specs.Prelude.{◌==◌, nat_le, cond, filter, min, sum, sum_by, slice_index, slice_set, if◌then◌else◌}
+use Rattle.std.proofs.Common.{◌≡◌, ◌≢◌, ◌⊎◌, inl, inr, ℕ, zero, suc, ◌+◌, ◌-◌, ◌*◌, ◌≤◌, ◌<◌, ◌^◌, Bool, true, false, List, [], ◌∷◌, length, drop, get_or, refl, ap, ◌∙◌, arith}
+use Rattle.std.specs.Prelude.{◌==◌, cond, filter, sum, sum_by, slice_index, if◌then◌else◌}
 use Rattle.std.specs.List.{range_with_len}
 use Rattle.std.proofs.lemmas.Bool.{cases_eq}
 use Rattle.std.proofs.lemmas.Bool.Decides.{nat_tests}
@@ -8,8 +8,7 @@ use Rattle.std.proofs.lemmas.List.{drop_all}
 use Rattle.std.proofs.lemmas.List.FromFn.{fill_by_all}
 use Rattle.std.proofs.lemmas.List.Sums.{sum-map, sum_by-cons}
 use Rattle.damon_types.specs.declared.row.Row.{Row}
-use Rattle.heat_report.specs.Freq.{freqs, row_pages, tenths, working_set}
-use Rattle.heat_report.proofs.Adding.{sum_added}
+use Rattle.heat_report.specs.Freq.{freqs, row_pages, tenths}
 use Rattle.heat_report.proofs.Pages.{sum_of_two}
 
 -- the pages of rows that pass a test, with one more row in front
@@ -25,50 +24,6 @@ pub record IsTally (aggr : ℕ) (rows : List Row) (count : ℕ) (ns : List ℕ) 
   pub len : length ns ≡ 11
   pub fits : sum ns ≤ count * (2 ^ 32 - 1)
   pub each : (i : ℕ) → i < 11 → slice_index ns i + row_pages (filter (λ r. tenths aggr r == i) left) ≡ row_pages (filter (λ r. tenths aggr r == i) rows)
-
-index_of_zeros : (n i : ℕ) → slice_index (replicate n 0) i ≡ 0
-index_of_zeros zero i = refl
-index_of_zeros (suc n) zero = refl
-index_of_zeros (suc n) (suc i) = index_of_zeros n i
-
-pub tally_begins : (aggr : ℕ) (rows : List Row) (ns : List ℕ) → ns ≡ replicate 11 0 → IsTally aggr rows 0 ns rows
-tally_begins aggr rows ns zeros = subst (λ xs. IsTally aggr rows 0 xs rows) (sym zeros) (record {
-  len = refl;
-  fits = omega arith;
-  each = λ i below. omega (arith, index_of_zeros 11 i);
-})
-
--- the pages that are added at an index
-added_there : (ns : List ℕ) (k pages i : ℕ) → k < length ns → slice_index (slice_set ns k (slice_index ns k + pages)) i ≡ slice_index ns i + (if k == i then pages else 0)
-added_there ns k pages i within = by (cases_eq i k)
-  where
-    by : (i ≡ k) ⊎ (i ≢ k) → slice_index (slice_set ns k (slice_index ns k + pages)) i ≡ slice_index ns i + (if k == i then pages else 0)
-    by (inl is) =
-        let test : (k == i) ≡ true = grind (arith, nat_tests) in
-        let there = get_or-set_same ns k (slice_index ns k + pages) 0 within in
-        rw test (subst (λ j. slice_index (slice_set ns k (slice_index ns k + pages)) j ≡ slice_index ns j + pages) (sym is) there)
-    by (inr other) =
-        let test : (k == i) ≡ false = grind (arith, nat_tests) in
-        let kept : slice_index (slice_set ns k (slice_index ns k + pages)) i ≡ slice_index ns i = rw get_or-set_other refl in
-        rw test (omega (arith, kept))
-
-pub tally_fits : (aggr : ℕ) (rows : List Row) (count pages : ℕ) (ns : List ℕ) (left : List Row) → count < 2 ^ 32 → pages < 2 ^ 32 → IsTally aggr rows count ns left → sum ns + pages < 2 ^ 64
-tally_fits aggr rows count pages ns left few fits tally = omega (arith, tally.fits)
-
--- one more row
-pub tally_next : (aggr : ℕ) (rows : List Row) (count k pages : ℕ) (r : Row) (ns new : List ℕ) (left rest : List Row) → left ≡ r ∷ rest → r.pages < 2 ^ 32 → k < 11 → k ≡ tenths aggr r → pages ≡ r.pages → new ≡ slice_set ns k (slice_index ns k + pages) → IsTally aggr rows count ns left → IsTally aggr rows (count + 1) new rest
-tally_next aggr rows count k pages r ns new left rest left_is fits few k_is pages_is new_is tally =
-    let inside : k < length ns = omega (arith, few, tally.len) in
-    subst (λ xs. IsTally aggr rows (count + 1) xs rest) (sym new_is) (record {
-      len = length-set ns k (slice_index ns k + pages) ∙ tally.len;
-      fits = omega (arith, tally.fits, sum_added ns k pages inside, fits, pages_is);
-      each = λ i below.
-          let more : row_pages (filter (λ s. tenths aggr s == i) left) ≡ (if tenths aggr r == i then r.pages else 0) + row_pages (filter (λ s. tenths aggr s == i) rest) =
-          ap (λ rs. row_pages (filter (λ s. tenths aggr s == i) rs)) left_is ∙ pages_more (λ s. tenths aggr s == i) r rest in
-          let same : (if k == i then pages else 0) ≡ (if tenths aggr r == i then r.pages else 0) =
-          ap (λ j. if j == i then pages else 0) k_is ∙ ap (λ n. if tenths aggr r == i then n else 0) pages_is in
-          omega (arith, tally.each i below, added_there ns k pages i inside, more, same);
-    })
 
 -- no row is left
 pub tally_done : (aggr : ℕ) (rows : List Row) (count : ℕ) (ns : List ℕ) (i : ℕ) → length rows ≤ i → IsTally aggr rows count ns (drop i rows) → ns ≡ freqs aggr rows

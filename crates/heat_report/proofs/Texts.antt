@@ -1,20 +1,15 @@
 -- Texts that are appended piece by piece.
-use Rattle.std.proofs.Common.{◌≡◌, ℕ, zero, suc, ◌+◌, ◌-◌, ◌≤◌, ◌<◌, List, [], ◌∷◌, ◌++◌, take, drop, length, codes, decimal, refl, sym, ap, ◌∙◌, subst, arith}
+use Rattle.std.proofs.Common.{◌≡◌, ℕ, suc, ◌+◌, ◌-◌, ◌≤◌, ◌<◌, List, ◌++◌, take, drop, length, codes, decimal, sym, ap, ◌∙◌, subst, arith}
 use Rattle.std.specs.Prelude.{Option, flat_map, IsPermutation}
 use Rattle.std.specs.List.{range_with_len}
-use Rattle.std.proofs.Math.Seq.{take-append_seam, take-length}
 use Rattle.std.proofs.lemmas.List.Sorted.{length_permutation}
-use Rattle.std.proofs.lemmas.List.{append-nil, append_assoc, drop_all, take-append-le, take-append-drop, length-append}
+use Rattle.std.proofs.lemmas.List.{append_assoc, take-append-le, take-append-drop, length-append}
 use Rattle.damon_types.specs.declared.row.Row.{Row}
 use Rattle.heat_report.specs.declared.sizes.Spread.{Spread}
 use Rattle.heat_report.specs.Kept.{KeepsFront}
 use Rattle.heat_report.specs.Freq.{freqs}
 use Rattle.heat_report.specs.Sizes.{spread_of}
 use Rattle.heat_report.specs.Text.{freq_line, last_line, numbers, spread_part}
-
--- a text keeps itself
-pub keeps_self : (a : List ℕ) → KeepsFront a a
-keeps_self a = record { front = take-length a }
 
 -- what a text begins with is kept where the text is
 pub keeps_through : (a b c : List ℕ) → KeepsFront a b → KeepsFront b c → KeepsFront a c
@@ -36,11 +31,6 @@ lines_step line old out new whole i n within is text =
     let rest = flat_map line (range_with_len (i + 1) (n - (i + 1))) in
     let next : flat_map line (range_with_len i (n - i)) ≡ line i ++ rest = ap (λ k. flat_map line (range_with_len i k)) len in
     ap (λ t. t ++ rest) is ∙ append_assoc out (line i) rest ∙ ap (λ t. out ++ t) (sym next) ∙ text
-
-pub lines_done : (line : ℕ → List ℕ) (old out whole : List ℕ) (i n : ℕ) → n ≤ i → out ++ flat_map line (range_with_len i (n - i)) ≡ old ++ whole → out ≡ old ++ whole
-lines_done line old out whole i n past text =
-    let none : n - i ≡ 0 = omega (arith, past) in
-    sym (append-nil out) ∙ ap (λ k. out ++ flat_map line (range_with_len i k)) (sym none) ∙ text
 
 -- the line of the frequencies, from its parts
 pub freq_joined : (tick aggr : ℕ) (rows : List Row) (old one ns : List ℕ) → one ≡ old ++ (codes "freq " ++ decimal tick) → ns ≡ freqs aggr rows → one ++ (numbers ns ++ codes "\n") ≡ old ++ freq_line tick aggr rows

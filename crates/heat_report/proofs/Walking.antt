@@ -1,5 +1,5 @@
 -- Adding row after row.
-use Rattle.std.proofs.Common.{◌≡◌, ℕ, ◌+◌, ◌*◌, ◌≤◌, ◌<◌, ◌^◌, List, [], ◌∷◌, length, refl, sym, ap, ◌∙◌, subst, arith, mul-le-mul_right}
+use Rattle.std.proofs.Common.{◌≡◌, ℕ, ◌+◌, ◌*◌, ◌≤◌, ◌<◌, ◌^◌, List, [], ◌∷◌, length, refl, sym, subst, arith, mul-le-mul_right}
 use Rattle.std.specs.Prelude.{sum, slice_index}
 use Rattle.std.specs.List.{AllByRecursion}
 use Rattle.std.proofs.lemmas.List.Sums.{sum_by-cons}
@@ -8,9 +8,9 @@ use Rattle.damon_types.specs.declared.row.Row.{Row}
 use Rattle.region_list.specs.Find.{AscendFrom}
 use Rattle.heat_report.specs.Freq.{row_pages}
 use Rattle.heat_report.specs.Heat.{border}
-use Rattle.heat_report.specs.Overlap.{added, overlap, pages_in}
+use Rattle.heat_report.specs.Overlap.{added, pages_in}
 use Rattle.heat_report.proofs.Adding.{no_heat}
-use Rattle.heat_report.proofs.Borders.{border_first, border_last, borders_rise}
+use Rattle.heat_report.proofs.Borders.{border_last, borders_rise}
 
 -- rows that ascend from a page ascend from each page before it
 pub ascend_weaker : (p q : ℕ) (rows : List Row) → q ≤ p → AscendFrom p rows → AscendFrom q rows
@@ -30,11 +30,6 @@ pub record IsWalk (first pages n : ℕ) (old : List ℕ) (all : List Row) (colum
 -- the room for the next row
 next_fits : (r : Row) (rows : List Row) → r.count ≤ MAX_AGGR → r.count * r.pages + MAX_AGGR * row_pages rows ≤ MAX_AGGR * row_pages (r ∷ rows)
 next_fits r rows few = omega (arith, sum_by-cons (λ (s : Row). s.pages) r rows, mul-le-mul_right r.pages few)
-
-pub walk_fits : (first pages n : ℕ) (old : List ℕ) (all : List Row) (column : ℕ) (ns : List ℕ) (r : Row) (rest left : List Row) → left ≡ r ∷ rest → IsWalk first pages n old all column ns left → sum ns + r.count * r.pages < 2 ^ 64
-walk_fits first pages n old all column ns r rest left is walk =
-    let here : IsWalk first pages n old all column ns (r ∷ rest) = subst (λ rs. IsWalk first pages n old all column ns rs) is walk in
-    omega (arith, here.fits, next_fits r rest here.counts.0)
 
 -- one more row
 pub walk_next : (first pages n : ℕ) (old : List ℕ) (all : List Row) (column next : ℕ) (ns new : List ℕ) (r : Row) (rest left : List Row) → left ≡ r ∷ rest → next < n → border first pages n next ≤ r.start + r.pages → length new ≡ n → sum new ≤ sum ns + r.count * r.pages → ((j : ℕ) → j < n → slice_index new j ≡ slice_index ns j + r.count * pages_in first pages n j r) → IsWalk first pages n old all column ns left → IsWalk first pages n old all next new rest
@@ -67,15 +62,3 @@ pub behind_all : (end column : ℕ) (r : Row) (rest left : List Row) → left �
 behind_all end column r rest left is past ascend =
     let here : AscendFrom column (r ∷ rest) = subst (AscendFrom column) is ascend in
     subst (AscendFrom end) (sym is) (past, here.1)
-
--- no row is added at the beginning
-pub walk_begins : (first pages n : ℕ) (old : List ℕ) (all : List Row) → 1 ≤ n → AscendFrom first all → AllByRecursion (λ r. r.start + r.pages < 2 ^ 32) all → AllByRecursion (λ r. r.count ≤ MAX_AGGR) all → length old ≡ n → sum old + MAX_AGGR * row_pages all < 2 ^ 64 → IsWalk first pages n old all 0 old all
-walk_begins first pages n old all some ascend rows counts len fits = record {
-  within = some;
-  ascend = subst (λ p. AscendFrom p all) (sym (border_first first pages n some)) ascend;
-  rows = rows;
-  counts = counts;
-  len = len;
-  fits = fits;
-  heat = λ j below. refl;
-}

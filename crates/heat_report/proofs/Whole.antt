@@ -1,6 +1,6 @@
 -- The heat of a target is what the rows from its first one on add.
-use Rattle.std.proofs.Common.{◌≡◌, ℕ, zero, suc, ◌+◌, ◌*◌, ◌≤◌, ◌<◌, ◌^◌, List, [], ◌∷◌, Some, length, take, drop, get_or, replicate, refl, sym, ap, ◌∙◌, subst, arith}
-use Rattle.std.specs.Prelude.{sum, sum_by, slice_get, slice_index}
+use Rattle.std.proofs.Common.{◌≡◌, ℕ, zero, suc, ◌+◌, ◌*◌, ◌<◌, ◌^◌, List, [], ◌∷◌, Some, length, take, drop, get_or, replicate, refl, sym, ap, ◌∙◌, subst, arith}
+use Rattle.std.specs.Prelude.{sum, slice_get, slice_index}
 use Rattle.std.specs.List.{AllByRecursion}
 use Rattle.std.specs.Option.{option_map_or}
 use Rattle.std.proofs.lemmas.List.FromFn.{fill_by_all}
@@ -9,11 +9,11 @@ use Rattle.std.proofs.lemmas.List.Sums.{sum_by-cons, sum_by-take-drop}
 use Rattle.damon_types.specs.declared.attrs.TheConstants.{MAX_AGGR}
 use Rattle.damon_types.specs.declared.row.Row.{Row}
 use Rattle.damon_types.specs.declared.space.Target.{Target}
-use Rattle.damon_types.specs.Space.{IsSpace, offset, pages_of}
+use Rattle.damon_types.specs.Space.{IsSpace, offset}
 use Rattle.heat_report.specs.Freq.{row_pages}
 use Rattle.heat_report.specs.InSpace.{IsRowOf, LieIn}
 use Rattle.heat_report.specs.Heat.{border, heat_between, target_heats, target_pages}
-use Rattle.heat_report.specs.Overlap.{added, overlap, pages_in}
+use Rattle.heat_report.specs.Overlap.{added, pages_in}
 use Rattle.heat_report.proofs.Adding.{no_heat}
 use Rattle.heat_report.proofs.Pages.{heat_by_rows}
 use Rattle.heat_report.proofs.Places.{ends_before, offset_next, offset_within, rows_fit}

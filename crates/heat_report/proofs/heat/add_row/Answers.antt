@@ -1,7 +1,6 @@
-use Rattle.std.proofs.Common.{◌≡◌, ◌⊎◌, inl, inr, ℕ, ◌+◌, ◌*◌, ◌≤◌, ◌<◌, ap, ◌∙◌, arith}
+use Rattle.std.proofs.Common.{◌≡◌, ◌⊎◌, inl, inr, ◌+◌, ◌≤◌, arith}
 use Rattle.std.proofs.lemmas.Bool.Decides.{nat_tests}
 use Rattle.heat_report.specs.Heat.{border}
-use Rattle.heat_report.specs.Overlap.{pages_in}
 use Rattle.heat_report.proofs.Adding.{IsAdded, added_all, added_fits, added_next, added_none, added_sum, part_is}
 use Rattle.heat_report.proofs.heat.add_row.Goals as goal
 use Rattle.heat_report.proofs.heat.add_row.Goals.{Joined-then-column-columns, then-column-columns-via-then-column-columns, then-column-columns-via-else-column-columns+then-border-end}

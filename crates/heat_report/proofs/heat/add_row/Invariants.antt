@@ -1,4 +1,4 @@
-use Rattle.std.proofs.Common.{ℕ, ◌+◌, ◌-◌, ◌≤◌, ◌<◌}
+use Rattle.std.proofs.Common.{◌+◌, ◌-◌, ◌≤◌, ◌<◌}
 use Rattle.heat_report.specs.Heat.{border}
 use Rattle.heat_report.proofs.Adding.{IsAdded}
 use Rattle.heat_report.proofs.heat.add_row.Given as goal

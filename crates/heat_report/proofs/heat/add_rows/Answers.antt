@@ -1,4 +1,4 @@
-use Rattle.std.proofs.Common.{◌≡◌, ℕ, ◌+◌, ◌≤◌, ◌<◌, List, length, drop, arith}
+use Rattle.std.proofs.Common.{◌+◌, ◌≤◌, drop, arith}
 use Rattle.std.proofs.lemmas.Bool.Decides.{nat_tests}
 use Rattle.heat_report.specs.Heat.{border}
 use Rattle.heat_report.proofs.Walking.{behind_all, walk_done, walk_next}

@@ -1,4 +1,4 @@
-use Rattle.std.proofs.Common.{ℕ, ◌-◌, ◌≤◌, length, drop}
+use Rattle.std.proofs.Common.{◌-◌, ◌≤◌, length, drop}
 use Rattle.heat_report.proofs.Walking.{IsWalk}
 use Rattle.heat_report.proofs.heat.add_rows.Given as goal
 

@@ -1,4 +1,4 @@
-use Rattle.std.proofs.Common.{◌≡◌, ℕ, ◌+◌, ◌≤◌, ◌<◌, ◌^◌, length, ap, ◌∙◌, subst, sym, refl, arith}
+use Rattle.std.proofs.Common.{◌+◌, ◌<◌, ◌^◌, length, ap, ◌∙◌, refl, arith}
 use Rattle.std.proofs.lemmas.List.{length-replicate}
 use Rattle.heat_report.proofs.Whole.{all_left, heats_are, pages_read, room_for_all, rows_end, target_ends}
 use Rattle.heat_report.proofs.heat.heat_row.Goals as goal

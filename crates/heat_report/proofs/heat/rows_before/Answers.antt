@@ -1,4 +1,4 @@
-use Rattle.std.proofs.Common.{◌≡◌, ◌≤◌, ◌<◌, true, false, length, ltb, ltb-true, ltb-false, subst, ap, rules, arith}
+use Rattle.std.proofs.Common.{◌≡◌, ◌≤◌, true, false, length, ltb, ltb-true, ltb-false, subst, ap, rules, arith}
 use Rattle.std.proofs.lemmas.List.{length-map}
 use Rattle.std.proofs.lemmas.List.Sorted.{IsPartitionPoint-from_clause}
 use Rattle.std.specs.List.Sorted.{IsPartitionPoint}

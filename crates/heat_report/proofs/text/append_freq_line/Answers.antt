@@ -1,6 +1,5 @@
-use Rattle.std.proofs.Common.{◌≡◌, ◌++◌, List, ℕ, codes, subst}
+use Rattle.std.proofs.Common.{◌≡◌, subst}
 use Rattle.std.specs.Prelude.{OnOk}
-use Rattle.heat_report.specs.Text.{freq_line, numbers}
 use Rattle.heat_report.proofs.Texts.{freq_joined}
 use Rattle.heat_report.proofs.text.append_freq_line.Goals as goal
 

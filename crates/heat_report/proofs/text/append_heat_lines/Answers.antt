@@ -1,4 +1,4 @@
-use Rattle.std.proofs.Common.{◌≡◌, length, arith}
+use Rattle.std.proofs.Common.{length, arith}
 use Rattle.std.proofs.lemmas.Bool.Decides.{nat_tests}
 use Rattle.heat_report.specs.Text.{heat_line, heat_lines}
 use Rattle.heat_report.proofs.Texts.{keeps_through, lines_step}
