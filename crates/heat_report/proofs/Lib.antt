@@ -10,3 +10,4 @@ pub mod Ends
 pub mod Medians
 pub mod Tiled
 pub mod Texts
+mod Examples

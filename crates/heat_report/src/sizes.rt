@@ -74,3 +74,6 @@ impl Sizes {
         })
     }
 }
+
+#[cfg(test)]
+mod tests;

@@ -222,3 +222,6 @@ fn whole_or_nothing(
     }
     written
 }
+
+#[cfg(test)]
+mod tests;
