@@ -1,0 +1,7 @@
+pub mod InSpace
+pub mod Heat
+pub mod Overlap
+pub mod Freq
+pub mod Sizes
+pub mod Kept
+pub mod Text

@@ -1,0 +1,227 @@
+// The text of reports.
+ghost use Rattle.std.specs.Prelude.{◌≡◌, ◌≤◌, ◌<◌, ◌++◌, length, OnOk, OnErr, IsPermutation, codes, take};
+ghost use Rattle.std.specs.List.{AllByRecursion};
+ghost use Rattle.std.specs.Fmt.{decimal};
+ghost use Rattle.damon_types.specs.declared.attrs.TheConstants.{MAX_AGGR};
+ghost use Rattle.heat_report.specs.InSpace.{LieIn};
+ghost use Rattle.heat_report.specs.Kept.{KeepsFront};
+ghost use Rattle.heat_report.specs.Sizes.{spread_of};
+ghost use Rattle.heat_report.specs.Text.{freq_line, heat_line, heat_lines, last_line, numbers, report_text, spread_part, wss_line};
+
+use crate::{Sizes, Spread, freq, heat_row, working_set};
+use damon_types::Space;
+use line_text::write_number;
+use priority::Histogram;
+use region_list::RowBuf;
+use std::alloc::AllocError;
+
+/// Appends the tables of a report at a tick: for each target in order `heat TICK TARGET` and the heat of
+/// its `N` columns, then `freq TICK` and 11 numbers of pages, and then `wss TICK PAGES`. `N` is from 1 to
+/// 4,096; the rows lie in the space and are disjoint, their counts are at most 1,000, and an aggregation
+/// has `aggr` passes, at least 1. Takes memory; on an error `out` is unchanged.
+pub fn write_report<const N: usize>(
+    tick: u64,
+    rows: &RowBuf,
+    space: &Space,
+    aggr: u32,
+    out: &mut Vec<u8>,
+) -> Result<(), AllocError>
+    requires some { 1 ≤ N }
+    requires few { N ≤ 4096 }
+    requires aggr { 1 ≤ aggr }
+    requires rows { LieIn space.now rows.now.rows }
+    requires counts { AllByRecursion (λ r. r.count ≤ MAX_AGGR) rows.now.rows }
+    ensures ok { OnOk result (out.new.items
+        ≡ out.old.items ++ report_text N tick rows.now.rows space.now aggr) }
+    ensures err { OnErr result (out.new.items ≡ out.old.items) }
+{
+    let before = out.len();
+    let written = append_report::<N>(tick, rows, space, aggr, out);
+    whole_or_nothing(out, before, written)
+}
+
+/// Appends the last line: `all reports=N` and the spread of the working sets of all reports,
+/// `least=P median=P greatest=P`, where there is a report. The sizes are put into another order. Takes
+/// memory; on an error `out` is unchanged.
+pub fn write_last(sizes: &mut Sizes, out: &mut Vec<u8>) -> Result<(), AllocError>
+    ensures ok { OnOk result (out.new.items ≡ out.old.items ++ last_line sizes.old) }
+    ensures err { OnErr result (out.new.items ≡ out.old.items) }
+    ensures same { IsPermutation sizes.old sizes.new }
+{
+    let before = out.len();
+    let written = append_last(sizes, out);
+    whole_or_nothing(out, before, written)
+}
+
+// Appends the tables of a report.
+fn append_report<const N: usize>(
+    tick: u64,
+    rows: &RowBuf,
+    space: &Space,
+    aggr: u32,
+    out: &mut Vec<u8>,
+) -> Result<(), AllocError>
+    requires some { 1 ≤ N }
+    requires few { N ≤ 4096 }
+    requires aggr { 1 ≤ aggr }
+    requires rows { LieIn space.now rows.now.rows }
+    requires counts { AllByRecursion (λ r. r.count ≤ MAX_AGGR) rows.now.rows }
+    ensures ok { OnOk result (out.new.items
+        ≡ out.old.items ++ report_text N tick rows.now.rows space.now aggr) }
+    ensures kept { KeepsFront out.old.items out.new.items }
+{
+    append_heat_lines::<N>(tick, rows, space, out)?;
+    append_freq_line(tick, rows, aggr, out)?;
+    append_wss_line(tick, rows, out)
+}
+
+// Appends the heat lines of all targets.
+fn append_heat_lines<const N: usize>(
+    tick: u64,
+    rows: &RowBuf,
+    space: &Space,
+    out: &mut Vec<u8>,
+) -> Result<(), AllocError>
+    requires some { 1 ≤ N }
+    requires few { N ≤ 4096 }
+    requires rows { LieIn space.now rows.now.rows }
+    requires counts { AllByRecursion (λ r. r.count ≤ MAX_AGGR) rows.now.rows }
+    ensures ok { OnOk result (out.new.items
+        ≡ out.old.items ++ heat_lines N tick rows.now.rows space.now) }
+    ensures kept { KeepsFront out.old.items out.new.items }
+{
+    for target in 0..space.targets() {
+        append_heat_line::<N>(tick, rows, space, target, out)?;
+    }
+    Ok(())
+}
+
+// Appends the heat line of a target.
+fn append_heat_line<const N: usize>(
+    tick: u64,
+    rows: &RowBuf,
+    space: &Space,
+    target: u32,
+    out: &mut Vec<u8>,
+) -> Result<(), AllocError>
+    requires some { 1 ≤ N }
+    requires few { N ≤ 4096 }
+    requires target { target < length space.now }
+    requires rows { LieIn space.now rows.now.rows }
+    requires counts { AllByRecursion (λ r. r.count ≤ MAX_AGGR) rows.now.rows }
+    ensures ok { OnOk result (out.new.items
+        ≡ out.old.items ++ heat_line N tick rows.now.rows space.now target) }
+    ensures kept { KeepsFront out.old.items out.new.items }
+{
+    let mut heat = Histogram::<N>::new();
+    heat_row(rows, space, target, &mut heat);
+    append_field(b"heat ", tick, out)?;
+    append_field(b" ", u64::from(target), out)?;
+    append_numbers(&heat, out)
+}
+
+// Appends the line of the frequencies.
+fn append_freq_line(
+    tick: u64,
+    rows: &RowBuf,
+    aggr: u32,
+    out: &mut Vec<u8>,
+) -> Result<(), AllocError>
+    requires { 1 ≤ aggr }
+    ensures ok { OnOk result (out.new.items ≡ out.old.items ++ freq_line tick aggr rows.now.rows) }
+    ensures kept { KeepsFront out.old.items out.new.items }
+{
+    let mut tenths = Histogram::<11>::new();
+    freq(rows, aggr, &mut tenths);
+    append_field(b"freq ", tick, out)?;
+    append_numbers(&tenths, out)
+}
+
+// Appends the line of the working set.
+fn append_wss_line(tick: u64, rows: &RowBuf, out: &mut Vec<u8>) -> Result<(), AllocError>
+    ensures ok { OnOk result (out.new.items ≡ out.old.items ++ wss_line tick rows.now.rows) }
+    ensures kept { KeepsFront out.old.items out.new.items }
+{
+    append_field(b"wss ", tick, out)?;
+    append_field(b" ", working_set(rows), out)?;
+    end_line(out)
+}
+
+// Appends the last line.
+fn append_last(sizes: &mut Sizes, out: &mut Vec<u8>) -> Result<(), AllocError>
+    ensures ok { OnOk result (out.new.items ≡ out.old.items ++ last_line sizes.old) }
+    ensures kept { KeepsFront out.old.items out.new.items }
+    ensures same { IsPermutation sizes.old sizes.new }
+{
+    let spread = sizes.spread();
+    append_field(b"all reports=", sizes.len() as u64, out)?;
+    append_spread(spread, out)?;
+    end_line(out)
+}
+
+// Appends a spread, where there is one.
+fn append_spread(spread: Option<Spread>, out: &mut Vec<u8>) -> Result<(), AllocError>
+    ensures ok { OnOk result (out.new.items ≡ out.old.items ++ spread_part spread) }
+    ensures kept { KeepsFront out.old.items out.new.items }
+{
+    let Some(spread) = spread else {
+        return Ok(());
+    };
+    append_field(b" least=", spread.least, out)?;
+    append_field(b" median=", spread.median, out)?;
+    append_field(b" greatest=", spread.greatest, out)
+}
+
+// Appends the numbers of a histogram, each after a space, and the line's end.
+fn append_numbers<const N: usize>(
+    histogram: &Histogram<N>,
+    out: &mut Vec<u8>,
+) -> Result<(), AllocError>
+    requires { N ≤ 4096 }
+    ensures ok { OnOk result (out.new.items
+        ≡ out.old.items ++ (numbers histogram.now ++ codes "\n")) }
+    ensures kept { KeepsFront out.old.items out.new.items }
+{
+    // For its clause alone: the histogram has N numbers.
+    let _none = histogram.from(N as u32);
+    for index in 0..N as u32 {
+        append_field(b" ", histogram.sum(index), out)?;
+    }
+    end_line(out)
+}
+
+// Appends a field's name and a number in decimal.
+fn append_field(name: &[u8], value: u64, out: &mut Vec<u8>) -> Result<(), AllocError>
+    ensures ok { OnOk result (out.new.items ≡ out.old.items ++ (name.now ++ decimal value)) }
+    ensures kept { KeepsFront out.old.items out.new.items }
+{
+    out.extend_from_slice(name)?;
+    write_number(out, value)
+}
+
+// Ends a line.
+fn end_line(out: &mut Vec<u8>) -> Result<(), AllocError>
+    ensures ok { OnOk result (out.new.items ≡ out.old.items ++ codes "\n") }
+    ensures kept { KeepsFront out.old.items out.new.items }
+{
+    out.extend_from_slice(b"\n")
+}
+
+// Removes what was appended after the first `before` bytes if writing failed.
+fn whole_or_nothing(
+    out: &mut Vec<u8>,
+    before: usize,
+    written: Result<(), AllocError>,
+) -> Result<(), AllocError>
+    ensures same { result ≡ written }
+    ensures ok { OnOk result (out.new.items ≡ out.old.items) }
+    ensures err { OnErr result (out.new.items ≡ take before out.old.items) }
+{
+    if written.is_err() {
+        out.truncate(before);
+    }
+    written
+}
+
+#[cfg(test)]
+mod tests;
