@@ -1,0 +1,4 @@
+pub mod Counting
+pub mod Digits
+pub mod Masking
+pub mod Moving

@@ -1,0 +1,53 @@
+-- Which pages are out, by what has happened to a monitor and its pages.
+use Rattle.std.specs.Prelude.{ℕ, Bool, true, false, not, ◌&&◌, ◌||◌, ◌==◌, List, [], ◌∷◌, Option, Some, None}
+use Rattle.std.specs.List.{list_any}
+use Rattle.damon_types.specs.declared.scheme.Action.{Action}
+use Rattle.damon_types.specs.declared.scheme.Action.TheVariants.{Pageout, Willneed}
+use Rattle.damon_types.specs.declared.scheme.Scheme.{Scheme}
+use Rattle.scheme_engine.specs.declared.applied.AppliedRun.{AppliedRun}
+use Rattle.damon_core.specs.Note.{Note, touched, ran}
+use Rattle.damon_core.specs.Slots.{scheme_of}
+use Rattle.reclaim_module.specs.Pages.{in_run}
+
+-- whether a slot holds a scheme with the action `pageout`
+abbrev pub pages_out : Option Scheme → Bool
+pages_out None = false
+pages_out (Some scheme) = is_pageout scheme.action where
+  is_pageout : Action → Bool
+  is_pageout Pageout = true
+  is_pageout _ = false
+
+-- whether a slot holds a scheme with the action `willneed`
+abbrev pub prefetches : Option Scheme → Bool
+prefetches None = false
+prefetches (Some scheme) = is_willneed scheme.action where
+  is_willneed : Action → Bool
+  is_willneed Willneed = true
+  is_willneed _ = false
+
+-- whether a page is in one of the runs
+abbrev pub is_in : List AppliedRun → ℕ → Bool
+is_in runs page = list_any (λ r. in_run r.start r.pages page) runs
+
+-- whether a note, with those before it, is a run of a `pageout` scheme with the page in a run
+abbrev pub is_paged_out : List Note → Note → ℕ → Bool
+is_paged_out earlier (ran slot tick tried runs exceeds) page = pages_out (scheme_of earlier slot) && is_in runs page
+is_paged_out earlier _ page = false
+
+-- whether it is a run of a `willneed` scheme with the page in a run
+abbrev pub is_prefetched : List Note → Note → ℕ → Bool
+is_prefetched earlier (ran slot tick tried runs exceeds) page = prefetches (scheme_of earlier slot) && is_in runs page
+is_prefetched earlier _ page = false
+
+-- whether it is a touch of the page
+abbrev pub is_touch_of : Note → ℕ → Bool
+is_touch_of (touched p) page = p == page
+is_touch_of _ page = false
+
+-- Whether a page is out: a `pageout` scheme was run with the page in a run, and since then the page was not touched, and no
+-- `willneed` scheme was run with it in a run.
+abbrev pub is_out : List Note → ℕ → Bool
+is_out [] page = false
+is_out (note ∷ earlier) page =
+    is_paged_out earlier note page
+    || (is_out earlier page && not (is_touch_of note page || is_prefetched earlier note page))

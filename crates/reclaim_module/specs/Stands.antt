@@ -1,0 +1,37 @@
+-- For which notes a model of resident pages stands, and what the events of a monitor make of it.
+use Rattle.std.specs.Prelude.{◌≡◌, ℕ, ◌<◌, List, [], ◌∷◌, length}
+use Rattle.std.specs.List.{AllByRecursion}
+use Rattle.damon_types.specs.declared.scheme.Action.{Action}
+use Rattle.scheme_engine.specs.declared.applied.AppliedRun.{AppliedRun}
+use Rattle.damon_core.specs.Note.{Note, touched, ran}
+use Rattle.reclaim_module.specs.Calls.{after_action}
+use Rattle.reclaim_module.specs.Counts.{pageouts_of, prefetches_of, refaults_of}
+use Rattle.reclaim_module.specs.Out.{is_out}
+use Rattle.reclaim_module.specs.Pages.{ReclaimView, each_page}
+
+-- The pages that are out are those by the notes, and so are the numbers.
+pub record ReclaimStands (r : ReclaimView) (notes : List Note) : Type 0 where
+  pub out : r.out ≡ each_page (length r.out) (is_out notes)
+  pub pageouts : r.counts.pageouts ≡ pageouts_of (length r.out) notes
+  pub refaults : r.counts.refaults ≡ refaults_of notes
+  pub prefetches : r.counts.prefetches ≡ prefetches_of (length r.out) notes
+
+-- a note that moves no page: neither a touch nor a run of a scheme
+abbrev pub MovesNothing : Note → Type 0
+MovesNothing (touched page) = ⊥
+MovesNothing (ran slot tick tried runs exceeds) = ⊥
+MovesNothing _ = Unit {0}
+
+-- an action is applied to each of these runs, the first one first
+abbrev pub after_runs : Action → List AppliedRun → ReclaimView → ReclaimView
+after_runs action [] r = r
+after_runs action (run ∷ runs) r = after_runs action runs (after_action action run.start run.pages r)
+
+-- a touch is of a page of the space
+abbrev pub IsTouchWithin : ℕ → Note → Type 0
+IsTouchWithin pages (touched page) = page < pages
+IsTouchWithin pages _ = Unit {0}
+
+-- each touch is
+abbrev pub TouchesWithin : ℕ → List Note → Type 0
+TouchesWithin pages notes = AllByRecursion (IsTouchWithin pages) notes

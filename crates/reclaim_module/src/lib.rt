@@ -1,0 +1,14 @@
+//! A model of the pages of a space that are resident: schemes page them out, and touches and prefetches
+//! bring them back.
+#![tactic(auto)]
+
+/// What the calls make of a monitor's notes.
+mod laws;
+/// A set of pages.
+mod page_set;
+/// The pages that are out, and what is counted.
+mod reclaim;
+/// One bit for each page, in words.
+mod words;
+
+pub use reclaim::{Counts, Reclaim};
