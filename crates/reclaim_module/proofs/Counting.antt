@@ -5,8 +5,7 @@ use Rattle.std.specs.List.{range_with_len}
 use Rattle.std.proofs.lemmas.Bool.Decides.{nat_tests}
 use Rattle.std.proofs.lemmas.List.Sums.{sum_by_push}
 use Rattle.std.proofs.lemmas.List.FromFn.{get_or-map-range_with_len, length-map-range_with_len}
-use Rattle.reclaim_module.specs.Pages.{count_pages, each_page, in_run, is_out_in}
-use Rattle.reclaim_module.specs.Kept.{out_count}
+use Rattle.reclaim_module.specs.Pages.{count_pages, each_page, in_run, is_out_in, out_count}
 
 range_more : (a n : ℕ) → range_with_len a (suc n) ≡ range_with_len a n ++ (a + n) ∷ []
 range_more a zero = ap (λ x. x ∷ []) (omega arith)
@@ -56,6 +55,16 @@ pub count_adds : (n : ℕ) (f g h : ℕ → Bool) → ((p : ℕ) → p < n → c
 count_adds zero f g h each = refl
 count_adds (suc n) f g h each =
     omega (arith, count_more n f, count_more n g, count_more n h, each n (omega arith), count_adds n f g h (λ p below. each p (omega arith)))
+
+-- the same, of two counts and two
+pub count_evens : (n : ℕ) (f g h k : ℕ → Bool) → ((p : ℕ) → p < n → cond {A = ℕ} (f p) 1 0 + cond (g p) 1 0 ≡ cond (h p) 1 0 + cond (k p) 1 0) → count_pages n f + count_pages n g ≡ count_pages n h + count_pages n k
+count_evens zero f g h k each = refl
+count_evens (suc n) f g h k each =
+    omega (arith, count_more n f, count_more n g, count_more n h, count_more n k, each n (omega arith), count_evens n f g h k (λ p below. each p (omega arith)))
+
+pub count_all : (n : ℕ) → count_pages n (λ p. true) ≡ n
+count_all zero = refl
+count_all (suc n) = omega (arith, count_more n (λ p. true), count_all n)
 
 -- no more pages of a run than it has
 run_within : (n start pages : ℕ) (g : ℕ → Bool) → (count_pages n (λ p. in_run start pages p && g p) ≤ n - start) × (count_pages n (λ p. in_run start pages p && g p) ≤ pages)

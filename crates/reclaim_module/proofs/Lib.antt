@@ -2,3 +2,6 @@ pub mod Counting
 pub mod Digits
 pub mod Masking
 pub mod Moving
+pub mod Standing
+pub mod Serving
+pub mod Balancing

@@ -10,8 +10,8 @@ use Rattle.std.proofs.lemmas.Nat.Bits.{bit_at-zero}
 use Rattle.std.proofs.lemmas.List.Sums.{sum_by-cons}
 use Rattle.reclaim_module.specs.declared.reclaim.Counts.{Counts}
 use Rattle.reclaim_module.specs.Calls.{after_touch, with_run}
-use Rattle.reclaim_module.specs.Kept.{bit_in, bits_in, differs, is_set, out_count}
-use Rattle.reclaim_module.specs.Pages.{ReclaimView, count_pages, each_page, in_run, is_out_in}
+use Rattle.reclaim_module.specs.Kept.{bit_in, bits_in, differs, is_set}
+use Rattle.reclaim_module.specs.Pages.{ReclaimView, count_pages, each_page, in_run, is_out_in, out_count}
 use Rattle.reclaim_module.proofs.Counting.{at_page, count_adds, count_more, count_none, count_same, length_pages}
 use Rattle.reclaim_module.proofs.Masking.{before_run, behind_run}
 
@@ -40,7 +40,7 @@ out_count_is n f = count_of_map f (range_with_len 0 n)
 pub out_count_again : (xs : List Bool) → out_count xs ≡ count_pages (length xs) (is_out_in xs)
 out_count_again xs = ap out_count (each_page_again xs) ∙ out_count_is (length xs) (is_out_in xs)
 
-count_le : (n : ℕ) (f : ℕ → Bool) → count_pages n f ≤ n
+pub count_le : (n : ℕ) (f : ℕ → Bool) → count_pages n f ≤ n
 count_le zero f = omega arith
 count_le (suc n) f = omega (arith, count_more n f, count_le n f, at_most_one (f n)) where
   at_most_one : (b : Bool) → cond {A = ℕ} b 1 0 ≤ 1
@@ -83,7 +83,7 @@ out_loss start pages xs =
       adds false false = refl
 
 -- a run of one page
-one_page : (page p : ℕ) → in_run page 1 p ≡ (p == page)
+pub one_page : (page p : ℕ) → in_run page 1 p ≡ (p == page)
 one_page page p = elim (cases_eq p page) [
   | inl is ↦
       let test : (p == page) ≡ true = grind (arith, nat_tests) in

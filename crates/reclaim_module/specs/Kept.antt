@@ -1,8 +1,8 @@
 -- How the pages that are out are stored. Only proofs need this file.
-use Rattle.std.specs.Prelude.{◌≡◌, ℕ, ◌+◌, ◌*◌, ◌/◌, ◌%◌, ◌≤◌, Bool, not, ◌==◌, List, length, count_by, slice_index, if◌then◌else◌}
+use Rattle.std.specs.Prelude.{◌≡◌, ℕ, ◌+◌, ◌/◌, ◌%◌, Bool, not, ◌==◌, List, slice_index, if◌then◌else◌}
 use Rattle.std.specs.Int.{bit_at}
 use Rattle.reclaim_module.specs.declared.reclaim.Counts.{Counts}
-use Rattle.reclaim_module.specs.Pages.{each_page}
+use Rattle.reclaim_module.specs.Pages.{each_page, out_count}
 
 -- whether bit i of a word is 1
 abbrev pub is_set : ℕ → ℕ → Bool
@@ -19,10 +19,6 @@ bits_in pages words = each_page pages (bit_in words)
 -- whether a bit is not this one
 abbrev pub differs : Bool → Bool → Bool
 differs out bit = if out then not bit else bit
-
--- how many of these pages are out
-abbrev pub out_count : List Bool → ℕ
-out_count out = count_by (λ is_out. is_out) out
 
 -- the number of pages out is kept, and each page that went out is out or came back
 pub record IsReclaim (set : List Bool) (out : ℕ) (counts : Counts) : Type 0 where

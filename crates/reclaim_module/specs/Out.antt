@@ -1,6 +1,7 @@
 -- Which pages are out, by what has happened to a monitor and its pages.
-use Rattle.std.specs.Prelude.{ℕ, Bool, true, false, not, ◌&&◌, ◌||◌, ◌==◌, List, [], ◌∷◌, Option, Some, None}
+use Rattle.std.specs.Prelude.{ℕ, Bool, true, false, not, ◌&&◌, ◌||◌, ◌==◌, List, [], ◌∷◌, Option}
 use Rattle.std.specs.List.{list_any}
+use Rattle.std.specs.Option.{option_map_or}
 use Rattle.damon_types.specs.declared.scheme.Action.{Action}
 use Rattle.damon_types.specs.declared.scheme.Action.TheVariants.{Pageout, Willneed}
 use Rattle.damon_types.specs.declared.scheme.Scheme.{Scheme}
@@ -9,21 +10,21 @@ use Rattle.damon_core.specs.Note.{Note, touched, ran}
 use Rattle.damon_core.specs.Slots.{scheme_of}
 use Rattle.reclaim_module.specs.Pages.{in_run}
 
+abbrev pub is_pageout : Action → Bool
+is_pageout Pageout = true
+is_pageout _ = false
+
+abbrev pub is_willneed : Action → Bool
+is_willneed Willneed = true
+is_willneed _ = false
+
 -- whether a slot holds a scheme with the action `pageout`
 abbrev pub pages_out : Option Scheme → Bool
-pages_out None = false
-pages_out (Some scheme) = is_pageout scheme.action where
-  is_pageout : Action → Bool
-  is_pageout Pageout = true
-  is_pageout _ = false
+pages_out held = option_map_or (λ scheme. is_pageout scheme.action) held false
 
 -- whether a slot holds a scheme with the action `willneed`
 abbrev pub prefetches : Option Scheme → Bool
-prefetches None = false
-prefetches (Some scheme) = is_willneed scheme.action where
-  is_willneed : Action → Bool
-  is_willneed Willneed = true
-  is_willneed _ = false
+prefetches held = option_map_or (λ scheme. is_willneed scheme.action) held false
 
 -- whether a page is in one of the runs
 abbrev pub is_in : List AppliedRun → ℕ → Bool

@@ -12,6 +12,10 @@ pub record ReclaimView : Type 0 where
 abbrev pub is_out_in : List Bool → ℕ → Bool
 is_out_in out page = slice_index_or out page false
 
+-- how many pages are out
+abbrev pub out_count : List Bool → ℕ
+out_count out = count_by (λ is_out. is_out) out
+
 -- for each page of a space of this many pages, whether the test holds
 abbrev pub each_page : ℕ → (ℕ → Bool) → List Bool
 each_page pages test = map test (range_with_len 0 pages)

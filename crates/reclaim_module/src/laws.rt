@@ -1,0 +1,76 @@
+// What the calls make of a monitor's notes, for the crates above. No function here does anything.
+ghost use Rattle.std.specs.Prelude.{◌≡◌, ℕ, ◌+◌, ◌*◌, ◌≤◌, ◌<◌, Bool, not, List, [], ◌∷◌, ◌++◌, Some, None, length, take};
+ghost use Rattle.std.specs.List.{AllByRecursion};
+ghost use Rattle.damon_types.specs.declared.scheme.Scheme.{Scheme};
+ghost use Rattle.damon_types.specs.Space.{pages_of};
+ghost use Rattle.live_commit.specs.Setup.{SetupValue};
+ghost use Rattle.scheme_engine.specs.declared.applied.AppliedRun.{AppliedRun};
+ghost use Rattle.damon_core.specs.After.{after};
+ghost use Rattle.damon_core.specs.Aggregate.{aggregated};
+ghost use Rattle.damon_core.specs.Event.{Event, Fits};
+ghost use Rattle.damon_core.specs.Note.{Note, ran, touched};
+ghost use Rattle.damon_core.specs.Slots.{scheme_of};
+ghost use Rattle.damon_core.specs.State.{State, opening_notes};
+ghost use Rattle.reclaim_module.specs.Calls.{after_action, after_touch, all_resident};
+ghost use Rattle.reclaim_module.specs.Counts.{pageouts_of, prefetches_of, refaults_of};
+ghost use Rattle.reclaim_module.specs.Out.{is_out};
+ghost use Rattle.reclaim_module.specs.Pages.{ReclaimView, count_pages};
+ghost use Rattle.reclaim_module.specs.Stands.{MovesNothing, ReclaimStands, TouchesWithin, after_applied, after_event, after_runs};
+
+/// A new model stands for notes that move nothing, as those of an opening are. Where a model stands for
+/// notes, it stands after a touch for the notes with that touch; after the runs of a scheme, for the notes
+/// with that of its run; and as it is, for the notes with any other. A run of a scheme may be told by its
+/// first runs of pages, one more each time. So it stands for the notes of each state once it has followed
+/// the events.
+pub fn model_stands_for_notes()
+    ensures first { (pages : ℕ) (notes : List Note) → AllByRecursion MovesNothing notes
+        → ReclaimStands (all_resident pages) notes }
+    ensures opening { (pages : ℕ) (v : SetupValue)
+        → ReclaimStands (all_resident pages) (opening_notes v) }
+    ensures touch { (page : ℕ) (r : ReclaimView) (notes : List Note) → page < length r.out
+        → ReclaimStands r notes → ReclaimStands (after_touch page r) (touched page ∷ notes) }
+    ensures other { (note : Note) (r : ReclaimView) (notes : List Note) → MovesNothing note
+        → ReclaimStands r notes → ReclaimStands r (note ∷ notes) }
+    ensures run { (slot tick tried : ℕ) (runs : List AppliedRun) (exceeds : Bool)
+        (scheme : Scheme) (r : ReclaimView) (notes : List Note)
+        → scheme_of notes slot ≡ Some scheme → ReclaimStands r notes
+        → ReclaimStands (after_runs scheme.action runs r)
+        (ran slot tick tried runs exceeds ∷ notes) }
+    ensures no_run { (slot tick tried : ℕ) (exceeds : Bool) (r : ReclaimView)
+        (notes : List Note) → ReclaimStands r notes
+        → ReclaimStands r (ran slot tick tried [] exceeds ∷ notes) }
+    ensures one_run { (slot tick tried : ℕ) (done : List AppliedRun) (next : AppliedRun)
+        (exceeds : Bool) (scheme : Scheme) (r : ReclaimView) (notes : List Note)
+        → scheme_of notes slot ≡ Some scheme
+        → ReclaimStands r (ran slot tick tried done exceeds ∷ notes)
+        → ReclaimStands (after_action scheme.action next.start next.pages r)
+        (ran slot tick tried (done ++ next ∷ []) exceeds ∷ notes) }
+    ensures unset { (slot tick tried : ℕ) (runs : List AppliedRun) (exceeds : Bool)
+        (r : ReclaimView) (notes : List Note) → scheme_of notes slot ≡ None
+        → ReclaimStands r notes → ReclaimStands r (ran slot tick tried runs exceeds ∷ notes) }
+    ensures event { (e : Event) (s : State) (r : ReclaimView)
+        → length r.out ≡ pages_of s.core.space → Fits s e → ReclaimStands r s.notes
+        → ReclaimStands (after_event e s r) (after s e).notes }
+{}
+
+/// By the notes, the pages that are out and the resident ones are all pages, and each page that went out
+/// is out, was brought back by a touch, or was prefetched.
+pub fn pages_out_balance()
+    ensures pages { (pages : ℕ) (notes : List Note)
+        → count_pages pages (is_out notes) + count_pages pages (λ page. not (is_out notes page))
+        ≡ pages }
+    ensures counts { (pages : ℕ) (notes : List Note) → TouchesWithin pages notes
+        → pageouts_of pages notes
+        ≡ count_pages pages (is_out notes) + (refaults_of notes + prefetches_of pages notes) }
+{}
+
+/// In an aggregation each page goes out at most eight and a half times on average, since 16 slots serve it.
+/// The first of its runs page out no more than all.
+pub fn aggregation_pages_out_few()
+    ensures most { (pages : ℕ) (words : List ℕ) (s : State)
+        → 2 * pageouts_of pages (aggregated words s).notes
+        ≤ 2 * pageouts_of pages s.notes + 17 * pages }
+    ensures so_far { (i : ℕ) (notes : List Note) (runs : List AppliedRun) (r : ReclaimView)
+        → (after_applied notes (take i runs) r).counts.pageouts
+        ≤ (after_applied notes runs r).counts.pageouts }
+{}

@@ -1,7 +1,6 @@
 ghost use Rattle.std.specs.Prelude.{◌≡◌, ◌+◌, ◌^◌, ◌≤◌, ◌<◌, not, length, count_by, IfOk};
 ghost use Rattle.reclaim_module.specs.Calls.{after_action, after_touch, all_resident};
-ghost use Rattle.reclaim_module.specs.Kept.{out_count};
-ghost use Rattle.reclaim_module.specs.Pages.{is_out_in};
+ghost use Rattle.reclaim_module.specs.Pages.{is_out_in, out_count};
 
 use crate::page_set::PageSet;
 use damon_types::Action;

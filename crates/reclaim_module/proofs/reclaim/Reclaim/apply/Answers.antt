@@ -1,6 +1,6 @@
 use Rattle.std.proofs.Common.{true, ap, ◌∙◌, arith}
 use Rattle.reclaim_module.specs.Calls.{with_run}
-use Rattle.reclaim_module.specs.Kept.{out_count}
+use Rattle.reclaim_module.specs.Pages.{out_count}
 use Rattle.reclaim_module.proofs.Moving.{length_with_run, out_count_le, out_gain, out_loss}
 use Rattle.reclaim_module.proofs.reclaim.Reclaim.apply.Goals as goal
 

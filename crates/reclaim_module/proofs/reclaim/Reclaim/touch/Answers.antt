@@ -1,7 +1,6 @@
 use Rattle.std.proofs.Common.{◌≡◌, ◌<◌, true, length, sym, ap, ◌∙◌, arith}
 use Rattle.reclaim_module.specs.Calls.{after_touch}
-use Rattle.reclaim_module.specs.Kept.{out_count}
-use Rattle.reclaim_module.specs.Pages.{ReclaimView, is_out_in}
+use Rattle.reclaim_module.specs.Pages.{ReclaimView, is_out_in, out_count}
 use Rattle.reclaim_module.proofs.Moving.{one_back, out_loss, refault_is}
 use Rattle.reclaim_module.proofs.reclaim.Reclaim.touch.Goals as goal
 
