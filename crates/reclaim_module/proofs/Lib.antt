@@ -5,3 +5,4 @@ pub mod Moving
 pub mod Standing
 pub mod Serving
 pub mod Balancing
+pub mod Reaching

@@ -37,7 +37,13 @@ use Rattle.damon_core.specs.State.{State, opening_notes, set_note as note_of_cha
 use Rattle.reclaim_module.specs.Calls.{after_action}
 use Rattle.reclaim_module.specs.Pages.{ReclaimView}
 use Rattle.reclaim_module.specs.Stands.{MovesNothing, ReclaimStands, action_in, after_applied, after_event, after_runs}
-use Rattle.reclaim_module.proofs.Standing.{stands_ran, stands_still, stands_touched, still_by}
+use Rattle.reclaim_module.proofs.Standing.{length_after_action, length_after_touch, stands_ran, stands_still, stands_touched, still_by}
+
+-- an event that is no touch and no aggregation
+abbrev pub IsOther : Event → Type 0
+IsOther (touch page) = ⊥
+IsOther (aggregate words) = ⊥
+IsOther _ = Unit {0}
 
 -- one note more that moves nothing
 still : (note : Note) (r : ReclaimView) (notes : List Note) → MovesNothing note → ReclaimStands r notes → ReclaimStands r (note ∷ notes)
@@ -165,61 +171,85 @@ slots_stand (suc n) slot space aggr tick regions notes r s =
 pub aggregated_stands : (words : List ℕ) (s : State) (r : ReclaimView) → ReclaimStands r s.notes → ReclaimStands (after_applied s.notes (served s).runs r) (aggregated words s).notes
 aggregated_stands words s r here = slots_stand slot_count 0 s.core.space s.core.attrs.aggr s.core.ticks (merged_regions s.core) s.notes r here
 
--- a commit
-slot_set_stands : (change : Option SlotChange) (r : ReclaimView) (notes : List Note) → ReclaimStands r notes → ReclaimStands r (with_slot change notes)
-slot_set_stands None r notes s = s
-slot_set_stands (Some change) r notes s = elim change.scheme as (λ held. ReclaimStands r (slot_note change.slot held ∷ notes)) [
-  | None ↦ still (dropped change.slot) r notes tt s
-  | Some scheme ↦ still (set_note change.slot scheme) r notes tt s
-]
+-- What holds of notes and of each longer by a note that moves nothing, holds after each event but touches and aggregations.
+module _ (P : List Note → Type 0) (kept : (note : Note) (notes : List Note) → MovesNothing note → P notes → P (note ∷ notes)) where
+  slot_keeps : (change : Option SlotChange) (notes : List Note) → P notes → P (with_slot change notes)
+  slot_keeps None notes here = here
+  slot_keeps (Some change) notes here = elim change.scheme as (λ held. P (slot_note change.slot held ∷ notes)) [
+    | None ↦ kept (dropped change.slot) notes tt here
+    | Some scheme ↦ kept (set_note change.slot scheme) notes tt here
+  ]
 
-metric_stands : (value : Option ℕ) (r : ReclaimView) (notes : List Note) → ReclaimStands r notes → ReclaimStands r (with_metric value notes)
-metric_stands None r notes s = s
-metric_stands (Some value) r notes s = still (metric value) r notes tt s
+  metric_keeps : (value : Option ℕ) (notes : List Note) → P notes → P (with_metric value notes)
+  metric_keeps None notes here = here
+  metric_keeps (Some value) notes here = kept (metric value) notes tt here
 
-cost_stands : (part : Option CostPart) (r : ReclaimView) (notes : List Note) → ReclaimStands r notes → ReclaimStands r (with_cost part notes)
-cost_stands None r notes s = s
-cost_stands (Some part) r notes s = still (cost part.slot part.nanos) r notes tt s
+  cost_keeps : (part : Option CostPart) (notes : List Note) → P notes → P (with_cost part notes)
+  cost_keeps None notes here = here
+  cost_keeps (Some part) notes here = kept (cost part.slot part.nanos) notes tt here
 
-commit_stands : (parts : CommitValue) (s : State) (r : ReclaimView) → ReclaimStands r s.notes → ReclaimStands r (after_commit parts s).notes
-commit_stands parts s r here = by_check (check_of parts s.core) where
-  by_check : (check : Result (Unit {0}) CommitFault) → ReclaimStands r (if_accepted check (committed parts s) s).notes
-  by_check (Ok t) = cost_stands parts.cost r (with_metric parts.metric (with_slot parts.slot s.notes)) (metric_stands parts.metric r (with_slot parts.slot s.notes) (slot_set_stands parts.slot r s.notes here))
-  by_check (Err fault) = here
+  by_check : (parts : CommitValue) (s : State) (check : Result (Unit {0}) CommitFault) → P s.notes → P (if_accepted check (committed parts s) s).notes
+  by_check parts s (Ok t) here = cost_keeps parts.cost (with_metric parts.metric (with_slot parts.slot s.notes)) (metric_keeps parts.metric (with_slot parts.slot s.notes) (slot_keeps parts.slot s.notes here))
+  by_check parts s (Err fault) here = here
 
--- a step of a pass
-module _ (s : State) (r : ReclaimView) (here : ReclaimStands r s.notes) where
-  clear_stands : (phase : Phase) → ReclaimStands r (by_clear phase s).notes
-  clear_stands (Clearing k) = still (cleared (s.core.ticks + 1) k (slice_index s.core.picks k)) r s.notes tt here
-  clear_stands Idle = here
-  clear_stands Armed = here
-  clear_stands (Checking k) = here
-  clear_stands Void = here
-  clear_stands Due = here
+  clear_keeps : (phase : Phase) (s : State) → P s.notes → P (by_clear phase s).notes
+  clear_keeps (Clearing k) s here = kept (cleared (s.core.ticks + 1) k (slice_index s.core.picks k)) s.notes tt here
+  clear_keeps Idle s here = here
+  clear_keeps Armed s here = here
+  clear_keeps (Checking k) s here = here
+  clear_keeps Void s here = here
+  clear_keeps Due s here = here
 
-  load_stands : (phase : Phase) (hit : Bool) → ReclaimStands r (by_load phase hit s).notes
-  load_stands Armed hit = still (checked (s.core.ticks + 1) 0 (slice_index s.core.picks 0) hit) r s.notes tt here
-  load_stands (Checking k) hit = still (checked (s.core.ticks + 1) k (slice_index s.core.picks k) hit) r s.notes tt here
-  load_stands Idle hit = here
-  load_stands (Clearing k) hit = here
-  load_stands Void hit = here
-  load_stands Due hit = here
+  load_keeps : (phase : Phase) (hit : Bool) (s : State) → P s.notes → P (by_load phase hit s).notes
+  load_keeps Armed hit s here = kept (checked (s.core.ticks + 1) 0 (slice_index s.core.picks 0) hit) s.notes tt here
+  load_keeps (Checking k) hit s here = kept (checked (s.core.ticks + 1) k (slice_index s.core.picks k) hit) s.notes tt here
+  load_keeps Idle hit s here = here
+  load_keeps (Clearing k) hit s here = here
+  load_keeps Void hit s here = here
+  load_keeps Due hit s here = here
 
-  observe_stands : (phase : Phase) → ReclaimStands r (by_observe phase s).notes
-  observe_stands (Checking k) = still (finished (s.core.ticks + 1) (spans s.core.regions.rows)) r s.notes tt here
-  observe_stands Void = still (voided (s.core.ticks + 1)) r s.notes tt here
-  observe_stands Idle = here
-  observe_stands (Clearing k) = here
-  observe_stands Armed = here
-  observe_stands Due = here
+  observe_keeps : (phase : Phase) (s : State) → P s.notes → P (by_observe phase s).notes
+  observe_keeps (Checking k) s here = kept (finished (s.core.ticks + 1) (spans s.core.regions.rows)) s.notes tt here
+  observe_keeps Void s here = kept (voided (s.core.ticks + 1)) s.notes tt here
+  observe_keeps Idle s here = here
+  observe_keeps (Clearing k) s here = here
+  observe_keeps Armed s here = here
+  observe_keeps Due s here = here
+
+  pub other_keeps : (e : Event) (s : State) → IsOther e → P s.notes → P (after s e).notes
+  other_keeps (touch page) s other here = absurd other
+  other_keeps (prepare words) s other here = here
+  other_keeps clear s other here = clear_keeps s.core.phase s here
+  other_keeps (load hit) s other here = load_keeps s.core.phase hit s here
+  other_keeps observe s other here = observe_keeps s.core.phase s here
+  other_keeps (aggregate words) s other here = absurd other
+  other_keeps (commit parts) s other here = by_check parts s (check_of parts s.core) here
+  other_keeps show s other here = here
 
 -- each event
 pub event_stands : (e : Event) (s : State) (r : ReclaimView) → length r.out ≡ pages_of s.core.space → Fits s e → ReclaimStands r s.notes → ReclaimStands (after_event e s r) (after s e).notes
 event_stands (touch page) s r len fits here = stands_touched page r s.notes (subst (λ n. page < n) (sym len) fits) here
-event_stands (prepare words) s r len fits here = here
-event_stands clear s r len fits here = clear_stands s r here s.core.phase
-event_stands (load hit) s r len fits here = load_stands s r here s.core.phase hit
-event_stands observe s r len fits here = observe_stands s r here s.core.phase
 event_stands (aggregate words) s r len fits here = aggregated_stands words s r here
-event_stands (commit parts) s r len fits here = commit_stands parts s r here
+event_stands (prepare words) s r len fits here = here
+event_stands clear s r len fits here = other_keeps (ReclaimStands r) (λ note notes. still note r notes) clear s tt here
+event_stands (load hit) s r len fits here = other_keeps (ReclaimStands r) (λ note notes. still note r notes) (load hit) s tt here
+event_stands observe s r len fits here = other_keeps (ReclaimStands r) (λ note notes. still note r notes) observe s tt here
+event_stands (commit parts) s r len fits here = other_keeps (ReclaimStands r) (λ note notes. still note r notes) (commit parts) s tt here
 event_stands show s r len fits here = here
+
+-- the number of pages stays
+pub length_after_applied : (notes : List Note) (runs : List AppliedRun) (r : ReclaimView) → length (after_applied notes runs r).out ≡ length r.out
+length_after_applied notes [] r = refl
+length_after_applied notes (run ∷ runs) r =
+    length_after_applied notes runs (after_action (action_in notes run.slot) run.start run.pages r)
+    ∙ length_after_action (action_in notes run.slot) run.start run.pages r
+
+pub length_after_event : (e : Event) (s : State) (r : ReclaimView) → length (after_event e s r).out ≡ length r.out
+length_after_event (touch page) s r = length_after_touch page r
+length_after_event (aggregate words) s r = length_after_applied s.notes (served s).runs r
+length_after_event (prepare words) s r = refl
+length_after_event clear s r = refl
+length_after_event (load hit) s r = refl
+length_after_event observe s r = refl
+length_after_event (commit parts) s r = refl
+length_after_event show s r = refl

@@ -59,7 +59,7 @@ still_out note notes p still =
     ∙ ap (λ b. is_out notes p && not b) (still.back p)
     ∙ and_true (is_out notes p)
 
-still_pageouts : (n : ℕ) (note : Note) (notes : List Note) → IsStill note notes → pageouts_of n (note ∷ notes) ≡ pageouts_of n notes
+pub still_pageouts : (n : ℕ) (note : Note) (notes : List Note) → IsStill note notes → pageouts_of n (note ∷ notes) ≡ pageouts_of n notes
 still_pageouts n note notes still =
     let none = count_none n (λ p. is_paged_out notes note p && not (is_out notes p)) (λ p below. ap (λ b. b && not (is_out notes p)) (still.gone p)) in
     omega (arith, none)
@@ -314,3 +314,17 @@ stands_ran slot tick tried runs exceeds scheme r notes held s =
 pub stands_unset : (slot tick tried : ℕ) (runs : List AppliedRun) (exceeds : Bool) (r : ReclaimView) (notes : List Note) → scheme_of notes slot ≡ None → ReclaimStands r notes → ReclaimStands r (ran slot tick tried runs exceeds ∷ notes)
 stands_unset slot tick tried runs exceeds r notes none s =
     stands_still (ran slot tick tried runs exceeds) r notes (still_ran slot tick tried runs exceeds notes (ap pages_out none) (ap prefetches none)) s
+
+-- the number of pages stays
+pub length_after_action : (action : Action) (start pages : ℕ) (r : ReclaimView) → length (after_action action start pages r).out ≡ length r.out
+length_after_action Pageout start pages r = length_with_run start pages true r.out
+length_after_action Willneed start pages r = length_with_run start pages false r.out
+length_after_action Stat start pages r = refl
+length_after_action Cold start pages r = refl
+length_after_action Hugepage start pages r = refl
+length_after_action Nohugepage start pages r = refl
+length_after_action LruPrio start pages r = refl
+length_after_action LruDeprio start pages r = refl
+
+pub length_after_touch : (page : ℕ) (r : ReclaimView) → length (after_touch page r).out ≡ length r.out
+length_after_touch page r = length-set r.out page false

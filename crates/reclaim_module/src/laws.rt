@@ -1,6 +1,7 @@
 // What the calls make of a monitor's notes, for the crates above. No function here does anything.
-ghost use Rattle.std.specs.Prelude.{◌≡◌, ℕ, ◌+◌, ◌*◌, ◌≤◌, ◌<◌, Bool, not, List, [], ◌∷◌, ◌++◌, Some, None, length, take};
+ghost use Rattle.std.specs.Prelude.{◌≡◌, ℕ, ◌+◌, ◌-◌, ◌*◌, ◌≤◌, ◌<◌, Bool, not, List, [], ◌∷◌, ◌++◌, Some, None, length, take};
 ghost use Rattle.std.specs.List.{AllByRecursion};
+ghost use Rattle.damon_types.specs.declared.scheme.Action.{Action};
 ghost use Rattle.damon_types.specs.declared.scheme.Scheme.{Scheme};
 ghost use Rattle.damon_types.specs.Space.{pages_of};
 ghost use Rattle.live_commit.specs.Setup.{SetupValue};
@@ -9,6 +10,7 @@ ghost use Rattle.damon_core.specs.After.{after};
 ghost use Rattle.damon_core.specs.Aggregate.{aggregated};
 ghost use Rattle.damon_core.specs.Event.{Event, Fits};
 ghost use Rattle.damon_core.specs.Note.{Note, ran, touched};
+ghost use Rattle.damon_core.specs.Reached.{Reached};
 ghost use Rattle.damon_core.specs.Slots.{scheme_of};
 ghost use Rattle.damon_core.specs.State.{State, opening_notes};
 ghost use Rattle.reclaim_module.specs.Calls.{after_action, after_touch, all_resident};
@@ -54,7 +56,8 @@ pub fn model_stands_for_notes()
 {}
 
 /// By the notes, the pages that are out and the resident ones are all pages, and each page that went out
-/// is out, was brought back by a touch, or was prefetched.
+/// is out, was brought back by a touch, or was prefetched. In each reached state touches are of pages of the
+/// space.
 pub fn pages_out_balance()
     ensures pages { (pages : ℕ) (notes : List Note)
         → count_pages pages (is_out notes) + count_pages pages (λ page. not (is_out notes page))
@@ -62,15 +65,33 @@ pub fn pages_out_balance()
     ensures counts { (pages : ℕ) (notes : List Note) → TouchesWithin pages notes
         → pageouts_of pages notes
         ≡ count_pages pages (is_out notes) + (refaults_of notes + prefetches_of pages notes) }
+    ensures touches { (s : State) → Reached s → TouchesWithin (pages_of s.core.space) s.notes }
 {}
 
-/// In an aggregation each page goes out at most eight and a half times on average, since 16 slots serve it.
-/// The first of its runs page out no more than all.
-pub fn aggregation_pages_out_few()
-    ensures most { (pages : ℕ) (words : List ℕ) (s : State)
+/// In an aggregation each page goes out at most eight and a half times on average, since 16 slots are
+/// served: it only goes out again once it was prefetched. So in each reached state as many went out as
+/// there were passes before the last aggregation, at most. The first runs page out no more than all.
+pub fn few_pages_go_out()
+    ensures aggregated { (pages : ℕ) (words : List ℕ) (s : State)
         → 2 * pageouts_of pages (aggregated words s).notes
         ≤ 2 * pageouts_of pages s.notes + 17 * pages }
+    ensures reached { (s : State) → Reached s
+        → 2 * pageouts_of (pages_of s.core.space) s.notes
+        ≤ 17 * pages_of s.core.space * (s.core.ticks - s.core.since) }
     ensures so_far { (i : ℕ) (notes : List Note) (runs : List AppliedRun) (r : ReclaimView)
         → (after_applied notes (take i runs) r).counts.pageouts
         ≤ (after_applied notes runs r).counts.pageouts }
+{}
+
+/// The number of pages stays.
+pub fn pages_stay()
+    ensures first { (pages : ℕ) → length (all_resident pages).out ≡ pages }
+    ensures touch { (page : ℕ) (r : ReclaimView)
+        → length (after_touch page r).out ≡ length r.out }
+    ensures action { (action : Action) (start pages : ℕ) (r : ReclaimView)
+        → length (after_action action start pages r).out ≡ length r.out }
+    ensures applied { (notes : List Note) (runs : List AppliedRun) (r : ReclaimView)
+        → length (after_applied notes runs r).out ≡ length r.out }
+    ensures event { (e : Event) (s : State) (r : ReclaimView)
+        → length (after_event e s r).out ≡ length r.out }
 {}
