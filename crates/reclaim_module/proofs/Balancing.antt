@@ -1,5 +1,5 @@
 -- Each page that went out is out or came back, and how many go out in an aggregation.
-use Rattle.std.proofs.Common.{◌≡◌, ◌≢◌, inl, inr, ℕ, zero, suc, ◌+◌, ◌*◌, ◌≤◌, ◌<◌, Bool, true, false, cond, not, ◌&&◌, ◌||◌, List, [], ◌∷◌, ◌++◌, length, take, refl, sym, ap, subst, ◌∙◌, arith}
+use Rattle.std.proofs.Common.{◌≡◌, inl, inr, ℕ, zero, suc, ◌+◌, ◌*◌, ◌≤◌, ◌<◌, Bool, true, false, cond, not, ◌&&◌, ◌||◌, List, [], ◌∷◌, take, refl, ap, subst, ◌∙◌, arith}
 use Rattle.std.specs.Prelude.{◌==◌, Option, Some, None, if◌then◌else◌}
 use Rattle.std.specs.Option.{option_map_or}
 use Rattle.std.proofs.lemmas.Bool.{cases_eq}
@@ -22,7 +22,7 @@ use Rattle.damon_core.specs.State.{State}
 use Rattle.reclaim_module.specs.Calls.{after_action}
 use Rattle.reclaim_module.specs.Counts.{pageouts_of, prefetches_of, refaults_of}
 use Rattle.reclaim_module.specs.Out.{is_in, is_out, is_paged_out, is_pageout, is_prefetched, is_touch_of, is_willneed, pages_out, prefetches}
-use Rattle.reclaim_module.specs.Pages.{ReclaimView, count_pages, in_run, is_out_in}
+use Rattle.reclaim_module.specs.Pages.{ReclaimView, count_pages, in_run}
 use Rattle.reclaim_module.specs.Stands.{TouchesWithin, action_in, after_applied}
 use Rattle.reclaim_module.proofs.Counting.{count_adds, count_all, count_evens, count_none}
 use Rattle.reclaim_module.proofs.Moving.{count_le, one_counts, one_page}

@@ -6,3 +6,4 @@ pub mod Standing
 pub mod Serving
 pub mod Balancing
 pub mod Reaching
+mod Examples

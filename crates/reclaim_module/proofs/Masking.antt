@@ -1,11 +1,11 @@
 -- A run of bits that a loop sets, word by word.
-use Rattle.std.proofs.Common.{◌≡◌, ◌≢◌, inl, inr, ℕ, ◌+◌, ◌-◌, ◌*◌, ◌/◌, ◌%◌, min, ◌≤◌, ◌<◌, Bool, true, false, List, length, set, get_or-set_same, get_or-set_other, refl, sym, ap, subst, ◌∙◌, arith}
+use Rattle.std.proofs.Common.{◌≡◌, inl, inr, ℕ, ◌+◌, ◌-◌, ◌*◌, ◌/◌, ◌%◌, min, ◌≤◌, ◌<◌, Bool, true, false, List, length, set, get_or-set_same, get_or-set_other, refl, sym, ap, ◌∙◌, arith}
 use Rattle.std.specs.Prelude.{◌&&◌, nat_le, nat_lt, slice_index, if◌then◌else◌}
 use Rattle.std.proofs.lemmas.Bool.{cases_eq}
 use Rattle.std.proofs.lemmas.Bool.Decides.{nat_tests}
 use Rattle.reclaim_module.specs.Pages.{count_pages, in_run}
 use Rattle.reclaim_module.specs.Kept.{bit_in, differs, is_set}
-use Rattle.reclaim_module.proofs.Counting.{count_beyond, count_none, count_run_le, count_same, count_split}
+use Rattle.reclaim_module.proofs.Counting.{count_beyond, count_none, count_same, count_split}
 
 -- a page that a run has
 pub in_run_from : (start pages p : ℕ) → in_run start pages p ≡ true → start ≤ p

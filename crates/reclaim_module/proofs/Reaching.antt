@@ -1,5 +1,5 @@
 -- What holds of each state that is reached: touches are of pages of the space, and how many pages went out at most.
-use Rattle.std.proofs.Common.{◌≡◌, ℕ, zero, suc, ◌+◌, ◌-◌, ◌*◌, ◌≤◌, ◌<◌, Bool, true, false, List, [], ◌∷◌, length, refl, sym, ap, subst, ◌∙◌, arith}
+use Rattle.std.proofs.Common.{◌≡◌, ℕ, zero, suc, ◌+◌, ◌-◌, ◌*◌, ◌≤◌, ◌<◌, Bool, true, false, List, [], ◌∷◌, refl, sym, ap, subst, ◌∙◌, arith}
 use Rattle.std.specs.Prelude.{◌==◌, Option, Some, None, Result, Ok, Err, nat_le, if◌then◌else◌}
 use Rattle.std.specs.List.{AllByRecursion}
 use Rattle.std.specs.Option.{option_map_or}
@@ -16,7 +16,7 @@ use Rattle.live_commit.specs.Commit.{CommitValue}
 use Rattle.quota_charge.specs.Quota.{left_of}
 use Rattle.scheme_engine.specs.Outcome.{outcome_of}
 use Rattle.scheme_engine.specs.Served.{no_choice}
-use Rattle.damon_core.specs.After.{after, by_clear, by_load, by_observe, phase_after_pass, phase_cleared}
+use Rattle.damon_core.specs.After.{after, by_clear, by_load, by_observe, phase_after_pass}
 use Rattle.damon_core.specs.Aggregate.{aggregated, merged_regions}
 use Rattle.damon_core.specs.Commit.{becomes_void, check_of, committed, if_accepted, phase_after_commit}
 use Rattle.damon_core.specs.Event.{Event, Fits, touch, prepare, clear, load, observe, aggregate, commit, show}
@@ -184,10 +184,10 @@ aggregated_followed pages words s due here =
       touches = slots_within pages slot_count 0 s.core.space s.core.attrs.aggr s.core.ticks (merged_regions s.core) s.notes here.touches;
       few = times_le (17 * pages) (s.core.ticks - s.core.since + 1) (s.core.ticks - 0) (2 * pageouts_of pages (aggregated words s).notes) least (omega (arith, aggregated_few pages words s, here.few, more));
     } where
-  times_le : (k a b m : ℕ) → a ≤ b → m ≤ k * a → m ≤ k * b
-  times_le k a b m le most =
-      let whole : k * b ≡ k * a + k * (b - a) = (let sum : b ≡ a + (b - a) = omega arith in ap (λ x. k * x) sum ∙ grind arith) in
-      omega (arith, most, whole)
+      times_le : (k a b m : ℕ) → a ≤ b → m ≤ k * a → m ≤ k * b
+      times_le k a b m le most =
+          let whole : k * b ≡ k * a + k * (b - a) = (let sum : b ≡ a + (b - a) = omega arith in ap (λ x. k * x) sum ∙ grind arith) in
+          omega (arith, most, whole)
 
 followed : (pages : ℕ) (e : Event) (s : State) → Fits s e → IsFollowed pages s → IsFollowed pages (after s e)
 followed pages (touch page) s fits here = record {

@@ -1,9 +1,8 @@
 -- What the events of a monitor make of the pages that are out.
-use Rattle.std.proofs.Common.{◌≡◌, ℕ, zero, suc, ◌+◌, ◌<◌, Bool, true, false, List, [], ◌∷◌, ◌++◌, map, length, reverse, refl, sym, ap, subst, ◌∙◌, arith}
+use Rattle.std.proofs.Common.{◌≡◌, ℕ, zero, suc, ◌+◌, ◌<◌, Bool, true, false, List, [], ◌∷◌, ◌++◌, map, length, reverse, refl, sym, ap, subst, ◌∙◌}
 use Rattle.std.specs.Prelude.{Option, Some, None, Result, Ok, Err, filter_map, slice_index, if◌then◌else◌}
-use Rattle.std.specs.List.{AllByRecursion, flat_map}
+use Rattle.std.specs.List.{AllByRecursion}
 use Rattle.std.specs.Option.{option_map_or}
-use Rattle.damon_types.specs.declared.scheme.Action.{Action}
 use Rattle.damon_types.specs.declared.scheme.Action.TheVariants.{Stat}
 use Rattle.damon_types.specs.declared.scheme.CostPart.{CostPart}
 use Rattle.damon_types.specs.declared.scheme.Quota.{Quota}
@@ -23,15 +22,15 @@ use Rattle.live_commit.specs.declared.phase.Phase.TheVariants.{Idle, Clearing, A
 use Rattle.live_commit.specs.Commit.{CommitValue}
 use Rattle.live_commit.specs.Setup.{SetupValue}
 use Rattle.scheme_engine.specs.declared.applied.AppliedRun.{AppliedRun}
-use Rattle.scheme_engine.specs.Outcome.{Outcome, chosen_of, outcome_of}
+use Rattle.scheme_engine.specs.Outcome.{chosen_of, outcome_of}
 use Rattle.scheme_engine.specs.Served.{no_choice}
 use Rattle.scheme_engine.specs.Taken.{applied_run, applied_runs, candidate_runs, span_at, taken_runs}
 use Rattle.damon_core.specs.After.{after, by_clear, by_load, by_observe}
 use Rattle.damon_core.specs.Aggregate.{aggregated, merged_regions, served}
-use Rattle.damon_core.specs.Commit.{after_commit, check_of, committed, committed_notes, if_accepted, slot_note, with_cost, with_metric, with_slot}
+use Rattle.damon_core.specs.Commit.{check_of, committed, if_accepted, slot_note, with_cost, with_metric, with_slot}
 use Rattle.damon_core.specs.Event.{Event, Fits, touch, prepare, clear, load, observe, aggregate, commit, show}
-use Rattle.damon_core.specs.Note.{Note, touched, cleared, checked, finished, voided, set as set_note, dropped, metric, turned, ran, cost}
-use Rattle.damon_core.specs.Serve.{Serving, nothing_served, run_served, serve_now, serve_scheme, serve_slot, serve_slots, window_ends, with_turn}
+use Rattle.damon_core.specs.Note.{Note, cleared, checked, finished, voided, set as set_note, dropped, metric, turned, ran, cost}
+use Rattle.damon_core.specs.Serve.{Serving, nothing_served, run_served, serve_scheme, serve_slot, serve_slots, window_ends, with_turn}
 use Rattle.damon_core.specs.Slots.{charged_of, cost_of, is_active_in, scheme_of, slot_count}
 use Rattle.damon_core.specs.State.{State, opening_notes, set_note as note_of_change}
 use Rattle.reclaim_module.specs.Calls.{after_action}

@@ -1,6 +1,6 @@
 -- What one note more makes of the pages that are out, and of the numbers.
 use Rattle.std.proofs.Common.{◌≡◌, ◌≢◌, inl, inr, ℕ, zero, suc, ◌+◌, ◌<◌, Bool, true, false, cond, not, ◌&&◌, ◌||◌, List, [], ◌∷◌, ◌++◌, length, set, length-set, get_or-set_same, get_or-set_other, replicate, refl, sym, ap, subst, ◌∙◌, arith}
-use Rattle.std.specs.Prelude.{◌==◌, Option, Some, None, slice_set, if◌then◌else◌}
+use Rattle.std.specs.Prelude.{◌==◌, Some, None, if◌then◌else◌}
 use Rattle.std.specs.List.{AllByRecursion}
 use Rattle.std.proofs.lemmas.Bool.{cases_eq}
 use Rattle.std.proofs.lemmas.Bool.Decides.{nat_tests}
@@ -15,9 +15,9 @@ use Rattle.damon_core.specs.Slots.{scheme_of}
 use Rattle.reclaim_module.specs.Calls.{after_action, after_touch, all_resident, paged_out, prefetched, with_run}
 use Rattle.reclaim_module.specs.Counts.{pageouts_of, prefetches_of, refaults_of}
 use Rattle.reclaim_module.specs.Out.{is_in, is_out, is_paged_out, is_pageout, is_prefetched, is_touch_of, is_willneed, pages_out, prefetches}
-use Rattle.reclaim_module.specs.Pages.{ReclaimView, count_pages, each_page, in_run, is_out_in}
+use Rattle.reclaim_module.specs.Pages.{ReclaimView, each_page, in_run, is_out_in}
 use Rattle.reclaim_module.specs.Stands.{MovesNothing, ReclaimStands, after_runs}
-use Rattle.reclaim_module.proofs.Counting.{at_page, count_adds, count_none, count_same, length_pages}
+use Rattle.reclaim_module.proofs.Counting.{at_page, count_adds, count_none, count_same}
 use Rattle.reclaim_module.proofs.Moving.{each_page_is, each_page_same, length_with_run}
 
 or_false : (b : Bool) → (b || false) ≡ b

@@ -1,5 +1,4 @@
-use Rattle.std.proofs.Common.{ℕ, Bool, List, ◌∷◌, [], ◌++◌, ◌≡◌}
-use Rattle.std.specs.Prelude.{Some}
+use Rattle.std.proofs.Common.{[]}
 use Rattle.damon_core.specs.Note.{ran}
 use Rattle.damon_core.specs.State.{opening_notes}
 use Rattle.reclaim_module.proofs.Serving.{event_stands, opening_is_still}

@@ -1,4 +1,3 @@
-use Rattle.std.proofs.Common.{rules}
 use Rattle.std.proofs.lemmas.Nat.{and_le_r}
 use Rattle.reclaim_module.proofs.Digits.{new_bit, ones_of_changed}
 use Rattle.reclaim_module.proofs.words.put_bits.Goals as goal

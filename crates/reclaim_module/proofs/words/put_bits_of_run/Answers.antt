@@ -1,4 +1,4 @@
-use Rattle.std.proofs.Common.{◌≡◌, ℕ, ◌+◌, ◌*◌, ◌&&◌, refl, length-set, ◌∙◌, arith}
+use Rattle.std.proofs.Common.{◌≡◌, ◌+◌, ◌*◌, ◌&&◌, refl, length-set, ◌∙◌, arith}
 use Rattle.reclaim_module.specs.Kept.{bit_in, differs}
 use Rattle.reclaim_module.specs.Pages.{count_pages, in_run}
 use Rattle.reclaim_module.proofs.Counting.{count_run_le}

@@ -1,4 +1,4 @@
-use Rattle.std.proofs.Common.{ℕ, ◌<◌, length, sym, ap, ◌∙◌, arith}
+use Rattle.std.proofs.Common.{◌<◌, length, sym, ap, ◌∙◌, arith}
 use Rattle.reclaim_module.specs.Kept.{bit_in}
 use Rattle.reclaim_module.specs.Pages.{is_out_in}
 use Rattle.reclaim_module.proofs.Counting.{at_page, length_pages}
