@@ -7,11 +7,10 @@ use Rattle.std.proofs.lemmas.Bool.Decides.{nat_tests}
 use Rattle.std.proofs.lemmas.List.{length-replicate}
 use Rattle.std.proofs.lemmas.List.FromFn.{fill_by_all}
 use Rattle.std.proofs.lemmas.Nat.Bits.{bit_at-zero}
-use Rattle.std.proofs.lemmas.List.Sums.{sum_by-cons}
-use Rattle.reclaim_module.specs.declared.reclaim.Counts.{Counts}
-use Rattle.reclaim_module.specs.Calls.{after_touch, with_run}
+use Rattle.std.proofs.lemmas.List.Sums.{sum_by-cons, sum_by-set}
+use Rattle.reclaim_module.specs.Calls.{with_run}
 use Rattle.reclaim_module.specs.Kept.{bit_in, bits_in, differs, is_set}
-use Rattle.reclaim_module.specs.Pages.{ReclaimView, count_pages, each_page, in_run, is_out_in, out_count}
+use Rattle.reclaim_module.specs.Pages.{count_pages, each_page, in_run, is_out_in, out_count}
 use Rattle.reclaim_module.proofs.Counting.{at_page, count_adds, count_more, count_none, count_same, length_pages}
 use Rattle.reclaim_module.proofs.Masking.{before_run, behind_run}
 
@@ -53,6 +52,10 @@ out_count_le xs = omega (arith, out_count_again xs, count_le (length xs) (is_out
 -- the length stays
 pub length_with_run : (start pages : ℕ) (now : Bool) (xs : List Bool) → length (with_run start pages now xs) ≡ length xs
 length_with_run start pages now xs = length_pages (length xs) (λ p. if in_run start pages p then now else is_out_in xs p)
+
+-- and the pages that are out are no more than all
+pub out_count_with_run_le : (start pages : ℕ) (now : Bool) (xs : List Bool) → out_count (with_run start pages now xs) ≤ length xs
+out_count_with_run_le start pages now xs = omega (arith, out_count_le (with_run start pages now xs), length_with_run start pages now xs)
 
 -- the pages that go out are so many more
 pub out_gain : (start pages : ℕ) (xs : List Bool) → out_count (with_run start pages true xs) ≡ out_count xs + count_pages (length xs) (λ p. in_run start pages p && not (is_out_in xs p))
@@ -130,23 +133,11 @@ others_count [] = refl
 others_count (true ∷ xs) = omega (arith, sum_by-cons (λ (b : Bool). cond b 1 0) true xs, sum_by-cons (λ (b : Bool). cond (not b) 1 0) true xs, others_count xs)
 others_count (false ∷ xs) = omega (arith, sum_by-cons (λ (b : Bool). cond b 1 0) false xs, sum_by-cons (λ (b : Bool). cond (not b) 1 0) false xs, others_count xs)
 
--- the pages that are out, with these numbers
-abbrev pub with_counts : List Bool → Counts → ReclaimView
-with_counts out counts = record { out = out; counts = counts }
-
--- one refault more
-abbrev pub refaulted : List Bool → Counts → ReclaimView
-refaulted out counts = with_counts out (record counts { refaults = counts.refaults + 1 })
-
--- a page that was out comes back
-pub one_back : (page count : ℕ) (xs : List Bool) → page < length xs → is_out_in xs page ≡ true → count ≡ count_pages (length xs) (λ p. in_run page 1 p && is_out_in xs p) → count ≡ 1
-one_back page count xs here out is = is ∙ one_counts page (length xs) (is_out_in xs) here ∙ ap (λ b. cond b 1 0) out
-
--- a refault
-pub refault_is : (page : ℕ) (old new : List Bool) (counts : Counts) → page < length old → is_out_in old page ≡ true → new ≡ with_run page 1 false old → refaulted new counts ≡ after_touch page (with_counts old counts)
-refault_is page old new counts here out is =
-    ap (λ xs. refaulted xs counts) (is ∙ one_comes_back page old here)
-    ∙ ap (λ (b : Bool). with_counts (slice_set old page false) (record counts { refaults = counts.refaults + cond b 1 0 })) (sym out)
+-- a page that is touched is out no more
+pub touch_loss : (page : ℕ) (xs : List Bool) → page < length xs → out_count (slice_set xs page false) + cond (is_out_in xs page) 1 0 ≡ out_count xs
+touch_loss page xs here =
+    let sum = sum_by-set (λ (b : Bool). cond b 1 0) xs page false false here in
+    omega (arith, sum)
 
 -- a page that is resident stays so when it is touched
 pub resident_stays : (page : ℕ) (xs : List Bool) → is_out_in xs page ≡ false → slice_set xs page false ≡ xs

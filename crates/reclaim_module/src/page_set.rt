@@ -1,7 +1,7 @@
-ghost use Rattle.std.specs.Prelude.{◌≡◌, ◌+◌, ◌^◌, ◌≤◌, ◌<◌, ◌&&◌, false, length, replicate, IfOk};
+ghost use Rattle.std.specs.Prelude.{◌≡◌, ◌+◌, ◌^◌, ◌≤◌, ◌<◌, ◌&&◌, false, length, replicate, slice_set, IfOk};
 ghost use Rattle.reclaim_module.specs.Calls.{with_run};
 ghost use Rattle.reclaim_module.specs.Kept.{differs};
-ghost use Rattle.reclaim_module.specs.Pages.{count_pages, in_run, is_out_in};
+ghost use Rattle.reclaim_module.specs.Pages.{count_pages, in_run, is_out_in, out_count};
 
 use crate::words::{WORD, is_page_set, put_bits_of_run};
 use std::alloc::{AllocError, Global};
@@ -36,6 +36,7 @@ impl PageSet {
     }
 
     /// The number of pages of the space.
+    #[tactic(auto, using(crate::proofs::Counting::length_pages))]
     pub(crate) fn pages(&self) -> u32
         ensures { result ≡ length self.now }
     {
@@ -50,13 +51,28 @@ impl PageSet {
         is_page_set(&self.words, page)
     }
 
+    /// Takes a page out of the set, and returns whether it was in it.
+    #[tactic(auto, using(crate::proofs::Moving::one_comes_back))]
+    pub(crate) fn take(&mut self, page: u32) -> bool
+        requires { page < length self.old }
+        ensures result { result ≡ is_out_in self.old page }
+        ensures set { self.new ≡ slice_set self.old page false }
+    {
+        // Most pages that are touched are resident, and then this only reads.
+        let was_in = self.has(page);
+        if was_in {
+            self.put_run(page, 1, false);
+        }
+        was_in
+    }
+
     /// Puts the pages of a run into the set, or takes them out of it. Returns how many of them were not so.
     pub(crate) fn put_run(&mut self, start: u32, pages: u32, now: bool) -> u32
         requires { start + pages ≤ length self.old }
         ensures set { self.new ≡ with_run start pages now self.old }
         ensures count { result ≡ count_pages (length self.old)
             (λ p. in_run start pages p && differs now (is_out_in self.old p)) }
-        ensures few { length self.old < 2 ^ 32 }
+        ensures few { out_count self.new < 2 ^ 32 }
     {
         put_bits_of_run(&mut self.words, start, pages, now)
     }

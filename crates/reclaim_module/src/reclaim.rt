@@ -56,21 +56,21 @@ impl Reclaim {
     }
 
     /// Touches a page, and returns whether it was out. If so, this is a refault, and brings it back.
+    #[tactic(auto, using(crate::proofs::Moving::touch_loss))]
     pub fn touch(&mut self, page: u32) -> bool
         requires { page < length self.old.out }
         ensures result { result ≡ is_out_in self.old.out page }
         ensures after { self.new ≡ after_touch page self.old }
     {
-        let was_out = self.set.has(page);
-        if was_out {
-            self.out -= self.set.put_run(page, 1, false);
-            self.counts.refaults += 1;
-        }
+        let was_out = self.set.take(page);
+        self.out -= u32::from(was_out);
+        self.counts.refaults += u64::from(was_out);
         was_out
     }
 
     /// Applies an action to the `pages` pages from `start` on: [`Action::Pageout`] pages them out,
     /// [`Action::Willneed`] brings them back, and all others move nothing.
+    #[tactic(auto, using(crate::proofs::Moving::out_gain, crate::proofs::Moving::out_loss))]
     pub fn apply(&mut self, start: u32, pages: u32, action: Action)
         requires within { start + pages ≤ length self.old.out }
         requires pageouts { (after_action action start pages self.old).counts.pageouts < 2 ^ 64 }
@@ -100,6 +100,7 @@ impl Reclaim {
     }
 
     /// The number of pages that are resident.
+    #[tactic(auto, using(crate::proofs::Moving::others_count))]
     pub fn resident(&self) -> u32
         ensures exact { result ≡ count_by not self.now.out }
         ensures sum { result + out_count self.now.out ≡ length self.now.out }
