@@ -1,6 +1,6 @@
 ghost use Rattle.std.specs.Prelude.{◌≡◌, ◌+◌, ◌-◌, ◌*◌, ◌/◌, ◌^◌, ◌≤◌, ◌<◌, ◌&&◌, ℕ, nat_le, nat_lt, length, if◌then◌else◌};
-ghost use Rattle.reclaim_module.specs.Kept.{bit_in, differs, is_set};
-ghost use Rattle.reclaim_module.specs.Pages.{count_pages, in_run};
+ghost use Rattle.reclaim_module.specs.Kept.{IsRunPut, bit_in, differs, is_set};
+ghost use Rattle.reclaim_module.specs.Pages.{count_pages};
 
 // How many pages a word has.
 pub(crate) const WORD: u32 = 64;
@@ -17,23 +17,51 @@ pub(crate) fn is_page_set(words: &[u64], page: u32) -> bool
 pub(crate) fn put_bits_of_run(words: &mut [u64], start: u32, pages: u32, out: bool) -> u32
     requires sum { start + pages < 2 ^ 32 }
     requires within { start + pages ≤ 64 * length words.old }
-    ensures len { length words.new ≡ length words.old }
-    ensures bits { (p : ℕ) → bit_in words.new p
-        ≡ (if in_run start pages p then out else bit_in words.old p) }
-    ensures count { (n : ℕ) → start + pages ≤ n → result
-        ≡ count_pages n (λ p. in_run start pages p && differs out (bit_in words.old p)) }
+    ensures { IsRunPut words.old words.new start pages out result }
 {
     let end = start + pages;
+    let first = start / WORD;
+    let last = end / WORD;
+    if first == last {
+        return put_part(words, first, start % WORD, end % WORD, out);
+    }
+    // The words in the middle need no masks, so their loop takes several at once.
+    let head = put_part(words, first, start % WORD, WORD, out);
+    let whole = put_words(words, first + 1, last, out);
+    let tail = put_part(words, last, 0, end % WORD, out);
+    head + whole + tail
+}
+
+// The same for the words from `from` to before `to`.
+fn put_words(words: &mut [u64], from: u32, to: u32, out: bool) -> u32
+    requires order { from ≤ to }
+    requires sum { 64 * to < 2 ^ 32 }
+    requires within { to ≤ length words.old }
+    ensures { IsRunPut words.old words.new (64 * from) (64 * (to - from)) out result }
+{
     let mut count = 0;
-    for index in start / WORD..end.div_ceil(WORD) {
-        let first = index * WORD;
-        let mask = ones_between(start.saturating_sub(first), (end - first).min(WORD));
-        count += put_bits(&mut words[index as usize], mask, out);
+    for index in from..to {
+        count += put_part(words, index, 0, WORD, out);
     }
     count
 }
 
+// The same for the bits from `from` to before `to` of one word.
+#[inline(always)]
+fn put_part(words: &mut [u64], index: u32, from: u32, to: u32, out: bool) -> u32
+    requires order { from ≤ to }
+    requires bits { to ≤ 64 }
+    requires within { 64 * index + to ≤ 64 * length words.old }
+    ensures { IsRunPut words.old words.new (64 * index + from) (to - from) out result }
+{
+    if from == to {
+        return 0;
+    }
+    put_bits(&mut words[index as usize], ones_between(from, to), out)
+}
+
 // The word with ones from bit `from` to before bit `to`.
+#[inline(always)]
 fn ones_between(from: u32, to: u32) -> u64
     requires from { from < 64 }
     requires some { 1 ≤ to }
@@ -44,6 +72,7 @@ fn ones_between(from: u32, to: u32) -> u64
 }
 
 // Sets the bits of the mask to `out`, and returns how many of them were not so.
+#[inline(always)]
 fn put_bits(word: &mut u64, mask: u64, out: bool) -> u32
     ensures bits { (i : ℕ) → i < 64 → is_set word.new i
         ≡ (if is_set mask i then out else is_set word.old i) }

@@ -1,43 +1,35 @@
-use Rattle.std.proofs.Common.{◌≡◌, ◌+◌, ◌*◌, ◌&&◌, refl, length-set, ◌∙◌, arith}
-use Rattle.reclaim_module.specs.Kept.{bit_in, differs}
-use Rattle.reclaim_module.specs.Pages.{count_pages, in_run}
-use Rattle.reclaim_module.proofs.Counting.{count_run_le}
-use Rattle.reclaim_module.proofs.Masking.{IsStep, bits_first, bits_step, count_first, count_last, count_step, masked_by}
+use Rattle.std.proofs.Common.{◌+◌, ◌-◌, ◌*◌, ◌/◌, ◌%◌, arith}
+use Rattle.reclaim_module.proofs.Masking.{run_put_at, run_put_few, run_put_joins}
 use Rattle.reclaim_module.proofs.words.put_bits_of_run.Goals as goal
 
--- what a step of the loop knows
-step : (c : goal.After-put_bits-count) → IsStep c.args.words.now c.loop-index.words c.args.start c.args.pages c.loop-index.index c.ones_between-mask.result c.put_bits-count.new.word c.args.out
-step c = record {
-  here = omega arith;
-  so_far = c.loop-index.invariant.bits;
-  masked = masked_by c.args.start c.args.pages c.loop-index.index c.saturating_sub.result c.min.result c.ones_between-mask.result c.ones_between-mask.ensures c.saturating_sub.ensures c.min.ensures;
-  put = c.put_bits-count.ensures.bits;
-}
+pub overflow_add-result : goal.overflow_add-result
+overflow_add-result c =
+    let head = run_put_few c.args.words.now c.put_part-head.new.words _ _ c.args.out c.put_part-head.result c.put_part-head.ensures in
+    let whole = run_put_few c.put_part-head.new.words c.put_words-whole.new.words _ _ c.args.out c.put_words-whole.result c.put_words-whole.ensures in
+    omega (arith, head, whole, c.requires.sum)
 
--- the count after it
-counted : (c : goal.After-put_bits-count) → c.loop-index.count + c.put_bits-count.result ≡ count_pages (64 * (c.loop-index.index + 1)) (λ p. in_run c.args.start c.args.pages p && differs c.args.out (bit_in c.args.words.now p))
-counted c = count_step c.args.words.now c.loop-index.words c.args.start c.args.pages c.loop-index.index c.ones_between-mask.result c.put_bits-count.new.word c.loop-index.count c.put_bits-count.result c.args.out (step c) c.loop-index.invariant.count c.put_bits-count.ensures.count
+pub overflow_add-result-2 : goal.overflow_add-result-2
+overflow_add-result-2 c =
+    let head = run_put_few c.args.words.now c.put_part-head.new.words _ _ c.args.out c.put_part-head.result c.put_part-head.ensures in
+    let whole = run_put_few c.put_part-head.new.words c.put_words-whole.new.words _ _ c.args.out c.put_words-whole.result c.put_words-whole.ensures in
+    let tail = run_put_few c.put_words-whole.new.words c.put_part-tail.new.words _ _ c.args.out c.put_part-tail.result c.put_part-tail.ensures in
+    omega (arith, head, whole, tail, c.requires.sum)
 
-pub loop-index-init : goal.loop-index-init
-loop-index-init c = record {
-  len = refl;
-  bits = λ p. bits_first c.args.words.now c.args.start c.args.pages p c.args.out;
-  count = count_first c.args.words.now c.args.start c.args.pages c.args.out;
-}
-
-pub overflow_add-count : goal.overflow_add-count
-overflow_add-count c =
-    let most = count_run_le (64 * (c.loop-index.index + 1)) c.args.start c.args.pages (λ p. differs c.args.out (bit_in c.args.words.now p)) in
-    omega (arith, counted c, most, c.requires.sum)
-
-pub loop-index-preserved : goal.loop-index-preserved
-loop-index-preserved c = record {
-  len = length-set c.loop-index.words c.loop-index.index c.put_bits-count.new.word ∙ c.loop-index.invariant.len;
-  bits = bits_step c.args.words.now c.loop-index.words c.args.start c.args.pages c.loop-index.index c.ones_between-mask.result c.put_bits-count.new.word c.args.out (step c);
-  count = counted c;
-}
-
-pub returns-clause-count : goal.returns-clause-count
-returns-clause-count c = λ n within.
-    c.loop-index.invariant.count
-    ∙ count_last c.args.words.now c.args.start c.args.pages (64 * c.loop-index.index) n c.args.out (omega arith) within
+pub returns : goal.returns
+returns c =
+    let old = c.args.words.now in
+    let one = c.put_part-head.new.words in
+    let two = c.put_words-whole.new.words in
+    let new = c.put_part-tail.new.words in
+    let start = c.args.start in
+    let end = start + c.args.pages in
+    let n = 64 - start % 64 in
+    let m = 64 * (end / 64 - (start / 64 + 1)) in
+    let k = end % 64 in
+    let order = c.if-first-last.false in
+    let head = run_put_at old one _ start _ n c.args.out c.put_part-head.result (omega arith) (omega arith) c.put_part-head.ensures in
+    let whole = run_put_at one two _ (start + n) _ m c.args.out c.put_words-whole.result (omega arith) (omega arith) c.put_words-whole.ensures in
+    let tail = run_put_at two new _ (start + (n + m)) _ k c.args.out c.put_part-tail.result (omega (arith, order)) (omega arith) c.put_part-tail.ensures in
+    let front = run_put_joins old one two start n m c.args.out c.put_part-head.result c.put_words-whole.result head whole in
+    let all = run_put_joins old two new start (n + m) k c.args.out (c.put_part-head.result + c.put_words-whole.result) c.put_part-tail.result front tail in
+    run_put_at old new start start (n + m + k) c.args.pages c.args.out (c.put_part-head.result + c.put_words-whole.result + c.put_part-tail.result) (omega arith) (omega (arith, order)) all
