@@ -1,5 +1,5 @@
 -- What the events of a monitor make of the pages that are out.
-use Rattle.std.proofs.Common.{◌≡◌, ℕ, zero, suc, ◌+◌, ◌<◌, Bool, true, false, List, [], ◌∷◌, ◌++◌, map, length, reverse, refl, sym, ap, subst, ◌∙◌}
+use Rattle.std.proofs.Common.{◌≡◌, ℕ, zero, suc, ◌+◌, ◌<◌, Bool, true, false, List, [], ◌∷◌, ◌++◌, map, length, reverse, refl, sym, ap, subst, ◌∙◌, take, get_or}
 use Rattle.std.specs.Prelude.{Option, Some, None, Result, Ok, Err, filter_map, slice_index, if◌then◌else◌}
 use Rattle.std.specs.List.{AllByRecursion}
 use Rattle.std.specs.Option.{option_map_or}
@@ -9,6 +9,7 @@ use Rattle.damon_types.specs.declared.scheme.Quota.{Quota}
 use Rattle.damon_types.specs.declared.scheme.Scheme.{Scheme}
 use Rattle.damon_types.specs.declared.scheme.SlotChange.{SlotChange}
 use Rattle.std.proofs.lemmas.Grind.{reverse_onto}
+use Rattle.std.proofs.lemmas.List.{take_more}
 use Rattle.damon_types.specs.declared.space.Target.{Target}
 use Rattle.damon_types.specs.Space.{pages_of}
 use Rattle.damon_types.specs.Span.{Span, spans}
@@ -55,9 +56,15 @@ applied_alike now notes (run ∷ runs) r same =
     ap (λ action. after_applied now runs (after_action action run.start run.pages r)) (ap (λ held. option_map_or (λ (scheme : Scheme). scheme.action) held Stat) (same run.slot))
     ∙ applied_alike now notes runs (after_action (action_in notes run.slot) run.start run.pages r) same
 
-applied-append : (notes : List Note) (runs more : List AppliedRun) (r : ReclaimView) → after_applied notes (runs ++ more) r ≡ after_applied notes more (after_applied notes runs r)
+pub applied-append : (notes : List Note) (runs more : List AppliedRun) (r : ReclaimView) → after_applied notes (runs ++ more) r ≡ after_applied notes more (after_applied notes runs r)
 applied-append notes [] more r = refl
 applied-append notes (run ∷ runs) more r = applied-append notes runs more (after_action (action_in notes run.slot) run.start run.pages r)
+
+-- one run more
+pub applied_next : (notes : List Note) (runs : List AppliedRun) (i : ℕ) (none : AppliedRun) (r : ReclaimView) → i < length runs → after_applied notes (take (i + 1) runs) r ≡ (let run = get_or runs i none in after_action (action_in notes run.slot) run.start run.pages (after_applied notes (take i runs) r))
+applied_next notes runs i none r here =
+    ap (λ all. after_applied notes all r) (take_more runs i none here)
+    ∙ applied-append notes (take i runs) (get_or runs i none ∷ []) r
 
 all_append : {X : Type 0} (P : X → Type 0) (xs ys : List X) → AllByRecursion P xs → AllByRecursion P ys → AllByRecursion P (xs ++ ys)
 all_append P [] ys all more = more

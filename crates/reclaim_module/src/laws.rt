@@ -1,5 +1,5 @@
 // What the calls make of a monitor's notes, for the crates above. No function here does anything.
-ghost use Rattle.std.specs.Prelude.{◌≡◌, ℕ, ◌+◌, ◌-◌, ◌*◌, ◌≤◌, ◌<◌, Bool, not, List, [], ◌∷◌, ◌++◌, Some, None, length, take};
+ghost use Rattle.std.specs.Prelude.{◌≡◌, ℕ, ◌+◌, ◌-◌, ◌*◌, ◌≤◌, ◌<◌, Bool, not, List, [], ◌∷◌, ◌++◌, Some, None, get_or, length, take};
 ghost use Rattle.std.specs.List.{AllByRecursion};
 ghost use Rattle.damon_types.specs.declared.scheme.Action.{Action};
 ghost use Rattle.damon_types.specs.declared.scheme.Scheme.{Scheme};
@@ -17,7 +17,7 @@ ghost use Rattle.reclaim_module.specs.Calls.{after_action, after_touch, all_resi
 ghost use Rattle.reclaim_module.specs.Counts.{pageouts_of, prefetches_of, refaults_of};
 ghost use Rattle.reclaim_module.specs.Out.{is_out};
 ghost use Rattle.reclaim_module.specs.Pages.{ReclaimView, count_pages};
-ghost use Rattle.reclaim_module.specs.Stands.{MovesNothing, ReclaimStands, TouchesWithin, after_applied, after_event, after_runs};
+ghost use Rattle.reclaim_module.specs.Stands.{MovesNothing, ReclaimStands, TouchesWithin, action_in, after_applied, after_event, after_runs};
 
 /// A new model stands for notes that move nothing, as those of an opening are. Where a model stands for
 /// notes, it stands after a touch for the notes with that touch; after the runs of a scheme, for the notes
@@ -68,9 +68,9 @@ pub fn pages_out_balance()
     ensures touches { (s : State) → Reached s → TouchesWithin (pages_of s.core.space) s.notes }
 {}
 
-/// In an aggregation each page goes out at most eight and a half times on average, since 16 slots are
-/// served: it only goes out again once it was prefetched. So in each reached state as many went out as
-/// there were passes before the last aggregation, at most. The first runs page out no more than all.
+/// An aggregation serves 16 slots, and a page only goes out again once it was prefetched. So it pages out
+/// at most eight and a half times the pages of the space, and in each reached state this holds for each
+/// pass up to the last aggregation. The first runs of an aggregation page out no more than all.
 pub fn few_pages_go_out()
     ensures aggregated { (pages : ℕ) (words : List ℕ) (s : State)
         → 2 * pageouts_of pages (aggregated words s).notes
@@ -94,4 +94,17 @@ pub fn pages_stay()
         → length (after_applied notes runs r).out ≡ length r.out }
     ensures event { (e : Event) (s : State) (r : ReclaimView)
         → length (after_event e s r).out ≡ length r.out }
+{}
+
+/// Runs that are applied to follow one another: those of a list and then others, or one more each time.
+pub fn applied_runs_follow()
+    ensures others { (notes : List Note) (runs others : List AppliedRun) (r : ReclaimView)
+        → after_applied notes (runs ++ others) r
+        ≡ after_applied notes others (after_applied notes runs r) }
+    ensures next { (notes : List Note) (runs : List AppliedRun) (i : ℕ) (none : AppliedRun)
+        (r : ReclaimView) → i < length runs
+        → after_applied notes (take (i + 1) runs) r
+        ≡ (let run = get_or runs i none in
+        after_action (action_in notes run.slot) run.start run.pages
+        (after_applied notes (take i runs) r)) }
 {}

@@ -11,4 +11,7 @@ mod reclaim;
 /// One bit for each page, in words.
 mod words;
 
+pub use laws::{
+    applied_runs_follow, few_pages_go_out, model_stands_for_notes, pages_out_balance, pages_stay,
+};
 pub use reclaim::{Counts, Reclaim};

@@ -18,7 +18,8 @@ pub struct Counts {
     pub prefetches: u64,
 }
 
-/// Which pages of a space are out, and how many went out and came back. All others are resident.
+/// Which pages of a space are out, and how many went out and came back. All others are resident. It takes a
+/// bit for each page.
 #[derive(Drop)]
 pub struct Reclaim {
     set: PageSet,
@@ -68,8 +69,9 @@ impl Reclaim {
         was_out
     }
 
-    /// Applies an action to the `pages` pages from `start` on: [`Action::Pageout`] pages them out,
-    /// [`Action::Willneed`] brings them back, and all others move nothing.
+    /// Applies an action to the `pages` pages from `start` on, which lie in the space: [`Action::Pageout`]
+    /// pages them out, [`Action::Willneed`] brings them back, and all others move nothing. What went out
+    /// must fit in 64 bits; what came back is part of it.
     #[tactic(auto, using(crate::proofs::Moving::out_gain, crate::proofs::Moving::out_loss))]
     pub fn apply(&mut self, start: u32, pages: u32, action: Action)
         requires within { start + pages ≤ length self.old.out }
