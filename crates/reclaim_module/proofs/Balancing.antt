@@ -21,7 +21,7 @@ use Rattle.damon_core.specs.Slots.{charged_of, cost_of, is_active_in, scheme_of,
 use Rattle.damon_core.specs.State.{State}
 use Rattle.reclaim_module.specs.Calls.{after_action}
 use Rattle.reclaim_module.specs.Counts.{pageouts_of, prefetches_of, refaults_of}
-use Rattle.reclaim_module.specs.Out.{is_in, is_out, is_paged_out, is_pageout, is_prefetched, is_touch_of, is_willneed, pages_out, prefetches}
+use Rattle.reclaim_module.specs.Out.{is_in, is_out, is_paged_out, is_pageout, is_prefetched, is_touch_of, is_willneed, holds_pageout, holds_willneed}
 use Rattle.reclaim_module.specs.Pages.{ReclaimView, count_pages, in_run}
 use Rattle.reclaim_module.specs.Stands.{TouchesWithin, action_in, after_applied}
 use Rattle.reclaim_module.proofs.Counting.{count_adds, count_all, count_evens, count_none}
@@ -48,7 +48,7 @@ one_action Nohugepage = refl
 one_action LruPrio = refl
 one_action LruDeprio = refl
 
-one_held : (held : Option Scheme) → (pages_out held && prefetches held) ≡ false
+one_held : (held : Option Scheme) → (holds_pageout held && holds_willneed held) ≡ false
 one_held None = refl
 one_held (Some scheme) = one_action scheme.action
 
@@ -59,7 +59,7 @@ record IsOneWay (note : Note) (notes : List Note) : Type 0 where
 
 ran_is_one_way : (slot tick tried : ℕ) (runs : List AppliedRun) (exceeds : Bool) (notes : List Note) → IsOneWay (ran slot tick tried runs exceeds) notes
 ran_is_one_way slot tick tried runs exceeds notes = record {
-  way = λ p. both (pages_out (scheme_of notes slot)) (prefetches (scheme_of notes slot)) (is_in runs p) (one_held (scheme_of notes slot));
+  way = λ p. both (holds_pageout (scheme_of notes slot)) (holds_willneed (scheme_of notes slot)) (is_in runs p) (one_held (scheme_of notes slot));
   touch = λ p. refl;
 } where
   both : (a b c : Bool) → (a && b) ≡ false → ((a && c) && (b && c)) ≡ false

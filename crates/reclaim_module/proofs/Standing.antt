@@ -14,7 +14,7 @@ use Rattle.damon_core.specs.Note.{Note, touched, cleared, checked, finished, voi
 use Rattle.damon_core.specs.Slots.{scheme_of}
 use Rattle.reclaim_module.specs.Calls.{after_action, after_touch, all_resident, paged_out, prefetched, with_run}
 use Rattle.reclaim_module.specs.Counts.{pageouts_of, prefetches_of, refaults_of}
-use Rattle.reclaim_module.specs.Out.{is_in, is_out, is_paged_out, is_pageout, is_prefetched, is_touch_of, is_willneed, pages_out, prefetches}
+use Rattle.reclaim_module.specs.Out.{is_in, is_out, is_paged_out, is_pageout, is_prefetched, is_touch_of, is_willneed, holds_pageout, holds_willneed}
 use Rattle.reclaim_module.specs.Pages.{ReclaimView, each_page, in_run, is_out_in}
 use Rattle.reclaim_module.specs.Stands.{MovesNothing, ReclaimStands, after_runs}
 use Rattle.reclaim_module.proofs.Counting.{at_page, count_adds, count_none, count_same}
@@ -94,8 +94,8 @@ still_by (cost i nanos) notes m = record { gone = λ p. refl; back = λ p. refl;
 -- a run of a scheme that was applied to nothing
 pub still_without_runs : (slot tick tried : ℕ) (exceeds : Bool) (notes : List Note) → IsStill (ran slot tick tried [] exceeds) notes
 still_without_runs slot tick tried exceeds notes = record {
-  gone = λ p. and_false (pages_out (scheme_of notes slot));
-  back = λ p. and_false (prefetches (scheme_of notes slot));
+  gone = λ p. and_false (holds_pageout (scheme_of notes slot));
+  back = λ p. and_false (holds_willneed (scheme_of notes slot));
   touch = λ p. refl;
   refaults = refl;
 }
@@ -146,7 +146,7 @@ is_in_more runs run p =
 -- Whether a page is out after a run of a scheme: by whether the scheme pages out, whether it prefetches, whether the page is in a
 -- run, and whether it was out before.
 abbrev out_value : Bool → Bool → Bool → Bool → Bool
-out_value pages_out prefetches inside out = (pages_out && inside) || (out && not (false || (prefetches && inside)))
+out_value gone back inside out = (gone && inside) || (out && not (false || (back && inside)))
 
 gone_out : (d r o : Bool) → out_value true false (d || r) o ≡ (if r then true else out_value true false d o)
 gone_out true true o = refl
@@ -192,12 +192,12 @@ module _ (slot tick tried : ℕ) (done : List AppliedRun) (run : AppliedRun) (ex
   more = ran slot tick tried (done ++ run ∷ []) exceeds ∷ notes
 
   abbrev gone : Bool
-  gone = pages_out (scheme_of notes slot)
+  gone = holds_pageout (scheme_of notes slot)
 
   abbrev back : Bool
-  back = prefetches (scheme_of notes slot)
+  back = holds_willneed (scheme_of notes slot)
 
-  pub stands_gone : pages_out (scheme_of notes slot) ≡ true → prefetches (scheme_of notes slot) ≡ false → ReclaimStands r (ran slot tick tried done exceeds ∷ notes) → ReclaimStands (paged_out run.start run.pages r) (ran slot tick tried (done ++ run ∷ []) exceeds ∷ notes)
+  pub stands_gone : holds_pageout (scheme_of notes slot) ≡ true → holds_willneed (scheme_of notes slot) ≡ false → ReclaimStands r (ran slot tick tried done exceeds ∷ notes) → ReclaimStands (paged_out run.start run.pages r) (ran slot tick tried (done ++ run ∷ []) exceeds ∷ notes)
   stands_gone po pf s =
       let n = length r.out in
       let now : (p : ℕ) → (if in_run run.start run.pages p then true else is_out before p) ≡ is_out more p = λ p.
@@ -229,7 +229,7 @@ module _ (slot tick tried : ℕ) (done : List AppliedRun) (run : AppliedRun) (ex
       s.refaults
       (omega (arith, s.prefetches, same))
 
-  pub stands_back : pages_out (scheme_of notes slot) ≡ false → prefetches (scheme_of notes slot) ≡ true → ReclaimStands r (ran slot tick tried done exceeds ∷ notes) → ReclaimStands (prefetched run.start run.pages r) (ran slot tick tried (done ++ run ∷ []) exceeds ∷ notes)
+  pub stands_back : holds_pageout (scheme_of notes slot) ≡ false → holds_willneed (scheme_of notes slot) ≡ true → ReclaimStands r (ran slot tick tried done exceeds ∷ notes) → ReclaimStands (prefetched run.start run.pages r) (ran slot tick tried (done ++ run ∷ []) exceeds ∷ notes)
   stands_back po pf s =
       let n = length r.out in
       let now : (p : ℕ) → (if in_run run.start run.pages p then false else is_out before p) ≡ is_out more p = λ p.
@@ -262,7 +262,7 @@ module _ (slot tick tried : ℕ) (done : List AppliedRun) (run : AppliedRun) (ex
       (omega (arith, s.prefetches, adds))
 
 -- a run of a slot whose scheme, if it holds one, moves no page
-pub still_ran : (slot tick tried : ℕ) (runs : List AppliedRun) (exceeds : Bool) (notes : List Note) → pages_out (scheme_of notes slot) ≡ false → prefetches (scheme_of notes slot) ≡ false → IsStill (ran slot tick tried runs exceeds) notes
+pub still_ran : (slot tick tried : ℕ) (runs : List AppliedRun) (exceeds : Bool) (notes : List Note) → holds_pageout (scheme_of notes slot) ≡ false → holds_willneed (scheme_of notes slot) ≡ false → IsStill (ran slot tick tried runs exceeds) notes
 still_ran slot tick tried runs exceeds notes po pf = record {
   gone = λ p. ap (λ b. b && is_in runs p) po;
   back = λ p. ap (λ b. b && is_in runs p) pf;
@@ -281,10 +281,10 @@ still_instead note other r notes still also s = record {
 
 -- one run more, by the action of the scheme
 module _ (slot tick tried : ℕ) (done : List AppliedRun) (run : AppliedRun) (exceeds : Bool) (notes : List Note) (r : ReclaimView) where
-  moves_none : pages_out (scheme_of notes slot) ≡ false → prefetches (scheme_of notes slot) ≡ false → ReclaimStands r (ran slot tick tried done exceeds ∷ notes) → ReclaimStands r (ran slot tick tried (done ++ run ∷ []) exceeds ∷ notes)
+  moves_none : holds_pageout (scheme_of notes slot) ≡ false → holds_willneed (scheme_of notes slot) ≡ false → ReclaimStands r (ran slot tick tried done exceeds ∷ notes) → ReclaimStands r (ran slot tick tried (done ++ run ∷ []) exceeds ∷ notes)
   moves_none po pf s = still_instead (ran slot tick tried done exceeds) (ran slot tick tried (done ++ run ∷ []) exceeds) r notes (still_ran slot tick tried done exceeds notes po pf) (still_ran slot tick tried (done ++ run ∷ []) exceeds notes po pf) s
 
-  by_action : (a : Action) → pages_out (scheme_of notes slot) ≡ is_pageout a → prefetches (scheme_of notes slot) ≡ is_willneed a → ReclaimStands r (ran slot tick tried done exceeds ∷ notes) → ReclaimStands (after_action a run.start run.pages r) (ran slot tick tried (done ++ run ∷ []) exceeds ∷ notes)
+  by_action : (a : Action) → holds_pageout (scheme_of notes slot) ≡ is_pageout a → holds_willneed (scheme_of notes slot) ≡ is_willneed a → ReclaimStands r (ran slot tick tried done exceeds ∷ notes) → ReclaimStands (after_action a run.start run.pages r) (ran slot tick tried (done ++ run ∷ []) exceeds ∷ notes)
   by_action Pageout po pf s = stands_gone slot tick tried done run exceeds notes r po pf s
   by_action Willneed po pf s = stands_back slot tick tried done run exceeds notes r po pf s
   by_action Stat po pf s = moves_none po pf s
@@ -295,7 +295,7 @@ module _ (slot tick tried : ℕ) (done : List AppliedRun) (run : AppliedRun) (ex
   by_action LruDeprio po pf s = moves_none po pf s
 
   pub stands_one_run : (scheme : Scheme) → scheme_of notes slot ≡ Some scheme → ReclaimStands r (ran slot tick tried done exceeds ∷ notes) → ReclaimStands (after_action scheme.action run.start run.pages r) (ran slot tick tried (done ++ run ∷ []) exceeds ∷ notes)
-  stands_one_run scheme held s = by_action scheme.action (ap pages_out held) (ap prefetches held) s
+  stands_one_run scheme held s = by_action scheme.action (ap holds_pageout held) (ap holds_willneed held) s
 
 -- all runs, after those that are done
 stands_runs : (slot tick tried : ℕ) (done runs : List AppliedRun) (exceeds : Bool) (notes : List Note) (r : ReclaimView) (scheme : Scheme) → scheme_of notes slot ≡ Some scheme → ReclaimStands r (ran slot tick tried done exceeds ∷ notes) → ReclaimStands (after_runs scheme.action runs r) (ran slot tick tried (done ++ runs) exceeds ∷ notes)
@@ -313,7 +313,7 @@ stands_ran slot tick tried runs exceeds scheme r notes held s =
 -- a run of a slot that holds no scheme
 pub stands_unset : (slot tick tried : ℕ) (runs : List AppliedRun) (exceeds : Bool) (r : ReclaimView) (notes : List Note) → scheme_of notes slot ≡ None → ReclaimStands r notes → ReclaimStands r (ran slot tick tried runs exceeds ∷ notes)
 stands_unset slot tick tried runs exceeds r notes none s =
-    stands_still (ran slot tick tried runs exceeds) r notes (still_ran slot tick tried runs exceeds notes (ap pages_out none) (ap prefetches none)) s
+    stands_still (ran slot tick tried runs exceeds) r notes (still_ran slot tick tried runs exceeds notes (ap holds_pageout none) (ap holds_willneed none)) s
 
 -- the number of pages stays
 pub length_after_action : (action : Action) (start pages : ℕ) (r : ReclaimView) → length (after_action action start pages r).out ≡ length r.out

@@ -10,21 +10,23 @@ use Rattle.damon_core.specs.Note.{Note, touched, ran}
 use Rattle.damon_core.specs.Slots.{scheme_of}
 use Rattle.reclaim_module.specs.Pages.{in_run}
 
+-- whether an action pages out
 abbrev pub is_pageout : Action → Bool
 is_pageout Pageout = true
 is_pageout _ = false
 
+-- whether an action brings pages back
 abbrev pub is_willneed : Action → Bool
 is_willneed Willneed = true
 is_willneed _ = false
 
 -- whether a slot holds a scheme with the action `pageout`
-abbrev pub pages_out : Option Scheme → Bool
-pages_out held = option_map_or (λ scheme. is_pageout scheme.action) held false
+abbrev pub holds_pageout : Option Scheme → Bool
+holds_pageout held = option_map_or (λ scheme. is_pageout scheme.action) held false
 
 -- whether a slot holds a scheme with the action `willneed`
-abbrev pub prefetches : Option Scheme → Bool
-prefetches held = option_map_or (λ scheme. is_willneed scheme.action) held false
+abbrev pub holds_willneed : Option Scheme → Bool
+holds_willneed held = option_map_or (λ scheme. is_willneed scheme.action) held false
 
 -- whether a page is in one of the runs
 abbrev pub is_in : List AppliedRun → ℕ → Bool
@@ -32,12 +34,12 @@ is_in runs page = list_any (λ r. in_run r.start r.pages page) runs
 
 -- whether a note, with those before it, is a run of a `pageout` scheme with the page in a run
 abbrev pub is_paged_out : List Note → Note → ℕ → Bool
-is_paged_out earlier (ran slot tick tried runs exceeds) page = pages_out (scheme_of earlier slot) && is_in runs page
+is_paged_out earlier (ran slot tick tried runs exceeds) page = holds_pageout (scheme_of earlier slot) && is_in runs page
 is_paged_out earlier _ page = false
 
 -- whether it is a run of a `willneed` scheme with the page in a run
 abbrev pub is_prefetched : List Note → Note → ℕ → Bool
-is_prefetched earlier (ran slot tick tried runs exceeds) page = prefetches (scheme_of earlier slot) && is_in runs page
+is_prefetched earlier (ran slot tick tried runs exceeds) page = holds_willneed (scheme_of earlier slot) && is_in runs page
 is_prefetched earlier _ page = false
 
 -- whether it is a touch of the page
