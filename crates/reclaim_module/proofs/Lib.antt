@@ -6,4 +6,5 @@ pub mod Standing
 pub mod Serving
 pub mod Balancing
 pub mod Reaching
+pub mod Following
 mod Examples

@@ -26,10 +26,10 @@ use Rattle.damon_core.specs.Serve.{Serving, nothing_served, run_served, serve_sc
 use Rattle.damon_core.specs.Slots.{charged_of, cost_of, is_active_in, scheme_of, slot_count}
 use Rattle.damon_core.specs.State.{Core, State, opening, opening_notes, row_count}
 use Rattle.reclaim_module.specs.Counts.{pageouts_of}
-use Rattle.reclaim_module.specs.Stands.{IsTouchWithin, MovesNothing, TouchesWithin}
+use Rattle.reclaim_module.specs.Stands.{IsTouchWithin, LeavesPages, MovesNothing, TouchesWithin}
 use Rattle.reclaim_module.proofs.Balancing.{aggregated_few}
 use Rattle.reclaim_module.proofs.Counting.{count_none}
-use Rattle.reclaim_module.proofs.Serving.{IsOther, opening_is_still, other_keeps}
+use Rattle.reclaim_module.proofs.Serving.{opening_is_still, other_keeps}
 use Rattle.reclaim_module.proofs.Standing.{still_by, still_pageouts}
 
 -- a note that moves nothing is no touch
@@ -146,7 +146,7 @@ commit_next parts s (Ok t) ticking = record {
 }
 commit_next parts s (Err fault) ticking = same_next s.core ticking
 
-other_next : (e : Event) (s : State) → IsOther e → IsTicking s.core → IsNext s.core (after s e).core
+other_next : (e : Event) (s : State) → LeavesPages e → IsTicking s.core → IsNext s.core (after s e).core
 other_next (touch page) s other ticking = absurd other
 other_next (aggregate words) s other ticking = absurd other
 other_next (prepare words) s other ticking = record { space = refl; passes = refl; ticking = record { few = ticking.few; due = tt } }
@@ -163,7 +163,7 @@ record IsFollowed (pages : ℕ) (s : State) : Type 0 where
   touches : TouchesWithin pages s.notes
   few : 2 * pageouts_of pages s.notes ≤ 17 * pages * (s.core.ticks - s.core.since)
 
-other_followed : (pages : ℕ) (e : Event) (s : State) → IsOther e → IsFollowed pages s → IsFollowed pages (after s e)
+other_followed : (pages : ℕ) (e : Event) (s : State) → LeavesPages e → IsFollowed pages s → IsFollowed pages (after s e)
 other_followed pages e s other here =
     let next = other_next e s other here.ticking in
     record {

@@ -36,14 +36,8 @@ use Rattle.damon_core.specs.Slots.{charged_of, cost_of, is_active_in, scheme_of,
 use Rattle.damon_core.specs.State.{State, opening_notes, set_note as note_of_change}
 use Rattle.reclaim_module.specs.Calls.{after_action}
 use Rattle.reclaim_module.specs.Pages.{ReclaimView}
-use Rattle.reclaim_module.specs.Stands.{MovesNothing, ReclaimStands, action_in, after_applied, after_event, after_runs}
+use Rattle.reclaim_module.specs.Stands.{LeavesPages, MovesNothing, ReclaimStands, action_in, after_applied, after_event, after_runs}
 use Rattle.reclaim_module.proofs.Standing.{length_after_action, length_after_touch, stands_ran, stands_still, stands_touched, still_by}
-
--- an event that is no touch and no aggregation
-abbrev pub IsOther : Event → Type 0
-IsOther (touch page) = ⊥
-IsOther (aggregate words) = ⊥
-IsOther _ = Unit {0}
 
 -- one note more that moves nothing
 still : (note : Note) (r : ReclaimView) (notes : List Note) → MovesNothing note → ReclaimStands r notes → ReclaimStands r (note ∷ notes)
@@ -222,7 +216,7 @@ module _ (P : List Note → Type 0) (kept : (note : Note) (notes : List Note) �
   observe_keeps Armed s here = here
   observe_keeps Due s here = here
 
-  pub other_keeps : (e : Event) (s : State) → IsOther e → P s.notes → P (after s e).notes
+  pub other_keeps : (e : Event) (s : State) → LeavesPages e → P s.notes → P (after s e).notes
   other_keeps (touch page) s other here = absurd other
   other_keeps (prepare words) s other here = here
   other_keeps clear s other here = clear_keeps s.core.phase s here

@@ -5,6 +5,7 @@ use Rattle.std.specs.Option.{option_map_or}
 use Rattle.damon_types.specs.declared.scheme.Action.{Action}
 use Rattle.damon_types.specs.declared.scheme.Action.TheVariants.{Stat}
 use Rattle.scheme_engine.specs.declared.applied.AppliedRun.{AppliedRun}
+use Rattle.damon_core.specs.After.{after}
 use Rattle.damon_core.specs.Aggregate.{served}
 use Rattle.damon_core.specs.Event.{Event, touch, aggregate}
 use Rattle.damon_core.specs.Note.{Note, touched, ran}
@@ -48,6 +49,17 @@ abbrev pub after_event : Event → State → ReclaimView → ReclaimView
 after_event (touch page) s r = after_touch page r
 after_event (aggregate words) s r = after_applied s.notes (served s).runs r
 after_event _ s r = r
+
+-- each of these events in order
+abbrev pub after_events : List Event → State → ReclaimView → ReclaimView
+after_events [] s r = r
+after_events (e ∷ es) s r = after_events es (after s e) (after_event e s r)
+
+-- an event that moves no page: neither a touch nor an aggregation
+abbrev pub LeavesPages : Event → Type 0
+LeavesPages (touch page) = ⊥
+LeavesPages (aggregate words) = ⊥
+LeavesPages _ = Unit {0}
 
 -- a touch is of a page of the space
 abbrev pub IsTouchWithin : ℕ → Note → Type 0

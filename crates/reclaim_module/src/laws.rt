@@ -10,14 +10,14 @@ ghost use Rattle.damon_core.specs.After.{after};
 ghost use Rattle.damon_core.specs.Aggregate.{aggregated};
 ghost use Rattle.damon_core.specs.Event.{Event, Fits};
 ghost use Rattle.damon_core.specs.Note.{Note, ran, touched};
-ghost use Rattle.damon_core.specs.Reached.{Reached};
+ghost use Rattle.damon_core.specs.Reached.{AllFit, Reached, run};
 ghost use Rattle.damon_core.specs.Slots.{scheme_of};
 ghost use Rattle.damon_core.specs.State.{State, opening_notes};
 ghost use Rattle.reclaim_module.specs.Calls.{after_action, after_touch, all_resident};
 ghost use Rattle.reclaim_module.specs.Counts.{pageouts_of, prefetches_of, refaults_of};
 ghost use Rattle.reclaim_module.specs.Out.{is_out};
 ghost use Rattle.reclaim_module.specs.Pages.{ReclaimView, count_pages};
-ghost use Rattle.reclaim_module.specs.Stands.{MovesNothing, ReclaimStands, TouchesWithin, action_in, after_applied, after_event, after_runs};
+ghost use Rattle.reclaim_module.specs.Stands.{LeavesPages, MovesNothing, ReclaimStands, TouchesWithin, action_in, after_applied, after_event, after_events, after_runs};
 
 /// A new model stands for notes that move nothing, as those of an opening are. Where a model stands for
 /// notes, it stands after a touch for the notes with that touch; after the runs of a scheme, for the notes
@@ -96,7 +96,21 @@ pub fn pages_stay()
         → length (after_event e s r).out ≡ length r.out }
 {}
 
-/// Runs that are applied to follow one another: those of a list and then others, or one more each time.
+/// A model that follows events in order stands for the notes of the state after them. Those that are
+/// neither touches nor aggregations leave it as it is. The space stays.
+pub fn model_follows_events()
+    ensures stands { (es : List Event) (s : State) (r : ReclaimView)
+        → length r.out ≡ pages_of s.core.space → AllFit s es → ReclaimStands r s.notes
+        → ReclaimStands (after_events es s r) (run s es).notes }
+    ensures others { (es others : List Event) (s : State) (r : ReclaimView)
+        → after_events (es ++ others) s r
+        ≡ after_events others (run s es) (after_events es s r) }
+    ensures leave { (es : List Event) (s : State) (r : ReclaimView)
+        → AllByRecursion LeavesPages es → after_events es s r ≡ r }
+    ensures space { (e : Event) (s : State) → (after s e).core.space ≡ s.core.space }
+{}
+
+/// Runs that are applied follow one another: those of a list and then others, or one more each time.
 pub fn applied_runs_follow()
     ensures others { (notes : List Note) (runs others : List AppliedRun) (r : ReclaimView)
         → after_applied notes (runs ++ others) r

@@ -12,6 +12,7 @@ mod reclaim;
 mod words;
 
 pub use laws::{
-    applied_runs_follow, few_pages_go_out, model_stands_for_notes, pages_out_balance, pages_stay,
+    applied_runs_follow, few_pages_go_out, model_follows_events, model_stands_for_notes,
+    pages_out_balance, pages_stay,
 };
 pub use reclaim::{Counts, Reclaim};
