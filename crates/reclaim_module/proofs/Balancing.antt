@@ -1,5 +1,5 @@
 -- Each page that went out is out or came back, and how many go out in an aggregation.
-use Rattle.std.proofs.Common.{◌≡◌, inl, inr, ℕ, zero, suc, ◌+◌, ◌*◌, ◌≤◌, ◌<◌, Bool, true, false, cond, not, ◌&&◌, ◌||◌, List, [], ◌∷◌, take, refl, ap, subst, ◌∙◌, arith}
+use Rattle.std.proofs.Common.{◌≡◌, inl, inr, ℕ, zero, suc, ◌+◌, ◌*◌, ◌≤◌, ◌<◌, Bool, true, false, cond, not, ◌&&◌, ◌||◌, List, [], ◌∷◌, take, refl, ap, subst, ◌∙◌, arith, length}
 use Rattle.std.specs.Prelude.{◌==◌, Option, Some, None, if◌then◌else◌}
 use Rattle.std.specs.Option.{option_map_or}
 use Rattle.std.proofs.lemmas.Bool.{cases_eq}
@@ -22,9 +22,9 @@ use Rattle.damon_core.specs.State.{State}
 use Rattle.reclaim_module.specs.Calls.{after_action}
 use Rattle.reclaim_module.specs.Counts.{pageouts_of, prefetches_of, refaults_of}
 use Rattle.reclaim_module.specs.Out.{is_in, is_out, is_paged_out, is_pageout, is_prefetched, is_touch_of, is_willneed, holds_pageout, holds_willneed}
-use Rattle.reclaim_module.specs.Pages.{ReclaimView, count_pages, in_run}
+use Rattle.reclaim_module.specs.Pages.{ReclaimView, count_pages, in_run, is_out_in}
 use Rattle.reclaim_module.specs.Stands.{TouchesWithin, action_in, after_applied}
-use Rattle.reclaim_module.proofs.Counting.{count_adds, count_all, count_evens, count_none}
+use Rattle.reclaim_module.proofs.Counting.{count_adds, count_all, count_evens, count_none, count_run_le}
 use Rattle.reclaim_module.proofs.Moving.{count_le, one_counts, one_page}
 use Rattle.reclaim_module.proofs.Standing.{touched_other, touched_same}
 
@@ -221,6 +221,17 @@ action_keeps Hugepage start pages r = omega arith
 action_keeps Nohugepage start pages r = omega arith
 action_keeps LruPrio start pages r = omega arith
 action_keeps LruDeprio start pages r = omega arith
+
+-- and adds at most the pages of the run
+pub action_few : (a : Action) (start pages : ℕ) (r : ReclaimView) → (after_action a start pages r).counts.pageouts ≤ r.counts.pageouts + pages
+action_few Pageout start pages r = omega (arith, count_run_le (length r.out) start pages (λ p. not (is_out_in r.out p)))
+action_few Willneed start pages r = omega arith
+action_few Stat start pages r = omega arith
+action_few Cold start pages r = omega arith
+action_few Hugepage start pages r = omega arith
+action_few Nohugepage start pages r = omega arith
+action_few LruPrio start pages r = omega arith
+action_few LruDeprio start pages r = omega arith
 
 -- so the first runs do not page out more than all
 pub first_runs_few : (i : ℕ) (notes : List Note) (runs : List AppliedRun) (r : ReclaimView) → (after_applied notes (take i runs) r).counts.pageouts ≤ (after_applied notes runs r).counts.pageouts

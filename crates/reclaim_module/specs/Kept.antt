@@ -20,7 +20,7 @@ bits_in pages words = each_page pages (bit_in words)
 abbrev pub differs : Bool → Bool → Bool
 differs out bit = if out then not bit else bit
 
--- The bits of a run are all set to `out`; so many of them were not so. All pages that are counted may be more than those with a bit.
+-- The bits of a run are all set to `out`, and so many of them were not so before: counted over any number of pages that has the run.
 pub record IsRunPut (old new : List ℕ) (start pages : ℕ) (out : Bool) (changed : ℕ) : Type 0 where
   pub len : length new ≡ length old
   pub bits : (p : ℕ) → bit_in new p ≡ (if in_run start pages p then out else bit_in old p)

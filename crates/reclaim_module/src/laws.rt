@@ -70,7 +70,8 @@ pub fn pages_out_balance()
 
 /// An aggregation serves 16 slots, and a page only goes out again once it was prefetched. So it pages out
 /// at most eight and a half times the pages of the space, and in each reached state this holds for each
-/// pass up to the last aggregation. The first runs of an aggregation page out no more than all.
+/// pass up to the last aggregation. A run pages out at most its pages, and the first runs of an aggregation
+/// no more than all.
 pub fn few_pages_go_out()
     ensures aggregated { (pages : ℕ) (words : List ℕ) (s : State)
         → 2 * pageouts_of pages (aggregated words s).notes
@@ -78,6 +79,8 @@ pub fn few_pages_go_out()
     ensures reached { (s : State) → Reached s
         → 2 * pageouts_of (pages_of s.core.space) s.notes
         ≤ 17 * pages_of s.core.space * (s.core.ticks - s.core.since) }
+    ensures run { (action : Action) (start pages : ℕ) (r : ReclaimView)
+        → (after_action action start pages r).counts.pageouts ≤ r.counts.pageouts + pages }
     ensures so_far { (i : ℕ) (notes : List Note) (runs : List AppliedRun) (r : ReclaimView)
         → (after_applied notes (take i runs) r).counts.pageouts
         ≤ (after_applied notes runs r).counts.pageouts }

@@ -40,7 +40,8 @@ impl Model for Reclaim {
 }
 
 impl Reclaim {
-    /// All pages of a space of `pages` pages are resident. Takes memory; no other call does.
+    /// All pages of a space of `pages` pages are resident, or an error when out of memory. No other call
+    /// takes memory.
     pub fn new(alloc: Global, pages: u32) -> Result<Reclaim, AllocError>
         ensures { IfOk result (λ r. r ≡ all_resident pages) }
     {
@@ -56,7 +57,7 @@ impl Reclaim {
         })
     }
 
-    /// Touches a page, and returns whether it was out. If so, this is a refault, and brings it back.
+    /// Touches a page of the space, and returns whether it was out. If so, this is a refault, and brings it back.
     #[tactic(auto, using(crate::proofs::Moving::touch_loss))]
     pub fn touch(&mut self, page: u32) -> bool
         requires { page < length self.old.out }
@@ -93,7 +94,7 @@ impl Reclaim {
         }
     }
 
-    /// Whether a page is out.
+    /// Whether a page of the space is out.
     pub fn is_out(&self, page: u32) -> bool
         requires { page < length self.now.out }
         ensures { result ≡ is_out_in self.now.out page }
