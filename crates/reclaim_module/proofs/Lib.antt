@@ -7,4 +7,5 @@ pub mod Serving
 pub mod Balancing
 pub mod Reaching
 pub mod Following
+pub mod Lasting
 mod Examples

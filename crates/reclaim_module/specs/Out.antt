@@ -1,5 +1,5 @@
 -- Which pages are out, by what has happened to a monitor and its pages.
-use Rattle.std.specs.Prelude.{ℕ, Bool, true, false, not, ◌&&◌, ◌||◌, ◌==◌, List, [], ◌∷◌, Option}
+use Rattle.std.specs.Prelude.{◌≡◌, ℕ, Bool, true, false, not, ◌&&◌, ◌||◌, ◌==◌, List, [], ◌∷◌, ◌++◌, Option}
 use Rattle.std.specs.List.{list_any}
 use Rattle.std.specs.Option.{option_map_or}
 use Rattle.damon_types.specs.declared.scheme.Action.{Action}
@@ -54,3 +54,23 @@ is_out [] page = false
 is_out (note ∷ earlier) page =
     is_paged_out earlier note page
     || (is_out earlier page && not (is_touch_of note page || is_prefetched earlier note page))
+
+-- a note that says nothing of a page: it neither pages it out nor brings it back
+pub record LeavesPage (earlier : List Note) (note : Note) (page : ℕ) : Type 0 where
+  pub gone : is_paged_out earlier note page ≡ false
+  pub touch : is_touch_of note page ≡ false
+  pub back : is_prefetched earlier note page ≡ false
+
+-- each of these notes after others does so
+abbrev pub AllLeavePage : List Note → List Note → ℕ → Type 0
+AllLeavePage [] before page = Unit {0}
+AllLeavePage (note ∷ newer) before page = LeavesPage (newer ++ before) note page × AllLeavePage newer before page
+
+-- A page went out with its last note of a `pageout` run, and no note after that one says anything of it.
+pub record IsOutSinceLast (notes : List Note) (page : ℕ) : Type 0 where
+  pub newer : List Note
+  pub last : Note
+  pub before : List Note
+  pub is : notes ≡ newer ++ last ∷ before
+  pub gone : is_paged_out before last page ≡ true
+  pub leave : AllLeavePage newer (last ∷ before) page

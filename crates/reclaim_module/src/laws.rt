@@ -1,5 +1,5 @@
 // What the calls make of a monitor's notes, for the crates above. No function here does anything.
-ghost use Rattle.std.specs.Prelude.{◌≡◌, ℕ, ◌+◌, ◌-◌, ◌*◌, ◌≤◌, ◌<◌, Bool, not, List, [], ◌∷◌, ◌++◌, Some, None, get_or, length, take};
+ghost use Rattle.std.specs.Prelude.{◌≡◌, ℕ, ◌+◌, ◌-◌, ◌*◌, ◌≤◌, ◌<◌, Bool, true, not, List, [], ◌∷◌, ◌++◌, Some, None, get_or, length, take};
 ghost use Rattle.std.specs.List.{AllByRecursion};
 ghost use Rattle.damon_types.specs.declared.scheme.Action.{Action};
 ghost use Rattle.damon_types.specs.declared.scheme.Scheme.{Scheme};
@@ -15,7 +15,7 @@ ghost use Rattle.damon_core.specs.Slots.{scheme_of};
 ghost use Rattle.damon_core.specs.State.{State, opening_notes};
 ghost use Rattle.reclaim_module.specs.Calls.{after_action, after_touch, all_resident};
 ghost use Rattle.reclaim_module.specs.Counts.{pageouts_of, prefetches_of, refaults_of};
-ghost use Rattle.reclaim_module.specs.Out.{is_out};
+ghost use Rattle.reclaim_module.specs.Out.{IsOutSinceLast, is_out};
 ghost use Rattle.reclaim_module.specs.Pages.{ReclaimView, count_pages};
 ghost use Rattle.reclaim_module.specs.Stands.{LeavesPages, MovesNothing, ReclaimStands, TouchesWithin, action_in, after_applied, after_event, after_events, after_runs};
 
@@ -53,6 +53,15 @@ pub fn model_stands_for_notes()
     ensures event { (e : Event) (s : State) (r : ReclaimView)
         → length r.out ≡ pages_of s.core.space → Fits s e → ReclaimStands r s.notes
         → ReclaimStands (after_event e s r) (after s e).notes }
+{}
+
+/// A page is out exactly where a `pageout` scheme was run with it in a run, and no note after the last such
+/// one is a touch of the page or of a `willneed` scheme with it in a run.
+pub fn pages_are_out_since_their_last()
+    ensures since { (notes : List Note) (page : ℕ) → is_out notes page ≡ true
+        → IsOutSinceLast notes page }
+    ensures out { (notes : List Note) (page : ℕ) → IsOutSinceLast notes page
+        → is_out notes page ≡ true }
 {}
 
 /// By the notes, the pages that are out and the resident ones are all pages, and each page that went out

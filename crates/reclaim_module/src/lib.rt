@@ -13,6 +13,6 @@ mod words;
 
 pub use laws::{
     applied_runs_follow, few_pages_go_out, model_follows_events, model_stands_for_notes,
-    pages_out_balance, pages_stay,
+    pages_are_out_since_their_last, pages_out_balance, pages_stay,
 };
 pub use reclaim::{Counts, Reclaim};
