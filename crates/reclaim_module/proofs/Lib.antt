@@ -1,0 +1,11 @@
+pub mod Counting
+pub mod Digits
+pub mod Masking
+pub mod Moving
+pub mod Standing
+pub mod Serving
+pub mod Balancing
+pub mod Reaching
+pub mod Following
+pub mod Lasting
+mod Examples

@@ -1,0 +1,176 @@
+-- Runs of pages that go out and come back.
+use Rattle.std.proofs.Common.{◌≡◌, inl, inr, ℕ, zero, suc, ◌+◌, ◌/◌, ◌%◌, ◌≤◌, ◌<◌, Bool, true, false, cond, not, ◌&&◌, List, [], ◌∷◌, map, length, set, replicate, length-set, get_or-set_same, get_or-set_other, refl, sym, ap, subst, ◌∙◌, arith}
+use Rattle.std.specs.Prelude.{◌==◌, count_by, slice_index, slice_set, if◌then◌else◌}
+use Rattle.std.specs.List.{range_with_len}
+use Rattle.std.proofs.lemmas.Bool.{cases_eq}
+use Rattle.std.proofs.lemmas.Bool.Decides.{nat_tests}
+use Rattle.std.proofs.lemmas.List.{length-replicate}
+use Rattle.std.proofs.lemmas.List.FromFn.{fill_by_all}
+use Rattle.std.proofs.lemmas.Nat.Bits.{bit_at-zero}
+use Rattle.std.proofs.lemmas.List.Sums.{sum_by-cons, sum_by-set}
+use Rattle.reclaim_module.specs.Calls.{with_run}
+use Rattle.reclaim_module.specs.Kept.{bit_in, bits_in, differs, is_set}
+use Rattle.reclaim_module.specs.Pages.{count_pages, each_page, in_run, is_out_in, out_count}
+use Rattle.reclaim_module.proofs.Counting.{at_page, count_adds, count_more, count_none, count_same, length_pages}
+use Rattle.reclaim_module.proofs.Masking.{before_run, behind_run}
+
+-- a list by what it says of each page
+pub each_page_is : (f : ℕ → Bool) (xs : List Bool) (n : ℕ) → length xs ≡ n → ((p : ℕ) → p < n → is_out_in xs p ≡ f p) → xs ≡ each_page n f
+each_page_is f xs n len each = fill_by_all f xs n false len each
+
+pub each_page_same : (n : ℕ) (f g : ℕ → Bool) → ((p : ℕ) → p < n → f p ≡ g p) → each_page n f ≡ each_page n g
+each_page_same n f g each = each_page_is g (each_page n f) n (length_pages n f) (λ p below. at_page n f p below ∙ each p below)
+
+-- a list is what it says of each page
+pub each_page_again : (xs : List Bool) → xs ≡ each_page (length xs) (is_out_in xs)
+each_page_again xs = each_page_is (is_out_in xs) xs (length xs) refl (λ p below. refl)
+
+count_of_map : (f : ℕ → Bool) (ps : List ℕ) → out_count (map f ps) ≡ count_by f ps
+count_of_map f [] = refl
+count_of_map f (p ∷ ps) =
+    sum_by-cons (λ (b : Bool). cond b 1 0) (f p) (map f ps)
+    ∙ ap (λ k. cond (f p) 1 0 + k) (count_of_map f ps)
+    ∙ sym (sum_by-cons (λ q. cond (f q) 1 0) p ps)
+
+-- how many pages are out
+pub out_count_is : (n : ℕ) (f : ℕ → Bool) → out_count (each_page n f) ≡ count_pages n f
+out_count_is n f = count_of_map f (range_with_len 0 n)
+
+pub out_count_again : (xs : List Bool) → out_count xs ≡ count_pages (length xs) (is_out_in xs)
+out_count_again xs = ap out_count (each_page_again xs) ∙ out_count_is (length xs) (is_out_in xs)
+
+pub count_le : (n : ℕ) (f : ℕ → Bool) → count_pages n f ≤ n
+count_le zero f = omega arith
+count_le (suc n) f = omega (arith, count_more n f, count_le n f, at_most_one (f n)) where
+  at_most_one : (b : Bool) → cond {A = ℕ} b 1 0 ≤ 1
+  at_most_one true = omega arith
+  at_most_one false = omega arith
+
+pub out_count_le : (xs : List Bool) → out_count xs ≤ length xs
+out_count_le xs = omega (arith, out_count_again xs, count_le (length xs) (is_out_in xs))
+
+-- the length stays
+pub length_with_run : (start pages : ℕ) (now : Bool) (xs : List Bool) → length (with_run start pages now xs) ≡ length xs
+length_with_run start pages now xs = length_pages (length xs) (λ p. if in_run start pages p then now else is_out_in xs p)
+
+-- and the pages that are out are no more than all
+pub out_count_with_run_le : (start pages : ℕ) (now : Bool) (xs : List Bool) → out_count (with_run start pages now xs) ≤ length xs
+out_count_with_run_le start pages now xs = omega (arith, out_count_le (with_run start pages now xs), length_with_run start pages now xs)
+
+-- the pages that go out are so many more
+pub out_gain : (start pages : ℕ) (xs : List Bool) → out_count (with_run start pages true xs) ≡ out_count xs + count_pages (length xs) (λ p. in_run start pages p && not (is_out_in xs p))
+out_gain start pages xs =
+    let n = length xs in
+    let new : ℕ → Bool = λ p. if in_run start pages p then true else is_out_in xs p in
+    out_count_is n new
+    ∙ sym (count_adds n (is_out_in xs) (λ p. in_run start pages p && not (is_out_in xs p)) new (λ p below. adds (in_run start pages p) (is_out_in xs p)))
+    ∙ ap (λ k. k + count_pages n (λ p. in_run start pages p && not (is_out_in xs p))) (sym (out_count_again xs)) where
+      adds : (r o : Bool) → cond {A = ℕ} o 1 0 + cond (r && not o) 1 0 ≡ cond (if r then true else o) 1 0
+      adds true true = refl
+      adds true false = refl
+      adds false true = refl
+      adds false false = refl
+
+-- those that come back are so many less
+pub out_loss : (start pages : ℕ) (xs : List Bool) → out_count (with_run start pages false xs) + count_pages (length xs) (λ p. in_run start pages p && is_out_in xs p) ≡ out_count xs
+out_loss start pages xs =
+    let n = length xs in
+    let new : ℕ → Bool = λ p. if in_run start pages p then false else is_out_in xs p in
+    ap (λ k. k + count_pages n (λ p. in_run start pages p && is_out_in xs p)) (out_count_is n new)
+    ∙ count_adds n new (λ p. in_run start pages p && is_out_in xs p) (is_out_in xs) (λ p below. adds (in_run start pages p) (is_out_in xs p))
+    ∙ sym (out_count_again xs) where
+      adds : (r o : Bool) → cond {A = ℕ} (if r then false else o) 1 0 + cond (r && o) 1 0 ≡ cond o 1 0
+      adds true true = refl
+      adds true false = refl
+      adds false true = refl
+      adds false false = refl
+
+-- a run of one page
+pub one_page : (page p : ℕ) → in_run page 1 p ≡ (p == page)
+one_page page p = elim (cases_eq p page) [
+  | inl is ↦
+      let test : (p == page) ≡ true = grind (arith, nat_tests) in
+      let inside : in_run page 1 p ≡ true = grind (arith, nat_tests) in
+      inside ∙ sym test
+  | inr isnt ↦
+      let test : (p == page) ≡ false = grind (arith, nat_tests) in
+      let outside : in_run page 1 p ≡ false = grind (arith, nat_tests) in
+      outside ∙ sym test
+]
+
+-- a run of one page comes back as that page does
+pub one_comes_back : (page : ℕ) (xs : List Bool) → page < length xs → with_run page 1 false xs ≡ slice_set xs page false
+one_comes_back page xs here =
+    let f : ℕ → Bool = λ p. if in_run page 1 p then false else is_out_in xs p in
+    sym (each_page_is f (set xs page false) (length xs) (length-set xs page false) (λ p below. elim (cases_eq p page) [
+      | inl is ↦
+          let test : in_run page 1 page ≡ true = grind (arith, nat_tests) in
+          subst (λ q. is_out_in (set xs page false) q ≡ f q) (sym is) (get_or-set_same xs page false false here ∙ sym (ap (λ b. if b then false else is_out_in xs page) test))
+      | inr isnt ↦
+          let test : in_run page 1 p ≡ false = grind (arith, nat_tests) in
+          let kept : is_out_in (set xs page false) p ≡ is_out_in xs p = rw get_or-set_other refl in
+          kept ∙ sym (ap (λ b. if b then false else is_out_in xs p) test)
+    ]))
+
+-- and is one page, if it was out
+pub one_counts : (page : ℕ) (n : ℕ) (f : ℕ → Bool) → page < n → count_pages n (λ p. in_run page 1 p && f p) ≡ cond (f page) 1 0
+one_counts page zero f here = absurd (omega arith)
+one_counts page (suc n) f here = elim (cases_eq page n) [
+  | inl is ↦
+      let none : count_pages n (λ p. in_run page 1 p && f p) ≡ 0 = count_none n (λ p. in_run page 1 p && f p) (λ p below. ap (λ b. b && f p) (before_run page 1 p (omega arith))) in
+      let test : in_run page 1 n ≡ true = grind (arith, nat_tests) in
+      let last : cond {A = ℕ} (in_run page 1 n && f n) 1 0 ≡ cond (f page) 1 0 = ap (λ (b : Bool). cond (b && f n) 1 0) test ∙ ap (λ q. cond (f q) 1 0) (sym is) in
+      omega (arith, count_more n (λ p. in_run page 1 p && f p), none, last)
+  | inr isnt ↦
+      let test : in_run page 1 n ≡ false = behind_run page 1 n (omega arith) in
+      let last : cond {A = ℕ} (in_run page 1 n && f n) 1 0 ≡ 0 = ap (λ (b : Bool). cond (b && f n) 1 0) test in
+      omega (arith, count_more n (λ p. in_run page 1 p && f p), last, one_counts page n f (omega arith))
+]
+
+-- those that are not out are the others
+pub others_count : (xs : List Bool) → out_count xs + count_by not xs ≡ length xs
+others_count [] = refl
+others_count (true ∷ xs) = omega (arith, sum_by-cons (λ (b : Bool). cond b 1 0) true xs, sum_by-cons (λ (b : Bool). cond (not b) 1 0) true xs, others_count xs)
+others_count (false ∷ xs) = omega (arith, sum_by-cons (λ (b : Bool). cond b 1 0) false xs, sum_by-cons (λ (b : Bool). cond (not b) 1 0) false xs, others_count xs)
+
+-- a page that is touched is out no more
+pub touch_loss : (page : ℕ) (xs : List Bool) → page < length xs → out_count (slice_set xs page false) + cond (is_out_in xs page) 1 0 ≡ out_count xs
+touch_loss page xs here =
+    let sum = sum_by-set (λ (b : Bool). cond b 1 0) xs page false false here in
+    omega (arith, sum)
+
+-- a page that is resident stays so when it is touched
+pub resident_stays : (page : ℕ) (xs : List Bool) → is_out_in xs page ≡ false → slice_set xs page false ≡ xs
+resident_stays page [] is = refl
+resident_stays zero (x ∷ xs) is = ap (λ b. b ∷ xs) (sym is)
+resident_stays (suc page) (x ∷ xs) is = ap (λ ys. x ∷ ys) (resident_stays page xs is)
+
+-- no bit of words that are 0 is set
+no_bits : (k p : ℕ) → bit_in (replicate k 0) p ≡ false
+no_bits k p = ap (λ w. is_set w (p % 64)) (zeros k (p / 64)) ∙ ap (λ n. n == 1) (bit_at-zero (p % 64)) where
+  zeros : (k q : ℕ) → slice_index (replicate k 0) q ≡ 0
+  zeros zero q = refl
+  zeros (suc k) zero = refl
+  zeros (suc k) (suc q) = zeros k q
+
+pub bits_of_none : (n k : ℕ) → bits_in n (replicate k 0) ≡ replicate n false
+bits_of_none n k = sym (each_page_is (bit_in (replicate k 0)) (replicate n false) n (length-replicate {A = Bool} n false) (λ p below. falses n p ∙ sym (no_bits k p))) where
+  falses : (n p : ℕ) → is_out_in (replicate n false) p ≡ false
+  falses zero p = refl
+  falses (suc n) zero = refl
+  falses (suc n) (suc p) = falses n p
+
+-- What the bits of a run say of the set.
+module _ (n start pages : ℕ) (old new : List ℕ) (now : Bool) where
+  pub set_is : ((p : ℕ) → bit_in new p ≡ (if in_run start pages p then now else bit_in old p)) → bits_in n new ≡ with_run start pages now (bits_in n old)
+  set_is bits =
+      let g : ℕ → Bool = λ p. if in_run start pages p then now else is_out_in (bits_in n old) p in
+      each_page_same n (bit_in new) g (λ p below. bits p ∙ ap (λ b. if in_run start pages p then now else b) (sym (at_page n (bit_in old) p below)))
+      ∙ ap (λ k. each_page k g) (sym (length_pages n (bit_in old)))
+
+  pub count_is : (count : ℕ) → start + pages ≤ n → ((m : ℕ) → start + pages ≤ m → count ≡ count_pages m (λ p. in_run start pages p && differs now (bit_in old p))) → count ≡ count_pages (length (bits_in n old)) (λ p. in_run start pages p && differs now (is_out_in (bits_in n old) p))
+  count_is count within is =
+      let g : ℕ → Bool = λ p. in_run start pages p && differs now (is_out_in (bits_in n old) p) in
+      is n within
+      ∙ count_same n (λ p. in_run start pages p && differs now (bit_in old p)) g (λ p below. ap (λ b. in_run start pages p && differs now b) (sym (at_page n (bit_in old) p below)))
+      ∙ ap (λ k. count_pages k g) (sym (length_pages n (bit_in old)))

@@ -1,0 +1,6 @@
+pub mod Pages
+pub mod Calls
+pub mod Out
+pub mod Counts
+pub mod Stands
+pub mod Kept

@@ -1,0 +1,18 @@
+//! A model of the pages of a space that are resident: schemes page them out, and touches and prefetches
+//! bring them back.
+#![tactic(auto)]
+
+/// What the calls make of a monitor's notes.
+mod laws;
+/// A set of pages.
+mod page_set;
+/// The pages that are out, and what is counted.
+mod reclaim;
+/// One bit for each page, in words.
+mod words;
+
+pub use laws::{
+    applied_runs_follow, few_pages_go_out, model_follows_events, model_stands_for_notes,
+    pages_are_out_since_their_last, pages_out_balance, pages_stay,
+};
+pub use reclaim::{Counts, Reclaim};
