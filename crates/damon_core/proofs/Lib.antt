@@ -25,3 +25,4 @@ pub mod Preparing
 pub mod VersionOne
 pub mod Reported
 mod Examples
+mod ReportedExamples
