@@ -23,4 +23,6 @@ pub mod Choosing
 pub mod CommitStanding
 pub mod Preparing
 pub mod VersionOne
+pub mod Reported
 mod Examples
+mod ReportedExamples

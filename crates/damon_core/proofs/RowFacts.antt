@@ -83,16 +83,17 @@ length-raised [] rows = refl
 length-raised (b ∷ bits) [] = refl
 length-raised (b ∷ bits) (r ∷ rows) = ap suc (length-raised bits rows)
 
-one_more : (b : Bool) (n since : ℕ) → n ≤ since → n + cond b 1 0 ≤ since + 1
+pub one_more : (b : Bool) (n since : ℕ) → n ≤ since → n + cond b 1 0 ≤ since + 1
 one_more true n since few = omega arith
 one_more false n since few = omega arith
 
-pub weaker : (since : ℕ) (rows : List Row) → AllByRecursion (λ r. r.count ≤ since) rows → AllByRecursion (λ r. r.count ≤ since + 1) rows
-weaker since [] all = tt
-weaker since (r ∷ rows) all = (omega (arith, all.0), weaker since rows all.1)
+-- a bound of counts is one with each greater number
+pub weaker : (few most : ℕ) → few ≤ most → (rows : List Row) → AllByRecursion (λ r. r.count ≤ few) rows → AllByRecursion (λ r. r.count ≤ most) rows
+weaker few most le [] all = tt
+weaker few most le (r ∷ rows) all = (omega (arith, all.0), weaker few most le rows all.1)
 
 -- a pass raises a count by one at most
 pub counts-raised : (since : ℕ) (bits : List Bool) (rows : List Row) → AllByRecursion (λ r. r.count ≤ since) rows → AllByRecursion (λ r. r.count ≤ since + 1) (raised bits rows)
-counts-raised since [] rows all = weaker since rows all
+counts-raised since [] rows all = weaker since (since + 1) (omega arith) rows all
 counts-raised since (b ∷ bits) [] all = tt
 counts-raised since (b ∷ bits) (r ∷ rows) all = (one_more b r.count since all.0, counts-raised since bits rows all.1)

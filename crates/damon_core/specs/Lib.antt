@@ -18,3 +18,4 @@ pub mod VersionOne
 pub mod Choosing
 pub mod Kept
 pub mod InPhase
+pub mod Reported

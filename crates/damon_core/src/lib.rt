@@ -19,6 +19,8 @@ mod sampling;
 mod totals;
 
 pub use changed::Changed;
-pub use laws::{pages_are_kept, reached_states_are_bound, version_one_has_no_costs};
+pub use laws::{
+    pages_are_kept, reached_states_are_bound, reported_rows_tile, version_one_has_no_costs,
+};
 pub use monitor::Monitor;
 pub use report::Report;

@@ -4,6 +4,7 @@ use Rattle.damon_types.specs.declared.space.Target.{Target}
 use Rattle.damon_types.specs.declared.range.RangeSpec.{RangeSpec}
 use Rattle.damon_types.specs.Ranges.{InOrder}
 use Rattle.damon_types.specs.Space.{IsSpace}
+use Rattle.damon_types.specs.Within.{AreWithin}
 use Rattle.target_ranges.specs.declared.fault.RangeFault.{RangeFault}
 use Rattle.target_ranges.specs.Checked.{checked_next, checked_ranges, fault_at}
 use Rattle.target_ranges.specs.Made.{ranges_of}
@@ -41,3 +42,9 @@ abbrev pub MakesWide : Type 0
 MakesWide =
     (ts : List Target) (unit cap : ℕ) (specs : List RangeSpec) → checked_ranges ts unit cap specs ≡ Ok tt
     → All (λ g. unit ≤ g.pages) (ranges_of ts specs)
+
+-- each range of specs that are accepted lies in its target
+abbrev pub MakesWithin : Type 0
+MakesWithin =
+    (ts : List Target) (unit cap : ℕ) (specs : List RangeSpec) → checked_ranges ts unit cap specs ≡ Ok tt
+    → AreWithin ts (ranges_of ts specs)

@@ -1,6 +1,6 @@
 // Laws of the definitions that the contracts cite, for the proofs of callers. The functions have no
 // bodies.
-ghost use Rattle.target_ranges.specs.Laws.{ChecksOneMore, HasRoom, KeepsFault, MakesEach, MakesInOrder, MakesWide};
+ghost use Rattle.target_ranges.specs.Laws.{ChecksOneMore, HasRoom, KeepsFault, MakesEach, MakesInOrder, MakesWide, MakesWithin};
 
 /// A list that is accepted, with one range more: the longer list is accepted, or rejected for the
 /// first reason against that range.
@@ -18,10 +18,11 @@ pub fn accepted_has_room()
     ensures room { HasRoom }
 {}
 
-/// The ranges made of a list that is accepted are in order, one for each, and each has at least
-/// `unit` pages.
+/// The ranges made of a list that is accepted are in order, one for each; each lies in its target and
+/// has at least `unit` pages.
 pub fn made_in_order()
     ensures order { MakesInOrder }
     ensures count { MakesEach }
     ensures wide { MakesWide }
+    ensures within { MakesWithin }
 {}
