@@ -29,3 +29,4 @@ pub mod Folding
 pub mod SeenPart
 pub mod Verified
 pub mod CallLine
+pub mod Limits
