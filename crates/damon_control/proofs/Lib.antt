@@ -10,6 +10,8 @@ pub mod TextLimits
 pub mod LineWords
 pub mod LiveLemmas
 pub mod LiveLimits
+pub mod SchemesFit
+pub mod CallsFit
 pub mod SayPlaces
 pub mod SayCommands
 pub mod SayBlocks

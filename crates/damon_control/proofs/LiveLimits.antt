@@ -22,7 +22,7 @@ with_range-some : (ranges : Option (List RangeSpec)) (r : RangeSpec) → IfSome 
 with_range-some None r = omega arith
 with_range-some (Some rs) r = omega (arith, length-append rs (r ∷ []))
 
-part_spelled : (c : CommitValue) (part : Part) → SpellsRanges c → SpellsRanges (with_part c part)
+pub part_spelled : (c : CommitValue) (part : Part) → SpellsRanges c → SpellsRanges (with_part c part)
 part_spelled c (Attrs attrs) fine = fine
 part_spelled c (Range range) fine = with_range-some c.ranges range
 part_spelled c (Slot change) fine = fine

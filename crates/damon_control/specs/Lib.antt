@@ -14,3 +14,4 @@ pub mod Written
 pub mod WriteBack
 pub mod JournalHead
 pub mod CommitLines
+pub mod Spellable

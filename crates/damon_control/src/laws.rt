@@ -5,6 +5,7 @@ ghost use Rattle.damon_control.specs.JournalHead.{ReadsHeadsBack, ReadsOnlyHeads
 ghost use Rattle.damon_control.specs.LineLaws.{LineLaws};
 ghost use Rattle.damon_control.specs.LiveText.{LiveTextsAreRead};
 ghost use Rattle.damon_control.specs.Sound.{LiveScriptsAreSound, ScriptsAreSound};
+ghost use Rattle.damon_control.specs.Spellable.{LiveScriptsAreSpellable};
 ghost use Rattle.damon_control.specs.Text.{TextsAreRead};
 ghost use Rattle.damon_control.specs.WriteBack.{CommitsAreReadBack, LiveSetupsAreReadBack, SetupsAreReadBack};
 
@@ -68,6 +69,15 @@ pub fn scripts_are_sound()
 /// order, of its passes, workers and controllers; and each of its commits can be spelled.
 pub fn live_scripts_are_sound()
     ensures sound { LiveScriptsAreSound }
+{
+    live_texts_are_exactly_read();
+    made_in_order();
+}
+
+/// A text can spell each live script that a text is read as: its seed and setup are values of their types,
+/// and so is each commit, which has no empty list of ranges and nothing that its version does not spell.
+pub fn live_scripts_are_spellable()
+    ensures spellable { LiveScriptsAreSpellable }
 {
     live_texts_are_exactly_read();
     made_in_order();

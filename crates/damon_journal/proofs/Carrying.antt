@@ -198,7 +198,7 @@ carries_call old new controller call answer made drawn words free told v j h bel
     })
 
 -- what is the same of an armed and of a void pass stays as it is in a commit
-kept_if_void : (f : Phase → ℕ) → f Armed ≡ f VoidPhase → (old new : List Row) (ph : Phase) → f (phase_after_commit ph old new) ≡ f ph
+pub kept_if_void : (f : Phase → ℕ) → f Armed ≡ f VoidPhase → (old new : List Row) (ph : Phase) → f (phase_after_commit ph old new) ≡ f ph
 kept_if_void f same old new Armed = elim (becomes_void Armed old new) as (λ b. f (cond b VoidPhase Armed) ≡ f Armed) [ true ↦ sym same | false ↦ refl ]
 kept_if_void f same old new Idle = refl
 kept_if_void f same old new (Clearing k) = refl

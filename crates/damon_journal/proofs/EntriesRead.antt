@@ -21,6 +21,7 @@ use Rattle.damon_control.specs.CommitLines.{AreReadAfter, ReadsPartsBack}
 use Rattle.damon_control.specs.Live.{CallValue, CommitCall, LiveValue, ShowCall}
 use Rattle.damon_control.specs.Text.{with_parts}
 use Rattle.damon_control.specs.Written.{part_text, parts_of, written_commit}
+use Rattle.damon_control.specs.Spellable.{FitsCall}
 use Rattle.damon_journal.specs.declared.entry.CallAnswer.{CallAnswer}
 use Rattle.damon_journal.specs.declared.entry.Entry.{Entry}
 use Rattle.damon_journal.specs.declared.entry.Entry.TheVariants.{Prepare, Check, Void, Aggregate, Call}
@@ -29,7 +30,6 @@ use Rattle.damon_journal.specs.Growth.{longer, replay_with}
 use Rattle.damon_journal.specs.Phases.{IsFree}
 use Rattle.damon_journal.specs.Place.{AtAnswer, InBlock, InEntries, InReceipts, JournalPlace}
 use Rattle.damon_journal.specs.Replay.{EntryFits, IsJournalOf, JournalValue, Replayed, bits_taken, call_answer, call_at, call_event, carried, replay}
-use Rattle.damon_journal.specs.Rules.{FitsCall}
 use Rattle.damon_journal.specs.Spelled.{answered_lines, bit_digit, call_front, call_lines, check_front, spelled_aggregate, spelled_answer, spelled_check, spelled_prepare, spelled_void}
 use Rattle.damon_journal.specs.Steps.{entry_steps, load_steps, steps}
 use Rattle.damon_journal.specs.Text.{entry_lines}

@@ -59,3 +59,7 @@ pub mod BlockTaken
 pub mod CallsTaken
 pub mod EntriesStep
 pub mod Judged
+pub mod PhaseAfter
+pub mod Sizes
+pub mod AnswersFit
+pub mod NumbersFit

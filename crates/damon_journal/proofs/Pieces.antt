@@ -23,6 +23,7 @@ use Rattle.damon_control.specs.declared.live.TheConstants.{MAX_WORKERS}
 use Rattle.damon_control.specs.CommitLines.{AreReadAfter, ReadsPartsBack}
 use Rattle.damon_control.specs.Live.{CallValue, CommitCall, LiveValue, ShowCall}
 use Rattle.damon_control.specs.Written.{part_text, parts_of, written_commit}
+use Rattle.damon_control.specs.Spellable.{FitsCall}
 use Rattle.snapshot_print.specs.Commit.{attrs_why, range_why, refusal_text, scheme_why}
 use Rattle.snapshot_print.specs.Fields.{yes_or_no}
 use Rattle.damon_journal.specs.declared.entry.CallAnswer.{CallAnswer}
@@ -31,7 +32,7 @@ use Rattle.damon_journal.specs.declared.entry.Entry.{Entry}
 use Rattle.damon_journal.specs.declared.entry.Entry.TheVariants.{Prepare, Check, Void, Aggregate, Call}
 use Rattle.damon_journal.specs.declared.entry.Receipt.{Receipt}
 use Rattle.damon_journal.specs.Replay.{JournalValue, Replayed, begun, bits_taken, call_at, carried}
-use Rattle.damon_journal.specs.Rules.{AnswerFits, CanCall, EntryNumbersFit, FaultFits, FitsCall}
+use Rattle.damon_journal.specs.Rules.{AnswerFits, CanCall, EntryNumbersFit, FaultFits}
 use Rattle.damon_journal.specs.SeenFront.{PlaceFits}
 use Rattle.damon_journal.specs.Spelled.{answer_said, answered_lines, bit_digit, call_front, call_lines, check_front, spelled_aggregate, spelled_answer, spelled_check, spelled_prepare, spelled_seen, spelled_void}
 use Rattle.damon_journal.specs.Text.{entries_lines, entry_lines, journal_lines, seen_lines}

@@ -68,7 +68,7 @@ none_gathered (x ∷ done) w ts all h = ⊎_elim (λ (e : x ≡ Gathered w ts). 
 
 -- ---- what was gathered are the receipts
 
-touches-append : (xs ys : List Receipt) → touches_of (xs ++ ys) ≡ touches_of xs ++ touches_of ys
+pub touches-append : (xs ys : List Receipt) → touches_of (xs ++ ys) ≡ touches_of xs ++ touches_of ys
 touches-append [] ys = refl
 touches-append (x ∷ xs) ys = ap (λ l. touch x.page x.tag ∷ l) (touches-append xs ys)
 
@@ -93,7 +93,7 @@ all_rise k (rs ∷ all) rise = (
   all_rise (k + 1) all (λ w ts there. rise w ts (tail (Gathered k (touches_of rs)) (gathers (k + 1) all) (Gathered w ts) there)),
 )
 
-flat_append : {A B : Type 0} (f : A → List B) (xs ys : List A) → flat_map f (xs ++ ys) ≡ flat_map f xs ++ flat_map f ys
+pub flat_append : {A B : Type 0} (f : A → List B) (xs ys : List A) → flat_map f (xs ++ ys) ≡ flat_map f xs ++ flat_map f ys
 flat_append f [] ys = refl
 flat_append f (x ∷ xs) ys = ap (λ l. f x ++ l) (flat_append f xs ys) ∙ sym (append_assoc (f x) (flat_map f xs) (flat_map f ys))
 

@@ -156,7 +156,7 @@ loads_end : (c : Core) (k : ℕ) (bs : List Bool) (ns : List Note) → (run (at 
 loads_end c k [] ns = refl
 loads_end c k (b ∷ bs) ns = loads_end c (k + 1) bs (after (at c (Checking k) ns) (load b)).notes
 
-all_loads_end : (c : Core) (bs : List Bool) (ns : List Note) → 0 < length bs → (run (at c Armed ns) (map (λ bit. load bit) bs ++ observe ∷ [])).core.phase ≡ phase_after_pass (c.since + 1) c.attrs.aggr
+pub all_loads_end : (c : Core) (bs : List Bool) (ns : List Note) → 0 < length bs → (run (at c Armed ns) (map (λ bit. load bit) bs ++ observe ∷ [])).core.phase ≡ phase_after_pass (c.since + 1) c.attrs.aggr
 all_loads_end c [] ns some = absurd (omega (arith, some))
 all_loads_end c (b ∷ bs) ns some = loads_end c 1 bs (after (at c Armed ns) (load b)).notes
 

@@ -30,3 +30,4 @@ pub mod Folding
 pub mod SeenPart
 pub mod Verified
 pub mod CallLine
+pub mod Limits

@@ -1,12 +1,12 @@
 -- What a text asks of a journal besides that it is lawful, and how texts and lawful journals belong together.
 use Rattle.std.specs.Prelude.{◌≡◌, ℕ, ◌+◌, ◌^◌, ◌≤◌, ◌<◌, zero, suc, List, [], ◌∷◌, ◌++◌, length, replicate, slice_index_or, Some, Ok}
 use Rattle.std.specs.List.{AllByRecursion}
-use Rattle.damon_types.specs.declared.scheme.Version.{Version}
 use Rattle.live_commit.specs.declared.fault.CommitFault.{CommitFault}
 use Rattle.live_commit.specs.declared.fault.CommitFault.TheVariants.{Busy, BadRange, RangesOverMax, OverCap, BadCost}
 use Rattle.damon_control.specs.declared.live.TheConstants.{MAX_WORKERS}
-use Rattle.damon_control.specs.Live.{CallValue, CommitCall, LiveValue, ShowCall}
-use Rattle.damon_control.specs.WriteBack.{FitsCommit, IsSpelledIn, IsWritable, SpellsRanges}
+use Rattle.damon_control.specs.Live.{CallValue, LiveValue}
+use Rattle.damon_control.specs.Spellable.{FitsCall}
+use Rattle.damon_control.specs.WriteBack.{IsWritable}
 use Rattle.damon_journal.specs.declared.entry.CallAnswer.{CallAnswer}
 use Rattle.damon_journal.specs.declared.entry.CallAnswer.TheVariants.{Shown, Changed, Refused}
 use Rattle.damon_journal.specs.declared.entry.Entry.{Entry}
@@ -48,12 +48,7 @@ pub record KeepsRules (j : JournalValue) (all : List (List Receipt)) : Type 0 wh
 
 -- ---- values within their types
 
--- a text of this version can spell a call
-abbrev pub FitsCall : Version → CallValue → Type 0
-FitsCall version ShowCall = Unit {0}
-FitsCall version (CommitCall commit) = FitsCommit commit × SpellsRanges commit × IsSpelledIn version commit
-
--- it can spell each call of a script
+-- a text of the script's version can spell each of its calls
 abbrev pub CanCall : LiveValue → Type 0
 CanCall v = (controller index : ℕ) (call : CallValue) → call_at v controller index ≡ Some call → FitsCall v.setup.version call
 

@@ -7,10 +7,11 @@ ghost use Rattle.damon_journal.specs.Examples.{Comes};
 ghost use Rattle.damon_journal.specs.Few.{hits_of, receipts_of};
 ghost use Rattle.damon_journal.specs.Growth.{GrowsByEntries, GrowsByOthers};
 ghost use Rattle.damon_journal.specs.Lawful.{IsLawful, SettledReceiptsAreLawful};
+ghost use Rattle.damon_journal.specs.Limits.{LawfulNumbersFit};
 ghost use Rattle.damon_journal.specs.Reading.{read_journal};
 ghost use Rattle.damon_journal.specs.Replay.{JournalValue};
-ghost use Rattle.damon_journal.specs.SeenFront.{ReadsLeadingSeen};
 ghost use Rattle.damon_journal.specs.Rules.{ReadsLawfulBack, ReadsOnlyLawful};
+ghost use Rattle.damon_journal.specs.SeenFront.{ReadsLeadingSeen};
 ghost use Rattle.damon_journal.specs.Verified.{IsOfNoLawfulRun};
 ghost use Rattle.damon_journal.specs.Woven.{WovenRuns};
 
@@ -114,4 +115,15 @@ pub(crate) fn leading_receipts_are_read()
     spelled_address_is_read();
     spelled_address_has_digits();
     stripped_front_was_first();
+}
+
+/// The numbers of a lawful journal of a script within its limits, which prepares no more passes than the
+/// script has, are within their types, and so are the tags of its receipts.
+pub fn lawful_numbers_fit()
+    ensures law { LawfulNumbersFit }
+{
+    damon_core::reached_states_are_bound();
+    live_commit::accepted_commits_are_within();
+    target_ranges::accepted_has_room();
+    target_ranges::made_in_order();
 }

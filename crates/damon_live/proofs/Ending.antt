@@ -21,6 +21,7 @@ use Rattle.damon_journal.specs.declared.entry.Receipt.{Receipt}
 use Rattle.damon_journal.specs.declared.status.Status.{Status}
 use Rattle.damon_journal.specs.declared.status.Status.TheVariants as statuses
 use Rattle.damon_journal.specs.Replay.{JournalValue}
+use Rattle.damon_journal.specs.Rules.{IsReadBack}
 use Rattle.damon_journal.specs.Status.{EndsRun, IsFailure, input_status, read_status, status_of}
 use Rattle.damon_journal.specs.Text.{journal_text}
 use Rattle.damon_live.specs.declared.top.TheConstants.{MAX_RESULTS}
@@ -61,6 +62,7 @@ not_asked limit source sink alone same left is = record {
   none = record { journal = refl; receipts = refl };
   ok = λ e. absurd (cc e);
   part = tt;
+  back = tt;
   unwritten = is;
   early = λ yes. is;
   end = λ e. absurd (cc e);
@@ -85,6 +87,7 @@ left_alone limit source source' sink alone same status is e = record {
   none = e.none;
   ok = e.ok;
   part = e.part;
+  back = e.back;
   unwritten = is;
   early = λ yes. is;
   end = e.end;
@@ -115,6 +118,7 @@ module _ (limit : ℕ) (source source' sink : Ends) where
     none = record { journal = refl; receipts = refl };
     ok = λ e. absurd (cc e);
     part = tt;
+    back = tt;
     unwritten = tt;
     early = λ no. tt;
     end = λ asked no. absurd no;
@@ -138,6 +142,7 @@ module _ (limit : ℕ) (source source' sink : Ends) where
     none = record { journal = refl; receipts = refl };
     ok = λ e. absurd (cc e);
     part = tt;
+    back = tt;
     unwritten = tt;
     early = λ no. tt;
     end = λ asked no. absurd no;
@@ -157,6 +162,7 @@ module _ (limit : ℕ) (source source' sink : Ends) where
     none = record { journal = refl; receipts = refl };
     ok = λ e. absurd (cc e);
     part = tt;
+    back = tt;
     unwritten = tt;
     early = λ no. tt;
     end = λ asked no. absurd no;
@@ -190,6 +196,7 @@ module _ (limit : ℕ) (source source' sink : Ends) where
       none = record { journal = refl; receipts = refl };
       ok = λ e. absurd (cc e);
       part = tt;
+      back = tt;
       unwritten = tt;
       early = λ yes. tt;
       end = λ asked yes. end;
@@ -220,6 +227,7 @@ module _ (limit : ℕ) (source source' sink : Ends) where
       none = record { journal = refl; receipts = refl };
       ok = λ e. absurd (cc e);
       part = tt;
+      back = tt;
       unwritten = tt;
       early = λ yes. tt;
       end = λ asked yes. end;
@@ -241,7 +249,7 @@ module _ (limit : ℕ) (source source' sink : Ends) where
 -- ---- a script was carried out
 
 module _ (limit : ℕ) (source source' sink sink' : Ends) (alone same : Type 0) (bytes : List ℕ) (all : Consumes source.bytes source'.bytes bytes) (end : IsAtEnd source'.bytes) (few : length bytes ≤ limit)
-    (v : LiveValue) (j : JournalValue) (receipts : List (List Receipt)) (spells : live_of bytes ≡ Ok v) (fits : most_results v ≤ MAX_RESULTS) (whole : IsWholeRun v j receipts) (part : WritesPart sink.bytes sink'.bytes (journal_text v j receipts)) where
+    (v : LiveValue) (j : JournalValue) (receipts : List (List Receipt)) (spells : live_of bytes ≡ Ok v) (fits : most_results v ≤ MAX_RESULTS) (whole : IsWholeRun v j receipts) (back : IsReadBack v j receipts) (part : WritesPart sink.bytes sink'.bytes (journal_text v j receipts)) where
   abbrev ended : Status → Ending
   ended status = record { status = status; script = Some v; journal = j; receipts = receipts }
 
@@ -272,6 +280,7 @@ module _ (limit : ℕ) (source source' sink sink' : Ends) (alone same : Type 0) 
     none = tt;
     ok = λ e. taken;
     part = part;
+    back = back;
     unwritten = tt;
     early = λ no. absurd no;
     end = λ asked yes. end;
@@ -294,6 +303,7 @@ module _ (limit : ℕ) (source source' sink sink' : Ends) (alone same : Type 0) 
     none = tt;
     ok = λ e. absurd (cc e);
     part = part;
+    back = back;
     unwritten = tt;
     early = λ no. absurd no;
     end = λ asked yes. end;
@@ -313,6 +323,7 @@ module _ (limit : ℕ) (source source' sink sink' : Ends) (alone same : Type 0) 
     none = tt;
     ok = λ e. absurd (cc e);
     part = part;
+    back = back;
     unwritten = tt;
     early = λ no. absurd no;
     end = λ asked no. absurd no;

@@ -10,5 +10,6 @@ pub mod Opening
 pub mod Resting
 pub mod Working
 pub mod Wholes
+pub mod OwnText
 pub mod Known
 pub mod Ending

@@ -21,12 +21,13 @@ use Rattle.damon_core.specs.State.{Core, State, row_count}
 use Rattle.damon_core.specs.Stands.{MonitorView, Stands}
 use Rattle.damon_control.specs.Live.{LiveValue}
 use Rattle.damon_journal.specs.declared.entry.Entry.TheVariants.{Prepare}
+use Rattle.damon_journal.specs.Counted.{prepares}
 use Rattle.damon_journal.specs.Replay.{EntryFits, JournalValue, Replayed, carried, check_sizes, entry_events, replay}
 use Rattle.damon_journal.specs.Room.{JournalView}
 use Rattle.damon_journal.specs.Steps.{clear_steps, steps}
 use Rattle.damon_journal.specs.Words.{words_after, words_at, words_from}
 use Rattle.damon_journal.specs.Growth.{GrowsByOthers}
-use Rattle.damon_live.specs.Machine.{HasRoom, call_in, prepare_in, passes_made, calls_left, IsBetweenEntries, IsRun, entries_owed, passes_open, with_one, words_owed}
+use Rattle.damon_live.specs.Machine.{HasRoom, call_in, passes_made, calls_left, IsBetweenEntries, IsRun, entries_owed, passes_open, with_one, words_owed}
 use Rattle.std.proofs.lemmas.List.Sums.{sum_by_push}
 use Rattle.damon_live.proofs.Draws.{rest_after}
 use Rattle.damon_live.proofs.Stepping.{all_cleared}
@@ -108,7 +109,7 @@ prepared_room v m now mid j new ws passes count reserved more pass h idle left b
     let later : v.passes - passes ≡ v.passes - (passes + 1) + 1 = omega (arith, begun, left) in
     let times : v.passes - (passes + 1) + passes_open now.core.phase ≡ v.passes - passes + passes_open m.core.phase = omega (arith, opened, closed, later) in
     record {
-      made = ap (λ (x : JournalView). passes_made x.value) longer ∙ (sum_by_push prepare_in j.value.entries (Prepare pass count) ∙ ap (λ k. k + 1) h.made);
+      made = ap (λ (x : JournalView). passes_made x.value) longer ∙ (sum_by_push prepares j.value.entries (Prepare pass count) ∙ ap (λ k. k + 1) h.made);
       passes_are = omega (arith, h.passes_are, ticks, opened, closed);
       most = omega (arith, begun, left);
       few = h.few;

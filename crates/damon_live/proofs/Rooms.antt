@@ -8,10 +8,11 @@ use Rattle.damon_core.specs.State.{Core}
 use Rattle.damon_core.specs.Stands.{MonitorView}
 use Rattle.damon_control.specs.Live.{LiveValue}
 use Rattle.damon_journal.specs.declared.entry.Entry.{Entry}
+use Rattle.damon_journal.specs.Counted.{prepares}
 use Rattle.damon_journal.specs.Replay.{JournalValue}
 use Rattle.damon_journal.specs.Growth.{longer}
 use Rattle.damon_journal.specs.Room.{JournalView, with_entry, with_results}
-use Rattle.damon_live.specs.Machine.{HasRoom, call_in, calls_left, entries_owed, passes_made, passes_open, prepare_in, words_owed}
+use Rattle.damon_live.specs.Machine.{HasRoom, call_in, calls_left, entries_owed, passes_made, passes_open, words_owed}
 use Rattle.std.proofs.lemmas.List.{append-nil}
 use Rattle.std.proofs.lemmas.List.Sums.{sum_by_push}
 use Rattle.damon_live.proofs.Checking.{IsObserved}
@@ -54,7 +55,7 @@ pub record Takes (c d : Core) (bs : List Bool) (count more owed left : ℕ) : Ty
   pub bits : length bs + c.regions.cap * passes_open d.phase ≤ c.regions.cap * passes_open c.phase
   pub words : more + words_owed d.phase ≤ count + words_owed c.phase
 
-pub room_left : (v : LiveValue) (c d : Core) (j new : JournalView) (e : Entry) (bs : List Bool) (passes count more reserved : ℕ) → HasRoom v c j passes count reserved → prepare_in e ≡ 0 → Takes c d bs count more (calls_left v j.value.entries) (calls_left v (j.value.entries ++ e ∷ [])) → IsExtended j new e bs → HasRoom v d new passes more reserved
+pub room_left : (v : LiveValue) (c d : Core) (j new : JournalView) (e : Entry) (bs : List Bool) (passes count more reserved : ℕ) → HasRoom v c j passes count reserved → prepares e ≡ 0 → Takes c d bs count more (calls_left v j.value.entries) (calls_left v (j.value.entries ++ e ∷ [])) → IsExtended j new e bs → HasRoom v d new passes more reserved
 room_left v c d j new e bs passes count more reserved h plain t is =
     let entries : length new.value.entries ≡ length j.value.entries + 1 = ap (λ (x : JournalValue). length x.entries) is.value ∙ length-append j.value.entries (e ∷ []) in
     let bits : length new.value.bits ≡ length j.value.bits + length bs = ap (λ (x : JournalValue). length x.bits) is.value ∙ length-append j.value.bits bs in
@@ -65,7 +66,7 @@ room_left v c d j new e bs passes count more reserved h plain t is =
     let now : length new.value.bits + (c.regions.cap * k + c.regions.cap * passes_open d.phase) ≤ new.bit_room = omega (arith, old, bits, t.bits, bit_room) in
     let joined : c.regions.cap * k + c.regions.cap * passes_open d.phase ≡ d.regions.cap * (k + passes_open d.phase) = (let spread : c.regions.cap * k + c.regions.cap * passes_open d.phase ≡ c.regions.cap * (k + passes_open d.phase) = omega arith in spread ∙ ap (λ x. x * (k + passes_open d.phase)) (sym t.cap)) in
     record {
-      made = ap passes_made is.value ∙ (sum_by_push prepare_in j.value.entries e ∙ omega (arith, plain, h.made));
+      made = ap passes_made is.value ∙ (sum_by_push prepares j.value.entries e ∙ omega (arith, plain, h.made));
       passes_are = t.passes ∙ h.passes_are;
       most = h.most;
       few = h.few;

@@ -9,6 +9,7 @@ use Rattle.damon_control.specs.Live.{LiveValue}
 use Rattle.damon_control.specs.Script.{live_of}
 use Rattle.damon_journal.specs.declared.status.Status.{Status}
 use Rattle.damon_journal.specs.declared.status.Status.TheVariants as statuses
+use Rattle.damon_journal.specs.Rules.{IsReadBack}
 use Rattle.damon_journal.specs.Status.{IsRead, IsUnwritten}
 use Rattle.damon_journal.specs.Text.{journal_text}
 use Rattle.damon_live.specs.Ending.{Ending, HasRun, IsExpected, NothingRan, TellsFault, TellsPasses, ended_early}
@@ -22,6 +23,7 @@ pub record IsEnding (limit : ℕ) (asked : Bool) (source source' sink sink' : En
   pub none : IfNone e.script (NothingRan e)
   pub ok : e.status ≡ statuses.Ok → IfSome e.script (λ v. Appends sink.bytes sink'.bytes (journal_text v e.journal e.receipts))
   pub part : IfSome e.script (λ v. WritesPart sink.bytes sink'.bytes (journal_text v e.journal e.receipts))
+  pub back : IfSome e.script (λ v. IsReadBack v e.journal e.receipts)
   pub unwritten : IfNone e.script same
   pub early : IsUnwritten e.status → same
   pub end : asked ≡ true → IsRead e.status → IsAtEnd source'.bytes

@@ -8,3 +8,4 @@ pub mod Whole
 pub mod Work
 pub mod Ending
 pub mod Answers
+pub mod OwnText

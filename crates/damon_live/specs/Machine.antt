@@ -17,6 +17,7 @@ use Rattle.damon_control.specs.LiveText.{KeepsLimits}
 use Rattle.damon_control.specs.LiveView.{live_said}
 use Rattle.damon_journal.specs.declared.entry.Entry.{Entry}
 use Rattle.damon_journal.specs.declared.entry.Entry.TheVariants.{Aggregate, Call, Prepare}
+use Rattle.damon_journal.specs.Counted.{prepares}
 use Rattle.damon_journal.specs.Replay.{IsJournalOf, JournalValue, Replayed, check_sizes, replay}
 use Rattle.damon_journal.specs.Room.{JournalView}
 use Rattle.damon_journal.specs.Steps.{steps}
@@ -78,14 +79,9 @@ abbrev pub call_in : Entry → ℕ
 call_in (Call controller index answer) = 1
 call_in _ = 0
 
--- a Prepare among the entries
-abbrev pub prepare_in : Entry → ℕ
-prepare_in (Prepare pass pos) = 1
-prepare_in _ = 0
-
 -- the passes that were prepared: the number of Prepare entries
 abbrev pub passes_made : JournalValue → ℕ
-passes_made j = sum_by prepare_in j.entries
+passes_made j = sum_by prepares j.entries
 
 -- how many calls of the script are not among the entries
 abbrev pub calls_left : LiveValue → List Entry → ℕ

@@ -23,6 +23,8 @@ mod ends;
 mod jobs;
 /// What the lock keeps.
 mod kept;
+/// Laws: the text of a whole run is read back.
+mod laws;
 /// The monitor with its journal and its seat, an entry at a time.
 mod machine;
 /// Names for a run.
@@ -47,6 +49,7 @@ mod work;
 pub use alone::run_alone;
 pub use ends::AloneRun;
 pub use kept::{Kept, Kept1, KeptParts};
+pub use laws::whole_runs_are_read_back;
 pub use machine::Machine;
 pub use named::Named;
 pub use pace::{NoPace, Pace, Spot};

@@ -12,6 +12,7 @@ ghost use Rattle.text_io.specs.Given.{GaveOver};
 ghost use Rattle.text_io.specs.Taken.{WritesPart};
 ghost use Rattle.damon_journal.specs.Lawful.{all_of, receipts_said};
 ghost use Rattle.damon_journal.specs.Replay.{check_sizes, replay};
+ghost use Rattle.damon_journal.specs.Rules.{IsReadBack};
 ghost use Rattle.damon_journal.specs.Status.{EndsRun, IsRead, IsUnwritten, status_of};
 ghost use Rattle.damon_journal.specs.Text.{journal_text};
 ghost use Rattle.damon_live.specs.Answers.{IsEnding, IsRefused, IsTaken};
@@ -19,6 +20,7 @@ ghost use Rattle.damon_live.specs.Ending.{HasRun, IsExpected, NothingRan, TellsF
 ghost use Rattle.damon_live.specs.Whole.{IsWholeRun, TracesAreInSpace};
 
 use crate::ends::AloneRun;
+use crate::laws::whole_runs_are_read_back;
 use crate::pace::Pace;
 use crate::threads::run_threads;
 use damon_control::{LiveScript, live_scripts_are_sound, read_live};
@@ -75,6 +77,10 @@ pub fn live_main<R: Threads + Wait + Sync, S: Source, K: Sink, P: Pace + Sync>(
     ensures unwritten { IfNone (ending result).script (sink.new ≡ sink.old) }
     ensures early { IsUnwritten result.status → sink.new ≡ sink.old }
 
+    // The text of the run is read as a journal: the one that is returned, with its receipts.
+    ensures back { IfSome (ending result).script (λ v.
+        IsReadBack v (ending result).journal (ending result).receipts) }
+
     // The status is the one that is expected, or a failure.
     ensures complete { IsExpected (asks_run words.now) result.status INPUT_LIMIT (S.left source.old)
         (Rose (S.faults source.old) (S.faults source.new))
@@ -116,6 +122,7 @@ fn serve<R: Threads + Wait + Sync, S: Source, K: Sink, P: Pace + Sync>(
         (record { bytes = K.taken sink.new; faults = K.faults sink.new })
         (source.new ≡ source.old) (sink.new ≡ sink.old) (ending result) }
 {
+    whole_runs_are_read_back();
     if !asks_run(words) {
         return end_early(alloc, Status::Usage);
     }

@@ -1,0 +1,163 @@
+-- The numbers of a lawful journal of a script within its limits are within their types.
+use Rattle.std.proofs.Common.{◌≡◌, ⊎_elim, ℕ, zero, suc, ◌+◌, ◌*◌, ◌^◌, ◌≤◌, ◌<◌, Bool, true, false, List, [], ◌∷◌, ◌++◌, length, Some, refl, sym, ap, subst, arith, cond, take}
+use Rattle.std.specs.Prelude.{◌==◌, slice_get, slice_index_or, sum_by}
+use Rattle.std.specs.List.{AllByRecursion, Contains}
+use Rattle.std.specs.Option.{option_map_or}
+use Rattle.std.proofs.lemmas.List.Sums.{sum_by-cons}
+use Rattle.std.proofs.lemmas.Option.{slice_get_within}
+use Rattle.page_words.specs.Clears.{clear_of, clear_passes_of}
+use Rattle.page_words.specs.Views.{touch}
+use Rattle.damon_core.specs.InPhase.{IsInPhase}
+use Rattle.damon_core.specs.Reached.{Reached, run}
+use Rattle.damon_core.specs.State.{State, opening, row_count}
+use Rattle.damon_control.specs.Live.{CallValue, LiveValue, count_all}
+use Rattle.damon_control.specs.LiveText.{KeepsLimits}
+use Rattle.damon_journal.specs.declared.entry.Entry.{Entry}
+use Rattle.damon_journal.specs.declared.entry.Entry.TheVariants.{Prepare, Check, Void, Aggregate, Call}
+use Rattle.damon_journal.specs.declared.entry.Receipt.{Receipt}
+use Rattle.damon_journal.specs.Counted.{prepares}
+use Rattle.damon_journal.specs.Lawful.{Received, all_of, touches_of}
+use Rattle.damon_journal.specs.Limits.{LawfulNumbersFit}
+use Rattle.damon_journal.specs.Replay.{EntriesFit, EntryFits, Replayed, begun, call_at, call_event, carried, entry_events}
+use Rattle.damon_journal.specs.Rules.{AnswerFits, CanCall, EntryNumbersFit, TagsFit}
+use Rattle.damon_journal.specs.Steps.{clear_steps, entry_steps, load_steps, steps, steps_from}
+use Rattle.damon_journal.proofs.AnswersFit.{answer_fits}
+use Rattle.damon_journal.proofs.Fitting.{carried_reached}
+use Rattle.damon_journal.proofs.PhaseAfter.{entry_counts, passes_open, splits_open}
+use Rattle.damon_journal.proofs.Quiet.{all_append}
+use Rattle.damon_journal.proofs.Settling.{cases, flat_append, touches-append}
+use Rattle.damon_journal.proofs.Sizes.{CommitLaws, IsWithin, opening_within, run_within}
+use Rattle.std.proofs.lemmas.List.Elements.{Contains-append_left, Contains-append_right}
+
+-- ---- the entries
+
+-- what holds before an entry: the passes and the words so far, in a state that is reached
+pub record IsSoFar (cap passes : ℕ) (r : Replayed) : Type 0 where
+  pub reached : Reached r.state
+  pub within : IsWithin cap r.state.core
+  pub passes_are : r.state.core.ticks + passes_open r.state.core.phase ≡ passes
+  pub words_few : r.drawn + 8192 * splits_open r.state.core.phase ≤ 12288 * passes
+
+-- a list among others has at most as many items as all have
+list_few : (lists : List (List CallValue)) (c : ℕ) → length (slice_index_or lists c []) ≤ count_all lists
+list_few [] c = omega arith
+list_few (l ∷ lists) zero = omega (arith, sum_by-cons (λ (k : List CallValue). length k) l lists)
+list_few (l ∷ lists) (suc c) = omega (arith, list_few lists c, sum_by-cons (λ (k : List CallValue). length k) l lists)
+
+-- the list that a call is in is one of them
+pub list_there : (lists : List (List CallValue)) (c index : ℕ) (call : CallValue) → slice_get (slice_index_or lists c []) index ≡ Some call → c < length lists
+list_there [] c index call is = absurd cc
+list_there (l ∷ lists) zero index call is = omega arith
+list_there (l ∷ lists) (suc c) index call is = omega (arith, list_there lists c index call is)
+
+-- what the script is known to keep
+pub record Known (v : LiveValue) : Type 0 where
+  pub commits : CommitLaws
+  pub in_phase : (s : State) → Reached s → IsInPhase s
+  pub cap : v.setup.cap ≤ 4096
+  pub limits : KeepsLimits v
+  pub can : CanCall v
+
+-- an entry, whose passes are at most those of the script
+entry_fits : (v : LiveValue) → Known v → (passes : ℕ) (r : Replayed) (e : Entry) → IsSoFar v.setup.cap passes r → EntryFits v r e → passes ≤ 1000000 → IsInPhase (carried v r e).state → IsWithin v.setup.cap (carried v r e).state.core → EntryNumbersFit e
+entry_fits v known passes r (Prepare pass position) far fits most next within = (omega (arith, fits.1, far.passes_are, most), omega (arith, fits.2, far.words_few, most))
+entry_fits v known passes r (Check pass) far fits most next within = omega (arith, fits.1, far.passes_are, most)
+entry_fits v known passes r (Void pass) far fits most next within = omega (arith, fits.1, far.passes_are, most)
+entry_fits v known passes r (Aggregate tick position) far fits most next within = (omega (arith, fits.1, far.passes_are, most), omega (arith, fits.2, far.words_few, most))
+entry_fits v known passes r (Call controller index answer) far fits most next within =
+    let call = fits.1.0 in
+    let is : call_at v controller index ≡ Some call = fits.1.1 in
+    let there = list_there v.controllers controller index call is in
+    let inside = slice_get_within (slice_index_or v.controllers controller []) index call is in
+    let few = list_few v.controllers controller in
+    let rows : row_count r.state.core ≤ 4096 = omega (arith, (known.in_phase r.state far.reached).few, far.within.0, known.cap) in
+    let rows_after : row_count (carried v r (Call controller index answer)).state.core ≤ 4096 = omega (arith, next.few, within.0, known.cap) in
+    let after : (carried v r (Call controller index answer)).state ≡ run r.state (call_event call ∷ []) = ap (λ o. run r.state (option_map_or (λ (x : CallValue). call_event x ∷ []) o [])) is in
+    let told : AnswerFits answer = subst AnswerFits (sym fits.1.2)
+    (answer_fits known.commits v.setup.version v.setup.cap call r.state (carried v r (Call controller index answer)).state known.cap far.within fits.0 (known.can controller index call is) (omega (arith, far.passes_are, most)) rows after rows_after) in
+    (omega (arith, there, known.limits.controllers), omega (arith, inside, few, known.limits.calls), told)
+
+entries_fit : (v : LiveValue) → Known v → (es : List Entry) (passes : ℕ) (r : Replayed) → IsSoFar v.setup.cap passes r → EntriesFit v r es → passes + sum_by prepares es ≤ 1000000 → AllByRecursion EntryNumbersFit es
+entries_fit v known [] passes r far fit most = tt
+entries_fit v known (e ∷ es) passes r far fit most =
+    let here = known.in_phase r.state far.reached in
+    let rows : row_count r.state.core ≤ 4096 = omega (arith, here.few, far.within.0, known.cap) in
+    let counts = entry_counts v r e here.some rows (omega (arith, far.within.1, known.cap)) fit.0 in
+    let sums = sum_by-cons prepares e es in
+    let reached = carried_reached v r e here.some far.reached fit.0 in
+    let within = run_within known.commits v.setup.cap r.state (entry_events v r e) far.within in
+    let next : IsSoFar v.setup.cap (passes + prepares e) (carried v r e) = record {
+      reached = reached;
+      within = within;
+      passes_are = omega (arith, counts.passes, far.passes_are);
+      words_few = omega (arith, counts.words_few, far.words_few);
+    } in (
+      entry_fits v known passes r e far fit.0 (omega (arith, most)) (known.in_phase (carried v r e).state reached) within,
+      entries_fit v known es (passes + prepares e) (carried v r e) next fit.1 (omega (arith, most, sums)),
+    )
+
+-- ---- the tags
+
+IsSmall : ℕ → Type 0
+IsSmall n = n < 2 ^ 64
+
+clears_small : (page pass : ℕ) (picks : List ℕ) → pass < 2 ^ 64 → AllByRecursion IsSmall (clear_passes_of page (clear_steps pass picks))
+unfolding IsSmall
+clears_small page pass [] below = tt
+clears_small page pass (p ∷ picks) below = by_test (p == page) (clears_small page pass picks below)
+  where
+    by_test : (b : Bool) → AllByRecursion IsSmall (clear_passes_of page (clear_steps pass picks)) → AllByRecursion IsSmall (cond b (pass ∷ []) [] ++ clear_passes_of page (clear_steps pass picks))
+    by_test true rest = (below, rest)
+    by_test false rest = rest
+
+loads_clear_nothing : (page pass : ℕ) (picks : List ℕ) (bits : List Bool) → clear_passes_of page (load_steps pass picks bits) ≡ []
+loads_clear_nothing page pass [] bits = refl
+loads_clear_nothing page pass (p ∷ picks) [] = refl
+loads_clear_nothing page pass (p ∷ picks) (b ∷ bits) = loads_clear_nothing page pass picks bits
+
+entry_small : (v : LiveValue) (page : ℕ) (r : Replayed) (e : Entry) → EntryNumbersFit e → AllByRecursion IsSmall (clear_passes_of page (entry_steps v r e))
+entry_small v page r (Prepare pass position) fits = clears_small page pass _ fits.0
+entry_small v page r (Check pass) fits = subst (AllByRecursion IsSmall) (sym (loads_clear_nothing page pass r.state.core.picks (take (row_count r.state.core) r.bits))) tt
+entry_small v page r (Void pass) fits = tt
+entry_small v page r (Aggregate tick position) fits = tt
+entry_small v page r (Call controller index answer) fits = tt
+
+steps_small : (v : LiveValue) (page : ℕ) (es : List Entry) (r : Replayed) → AllByRecursion EntryNumbersFit es → AllByRecursion IsSmall (clear_passes_of page (steps_from v r es))
+steps_small v page [] r fit = tt
+steps_small v page (e ∷ es) r fit =
+    subst (AllByRecursion IsSmall) (sym (flat_append (clear_of page) (entry_steps v r e) (steps_from v (carried v r e) es)))
+    (all_append IsSmall (clear_passes_of page (entry_steps v r e)) (clear_passes_of page (steps_from v (carried v r e) es)) (entry_small v page r e fit.0) (steps_small v page es (carried v r e) fit.1))
+
+small_among : (xs : List ℕ) (x : ℕ) → AllByRecursion IsSmall xs → Contains xs x → IsSmall x
+small_among [] x all (k, within, is) = absurd (omega (arith, within))
+small_among (y ∷ ys) x all there = ⊎_elim (λ (same : y ≡ x). subst IsSmall same all.0) (λ (later : Contains ys x). small_among ys x all.1 later) (cases y ys x there)
+
+-- each receipt among all of them
+each_tag : (rs : List Receipt) → ((page tag : ℕ) → Contains (touches_of rs) (touch page tag) → tag < 2 ^ 64) → AllByRecursion (λ r. r.tag < 2 ^ 64) rs
+each_tag [] known = tt
+each_tag (r ∷ rs) known = (known r.page r.tag (0, omega arith, refl), each_tag rs (λ page tag there. known page tag (Contains-append_right (touch r.page r.tag ∷ []) (touches_of rs) (touch page tag) there)))
+
+all_tags : (all : List (List Receipt)) → ((page tag : ℕ) → Received all page tag → tag < 2 ^ 64) → TagsFit all
+all_tags [] known = tt
+all_tags (rs ∷ all) known =
+    let parts = touches-append rs (all_of all) in (
+      each_tag rs (λ page tag there. known page tag (subst (λ l. Contains l (touch page tag)) (sym parts) (Contains-append_left (touches_of rs) (touches_of (all_of all)) (touch page tag) there))),
+      all_tags all (λ page tag there. known page tag (subst (λ l. Contains l (touch page tag)) (sym parts) (Contains-append_right (touches_of rs) (touches_of (all_of all)) (touch page tag) there))),
+    )
+
+-- ---- both
+
+pub lawful_fit : CommitLaws → ((s : State) → Reached s → IsInPhase s) → LawfulNumbersFit
+unfolding IsSmall
+lawful_fit commits in_phase v j all can limits call lawful few =
+    let known : Known v = record { commits = commits; in_phase = in_phase; cap = can.sound.cap_most; limits = limits; can = call } in
+    let reached : Reached (opening v.setup) = record { setup = v.setup; events = []; can_open = can; fit = tt; is = refl } in
+    let first : IsSoFar v.setup.cap 0 (begun v j.bits) = record { reached = reached; within = opening_within v.setup can; passes_are = refl; words_few = omega arith } in
+    let numbers = entries_fit v known j.entries 0 (begun v j.bits) first lawful.journal.fit (omega (arith, few, limits.passes)) in
+    record {
+      numbers = numbers;
+      tags = all_tags all (λ page tag there. ⊎_elim
+          (λ (none : tag ≡ 0). omega (arith, none))
+          (λ (named : Contains (clear_passes_of page (steps v j)) tag). small_among (clear_passes_of page (steps v j)) tag (steps_small v page j.entries (begun v j.bits) numbers) named)
+          (lawful.receipts.name page tag there));
+    }
