@@ -101,8 +101,8 @@ pub fn rejected_texts_are_unlawful()
     lawful_journals_are_read();
 }
 
-/// The numbers of a lawful journal of a script within its limits, which prepares no more passes than the
-/// script has, are within their types, and so are the tags of its receipts.
+/// The numbers of a lawful journal are within their types, and so are the tags of its receipts, where the
+/// script is within its limits, a text can spell its calls, and no more passes are prepared than it has.
 pub fn lawful_numbers_fit()
     ensures law { LawfulNumbersFit }
 {
