@@ -15,7 +15,8 @@ pub record NumbersFit (j : JournalValue) (all : List (List Receipt)) : Type 0 wh
   pub numbers : AllByRecursion EntryNumbersFit j.entries
   pub tags : TagsFit all
 
--- so are those of each lawful journal of a script within its limits, where it prepares no more passes than the script has
+-- so are those of each lawful journal of a script within its limits whose calls a text can spell, where it prepares no more passes than
+-- the script has
 abbrev pub LawfulNumbersFit : Type 0
 LawfulNumbersFit =
     (v : LiveValue) (j : JournalValue) (all : List (List Receipt)) → CanOpen v.setup → KeepsLimits v → CanCall v → IsLawful v j all
