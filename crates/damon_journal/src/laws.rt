@@ -102,7 +102,6 @@ pub fn rejected_texts_are_unlawful()
     lawful_journals_are_read();
 }
 
-<<<<<<< HEAD
 // A text that begins with the line of a receipt says that receipt first, and then those of its rest.
 pub(crate) fn leading_receipts_are_read()
     ensures { ReadsLeadingSeen }
@@ -118,12 +117,8 @@ pub(crate) fn leading_receipts_are_read()
     stripped_front_was_first();
 }
 
-/// The numbers of a lawful journal of a script within its limits, which prepares no more passes than the
-/// script has, are within their types, and so are the tags of its receipts.
-=======
 /// The numbers of a lawful journal are within their types, and so are the tags of its receipts, where the
 /// script is within its limits, a text can spell its calls, and no more passes are prepared than it has.
->>>>>>> 3e4137360087fd911dd0f9ae2422598c8b234868
 pub fn lawful_numbers_fit()
     ensures law { LawfulNumbersFit }
 {
