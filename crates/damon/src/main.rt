@@ -9,7 +9,7 @@ use std::env::Env;
 use std::process::ExitCode;
 use std::{env, io};
 
-const USAGE: &str = "usage: damon replay, json, verify or gen N";
+const USAGE: &str = "usage: damon replay, json, verify, gen N or heat N";
 
 fn main(rt: HostRuntime) -> ExitCode {
     let status = run(&rt);

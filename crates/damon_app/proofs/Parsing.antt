@@ -21,9 +21,9 @@ use Rattle.clap.specs.Walk.{Held, Names, Row, Rule, Text, Walk, first_of, nothin
 use Rattle.clap.proofs.OnLiterals.{clap_on_literals}
 use Rattle.damon_app.specs.Parser.{begins_with_hyphen, damon_app, has_option, number_found, request_by, request_found}
 use Rattle.damon_app.specs.declared.request.Request.{Request}
-use Rattle.damon_app.specs.declared.request.Request.TheVariants.{Report, Verify}
+use Rattle.damon_app.specs.declared.request.Request.TheVariants.{Report, Verify, Heat}
 use Rattle.snapshot_print.specs.declared.form.Form.TheVariants.{Text as TextForm, Json as JsonForm}
-use Rattle.damon_app.specs.Request.{asked, asked_alone, generation_of, request_of}
+use Rattle.damon_app.specs.Request.{asked, asked_alone, asked_with, columns_of, request_of}
 
 pub free : is_simple_and_free damon_app ≡ true
 unfolding clap_on_literals
@@ -44,9 +44,9 @@ IsPlainWord [] = Unit {0}
 IsPlainWord (c ∷ cs) = (c == 45) ≡ false
 
 module _ (c : ℕ) (cs : List ℕ) (dash : (c == 45) ≡ false) where
-  other_fails : (ws : List Text) → bytes_eq (codes "replay") (c ∷ cs) ≡ false → bytes_eq (codes "json") (c ∷ cs) ≡ false → bytes_eq (codes "verify") (c ∷ cs) ≡ false → bytes_eq (codes "gen") (c ∷ cs) ≡ false → fault_of damon_app ((c ∷ cs) ∷ ws) ≡ kind.UnknownArgument ∷ kind.InvalidSubcommand ∷ []
+  other_fails : (ws : List Text) → bytes_eq (codes "replay") (c ∷ cs) ≡ false → bytes_eq (codes "json") (c ∷ cs) ≡ false → bytes_eq (codes "verify") (c ∷ cs) ≡ false → bytes_eq (codes "gen") (c ∷ cs) ≡ false → bytes_eq (codes "heat") (c ∷ cs) ≡ false → fault_of damon_app ((c ∷ cs) ∷ ws) ≡ kind.UnknownArgument ∷ kind.InvalidSubcommand ∷ []
   unfolding clap_on_literals
-  other_fails ws r j v g = rw (r, j, v, g, dash, dash) refl
+  other_fails ws r j v g h = rw (r, j, v, g, h, dash, dash) refl
 
   gen_passes : fault_of damon_app (codes "gen" ∷ (c ∷ cs) ∷ []) ≡ []
   unfolding clap_on_literals
@@ -55,6 +55,14 @@ module _ (c : ℕ) (cs : List ℕ) (dash : (c == 45) ≡ false) where
   gen_finds : number_found (subcommand_of damon_app (codes "gen" ∷ (c ∷ cs) ∷ [])) ≡ Some (codes "gen", Some (c ∷ cs))
   unfolding clap_on_literals
   gen_finds = rw (dash, dash) refl
+
+  heat_passes : fault_of damon_app (codes "heat" ∷ (c ∷ cs) ∷ []) ≡ []
+  unfolding clap_on_literals
+  heat_passes = rw (dash, dash) refl
+
+  heat_finds : number_found (subcommand_of damon_app (codes "heat" ∷ (c ∷ cs) ∷ [])) ≡ Some (codes "heat", Some (c ∷ cs))
+  unfolding clap_on_literals
+  heat_finds = rw (dash, dash) refl
 
 -- ---- words after a subcommand
 
@@ -150,9 +158,36 @@ gen_fails : (x y : Text) (ws : List Text) → IsPlainWord x → IsPlainWord y �
 unfolding clap_on_literals
 gen_fails x y ws p q = sub_fails (codes "gen") (x ∷ y ∷ ws) kind.UnknownArgument [] refl refl (gen_below x y ws p q)
 
+-- the same of `heat`
+heat_more : (c d : ℕ) (cs ds : List ℕ) (ws : List Text) → (c == 45) ≡ false → (d == 45) ≡ false → entered_fault built_app (Some (codes "heat", (c ∷ cs) ∷ (d ∷ ds) ∷ ws)) ≡ kind.UnknownArgument ∷ []
+unfolding clap_on_literals
+heat_more c d cs ds ws dash dash' = rw (dash, dash, dash', dash') refl
+
+heat_empty_more : (d : ℕ) (ds : List ℕ) (ws : List Text) → (d == 45) ≡ false → entered_fault built_app (Some (codes "heat", [] ∷ (d ∷ ds) ∷ ws)) ≡ kind.UnknownArgument ∷ []
+unfolding clap_on_literals
+heat_empty_more d ds ws dash = rw (dash, dash) refl
+
+heat_more_empty : (c : ℕ) (cs : List ℕ) (ws : List Text) → (c == 45) ≡ false → entered_fault built_app (Some (codes "heat", (c ∷ cs) ∷ [] ∷ ws)) ≡ kind.UnknownArgument ∷ []
+unfolding clap_on_literals
+heat_more_empty c cs ws dash = rw (dash, dash) refl
+
+heat_empty_empty : (ws : List Text) → entered_fault built_app (Some (codes "heat", [] ∷ [] ∷ ws)) ≡ kind.UnknownArgument ∷ []
+unfolding clap_on_literals
+heat_empty_empty ws = refl
+
+heat_below : (x y : Text) (ws : List Text) → IsPlainWord x → IsPlainWord y → entered_fault built_app (Some (codes "heat", x ∷ y ∷ ws)) ≡ kind.UnknownArgument ∷ []
+heat_below [] [] ws p q = heat_empty_empty ws
+heat_below [] (d ∷ ds) ws p q = heat_empty_more d ds ws q
+heat_below (c ∷ cs) [] ws p q = heat_more_empty c cs ws p
+heat_below (c ∷ cs) (d ∷ ds) ws p q = heat_more c d cs ds ws p q
+
+heat_fails : (x y : Text) (ws : List Text) → IsPlainWord x → IsPlainWord y → fault_of damon_app (codes "heat" ∷ x ∷ y ∷ ws) ≡ kind.UnknownArgument ∷ []
+unfolding clap_on_literals
+heat_fails x y ws p q = sub_fails (codes "heat") (x ∷ y ∷ ws) kind.UnknownArgument [] refl refl (heat_below x y ws p q)
+
 -- ---- the whole
 
--- what words name, with the number of a generated run
+-- what words name, with the number that two of them have
 abbrev pub named : List Text → Option (Text × Option Text)
 named [] = None
 named (word ∷ []) =
@@ -160,7 +195,10 @@ named (word ∷ []) =
     else if bytes_eq word (codes "json") then Some (codes "json", None)
     else if bytes_eq word (codes "verify") then Some (codes "verify", None)
     else None
-named (word ∷ digits ∷ []) = if bytes_eq word (codes "gen") then Some (codes "gen", Some digits) else None
+named (word ∷ digits ∷ []) =
+    if bytes_eq word (codes "gen") then Some (codes "gen", Some digits)
+    else if bytes_eq word (codes "heat") then Some (codes "heat", Some digits)
+    else None
 named (word ∷ digits ∷ more ∷ words) = None
 
 abbrev pub ArePlain : List Text → Type 0
@@ -202,11 +240,18 @@ gen_parsed ([] ∷ []) plain = inl (refl, refl)
 gen_parsed ((c ∷ cs) ∷ []) plain = inl (gen_passes c cs plain.0, gen_finds c cs plain.0)
 gen_parsed (x ∷ y ∷ ws) plain = inr (kind.UnknownArgument, [], gen_fails x y ws plain.0 plain.1.0, refl)
 
+heat_parsed : (ws : List Text) → ArePlain ws → IsParsedAs (codes "heat" ∷ ws)
+unfolding clap_on_literals
+heat_parsed [] plain = inr (kind.MissingRequiredArgument, [], refl, refl)
+heat_parsed ([] ∷ []) plain = inl (refl, refl)
+heat_parsed ((c ∷ cs) ∷ []) plain = inl (heat_passes c cs plain.0, heat_finds c cs plain.0)
+heat_parsed (x ∷ y ∷ ws) plain = inr (kind.UnknownArgument, [], heat_fails x y ws plain.0 plain.1.0, refl)
+
 -- words that name no subcommand
-none_named : (word : Text) (ws : List Text) → bytes_eq word (codes "replay") ≡ false → bytes_eq word (codes "json") ≡ false → bytes_eq word (codes "verify") ≡ false → bytes_eq word (codes "gen") ≡ false → named (word ∷ ws) ≡ None
-none_named word [] r j v g = rw (r, j, v) refl
-none_named word (x ∷ []) r j v g = rw g refl
-none_named word (x ∷ y ∷ ws) r j v g = refl
+none_named : (word : Text) (ws : List Text) → bytes_eq word (codes "replay") ≡ false → bytes_eq word (codes "json") ≡ false → bytes_eq word (codes "verify") ≡ false → bytes_eq word (codes "gen") ≡ false → bytes_eq word (codes "heat") ≡ false → named (word ∷ ws) ≡ None
+none_named word [] r j v g h = rw (r, j, v) refl
+none_named word (x ∷ []) r j v g h = rw (g, h) refl
+none_named word (x ∷ y ∷ ws) r j v g h = refl
 
 flipped : (a b : Text) → bytes_eq a b ≡ false → bytes_eq b a ≡ false
 flipped a b not = by (bytes_eq b a) refl
@@ -215,11 +260,11 @@ flipped a b not = by (bytes_eq b a) refl
     by false is = refl
     by true is = let same : b ≡ a = (bytes_eq-Decides b a).0 is in let yes : bytes_eq a b ≡ true = (bytes_eq-Decides a b).1 (sym same) in absurd (let no : true ≡ false = sym yes ∙ not in cc no)
 
-unnamed_parsed : (word : Text) (ws : List Text) → IsPlainWord word → bytes_eq word (codes "replay") ≡ false → bytes_eq word (codes "json") ≡ false → bytes_eq word (codes "verify") ≡ false → bytes_eq word (codes "gen") ≡ false → IsParsedAs (word ∷ ws)
+unnamed_parsed : (word : Text) (ws : List Text) → IsPlainWord word → bytes_eq word (codes "replay") ≡ false → bytes_eq word (codes "json") ≡ false → bytes_eq word (codes "verify") ≡ false → bytes_eq word (codes "gen") ≡ false → bytes_eq word (codes "heat") ≡ false → IsParsedAs (word ∷ ws)
 unfolding clap_on_literals
-unnamed_parsed [] ws plain r j v g = inr (kind.UnknownArgument, kind.InvalidSubcommand ∷ [], refl, none_named [] ws r j v g)
-unnamed_parsed (c ∷ cs) ws plain r j v g =
-    inr (kind.UnknownArgument, kind.InvalidSubcommand ∷ [], other_fails c cs plain ws (flipped (c ∷ cs) (codes "replay") r) (flipped (c ∷ cs) (codes "json") j) (flipped (c ∷ cs) (codes "verify") v) (flipped (c ∷ cs) (codes "gen") g), none_named (c ∷ cs) ws r j v g)
+unnamed_parsed [] ws plain r j v g h = inr (kind.UnknownArgument, kind.InvalidSubcommand ∷ [], refl, none_named [] ws r j v g h)
+unnamed_parsed (c ∷ cs) ws plain r j v g h =
+    inr (kind.UnknownArgument, kind.InvalidSubcommand ∷ [], other_fails c cs plain ws (flipped (c ∷ cs) (codes "replay") r) (flipped (c ∷ cs) (codes "json") j) (flipped (c ∷ cs) (codes "verify") v) (flipped (c ∷ cs) (codes "gen") g) (flipped (c ∷ cs) (codes "heat") h), none_named (c ∷ cs) ws r j v g h)
 
 is_word : (word name : Text) (ws : List Text) → bytes_eq word name ≡ true → IsParsedAs (name ∷ ws) → IsParsedAs (word ∷ ws)
 is_word word name ws same parsed = subst (λ (w : Text). IsParsedAs (w ∷ ws)) (sym ((bytes_eq-Decides word name).0 same)) parsed
@@ -229,9 +274,13 @@ pub words_parsed : (words : List Text) → ArePlain words → IsParsedAs words
 words_parsed [] plain = none_parsed
 words_parsed (word ∷ ws) plain = by_replay (bytes_eq word (codes "replay")) refl
   where
+    by_heat : (t : Bool) → bytes_eq word (codes "heat") ≡ t → bytes_eq word (codes "replay") ≡ false → bytes_eq word (codes "json") ≡ false → bytes_eq word (codes "verify") ≡ false → bytes_eq word (codes "gen") ≡ false → IsParsedAs (word ∷ ws)
+    by_heat true is r j v g = is_word word (codes "heat") ws is (heat_parsed ws plain.1)
+    by_heat false is r j v g = unnamed_parsed word ws plain.0 r j v g is
+
     by_gen : (t : Bool) → bytes_eq word (codes "gen") ≡ t → bytes_eq word (codes "replay") ≡ false → bytes_eq word (codes "json") ≡ false → bytes_eq word (codes "verify") ≡ false → IsParsedAs (word ∷ ws)
     by_gen true is r j v = is_word word (codes "gen") ws is (gen_parsed ws plain.1)
-    by_gen false is r j v = unnamed_parsed word ws plain.0 r j v is
+    by_gen false is r j v = by_heat (bytes_eq word (codes "heat")) refl r j v is
 
     by_verify : (t : Bool) → bytes_eq word (codes "verify") ≡ t → bytes_eq word (codes "replay") ≡ false → bytes_eq word (codes "json") ≡ false → IsParsedAs (word ∷ ws)
     by_verify true is r j = is_word word (codes "verify") ws is (verify_parsed ws plain.1)
@@ -255,15 +304,18 @@ one_asks false true v = refl
 one_asks false false true = refl
 one_asks false false false = refl
 
-two_ask : (t : Bool) (digits : Text) → request_found (if t then Some (codes "gen", Some digits) else None) ≡ (if t then generation_of (codes "gen") digits else None)
-two_ask true digits = refl
-two_ask false digits = refl
+two_ask : (t u : Bool) (digits : Text)
+    → request_found (if t then Some (codes "gen", Some digits) else if u then Some (codes "heat", Some digits) else None)
+    ≡ (if t then asked_with (codes "gen") digits else if u then asked_with (codes "heat") digits else None)
+two_ask true u digits = refl
+two_ask false true digits = refl
+two_ask false false digits = refl
 
 -- what words name is what they ask for
 named_asks : (words : List Text) → request_found (named words) ≡ request_of words
 named_asks [] = refl
 named_asks (word ∷ []) = one_asks (bytes_eq word (codes "replay")) (bytes_eq word (codes "json")) (bytes_eq word (codes "verify"))
-named_asks (word ∷ digits ∷ []) = two_ask (bytes_eq word (codes "gen")) digits
+named_asks (word ∷ digits ∷ []) = two_ask (bytes_eq word (codes "gen")) (bytes_eq word (codes "heat")) digits
 named_asks (word ∷ digits ∷ more ∷ words) = refl
 
 plain_word : (word : Text) → begins_with_hyphen word ≡ false → IsPlainWord word
@@ -314,23 +366,24 @@ no_report : (word : Text) → begins_with_hyphen word ≡ true → asked_alone w
 no_report [] is = absurd cc
 no_report (c ∷ cs) is = subst (λ (b : ℕ). asked_alone (b ∷ cs) ≡ None) (sym (is_hyphen c is)) refl
 
-no_run : (word digits : Text) → begins_with_hyphen word ≡ true → generation_of word digits ≡ None
+no_run : (word digits : Text) → begins_with_hyphen word ≡ true → asked_with word digits ≡ None
 no_run [] digits is = absurd cc
-no_run (c ∷ cs) digits is = subst (λ (b : ℕ). generation_of (b ∷ cs) digits ≡ None) (sym (is_hyphen c is)) refl
+no_run (c ∷ cs) digits is = subst (λ (b : ℕ). asked_with (b ∷ cs) digits ≡ None) (sym (is_hyphen c is)) refl
 
 no_number : (most : ℕ) (cs : Text) → number most (45 ∷ cs) ≡ None
 no_number most [] = refl
 no_number most (d ∷ ds) = refl
 
-no_digits : (word digits : Text) → begins_with_hyphen digits ≡ true → generation_of word digits ≡ None
+no_digits : (word digits : Text) → begins_with_hyphen digits ≡ true → asked_with word digits ≡ None
 no_digits word [] is = absurd cc
 no_digits word (c ∷ cs) is =
-    subst (λ (b : ℕ). generation_of word (b ∷ cs) ≡ None) (sym (is_hyphen c is))
-    (rw (no_number (2 ^ 64 - 1) cs) (by (bytes_eq word (codes "gen"))))
+    subst (λ (b : ℕ). asked_with word (b ∷ cs) ≡ None) (sym (is_hyphen c is))
+    (rw (no_number (2 ^ 64 - 1) cs) (by (bytes_eq word (codes "gen")) (bytes_eq word (codes "heat"))))
   where
-    by : (t : Bool) → ◌≡◌ {A = Option Request} (if t then None else None) None
-    by true = refl
-    by false = refl
+    by : (t u : Bool) → ◌≡◌ {A = Option Request} (if t then None else if u then None else None) None
+    by true u = refl
+    by false true = refl
+    by false false = refl
 
 -- words with an option ask for nothing
 pub option_asks : (words : List (String Global)) → has_option words ≡ true → asked words ≡ None
@@ -342,7 +395,7 @@ option_asks (word ∷ []) is = by (begins_with_hyphen (string_bytes word)) refl 
     by false first is = absurd cc
 option_asks (word ∷ digits ∷ []) is = by (begins_with_hyphen (string_bytes word)) refl (begins_with_hyphen (string_bytes digits)) refl is
   where
-    by : (t : Bool) → begins_with_hyphen (string_bytes word) ≡ t → (u : Bool) → begins_with_hyphen (string_bytes digits) ≡ u → (t || (u || false)) ≡ true → generation_of (string_bytes word) (string_bytes digits) ≡ None
+    by : (t : Bool) → begins_with_hyphen (string_bytes word) ≡ t → (u : Bool) → begins_with_hyphen (string_bytes digits) ≡ u → (t || (u || false)) ≡ true → asked_with (string_bytes word) (string_bytes digits) ≡ None
     by true first u second is = no_run (string_bytes word) (string_bytes digits) first
     by false first true second is = no_digits (string_bytes word) (string_bytes digits) second
     by false first false second is = absurd cc

@@ -5,18 +5,20 @@ use Rattle.std.specs.Io.KnownBytes.{Appends}
 use Rattle.damon_types.specs.Causes.{Rose}
 use Rattle.damon_control.specs.Script.{script_of}
 use Rattle.snapshot_print.specs.declared.form.Form.{Form}
-use Rattle.damon_app.specs.declared.request.Request.TheVariants.{Report, Verify, Generate}
+use Rattle.damon_app.specs.declared.request.Request.TheVariants.{Report, Verify, Heat, Generate}
 use Rattle.damon_journal.specs.declared.status.Status.{Status}
 use Rattle.damon_journal.specs.declared.status.Status.TheVariants as statuses
 use Rattle.damon_journal.specs.Reading.{read_journal}
 use Rattle.damon_app.specs.Generated.{gen_text}
 use Rattle.text_io.specs.Given.{GaveOver}
 use Rattle.text_io.specs.Taken.{WritesPart}
+use Rattle.damon_app.specs.declared.request.Columns.{Columns}
 use Rattle.damon_app.specs.declared.request.Request.{Request}
+use Rattle.damon_app.specs.Heating.{Heats, HeatsPrefix}
 use Rattle.damon_journal.specs.Status.{EndsRun, IsFailure, status_of}
 use Rattle.text_io.specs.Ends.{Ends}
 use Rattle.damon_app.specs.StatusOf.{status_of_input}
-use Rattle.damon_app.specs.Replay.{IsBegun, IsExpected, IsOfInput, Replays, TellsFault, Verifies, VerifiesPrefix, WritesCounts, WritesPrefix}
+use Rattle.damon_app.specs.Replay.{IsBegun, IsExpected, IsOfInput, Replays, TellsFault, Verifies, VerifiesPrefix, WritesCounts, WritesPrefix, WritesTables}
 use Rattle.std.proofs.KnownBytes.{Appends-nil}
 use Rattle.damon_app.proofs.Answering.{untold}
 use Rattle.damon_app.specs.Answers.{IsAnswer, IsOutcome, MayWrite, RefusesAs, WritesWanted}
@@ -96,6 +98,38 @@ module _ (limit : ℕ) (source source' sink sink' : Ends) (unread same : Type 0)
     prefix = each (λ bytes. MayWrite Verify same bytes sink.bytes sink'.bytes) (λ bytes. same ⊎ VerifiesPrefix bytes sink.bytes sink'.bytes) source.bytes begins_line is.prefix;
   }
 
+-- the answer to a request for the heat tables of a journal
+module _ (limit : ℕ) (columns : Columns) (source source' sink sink' : Ends) (unread same : Type 0) (status : Status) where
+  heats : (bytes : List ℕ) → WritesWanted (Heat columns) bytes sink.bytes sink'.bytes → Heats columns bytes sink.bytes sink'.bytes
+  heats bytes (text, (said, run, is), all) = record { said = said; run = run; tables = subst (Appends sink.bytes sink'.bytes) (sym is) all }
+
+  begins_tables : (bytes : List ℕ) → MayWrite (Heat columns) same bytes sink.bytes sink'.bytes → same ⊎ HeatsPrefix columns bytes sink.bytes sink'.bytes
+  begins_tables bytes (inl is) = inl is
+  begins_tables bytes (inr (text, (said, run, is), part)) = inr (said, run, subst (WritesPart sink.bytes sink'.bytes) (sym is) part)
+
+  tells_journal : (bytes : List ℕ) → RefusesAs (Heat columns) status bytes → TellsFault (Some (Heat columns)) status bytes
+  tells_journal bytes refuses line =
+      let by = refuses (statuses.Unlawful line) tt in
+      let says = journal_line (read_journal bytes) line in
+      ((λ e. says.0 (by.0 e)), (λ e. by.1 (says.1 e)))
+
+  pub heated : IsOutcome limit (Heat columns) source source' sink sink' same status → IsAnswer limit (Some (Heat columns)) source source' sink sink' unread same status
+  heated is = record {
+    ok = λ e. each (λ bytes. WritesWanted (Heat columns) bytes sink.bytes sink'.bytes) (λ bytes. WritesTables sink.bytes sink'.bytes) source.bytes (λ bytes wrote. (wrote.0, wrote.2)) (is.ok e);
+    lawful = λ e reads. each (λ bytes. WritesWanted (Heat columns) bytes sink.bytes sink'.bytes) (λ bytes. Heats columns bytes sink.bytes sink'.bytes) source.bytes heats (is.ok e);
+    end = λ reads. is.end;
+    complete = is.complete;
+    usage = λ free. ((λ e. absurd (is.asked e)), (λ e. absurd (cc e)));
+    comes = is.comes;
+    too_long = is.too_long;
+    refused = λ reads yes. each (RefusesAs (Heat columns) status) (TellsFault (Some (Heat columns)) status) source.bytes tells_journal (is.refused yes);
+    read = is.read;
+    write = is.write;
+    unread = λ not. absurd (not tt);
+    unwritten = is.unwritten;
+    prefix = each (λ bytes. MayWrite (Heat columns) same bytes sink.bytes sink'.bytes) (λ bytes. same ⊎ HeatsPrefix columns bytes sink.bytes sink'.bytes) source.bytes begins_tables is.prefix;
+  }
+
 -- the answer to no request
 pub not_asked : (limit : ℕ) (source sink : Ends) (unread same : Type 0) → unread → same → IsAnswer limit None source source sink sink unread same statuses.Usage
 not_asked limit source sink unread same left_alone is = record {
@@ -138,12 +172,14 @@ no_room limit request source sink alone same left_alone is = record {
     expected : (request : Option Request) → IsExpected request statuses.Memory limit source.bytes (Rose source.faults source.faults) (Rose sink.faults sink.faults)
     expected (Some (Report form)) = unknown (Report form)
     expected (Some Verify) = unknown Verify
+    expected (Some (Heat columns)) = unknown (Heat columns)
     expected (Some (Generate n)) = inr tt
     expected None = inr tt
 
     begun : (request : Option Request) → IsBegun request same source.bytes sink.bytes sink.bytes
     begun (Some (Report form)) = untold (λ bytes. same ⊎ WritesPrefix form bytes sink.bytes sink.bytes) source.bytes (λ bytes. inl is)
     begun (Some Verify) = untold (λ bytes. same ⊎ VerifiesPrefix bytes sink.bytes sink.bytes) source.bytes (λ bytes. inl is)
+    begun (Some (Heat columns)) = untold (λ bytes. same ⊎ HeatsPrefix columns bytes sink.bytes sink.bytes) source.bytes (λ bytes. inl is)
     begun (Some (Generate n)) = (0, omega arith, Appends-nil sink.bytes)
     begun None = is
 

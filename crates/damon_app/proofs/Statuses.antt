@@ -10,8 +10,9 @@ use Rattle.damon_journal.specs.Reading.{read_journal}
 use Rattle.damon_journal.specs.declared.status.Status.TheVariants as statuses
 use Rattle.snapshot_print.specs.declared.form.Form.{Form}
 use Rattle.text_io.specs.Given.{GaveOver}
+use Rattle.damon_app.specs.declared.request.Columns.{Columns}
 use Rattle.damon_app.specs.declared.request.Request.{Request}
-use Rattle.damon_app.specs.declared.request.Request.TheVariants.{Report, Verify, Generate}
+use Rattle.damon_app.specs.declared.request.Request.TheVariants.{Report, Verify, Heat, Generate}
 use Rattle.damon_app.specs.Replay.{MayCome}
 use Rattle.damon_app.specs.StatusOf.{status_of_input, status_of_journal, status_of_spelled, status_of_text}
 
@@ -54,8 +55,13 @@ journal_comes : (said : Result JournalRead ℕ) → MayCome (status_of_journal s
 journal_comes (Ok said) = tt
 journal_comes (Err line) = tt
 
+heat_comes : (columns : Columns) (said : Result JournalRead ℕ) → MayCome (status_of_journal said) (Some (Heat columns))
+heat_comes columns (Ok said) = tt
+heat_comes columns (Err line) = tt
+
 -- the status of a text can come of the request for which it is read
 pub text_comes : (request : Request) (bytes : List ℕ) → MayCome (status_of_text request bytes) (Some request)
 text_comes (Report form) bytes = spelled_comes form (script_of bytes)
 text_comes Verify bytes = journal_comes (read_journal bytes)
+text_comes (Heat columns) bytes = heat_comes columns (read_journal bytes)
 text_comes (Generate n) bytes = tt

@@ -6,7 +6,7 @@ use Rattle.damon_control.specs.Script.{ScriptValue, script_of}
 use Rattle.snapshot_print.specs.declared.form.Form.{Form}
 use Rattle.script_run.specs.Report.{report}
 use Rattle.damon_app.specs.declared.request.Request.{Request}
-use Rattle.damon_app.specs.declared.request.Request.TheVariants.{Report, Verify, Generate}
+use Rattle.damon_app.specs.declared.request.Request.TheVariants.{Report, Verify, Heat, Generate}
 use Rattle.damon_journal.specs.declared.lawful.Lawful.{Lawful}
 use Rattle.damon_journal.specs.declared.status.Status.{Status}
 use Rattle.damon_journal.specs.declared.status.Status.TheVariants as statuses
@@ -17,13 +17,20 @@ use Rattle.text_io.specs.Ends.{Ends}
 use Rattle.damon_journal.specs.Status.{IsRead, IsUnwritten}
 use Rattle.damon_journal.specs.Verified.{IsVerified}
 use Rattle.damon_app.specs.StatusOf.{status_of_text}
-use Rattle.damon_app.specs.Replay.{IsBegun, IsDone, IsExpected, IsOfInput, MayCome, TellsFault, Verifies}
+use Rattle.damon_app.specs.Replay.{IsBegun, IsDone, IsExpected, IsOfInput, MayCome, TellsFault, TellsJournal}
+use Rattle.damon_journal.specs.Aggregated.{aggregated}
+use Rattle.damon_journal.specs.Replayer.{Leads, ReplayerView}
+use Rattle.damon_journal.specs.Place.{JournalRead}
+use Rattle.damon_journal.specs.Replay.{replay}
+use Rattle.damon_app.specs.declared.request.Columns.{Columns}
+use Rattle.damon_app.specs.Heating.{IsRun, heat_text}
 use Rattle.damon_app.specs.Verifying.{counts_line}
 
 -- the bytes of an input call for this text
 abbrev pub CallsFor : Request → List ℕ → List ℕ → Type 0
 CallsFor (Report form) bytes text = (s : ScriptValue) × (script_of bytes ≡ Ok s) × (report form s ≡ text)
 CallsFor Verify bytes text = (counts : Lawful) × IsVerified bytes counts × (counts_line counts ≡ text)
+CallsFor (Heat columns) bytes text = (said : JournalRead) × IsRun bytes said × (heat_text columns said ≡ text)
 CallsFor (Generate n) bytes text = ⊥
 
 -- the sink gained the text that the bytes call for
@@ -80,10 +87,20 @@ IsScriptTaken limit source source' script = (form : Form) → IsTaken limit (Rep
 abbrev pub IsScriptRefused : ℕ → Ends → Ends → Status → Type 0
 IsScriptRefused limit source source' status = (form : Form) → IsRefused limit (Report form) source source' status
 
+-- the source was read to its end, and its bytes are the text of a lawful journal, of which the replay leads through these states
+pub record IsRunTaken (limit : ℕ) (source source' : Ends) (r : ReplayerView) : Type 0 where
+  pub said : JournalRead
+  pub leads : Leads (aggregated said.live said.journal) (replay said.live said.journal).state r
+  pub taken : (columns : Columns) → IsTaken limit (Heat columns) source source' (heat_text columns said)
+
+-- what a status says where no journal was read, whatever the number of columns
+abbrev pub IsRunRefused : ℕ → Ends → Ends → Status → Type 0
+IsRunRefused limit source source' status = (columns : Columns) → IsRefused limit (Heat columns) source source' status
+
 -- what a status says of what was asked for, where `alone` and `same` are that the source and the sink were left alone
 pub record IsAnswer (limit : ℕ) (request : Option Request) (source source' sink sink' : Ends) (alone same : Type 0) (status : Status) : Type 0 where
   pub ok : status ≡ statuses.Ok → IsDone request source.bytes sink.bytes sink'.bytes
-  pub lawful : status ≡ statuses.Ok → ReadsJournal request → IfSome source.bytes (λ bytes. Verifies bytes sink.bytes sink'.bytes)
+  pub lawful : status ≡ statuses.Ok → ReadsJournal request → IfSome source.bytes (λ bytes. TellsJournal request bytes sink.bytes sink'.bytes)
   pub end : ReadsInput request → IsRead status → IsAtEnd source'.bytes
   pub complete : IsExpected request status limit source.bytes (Rose source.faults source'.faults) (Rose sink.faults sink'.faults)
   pub usage : status ≢ statuses.Memory → (status ≡ statuses.Usage) ↔ (request ≡ None)

@@ -3,6 +3,7 @@ pub mod StatusOf
 pub mod Parser
 pub mod Generated
 pub mod Verifying
+pub mod Heating
 pub mod Runs
 pub mod Replay
 pub mod Answers

@@ -6,7 +6,9 @@ use Rattle.line_text.specs.Number.{number}
 use Rattle.script_lines.specs.Words.{same_word}
 use Rattle.snapshot_print.specs.declared.form.Form.TheVariants.{Text, Json}
 use Rattle.damon_app.specs.declared.request.Request.{Request}
-use Rattle.damon_app.specs.declared.request.Request.TheVariants.{Report, Verify, Generate}
+use Rattle.damon_app.specs.declared.request.Request.TheVariants.{Report, Verify, Heat, Generate}
+use Rattle.damon_app.specs.declared.request.Columns.{Columns}
+use Rattle.damon_app.specs.declared.request.Columns.TheVariants.{Eight, Sixteen, SixtyFour}
 
 -- what one word asks for: the report of a script in its form, or the check of a journal
 abbrev pub asked_alone : List ℕ → Option Request
@@ -16,16 +18,27 @@ asked_alone word =
     else if same_word word (codes "verify") then Some Verify
     else None
 
--- the generated run that two words ask for: `gen`, and a number of at most 64 bits in its one spelling
-abbrev pub generation_of : List ℕ → List ℕ → Option Request
-generation_of word digits =
-    if same_word word (codes "gen") then option_map (λ n. Generate n) (number (2 ^ 64 - 1) digits) else None
+-- the number of columns that a word says: `8`, `16` or `64`
+abbrev pub columns_of : List ℕ → Option Columns
+columns_of word =
+    if same_word word (codes "8") then Some Eight
+    else if same_word word (codes "16") then Some Sixteen
+    else if same_word word (codes "64") then Some SixtyFour
+    else None
 
--- what words ask for, each given by its bytes: `replay`, `json` or `verify` alone, or `gen N`, and nothing else
+-- what two words ask for: `gen`, and a number of at most 64 bits in its one spelling, for the generated run of the number; or
+-- `heat`, and a number of columns, for the heat tables of a journal
+abbrev pub asked_with : List ℕ → List ℕ → Option Request
+asked_with word digits =
+    if same_word word (codes "gen") then option_map (λ n. Generate n) (number (2 ^ 64 - 1) digits)
+    else if same_word word (codes "heat") then option_map (λ c. Heat c) (columns_of digits)
+    else None
+
+-- what words ask for, each given by its bytes: `replay`, `json` or `verify` alone, or `gen N` or `heat N`, and nothing else
 abbrev pub request_of : List (List ℕ) → Option Request
 request_of [] = None
 request_of (word ∷ []) = asked_alone word
-request_of (word ∷ digits ∷ []) = generation_of word digits
+request_of (word ∷ digits ∷ []) = asked_with word digits
 request_of (word ∷ digits ∷ more ∷ words) = None
 
 -- what the program's words ask for
@@ -40,11 +53,13 @@ ReadsScript _ = ⊥
 -- the text of a journal is read for it
 abbrev pub ReadsJournal : Option Request → Type 0
 ReadsJournal (Some Verify) = Unit {0}
+ReadsJournal (Some (Heat columns)) = Unit {0}
 ReadsJournal _ = ⊥
 
 -- an input is read for it
 abbrev pub ReadsInput : Option Request → Type 0
 ReadsInput (Some (Report form)) = Unit {0}
 ReadsInput (Some Verify) = Unit {0}
+ReadsInput (Some (Heat columns)) = Unit {0}
 ReadsInput (Some (Generate n)) = ⊥
 ReadsInput None = ⊥

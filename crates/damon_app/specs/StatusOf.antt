@@ -7,7 +7,7 @@ use Rattle.damon_journal.specs.Reading.{read_journal}
 use Rattle.damon_journal.specs.declared.status.Status.{Status}
 use Rattle.damon_journal.specs.declared.status.Status.TheVariants as statuses
 use Rattle.damon_app.specs.declared.request.Request.{Request}
-use Rattle.damon_app.specs.declared.request.Request.TheVariants.{Report, Verify, Generate}
+use Rattle.damon_app.specs.declared.request.Request.TheVariants.{Report, Verify, Heat, Generate}
 
 -- the status of what a text spells: `Ok` for a script, else its first fault
 abbrev pub status_of_spelled : Result ScriptValue ScriptFault → Status
@@ -23,6 +23,7 @@ status_of_journal (Err line) = statuses.Unlawful line
 abbrev pub status_of_text : Request → List ℕ → Status
 status_of_text (Report form) bytes = status_of_spelled (script_of bytes)
 status_of_text Verify bytes = status_of_journal (read_journal bytes)
+status_of_text (Heat columns) bytes = status_of_journal (read_journal bytes)
 status_of_text (Generate n) bytes = statuses.Ok
 
 -- the status of the bytes of an input, of which at most `limit` are allowed

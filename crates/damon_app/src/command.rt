@@ -1,6 +1,6 @@
-ghost use Rattle.std.specs.Prelude.{◌≡◌, IfOk};
-ghost use Rattle.clap.specs.Words.{app_of};
-ghost use Rattle.damon_app.specs.Parser.{damon_app};
+ghost use Rattle.std.specs.Prelude.{◌≡◌, false, IfOk};
+ghost use Rattle.clap.specs.Words.{app_of, rule_of};
+ghost use Rattle.damon_app.specs.Parser.{damon_app, number_rule};
 
 use clap::{Arg, ArgAction, Command};
 use std::alloc::{AllocError, Global};
@@ -9,10 +9,8 @@ use std::alloc::{AllocError, Global};
 pub(crate) fn make_command<'a>(alloc: Global) -> Result<Command<'a>, AllocError>
     ensures { IfOk result (λ command. app_of command ≡ damon_app) }
 {
-    let number = Arg::new(alloc, "number")
-        .required(true)
-        .action(ArgAction::Set);
-    let generate = Command::new(alloc, "gen").arg(number)?;
+    let generate = Command::new(alloc, "gen").arg(number_argument(alloc))?;
+    let heat = Command::new(alloc, "heat").arg(number_argument(alloc))?;
     let replay = Command::new(alloc, "replay");
     let json = Command::new(alloc, "json");
     let verify = Command::new(alloc, "verify");
@@ -24,5 +22,16 @@ pub(crate) fn make_command<'a>(alloc: Global) -> Result<Command<'a>, AllocError>
         .subcommand(replay)?
         .subcommand(json)?
         .subcommand(verify)?
-        .subcommand(generate)
+        .subcommand(generate)?
+        .subcommand(heat)
+}
+
+// The argument of a subcommand that takes a number.
+fn number_argument<'a>(alloc: Global) -> Arg<'a>
+    ensures rule { rule_of result ≡ number_rule }
+    ensures local { result.global ≡ false }
+{
+    Arg::new(alloc, "number")
+        .required(true)
+        .action(ArgAction::Set)
 }

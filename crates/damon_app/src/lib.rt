@@ -1,10 +1,12 @@
-//! The program that replays scripts, checks journals and runs generated scripts.
+//! The program that replays scripts, checks journals, shows their heat and runs generated scripts.
 #![tactic(auto)]
 
 /// The command that parses the words.
 mod command;
 /// The line of a lawful journal.
 mod counts;
+/// The heat tables of a journal.
+mod heat;
 /// What holds of all runs.
 mod laws;
 /// The top call.
@@ -15,4 +17,4 @@ mod request;
 mod summary;
 
 pub use replay::replay_main;
-pub use request::Request;
+pub use request::{Columns, Request};

@@ -13,12 +13,13 @@ ghost use Rattle.damon_app.specs.Generated.{gen_text};
 ghost use Rattle.damon_app.specs.Runs.{EachRunChoosesBest, EachRunIsBound};
 ghost use Rattle.damon_journal.specs.Status.{EndsRun, IsRead, IsUnwritten, status_of};
 ghost use Rattle.damon_journal.specs.Verified.{IsOfNoLawfulRun};
-ghost use Rattle.damon_app.specs.Replay.{IsBegun, IsDone, IsExpected, MayCome, TellsFault, Verifies};
+ghost use Rattle.damon_app.specs.Replay.{IsBegun, IsDone, IsExpected, MayCome, TellsFault, TellsJournal};
 ghost use Rattle.damon_app.specs.Answers.{IsAnswer, IsOutcome, IsRefused, IsScriptRefused, IsScriptTaken, IsTaken};
 ghost use Rattle.damon_app.specs.declared.request.Request.TheVariants.{Report as report_in, Verify as verify};
 
 use crate::Request;
 use crate::counts::make_line;
+use crate::heat::show_heat;
 use crate::laws::{each_run_chooses_best, each_run_is_bound};
 use crate::request::read_request;
 use crate::summary::make_summary;
@@ -32,7 +33,8 @@ use text_io::{INPUT_LIMIT, read_all, write_all};
 
 /// Does all of the program `damon`. For `replay` and `json` it reads a script to its end and writes the
 /// report of its run; for `verify` it reads the text of a journal to its end, checks it, and writes one
-/// line of its counts; for `gen N` it reads nothing, runs the generated script of N, and writes one line
+/// line of its counts; for `heat N` it reads and checks such a text, replays its journal, and writes tables of N
+/// columns for each aggregation; for `gen N` it reads nothing, runs the generated script of N, and writes one line
 /// about the end of the run. It takes no lock and always returns.
 pub fn replay_main<S: Source, K: Sink>(
     alloc: Global,
@@ -41,11 +43,11 @@ pub fn replay_main<S: Source, K: Sink>(
     sink: &mut K,
 ) -> Status
     // What was written is what the words ask for: the report of the script that was read, the line of the
-    // lawful journal whose text was read, or the line of the generated script.
+    // lawful journal whose text was read, its heat tables, or the line of the generated script.
     ensures ok { result ≡ Status.Ok →
         IsDone (asked words.now) (S.left source.old) (K.taken sink.old) (K.taken sink.new) }
     ensures lawful { result ≡ Status.Ok → ReadsJournal (asked words.now) → IfSome (S.left source.old)
-        (λ bytes. Verifies bytes (K.taken sink.old) (K.taken sink.new)) }
+        (λ bytes. TellsJournal (asked words.now) bytes (K.taken sink.old) (K.taken sink.new)) }
     ensures end { ReadsInput (asked words.now) → IsRead result → IsAtEnd (S.left source.new) }
 
     // Whatever the status, the states along the run of every script that can be run are bound; and each
@@ -123,6 +125,7 @@ fn fulfil<S: Source, K: Sink>(
     match request {
         Request::Report { form } => status_of(replay(alloc, form, source, sink)),
         Request::Verify => status_of(check_journal(alloc, source, sink)),
+        Request::Heat { columns } => status_of(show_heat(alloc, columns, source, sink)),
         Request::Generate { number } => status_of(summarize(alloc, number, sink)),
     }
 }

@@ -1,7 +1,7 @@
 ghost use Rattle.std.specs.Prelude.{◌≡◌, ◌≢◌, IfOk, None, false};
 ghost use Rattle.clap.specs.Words.{kind_of, subcommand_rows_of};
 ghost use Rattle.damon_app.specs.Parser.{begins_with_hyphen, has_option, number_found, request_found};
-ghost use Rattle.damon_app.specs.Request.{asked, asked_alone, generation_of};
+ghost use Rattle.damon_app.specs.Request.{asked, asked_alone, asked_with, columns_of};
 
 use crate::command::make_command;
 use clap::error::ErrorKind;
@@ -18,9 +18,23 @@ pub enum Request {
     Report { form: Form },
     /// To check the text of a journal, and to write a line of its counts: `verify`.
     Verify,
+    /// To check the text of a journal, and to write its heat tables with so many columns for each target:
+    /// `heat N`.
+    Heat { columns: Columns },
     /// To run the generated script of a number, and to write a line about it: `gen N`. Nothing is
     /// read.
     Generate { number: u64 },
+}
+
+/// The columns of a heat table.
+#[derive(Clone, Copy, Debug, PartialEq, Eq)]
+pub enum Columns {
+    /// 8 columns.
+    Eight,
+    /// 16 columns.
+    Sixteen,
+    /// 64 columns.
+    SixtyFour,
 }
 
 // What the words ask for; `None` if they are no request. Memory may run out.
@@ -82,7 +96,7 @@ fn request_in(matches: &ArgMatches) -> Option<Request>
 {
     let (name, found) = matches.subcommand()?;
     match found.get_str("number") {
-        Some(number) => generation_of(name.as_bytes(), number.as_bytes()),
+        Some(number) => asked_with(name.as_bytes(), number.as_bytes()),
         None => asked_alone(name.as_bytes()),
     }
 }
@@ -102,13 +116,31 @@ fn asked_alone(word: &[u8]) -> Option<Request>
     }
 }
 
-// The generated run that two words ask for.
-fn generation_of(word: &[u8], number: &[u8]) -> Option<Request>
-    ensures { result ≡ generation_of word.now number.now }
+// What two words ask for.
+fn asked_with(word: &[u8], number: &[u8]) -> Option<Request>
+    ensures { result ≡ asked_with word.now number.now }
 {
     if word == b"gen".as_slice() {
         let number = read_number(number, u64::MAX)?;
         Some(Request::Generate { number })
+    } else if word == b"heat".as_slice() {
+        let columns = columns_of(number)?;
+        Some(Request::Heat { columns })
+    } else {
+        None
+    }
+}
+
+// The number of columns that a word says.
+fn columns_of(word: &[u8]) -> Option<Columns>
+    ensures { result ≡ columns_of word.now }
+{
+    if word == b"8".as_slice() {
+        Some(Columns::Eight)
+    } else if word == b"16".as_slice() {
+        Some(Columns::Sixteen)
+    } else if word == b"64".as_slice() {
+        Some(Columns::SixtyFour)
     } else {
         None
     }

@@ -22,6 +22,7 @@ use Rattle.damon_journal.specs.EntryLine.{added_to, after_answer, after_call, af
 use Rattle.damon_journal.specs.Counted.{CountsOf, prepares}
 use Rattle.damon_journal.specs.Folding.{FoldStands, IsWithin, open_hits}
 use Rattle.damon_journal.specs.Growth.{longer}
+use Rattle.damon_journal.specs.Kept.{GainsEntry}
 use Rattle.damon_journal.specs.LinesLeft.{said_left, said_on}
 use Rattle.damon_journal.specs.Place.{AtAnswer, InEntries, JournalPlace}
 use Rattle.damon_journal.specs.Replay.{JournalValue, call_answer, replay}
@@ -29,6 +30,7 @@ use Rattle.damon_journal.specs.Replaying.{IsCarried}
 use Rattle.damon_journal.specs.Spelled.{spelled_answer}
 use Rattle.damon_journal.specs.Steps.{steps}
 use Rattle.damon_journal.proofs.BlockTaken.{leads_on}
+use Rattle.damon_journal.proofs.KeptEntries.{kept_after_call}
 use Rattle.damon_journal.proofs.Turns.{counts-at, counts-length}
 
 -- ---- the first line of a call
@@ -97,7 +99,7 @@ one_more (l ∷ lists) (suc k) call = ap (λ (ns : List ℕ). length l ∷ ns) (
 -- ---- what stands after a call
 
 -- all but the replay and the number of calls of the controller stays
-pub record KeepsRest (controller : ℕ) (old new : Fold) : Type 0 where
+pub record KeepsRest (controller : ℕ) (call : CallValue) (old new : Fold) : Type 0 where
   pub version : new.version ≡ old.version
   pub next : new.next ≡ set old.next controller (get_or old.next controller 0 + 1)
   pub ahead : new.ahead ≡ old.ahead
@@ -105,6 +107,7 @@ pub record KeepsRest (controller : ℕ) (old new : Fold) : Type 0 where
   pub pass : last_pass new.replay.monitor.core.phase new.replay.monitor.core.ticks ≡ last_pass old.replay.monitor.core.phase old.replay.monitor.core.ticks
   pub open_is : new.unreceived ≡ old.unreceived
   pub counts : new.counts ≡ old.counts
+  pub kept : GainsEntry old.kept new.kept [] ((old.kept.entries, Some call) ∷ [])
 
 -- an entry that prepares no pass and has no results counts nothing
 counts_same : (j : JournalValue) (e : Entry) (old new : Lawful) → prepares e ≡ 0 → CountsOf j old → new ≡ old → CountsOf (longer j e []) new
@@ -117,9 +120,9 @@ counts_same j e old new none was same =
     }
 
 pub call_stands : (v : LiveValue) (j : JournalValue) (controller : ℕ) (call : CallValue) (answer : CallAnswer) (old new : Fold) → FoldStands v j old
-    → IsCarried v (with_call_of v controller call) j (Call controller (length (calls_so_far v controller)) answer) [] new.replay → KeepsRest controller old new
+    → IsCarried v (with_call_of v controller call) j (Call controller (length (calls_so_far v controller)) answer) [] new.replay → controller < length v.controllers → KeepsRest controller call old new
     → FoldStands (with_call_of v controller call) (longer j (Call controller (length (calls_so_far v controller)) answer) []) new
-call_stands v j controller call answer old new h carried_is rest =
+call_stands v j controller call answer old new h carried_is below rest =
     let e = Call controller (length (calls_so_far v controller)) answer in
     let w = with_call_of v controller call in
     let done : steps w (longer j e []) ≡ steps v j = carried_is.steps_are ∙ append-nil (steps v j) in
@@ -132,6 +135,7 @@ call_stands v j controller call answer old new h carried_is rest =
       pass = ap (λ (a : AheadView). a.pass) rest.ahead ∙ (h.pass ∙ sym rest.pass);
       open_is = rest.open_is ∙ (h.open_is ∙ (ap (λ (a : AheadView). open_hits (receipts_of a.receipts) (steps v j)) (sym rest.ahead) ∙ ap (open_hits (receipts_of new.ahead.receipts)) (sym done)));
       counts = counts_same j e old.counts new.counts refl h.counts rest.counts;
+      kept = kept_after_call v j controller call answer old.kept new.kept h.replay.journal below h.kept rest.kept;
     }
 
 -- ---- the answer
@@ -180,11 +184,12 @@ within_later f n m later w = record {
   hits = w.hits;
   open_few = w.open_few;
   pages = w.pages;
+  entries = omega (arith, w.entries, later);
 }
 
 -- a call, with at least one line
-pub within_call : (controller : ℕ) (old new : Fold) (n m : ℕ) → n + 1 ≤ m → IsWithin old n → KeepsRest controller old new → new.replay.monitor.core.ticks ≡ old.replay.monitor.core.ticks → new.replay.drawn ≡ old.replay.drawn → IsWithin new m
-within_call controller old new n m later w rest ticks drawn =
+pub within_call : (controller : ℕ) (call : CallValue) (old new : Fold) (n m : ℕ) → n + 1 ≤ m → IsWithin old n → KeepsRest controller call old new → new.replay.monitor.core.ticks ≡ old.replay.monitor.core.ticks → new.replay.drawn ≡ old.replay.drawn → IsWithin new m
+within_call controller call old new n m later w rest ticks drawn =
     let within = within_later old n m (omega (arith, later)) w in
     let passes = ap (λ (c : Lawful). c.passes) rest.counts in
     let loads = ap (λ (c : Lawful). c.loads) rest.counts in
@@ -199,4 +204,5 @@ within_call controller old new n m later w rest ticks drawn =
       hits = omega (arith, hits, loads, w.hits);
       open_few = omega (arith, rest.open_is, loads, w.open_few);
       pages = ap (λ (a : AheadView). a.pages) rest.ahead ∙ (w.pages ∙ ap pages_of (sym rest.space));
+      entries = omega (arith, rest.kept.entries, w.entries, later);
     }

@@ -26,7 +26,7 @@ use Rattle.damon_journal.specs.declared.entry.Entry.TheVariants.{Prepare, Check,
 use Rattle.damon_journal.specs.EntryLine.{added_to, calls_so_far, with_call_of}
 use Rattle.damon_journal.specs.Growth.{GrowsByEntries, longer, replay_with}
 use Rattle.damon_journal.specs.Replay.{EntryFits, IsJournalOf, JournalValue, Replayed, call_answer, call_at, call_event, carried, entry_events, replay, words_taken}
-use Rattle.damon_journal.specs.Replaying.{Carries, CarriesCall, IsCarried, IsReplayOf, ReplayingView}
+use Rattle.damon_journal.specs.Replaying.{Carries, CarriesCall, CarriesKnown, IsCarried, IsReplayOf, ReplayingView}
 use Rattle.damon_journal.specs.Phases.{IsFree}
 use Rattle.damon_journal.specs.Steps.{entry_steps, steps}
 use Rattle.damon_journal.specs.Words.{words_after, words_at, words_from}
@@ -177,9 +177,9 @@ carries_aggregate grow old new made drawn_is rest due v j h =
 
 -- ---- a call
 
-pub carries_call : (old new : ReplayingView) (controller : ℕ) (call : CallValue) (answer : CallAnswer) → Makes Stands old.monitor new.monitor (call_event call ∷ []) → new.drawn ≡ old.drawn → new.words ≡ old.words → IsFree old.monitor.core.phase
-    → answer ≡ call_answer call old.monitor.core → CarriesCall old new controller call answer
-carries_call old new controller call answer made drawn words free told v j h below =
+pub carries_call : (old new : ReplayingView) (call : CallValue) (answer : CallAnswer) → Makes Stands old.monitor new.monitor (call_event call ∷ []) → new.drawn ≡ old.drawn → new.words ≡ old.words → IsFree old.monitor.core.phase
+    → answer ≡ call_answer call old.monitor.core → CarriesCall old new call answer
+carries_call old new call answer made drawn words free told v j controller h below =
     let index = length (calls_so_far v controller) in
     let later = added_to controller call v.controllers in
     let w = with_call_of v controller call in
@@ -192,6 +192,22 @@ carries_call old new controller call answer made drawn words free told v j h bel
     let events : call_event call ∷ [] ≡ entry_events w r e = ap (λ o. option_map_or (λ (x : CallValue). call_event x ∷ []) o []) (sym last) in
     let none_more : old.drawn ≡ old.drawn + 0 = omega arith in
     carried_by v w j e [] old new refl refl h longer_is.journal longer_is.is longer_is.steps_are fits (record {
+      events = subst (Makes Stands old.monitor new.monitor) events made;
+      drawn = drawn ∙ none_more;
+      rest = ap words_from words;
+    })
+
+-- the same of a call that the script has
+pub carries_known : GrowsByEntries → (old new : ReplayingView) (call : CallValue) (answer : CallAnswer) → Makes Stands old.monitor new.monitor (call_event call ∷ []) → new.drawn ≡ old.drawn → new.words ≡ old.words → IsFree old.monitor.core.phase
+    → answer ≡ call_answer call old.monitor.core → CarriesKnown old new call answer
+carries_known grow old new call answer made drawn words free told v j controller index h there =
+    let r = replay_with v j [] in
+    let e = Call controller index answer in
+    let same : old.monitor.core ≡ r.state.core = h.stands.same in
+    let fits : EntryFits v r e = (subst (λ (c : Core). IsFree c.phase) same free, (call, there, told ∙ ap (call_answer call) same)) in
+    let events : call_event call ∷ [] ≡ entry_events v r e = ap (λ o. option_map_or (λ (x : CallValue). call_event x ∷ []) o []) (sym there) in
+    let none_more : old.drawn ≡ old.drawn + 0 = omega arith in
+    carries grow v j e [] old new h fits refl (record {
       events = subst (Makes Stands old.monitor new.monitor) events made;
       drawn = drawn ∙ none_more;
       rest = ap words_from words;

@@ -16,18 +16,21 @@ use Rattle.damon_journal.specs.declared.entry.Entry.{Entry}
 use Rattle.damon_journal.specs.declared.entry.Entry.TheVariants.{Prepare, Check, Void, Aggregate}
 use Rattle.damon_journal.specs.declared.entry.Receipt.{Receipt}
 use Rattle.damon_journal.specs.declared.fold.Fold.{Fold}
+use Rattle.damon_journal.specs.declared.kept.Kept.{Kept}
 use Rattle.damon_journal.specs.declared.lawful.Lawful.{Lawful}
 use Rattle.damon_journal.specs.Ahead.{AheadView, IsPrepared, is_named, named_by, named_by_none, receipts_of}
 use Rattle.damon_journal.specs.EntryLine.{n_bits_of, said_entry}
 use Rattle.damon_journal.specs.Counted.{CountsOf, prepares}
 use Rattle.damon_journal.specs.Folding.{FoldStands, GoesOn, open_hits}
 use Rattle.damon_journal.specs.Growth.{longer, replay_with}
+use Rattle.damon_journal.specs.Kept.{GainsEntry, call_of}
 use Rattle.damon_journal.specs.Replay.{JournalValue, Replayed, carried, replay}
 use Rattle.damon_journal.specs.Replaying.{IsCarried, IsReplayOf, ReplayingView}
 use Rattle.damon_journal.specs.SeenLine.{has_receipt, is_tag}
 use Rattle.damon_journal.specs.Spelled.{check_front, spelled_aggregate, spelled_prepare, spelled_void}
 use Rattle.damon_journal.specs.Steps.{clear_steps, load_steps, steps}
 use Rattle.damon_journal.proofs.AheadLemmas.{named_same, tag_more}
+use Rattle.damon_journal.proofs.KeptEntries.{kept_more}
 
 -- ---- which receipts are named
 
@@ -134,11 +137,12 @@ said_aggregate v j r line h due =
 -- ---- what stands after an entry
 
 -- all but the replay, the receipts and the numbers stays
-pub record SameRest (old new : Fold) : Type 0 where
+pub record SameRest (bits : List Bool) (old new : Fold) : Type 0 where
   pub version : new.version ≡ old.version
   pub next : new.next ≡ old.next
   pub receipts : new.ahead.receipts ≡ old.ahead.receipts
   pub space : new.replay.monitor.core.space ≡ old.replay.monitor.core.space
+  pub kept : GainsEntry old.kept new.kept bits []
 
 counts_more : (j : JournalValue) (e : Entry) (old new : Lawful) → CountsOf j old → new.passes ≡ old.passes + prepares e → new.loads ≡ old.loads → new.hits ≡ old.hits → CountsOf (longer j e []) new
 counts_more j e old new was passes loads hits = record {
@@ -147,7 +151,7 @@ counts_more j e old new was passes loads hits = record {
   hits = hits ∙ (was.hits ∙ ap (count_by (λ bit. bit)) (sym (append-nil j.bits)));
 }
 
-pub prepare_stands : (v : LiveValue) (j : JournalValue) (pass position : ℕ) (old new : Fold) → FoldStands v j old → IsCarried v v j (Prepare pass position) [] new.replay → SameRest old new
+pub prepare_stands : (v : LiveValue) (j : JournalValue) (pass position : ℕ) (old new : Fold) → FoldStands v j old → IsCarried v v j (Prepare pass position) [] new.replay → SameRest [] old new
     → IsPrepared pass new.replay.monitor.core.picks old.ahead new.ahead → new.replay.monitor.core.phase ≡ Armed → pass ≡ new.replay.monitor.core.ticks + 1 → new.unreceived ≡ old.unreceived
     → new.counts.passes ≡ old.counts.passes + 1 → new.counts.loads ≡ old.counts.loads → new.counts.hits ≡ old.counts.hits → FoldStands v (longer j (Prepare pass position) []) new
 prepare_stands v j pass position old new h carried_is rest prepared armed number unseen passes loads hits =
@@ -169,12 +173,13 @@ prepare_stands v j pass position old new h carried_is rest prepared armed number
           let all = counted_append (λ s. not (has_receipt rs s)) (steps v j) (clear_steps pass new.replay.monitor.core.picks) in
           unseen ∙ (h.open_is ∙ (ap (λ xs. open_hits (receipts_of xs) (steps v j)) (sym rest.receipts) ∙ (omega (arith, all, clears) ∙ ap (open_hits rs) (sym done))));
       counts = counts_more j e old.counts new.counts h.counts passes loads hits;
+      kept = kept_more v j e [] old.kept new.kept (λ n. refl) h.kept rest.kept;
     }
 
 -- an entry without steps
-quiet_stands : (v : LiveValue) (j : JournalValue) (e : Entry) (old new : Fold) → FoldStands v j old → IsCarried v v j e [] new.replay → steps v (longer j e []) ≡ steps v j ++ [] → prepares e ≡ 0 → SameRest old new → new.ahead ≡ old.ahead
+quiet_stands : (v : LiveValue) (j : JournalValue) (e : Entry) (old new : Fold) → FoldStands v j old → IsCarried v v j e [] new.replay → steps v (longer j e []) ≡ steps v j ++ [] → prepares e ≡ 0 → ((n : ℕ) → call_of v n e ≡ []) → SameRest [] old new → new.ahead ≡ old.ahead
     → last_pass new.replay.monitor.core.phase new.replay.monitor.core.ticks ≡ last_pass old.replay.monitor.core.phase old.replay.monitor.core.ticks → new.unreceived ≡ old.unreceived → new.counts ≡ old.counts → FoldStands v (longer j e []) new
-quiet_stands v j e old new h carried_is steps_are none rest ahead pass unseen counts =
+quiet_stands v j e old new h carried_is steps_are none no_call rest ahead pass unseen counts =
     let done : steps v (longer j e []) ≡ steps v j = steps_are ∙ append-nil (steps v j) in
     let same : old.counts.passes ≡ old.counts.passes + prepares e = omega (arith, none) in
     record {
@@ -186,17 +191,18 @@ quiet_stands v j e old new h carried_is steps_are none rest ahead pass unseen co
       pass = ap (λ (a : AheadView). a.pass) ahead ∙ (h.pass ∙ sym pass);
       open_is = unseen ∙ (h.open_is ∙ (ap (λ (a : AheadView). open_hits (receipts_of a.receipts) (steps v j)) (sym ahead) ∙ ap (open_hits (receipts_of new.ahead.receipts)) (sym done)));
       counts = counts_more j e old.counts new.counts h.counts (ap (λ (c : Lawful). c.passes) counts ∙ same) (ap (λ (c : Lawful). c.loads) counts) (ap (λ (c : Lawful). c.hits) counts);
+      kept = kept_more v j e [] old.kept new.kept no_call h.kept rest.kept;
     }
 
-pub void_stands : (v : LiveValue) (j : JournalValue) (pass : ℕ) (old new : Fold) → FoldStands v j old → IsCarried v v j (Void pass) [] new.replay → SameRest old new → new.ahead ≡ old.ahead
+pub void_stands : (v : LiveValue) (j : JournalValue) (pass : ℕ) (old new : Fold) → FoldStands v j old → IsCarried v v j (Void pass) [] new.replay → SameRest [] old new → new.ahead ≡ old.ahead
     → last_pass new.replay.monitor.core.phase new.replay.monitor.core.ticks ≡ last_pass old.replay.monitor.core.phase old.replay.monitor.core.ticks → new.unreceived ≡ old.unreceived → new.counts ≡ old.counts → FoldStands v (longer j (Void pass) []) new
-void_stands v j pass old new h c rest ahead last unseen counts = quiet_stands v j (Void pass) old new h c c.steps_are refl rest ahead last unseen counts
+void_stands v j pass old new h c rest ahead last unseen counts = quiet_stands v j (Void pass) old new h c c.steps_are refl (λ n. refl) rest ahead last unseen counts
 
-pub aggregate_stands : (v : LiveValue) (j : JournalValue) (tick position : ℕ) (old new : Fold) → FoldStands v j old → IsCarried v v j (Aggregate tick position) [] new.replay → SameRest old new → new.ahead ≡ old.ahead
+pub aggregate_stands : (v : LiveValue) (j : JournalValue) (tick position : ℕ) (old new : Fold) → FoldStands v j old → IsCarried v v j (Aggregate tick position) [] new.replay → SameRest [] old new → new.ahead ≡ old.ahead
     → last_pass new.replay.monitor.core.phase new.replay.monitor.core.ticks ≡ last_pass old.replay.monitor.core.phase old.replay.monitor.core.ticks → new.unreceived ≡ old.unreceived → new.counts ≡ old.counts → FoldStands v (longer j (Aggregate tick position) []) new
-aggregate_stands v j tick position old new h c rest ahead last unseen counts = quiet_stands v j (Aggregate tick position) old new h c c.steps_are refl rest ahead last unseen counts
+aggregate_stands v j tick position old new h c rest ahead last unseen counts = quiet_stands v j (Aggregate tick position) old new h c c.steps_are refl (λ n. refl) rest ahead last unseen counts
 
-pub check_stands : (v : LiveValue) (j : JournalValue) (pass : ℕ) (bits : List Bool) (old new : Fold) → FoldStands v j old → IsCarried v v j (Check pass) bits new.replay → SameRest old new → new.ahead ≡ old.ahead
+pub check_stands : (v : LiveValue) (j : JournalValue) (pass : ℕ) (bits : List Bool) (old new : Fold) → FoldStands v j old → IsCarried v v j (Check pass) bits new.replay → SameRest bits old new → new.ahead ≡ old.ahead
     → length bits ≡ row_count old.replay.monitor.core → last_pass new.replay.monitor.core.phase new.replay.monitor.core.ticks ≡ last_pass old.replay.monitor.core.phase old.replay.monitor.core.ticks
     → new.unreceived ≡ old.unreceived + open_hits (receipts_of old.ahead.receipts) (load_steps pass old.replay.monitor.core.picks bits)
     → new.counts.passes ≡ old.counts.passes → new.counts.loads ≡ old.counts.loads + length bits → new.counts.hits ≡ old.counts.hits + count_by (λ bit. bit) bits → FoldStands v (longer j (Check pass) bits) new
@@ -232,6 +238,7 @@ check_stands v j pass bits old new h carried_is rest ahead size last unseen pass
         loads = loads ∙ (ap (λ n. n + length bits) h.counts.loads ∙ sym (length-append j.bits bits));
         hits = hits ∙ (ap (λ n. n + count_by (λ bit. bit) bits) h.counts.hits ∙ sym (counted_append (λ bit. bit) j.bits bits));
       };
+      kept = kept_more v j e bits old.kept new.kept (λ n. refl) h.kept rest.kept;
     }
 
 -- ---- the numbers stay within the lines
@@ -241,9 +248,9 @@ next_more [] lines all = all
 next_more (x ∷ xs) lines all = (omega (arith, all.0), next_more xs lines all.1)
 
 -- after an entry that prepares no pass and has no results
-pub quiet_goes : (old : Fold) (replay : ReplayingView) → replay.monitor.core.ticks ≤ old.replay.monitor.core.ticks + 1 → replay.drawn ≤ old.replay.drawn + 2 ^ 33
-    → replay.monitor.core.space ≡ old.replay.monitor.core.space → GoesOn old (record old { replay = replay })
-quiet_goes old replay ticks drawn space = record {
+pub quiet_goes : (old : Fold) (replay : ReplayingView) (kept : Kept) → GainsEntry old.kept kept [] [] → replay.monitor.core.ticks ≤ old.replay.monitor.core.ticks + 1 → replay.drawn ≤ old.replay.drawn + 2 ^ 33
+    → replay.monitor.core.space ≡ old.replay.monitor.core.space → GoesOn old (record old { replay = replay; kept = kept })
+quiet_goes old replay kept gains ticks drawn space = record {
   within = λ lines h. record {
     ticks = omega (arith, ticks, h.ticks);
     drawn = omega (arith, drawn, h.drawn);
@@ -253,13 +260,15 @@ quiet_goes old replay ticks drawn space = record {
     hits = h.hits;
     open_few = h.open_few;
     pages = h.pages ∙ ap pages_of (sym space);
+    entries = omega (arith, gains.entries, h.entries);
   };
   receipts = refl;
   space = space;
+  keeping = gains.keeping;
 }
 
 -- after a pass is prepared
-pub prepare_goes : (pass : ℕ) (picks : List ℕ) (old new : Fold) → SameRest old new → IsPrepared pass picks old.ahead new.ahead → new.replay.monitor.core.ticks ≡ old.replay.monitor.core.ticks
+pub prepare_goes : (pass : ℕ) (picks : List ℕ) (old new : Fold) → SameRest [] old new → IsPrepared pass picks old.ahead new.ahead → new.replay.monitor.core.ticks ≡ old.replay.monitor.core.ticks
     → new.replay.drawn ≤ old.replay.drawn + 2 ^ 33 → new.counts.passes ≡ old.counts.passes + 1 → new.counts.loads ≡ old.counts.loads → new.counts.hits ≡ old.counts.hits → new.unreceived ≡ old.unreceived → GoesOn old new
 prepare_goes pass picks old new rest prepared ticks drawn passes loads hits unseen = record {
   within = λ lines h. record {
@@ -271,16 +280,18 @@ prepare_goes pass picks old new rest prepared ticks drawn passes loads hits unse
     hits = omega (arith, hits, loads, h.hits);
     open_few = omega (arith, unseen, loads, h.open_few);
     pages = prepared.pages ∙ (h.pages ∙ ap pages_of (sym rest.space));
+    entries = omega (arith, rest.kept.entries, h.entries);
   };
   receipts = rest.receipts;
   space = rest.space;
+  keeping = rest.kept.keeping;
 }
 
 -- after a check with so many results
-pub check_goes : (rows : ℕ) (old new : Fold) → SameRest old new → new.ahead ≡ old.ahead → rows < 2 ^ 32 → new.replay.monitor.core.ticks ≡ old.replay.monitor.core.ticks + 1 → new.replay.drawn ≡ old.replay.drawn
+pub check_goes : (rows : ℕ) (bits : List Bool) (old new : Fold) → SameRest bits old new → new.ahead ≡ old.ahead → rows < 2 ^ 32 → new.replay.monitor.core.ticks ≡ old.replay.monitor.core.ticks + 1 → new.replay.drawn ≡ old.replay.drawn
     → new.counts.passes ≡ old.counts.passes → new.counts.loads ≡ old.counts.loads + rows → (hits : ℕ) → hits ≤ rows → new.counts.hits ≡ old.counts.hits + hits
     → (unseen : ℕ) → unseen ≤ rows → new.unreceived ≡ old.unreceived + unseen → GoesOn old new
-check_goes rows old new rest ahead few ticks drawn passes loads hits some hits_are unseen most unseen_are = record {
+check_goes rows bits old new rest ahead few ticks drawn passes loads hits some hits_are unseen most unseen_are = record {
   within = λ lines h. record {
     ticks = omega (arith, ticks, h.ticks);
     drawn = omega (arith, drawn, h.drawn);
@@ -290,7 +301,9 @@ check_goes rows old new rest ahead few ticks drawn passes loads hits some hits_a
     hits = omega (arith, hits_are, some, loads, h.hits);
     open_few = omega (arith, unseen_are, most, loads, h.open_few);
     pages = ap (λ (a : AheadView). a.pages) ahead ∙ (h.pages ∙ ap pages_of (sym rest.space));
+    entries = omega (arith, rest.kept.entries, h.entries);
   };
   receipts = rest.receipts;
   space = rest.space;
+  keeping = rest.kept.keeping;
 }

@@ -63,3 +63,7 @@ pub mod PhaseAfter
 pub mod Sizes
 pub mod AnswersFit
 pub mod NumbersFit
+pub mod KeptEntries
+pub mod OnWay
+pub mod Starting
+pub mod AggregatedExamples

@@ -1,9 +1,9 @@
 -- Which receipts are named by the steps of a journal, as its entries add steps.
-use Rattle.std.proofs.Common.{◌≡◌, ℕ, zero, suc, ◌<◌, ◌==◌, ◌&&◌, ◌||◌, Bool, false, List, [], ◌∷◌, ◌++◌, length, map, get_or, refl, sym, ap, ◌∙◌, subst, arith}
+use Rattle.std.proofs.Common.{◌≡◌, ℕ, zero, suc, ◌<◌, ◌==◌, ◌||◌, Bool, false, List, [], ◌∷◌, ◌++◌, length, map, get_or, refl, sym, ap, ◌∙◌, arith}
 use Rattle.page_words.specs.declared.view.Entry.{Entry as Step}
 use Rattle.damon_journal.specs.declared.entry.Receipt.{Receipt}
-use Rattle.damon_journal.specs.Ahead.{AheadView, IsPrepared, is_named, is_picked, named_by}
-use Rattle.damon_journal.specs.SeenLine.{is_tag, was_cleared}
+use Rattle.damon_journal.specs.Ahead.{AheadView, IsPrepared, is_named, named_by}
+use Rattle.damon_journal.specs.SeenLine.{is_tag}
 use Rattle.damon_journal.specs.Steps.{clear_steps, load_steps}
 use Rattle.damon_journal.proofs.AheadLemmas.{named_same, tag_more}
 

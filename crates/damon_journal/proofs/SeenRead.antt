@@ -8,7 +8,7 @@ use Rattle.std.specs.List.{AllByRecursion, list_all}
 use Rattle.std.specs.Cmp.Derive.{both_true}
 use Rattle.std.specs.Option.{ok_or}
 use Rattle.damon_types.specs.declared.space.Target.{Target}
-use Rattle.damon_types.specs.Space.{page_of, pages_of, place_of}
+use Rattle.damon_types.specs.Space.{pages_of, place_of}
 use Rattle.line_text.specs.Address.{spelled_address}
 use Rattle.page_words.specs.Views.{TagsRise, touch}
 use Rattle.script_lines.specs.declared.kind.ScriptKind.TheVariants.{Number}

@@ -13,6 +13,7 @@ use Rattle.damon_journal.specs.Counted.{CountsOf}
 use Rattle.damon_journal.specs.Ahead.{after_receipts, named_by, receipts_of, seen_ahead}
 use Rattle.damon_journal.specs.EntryLine.{said_entry}
 use Rattle.damon_journal.specs.Growth.{longer}
+use Rattle.damon_journal.specs.Kept.{IsKept}
 use Rattle.damon_journal.specs.LinesLeft.{lines_left, said_left}
 use Rattle.damon_journal.specs.Place.{InEntries, InReceipts, JournalRead}
 use Rattle.damon_journal.specs.Replay.{JournalValue, replay}
@@ -35,6 +36,7 @@ pub record FoldStands (v : LiveValue) (j : JournalValue) (f : Fold) : Type 0 whe
   pub pass : f.ahead.pass ≡ last_pass f.replay.monitor.core.phase f.replay.monitor.core.ticks
   pub open_is : f.unreceived ≡ open_hits (receipts_of f.ahead.receipts) (steps v j)
   pub counts : CountsOf j f.counts
+  pub kept : IsKept v j f.kept
 
 -- the numbers that are kept are within this many lines
 pub record IsWithin (f : Fold) (lines : ℕ) : Type 0 where
@@ -46,12 +48,14 @@ pub record IsWithin (f : Fold) (lines : ℕ) : Type 0 where
   pub hits : f.counts.hits ≤ f.counts.loads
   pub open_few : f.unreceived ≤ f.counts.loads
   pub pages : f.ahead.pages ≡ pages_of f.replay.monitor.core.space
+  pub entries : f.kept.entries ≤ lines
 
 -- a line more was taken: the numbers are within one more, and the receipts and the space stay
 pub record GoesOn (old new : Fold) : Type 0 where
   pub within : (lines : ℕ) → IsWithin old lines → IsWithin new (lines + 1)
   pub receipts : new.ahead.receipts ≡ old.ahead.receipts
   pub space : new.replay.monitor.core.space ≡ old.replay.monitor.core.space
+  pub keeping : new.kept.keeping ≡ old.kept.keeping
 
 -- the receipts ahead are those of the lines after the next `receipts`
 abbrev pub AreAhead : Fold → JournalLines → Type 0

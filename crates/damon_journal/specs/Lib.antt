@@ -31,3 +31,6 @@ pub mod SeenPart
 pub mod Verified
 pub mod CallLine
 pub mod Limits
+pub mod Aggregated
+pub mod Kept
+pub mod Replayer

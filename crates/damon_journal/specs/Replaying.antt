@@ -1,5 +1,5 @@
 -- A journal that is carried out by a monitor, entry by entry.
-use Rattle.std.specs.Prelude.{◌≡◌, ℕ, ◌<◌, Bool, List, [], ◌++◌, length}
+use Rattle.std.specs.Prelude.{◌≡◌, ℕ, ◌<◌, Bool, List, [], ◌++◌, length, Some}
 use Rattle.rand_pcg.specs.Lcg.{Lcg}
 use Rattle.damon_core.specs.Reached.{CanOpen, Reached}
 use Rattle.damon_core.specs.Stands.{MonitorView, Stands}
@@ -9,7 +9,7 @@ use Rattle.damon_journal.specs.declared.entry.Entry.{Entry}
 use Rattle.damon_journal.specs.declared.entry.Entry.TheVariants.{Call}
 use Rattle.damon_journal.specs.EntryLine.{calls_so_far, with_call_of}
 use Rattle.damon_journal.specs.Growth.{longer, replay_with}
-use Rattle.damon_journal.specs.Replay.{EntryFits, IsJournalOf, JournalValue, carried, replay}
+use Rattle.damon_journal.specs.Replay.{EntryFits, IsJournalOf, JournalValue, call_at, carried, replay}
 use Rattle.damon_journal.specs.Steps.{entry_steps, steps}
 use Rattle.damon_journal.specs.Words.{words_after, words_from}
 
@@ -41,8 +41,14 @@ pub record IsCarried (v w : LiveValue) (j : JournalValue) (e : Entry) (bits : Li
 abbrev pub Carries : ReplayingView → ReplayingView → Entry → List Bool → Type 0
 Carries old new e bits = (v : LiveValue) (j : JournalValue) → IsReplayOf v j old → IsCarried v v j e bits new
 
--- a call is carried out, which becomes the next one of its controller
-abbrev pub CarriesCall : ReplayingView → ReplayingView → ℕ → CallValue → CallAnswer → Type 0
-CarriesCall old new controller call answer =
-    (v : LiveValue) (j : JournalValue) → IsReplayOf v j old → controller < length v.controllers
+-- a call is carried out, which becomes the next one of any controller
+abbrev pub CarriesCall : ReplayingView → ReplayingView → CallValue → CallAnswer → Type 0
+CarriesCall old new call answer =
+    (v : LiveValue) (j : JournalValue) (controller : ℕ) → IsReplayOf v j old → controller < length v.controllers
     → IsCarried v (with_call_of v controller call) j (Call controller (length (calls_so_far v controller)) answer) [] new
+
+-- a call is carried out, which the script has
+abbrev pub CarriesKnown : ReplayingView → ReplayingView → CallValue → CallAnswer → Type 0
+CarriesKnown old new call answer =
+    (v : LiveValue) (j : JournalValue) (controller index : ℕ) → IsReplayOf v j old → call_at v controller index ≡ Some call
+    → IsCarried v v j (Call controller index answer) [] new

@@ -3,8 +3,10 @@ use Rattle.std.specs.Prelude.{◌≡◌, ◌≢◌, ℕ, List, Ok, Result}
 use Rattle.damon_core.specs.Reached.{CanOpen}
 use Rattle.damon_control.specs.Live.{LiveValue}
 use Rattle.damon_journal.specs.declared.entry.Receipt.{Receipt}
+use Rattle.damon_journal.specs.declared.kept.Kept.{Kept}
 use Rattle.damon_journal.specs.declared.lawful.Lawful.{Lawful}
 use Rattle.damon_journal.specs.Counted.{CountsOf}
+use Rattle.damon_journal.specs.Kept.{IsKept}
 use Rattle.damon_journal.specs.Lawful.{IsLawful}
 use Rattle.damon_journal.specs.Place.{JournalRead}
 use Rattle.damon_journal.specs.Replay.{JournalValue}
@@ -35,3 +37,11 @@ pub record HasCounts (said : Result JournalRead ℕ) (counts : Lawful) : Type 0 
   pub is : said ≡ Ok read
   pub opens : CanOpen read.live.setup
   pub counted : CountsOf read.journal counts
+
+-- the same of a text of which something is kept
+pub record IsReadAs (said : Result JournalRead ℕ) (counts : Lawful) (kept : Kept) : Type 0 where
+  pub read : JournalRead
+  pub is : said ≡ Ok read
+  pub opens : CanOpen read.live.setup
+  pub counted : CountsOf read.journal counts
+  pub kept_is : IsKept read.live read.journal kept

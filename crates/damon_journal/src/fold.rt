@@ -3,8 +3,8 @@ ghost use Rattle.std.specs.Prelude.{◌≡◌, ◌+◌, ◌<◌, ◌^◌, ◌&&�
 ghost use Rattle.std.specs.List.{count_by, list_any};
 ghost use Rattle.damon_types.specs.Space.{pages_of};
 ghost use Rattle.live_commit.specs.declared.phase.Phase.TheVariants.{Idle, Armed, Due, Void as VoidPhase};
-ghost use Rattle.live_commit.specs.SetupView.{value_of};
 ghost use Rattle.damon_core.specs.State.{row_count};
+ghost use Rattle.damon_control.specs.JournalHead.{head_said};
 ghost use Rattle.damon_control.specs.Live.{LiveValue};
 ghost use Rattle.damon_journal.specs.Ahead.{receipts_of};
 ghost use Rattle.damon_journal.specs.Folding.{AreAhead, FoldStands, GoesOn, HasRead, HasTaken, IsWithin, open_hits};
@@ -18,12 +18,13 @@ ghost use Rattle.damon_journal.specs.Steps.{load_steps};
 
 use crate::ahead::Ahead;
 use crate::journal_lines::JournalLines;
+use crate::kept::{Keeping, Kept};
 use crate::lawful::{Lawful, VerifyFault};
 use crate::replaying::Replaying;
 use crate::same_lines::{check_digits, is_number_line, is_pair_line, read_bits};
-use damon_control::MAX_CONTROLLERS;
+use damon_control::{JournalHead, MAX_CONTROLLERS};
 use damon_types::Version;
-use live_commit::{Phase, Setup};
+use live_commit::Phase;
 use script_lines::same_word;
 use std::alloc::{AllocError, Global};
 
@@ -39,27 +40,28 @@ pub(crate) struct Fold {
     pub ahead: Ahead,
     // How many hits have no receipt.
     pub unreceived: u64,
+    pub kept: Kept,
 }
 
 impl Fold {
     // Before the first entry, of which `lines` is the line.
     pub fn new(
         alloc: Global,
-        seed: u64,
-        setup: &Setup,
+        head: JournalHead,
         lines: &JournalLines,
+        keeping: Keeping,
     ) -> Result<Fold, AllocError>
         requires { IsShort lines.now }
-        ensures begins { IfOk result (λ f. FoldStands
-            (uncalled (record { seed = seed; setup = value_of setup.now })) nothing_said f) }
+        ensures begins { IfOk result (λ f. FoldStands (uncalled (head_said head)) nothing_said f) }
         ensures ahead { IfOk result (λ f. AreAhead f lines.now) }
         ensures within { IfOk result (λ f. IsWithin f lines.now.taken) }
+        ensures keeping { IfOk result (λ f. f.kept.keeping ≡ keeping) }
     {
-        let replay = Replaying::new(alloc, seed, setup)?;
-        let ahead = Ahead::read(alloc, &setup.space, lines.rest)?;
+        let replay = Replaying::new(alloc, head.seed, &head.setup)?;
+        let ahead = Ahead::read(alloc, &head.setup.space, lines.rest)?;
         Ok(Fold {
             replay,
-            version: setup.version,
+            version: head.setup.version,
             next: [0; MAX_CONTROLLERS as usize],
             counts: Lawful {
                 passes: 0,
@@ -68,6 +70,7 @@ impl Fold {
             },
             ahead,
             unreceived: 0,
+            kept: Kept::new(alloc, head, keeping),
         })
     }
 
@@ -86,6 +89,7 @@ impl Fold {
             → FaultIs result (said_left (InEntries v j) lines.old) }
         ensures ahead { IfOk result (λ more. more ≡ true → AreAhead self.new lines.new) }
         ensures within { OnOk result (IsWithin self.new lines.new.taken) }
+        ensures keeping { OnOk result (self.new.kept.keeping ≡ self.old.kept.keeping) }
         ensures short { IsShort lines.new }
         ensures shorter { OnOk result (length lines.new.rest.now < length lines.old.rest.now) }
     {
@@ -107,7 +111,7 @@ impl Fold {
         requires { IsWithin self.old (2 ^ 24) }
         ensures taken { (v : LiveValue) (j : JournalValue) → FoldStands v j self.old
             → IfOk result (λ taken. HasTaken taken v j line.now self.old self.new) }
-        ensures goes { GoesOn self.old self.new }
+        ensures goes { OnOk result (GoesOn self.old self.new) }
     {
         match self.replay.monitor().phase() {
             Phase::Idle => Ok(self.take_prepare(line)),
@@ -131,6 +135,7 @@ impl Fold {
         }
         let pass = self.replay.monitor().ticks() + 1;
         self.replay.prepare();
+        self.kept.add_other();
         self.ahead.prepare(pass, self.replay.monitor().picks());
         self.counts.passes += 1;
         true
@@ -152,7 +157,7 @@ impl Fold {
         requires within { IsWithin self.old (2 ^ 24) }
         ensures taken { (v : LiveValue) (j : JournalValue) → FoldStands v j self.old
             → IfOk result (λ taken. HasTaken taken v j line.now self.old self.new) }
-        ensures goes { GoesOn self.old self.new }
+        ensures goes { OnOk result (GoesOn self.old self.new) }
     {
         let pass = self.replay.monitor().ticks() + 1;
         let rows = self.replay.monitor().rows().len();
@@ -165,6 +170,7 @@ impl Fold {
         self.unreceived += self.hits_without_receipt(&bits);
         self.counts.loads += u64::from(rows);
         self.counts.hits += hits_in(&bits);
+        self.kept.add_check(&bits)?;
         self.replay.check(&bits);
         Ok(true)
     }
@@ -181,6 +187,7 @@ impl Fold {
             return false;
         }
         self.replay.void();
+        self.kept.add_other();
         true
     }
 
@@ -206,6 +213,7 @@ impl Fold {
             return false;
         }
         self.replay.aggregate();
+        self.kept.add_other();
         true
     }
 

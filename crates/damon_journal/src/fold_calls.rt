@@ -55,6 +55,7 @@ impl Fold {
         ensures receipts { self.new.ahead ≡ self.old.ahead }
         ensures space { self.new.replay.monitor.core.space ≡ self.old.replay.monitor.core.space }
         ensures within { OnOk result (IsWithin self.new lines.new.taken) }
+        ensures keeping { OnOk result (self.new.kept.keeping ≡ self.old.kept.keeping) }
         ensures short { IsShort lines.new }
         ensures shorter { OnOk result (length lines.new.rest.now ≤ length lines.old.rest.now) }
     {
@@ -62,7 +63,7 @@ impl Fold {
             return Err(lines.refuse());
         };
         let call = read_asked(alloc, lines, self.version, asked)?;
-        self.answer_call(alloc, lines, controller, &call)
+        self.answer_call(alloc, lines, controller, call)
     }
 
     // Makes a call, and compares its answer with the next line.
@@ -71,31 +72,33 @@ impl Fold {
         alloc: Global,
         lines: &mut JournalLines,
         controller: u32,
-        call: &Call,
+        call: Call,
     ) -> Result<(), VerifyFault>
         requires free { IsFree self.old.replay.monitor.core.phase }
         requires below { controller < MAX_CONTROLLERS }
         requires short { IsShort lines.old }
         requires within { IsWithin self.old lines.old.taken }
         ensures entry { OnOk result ((v : LiveValue) (j : JournalValue) → FoldStands v j self.old
-            → ReadsOn (said_left (AtAnswer v j controller (call_value call.now)) lines.old)
+            → ReadsOn (said_left (AtAnswer v j controller (call_value call)) lines.old)
             lines.new self.new) }
         ensures fault { (v : LiveValue) (j : JournalValue) → FoldStands v j self.old
-            → FaultIs result (said_left (AtAnswer v j controller (call_value call.now)) lines.old) }
+            → FaultIs result (said_left (AtAnswer v j controller (call_value call)) lines.old) }
         ensures ahead { OnOk result (after_receipts (lines_left lines.old)
             ≡ after_receipts (lines_left lines.new)) }
         ensures receipts { self.new.ahead ≡ self.old.ahead }
         ensures space { self.new.replay.monitor.core.space ≡ self.old.replay.monitor.core.space }
         ensures within { OnOk result (IsWithin self.new lines.new.taken) }
+        ensures keeping { OnOk result (self.new.kept.keeping ≡ self.old.kept.keeping) }
         ensures short { IsShort lines.new }
         ensures shorter { OnOk result (length lines.new.rest.now ≤ length lines.old.rest.now) }
     {
         let line = lines.take_line()?;
-        let answer = self.replay.call(controller, call);
+        let answer = self.replay.call(&call);
         let same = is_answer(alloc, line, answer)?;
         if !same {
             return Err(lines.refuse());
         }
+        self.kept.add_call(call)?;
         self.next[controller as usize] += 1;
         Ok(())
     }

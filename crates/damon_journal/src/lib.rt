@@ -24,12 +24,16 @@ mod journal;
 mod last_seen;
 /// A journal text, line by line.
 mod journal_lines;
+/// What is kept of a journal text.
+mod kept;
 /// What is counted of a lawful journal, and why a text is none.
 mod lawful;
 /// Laws of the definitions.
 mod laws;
 /// Parts of lines.
 mod line_parts;
+/// A journal that is carried out from one aggregation to the next.
+mod replayer;
 /// The monitor that carries out a journal.
 mod replaying;
 /// The results of checks, one check after another.
@@ -68,6 +72,7 @@ pub use laws::{
     hits_are_few, journals_grow, lawful_journals_are_read, lawful_numbers_fit, one_pass_by_hand,
     read_journals_are_lawful, rejected_texts_are_unlawful, settled_receipts_are_lawful, woven_runs,
 };
+pub use replayer::Replayer;
 pub use status::Status;
 pub use text::journal_text;
 pub use text_parts::{Filled, TextParts};

@@ -11,7 +11,7 @@ ghost use Rattle.damon_control.specs.LiveView.{call_value};
 ghost use Rattle.damon_journal.specs.declared.entry.Entry.TheVariants.{Prepare, Check, Void, Aggregate};
 ghost use Rattle.damon_journal.specs.Phases.{IsFree, phase_loaded};
 ghost use Rattle.damon_journal.specs.Replay.{call_answer};
-ghost use Rattle.damon_journal.specs.Replaying.{Carries, CarriesCall, IsReplayOf};
+ghost use Rattle.damon_journal.specs.Replaying.{Carries, CarriesCall, CarriesKnown, IsReplayOf};
 ghost use Rattle.damon_journal.specs.Room.{nothing_said};
 
 use crate::calls::make_call;
@@ -152,10 +152,11 @@ impl Replaying {
         self.drawn += 2 * u64::from(max);
     }
 
-    // Makes the next call of a controller.
-    pub fn call(&mut self, controller: u32, call: &Call) -> CallAnswer
+    // Makes a call: the next one of a controller, or one that the script has.
+    pub fn call(&mut self, call: &Call) -> CallAnswer
         requires { IsFree self.old.monitor.core.phase }
-        ensures entry { CarriesCall self.old self.new controller (call_value call.now) result }
+        ensures entry { CarriesCall self.old self.new (call_value call.now) result }
+        ensures known { CarriesKnown self.old self.new (call_value call.now) result }
         ensures answer { result ≡ call_answer (call_value call.now) self.old.monitor.core }
         ensures ticks { self.new.monitor.core.ticks ≡ self.old.monitor.core.ticks }
         ensures drawn { self.new.drawn ≡ self.old.drawn }
@@ -163,6 +164,7 @@ impl Replaying {
         ensures pass { last_pass self.new.monitor.core.phase self.new.monitor.core.ticks
             ≡ last_pass self.old.monitor.core.phase self.old.monitor.core.ticks }
     {
+        journals_grow();
         make_call(&mut self.monitor, call)
     }
 }

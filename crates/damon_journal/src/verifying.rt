@@ -1,19 +1,20 @@
-ghost use Rattle.std.specs.Prelude.{◌≢◌, ◌≤◌, length, IfErr, IfOk, OnOk};
+ghost use Rattle.std.specs.Prelude.{◌≡◌, ◌≢◌, ◌≤◌, length, IfErr, IfOk, OnOk};
 ghost use Rattle.damon_control.specs.Live.{LiveValue};
 ghost use Rattle.damon_journal.specs.Folding.{AreAhead, FoldStands, IsWithin, ReadsReceipts};
 ghost use Rattle.damon_journal.specs.LinesLeft.{FaultIs, IsFault, IsShort, said_left};
 ghost use Rattle.damon_journal.specs.Place.{InEntries};
 ghost use Rattle.damon_journal.specs.Reading.{read_journal};
 ghost use Rattle.damon_journal.specs.Replay.{JournalValue};
-ghost use Rattle.damon_journal.specs.Verified.{HasCounts, IsOfNoLawfulRun, IsVerified};
+ghost use Rattle.damon_journal.specs.Verified.{HasCounts, IsOfNoLawfulRun, IsReadAs, IsVerified};
 
 use crate::ends::{compare_last, open_text};
 use crate::fold::Fold;
 use crate::journal_lines::JournalLines;
+use crate::kept::{Keeping, Kept};
 use crate::lawful::{Lawful, VerifyFault};
 use crate::laws::{read_journals_are_lawful, rejected_texts_are_unlawful, woven_runs};
 use crate::seen_part::take_receipts;
-use damon_control::{JournalHead, MAX_BYTES};
+use damon_control::MAX_BYTES;
 use std::alloc::Global;
 
 /// Checks whether a text of at most [`MAX_BYTES`] bytes is the journal text of a lawful run, and returns
@@ -37,29 +38,36 @@ pub fn verify(alloc: Global, bytes: &[u8]) -> Result<Lawful, VerifyFault>
     read_journals_are_lawful();
     woven_runs();
     rejected_texts_are_unlawful();
-    read_text(alloc, bytes)
+    let (counts, _kept) = read_text(alloc, bytes, Keeping::Nothing)?;
+    Ok(counts)
 }
 
-// Reads a journal text, and counts what it has.
-fn read_text(alloc: Global, bytes: &[u8]) -> Result<Lawful, VerifyFault>
+// Reads a journal text, counts what it has, and keeps what it is asked to.
+pub(crate) fn read_text(
+    alloc: Global,
+    bytes: &[u8],
+    keeping: Keeping,
+) -> Result<(Lawful, Kept), VerifyFault>
     requires { length bytes.now ≤ MAX_BYTES }
-    ensures counts { IfOk result (λ counts. HasCounts (read_journal bytes.now) counts) }
+    ensures read { IfOk result (λ x. IsReadAs (read_journal bytes.now) x.0 x.1) }
+    ensures keeping { IfOk result (λ x. x.1.keeping ≡ keeping) }
+    ensures few { IfOk result (λ x. x.1.entries ≤ MAX_BYTES) }
     ensures fault { FaultIs result (read_journal bytes.now) }
 {
     let (head, mut lines) = open_text(alloc, bytes)?;
-    let JournalHead { seed, setup } = head;
-    let mut fold = Fold::new(alloc, seed, &setup, &lines)?;
+    let mut fold = Fold::new(alloc, head, &lines, keeping)?;
     take_entries(alloc, &mut fold, &mut lines)?;
     let Fold {
         replay,
         counts,
         ahead,
         unreceived,
+        kept,
         ..
     } = fold;
     take_receipts(alloc, ahead, unreceived, &mut lines)?;
     compare_last(alloc, replay.monitor(), lines)?;
-    Ok(counts)
+    Ok((counts, kept))
 }
 
 // Carries out all entries that are left, and takes the line `receipts` after them.
@@ -71,6 +79,8 @@ fn take_entries(alloc: Global, fold: &mut Fold, lines: &mut JournalLines) -> Res
         → ReadsReceipts (said_left (InEntries v j) lines.old) lines.new fold.new) }
     ensures fault { (v : LiveValue) (j : JournalValue) → FoldStands v j fold.old
         → FaultIs result (said_left (InEntries v j) lines.old) }
+    ensures within { OnOk result (IsWithin fold.new lines.new.taken) }
+    ensures keeping { OnOk result (fold.new.kept.keeping ≡ fold.old.kept.keeping) }
     ensures short { IsShort lines.new }
 {
     'entries: while fold.next_entry(alloc, lines)? {}

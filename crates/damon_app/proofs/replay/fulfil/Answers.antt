@@ -1,6 +1,6 @@
 use Rattle.std.proofs.Common.{◌≡◌, refl}
 use Rattle.text_io.specs.declared.input.TheConstants.{INPUT_LIMIT}
-use Rattle.damon_app.proofs.Serving.{checked, reported, summarized}
+use Rattle.damon_app.proofs.Serving.{checked, heated, reported, summarized}
 use Rattle.damon_app.proofs.replay.fulfil.Goals as goal
 
 pub returns-in-Report : goal.returns-in-Report
@@ -22,6 +22,16 @@ returns-in-Verify g c =
     (record { bytes = g.K.Sink.taken c.args.sink.now; faults = g.K.Sink.faults c.args.sink.now })
     (record { bytes = g.K.Sink.taken c.check_journal.new.sink; faults = g.K.Sink.faults c.check_journal.new.sink })
     (c.check_journal.new.source ≡ c.args.source.now) (c.check_journal.new.sink ≡ c.args.sink.now) _ c.check_journal.ensures)
+
+pub returns-in-Heat : goal.returns-in-Heat
+returns-in-Heat g c =
+    rw (c.in-Heat.is, c.status_of-in-Heat.ensures)
+    (heated INPUT_LIMIT c.in-Heat.columns
+    (record { bytes = g.S.Source.left c.args.source.now; faults = g.S.Source.faults c.args.source.now })
+    (record { bytes = g.S.Source.left c.show_heat.new.source; faults = g.S.Source.faults c.show_heat.new.source })
+    (record { bytes = g.K.Sink.taken c.args.sink.now; faults = g.K.Sink.faults c.args.sink.now })
+    (record { bytes = g.K.Sink.taken c.show_heat.new.sink; faults = g.K.Sink.faults c.show_heat.new.sink })
+    (c.show_heat.new.source ≡ c.args.source.now) (c.show_heat.new.sink ≡ c.args.sink.now) _ c.show_heat.ensures)
 
 pub returns-in-Generate : goal.returns-in-Generate
 returns-in-Generate g c =

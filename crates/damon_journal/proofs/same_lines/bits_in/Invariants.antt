@@ -1,4 +1,4 @@
-use Rattle.std.proofs.Common.{◌≡◌, ◌≤◌, ◌+◌, ◌++◌, drop, length, take}
+use Rattle.std.proofs.Common.{◌≡◌, ◌≤◌, ◌+◌, ◌++◌, drop, length}
 use Rattle.std.specs.Prelude.{map, vec_capacity}
 use Rattle.damon_journal.specs.EntryLine.{is_one}
 use Rattle.damon_journal.proofs.same_lines.bits_in.Given as goal

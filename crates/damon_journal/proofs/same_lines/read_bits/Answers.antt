@@ -1,5 +1,4 @@
 use Rattle.std.proofs.Common.{sym, ap, ◌∙◌, arith, Some}
-use Rattle.damon_journal.specs.EntryLine.{is_bit}
 use Rattle.damon_journal.proofs.BitsRead.{bits_read, other_count, other_digits}
 use Rattle.damon_journal.proofs.same_lines.read_bits.Goals as goal
 

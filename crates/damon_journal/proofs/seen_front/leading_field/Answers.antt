@@ -1,4 +1,4 @@
-use Rattle.std.proofs.Common.{◌≡◌, ◌++◌, ap, sym, ◌∙◌, arith, Some}
+use Rattle.std.proofs.Common.{◌≡◌, ◌++◌, ap, sym, ◌∙◌, arith}
 use Rattle.line_text.specs.Leading.{view_leading}
 use Rattle.std.specs.Option.{option_copied}
 use Rattle.damon_journal.proofs.seen_front.leading_field.Goals as goal

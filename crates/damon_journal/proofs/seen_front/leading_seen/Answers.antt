@@ -1,4 +1,4 @@
-use Rattle.std.proofs.Common.{ℕ, ap, sym, ◌∙◌, refl, rules, arith}
+use Rattle.std.proofs.Common.{rules, arith}
 use Rattle.damon_journal.proofs.SeenFront.{seen_front}
 use Rattle.damon_journal.proofs.seen_front.leading_seen.Goals as goal
 

@@ -1,4 +1,4 @@
-use Rattle.std.proofs.Common.{ℕ, sym, subst, ◌∙◌}
+use Rattle.std.proofs.Common.{ℕ, sym, subst, ◌∙◌, arith}
 use Rattle.std.specs.Prelude.{Result}
 use Rattle.std.proofs.lemmas.Result.{err_from_is_err_and}
 use Rattle.damon_core.specs.Stands.{MonitorView, Stands}
@@ -37,8 +37,8 @@ returns-in_err-compare_last-clause-fault c =
     rw (p.1, p.2)
     (subst (λ (r : Result JournalRead ℕ). IsFault fault r) (sym (c.in_ok-head.ensures.head ∙ read.goes_on ∙ settled.1)) (c.in_err-compare_last.ensures.fault state said stands))
 
-pub returns-clause-counts : goal.returns-clause-counts
-returns-clause-counts c =
+pub returns-clause-read : goal.returns-clause-read
+returns-clause-read c =
     let read = c.in_ok-take_entries.ensures.entries (uncalled (head_said c.in_ok-head.head)) nothing_said c.in_ok-fold.ensures.begins in
     let settled = c.in_ok-take_receipts.ensures.settled read.live read.journal (receipts_stand read.stands read.next) in
     let state = (replay read.live read.journal).state in
@@ -49,4 +49,8 @@ returns-clause-counts c =
       is = c.in_ok-head.ensures.head ∙ read.goes_on ∙ settled.1 ∙ c.in_ok-compare_last.ensures.ok state said stands;
       opens = read.stands.replay.opens;
       counted = read.stands.counts;
+      kept_is = read.stands.kept;
     }
+
+pub returns-clause-few : goal.returns-clause-few
+returns-clause-few c = omega (arith, c.in_ok-take_entries.ensures.within.entries, c.take_entries.ensures.short)

@@ -11,6 +11,7 @@ entries-preserved c =
       short = next.short;
       ahead = next.ahead c.if-branch.true;
       within = next.within;
+      keeping = next.keeping ∙ c.entries.invariant.keeping;
       reads = λ v j h.
           let before = c.entries.invariant.reads v j h in
           let read : HasRead true before.0 before.1 c.entries.lines lines fold = subst (λ more. HasRead more before.0 before.1 c.entries.lines lines fold) c.if-branch.true (next.entry before.0 before.1 before.2) in

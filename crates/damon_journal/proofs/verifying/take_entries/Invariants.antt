@@ -1,4 +1,4 @@
-use Rattle.std.proofs.Common.{length}
+use Rattle.std.proofs.Common.{◌≡◌, length}
 use Rattle.damon_control.specs.Live.{LiveValue}
 use Rattle.damon_journal.specs.CallLine.{ReadsOn}
 use Rattle.damon_journal.specs.Folding.{AreAhead, FoldStands, IsWithin}
@@ -13,6 +13,7 @@ invariant-entries l = record {
   short : IsShort l.lines;
   ahead : AreAhead l.fold l.lines;
   within : IsWithin l.fold l.lines.taken;
+  keeping : l.fold.kept.keeping ≡ l.fn.fold.kept.keeping;
   reads : (v : LiveValue) (j : JournalValue) → FoldStands v j l.fn.fold → ReadsOn (said_left (InEntries v j) l.fn.lines) l.lines l.fold;
 }
 

@@ -17,7 +17,7 @@ use Rattle.damon_journal.proofs.fold.Fold.answer_call.Goals as goal
 pub returns-then-not-same-clause-fault : goal.returns-then-not-same-clause-fault
 returns-then-not-same-clause-fault c = λ v j h.
     let line = c.in_ok-line.line.now in
-    let call = call_value c.args.call.now in
+    let call = call_value c.args.call in
     let answer = c.call-answer.result in
     let told : answer ≡ call_answer call _ = c.call-answer.ensures.answer ∙ ap (call_answer call) h.replay.stands.same in
     let other : same_word line (spelled_answer answer) ≡ false = sym c.in_ok-same.ensures ∙ c.if-not-same.true in
@@ -31,12 +31,12 @@ returns c =
     let l = c.take_line.new.self in
     let old : Fold = c.args.self.now in
     let controller = c.args.controller in
-    let call = call_value c.args.call.now in
+    let call = call_value c.args.call in
     let answer = c.call-answer.result in
     let same : same_word line (spelled_answer answer) ≡ true = sym c.in_ok-same.ensures ∙ c.if-not-same.false in
     let taken = c.in_ok-line.ensures.taken in
-    let new : Fold = record old { replay = c.call-answer.new.self; next = set old.next controller (get_or old.next controller 0 + 1) } in
-    let rest : KeepsRest controller old new = record {
+    let new : Fold = record old { replay = c.call-answer.new.self; next = set old.next controller (get_or old.next controller 0 + 1); kept = c.add_call.new.self } in
+    let rest : KeepsRest controller call old new = record {
       version = refl;
       next = refl;
       ahead = refl;
@@ -44,6 +44,7 @@ returns c =
       pass = c.call-answer.ensures.pass;
       open_is = refl;
       counts = refl;
+      kept = c.in_ok-add_call.ensures;
     } in
     record {
       entry = λ v j h.
@@ -54,7 +55,7 @@ returns c =
           let k = longer j (Call controller index answer) [] in (
             w,
             k,
-            call_stands v j controller call answer old new h (c.call-answer.ensures.entry v j h.replay few) rest,
+            call_stands v j controller call answer old new h (c.call-answer.ensures.entry v j controller h.replay few) few rest,
             c.in_ok-line.ensures.line (AtAnswer v j controller call)
                 ∙ leads_on (AtAnswer v j controller call) (InEntries w k) line l (answered v j controller call line answer told same),
           );
@@ -62,7 +63,8 @@ returns c =
       ahead = ahead_same line (lines_left c.args.lines.now) (lines_left l) c.in_ok-line.ensures.left (no_receipts line (spelled_answer answer) same refl);
       receipts = refl;
       space = c.call-answer.ensures.space;
-      within = within_call controller old new c.args.lines.now.taken l.taken (omega (arith, taken)) c.requires.within rest c.call-answer.ensures.ticks c.call-answer.ensures.drawn;
+      within = within_call controller call old new c.args.lines.now.taken l.taken (omega (arith, taken)) c.requires.within rest c.call-answer.ensures.ticks c.call-answer.ensures.drawn;
+      keeping = rest.kept.keeping;
       short = c.take_line.ensures.small;
       shorter = omega (arith, c.in_ok-line.ensures.shorter);
     }

@@ -1,7 +1,7 @@
 use Rattle.std.proofs.Common.{refl, sym, ap, ◌∙◌}
-use Rattle.live_commit.specs.SetupView.{value_of}
 use Rattle.damon_core.specs.State.{Core}
 use Rattle.damon_core.specs.Stands.{last_pass}
+use Rattle.damon_control.specs.JournalHead.{head_said}
 use Rattle.damon_control.specs.Live.{LiveValue}
 use Rattle.damon_journal.specs.Place.{uncalled}
 use Rattle.damon_journal.proofs.EntriesTaken.{named_none}
@@ -9,7 +9,7 @@ use Rattle.damon_journal.proofs.fold.Fold.new.Goals as goal
 
 pub returns-clause-begins : goal.returns-clause-begins
 returns-clause-begins c =
-    let v : LiveValue = uncalled (record { seed = c.args.seed; setup = value_of c.args.setup.now }) in
+    let v : LiveValue = uncalled (head_said c.args.head) in
     let opening = c.in_ok-replay.ensures.opening in
     record {
       replay = c.in_ok-replay.ensures.begins v refl refl;
@@ -20,4 +20,5 @@ returns-clause-begins c =
       pass = c.in_ok-ahead.ensures.pass ∙ sym (ap (λ (d : Core). last_pass d.phase d.ticks) opening);
       open_is = refl;
       counts = record { passes = refl; loads = refl; hits = refl };
+      kept = c.new-2.ensures.kept;
     }

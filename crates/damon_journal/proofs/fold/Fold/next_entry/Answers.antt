@@ -8,7 +8,7 @@ use Rattle.damon_journal.proofs.EntriesStep.{at_call}
 use Rattle.damon_journal.proofs.fold.Fold.next_entry.Goals as goal
 
 pub take_call-requires-clause-within : goal.take_call-requires-clause-within
-take_call-requires-clause-within c = subst (IsWithin c.take_entry.new.self) (sym c.in_ok-line.ensures.taken) (c.take_entry.ensures.goes.within c.args.lines.now.taken c.requires.within)
+take_call-requires-clause-within c = subst (IsWithin c.take_entry.new.self) (sym c.in_ok-line.ensures.taken) (c.in_ok-take_entry.ensures.goes.within c.args.lines.now.taken c.requires.within)
 
 pub returns-in_ok-take_call-clause-entry : goal.returns-in_ok-take_call-clause-entry
 returns-in_ok-take_call-clause-entry c = λ v j h.
@@ -21,4 +21,4 @@ returns-in_ok-take_call-clause-entry c = λ v j h.
     (call.0, call.1, call.2, c.in_ok-line.ensures.line (InEntries v j) ∙ call.3)
 
 pub returns-else-not-branch-clause-within : goal.returns-else-not-branch-clause-within
-returns-else-not-branch-clause-within c = subst (IsWithin c.take_entry.new.self) (sym c.in_ok-line.ensures.taken) (c.take_entry.ensures.goes.within c.args.lines.now.taken c.requires.within)
+returns-else-not-branch-clause-within c = subst (IsWithin c.take_entry.new.self) (sym c.in_ok-line.ensures.taken) (c.in_ok-take_entry.ensures.goes.within c.args.lines.now.taken c.requires.within)

@@ -16,7 +16,7 @@ returns-then-not-wants_aggregate-clause-taken c = λ v j h.
 pub returns-clause-taken : goal.returns-clause-taken
 returns-clause-taken c = λ v j h.
     let old : Fold = c.args.self.now in
-    let new : Fold = record old { replay = c.aggregate.new.self } in
+    let new : Fold = record old { replay = c.aggregate.new.self; kept = c.add_other.new.self } in
     let tick : ℕ = old.replay.monitor.core.ticks in
     let e = Aggregate tick old.replay.drawn in
     let said = said_aggregate v j old.replay c.args.line.now h.replay c.requires.due ∙ ap (λ b. if b then Some (e, []) else None) (sym c.wants_aggregate.ensures ∙ c.if-not-wants_aggregate.false) in
@@ -24,7 +24,7 @@ returns-clause-taken c = λ v j h.
     ap (λ (ph : Phase). last_pass ph new.replay.monitor.core.ticks) c.aggregate.ensures.phase
     ∙ (c.aggregate.ensures.ticks ∙ ap (λ (ph : Phase). last_pass ph tick) (sym c.requires.due))
     in
-    ((e, []), said, aggregate_stands v j tick old.replay.drawn old new h (c.aggregate.ensures.entry v j h.replay) (record { version = refl; next = refl; receipts = refl; space = c.aggregate.ensures.space }) refl last refl refl)
+    ((e, []), said, aggregate_stands v j tick old.replay.drawn old new h (c.aggregate.ensures.entry v j h.replay) (record { version = refl; next = refl; receipts = refl; space = c.aggregate.ensures.space; kept = c.add_other.ensures }) refl last refl refl)
 
 pub returns-clause-goes : goal.returns-clause-goes
-returns-clause-goes c = quiet_goes c.args.self.now c.aggregate.new.self (omega (arith, c.aggregate.ensures.ticks)) c.aggregate.ensures.drawn c.aggregate.ensures.space
+returns-clause-goes c = quiet_goes c.args.self.now c.aggregate.new.self c.add_other.new.self c.add_other.ensures (omega (arith, c.aggregate.ensures.ticks)) c.aggregate.ensures.drawn c.aggregate.ensures.space

@@ -1,4 +1,4 @@
-use Rattle.std.proofs.Common.{◌≡◌, ℕ, ◌+◌, ◌^◌, ◌≤◌, ◌<◌, List, Bool, length, refl, sym, ap, ◌∙◌, subst, arith}
+use Rattle.std.proofs.Common.{◌≡◌, ℕ, ◌+◌, ◌^◌, ◌≤◌, ◌<◌, List, Bool, [], length, refl, sym, ap, ◌∙◌, subst, arith}
 use Rattle.std.specs.Prelude.{Some, option_and_then, option_map}
 use Rattle.std.specs.List.{count_by}
 use Rattle.std.specs.Option.{option_copied}
@@ -12,6 +12,7 @@ use Rattle.damon_journal.specs.declared.fold.Fold.{Fold}
 use Rattle.damon_journal.specs.Ahead.{receipts_of}
 use Rattle.damon_journal.specs.EntryLine.{n_bits_of}
 use Rattle.damon_journal.specs.Folding.{open_hits}
+use Rattle.damon_journal.specs.Kept.{GainsEntry}
 use Rattle.damon_journal.specs.Replaying.{IsCarried}
 use Rattle.damon_journal.specs.Spelled.{check_front}
 use Rattle.damon_journal.specs.Steps.{load_steps}
@@ -21,22 +22,26 @@ use Rattle.damon_journal.proofs.OpenHits.{few_true, open_few}
 use Rattle.damon_journal.proofs.fold.Fold.take_check.Goals as goal
 
 -- as many rows as the monitor has
-rows_are : (c : goal.After-drop-bits) → c.len-rows.result ≡ row_count c.args.self.now.replay.monitor.core
+rows_are : (c : goal.After-drop-bits-2) → c.len-rows.result ≡ row_count c.args.self.now.replay.monitor.core
 rows_are c = c.len-rows.ensures.len ∙ (ap (λ (r : RegionList). length r.rows) c.rows.ensures.rows ∙ ap (λ (m : MonitorView). row_count m.core) c.monitor-2.ensures)
 
 -- the digits are read as the results
-read_is : (c : goal.After-drop-bits) → n_bits_of c.len-rows.result c.in-Some.digits.now ≡ Some c.in-Some-2.bits.items
+read_is : (c : goal.After-drop-bits-2) → n_bits_of c.len-rows.result c.in-Some.digits.now ≡ Some c.in-Some-2.bits.items
 read_is c = sym c.in_ok-bits.ensures ∙ ap (λ o. option_map (λ v. v.items) o) c.in-Some-2.is
 
 -- the hits that are counted
-open_are : (c : goal.After-drop-bits) → c.hits_without_receipt.result
+open_are : (c : goal.After-drop-bits-2) → c.hits_without_receipt.result
     ≡ open_hits (receipts_of c.args.self.now.ahead.receipts) (load_steps c.args.self.now.ahead.pass c.args.self.now.replay.monitor.core.picks c.in-Some-2.bits.items)
 open_are c =
     let f : Fold = c.args.self.now in
     c.hits_without_receipt.ensures ∙ ap (λ bs. open_hits (receipts_of f.ahead.receipts) (load_steps f.ahead.pass f.replay.monitor.core.picks bs)) c.deref.ensures.value
 
-hits_are : (c : goal.After-drop-bits) → c.hits_in.result ≡ count_by (λ bit. bit) c.in-Some-2.bits.items
+hits_are : (c : goal.After-drop-bits-2) → c.hits_in.result ≡ count_by (λ bit. bit) c.in-Some-2.bits.items
 hits_are c = c.hits_in.ensures ∙ ap (count_by (λ bit. bit)) c.deref-2.ensures.value
+
+-- what is kept
+kept_is : (c : goal.After-drop-bits-2) → GainsEntry c.args.self.now.kept c.add_check.new.self c.in-Some-2.bits.items []
+kept_is c = subst (λ bs. GainsEntry c.args.self.now.kept c.add_check.new.self bs []) c.deref-3.ensures.value c.in_ok-add_check.ensures
 
 pub overflow_add-self : goal.overflow_add-self
 overflow_add-self c =
@@ -62,6 +67,7 @@ returns-clause-taken c = λ v j h.
       replay = c.check.new.self;
       counts = record old.counts { loads = old.counts.loads + c.from.result; hits = old.counts.hits + c.hits_in.result };
       unreceived = old.unreceived + c.hits_without_receipt.result;
+      kept = c.add_check.new.self;
     }
     in
     let ticks_are : c.ticks-pass.result ≡ ticks = c.ticks-pass.ensures ∙ ap (λ (m : MonitorView). m.core.ticks) c.monitor.ensures in
@@ -79,8 +85,8 @@ returns-clause-taken c = λ v j h.
     let unseen = ap (λ n. old.unreceived + n) (open_are c ∙ ap (λ p. open_hits rs (load_steps p picks bits)) pass) in
     let each : length bits ≡ rows = (n_bits_are rows c.in-Some.digits.now bits read).1 in
     let loads : c.from.result ≡ length bits = c.from.ensures ∙ (rows_are c ∙ sym each) in
-    let carried = subst (λ bs. IsCarried v v j (Check (ticks + 1)) bs c.check.new.self) c.deref-3.ensures.value (c.check.ensures.entry v j h.replay) in
-    let rest : SameRest old new = record { version = refl; next = refl; receipts = refl; space = c.check.ensures.space } in
+    let carried = subst (λ bs. IsCarried v v j (Check (ticks + 1)) bs c.check.new.self) c.deref-4.ensures.value (c.check.ensures.entry v j h.replay) in
+    let rest : SameRest bits old new = record { version = refl; next = refl; receipts = refl; space = c.check.ensures.space; kept = kept_is c } in
     ((Check (ticks + 1), bits), said, check_stands v j (ticks + 1) bits old new h carried rest refl each last unseen refl (ap (λ n. old.counts.loads + n) loads) (ap (λ n. old.counts.hits + n) (hits_are c)))
 
 pub returns-clause-goes : goal.returns-clause-goes
@@ -95,4 +101,4 @@ returns-clause-goes c =
     let open_hits_are = open_few (receipts_of old.ahead.receipts) old.ahead.pass old.replay.monitor.core.picks bits in
     let some : c.hits_in.result ≤ rows = omega (arith, hits, hits_are c, each, wide) in
     let most : c.hits_without_receipt.result ≤ rows = omega (arith, open_hits_are, open_are c, each, wide) in
-    check_goes rows old _ (record { version = refl; next = refl; receipts = refl; space = c.check.ensures.space }) refl small c.check.ensures.ticks c.check.ensures.drawn refl refl c.hits_in.result some refl c.hits_without_receipt.result most refl
+    check_goes rows bits old _ (record { version = refl; next = refl; receipts = refl; space = c.check.ensures.space; kept = kept_is c }) refl small c.check.ensures.ticks c.check.ensures.drawn refl refl c.hits_in.result some refl c.hits_without_receipt.result most refl

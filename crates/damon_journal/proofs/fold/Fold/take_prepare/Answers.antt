@@ -9,10 +9,10 @@ use Rattle.damon_journal.proofs.fold.Fold.take_prepare.Goals as goal
 
 -- the pass that is prepared, and all that stays
 abbrev after : (c : goal.After-self-1) → Fold
-after c = record c.args.self.now { replay = c.prepare.new.self; counts = record c.args.self.now.counts { passes = c.args.self.now.counts.passes + 1 }; ahead = c.prepare-2.new.self }
+after c = record c.args.self.now { replay = c.prepare.new.self; counts = record c.args.self.now.counts { passes = c.args.self.now.counts.passes + 1 }; ahead = c.prepare-2.new.self; kept = c.add_other.new.self }
 
-same_rest : (c : goal.After-self-1) → SameRest c.args.self.now (after c)
-same_rest c = record { version = refl; next = refl; receipts = c.prepare-2.ensures.receipts; space = c.prepare.ensures.space }
+same_rest : (c : goal.After-self-1) → SameRest [] c.args.self.now (after c)
+same_rest c = record { version = refl; next = refl; receipts = c.prepare-2.ensures.receipts; space = c.prepare.ensures.space; kept = c.add_other.ensures }
 
 prepared : (c : goal.After-self-1) → IsPrepared (c.args.self.now.replay.monitor.core.ticks + 1) c.prepare.new.self.monitor.core.picks c.args.self.now.ahead c.prepare-2.new.self
 prepared c =

@@ -15,11 +15,11 @@ returns-then-not-wants_void-clause-taken c = λ v j h.
 pub returns-clause-taken : goal.returns-clause-taken
 returns-clause-taken c = λ v j h.
     let old : Fold = c.args.self.now in
-    let new : Fold = record old { replay = c.void.new.self } in
+    let new : Fold = record old { replay = c.void.new.self; kept = c.add_other.new.self } in
     let pass : ℕ = old.replay.monitor.core.ticks + 1 in
     let said = said_void v j old.replay c.args.line.now h.replay c.requires.void ∙ ap (λ b. if b then Some (Void pass, []) else None) (sym c.wants_void.ensures ∙ c.if-not-wants_void.false) in
     let last = c.void.ensures.ended ∙ (c.void.ensures.ticks ∙ ap (λ (ph : Phase). last_pass ph old.replay.monitor.core.ticks) (sym c.requires.void)) in
-    ((Void pass, []), said, void_stands v j pass old new h (c.void.ensures.entry v j h.replay) (record { version = refl; next = refl; receipts = refl; space = c.void.ensures.space }) refl last refl refl)
+    ((Void pass, []), said, void_stands v j pass old new h (c.void.ensures.entry v j h.replay) (record { version = refl; next = refl; receipts = refl; space = c.void.ensures.space; kept = c.add_other.ensures }) refl last refl refl)
 
 pub returns-clause-goes : goal.returns-clause-goes
-returns-clause-goes c = quiet_goes c.args.self.now c.void.new.self (omega (arith, c.void.ensures.ticks)) (omega (arith, c.void.ensures.drawn)) c.void.ensures.space
+returns-clause-goes c = quiet_goes c.args.self.now c.void.new.self c.add_other.new.self c.add_other.ensures (omega (arith, c.void.ensures.ticks)) (omega (arith, c.void.ensures.drawn)) c.void.ensures.space

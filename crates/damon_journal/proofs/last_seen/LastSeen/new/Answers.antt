@@ -1,4 +1,4 @@
-use Rattle.std.proofs.Common.{◌≡◌, ℕ, List, [], map, sym, ap, subst, ◌∙◌}
+use Rattle.std.proofs.Common.{ℕ, List, [], map, sym, subst}
 use Rattle.damon_journal.specs.Ahead.{KeepsLast, last_in}
 use Rattle.damon_journal.proofs.LastSeen.{keeps_none}
 use Rattle.damon_journal.proofs.last_seen.LastSeen.new.Goals as goal

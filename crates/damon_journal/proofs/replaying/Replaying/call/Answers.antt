@@ -3,8 +3,8 @@ use Rattle.damon_core.specs.Stands.{last_pass}
 use Rattle.damon_control.specs.LiveView.{call_value}
 use Rattle.damon_journal.specs.Phases.{IsFree}
 use Rattle.damon_journal.specs.Replay.{call_answer}
-use Rattle.damon_journal.specs.Replaying.{CarriesCall, ReplayingView}
-use Rattle.damon_journal.proofs.Carrying.{carries_call}
+use Rattle.damon_journal.specs.Replaying.{CarriesCall, CarriesKnown, ReplayingView}
+use Rattle.damon_journal.proofs.Carrying.{carries_call, carries_known}
 use Rattle.damon_journal.proofs.replaying.Replaying.call.Goals as goal
 
 pub returns : goal.returns
@@ -15,7 +15,8 @@ returns c =
     let call = call_value c.args.call.now in
     let free = subst (λ (r : ReplayingView). IsFree r.monitor.core.phase) (sym c.self.view_is) c.requires in
     record {
-      entry = subst (λ (o : ReplayingView). CarriesCall o new c.args.controller call c.make_call.result) c.self.view_is (carries_call old new c.args.controller call c.make_call.result c.make_call.ensures.event refl refl free c.make_call.ensures.answer);
+      entry = subst (λ (o : ReplayingView). CarriesCall o new call c.make_call.result) c.self.view_is (carries_call old new call c.make_call.result c.make_call.ensures.event refl refl free c.make_call.ensures.answer);
+      known = subst (λ (o : ReplayingView). CarriesKnown o new call c.make_call.result) c.self.view_is (carries_known c.journals_grow.ensures.entry old new call c.make_call.result c.make_call.ensures.event refl refl free c.make_call.ensures.answer);
       answer = c.make_call.ensures.answer ∙ ap (λ (r : ReplayingView). call_answer call r.monitor.core) c.self.view_is;
       ticks = c.make_call.ensures.ticks ∙ ap (λ (r : ReplayingView). r.monitor.core.ticks) c.self.view_is;
       drawn = ap (λ (r : ReplayingView). r.drawn) c.self.view_is;

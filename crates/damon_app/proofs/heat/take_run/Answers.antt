@@ -1,0 +1,46 @@
+use Rattle.std.proofs.Common.{◌≡◌, Err, ap, refl, sym, ◌∙◌, subst}
+use Rattle.std.proofs.lemmas.Result.{err_from_is_err_and}
+use Rattle.text_io.specs.declared.input.TheConstants.{INPUT_LIMIT}
+use Rattle.damon_journal.specs.Reading.{read_journal}
+use Rattle.damon_app.specs.declared.request.Request.TheVariants.{Heat}
+use Rattle.damon_app.specs.Heating.{IsRun}
+use Rattle.damon_app.specs.StatusOf.{status_of_journal}
+use Rattle.damon_app.proofs.Answering.{not_read, not_verified}
+use Rattle.damon_app.proofs.heat.take_run.Goals as goal
+
+pub returns-in_err-bytes-clause-refused : goal.returns-in_err-bytes-clause-refused
+returns-in_err-bytes-clause-refused g c =
+    let p = err_from_is_err_and c.from_residual.result c.from_residual.ensures.1 in
+    let failed = c.in_err-bytes.ensures in
+    rw (p.1, p.2) (λ columns sink. not_read INPUT_LIMIT (Heat columns)
+    (record { bytes = g.S.Source.left c.args.source.now; faults = g.S.Source.faults c.args.source.now })
+    (record { bytes = g.S.Source.left c.read_all.new.source; faults = g.S.Source.faults c.read_all.new.source })
+    sink sink (Unit {0}) c.in_err-bytes.field-0.0 tt
+    (λ e. failed.too_long (ap (λ x. Err x) e)) (λ e. failed.within (ap (λ x. Err x) e)) (λ e. failed.cause (ap (λ x. Err x) e)))
+
+pub returns-in_err-replayer-clause-refused : goal.returns-in_err-replayer-clause-refused
+returns-in_err-replayer-clause-refused g c =
+    let p = err_from_is_err_and c.from_residual-in_err-replayer.result c.from_residual-in_err-replayer.ensures.1 in
+    let read = c.in_ok-bytes.ensures in
+    rw (p.1, p.2) (λ columns sink. not_verified INPUT_LIMIT (Heat columns)
+    (record { bytes = g.S.Source.left c.args.source.now; faults = g.S.Source.faults c.args.source.now })
+    (record { bytes = g.S.Source.left c.read_all.new.source; faults = g.S.Source.faults c.read_all.new.source })
+    sink sink (Unit {0}) c.in_ok-bytes.bytes.items read.all read.end read.limit c.in_err-replayer.field-0.0 tt
+    (λ n e. ap status_of_journal (subst (λ bs. read_journal bs ≡ Err n) c.deref.ensures.value (rw e at c.in_err-replayer.ensures.line))))
+
+pub returns-clause-taken : goal.returns-clause-taken
+returns-clause-taken g c =
+    let read = c.in_ok-bytes.ensures in
+    let run = c.in_ok-replayer.ensures.lawful in
+    record {
+      said = run.said;
+      leads = run.leads;
+      taken = λ columns. record {
+        bytes = c.in_ok-bytes.bytes.items;
+        all = read.all;
+        end = read.end;
+        few = read.limit;
+        wanted = (run.said, subst (λ bs. IsRun bs run.said) c.deref.ensures.value (record { read = run.read; lawful = run.lawful; woven = run.woven }), refl);
+        status = ap (λ bs. status_of_journal (read_journal bs)) (sym c.deref.ensures.value) ∙ ap status_of_journal run.read;
+      };
+    }

@@ -1,0 +1,49 @@
+-- What `heat` writes.
+use Rattle.std.specs.Prelude.{◌≡◌, ℕ, List, ◌++◌, flat_map, map, Ok, Option}
+use Rattle.std.specs.Io.KnownBytes.{Appends}
+use Rattle.damon_core.specs.State.{State}
+use Rattle.damon_journal.specs.Aggregated.{aggregated}
+use Rattle.damon_journal.specs.Place.{JournalRead}
+use Rattle.damon_journal.specs.Reading.{read_journal}
+use Rattle.damon_journal.specs.Rules.{IsTextOfLawful}
+use Rattle.damon_journal.specs.Woven.{WovenRuns}
+use Rattle.heat_report.specs.Freq.{working_set}
+use Rattle.heat_report.specs.Text.{last_line, report_text}
+use Rattle.text_io.specs.Taken.{WritesPart}
+use Rattle.damon_app.specs.declared.request.Columns.{Columns}
+use Rattle.damon_app.specs.declared.request.Columns.TheVariants.{Eight, Sixteen, SixtyFour}
+
+-- how many columns each target has
+abbrev pub columns_in : Columns → ℕ
+columns_in Eight = 8
+columns_in Sixteen = 16
+columns_in SixtyFour = 64
+
+-- what is written of a state directly after an aggregation: the tables of its report
+abbrev pub tables_of : ℕ → State → List ℕ
+tables_of n s = report_text n s.core.ticks s.core.report.rows s.core.space s.core.attrs.aggr
+
+-- what is written of such states one after another: their tables, and at last the spread of their working sets
+abbrev pub tables_text : ℕ → List State → List ℕ
+tables_text n states = flat_map (tables_of n) states ++ last_line (map (λ s. working_set s.core.report.rows) states)
+
+-- The bytes are the text of a lawful journal, with receipts, that is read as this. Woven together the journal and the receipts are
+-- one run of the monitor.
+pub record IsRun (bytes : List ℕ) (said : JournalRead) : Type 0 where
+  pub read : read_journal bytes ≡ Ok said
+  pub lawful : IsTextOfLawful bytes said
+  pub woven : WovenRuns said.live said.journal said.receipts
+
+-- the heat tables of a journal: those of the states of its replay directly after each aggregation
+abbrev pub heat_text : Columns → JournalRead → List ℕ
+heat_text columns said = tables_text (columns_in columns) (aggregated said.live said.journal)
+
+-- The bytes are the text of a lawful journal, and the sink gained exactly its heat tables.
+pub record Heats (columns : Columns) (bytes : List ℕ) (old new : Option (List ℕ)) : Type 0 where
+  pub said : JournalRead
+  pub run : IsRun bytes said
+  pub tables : Appends old new (heat_text columns said)
+
+-- the bytes are the text of a lawful journal, and the sink gained a prefix of its heat tables
+abbrev pub HeatsPrefix : Columns → List ℕ → Option (List ℕ) → Option (List ℕ) → Type 0
+HeatsPrefix columns bytes old new = (said : JournalRead) × IsRun bytes said × WritesPart old new (heat_text columns said)

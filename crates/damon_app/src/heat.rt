@@ -1,0 +1,134 @@
+// The heat tables of a journal.
+ghost use Rattle.std.specs.Prelude.{◌≡◌, ℕ, ◌≤◌, ◌++◌, ◌∷◌, [], List, IfErr, IfOk, IsErrOf, OnErr, OnOk};
+ghost use Rattle.std.specs.Io.KnownBytes.{Appends};
+ghost use Rattle.damon_types.specs.Causes.{Rose};
+ghost use Rattle.damon_core.specs.Reached.{Reached};
+ghost use Rattle.damon_core.specs.Stands.{Stands};
+ghost use Rattle.damon_core.specs.State.{State};
+ghost use Rattle.damon_journal.specs.Replayer.{Leads};
+ghost use Rattle.damon_journal.specs.Status.{EndsRun, status_of};
+ghost use Rattle.heat_report.specs.Freq.{working_set};
+ghost use Rattle.text_io.specs.Taken.{WritesPart};
+ghost use Rattle.damon_app.specs.Answers.{IsOutcome, IsRunRefused, IsRunTaken};
+ghost use Rattle.damon_app.specs.Heating.{columns_in, tables_of, tables_text};
+ghost use Rattle.damon_app.specs.declared.request.Request.TheVariants.{Heat as heat};
+
+use crate::request::Columns;
+use damon_core::Monitor;
+use damon_journal::{Replayer, Status};
+use damon_types::{Sink, Source};
+use heat_report::{Sizes, tiled_rows_lie_in, working_set, write_last, write_report};
+use std::alloc::{AllocError, Global};
+use text_io::{INPUT_LIMIT, read_all, write_all};
+
+// A piece is handed over once it has this many bytes.
+const PIECE: usize = 65_536;
+
+// Reads the text of a journal, checks it, and hands its heat tables to the sink a piece at a time.
+pub(crate) fn show_heat<S: Source, K: Sink>(
+    alloc: Global,
+    columns: Columns,
+    source: &mut S,
+    sink: &mut K,
+) -> Result<(), Status>
+    ensures { IsOutcome INPUT_LIMIT (heat columns)
+        (record { bytes = S.left source.old; faults = S.faults source.old })
+        (record { bytes = S.left source.new; faults = S.faults source.new })
+        (record { bytes = K.taken sink.old; faults = K.faults sink.old })
+        (record { bytes = K.taken sink.new; faults = K.faults sink.new })
+        (sink.new ≡ sink.old) (status_of result) }
+{
+    let replayer = take_run(alloc, source)?;
+    write_tables_in(alloc, columns, replayer, sink)?;
+    Ok(())
+}
+
+// Reads a source to its end, and returns the replay of the lawful journal of which its bytes are the text.
+fn take_run<S: Source>(alloc: Global, source: &mut S) -> Result<Replayer, Status>
+    ensures taken { IfOk result (IsRunTaken INPUT_LIMIT
+        (record { bytes = S.left source.old; faults = S.faults source.old })
+        (record { bytes = S.left source.new; faults = S.faults source.new })) }
+    ensures refused { IfErr result (IsRunRefused INPUT_LIMIT
+        (record { bytes = S.left source.old; faults = S.faults source.old })
+        (record { bytes = S.left source.new; faults = S.faults source.new })) }
+{
+    let bytes = read_all(alloc, source)?;
+    let replayer = Replayer::new(alloc, &bytes)?;
+    Ok(replayer)
+}
+
+// Hands the tables of a replay with this many columns to the sink.
+fn write_tables_in<K: Sink>(
+    alloc: Global,
+    columns: Columns,
+    replayer: Replayer,
+    sink: &mut K,
+) -> Result<(), Status>
+    ensures all { OnOk result ((states : List State) (last : State) → Leads states last replayer
+        → Appends (K.taken sink.old) (K.taken sink.new) (tables_text (columns_in columns) states)) }
+    ensures answers { IfErr result EndsRun }
+    ensures cause { IsErrOf result Status.WriteFault →
+        Rose (K.faults sink.old) (K.faults sink.new) }
+    ensures part { (states : List State) (last : State) → Leads states last replayer
+        → WritesPart (K.taken sink.old) (K.taken sink.new) (tables_text (columns_in columns) states) }
+{
+    match columns {
+        Columns::Eight => write_tables::<8, K>(alloc, replayer, sink),
+        Columns::Sixteen => write_tables::<16, K>(alloc, replayer, sink),
+        Columns::SixtyFour => write_tables::<64, K>(alloc, replayer, sink),
+    }
+}
+
+// The same for a number of columns that is known when the program is compiled.
+fn write_tables<const N: usize, K: Sink>(
+    alloc: Global,
+    run: Replayer,
+    sink: &mut K,
+) -> Result<(), Status>
+    requires some { 1 ≤ N }
+    requires few { N ≤ 4096 }
+    ensures all { OnOk result ((states : List State) (last : State) → Leads states last run
+        → Appends (K.taken sink.old) (K.taken sink.new) (tables_text N states)) }
+    ensures answers { IfErr result EndsRun }
+    ensures cause { IsErrOf result Status.WriteFault →
+        Rose (K.faults sink.old) (K.faults sink.new) }
+    ensures part { (states : List State) (last : State) → Leads states last run
+        → WritesPart (K.taken sink.old) (K.taken sink.new) (tables_text N states) }
+{
+    let mut replayer = run;
+    let mut sizes = Sizes::new(alloc);
+    let mut piece = Vec::new(alloc);
+    'reports: while let Some(tick) = replayer.next() {
+        write_one::<N>(tick, replayer.monitor(), &mut sizes, &mut piece)?;
+        if piece.len() >= PIECE {
+            write_all(sink, &piece)?;
+            piece.clear();
+        }
+    }
+    write_last(&mut sizes, &mut piece)?;
+    write_all(sink, &piece)?;
+    Ok(())
+}
+
+// Appends the tables of the report of a monitor directly after an aggregation, and its working set.
+fn write_one<const N: usize>(
+    tick: u64,
+    monitor: &Monitor,
+    sizes: &mut Sizes,
+    out: &mut Vec<u8>,
+) -> Result<(), AllocError>
+    requires some { 1 ≤ N }
+    requires few { N ≤ 4096 }
+    requires state { (s : State) × Reached s × Stands monitor.now s }
+    ensures tables { OnOk result ((s : State) → Stands monitor.now s → tick ≡ s.core.ticks
+        → out.new.items ≡ out.old.items ++ tables_of N s) }
+    ensures sizes { OnOk result ((s : State) → Stands monitor.now s
+        → sizes.new ≡ sizes.old ++ working_set s.core.report.rows ∷ []) }
+{
+    // For their clauses alone: the rows of a report tile ranges of the space.
+    damon_core::reported_rows_tile();
+    tiled_rows_lie_in();
+    let rows = &monitor.report().rows;
+    write_report::<N>(tick, rows, monitor.space(), monitor.attrs().aggr, out)?;
+    sizes.push(working_set(rows))
+}

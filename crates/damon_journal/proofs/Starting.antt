@@ -1,0 +1,73 @@
+-- A journal of which nothing is carried out yet.
+use Rattle.std.proofs.Common.{◌≡◌, ℕ, ◌≤◌, List, refl, sym, ap, ◌∙◌, subst, arith}
+use Rattle.live_commit.specs.Setup.{SetupValue}
+use Rattle.damon_core.specs.Reached.{CanOpen}
+use Rattle.damon_control.specs.declared.reader.TheConstants.{MAX_BYTES}
+use Rattle.damon_control.specs.Live.{LiveValue}
+use Rattle.damon_journal.specs.declared.entry.Receipt.{Receipt}
+use Rattle.damon_journal.specs.declared.kept.Kept.{Kept}
+use Rattle.damon_journal.specs.declared.kept.Keeping.TheVariants.{Everything}
+use Rattle.damon_journal.specs.declared.lawful.Lawful.{Lawful}
+use Rattle.damon_journal.specs.Aggregated.{aggregated, aggregated_from}
+use Rattle.damon_journal.specs.Kept.{IsKept, IsOfJournal}
+use Rattle.damon_journal.specs.Lawful.{IsLawful}
+use Rattle.damon_journal.specs.Reading.{read_journal}
+use Rattle.damon_journal.specs.Replay.{EntriesFit, IsJournalOf, JournalValue, begun, replay, replay_from}
+use Rattle.damon_journal.specs.Replayer.{IsOnWay, Leads, ReplayerView, ReadsRun, replayer_of}
+use Rattle.damon_journal.specs.Replaying.{IsReplayOf, ReplayingView}
+use Rattle.damon_journal.specs.Room.{nothing_said}
+use Rattle.damon_journal.specs.Rules.{ReadsOnlyLawful}
+use Rattle.damon_journal.specs.Verified.{IsReadAs}
+use Rattle.damon_journal.specs.Woven.{WovenRuns}
+
+-- the state before the first entry
+pub record IsNew (k : Kept) (r : ReplayingView) : Type 0 where
+  pub keeping : k.keeping ≡ Everything
+  pub few : k.entries ≤ MAX_BYTES
+  pub begins : (v : LiveValue) (j : JournalValue) → IsKept v j k → IsReplayOf v nothing_said r
+  pub ticks : r.monitor.core.ticks ≡ 0
+  pub drawn : r.drawn ≡ 0
+
+pub starts : (k : Kept) (r : ReplayingView) → IsNew k r → (v : LiveValue) (j : JournalValue) → IsJournalOf v j → IsKept v j k
+    → Leads (aggregated v j) (replay v j).state (replayer_of r k.bits.items k.calls.items k.entries 0 0 0)
+starts k r new v j is kept =
+    let bits = sym (kept.bits_are new.keeping) in
+    record {
+      live = v;
+      journal = nothing_said;
+      entries = j.entries;
+      carried_out = new.begins v j kept;
+      fit = subst (λ bs. EntriesFit v (begun v bs) j.entries) bits is.fit;
+      done = refl;
+      left = omega (arith, kept.entries);
+      calls = kept.calls_are new.keeping;
+      through = ap (λ bs. aggregated_from v (begun v bs) j.entries) bits;
+      to = ap (λ bs. (replay_from v (begun v bs) j.entries).state) bits;
+      few = omega (arith, new.few);
+      ticks = omega (arith, new.ticks);
+      drawn = omega (arith, new.drawn);
+    }
+
+pub starts_on_way : (k : Kept) (r : ReplayingView) → IsNew k r → IsOfJournal k → IsOnWay (replayer_of r k.bits.items k.calls.items k.entries 0 0 0)
+starts_on_way k r new of = (aggregated of.0 of.1, (replay of.0 of.1).state, starts k r new of.0 of.1 of.2 of.3)
+
+-- what was read is a lawful journal, so it is of a script
+pub of_lawful : ReadsOnlyLawful → (text : List ℕ) (counts : Lawful) (k : Kept) → IsReadAs (read_journal text) counts k → IsOfJournal k
+of_lawful law text counts k has = (has.read.live, has.read.journal, (law text has.read has.is).lawful.journal, has.kept_is)
+
+-- and is carried out from its start
+pub reads_run : ReadsOnlyLawful → ((v : LiveValue) (j : JournalValue) (all : List (List Receipt)) → CanOpen v.setup → IsLawful v j all → WovenRuns v j all)
+    → (text : List ℕ) (counts : Lawful) (k : Kept) (r : ReplayerView) → IsReadAs (read_journal text) counts k
+    → ((v : LiveValue) (j : JournalValue) → IsJournalOf v j → IsKept v j k → Leads (aggregated v j) (replay v j).state r) → r.monitor.core.space ≡ k.setup.space → ReadsRun text r
+reads_run law weaves text counts k r has leads space =
+    let said = has.read in
+    let lawful = law text said has.is in
+    record {
+      said = said;
+      read = has.is;
+      lawful = lawful;
+      opens = has.opens;
+      woven = weaves said.live said.journal said.receipts has.opens lawful.lawful;
+      leads = leads said.live said.journal lawful.lawful.journal has.kept_is;
+      space = space ∙ sym (ap (λ (v : SetupValue). v.space) has.kept_is.setup);
+    }
