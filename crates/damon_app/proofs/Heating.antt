@@ -1,21 +1,36 @@
 -- Heat tables that are handed over piece by piece.
-use Rattle.std.proofs.Common.{◌≡◌, ℕ, List, [], ◌∷◌, ◌++◌, Option, map, refl, sym, ap, ◌∙◌, subst, append-nil, append_assoc}
+use Rattle.std.proofs.Common.{arith, ◌≤◌, ◌≡◌, ℕ, List, [], ◌∷◌, ◌++◌, Option, map, refl, sym, ap, ◌∙◌, subst, append-nil, append_assoc}
 use Rattle.std.proofs.KnownBytes.{Appends-nil, Appends-trans}
 use Rattle.std.proofs.lemmas.List.{map-append}
 use Rattle.std.proofs.lemmas.Grind.{flat_map-append}
 use Rattle.std.specs.Prelude.{flat_map}
 use Rattle.std.specs.Io.KnownBytes.{Appends}
+use Rattle.damon_types.specs.Causes.{Rose}
 use Rattle.damon_core.specs.State.{State}
-use Rattle.damon_journal.specs.Replayer.{Leads, ReachesNext, ReplayerView}
+use Rattle.damon_journal.specs.Replayer.{Leads, ReplayerView}
 use Rattle.heat_report.specs.Freq.{working_set}
 use Rattle.heat_report.specs.Text.{last_line}
 use Rattle.text_io.specs.Taken.{WritesPart}
-use Rattle.damon_app.specs.Heating.{tables_of, tables_text}
+use Rattle.damon_app.specs.Heating.{TellsNext, tables_of, tables_text}
 use Rattle.damon_app.proofs.Known.{WritesPart-after, WritesPart-longer, WritesPart-whole}
+
+-- a count that rose after it did not fall has risen
+pub Rose-before : {a b c : ℕ} → a ≤ b → Rose b c → Rose a c
+Rose-before {a} {b} {c} later rose = omega (arith, later, rose)
 
 -- the working set of a state's report
 abbrev pub size_of : State → ℕ
 size_of s = working_set s.core.report.rows
+
+-- a part of the piece with the tables of the first state is one of the piece with all tables
+pub first_part : (n : ℕ) (before piece : List ℕ) (state : State) (rest states : List State) → states ≡ state ∷ rest → piece ≡ before ++ tables_of n state → (old new : Option (List ℕ)) → WritesPart old new piece → WritesPart old new (before ++ flat_map (tables_of n) states)
+first_part n before piece state rest states first tables old new part =
+    let left = flat_map (tables_of n) rest in
+    let text : before ++ flat_map (tables_of n) states ≡ piece ++ left =
+    ap (λ l. before ++ flat_map (tables_of n) l) first
+    ∙ sym (append_assoc before (tables_of n state) left)
+    ∙ ap (λ t. t ++ left) (sym tables) in
+    subst (WritesPart old new) (sym text) (WritesPart-longer old new piece left part)
 
 module _ (n : ℕ) (states : List State) (last : State) where
   -- Of the states that a replay leads through, these are done: what the sink took, and then the piece, are their tables, and the
@@ -30,47 +45,49 @@ module _ (n : ℕ) (states : List State) (last : State) where
     pub tables : written ++ piece ≡ flat_map (tables_of n) done
     pub sizes_are : sizes ≡ map size_of done
 
-  module _ (r : ReplayerView) (old : Option (List ℕ)) where
-    -- at first none is done
-    pub told_first : Leads states last r → AreTold r [] [] old old
-    told_first leads = record { done = []; rest = states; are = refl; leads = leads; written = []; taken = Appends-nil old; tables = refl; sizes_are = refl }
+  -- at first none is done
+  pub told_first : (r : ReplayerView) (sizes piece : List ℕ) (old : Option (List ℕ)) → sizes ≡ [] → piece ≡ [] → Leads states last r → AreTold r sizes piece old old
+  told_first r sizes piece old none empty leads = record { done = []; rest = states; are = refl; leads = leads; written = []; taken = Appends-nil old; tables = empty; sizes_are = none }
 
   module _ (r : ReplayerView) (sizes piece : List ℕ) (old new : Option (List ℕ)) (told : AreTold r sizes piece old new) where
-    -- the tables of one more state are in the piece
-    pub told_next : (r' : ReplayerView) (tick : ℕ) (sizes' piece' : List ℕ) (on : ReachesNext tick told.rest last r') → piece' ≡ piece ++ tables_of n on.state → sizes' ≡ sizes ++ size_of on.state ∷ [] → AreTold r' sizes' piece' old new
-    told_next r' tick sizes' piece' on more size =
+    -- one more state was told
+    pub told_next : (r' : ReplayerView) (sizes' piece' : List ℕ) (new' : Option (List ℕ)) → TellsNext n (record { replay = r; sizes = sizes; piece = piece; taken = new }) (record { replay = r'; sizes = sizes'; piece = piece'; taken = new' }) → AreTold r' sizes' piece' old new'
+    told_next r' sizes' piece' new' next =
+        let on = next told.rest last told.leads in
         let one : List State = on.state ∷ [] in
+        let (front, all, left) = on.handed in
         record {
           done = told.done ++ one;
           rest = on.rest;
           are = told.are ∙ ap (λ l. told.done ++ l) on.first ∙ sym (append_assoc told.done one on.rest);
           leads = on.leads;
-          written = told.written;
-          taken = told.taken;
+          written = told.written ++ front;
+          taken = Appends-trans old new new' told.written front told.taken all;
           tables =
-              ap (λ t. told.written ++ t) more
+              append_assoc told.written front piece'
+              ∙ ap (λ t. told.written ++ t) left
               ∙ sym (append_assoc told.written piece (tables_of n on.state))
               ∙ ap (λ t. t ++ tables_of n on.state) told.tables
               ∙ ap (λ t. flat_map (tables_of n) told.done ++ t) (sym (append-nil (tables_of n on.state)))
               ∙ sym (flat_map-append (tables_of n) told.done one);
-          sizes_are = size ∙ ap (λ l. l ++ size_of on.state ∷ []) told.sizes_are ∙ sym (map-append size_of told.done one);
+          sizes_are = on.sizes ∙ ap (λ l. l ++ size_of on.state ∷ []) told.sizes_are ∙ sym (map-append size_of told.done one);
         }
 
-    -- the piece was handed over
-    pub told_handed : (piece' : List ℕ) (new' : Option (List ℕ)) → Appends new new' piece → piece' ≡ [] → AreTold r sizes piece' old new'
-    told_handed piece' new' all empty = record {
+    -- nothing has changed
+    pub told_same : (sizes' piece' : List ℕ) (new' : Option (List ℕ)) → sizes' ≡ sizes → piece' ≡ piece → new' ≡ new → AreTold r sizes' piece' old new'
+    told_same sizes' piece' new' same_sizes same_piece same = record {
       done = told.done;
       rest = told.rest;
       are = told.are;
       leads = told.leads;
-      written = told.written ++ piece;
-      taken = Appends-trans old new new' told.written piece told.taken all;
-      tables = ap (λ t. (told.written ++ piece) ++ t) empty ∙ append-nil (told.written ++ piece) ∙ told.tables;
-      sizes_are = told.sizes_are;
+      written = told.written;
+      taken = subst (λ t. Appends old t told.written) (sym same) told.taken;
+      tables = ap (λ t. told.written ++ t) same_piece ∙ told.tables;
+      sizes_are = same_sizes ∙ told.sizes_are;
     }
 
     -- the tables of all states are those that are done, and more
-    more_tables : List ℕ
+    abbrev more_tables : List ℕ
     more_tables = flat_map (tables_of n) told.rest ++ last_line (map size_of states)
 
     all_tables : tables_text n states ≡ (told.written ++ piece) ++ more_tables
@@ -79,9 +96,16 @@ module _ (n : ℕ) (states : List State) (last : State) where
         ∙ ap (λ t. t ++ last_line (map size_of states)) (flat_map-append (tables_of n) told.done told.rest ∙ ap (λ t. t ++ flat_map (tables_of n) told.rest) (sym told.tables))
         ∙ append_assoc (told.written ++ piece) (flat_map (tables_of n) told.rest) (last_line (map size_of states))
 
-    -- a part of the piece was handed over, after the pieces before it
-    pub told_part : (new' : Option (List ℕ)) → WritesPart new new' piece → WritesPart old new' (tables_text n states)
-    told_part new' part = subst (WritesPart old new') (sym all_tables) (WritesPart-longer old new' (told.written ++ piece) more_tables (WritesPart-after old new new' told.written piece told.taken part))
+    -- a part of the piece and of the tables that follow it was handed over
+    pub told_part : (new' : Option (List ℕ)) → WritesPart new new' (piece ++ flat_map (tables_of n) told.rest) → WritesPart old new' (tables_text n states)
+    told_part new' part =
+        let left = flat_map (tables_of n) told.rest in
+        let later = last_line (map size_of states) in
+        let text : tables_text n states ≡ (told.written ++ (piece ++ left)) ++ later =
+        all_tables
+        ∙ sym (append_assoc (told.written ++ piece) left later)
+        ∙ ap (λ t. t ++ later) (append_assoc told.written piece left) in
+        subst (WritesPart old new') (sym text) (WritesPart-longer old new' (told.written ++ (piece ++ left)) later (WritesPart-after old new new' told.written (piece ++ left) told.taken part))
 
     -- nothing of the piece was
     pub told_kept : WritesPart old new (tables_text n states)

@@ -1,10 +1,11 @@
 -- What `heat` writes.
-use Rattle.std.specs.Prelude.{◌≡◌, ℕ, List, ◌++◌, flat_map, map, Ok, Option}
+use Rattle.std.specs.Prelude.{◌≡◌, ℕ, List, [], ◌∷◌, ◌++◌, flat_map, map, Ok, Option}
 use Rattle.std.specs.Io.KnownBytes.{Appends}
 use Rattle.damon_core.specs.State.{State}
 use Rattle.damon_journal.specs.Aggregated.{aggregated}
 use Rattle.damon_journal.specs.Place.{JournalRead}
 use Rattle.damon_journal.specs.Reading.{read_journal}
+use Rattle.damon_journal.specs.Replayer.{Leads, ReplayerView}
 use Rattle.damon_journal.specs.Rules.{IsTextOfLawful}
 use Rattle.damon_journal.specs.Woven.{WovenRuns}
 use Rattle.heat_report.specs.Freq.{working_set}
@@ -26,6 +27,32 @@ tables_of n s = report_text n s.core.ticks s.core.report.rows s.core.space s.cor
 -- what is written of such states one after another: their tables, and at last the spread of their working sets
 abbrev pub tables_text : ℕ → List State → List ℕ
 tables_text n states = flat_map (tables_of n) states ++ last_line (map (λ s. working_set s.core.report.rows) states)
+
+-- the sink gained the front of a piece, of which the rest is left
+abbrev pub HandsOver : (old new : Option (List ℕ)) → (piece rest : List ℕ) → Type 0
+HandsOver old new piece rest = (front : List ℕ) × Appends old new front × (front ++ rest ≡ piece)
+
+-- A replay that is told: what is left of it, the working sets of the reports so far, the text that is not handed over yet, and what
+-- the sink took.
+pub record Telling : Type 0 where
+  pub replay : ReplayerView
+  pub sizes : List ℕ
+  pub piece : List ℕ
+  pub taken : Option (List ℕ)
+
+-- the first of the states to come was told: its tables followed the piece, of which the front may have been handed over, and its
+-- working set the others
+pub record IsTold (n : ℕ) (old new : Telling) (states : List State) (last : State) : Type 0 where
+  pub state : State
+  pub rest : List State
+  pub first : states ≡ state ∷ rest
+  pub leads : Leads rest last new.replay
+  pub sizes : new.sizes ≡ old.sizes ++ working_set state.core.report.rows ∷ []
+  pub handed : HandsOver old.taken new.taken (old.piece ++ tables_of n state) new.piece
+
+-- whatever states the replay leads through, the first was told
+abbrev pub TellsNext : ℕ → Telling → Telling → Type 0
+TellsNext n old new = (states : List State) (last : State) → Leads states last old.replay → IsTold n old new states last
 
 -- The bytes are the text of a lawful journal, with receipts, that is read as this. Woven together the journal and the receipts are
 -- one run of the monitor.

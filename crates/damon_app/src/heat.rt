@@ -1,22 +1,21 @@
 // The heat tables of a journal.
-ghost use Rattle.std.specs.Prelude.{◌≡◌, ℕ, ◌≤◌, ◌++◌, ◌∷◌, [], List, IfErr, IfOk, IsErrOf, OnErr, OnOk};
+ghost use Rattle.std.specs.Prelude.{◌≡◌, ℕ, ◌≤◌, ◌<◌, ◌++◌, ◌∷◌, [], List, Ok, true, false, flat_map, IfErr, IfOk, IsErrOf, OnErr, OnOk};
 ghost use Rattle.std.specs.Io.KnownBytes.{Appends};
-ghost use Rattle.damon_types.specs.Causes.{Rose};
-ghost use Rattle.damon_core.specs.Reached.{Reached};
+ghost use Rattle.damon_types.specs.Causes.{HasCause, Rose};
 ghost use Rattle.damon_core.specs.Stands.{Stands};
 ghost use Rattle.damon_core.specs.State.{State};
-ghost use Rattle.damon_journal.specs.Replayer.{Leads};
+ghost use Rattle.damon_journal.specs.Replayer.{Leads, StandsForReached};
 ghost use Rattle.damon_journal.specs.Status.{EndsRun, status_of};
 ghost use Rattle.heat_report.specs.Freq.{working_set};
 ghost use Rattle.text_io.specs.Taken.{WritesPart};
 ghost use Rattle.damon_app.specs.Answers.{IsOutcome, IsRunRefused, IsRunTaken};
-ghost use Rattle.damon_app.specs.Heating.{columns_in, tables_of, tables_text};
+ghost use Rattle.damon_app.specs.Heating.{HandsOver, TellsNext, columns_in, tables_of, tables_text};
 ghost use Rattle.damon_app.specs.declared.request.Request.TheVariants.{Heat as heat};
 
 use crate::request::Columns;
 use damon_core::Monitor;
 use damon_journal::{Replayer, Status};
-use damon_types::{Sink, Source};
+use damon_types::{Failed, Sink, Source};
 use heat_report::{Sizes, tiled_rows_lie_in, working_set, write_last, write_report};
 use std::alloc::{AllocError, Global};
 use text_io::{INPUT_LIMIT, read_all, write_all};
@@ -38,8 +37,8 @@ pub(crate) fn show_heat<S: Source, K: Sink>(
         (record { bytes = K.taken sink.new; faults = K.faults sink.new })
         (sink.new ≡ sink.old) (status_of result) }
 {
-    let replayer = take_run(alloc, source)?;
-    write_tables_in(alloc, columns, replayer, sink)?;
+    let mut replayer = take_run(alloc, source)?;
+    write_tables_in(alloc, columns, &mut replayer, sink)?;
     Ok(())
 }
 
@@ -61,15 +60,15 @@ fn take_run<S: Source>(alloc: Global, source: &mut S) -> Result<Replayer, Status
 fn write_tables_in<K: Sink>(
     alloc: Global,
     columns: Columns,
-    replayer: Replayer,
+    replayer: &mut Replayer,
     sink: &mut K,
 ) -> Result<(), Status>
-    ensures all { OnOk result ((states : List State) (last : State) → Leads states last replayer
+    ensures all { OnOk result ((states : List State) (last : State) → Leads states last replayer.old
         → Appends (K.taken sink.old) (K.taken sink.new) (tables_text (columns_in columns) states)) }
     ensures answers { IfErr result EndsRun }
     ensures cause { IsErrOf result Status.WriteFault →
         Rose (K.faults sink.old) (K.faults sink.new) }
-    ensures part { (states : List State) (last : State) → Leads states last replayer
+    ensures part { (states : List State) (last : State) → Leads states last replayer.old
         → WritesPart (K.taken sink.old) (K.taken sink.new) (tables_text (columns_in columns) states) }
 {
     match columns {
@@ -82,31 +81,73 @@ fn write_tables_in<K: Sink>(
 // The same for a number of columns that is known when the program is compiled.
 fn write_tables<const N: usize, K: Sink>(
     alloc: Global,
-    run: Replayer,
+    replayer: &mut Replayer,
     sink: &mut K,
 ) -> Result<(), Status>
     requires some { 1 ≤ N }
     requires few { N ≤ 4096 }
-    ensures all { OnOk result ((states : List State) (last : State) → Leads states last run
+    ensures all { OnOk result ((states : List State) (last : State) → Leads states last replayer.old
         → Appends (K.taken sink.old) (K.taken sink.new) (tables_text N states)) }
     ensures answers { IfErr result EndsRun }
     ensures cause { IsErrOf result Status.WriteFault →
         Rose (K.faults sink.old) (K.faults sink.new) }
-    ensures part { (states : List State) (last : State) → Leads states last run
+    ensures part { (states : List State) (last : State) → Leads states last replayer.old
         → WritesPart (K.taken sink.old) (K.taken sink.new) (tables_text N states) }
 {
-    let mut replayer = run;
     let mut sizes = Sizes::new(alloc);
     let mut piece = Vec::new(alloc);
-    'reports: while let Some(tick) = replayer.next() {
-        write_one::<N>(tick, replayer.monitor(), &mut sizes, &mut piece)?;
-        if piece.len() >= PIECE {
-            write_all(sink, &piece)?;
-            piece.clear();
-        }
-    }
+    'reports: while write_next::<N, K>(replayer, &mut sizes, &mut piece, sink)? {}
     write_last(&mut sizes, &mut piece)?;
     write_all(sink, &piece)?;
+    Ok(())
+}
+
+// Carries a replay out to its next aggregation, and appends the tables of its report to the piece, which is
+// handed over once it is large enough. False where no aggregation is left.
+fn write_next<const N: usize, K: Sink>(
+    replayer: &mut Replayer,
+    sizes: &mut Sizes,
+    piece: &mut Vec<u8>,
+    sink: &mut K,
+) -> Result<bool, Status>
+    requires some { 1 ≤ N }
+    requires few { N ≤ 4096 }
+    ensures on { result ≡ Ok true → TellsNext N
+        (record { replay = replayer.old; sizes = sizes.old; piece = piece.old.items; taken = K.taken sink.old })
+        (record { replay = replayer.new; sizes = sizes.new; piece = piece.new.items; taken = K.taken sink.new }) }
+    ensures less { result ≡ Ok true → replayer.new.left < replayer.old.left }
+    ensures end { result ≡ Ok false → (states : List State) (last : State)
+        → Leads states last replayer.old → states ≡ [] }
+    ensures same { result ≡ Ok false → (sizes.new ≡ sizes.old)
+        × (piece.new.items ≡ piece.old.items) × (sink.new ≡ sink.old) }
+    ensures answers { IfErr result EndsRun }
+    ensures later { K.faults sink.old ≤ K.faults sink.new }
+    ensures cause { IsErrOf result Status.WriteFault →
+        Rose (K.faults sink.old) (K.faults sink.new) }
+    ensures part { OnErr result ((states : List State) (last : State) → Leads states last replayer.old
+        → WritesPart (K.taken sink.old) (K.taken sink.new)
+        (piece.old.items ++ flat_map (tables_of N) states)) }
+{
+    let Some(tick) = replayer.next() else {
+        return Ok(false);
+    };
+    write_one::<N>(tick, replayer.monitor(), sizes, piece)?;
+    hand_over(sink, piece)?;
+    Ok(true)
+}
+
+// Hands a piece over once it is large enough.
+fn hand_over<K: Sink>(sink: &mut K, piece: &mut Vec<u8>) -> Result<(), Failed>
+    ensures all { OnOk result
+        (HandsOver (K.taken sink.old) (K.taken sink.new) piece.old.items piece.new.items) }
+    ensures part { WritesPart (K.taken sink.old) (K.taken sink.new) piece.old.items }
+    ensures cause { HasCause (K.faults sink.old) (K.faults sink.new) result }
+{
+    if piece.len() < PIECE {
+        return Ok(());
+    }
+    write_all(sink, piece)?;
+    piece.clear();
     Ok(())
 }
 
@@ -119,7 +160,7 @@ fn write_one<const N: usize>(
 ) -> Result<(), AllocError>
     requires some { 1 ≤ N }
     requires few { N ≤ 4096 }
-    requires state { (s : State) × Reached s × Stands monitor.now s }
+    requires state { StandsForReached monitor.now }
     ensures tables { OnOk result ((s : State) → Stands monitor.now s → tick ≡ s.core.ticks
         → out.new.items ≡ out.old.items ++ tables_of N s) }
     ensures sizes { OnOk result ((s : State) → Stands monitor.now s

@@ -66,6 +66,10 @@ pub record Leads (states : List State) (last : State) (r : ReplayerView) : Type 
 abbrev pub IsOnWay : ReplayerView → Type 0
 IsOnWay r = (states : List State) × (last : State) × Leads states last r
 
+-- the monitor stands for a state to which events lead that fit
+abbrev pub StandsForReached : MonitorView → Type 0
+StandsForReached m = (s : State) × Reached s × Stands m s
+
 -- The text is that of a lawful journal with lawful receipts, which is carried out from its start: it leads through the states after its
 -- aggregations to its last state. Woven together the journal and the receipts are one run of the monitor.
 pub record ReadsRun (text : List ℕ) (r : ReplayerView) : Type 0 where

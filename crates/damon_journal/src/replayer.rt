@@ -9,7 +9,7 @@ ghost use Rattle.damon_journal.specs.Kept.{IsKept, IsOfJournal, is_call_at};
 ghost use Rattle.damon_journal.specs.LinesLeft.{IsFault};
 ghost use Rattle.damon_journal.specs.Reading.{read_journal};
 ghost use Rattle.damon_journal.specs.Replay.{IsJournalOf, JournalValue, replay};
-ghost use Rattle.damon_journal.specs.Replayer.{HasStepped, KeepsWay, Leads, ReachesLast, ReachesNext, ReadsRun};
+ghost use Rattle.damon_journal.specs.Replayer.{HasStepped, KeepsWay, Leads, ReachesLast, ReachesNext, ReadsRun, StandsForReached};
 ghost use Rattle.damon_journal.specs.Verified.{IsOfNoLawfulRun};
 
 use crate::kept::{Keeping, Kept, KeptCall};
@@ -92,7 +92,8 @@ impl Replayer {
 
     /// The monitor after the entries that are carried out. Takes no memory.
     pub fn monitor(&self) -> &Monitor
-        ensures { result.now ≡ self.now.monitor }
+        ensures is { result.now ≡ self.now.monitor }
+        ensures stands { StandsForReached result.now }
     {
         self.replay.monitor()
     }

@@ -46,7 +46,8 @@ pub(crate) fn run_beside<N: Named + Send + Sync, R: Threads + Wait + Sync, P: Pa
                 × (N.table.words ≡ pages_of N.script.setup.space)
                 × AreInSpace N.script
                 × AreNumbered (λ j. j.worker) jobs.items }
-            ensures { IfOk result (λ d. (vec_len d ≡ vec_len jobs) × AreNumbered (λ d. d.worker) d.items) }
+            ensures { IfOk result (λ d. (vec_len d ≡ vec_len jobs)
+                × AreNumbered (λ d. d.worker) d.items) }
         { work_beside(rt, words, told, jobs, pace) },
         || -> Result<Vec<u32>, AllocError>
             requires { words.now ≡ N.table }

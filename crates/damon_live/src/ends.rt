@@ -101,7 +101,8 @@ fn gather_one<N: Named>(
     requires room { 1 ≤ all.old.spare }
     ensures table { seat.new.table ≡ N.table }
     ensures out { seat.new.out ≡ seat.old.out - 1 }
-    ensures gathered { IsGathered N.script done.worker seat.old.entries seat.new.entries (receipts_said all.old) (receipts_said all.new) }
+    ensures gathered { IsGathered N.script done.worker seat.old.entries seat.new.entries
+        (receipts_said all.old) (receipts_said all.new) }
     ensures room { all.new.spare ≡ all.old.spare - 1 }
 {
     let Done {

@@ -54,7 +54,8 @@ impl<N: Named> Model for Machine<N> {
 
     ghost view = { λ m. m.journal.value };
 
-    ghost invariant = { λ m. IsMachine N.script N.table N.seats m.script m.monitor m.seat m.journal m.words m.drawn m.passes (vec_capacity m.buffer) };
+    ghost invariant = { λ m. IsMachine N.script N.table N.seats m.script m.monitor m.seat
+        m.journal m.words m.drawn m.passes (vec_capacity m.buffer) };
 }
 
 impl<N: Named> Machine<N> {

@@ -25,5 +25,8 @@ pub trait Pace {
 pub struct NoPace;
 
 impl Pace for NoPace {
-    fn wait(&self, _spot: Spot) {}
+    // Each spot is passed at once.
+    fn wait(&self, spot: Spot) {
+        let _ = spot;
+    }
 }

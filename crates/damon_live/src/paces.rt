@@ -25,7 +25,9 @@ impl<R: Clock> SleepPace<R> {
 }
 
 impl<R: Clock> Pace for SleepPace<R> {
-    fn wait(&self, _spot: Spot) {
+    // Each spot is held alike.
+    fn wait(&self, spot: Spot) {
+        let _ = spot;
         thread::sleep(&self.clock, Duration::from_millis(TURN));
     }
 }

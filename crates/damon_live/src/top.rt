@@ -243,7 +243,8 @@ fn take_script<S: Source>(alloc: Global, source: &mut S) -> Result<LiveScript, S
 // Whether a journal has room for the results of all passes of a script.
 fn check_passes(script: &LiveScript) -> Result<(), Status>
     ensures ok { OnOk result (most_results (live_said script.now) ≤ MAX_RESULTS) }
-    ensures err { IfErr result (λ status. (status ≡ Status.TooManyPasses script.now.passes script.now.setup.cap)
+    ensures err { IfErr result (λ status.
+        (status ≡ Status.TooManyPasses script.now.passes script.now.setup.cap)
         × (MAX_RESULTS < most_results (live_said script.now))) }
 {
     let (passes, cap) = (script.passes, script.setup.cap);
@@ -256,9 +257,11 @@ fn check_passes(script: &LiveScript) -> Result<(), Status>
 
 // Hands the text of a run to the sink, a piece at a time.
 fn hand_over<K: Sink>(alloc: Global, run: &AloneRun, sink: &mut K) -> Result<(), Status>
-    requires run { IsWholeRun (live_said run.now.script) run.now.journal.value (receipts_said run.now.receipts) }
+    requires run { IsWholeRun (live_said run.now.script) run.now.journal.value
+        (receipts_said run.now.receipts) }
     requires stands { Stands run.now.monitor (replay (live_said run.now.script) run.now.journal.value).state }
-    requires sizes { run.now.journal.checked ≡ check_sizes (live_said run.now.script) run.now.journal.value }
+    requires sizes { run.now.journal.checked
+        ≡ check_sizes (live_said run.now.script) run.now.journal.value }
     requires spelled { SpellsCalls (live_said run.now.script) }
     ensures all { OnOk result (Appends (K.taken sink.old) (K.taken sink.new)
         (journal_text (live_said run.now.script) run.now.journal.value (receipts_said run.now.receipts))) }

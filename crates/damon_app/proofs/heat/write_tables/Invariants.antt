@@ -7,7 +7,7 @@ use Rattle.damon_app.proofs.heat.write_tables.Given as goal
 -- the sink took the tables of the states that are done, but for those in the piece
 abbrev pub invariant-reports : goal.invariant-reports
 invariant-reports g l = record {
-  told : (states : List State) (last : State) → Leads states last l.fn.run → AreTold l.fn.N states last l.replayer l.sizes l.piece.items (g.K.Sink.taken l.fn.sink) (g.K.Sink.taken l.sink);
+  told : (states : List State) (last : State) → Leads states last l.fn.replayer → AreTold g.row.N states last l.replayer l.sizes l.piece.items (g.K.Sink.taken l.fn.sink) (g.K.Sink.taken l.sink);
   later : g.K.Sink.faults l.fn.sink ≤ g.K.Sink.faults l.sink;
 }
 

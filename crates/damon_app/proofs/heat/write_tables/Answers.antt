@@ -1,0 +1,80 @@
+use Rattle.std.proofs.Common.{◌≡◌, ◌≤◌, List, ℕ, Ok, Err, ap, subst, arith}
+use Rattle.std.specs.Io.KnownBytes.{Appends}
+use Rattle.std.proofs.lemmas.Result.{err_from_is_err_and}
+use Rattle.damon_core.specs.State.{State}
+use Rattle.damon_journal.specs.Replayer.{Leads}
+use Rattle.damon_journal.specs.declared.status.Status.TheVariants.{WriteFault}
+use Rattle.text_io.specs.Taken.{WritesPart}
+use Rattle.damon_app.specs.Heating.{tables_text}
+use Rattle.damon_app.proofs.Known.{WritesPart-whole}
+use Rattle.damon_app.proofs.Heating.{Rose-before, told_first, told_kept, told_last, told_next, told_part, told_same, told_whole}
+use Rattle.damon_app.proofs.heat.write_tables.Goals as goal
+
+pub reports-init : goal.reports-init
+reports-init g c = record {
+  told = λ states last leads. told_first g.row.N states last c.args.replayer.now c.new-sizes.result c.new-piece.result.items (g.K.Sink.taken c.args.sink.now) c.new-sizes.ensures c.new-piece.ensures.items leads;
+  later = omega arith;
+}
+
+pub returns-in_err-write_next-clause-cause : goal.returns-in_err-write_next-clause-cause
+returns-in_err-write_next-clause-cause g c =
+    let p = err_from_is_err_and c.from_residual.result c.from_residual.ensures.1 in
+    rw (p.1, p.2) (λ e.
+    let same : c.in_err-write_next.field-0.0 ≡ WriteFault = cc e in
+    Rose-before c.reports.invariant.later (c.in_err-write_next.ensures.cause (ap (λ x. Err x) same)))
+
+pub returns-in_err-write_next-clause-part : goal.returns-in_err-write_next-clause-part
+returns-in_err-write_next-clause-part g c states last leads =
+    let taken = g.K.Sink.taken in
+    let told = c.reports.invariant.told states last leads in
+    told_part g.row.N states last c.reports.replayer c.reports.sizes c.reports.piece.items (taken c.args.sink.now) (taken c.reports.sink) told
+    (taken c.write_next.new.sink) (c.in_err-write_next.ensures.part told.rest last told.leads)
+
+pub reports-preserved : goal.reports-preserved
+reports-preserved g c =
+    let taken = g.K.Sink.taken in
+    record {
+      told = λ states last leads. told_next g.row.N states last c.reports.replayer c.reports.sizes c.reports.piece.items (taken c.args.sink.now) (taken c.reports.sink)
+          (c.reports.invariant.told states last leads) c.write_next.new.replayer c.write_next.new.sizes c.write_next.new.piece.items (taken c.write_next.new.sink)
+          (c.in_ok-write_next.ensures.on (ap (λ b. Ok b) c.if-branch.true));
+      later = omega (arith, c.reports.invariant.later, c.in_ok-write_next.ensures.later);
+    }
+
+pub returns-in_err-write_last-clause-part : goal.returns-in_err-write_last-clause-part
+returns-in_err-write_last-clause-part g c states last leads =
+    let taken = g.K.Sink.taken in
+    let same = c.in_ok-write_next.ensures.same (ap (λ b. Ok b) c.if-branch.false) in
+    let told = told_same g.row.N states last c.reports.replayer c.reports.sizes c.reports.piece.items (taken c.args.sink.now) (taken c.reports.sink)
+    (c.reports.invariant.told states last leads) c.write_next.new.sizes c.write_next.new.piece.items (taken c.write_next.new.sink)
+    same.0 same.1 (ap taken same.2) in
+    told_kept g.row.N states last c.reports.replayer c.write_next.new.sizes c.write_next.new.piece.items (taken c.args.sink.now) (taken c.write_next.new.sink) told
+
+pub returns-in_err-write_all-clause-cause : goal.returns-in_err-write_all-clause-cause
+returns-in_err-write_all-clause-cause g c e =
+    Rose-before c.reports.invariant.later (Rose-before c.in_ok-write_next.ensures.later c.in_err-write_all.ensures.cause.failed)
+
+pub returns-in_err-write_all-clause-part : goal.returns-in_err-write_all-clause-part
+returns-in_err-write_all-clause-part g c states last leads =
+    let taken = g.K.Sink.taken in
+    let same = c.in_ok-write_next.ensures.same (ap (λ b. Ok b) c.if-branch.false) in
+    let told = told_same g.row.N states last c.reports.replayer c.reports.sizes c.reports.piece.items (taken c.args.sink.now) (taken c.reports.sink)
+    (c.reports.invariant.told states last leads) c.write_next.new.sizes c.write_next.new.piece.items (taken c.write_next.new.sink)
+    same.0 same.1 (ap taken same.2) in
+    told_last g.row.N states last c.reports.replayer c.write_next.new.sizes c.write_next.new.piece.items (taken c.args.sink.now) (taken c.write_next.new.sink) told
+    (c.in_ok-write_next.ensures.end (ap (λ b. Ok b) c.if-branch.false) told.rest last told.leads) c.write_last.new.out.items c.in_ok-write_last.ensures.ok
+    (taken c.write_all.new.sink) (subst (WritesPart (taken c.write_next.new.sink) (taken c.write_all.new.sink)) c.deref.ensures.value c.in_err-write_all.ensures.part)
+
+pub returns-clause-all : goal.returns-clause-all
+returns-clause-all g c states last leads =
+    let taken = g.K.Sink.taken in
+    let same = c.in_ok-write_next.ensures.same (ap (λ b. Ok b) c.if-branch.false) in
+    let told = told_same g.row.N states last c.reports.replayer c.reports.sizes c.reports.piece.items (taken c.args.sink.now) (taken c.reports.sink)
+    (c.reports.invariant.told states last leads) c.write_next.new.sizes c.write_next.new.piece.items (taken c.write_next.new.sink)
+    same.0 same.1 (ap taken same.2) in
+    told_whole g.row.N states last c.reports.replayer c.write_next.new.sizes c.write_next.new.piece.items (taken c.args.sink.now) (taken c.write_next.new.sink) told
+    (c.in_ok-write_next.ensures.end (ap (λ b. Ok b) c.if-branch.false) told.rest last told.leads) c.write_last.new.out.items c.in_ok-write_last.ensures.ok
+    (taken c.write_all.new.sink) (subst (Appends (taken c.write_next.new.sink) (taken c.write_all.new.sink)) c.deref.ensures.value c.in_ok-write_all.ensures.all)
+
+pub returns-clause-part : goal.returns-clause-part
+returns-clause-part g c states last leads =
+    WritesPart-whole (g.K.Sink.taken c.args.sink.now) (g.K.Sink.taken c.write_all.new.sink) (tables_text g.row.N states) (returns-clause-all g c states last leads)
