@@ -5,6 +5,8 @@ import re
 from dataclasses import dataclass
 from typing import Iterable, Sequence
 
+from scripts.wording import counted
+
 from .heat import Heat
 from .pages import PAGE_BITS
 
@@ -59,5 +61,5 @@ def check_places(heats: Iterable[Heat], places: Sequence[Place]) -> None:
             for column, value in enumerate(heat):
                 pages = borders[column + 1] - borders[column]
                 if value > pages * found.passes:
-                    raise PlaceError(f"column {column} of target {target} has {pages} pages, whose heat in {found.passes} passes "
+                    raise PlaceError(f"column {column} of target {target} has {counted(pages, 'page')}, whose heat in {found.passes} passes "
                                      f"cannot be {value}: it is not the text of these tables")
