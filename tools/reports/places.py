@@ -61,5 +61,5 @@ def check_places(heats: Iterable[Heat], places: Sequence[Place]) -> None:
             for column, value in enumerate(heat):
                 pages = borders[column + 1] - borders[column]
                 if value > pages * found.passes:
-                    raise PlaceError(f"column {column} of target {target} has {counted(pages, 'page')}, whose heat in {found.passes} passes "
-                                     f"cannot be {value}: it is not the text of these tables")
+                    raise PlaceError(f"column {column} of target {target} has {counted(pages, 'page')}, whose heat in "
+                                     f"{found.passes} passes cannot be {value}: it is not the text of these tables")
