@@ -17,6 +17,7 @@ from pathlib import Path
 from typing import Any, Dict, Iterator, List, NamedTuple, Sequence, Tuple
 
 from journal_runs import Aggregation, Row, Run, Setup
+from tool_runs import need_program
 
 TOP = Path(__file__).resolve().parent.parent
 CASES = TOP / "tests/cases/heat.jsonl"
@@ -336,6 +337,7 @@ def made() -> str:
 
 
 def main() -> None:
+    need_program()
     CASES.write_text(made())
 
 

@@ -4,6 +4,7 @@ from __future__ import annotations
 
 import random
 import re
+import shutil
 import subprocess
 import tempfile
 import unittest
@@ -141,6 +142,18 @@ class Pictures(Places):
             line = commands[0].replace("docs/pictures/", f"{folder}/").replace("./damon", str(PROGRAM))
             subprocess.run(line, shell=True, cwd=TOP, check=True)
             self.assertTrue((Path(folder) / "heat.svg").read_bytes() == (TOP / "docs/pictures/heat.svg").read_bytes())
+
+
+@unittest.skipUnless(shutil.which("gnuplot"), "gnuplot is not installed")
+class Gnuplot(unittest.TestCase):
+    def test_the_line_of_the_tutorial(self) -> None:
+        lines = [line for line in (TOP / "docs/TUTORIAL.md").read_text().splitlines() if "matrix with image" in line]
+        self.assertEqual(len(lines), 1)
+        with tempfile.TemporaryDirectory() as folder:
+            (Path(folder) / "workers.heat").write_text(TABLES)
+            ran = subprocess.run(lines[0].replace("out/", f"{folder}/"), shell=True, capture_output=True)
+            self.assertEqual((ran.returncode, ran.stderr), (0, b""))
+            self.assertTrue((Path(folder) / "heat.png").read_bytes().startswith(b"\x89PNG"))
 
 
 class Errors(Refusals, Places):
