@@ -10,6 +10,7 @@ import unittest
 from typing import Iterator, Tuple
 
 from make_heat_cases import CASES, TOP, USAGE, made
+from test_streams import aggregated
 from tool_runs import PROGRAM, SECONDS, need_program
 
 PROGRAM_SOURCE = TOP / "crates/damon/src/main.rt"
@@ -39,6 +40,14 @@ class HeatCases(unittest.TestCase):
 
     def test_the_usage_line_is_that_of_the_program(self) -> None:
         self.assertIn(f'"{USAGE}"', PROGRAM_SOURCE.read_text())
+
+
+class Formats(unittest.TestCase):
+    def test_the_example_of_the_page_of_formats(self) -> None:
+        journal = (TOP / "examples/live.journal").read_text()
+        written = ended(aggregated(journal).encode(), "heat", "8").stdout.decode()
+        self.assertIn(f"```\n{written}```", (TOP / "docs/FORMATS.md").read_text())
+        self.assertEqual(ended(journal.encode(), "heat", "8").stdout, b"all reports=0\n")
 
 
 class AsVerify(unittest.TestCase):
