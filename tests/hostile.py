@@ -5,7 +5,7 @@
 
 OTHER_DAMON and OTHER_DAMOND are programs with the same formats. Each input is a valid or a rejected text with one to
 four edits: of bytes, of words, of lines, or one that is aimed at a rule of the formats (`hostile_edits.py`). It is
-given to both programs, with `replay`, `json`, `verify` or `run`. Both must write the same bytes to standard output
+given to both programs, with `replay`, `json`, `verify`, `heat 16` or `run`. Both must write the same bytes to standard output
 and to standard error and end with the same status. Two runs of `damond run` in threads may write two journals; there
 both programs must end alike, and each must accept the journal of either by its `verify`.
 
@@ -27,7 +27,9 @@ from hostile_edits import edited
 
 TOP = Path(__file__).resolve().parent.parent
 BUILT = {name: TOP / f"crates/{name}/out/{name}" for name in ("damon", "damond")}
-COMMANDS = ("replay", "json", "verify", "run")
+COMMANDS = ("replay", "json", "verify", "heat", "run")
+# The words after a command.
+WORDS = {"heat": ("16",)}
 # A longer text is left out: most of its edits are far from the places where rules meet.
 MOST_BYTES = 20_000
 SECONDS = 60
@@ -51,7 +53,7 @@ class Programs(NamedTuple):
 
     def end(self, command: str, text: bytes) -> Ended:
         program = self.damond if command == "run" else self.damon
-        done = subprocess.run([str(program), command], input=text, capture_output=True, timeout=SECONDS)
+        done = subprocess.run([str(program), command, *WORDS.get(command, ())], input=text, capture_output=True, timeout=SECONDS)
         return Ended(done.returncode, done.stdout, done.stderr)
 
 
@@ -95,12 +97,16 @@ def load_seeds(with_live: bool) -> Dict[str, List[bytes]]:
     for file in sorted((TOP / "tests/cases").glob("*.jsonl")):
         for line in file.read_text().splitlines():
             case = json.loads(line)
-            if len(case["words"]) == 1 and isinstance(case.get("input"), str) and len(case["input"]) <= MOST_BYTES:
-                seeds.get(case["words"][0], []).append(case["input"].encode("latin-1"))
+            command = case["words"][0] if case["words"] else ""
+            is_asked = len(case["words"]) == 1 + len(WORDS.get(command, ()))
+            if is_asked and isinstance(case.get("input"), str) and len(case["input"]) <= MOST_BYTES:
+                seeds.get(command, []).append(case["input"].encode("latin-1"))
     for file in sorted((TOP / "examples").glob("*.damon")):
         text = file.read_bytes()
-        seeds["run" if text.startswith(b"damon live") else "replay"].append(text)
+        if len(text) <= MOST_BYTES:
+            seeds["run" if text.startswith(b"damon live") else "replay"].append(text)
     seeds["json"] = seeds["json"] + seeds["replay"]
+    seeds["heat"] = seeds["heat"] + seeds["verify"]
     seeds["run"] = [it for it in seeds["run"] + live_scripts(seeds["replay"]) if with_live]
     return seeds
 

@@ -11,7 +11,7 @@ from typing import Callable
 
 from tool_runs import PROGRAM, SECONDS, TOP
 
-COMMANDS = ("mkdir ", "tools/", "./damon ", "grep ", "sed ")
+COMMANDS = ("mkdir ", "tools/", "./damon ", "grep ", "sed ", "xz ")
 BLOCK = re.compile(r"^```\n(.*?)^```", re.MULTILINE | re.DOTALL)
 
 

@@ -3,7 +3,7 @@
 
     tests/refuse_memory.py [--most N] [--only WORD]
 
-Each run is a command over an input: the examples, the worked cases, a journal and a live script. It is run once as it
+Each run is a command over an input: the examples, the worked cases, journals and live scripts. It is run once as it
 is, which counts its allocations, and then once for each of them with that one refused (for N of them, picked at random
 with a fixed seed, where it has more than N; the default is 400). The refusal is made by `refuse_memory.c`, which is
 compiled by `cc` and loaded before the C library.
@@ -16,6 +16,7 @@ A line is printed for each run, with its allocations and how its refusals ended.
 ended well and those that did not.
 """
 import argparse
+import lzma
 import os
 import random
 import subprocess
@@ -104,6 +105,8 @@ def runs() -> Iterator[Run]:
                 yield Run(f"damon {word} < {file.name}", DAMON, [word], text)
     for file in sorted((TOP / "examples").glob("*.journal")):
         yield Run(f"damon verify < {file.name}", DAMON, ["verify"], file.read_bytes())
+    for file in sorted((TOP / "examples").glob("*.journal.xz")):
+        yield Run(f"damon heat 64 < {file.stem}", DAMON, ["heat", "64"], lzma.decompress(file.read_bytes()))
     yield Run("damon gen 6", DAMON, ["gen", "6"], b"")
 
 

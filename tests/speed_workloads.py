@@ -1,4 +1,8 @@
-"""The inputs on which programs are measured. They keep the limits of a script; each is made here, and none needs a file."""
+"""The inputs on which programs are measured. They keep the limits of a script; each is made here, and none needs a file.
+
+Journals are made by the program `damond` of this checkout, or the one that DAMOND in the environment names.
+"""
+import os
 import random
 import subprocess
 from pathlib import Path
@@ -6,7 +10,7 @@ from typing import Callable, Iterator, NamedTuple, Tuple
 
 PAGE = 4096
 MILLION = 1_048_576
-DAMOND = Path(__file__).resolve().parent.parent / "crates/damond/out/damond"
+DAMOND = Path(os.environ.get("DAMOND") or Path(__file__).resolve().parent.parent / "crates/damond/out/damond")
 
 
 class Workload(NamedTuple):
@@ -136,6 +140,7 @@ def journal_of(script: Callable[[int], bytes]) -> Callable[[int], bytes]:
 
 REPLAY = ("replay",)
 VERIFY = ("verify",)
+HEAT = ("heat", "64")
 RUN = ("run",)
 JSON = ("json",)
 WORKLOADS = (
@@ -152,6 +157,9 @@ WORKLOADS = (
     Workload("json schemes", "such aggregations with 16 schemes", JSON, (366, 36, 4), with_schemes),
     Workload("verify", "touches of each of 8 workers, 2,000 passes", VERIFY, (70_000, 7_000, 700), journal_of(small_live)),
     Workload("verify wide", "sweeps of each of 8 workers over 1,048,576 pages", VERIFY, (10, 1), journal_of(live)),
+    Workload("heat", "touches of each of 8 workers, 2,000 passes", HEAT, (20_000, 2_000, 200), journal_of(small_live)),
+    Workload("heat large", "such touches, nearly as many as a text may have", HEAT, (90_000, 9_000, 900), journal_of(small_live)),
+    Workload("heat wide", "sweeps of each of 8 workers over 1,048,576 pages", HEAT, (10, 1), journal_of(live)),
     Workload("live", "sweeps of each of 8 workers over 1,048,576 pages", RUN, (32, 3), live, "damond"),
     Workload("small live", "touches of each of 8 workers, 2,000 passes", RUN, (20_000, 2_000, 200), small_live, "damond"),
     *(Workload(f"gen {n}", "", ("gen", str(n)), (1,), lambda _: b"") for n in range(4)),

@@ -56,8 +56,17 @@ def commands() -> Iterator[Command]:
     script = (TOP / "examples/cold.damon").read_bytes()
     yield Command(DAMON, ["replay"], script)
     yield Command(DAMON, ["json"], script)
-    yield Command(DAMON, ["verify"], (TOP / "examples/live.journal").read_bytes())
+    journal = (TOP / "examples/live.journal").read_text()
+    yield Command(DAMON, ["verify"], journal.encode())
+    yield Command(DAMON, ["heat", "8"], aggregated(journal).encode())
     yield Command(DAMOND, ["run"], (TOP / "examples/live.damon").read_bytes())
+
+
+def aggregated(journal: str) -> str:
+    """The same journal with an aggregation after its pass."""
+    for old, new in (("attrs 3 3 5", "attrs 3 3 1"), ("check 1 1", "check 1 1\naggregate 1 at 1"), ("count=1 last=0", "count=0 last=1")):
+        journal = journal.replace(old, new)
+    return journal
 
 
 def long_report() -> Command:

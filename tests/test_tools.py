@@ -14,13 +14,14 @@ def setUpModule() -> None:
 
 
 class Tutorial(Page):
-    """The commands of docs/TUTORIAL.md work as printed, but for those that need valgrind."""
+    """The commands of docs/TUTORIAL.md work as printed, but for those that need valgrind or gnuplot, or make another run each time."""
 
     def test_commands_and_outputs(self) -> None:
-        self.follow("docs/TUTORIAL.md", lambda block: "valgrind" in block or "out/shop.trace" in block, self.compare_pictures)
+        skipped = ("valgrind", "out/shop.trace", "gnuplot", "./damond run")
+        self.follow("docs/TUTORIAL.md", lambda block: any(word in block for word in skipped), self.compare_pictures)
 
     def compare_pictures(self, folder: Path) -> None:
-        for picture in ("shop", "exact", "patient"):
+        for picture in ("shop", "exact", "patient", "heat"):
             made = (folder / f"{picture}.svg").read_bytes()
             self.assertEqual(made == (TOP / f"docs/pictures/{picture}.svg").read_bytes(), True, picture)
 

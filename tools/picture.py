@@ -1,5 +1,5 @@
 #!/usr/bin/env python3
-"""Draws a report of damon, as text or as JSON lines, as a picture: time against addresses, in SVG.
+"""Draws a report of damon, as text or as JSON lines, or its heat tables as a picture: time against addresses, in SVG.
 
 docs/TUTORIAL.md shows its use.
 """
@@ -8,12 +8,16 @@ from __future__ import annotations
 import argparse
 import re
 import sys
+from typing import Iterable
 
 from common import STANDARD_INPUT, UsageError, opened_text, parser, run
+from drawing.heat import heat_picture
 from drawing.history import History, ScriptError, commits_of, history_of
 from drawing.panels import spans_of
 from drawing.picture import picture
 from reports.events import Report, ReportError
+from reports.heat import Heat, HeatError, heats_of
+from reports.places import Place, PlaceError, check_places, places_of
 
 TOOL = "picture.py"
 EXAMPLE = """\
@@ -28,6 +32,15 @@ schemes were applied. Many columns or regions are drawn as averages.
 Beneath are the commits: a bar for one that was accepted, a cross for one that was refused, and a
 triangle for a metric. What a commit has is not in a report, so metrics and words need --script. A
 slot has a thin line while it waits, and a bar while it is active, by the end of each column.
+
+With --heat it draws the tables that `damon heat` wrote of a journal:
+  ./damon heat 64 < out/live.journal | tools/picture.py --heat --script out/live.journal > heat.svg
+
+Each column of a target is a strip, and its colour is the mean count of its pages, as a share of the
+passes since the aggregation before. Where targets begin and how many pages they have is not in the
+tables, so addresses need --script; without it the colour is the heat beside the greatest one of the
+target. Beneath are the working set, and the pages that were found accessed in half of the passes or
+more.
 """
 LABEL = re.compile(r"([0-9]{1,2})=(.*)")
 
@@ -56,29 +69,72 @@ def history_read(options: argparse.Namespace) -> History:
             raise UsageError(str(error)) from None
 
 
+def heats_read(path: str) -> list[Heat]:
+    """The heat tables. Raises UsageError."""
+    with opened_text(path) as stream:
+        try:
+            return heats_of(stream)
+        except HeatError as error:
+            raise UsageError(str(error)) from None
+
+
+def places_read(path: str, heats: list[Heat]) -> list[Place]:
+    """Where the targets of heat tables are, as a live script or a journal says. Raises UsageError that names the file."""
+    with opened_text(path) as stream:
+        try:
+            places = places_of(stream)
+            check_places(heats, places)
+            return places
+        except PlaceError as error:
+            raise UsageError(f"{path}: {error}") from None
+
+
 def options_of() -> argparse.Namespace:
-    result = parser(TOOL, "Reads a report of damon and draws it: time against addresses, as SVG.", EXAMPLE)
+    result = parser(TOOL, "Reads a report or heat tables of damon and draws them: time against addresses, as SVG.", EXAMPLE)
     add = result.add_argument
-    add("report", nargs="?", default=STANDARD_INPUT, help="the report; `-`, the default, is standard input")
-    add("--script", metavar="FILE", help="the script of the report, which says what its commits have")
-    add("--title", default="Accesses by time and address", help="the title of the picture")
+    add("report", nargs="?", default=STANDARD_INPUT, help="the report, or the tables; `-`, the default, is standard input")
+    add("--heat", action="store_true", help="what is read are the tables that `damon heat` wrote")
+    add("--script", metavar="FILE", help="the script of the report, which says what its commits have; with --heat the live script "
+        "or the journal, which says where its targets are")
+    add("--title", help="the title of the picture")
     add("--label", action="append", default=[], metavar="TARGET=TEXT", help="names a target; may be repeated")
     add("--theme", choices=("auto", "light", "dark"), default="auto",
         help="the colours; auto, the default, follows what the reader prefers")
     return result.parse_args()
 
 
-def work() -> None:
-    options = options_of()
+def check_labels(labels: Iterable[int], targets: Iterable[int], whose: str) -> None:
+    """Raises UsageError if a label names a target that is not there."""
+    known = list(targets)
+    for target in labels:
+        if target not in known:
+            raise UsageError(f"--label names target {target}, and {whose} {', '.join(map(str, known))}")
+
+
+def report_drawn(options: argparse.Namespace) -> str:
+    """The picture of a report. Raises UsageError."""
     labels = labels_of(options.label)
     history = history_read(options)
     if not history.snapshots:
         raise UsageError("the report has no aggregation, and no show after a pass: there is nothing to draw")
-    targets = spans_of(history)
-    for target in labels:
-        if target not in targets:
-            raise UsageError(f"--label names target {target}, and the report has {', '.join(map(str, targets))}")
-    sys.stdout.write(picture(history, options.title, labels, options.theme))
+    check_labels(labels, spans_of(history), "the report has")
+    return picture(history, options.title or "Accesses by time and address", labels, options.theme)
+
+
+def heat_drawn(options: argparse.Namespace) -> str:
+    """The picture of heat tables. Raises UsageError."""
+    labels = labels_of(options.label)
+    heats = heats_read(options.report)
+    if not heats:
+        raise UsageError("the tables have no aggregation: there is nothing to draw")
+    places = places_read(options.script, heats) if options.script is not None else None
+    check_labels(labels, range(len(heats[0].heat)), "the tables have")
+    return heat_picture(heats, places, options.title or "Heat by time and address", labels, options.theme)
+
+
+def work() -> None:
+    options = options_of()
+    sys.stdout.write(heat_drawn(options) if options.heat else report_drawn(options))
 
 
 if __name__ == "__main__":

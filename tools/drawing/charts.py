@@ -13,12 +13,11 @@ POINTS = 480
 
 def draw_charts(canvas: Canvas, history: History, columns: Columns, top: float) -> float:
     """Draws the working set and the number of regions; gives where they end."""
-    ticks = [snapshot.tick for snapshot in history.snapshots]
     sets = [float(snapshot.working_set) for snapshot in history.snapshots]
-    draw_chart(canvas, columns, ticks, sets, top, "working set", size_words(int(max(sets))))
+    draw_chart(canvas, columns, history.ticks, sets, top, "working set", size_words(int(max(sets))))
     top += CHART + GAP
     counts = [float(len(snapshot.regions)) for snapshot in history.snapshots]
-    draw_chart(canvas, columns, ticks, counts, top, "regions", f"{int(max(counts))}")
+    draw_chart(canvas, columns, history.ticks, counts, top, "regions", f"{int(max(counts))}")
     return top + CHART
 
 

@@ -7,6 +7,7 @@ from __future__ import annotations
 
 from bisect import bisect_left
 from dataclasses import dataclass
+from typing import Sequence
 
 from reports.events import Snapshot
 
@@ -22,10 +23,10 @@ Rectangle = tuple[int, int, int, int]
 
 @dataclass(frozen=True)
 class Columns:
-    """The ticks at which columns begin and end; each has the same number of snapshots."""
+    """The ticks at which columns begin and end, and which snapshots or heat tables are in each: the same number."""
 
     edges: list[int]
-    groups: list[list[Snapshot]]
+    groups: list[slice]
 
 
 @dataclass(frozen=True)
@@ -38,11 +39,11 @@ class Cells:
     applied: dict[int, list[Rectangle]]
 
 
-def columns_of(report: list[Snapshot]) -> Columns:
-    """Groups snapshots so that there are at most MOST_COLUMNS columns. There is at least one."""
-    size = -(-len(report) // MOST_COLUMNS)
-    groups = [report[start : start + size] for start in range(0, len(report), size)]
-    return Columns([0, *(group[-1].tick for group in groups)], groups)
+def columns_of(ticks: Sequence[int]) -> Columns:
+    """Groups what was found at these ticks so that there are at most MOST_COLUMNS columns. There is at least one tick."""
+    size = -(-len(ticks) // MOST_COLUMNS)
+    groups = [slice(start, start + size) for start in range(0, len(ticks), size)]
+    return Columns([0, *(ticks[group][-1] for group in groups)], groups)
 
 
 def rows_of(report: list[Snapshot], target: int, low: int, high: int, most: int) -> list[int]:
@@ -96,11 +97,11 @@ def applied_column(group: list[Snapshot], target: int, rows: list[int], slot: in
     return marks
 
 
-def cells_of(columns: Columns, target: int, rows: list[int], slots: list[int]) -> Cells:
+def cells_of(report: list[Snapshot], columns: Columns, target: int, rows: list[int], slots: list[int]) -> Cells:
     """The rectangles of a panel."""
-    heat = [heat_column(group, target, rows) for group in columns.groups]
+    heat = [heat_column(report[group], target, rows) for group in columns.groups]
     applied = {
-        slot: rectangles([applied_column(group, target, rows, slot) for group in columns.groups]).get(1, [])
+        slot: rectangles([applied_column(report[group], target, rows, slot) for group in columns.groups]).get(1, [])
         for slot in slots
     }
     return Cells(rows, rectangles(heat), applied)

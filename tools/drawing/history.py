@@ -67,6 +67,10 @@ class History:
     """The number of commits after it."""
     slots: dict[int, Slot]
 
+    @property
+    def ticks(self) -> list[int]:
+        return [snapshot.tick for snapshot in self.snapshots]
+
 
 class ScriptError(Exception):
     """A script that is not the one of the report."""

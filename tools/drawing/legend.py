@@ -20,7 +20,7 @@ SLOT_WIDTH = 236.0
 def draw_legend(canvas: Canvas, history: History, title: str, unwatched: bool, lines: bool) -> None:
     """`unwatched` and `lines` say whether these marks occur."""
     canvas.text(LEFT, TITLE, title, "title")
-    draw_scale(canvas)
+    draw_scale(canvas, "count / passes")
     draw_slots(canvas, history)
     x = LEFT
     if unwatched:
@@ -33,9 +33,9 @@ def draw_legend(canvas: Canvas, history: History, title: str, unwatched: bool, l
         canvas.text(x + 18, NOTES + 9, "commit", "small")
 
 
-def draw_scale(canvas: Canvas) -> None:
-    """The colours of counts, from 0 to all passes."""
-    canvas.text(LEFT, SCALE + 9, "count / passes:  0", "small soft")
+def draw_scale(canvas: Canvas, name: str) -> None:
+    """The colours of what has this name, from 0 to 1."""
+    canvas.text(LEFT, SCALE + 9, f"{name}:  0", "small soft")
     canvas.rect(SCALE_LEFT, SCALE, STEP, HEIGHT, "panel")
     for number in range(LEVELS):
         canvas.rect(SCALE_LEFT + STEP * (number + 1), SCALE, STEP, HEIGHT, f"h{number + 1} crisp",

@@ -55,13 +55,13 @@ def panels_of(spans: dict[int, tuple[int, int]], labels: dict[int, str], top: fl
 
 def draw_panels(canvas: Canvas, history: History, panels: list[Panel]) -> bool:
     """Draws all panels, and says whether a cell of them is not watched."""
-    columns = columns_of(history.snapshots)
+    columns = columns_of(history.ticks)
     shared = sum(panel.height for panel in panels)
     unwatched = False
     for panel in panels:
         most = max(8, round(MOST_ROWS * panel.height / shared))
         rows = rows_of(history.snapshots, panel.target, panel.low, panel.high, most)
-        cells = cells_of(columns, panel.target, rows, applied_slots(history))
+        cells = cells_of(history.snapshots, columns, panel.target, rows, applied_slots(history))
         draw_panel(canvas, panel, cells, columns)
         unwatched = unwatched or UNWATCHED in cells.heat
     return unwatched

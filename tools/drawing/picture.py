@@ -17,7 +17,7 @@ SPACE = 22.0
 def picture(history: History, title: str, labels: dict[int, str], theme: str) -> str:
     """The whole picture. The history has at least one snapshot."""
     canvas = Canvas()
-    columns = columns_of(history.snapshots)
+    columns = columns_of(history.ticks)
     panels = panels_of(spans_of(history), labels, TOP)
     unwatched = draw_panels(canvas, history, panels)
     draw_timeline(canvas, history, columns, panels[-1].bottom)
