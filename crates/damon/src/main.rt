@@ -1,5 +1,5 @@
 //! `damon`: runs a script that comes on standard input, or a generated one, and writes its report to
-//! standard output; or checks the text of a journal.
+//! standard output; or checks the text of a journal, or writes its heat tables.
 #![tactic(auto)]
 
 use damon_app::replay_main;

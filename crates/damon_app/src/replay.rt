@@ -33,9 +33,9 @@ use text_io::{INPUT_LIMIT, read_all, write_all};
 
 /// Does all of the program `damon`. For `replay` and `json` it reads a script to its end and writes the
 /// report of its run; for `verify` it reads the text of a journal to its end, checks it, and writes one
-/// line of its counts; for `heat N` it reads and checks such a text, replays its journal, and writes tables of N
-/// columns for each aggregation; for `gen N` it reads nothing, runs the generated script of N, and writes one line
-/// about the end of the run. It takes no lock and always returns.
+/// line of its counts; for `heat N` it reads and checks such a text, replays its journal, and writes
+/// tables of N columns for each aggregation; for `gen N` it reads nothing, runs the generated script of N,
+/// and writes one line about the end of the run. It takes no lock and always returns.
 pub fn replay_main<S: Source, K: Sink>(
     alloc: Global,
     words: &[String],
