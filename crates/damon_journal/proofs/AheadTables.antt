@@ -1,14 +1,15 @@
 -- Tables by page and by receipt, which passes set.
-use Rattle.std.proofs.Common.{◌≡◌, ℕ, zero, suc, ◌+◌, ◌-◌, ◌≤◌, ◌<◌, ◌==◌, ◌&&◌, ◌||◌, Bool, true, false, List, [], ◌∷◌, length, drop, get_or, refl, sym, ap, subst, ◌∙◌, arith}
+use Rattle.std.proofs.Common.{◌≡◌, ℕ, zero, suc, ◌+◌, ◌≤◌, ◌<◌, ◌==◌, ◌&&◌, ◌||◌, Bool, true, false, List, [], ◌∷◌, length, drop, map, get_or, refl, sym, ap, subst, ◌∙◌, arith}
 use Rattle.std.proofs.lemmas.Bool.Decides.{nat_tests}
-use Rattle.std.proofs.lemmas.List.{drop_more, get_or-map, get_or-set_other, length-map, length-replicate, length-set}
+use Rattle.std.proofs.lemmas.List.{drop-map, drop_all, drop_more, get_or-map, get_or-set_other, length-map, length-replicate, length-set}
 use Rattle.std.proofs.lemmas.Grind.{get_or-set_at}
-use Rattle.std.specs.Prelude.{◌≢◌, All, if◌then◌else◌, slice_get, slice_set, Some, nat_eq, nat_lt, replicate}
+use Rattle.std.specs.Prelude.{◌≢◌, All, if◌then◌else◌, slice_get, slice_set, Some, replicate}
 use Rattle.std.specs.List.{list_any}
 use Rattle.damon_journal.specs.declared.entry.Receipt.{Receipt}
-use Rattle.damon_journal.specs.Ahead.{AreNamedEarly, IsAhead, IsUnset, ShowsTag, is_picked, named_by_none, receipts_of}
+use Rattle.damon_journal.specs.Ahead.{AreNamedEarly, IsAhead, IsUnset, ShowsTag, is_named, is_picked, named_by_none, receipts_of}
 use Rattle.damon_journal.specs.SeenLine.{is_receipt}
-use Rattle.damon_journal.specs.TagLinks.{HasTag, IsNext}
+use Rattle.damon_journal.specs.TagOrder.{AreOfTag}
+use Rattle.damon_journal.proofs.TagOrder.{index_of_tag, none_with_tag, page_at, pages_of_tag}
 
 -- ---- tables that a loop sets
 
@@ -40,130 +41,94 @@ got [] i x d is = absurd cc
 got (y ∷ ys) zero x d is = cc
 got (y ∷ ys) (suc i) x d is = got ys i x d is
 
--- ---- receipts with one tag, one after another
+-- ---- tables that the receipts with one tag set
 
-and_false : (b : Bool) → (b && false) ≡ false
-and_false true = refl
-and_false false = refl
-
-and_true : (b : Bool) → (b && true) ≡ b
-and_true true = refl
-and_true false = refl
-
--- no receipt between two indexes is looked for, where none there has the tag
-skipped : (page tag : ℕ) (xs : List (ℕ × Receipt)) (n from to : ℕ) → from + n ≡ to → to ≤ length xs → ((i : ℕ) (d : ℕ × Receipt) → from ≤ i → i < to → (get_or xs i d).1.tag ≢ tag)
-    → list_any (is_receipt page tag) (receipts_of (drop from xs)) ≡ list_any (is_receipt page tag) (receipts_of (drop to xs))
-skipped page tag xs zero from to is within others =
-    let same : from ≡ to = omega (arith, is) in ap (λ k. list_any (is_receipt page tag) (receipts_of (drop k xs))) same
-skipped page tag xs (suc n) from to is within others =
-    let d : ℕ × Receipt = (0, record { page = 0; tag = 0 }) in
-    let x = get_or xs from d in
-    let unlike : x.1.tag ≢ tag = others from d (omega arith) (omega (arith, is)) in
-    let other : (x.1.tag == tag) ≡ false = grind (arith, nat_tests, unlike) in
-    ap (λ l. list_any (is_receipt page tag) (receipts_of l)) (drop_more xs from d (omega (arith, is, within)))
-    ∙ ap (λ b. ((x.1.page == page) && b) || list_any (is_receipt page tag) (receipts_of (drop (from + 1) xs))) other
-    ∙ ap (λ b. b || list_any (is_receipt page tag) (receipts_of (drop (from + 1) xs))) (and_false (x.1.page == page))
-    ∙ skipped page tag xs n (from + 1) to (omega (arith, is)) within (λ i d more less. others i d (omega (arith, more)) less)
-
--- the same up to the next one with the tag
-skipped_to : (page tag : ℕ) (xs : List (ℕ × Receipt)) (from next : ℕ) → IsNext tag xs from next
-    → list_any (is_receipt page tag) (receipts_of (drop from xs)) ≡ list_any (is_receipt page tag) (receipts_of (drop next xs))
-skipped_to page tag xs from next is = skipped page tag xs (next - from) from next (omega (arith, is.after)) is.within is.others
-
--- What a loop over the receipts with a tag keeps of a table: when the entries of those before an index are set, and those of the
--- others were set after it, the entries are those that were wanted.
-pub record SetsLeft (tag : ℕ) (xs : List (ℕ × Receipt)) (v : Bool) (before now : List Bool) (index : ℕ) : Type 0 where
-  pub each : (page : ℕ) → page < length before
-      → (if list_any (is_receipt page tag) (receipts_of (drop index xs)) then v else get_or now page false)
-      ≡ (if list_any (is_receipt page tag) (receipts_of xs) then v else get_or before page false)
+-- What a loop over the receipts with a tag keeps of a table: when the entries of the pages that are left are set too, they are those
+-- that were wanted.
+pub record SetsLeft (pages : List ℕ) (v : Bool) (before now : List Bool) (left : List ℕ) : Type 0 where
+  pub each : (page : ℕ) → page < length before → (if is_picked left page then v else get_or now page false) ≡ (if is_picked pages page then v else get_or before page false)
   pub len : length now ≡ length before
-  pub here : index < length xs → HasTag tag xs index
 
--- at the first receipt with the tag
-pub sets_first : (tag : ℕ) (xs : List (ℕ × Receipt)) (v : Bool) (before : List Bool) (index : ℕ) → IsNext tag xs 0 index → SetsLeft tag xs v before before index
-sets_first tag xs v before index is = record {
-  each = λ page below. ap (λ b. if b then v else get_or before page false) (sym (skipped_to page tag xs 0 index is));
-  len = refl;
-  here = is.here;
-}
-
--- one is set, and the next one with the tag is up
-pub sets_next : (tag : ℕ) (xs : List (ℕ × Receipt)) (v : Bool) (before now : List Bool) (index next p : ℕ) → SetsLeft tag xs v before now index → index < length xs → IsNext tag xs (index + 1) next
-    → ((d : ℕ × Receipt) → p ≡ (get_or xs index d).1.page) → p < length now → SetsLeft tag xs v before (slice_set now p v) next
-sets_next tag xs v before now index next p left below is page_is within = record {
+-- one is set
+pub sets_next : (xs : List (ℕ × Receipt)) (indexes : List ℕ) (v : Bool) (before now : List Bool) (k i p : ℕ) → k < length indexes → i ≡ get_or indexes k 0 → p ≡ page_at xs i → p < length now
+    → SetsLeft (map (page_at xs) indexes) v before now (map (page_at xs) (drop k indexes)) → SetsLeft (map (page_at xs) indexes) v before (slice_set now p v) (map (page_at xs) (drop (k + 1) indexes))
+sets_next xs indexes v before now k i p below index page within left = record {
   each = λ page inside.
-      ap (λ b. if b then v else get_or (slice_set now p v) page false) (sym (skipped_to page tag xs (index + 1) next is))
-      ∙ ap (λ b. if list_any (is_receipt page tag) (receipts_of (drop (index + 1) xs)) then v else b) (set_at now p page v within)
-      ∙ set_first (p == page) (list_any (is_receipt page tag) (receipts_of (drop (index + 1) xs))) v (get_or now page false)
-      ∙ ap (λ b. if b then v else get_or now page false) (sym (own page))
-      ∙ left.each page inside;
+      ap (λ l. if is_picked l page then v else get_or (slice_set now p v) page false) (sym (drop-map (page_at xs) (k + 1) indexes))
+      ∙ (set_next (map (page_at xs) indexes) k p now v page (omega (arith, below, length-map indexes (page_at xs))) here within
+      ∙ (ap (λ l. if is_picked l page then v else get_or now page false) (drop-map (page_at xs) k indexes) ∙ left.each page inside));
   len = length-set now p v ∙ left.len;
-  here = is.here;
 }
   where
-    own : (page : ℕ) → list_any (is_receipt page tag) (receipts_of (drop index xs)) ≡ ((p == page) || list_any (is_receipt page tag) (receipts_of (drop (index + 1) xs)))
-    own page =
-        let d : ℕ × Receipt = (0, record { page = 0; tag = 0 }) in
-        let x = get_or xs index d in
-        let same : (x.1.tag == tag) ≡ true = grind (arith, nat_tests, left.here below d) in
-        ap (λ l. list_any (is_receipt page tag) (receipts_of l)) (drop_more xs index d below)
-        ∙ ap (λ b. ((x.1.page == page) && b) || list_any (is_receipt page tag) (receipts_of (drop (index + 1) xs))) same
-        ∙ ap (λ b. b || list_any (is_receipt page tag) (receipts_of (drop (index + 1) xs))) (and_true (x.1.page == page))
-        ∙ ap (λ q. (q == page) || list_any (is_receipt page tag) (receipts_of (drop (index + 1) xs))) (sym (page_is d))
+    here : get_or (map (page_at xs) indexes) k p ≡ p
+    here = get_or-map (page_at xs) indexes k 0 p below ∙ sym (page ∙ ap (page_at xs) index)
+
+-- all are set
+pub sets_all : (tag : ℕ) (xs : List (ℕ × Receipt)) (indexes : List ℕ) (v : Bool) (before now : List Bool) (k page : ℕ) → AreOfTag tag xs indexes → length indexes ≤ k → page < length before
+    → SetsLeft (map (page_at xs) indexes) v before now (map (page_at xs) (drop k indexes)) → get_or now page false ≡ (if list_any (is_receipt page tag) (receipts_of xs) then v else get_or before page false)
+sets_all tag xs indexes v before now k page are over inside left =
+    ap (λ l. if is_picked (map (page_at xs) l) page then v else get_or now page false) (sym (drop_all k indexes over))
+    ∙ (left.each page inside ∙ ap (λ b. if b then v else get_or before page false) (pages_of_tag page tag xs indexes are))
 
 -- ---- which receipts a pass names
+
+-- What a loop over the receipts with the number of a pass keeps of their names: when those that are left are named that are due,
+-- all are.
+pub record NamesLeft (xs : List (ℕ × Receipt)) (picked before now : List Bool) (indexes left : List ℕ) : Type 0 where
+  pub each : (i : ℕ) (d : ℕ × Receipt) → i < length xs
+      → (get_or now i false || (list_any (λ j. j == i) left && get_or picked (get_or xs i d).1.page false))
+      ≡ (get_or before i false || (list_any (λ j. j == i) indexes && get_or picked (get_or xs i d).1.page false))
+  pub len : length now ≡ length before
+
+-- one is named
+pub names_next : (xs : List (ℕ × Receipt)) (picked before now : List Bool) (indexes : List ℕ) (k i : ℕ) (hit : Bool) → k < length indexes → i ≡ get_or indexes k 0 → i < length now → ((d : ℕ × Receipt) → hit ≡ get_or picked (get_or xs i d).1.page false)
+    → NamesLeft xs picked before now indexes (drop k indexes) → NamesLeft xs picked before (slice_set now i (get_or now i false || hit)) indexes (drop (k + 1) indexes)
+names_next xs picked before now indexes k i hit below index within hit_is left = record {
+  each = λ j d inside. by j d (i == j) refl ∙ (ap (λ l. get_or now j false || (list_any (λ m. m == j) l && get_or picked (get_or xs j d).1.page false)) (sym first) ∙ left.each j d inside);
+  len = length-set now i (get_or now i false || hit) ∙ left.len;
+}
+  where
+    first : drop k indexes ≡ i ∷ drop (k + 1) indexes
+    first = drop_more indexes k 0 below ∙ ap (λ m. m ∷ drop (k + 1) indexes) (sym index)
+
+    joined : (now hit rest : Bool) → ((now || hit) || (rest && hit)) ≡ (now || hit)
+    joined true hit rest = refl
+    joined false true rest = refl
+    joined false false true = refl
+    joined false false false = refl
+
+    by : (j : ℕ) (d : ℕ × Receipt) (same : Bool) → (i == j) ≡ same
+        → (get_or (slice_set now i (get_or now i false || hit)) j false || (list_any (λ m. m == j) (drop (k + 1) indexes) && get_or picked (get_or xs j d).1.page false))
+        ≡ (get_or now j false || ((same || list_any (λ m. m == j) (drop (k + 1) indexes)) && get_or picked (get_or xs j d).1.page false))
+    by j d true same =
+        let is : j ≡ i = grind (arith, nat_tests, same) in
+        let rest = list_any (λ m. m == j) (drop (k + 1) indexes) in
+        let own : get_or picked (get_or xs j d).1.page false ≡ hit = ap (λ m. get_or picked (get_or xs m d).1.page false) is ∙ sym (hit_is d) in
+        let set_is : get_or (slice_set now i (get_or now i false || hit)) j false ≡ (get_or now i false || hit) = get_or-set_at now i j (get_or now i false || hit) false is within in
+        ap (λ b. b || (rest && get_or picked (get_or xs j d).1.page false)) set_is
+        ∙ (ap (λ b. (get_or now i false || hit) || (rest && b)) own
+        ∙ (joined (get_or now i false) hit rest
+        ∙ (ap (λ m. get_or now m false || hit) (sym is) ∙ ap (λ b. get_or now j false || b) (sym own))))
+    by j d false same =
+        let other : j ≢ i = λ is. absurd (grind (arith, nat_tests, same, is)) in
+        ap (λ b. b || (list_any (λ m. m == j) (drop (k + 1) indexes) && get_or picked (get_or xs j d).1.page false)) (get_or-set_other now i j (get_or now i false || hit) false other)
 
 or_false : (b : Bool) → (b || false) ≡ b
 or_false true = refl
 or_false false = refl
 
--- a receipt with another tag is named as before
-named_other : (pass tag : ℕ) (was hit : Bool) → tag ≢ pass → was ≡ (was || ((pass == tag) && hit))
-named_other pass tag was hit unlike =
-    let other : (pass == tag) ≡ false = grind (arith, nat_tests, unlike) in
-    sym (ap (λ b. was || (b && hit)) other ∙ or_false was)
+-- all are named
+pub names_all : (pass : ℕ) (xs : List (ℕ × Receipt)) (picked before now : List Bool) (indexes : List ℕ) (k i : ℕ) (d : ℕ × Receipt) → AreOfTag pass xs indexes → length indexes ≤ k → i < length xs
+    → NamesLeft xs picked before now indexes (drop k indexes) → get_or now i false ≡ (get_or before i false || ((pass == (get_or xs i d).1.tag) && get_or picked (get_or xs i d).1.page false))
+names_all pass xs picked before now indexes k i d are over inside left =
+    sym (or_false (get_or now i false))
+    ∙ (ap (λ l. get_or now i false || (list_any (λ j. j == i) l && get_or picked (get_or xs i d).1.page false)) (sym (drop_all k indexes over))
+    ∙ (left.each i d inside ∙ ap (λ b. get_or before i false || (b && get_or picked (get_or xs i d).1.page false)) (index_of_tag pass i d xs indexes inside are)))
 
--- What a loop over the receipts with the number of a pass keeps of their names: those before an index are named that are due, and
--- the others are named as before.
-pub record NamesLeft (pass : ℕ) (xs : List (ℕ × Receipt)) (picked before now : List Bool) (index : ℕ) : Type 0 where
-  pub done : (i : ℕ) (d : ℕ × Receipt) → i < index → i < length xs
-      → get_or now i false ≡ (get_or before i false || ((pass == (get_or xs i d).1.tag) && get_or picked (get_or xs i d).1.page false))
-  pub left : (i : ℕ) → index ≤ i → get_or now i false ≡ get_or before i false
-  pub len : length now ≡ length before
-  pub here : index < length xs → HasTag pass xs index
-
--- one is named, and the next one is up
-pub names_next : (pass : ℕ) (xs : List (ℕ × Receipt)) (picked before now : List Bool) (index next : ℕ) (hit : Bool) → NamesLeft pass xs picked before now index → index < length xs → length before ≡ length xs → IsNext pass xs (index + 1) next
-    → ((d : ℕ × Receipt) → hit ≡ get_or picked (get_or xs index d).1.page false) → NamesLeft pass xs picked before (slice_set now index (get_or now index false || hit)) next
-names_next pass xs picked before now index next hit left below count is hit_is = record {
-  done = λ i d less within. by i d less within (nat_lt i index) (nat_eq i index) refl refl;
-  left = λ i more.
-      let other : i ≢ index = λ same. absurd (omega (arith, same, more, is.after)) in
-      get_or-set_other now index i (get_or now index false || hit) false other ∙ left.left i (omega (arith, more, is.after));
-  len = length-set now index (get_or now index false || hit) ∙ left.len;
-  here = is.here;
-}
-  where
-    by : (i : ℕ) (d : ℕ × Receipt) → i < next → i < length xs → (less same : Bool) → nat_lt i index ≡ less → nat_eq i index ≡ same
-        → get_or (slice_set now index (get_or now index false || hit)) i false ≡ (get_or before i false || ((pass == (get_or xs i d).1.tag) && get_or picked (get_or xs i d).1.page false))
-    by i d inside within true same less equal =
-        let first : i < index = grind (arith, nat_tests, less) in
-        let other : i ≢ index = λ e. absurd (omega (arith, e, first)) in
-        get_or-set_other now index i (get_or now index false || hit) false other ∙ left.done i d first within
-    by i d inside within false true less equal =
-        let same_index : i ≡ index = grind (arith, nat_tests, equal) in
-        let tag : (get_or xs i d).1.tag ≡ pass = ap (λ k. (get_or xs k d).1.tag) same_index ∙ left.here below d in
-        let own : (pass == (get_or xs i d).1.tag) ≡ true = grind (arith, nat_tests, tag) in
-        get_or-set_at now index i (get_or now index false || hit) false same_index (omega (arith, below, left.len, count))
-        ∙ ap (λ b. b || hit) (left.left index (omega arith) ∙ ap (λ k. get_or before k false) (sym same_index))
-        ∙ ap (λ b. get_or before i false || b) (hit_is d ∙ ap (λ k. get_or picked (get_or xs k d).1.page false) (sym same_index))
-        ∙ sym (ap (λ b. get_or before i false || (b && get_or picked (get_or xs i d).1.page false)) own)
-    by i d inside within false false less equal =
-        let more : index + 1 ≤ i = grind (arith, nat_tests, less, equal) in
-        let other : i ≢ index = λ e. absurd (omega (arith, e, more)) in
-        get_or-set_other now index i (get_or now index false || hit) false other
-        ∙ left.left i (omega (arith, more))
-        ∙ named_other pass (get_or xs i d).1.tag (get_or before i false) (get_or picked (get_or xs i d).1.page false) (is.others i d more inside)
+-- a pass of which no receipt has the number names none
+pub not_named : (pass : ℕ) (picks : List ℕ) (xs : List (ℕ × Receipt)) (indexes : List ℕ) (i : ℕ) (d : ℕ × Receipt) (was : Bool) → length indexes ≡ 0 → i < length xs → AreOfTag pass xs indexes → was ≡ (was || is_named pass picks (get_or xs i d).1)
+not_named pass picks xs indexes i d was none below are =
+    sym (ap (λ b. was || (b && is_picked picks (get_or xs i d).1.page)) (none_with_tag pass i d xs indexes none below are) ∙ or_false was)
 
 -- ---- receipts ahead
 

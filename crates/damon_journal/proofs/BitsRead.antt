@@ -55,7 +55,7 @@ same_count (c ∷ cs) = one_more (c == 49) (c == 48) (length cs) (bits_of cs) (s
     one_more false true n (Some bits) same = ap suc same
     one_more false false n (Some bits) same = tt
 
--- other than so many digits do not say so many results
+-- digits of another number do not say this many results
 pub other_count : (digits : List ℕ) (count : ℕ) → length digits ≢ count → None ≡ n_bits_of count digits
 other_count digits count other = by (bits_of digits) (same_count digits)
   where
@@ -65,7 +65,7 @@ other_count digits count other = by (bits_of digits) (same_count digits)
         let differs : (length bits == count) ≡ false = grind (arith, nat_tests, same, other) in
         rw differs refl
 
--- so many digits that are all `0` or `1`
+-- this many digits, each of them `0` or `1`, say their results
 pub bits_read : (digits : List ℕ) (count : ℕ) → length digits ≡ count → list_all is_bit digits ≡ true → Some (map is_one digits) ≡ n_bits_of count digits
 bits_read digits count many each =
     let right : (length (map is_one digits) == count) ≡ true = grind (arith, nat_tests, length-map digits is_one, many) in

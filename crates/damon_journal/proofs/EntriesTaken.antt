@@ -287,7 +287,7 @@ prepare_goes pass picks old new rest prepared ticks drawn passes loads hits unse
   keeping = rest.kept.keeping;
 }
 
--- after a check with so many results
+-- after a check of this many rows
 pub check_goes : (rows : ℕ) (bits : List Bool) (old new : Fold) → SameRest bits old new → new.ahead ≡ old.ahead → rows < 2 ^ 32 → new.replay.monitor.core.ticks ≡ old.replay.monitor.core.ticks + 1 → new.replay.drawn ≡ old.replay.drawn
     → new.counts.passes ≡ old.counts.passes → new.counts.loads ≡ old.counts.loads + rows → (hits : ℕ) → hits ≤ rows → new.counts.hits ≡ old.counts.hits + hits
     → (unseen : ℕ) → unseen ≤ rows → new.unreceived ≡ old.unreceived + unseen → GoesOn old new

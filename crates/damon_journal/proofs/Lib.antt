@@ -48,7 +48,7 @@ pub mod SeenAfter
 pub mod SeenTaken
 pub mod SeenFront
 pub mod SeenColumns
-pub mod TagLinks
+pub mod TagOrder
 pub mod AheadTables
 pub mod LastSeen
 pub mod NamedSteps

@@ -18,12 +18,13 @@ use Rattle.damon_journal.specs.declared.entry.Receipt.{Receipt}
 use Rattle.damon_journal.specs.Counted.{prepares}
 use Rattle.damon_journal.specs.Lawful.{Received, all_of, touches_of}
 use Rattle.damon_journal.specs.Limits.{LawfulNumbersFit}
+use Rattle.damon_journal.specs.Phases.{passes_open}
 use Rattle.damon_journal.specs.Replay.{EntriesFit, EntryFits, Replayed, begun, call_at, call_event, carried, entry_events}
 use Rattle.damon_journal.specs.Rules.{AnswerFits, CanCall, EntryNumbersFit, TagsFit}
 use Rattle.damon_journal.specs.Steps.{clear_steps, entry_steps, load_steps, steps, steps_from}
 use Rattle.damon_journal.proofs.AnswersFit.{answer_fits}
 use Rattle.damon_journal.proofs.Fitting.{carried_reached}
-use Rattle.damon_journal.proofs.PhaseAfter.{entry_counts, passes_open, splits_open}
+use Rattle.damon_journal.proofs.PhaseAfter.{entry_counts, splits_open}
 use Rattle.damon_journal.proofs.Quiet.{all_append}
 use Rattle.damon_journal.proofs.Settling.{cases, flat_append, touches-append}
 use Rattle.damon_journal.proofs.Sizes.{CommitLaws, IsWithin, opening_within, run_within}

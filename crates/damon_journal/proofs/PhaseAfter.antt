@@ -20,18 +20,13 @@ use Rattle.damon_control.specs.Live.{CallValue, CommitCall, LiveValue, ShowCall}
 use Rattle.damon_journal.specs.declared.entry.Entry.{Entry}
 use Rattle.damon_journal.specs.declared.entry.Entry.TheVariants.{Prepare, Check, Void, Aggregate, Call}
 use Rattle.damon_journal.specs.Counted.{prepares}
+use Rattle.damon_journal.specs.Phases.{passes_open}
 use Rattle.damon_journal.specs.Replay.{EntryFits, Replayed, call_event, carried, entry_events, words_taken}
 use Rattle.damon_journal.specs.Words.{words_after}
 use Rattle.damon_journal.proofs.Carrying.{kept_if_void}
 use Rattle.damon_journal.proofs.Fitting.{at, clearing_on, length-taken}
 use Rattle.damon_journal.proofs.Ticks.{check_ticks}
 use Rattle.damon_journal.proofs.Weaving.{all_loads_end}
-
--- a pass is prepared and has not ended
-abbrev pub passes_open : Phase → ℕ
-passes_open Armed = 1
-passes_open VoidPhase = 1
-passes_open _ = 0
 
 -- an aggregation may follow before the next pass
 abbrev pub splits_open : Phase → ℕ

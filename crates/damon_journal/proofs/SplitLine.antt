@@ -30,7 +30,7 @@ line_before apart together text at found =
     ap (parts 10) whole ∙ ap (parts 10) (sym (append_assoc line (10 ∷ []) rest))
     ∙ parts_before apart together (line ∷ []) rest (piece_first line [] (piece_before text at inside found.0.before) no_pieces)
 
--- where there is none, all is one part
+-- a text without LF is one part
 pub only_part : TakesApartPieces → (text : List ℕ) → Nowhere (Passes (is_byte 10) text) 0 (length text) → parts 10 text ≡ text ∷ []
 only_part apart text none =
     let piece : IsPiece 10 text = λ k d below same.

@@ -21,7 +21,7 @@ abbrev pub after_receipts : List (List ℕ) → List (List ℕ)
 after_receipts [] = []
 after_receipts (line ∷ lines) = if same_word line (codes "receipts") then lines else after_receipts lines
 
--- one more in front of a list, or an empty list where there is none
+-- one item more in front of a list, or an empty list for `None`
 abbrev pub in_front_of : {A : Type 0} → List A → Option A → List A
 in_front_of xs None = []
 in_front_of xs (Some x) = x ∷ xs
@@ -157,7 +157,7 @@ last_in n = (n / TAGS, n % TAGS)
 abbrev pub is_later : ℕ × ℕ → ℕ → ℕ → Bool
 is_later last worker tag = not (last.0 == worker) || nat_le last.1 tag
 
--- the same with the worker: it is the last one of so many or comes after it, and there are not too many
+-- the same with the worker: it is the last one of those before or comes after them, and its number is not too great
 abbrev pub may_come : ℕ → ℕ × ℕ → ℕ → ℕ → Bool
 may_come workers last worker tag = (nat_le workers (worker + 1) && nat_lt worker MAX_WORKERS) && is_later last worker tag
 

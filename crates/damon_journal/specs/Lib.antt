@@ -19,7 +19,7 @@ pub mod SeenLine
 pub mod Ahead
 pub mod SeenFront
 pub mod SeenColumns
-pub mod TagLinks
+pub mod TagOrder
 pub mod Reading
 pub mod Rules
 pub mod Examples

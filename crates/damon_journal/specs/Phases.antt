@@ -26,6 +26,12 @@ IsFree Armed = Unit {0}
 IsFree Void = Unit {0}
 IsFree _ = ⊥
 
+-- one pass is prepared and has not ended, or none
+abbrev pub passes_open : Phase → ℕ
+passes_open Armed = 1
+passes_open Void = 1
+passes_open _ = 0
+
 -- the phase in which this many picks are loaded
 abbrev pub phase_loaded : ℕ → Phase
 phase_loaded zero = Armed

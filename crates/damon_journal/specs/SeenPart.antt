@@ -31,7 +31,7 @@ accepted done all (x ∷ xs) = if may_be_seen done all x.0 x.1 then suc (accepte
 abbrev pub seen_left : LiveValue → JournalLines → List (ℕ × Receipt)
 seen_left v lines = seen_ahead v.setup.space (lines_left lines)
 
--- Lines of receipts were taken, which make these receipts of each worker; so many of those that are left may still be seen.
+-- Lines of receipts were taken, which make these receipts of each worker, and `left` of the others may still be seen.
 pub record AreSeen (left : ℕ) (v : LiveValue) (j : JournalValue) (all : List (List Receipt)) (old new : JournalLines) : Type 0 where
   pub said : said_left (InReceipts v j []) old ≡ said_left (InReceipts v j all) new
   pub few : accepted (steps v j) all (seen_left v new) ≡ left

@@ -65,7 +65,7 @@ abbrev pub IsPlaceOf : Recorded → Part → Type 0
 IsPlaceOf run (Entries next results) = AreResultsOf (live_said run.script.now) run.journal.now.value next results
 IsPlaceOf run _ = Unit {0}
 
--- how many parts of a text are left, with those of so many workers
+-- how many parts of a text are left, where this many workers have receipts
 abbrev pub parts_left : ℕ → Part → ℕ
 parts_left workers Head = workers + 4
 parts_left workers (Entries next results) = workers + 3
@@ -73,6 +73,6 @@ parts_left workers (Receipts worker next) = workers - worker + 2
 parts_left workers Last = 1
 parts_left workers End = 0
 
--- how far text of so many bytes is from its limit or from the last part
+-- how far a text of `size` bytes is from its limit or from the last part
 abbrev pub steps_left : Recorded → ℕ → ℕ → Part → ℕ
 steps_left run limit size part = limit - size + parts_left (length run.receipts.now.list) part

@@ -104,8 +104,8 @@ fn packed(worker: u8, tag: u64) -> u32
     u32::from(worker) * TAGS + tag as u32
 }
 
-// Whether a receipt with this tag may come next, after receipts of so many workers, where `last` is
-// what is kept of its page.
+// Whether a receipt with this tag may come next, after receipts of `workers` workers, where `last`
+// is what is kept of its page.
 fn may_come(workers: u32, last: Last, worker: u8, tag: u64) -> bool
     ensures { result ≡ may_come workers last worker tag }
 {

@@ -43,7 +43,8 @@ impl Model for Replayer {
 
     ghost Value = { ReplayerView };
 
-    ghost view = { λ r. replayer_of r.replay r.bits.items r.calls.items r.entries r.done r.bits_done r.calls_done };
+    ghost view = { λ r. replayer_of r.replay r.bits.items r.calls.items r.entries r.done
+        r.bits_done r.calls_done };
 
     ghost invariant = { λ r. IsOnWay
         (replayer_of r.replay r.bits.items r.calls.items r.entries r.done r.bits_done r.calls_done) };

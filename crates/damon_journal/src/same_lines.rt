@@ -47,7 +47,7 @@ pub(crate) fn is_number_line(line: &[u8], name: &[u8], value: u64) -> bool
     same_word(line, &wanted[start..])
 }
 
-// The digits of a line `check PASS BITS` of this pass, or none where it is no such line.
+// The digits of a line `check PASS BITS` of this pass, or `None` if the line is another.
 pub(crate) fn check_digits(line: &[u8], pass: u64) -> Option<&[u8]>
     ensures { option_copied result ≡ after_prefix (check_front pass) line.now }
 {
@@ -57,8 +57,8 @@ pub(crate) fn check_digits(line: &[u8], pass: u64) -> Option<&[u8]>
     strip(line, &front[start..])
 }
 
-// The last word of a line `call CONTROLLER INDEX WORD` of this controller and index, or none where
-// it is no such line.
+// The last word of a line `call CONTROLLER INDEX WORD` of this controller and index, or `None` if
+// the line is another.
 pub(crate) fn call_word(line: &[u8], controller: u32, index: u32) -> Option<&[u8]>
     ensures { option_copied result ≡ after_prefix (call_front controller index) line.now }
 {
@@ -69,7 +69,8 @@ pub(crate) fn call_word(line: &[u8], controller: u32, index: u32) -> Option<&[u8
     strip(line, &front[start..])
 }
 
-// The results that digits say, if there are this many.
+// The results that digits say, or `None` if they are not this many or one is not `0` or `1`.
+// Allocates.
 pub(crate) fn read_bits(
     alloc: Global,
     digits: &[u8],

@@ -6,7 +6,7 @@ ghost use Rattle.line_text.specs.Parts.{parts, parts_left};
 use line_text::{parts_are_pieces, pieces_are_parts};
 use memchr::memchr;
 
-// The first line of a text, and the text after its LF; where no LF ends it, there is none. Like
+// The first line of a text, and the text after its LF, or `None` if no LF ends the line. Like
 // `split_front` of `line_text`, but quicker on long lines.
 pub(crate) fn split_line(text: &[u8]) -> (&[u8], Option<&[u8]>)
     ensures exact { parts 10 text.now

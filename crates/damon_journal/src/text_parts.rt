@@ -91,7 +91,8 @@ impl<'a> TextParts<'a> {
         requires pages { AllByRecursion (λ r. r.page < pages_of script.now.setup.space)
             (all_of (receipts_said receipts.now)) }
         requires ranges { SpellsCalls (live_said script.now) }
-        ensures { result ≡ journal_text (live_said script.now) journal.now.value (receipts_said receipts.now) }
+        ensures { result ≡ journal_text (live_said script.now) journal.now.value
+            (receipts_said receipts.now) }
     {
         TextParts {
             run: Recorded {
@@ -226,8 +227,8 @@ fn write_entries<'a>(
     requires recorded { IsRecorded run.now }
     requires place { AreResultsOf (live_said run.now.script.now) run.now.journal.now.value next results }
     requires room { vec_len out.old < limit }
-    ensures ok { IfOk result (λ part.
-        out.new.items ++ text_left run.now part ≡ out.old.items ++ text_left run.now (entries next results.entry)) }
+    ensures ok { IfOk result (λ part. out.new.items ++ text_left run.now part
+        ≡ out.old.items ++ text_left run.now (entries next results.entry)) }
     ensures place { IfOk result (IsPlaceOf run.now) }
     ensures less { IfOk result (λ part. steps_left run.now limit (vec_len out.new) part
         < steps_left run.now limit (vec_len out.old) (entries next results.entry)) }
