@@ -25,14 +25,14 @@ use Rattle.damon_core.specs.Stands.{MonitorView, Stands}
 use Rattle.damon_control.specs.Live.{CallValue, CommitCall, LiveValue, ShowCall}
 use Rattle.damon_journal.specs.declared.entry.CallAnswer.{CallAnswer}
 use Rattle.damon_journal.specs.declared.entry.Entry.TheVariants.{Aggregate, Call}
-use Rattle.damon_journal.specs.Phases.{IsFree}
+use Rattle.damon_journal.specs.Phases.{IsFree, passes_open}
 use Rattle.damon_journal.specs.Replay.{EntryFits, JournalValue, Replayed, call_answer, call_at, call_event, check_sizes, entry_events, replay}
 use Rattle.damon_journal.specs.Steps.{steps}
 use Rattle.damon_journal.specs.Words.{words_after, words_at, words_from}
 use Rattle.damon_journal.specs.Growth.{GrowsByOthers}
 use Rattle.damon_live.specs.Called.{IsCalled}
 use Rattle.damon_live.proofs.Draws.{rest_after}
-use Rattle.damon_live.specs.Machine.{IsBetweenEntries, IsLoadable, IsRun, entries_owed, passes_open, with_one, words_owed}
+use Rattle.damon_live.specs.Machine.{IsBetweenEntries, IsLoadable, IsRun, entries_owed, with_one, words_owed}
 
 -- the monitor made an aggregation with the next words of the source
 pub record IsAggregated (m now : MonitorView) (g left : Lcg) : Type 0 where

@@ -14,12 +14,13 @@ use Rattle.damon_core.specs.Reached.{Reached, run}
 use Rattle.damon_core.specs.State.{Core, row_count}
 use Rattle.damon_core.specs.Stands.{MonitorView, Stands}
 use Rattle.damon_control.specs.Live.{LiveValue}
+use Rattle.damon_journal.specs.Phases.{passes_open}
 use Rattle.damon_journal.specs.declared.entry.Entry.TheVariants.{Check, Void}
 use Rattle.damon_journal.specs.Replay.{EntryFits, JournalValue, Replayed, carried, check_sizes, entry_events, replay}
 use Rattle.damon_journal.specs.Steps.{load_steps, steps}
 use Rattle.damon_journal.specs.Growth.{GrowsByEntries, GrowsByOthers, longer, replay_with}
 use Rattle.damon_live.specs.Kept.{HasEnded}
-use Rattle.damon_live.specs.Machine.{IsBetweenEntries, IsLoadable, IsRun, entries_owed, passes_open, with_one}
+use Rattle.damon_live.specs.Machine.{IsBetweenEntries, IsLoadable, IsRun, entries_owed, with_one}
 use Rattle.damon_live.specs.Passes.{AreLoaded}
 
 -- the end of a pass leaves what the next entry needs

@@ -10,9 +10,10 @@ use Rattle.damon_core.specs.State.{Core, opening, opening_core}
 use Rattle.damon_core.specs.Stands.{MonitorView, Stands}
 use Rattle.damon_control.specs.declared.live.TheConstants.{MAX_CALLS}
 use Rattle.damon_control.specs.Live.{LiveValue, count_all}
+use Rattle.damon_journal.specs.Phases.{passes_open}
 use Rattle.damon_journal.specs.Room.{JournalView, empty_journal, nothing_said}
 use Rattle.damon_journal.specs.Words.{seeded, words_from}
-use Rattle.damon_live.specs.Machine.{HasRoom, IsBetweenEntries, IsLoadable, IsRun, calls_left, entries_owed, passes_made, passes_open, words_owed}
+use Rattle.damon_live.specs.Machine.{HasRoom, IsBetweenEntries, IsLoadable, IsRun, calls_left, entries_owed, passes_made, words_owed}
 
 empty_run : (v : LiveValue) (table : TableId) (m : MonitorView) (seat : MonitorSeatView) (g : Lcg) (out : ℕ) → CanOpen v.setup → Stands m (opening v.setup) → seat ≡ record { table = table; entries = []; out = out } → g ≡ seeded v.seed → table.words ≡ pages_of v.setup.space → m.core ≡ opening_core v.setup → IsRun v table m seat nothing_said [] g 0
 empty_run v table m seat g out can stands fresh generator words core = record {

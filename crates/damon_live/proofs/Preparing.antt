@@ -20,6 +20,7 @@ use Rattle.damon_core.specs.Several.{clears}
 use Rattle.damon_core.specs.State.{Core, State, row_count}
 use Rattle.damon_core.specs.Stands.{MonitorView, Stands}
 use Rattle.damon_control.specs.Live.{LiveValue}
+use Rattle.damon_journal.specs.Phases.{passes_open}
 use Rattle.damon_journal.specs.declared.entry.Entry.TheVariants.{Prepare}
 use Rattle.damon_journal.specs.Counted.{prepares}
 use Rattle.damon_journal.specs.Replay.{EntryFits, JournalValue, Replayed, carried, check_sizes, entry_events, replay}
@@ -27,7 +28,7 @@ use Rattle.damon_journal.specs.Room.{JournalView}
 use Rattle.damon_journal.specs.Steps.{clear_steps, steps}
 use Rattle.damon_journal.specs.Words.{words_after, words_at, words_from}
 use Rattle.damon_journal.specs.Growth.{GrowsByOthers}
-use Rattle.damon_live.specs.Machine.{HasRoom, call_in, passes_made, calls_left, IsBetweenEntries, IsRun, entries_owed, passes_open, with_one, words_owed}
+use Rattle.damon_live.specs.Machine.{HasRoom, call_in, passes_made, calls_left, IsBetweenEntries, IsRun, entries_owed, with_one, words_owed}
 use Rattle.std.proofs.lemmas.List.Sums.{sum_by_push}
 use Rattle.damon_live.proofs.Draws.{rest_after}
 use Rattle.damon_live.proofs.Stepping.{all_cleared}

@@ -11,10 +11,10 @@ use Rattle.damon_control.specs.declared.live.TheConstants.{MAX_CALLS}
 use Rattle.damon_journal.specs.declared.entry.CallAnswer.{CallAnswer}
 use Rattle.damon_journal.specs.declared.entry.Entry.{Entry}
 use Rattle.damon_journal.specs.declared.entry.Entry.TheVariants.{Call}
-use Rattle.damon_journal.specs.Phases.{IsFree}
+use Rattle.damon_journal.specs.Phases.{IsFree, passes_open}
 use Rattle.damon_journal.specs.Replay.{JournalValue}
 use Rattle.damon_live.specs.Kept.{AreCounts, AreInTurn, CallsAreInOrder, calls_asked, calls_made, index_in, indexes}
-use Rattle.damon_live.specs.Machine.{call_in, passes_open, with_one}
+use Rattle.damon_live.specs.Machine.{call_in, with_one}
 use Rattle.damon_live.proofs.Turns.{indexes_of-snoc, made_is}
 
 pub idle_kept : (ph : Phase) → IsFree ph → passes_open ph ≡ 0 → ph ≡ Idle

@@ -15,6 +15,7 @@ use Rattle.damon_control.specs.declared.live.LiveScript.{LiveScript}
 use Rattle.damon_control.specs.Live.{LiveValue, count_all}
 use Rattle.damon_control.specs.LiveText.{KeepsLimits}
 use Rattle.damon_control.specs.LiveView.{live_said}
+use Rattle.damon_journal.specs.Phases.{passes_open}
 use Rattle.damon_journal.specs.declared.entry.Entry.{Entry}
 use Rattle.damon_journal.specs.declared.entry.Entry.TheVariants.{Aggregate, Call, Prepare}
 use Rattle.damon_journal.specs.Counted.{prepares}
@@ -30,12 +31,6 @@ IsBetweenEntries Armed = Unit {0}
 IsBetweenEntries Void = Unit {0}
 IsBetweenEntries Due = Unit {0}
 IsBetweenEntries _ = ⊥
-
--- a pass is prepared and not yet observed
-abbrev pub passes_open : Phase → ℕ
-passes_open Armed = 1
-passes_open Void = 1
-passes_open _ = 0
 
 -- how many entries it takes at most until the phase is Idle
 abbrev pub entries_owed : Phase → ℕ

@@ -6,12 +6,12 @@ ghost use Rattle.damon_core.specs.Stands.{Stands};
 ghost use Rattle.damon_control.specs.LiveText.{KeepsLimits};
 ghost use Rattle.damon_control.specs.LiveView.{live_said};
 ghost use Rattle.damon_journal.specs.declared.entry.Entry.TheVariants.{Call};
-ghost use Rattle.damon_journal.specs.Phases.{IsFree};
+ghost use Rattle.damon_journal.specs.Phases.{IsFree, passes_open};
 ghost use Rattle.damon_journal.specs.Replay.{IsJournalOf, check_sizes, replay};
 ghost use Rattle.damon_journal.specs.Room.{nothing_said};
 ghost use Rattle.damon_journal.specs.Steps.{steps};
 ghost use Rattle.damon_live.specs.Kept.{CallsAreInOrder, HasEnded, calls_asked, calls_made};
-ghost use Rattle.damon_live.specs.Machine.{passes_made, passes_open, prepare_after, with_one};
+ghost use Rattle.damon_live.specs.Machine.{passes_made, prepare_after, with_one};
 ghost use Rattle.damon_live.specs.Plain.{AddsPlain};
 
 use crate::machine::Machine;

@@ -6,14 +6,14 @@ ghost use Rattle.damon_control.specs.Live.{CallValue};
 ghost use Rattle.damon_control.specs.LiveText.{KeepsLimits};
 ghost use Rattle.damon_control.specs.LiveView.{live_said};
 ghost use Rattle.damon_journal.specs.Growth.{longer};
-ghost use Rattle.damon_journal.specs.Phases.{IsFree};
+ghost use Rattle.damon_journal.specs.Phases.{IsFree, passes_open};
 ghost use Rattle.damon_journal.specs.Room.{nothing_said};
 ghost use Rattle.damon_core.specs.Reached.{CanOpen};
 ghost use Rattle.damon_core.specs.Stands.{Stands};
 ghost use Rattle.damon_journal.specs.Replay.{IsJournalOf, call_answer, call_at, check_sizes, replay};
 ghost use Rattle.damon_journal.specs.Steps.{steps};
 ghost use Rattle.damon_live.specs.Kept.{HasEnded};
-ghost use Rattle.damon_live.specs.Machine.{aggregate_after, calls_left, passes_made, passes_open, prepare_after, with_one};
+ghost use Rattle.damon_live.specs.Machine.{aggregate_after, calls_left, passes_made, prepare_after, with_one};
 
 use crate::calls::make_call;
 use crate::kept::{Kept1, KeptParts};

@@ -1,5 +1,5 @@
+use Rattle.damon_journal.specs.Phases.{passes_open}
 use Rattle.std.proofs.Common.{ap}
-use Rattle.damon_live.specs.Machine.{passes_open}
 use Rattle.damon_live.proofs.rest.make_passes.Goals as goal
 
 pub check-requires-clause-begun : goal.check-requires-clause-begun

@@ -1,9 +1,10 @@
 use Rattle.std.proofs.Common.{rules, ◌≡◌, ◌≤◌, ◌<◌, ◌+◌, [], length, ap, sym, ◌∙◌, subst, arith}
 use Rattle.std.specs.Prelude.{slice_index, slice_index_or, slice_set}
+use Rattle.damon_journal.specs.Phases.{passes_open}
 use Rattle.damon_journal.specs.declared.entry.Entry.TheVariants.{Call}
 use Rattle.damon_journal.specs.Replay.{JournalValue, replay}
 use Rattle.damon_live.specs.Kept.{AreInTurn, calls_made}
-use Rattle.damon_live.specs.Machine.{passes_made, passes_open, with_one}
+use Rattle.damon_live.specs.Machine.{passes_made, with_one}
 use Rattle.damon_live.proofs.Resting.{idle_kept}
 use Rattle.damon_live.proofs.Turns.{calls_are_left, counts_len, has_list, list_few, made_is, some_below, turns_called}
 use Rattle.damon_live.proofs.kept.Kept.call.Goals as goal

@@ -3,10 +3,10 @@ use Rattle.damon_core.specs.State.{Core}
 use Rattle.damon_control.specs.Live.{LiveValue}
 use Rattle.damon_control.specs.LiveView.{call_value}
 use Rattle.damon_journal.specs.declared.entry.Entry.TheVariants.{Call}
-use Rattle.damon_journal.specs.Phases.{IsFree}
+use Rattle.damon_journal.specs.Phases.{IsFree, passes_open}
 use Rattle.damon_journal.specs.Replay.{JournalValue, call_answer, call_at, replay}
 use Rattle.damon_journal.specs.Room.{JournalView}
-use Rattle.damon_live.specs.Machine.{IsRun, calls_left, passes_made, passes_open}
+use Rattle.damon_live.specs.Machine.{IsRun, calls_left, passes_made}
 use Rattle.damon_live.proofs.Between.{called_run}
 use Rattle.damon_live.proofs.Calling.{call_found, one_call}
 use Rattle.damon_live.proofs.Rooms.{by_entry, call_takes, one_call_less, room_left}

@@ -5,10 +5,11 @@ use Rattle.page_words.specs.Seats.{MonitorSeatView}
 use Rattle.damon_core.specs.Event.{IsObserving}
 use Rattle.damon_core.specs.Pass.{IsInPass}
 use Rattle.damon_core.specs.State.{Core, row_count}
+use Rattle.damon_journal.specs.Phases.{passes_open}
 use Rattle.damon_journal.specs.declared.entry.Entry.TheVariants.{Check}
 use Rattle.damon_journal.specs.Replay.{JournalValue, replay}
 use Rattle.damon_journal.specs.Room.{JournalView, with_entry, with_results}
-use Rattle.damon_live.specs.Machine.{entries_owed, passes_open, words_owed}
+use Rattle.damon_live.specs.Machine.{entries_owed, words_owed}
 use Rattle.damon_live.proofs.Checking.{IsObserved, checked_run}
 use Rattle.damon_live.proofs.Rooms.{by_check, pass_takes, room_for_results, room_left, same_calls}
 use Rattle.damon_live.proofs.Stepping.{all_observed}

@@ -8,12 +8,13 @@ use Rattle.damon_core.specs.Makes.{Makes}
 use Rattle.damon_core.specs.Several.{clears}
 use Rattle.damon_core.specs.State.{Core, row_count}
 use Rattle.damon_core.specs.Stands.{Stands}
+use Rattle.damon_journal.specs.Phases.{passes_open}
 use Rattle.damon_journal.specs.Replay.{JournalValue, replay}
 use Rattle.damon_journal.specs.Room.{JournalView}
 use Rattle.damon_journal.specs.Steps.{clear_steps}
 use Rattle.damon_journal.specs.Words.{words_from}
 use Rattle.damon_live.proofs.Preparing.{IsPrepared, armed_core, prepared_room, prepared_run}
-use Rattle.damon_live.specs.Machine.{IsRun, passes_made, passes_open}
+use Rattle.damon_live.specs.Machine.{IsRun, passes_made}
 use Rattle.damon_live.proofs.machine.Machine.prepare.Goals as goal
 
 pub invariant_of-self : goal.invariant_of-self
