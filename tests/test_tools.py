@@ -14,10 +14,10 @@ def setUpModule() -> None:
 
 
 class Tutorial(Page):
-    """The commands of docs/TUTORIAL.md work as printed, but for those that need valgrind or gnuplot, or make another run each time."""
+    """The commands of docs/TUTORIAL.md work as printed, but for those that need valgrind, perf or gnuplot, or make another run each time."""
 
     def test_commands_and_outputs(self) -> None:
-        skipped = ("valgrind", "out/shop.trace", "gnuplot", "./damond run")
+        skipped = ("valgrind", "perf script", "out/shop.trace", "gnuplot", "./damond run")
         self.follow("docs/TUTORIAL.md", lambda block: any(word in block for word in skipped), self.compare_pictures)
 
     def compare_pictures(self, folder: Path) -> None:
