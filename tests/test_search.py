@@ -143,8 +143,8 @@ class Measures(Searches):
             point, seed = points.run(number)
             report = report_of(script_of_run(plan, found[point.key(True)], point, seed).decode())
             (self.folder / "report").write_text(report)
-            counts = run("exact_counts.py", "--gap=4", f"--interval={point.chosen['interval']}", f"--like={self.folder / 'report'}",
-                         str(self.folder / point.workload))
+            words = ("--gap=4", f"--interval={point.chosen['interval']}", f"--like={self.folder / 'report'}")
+            counts = run("exact_counts.py", *words, str(self.folder / point.workload))
             self.same(report, counts.stdout.decode(), found[point.key(True)], 0.5)
 
     def test_measures_of_a_script_with_shows(self) -> None:
@@ -204,7 +204,8 @@ class Files(Searches):
         whole, _ = self.search("small.toml", "one.csv")
         path = self.folder / "one.csv"
         lines = whole.splitlines(keepends=True)
-        for kept, more in ((b"", b""), (b"", b"work"), (lines[0], b""), (b"".join(lines[:30]), b""), (b"".join(lines[:30]), b"a.tra"),
+        some = b"".join(lines[:30])
+        for kept, more in ((b"", b""), (b"", b"work"), (lines[0], b""), (some, b""), (some, b"a.tra"),
                            (b"".join(lines[:-1]), lines[-1][:-1]), (whole, b"")):
             path.write_bytes(kept + more)
             given, said = self.search("small.toml", "one.csv")
@@ -246,6 +247,13 @@ class Files(Searches):
                 self.assertEqual(point[f"{name} mean"], f"{statistics.mean(numbers):.4f}" if numbers else "")
                 self.assertEqual(point[f"{name} spread"], f"{statistics.stdev(numbers):.4f}" if len(numbers) > 1 else "")
 
+    def test_measures_that_are_chosen(self) -> None:
+        (self.folder / "few.toml").write_text(SMALL + '[measure]\ncolumns = ["out", "checks"]\n')
+        rows = self.rows(self.search("few.toml", "few.csv", "--timeout", "1e12")[0])
+        others = self.rows(self.search("small.toml", "one.csv")[0])
+        self.assertEqual([*rows[0]][-3:], ["out", "checks", "status"])
+        self.assertEqual([row["checks"] for row in rows], [row["checks"] for row in others])
+
     def test_random_points(self) -> None:
         whole = self.rows(self.search("small.toml", "one.csv")[0])
         found = {}
@@ -268,8 +276,8 @@ class Failures(Searches):
         self.assertEqual({row["status"] for row in rows if row not in wrong}, {"ok"})
 
     def test_other_ends_are_rows_too(self) -> None:
-        for body, status in (("kill -9 $$", "ended by signal 9"), ("exit 7", "status 7"), ("echo a, b >&2; echo c >&2; exit 7", "a, b c"),
-                             ("sleep 9", "no answer within 0.2 s"), ("true", "the report has no last line"),
+        for body, status in (("kill -9 $$", "ended by signal 9"), ("exit 7", "status 7"),
+                             ("echo a, b >&2; echo c >&2; exit 7", "a, b c"), ("sleep 9", "no answer within 0.2 s"), ("true", "the report has no last line"),
                              ("echo end ticks=1 rows=1 checks=5 hits=0", "ok"),
                              ("printf 'aggregate tick=2 threshold=0\\nrow 9 0x0-0x1000 count=1\\nend checks=5 hits=0\\n'",
                               "not a report of this workload: pages that are not watched: 9 0x0-0x1000")):
@@ -329,6 +337,12 @@ class Errors(Searches, Refusals):
         self.taken_from(start + "[measure]\nhot = 0", "hot")
         self.taken_from(start + '[measure]\ncolumns = ["x"]', "columns", "checks")
 
+    def test_too_many_points(self) -> None:
+        path = self.folder / "wrong.toml"
+        axes = "\n".join(f"{name} = {{ from = 0, to = 999999 }}" for name in ("min", "max", "aggr", "unit"))
+        path.write_text(f'traces = ["a.trace"]\n[settings]\n{axes}\n')
+        self.refused(TOOL, ["the plan has more than 1152921504606846976 points"], b"", str(path), str(self.folder / "wrong.csv"))
+
     def test_workloads(self) -> None:
         (self.folder / "odd.damon").write_text("damon script 1\nbegin\nend\n")
         for name, parts in (("no-such", ["No such file"]), ("odd.damon", ["line 1: not a line of lackey"])):
@@ -374,7 +388,8 @@ class Progress(unittest.TestCase):
         self.assertEqual(stream.getvalue(), "note: 300 of 1000 runs, 30 %; 5 min left\n")
 
     def test_words(self) -> None:
-        self.assertEqual([in_words(seconds) for seconds in (0.0, 89.0, 120.0, 5399.0, 7200.0)], ["0 s", "89 s", "2 min", "90 min", "2.0 h"])
+        self.assertEqual([in_words(seconds) for seconds in (0.0, 89.0, 120.0, 5399.0, 7200.0)],
+                         ["0 s", "89 s", "2 min", "90 min", "2.0 h"])
 
 
 if __name__ == "__main__":

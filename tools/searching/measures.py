@@ -5,10 +5,9 @@ import re
 from dataclasses import dataclass, field
 from typing import Iterator
 
-from comparing.paging import PAGEOUT, Moment, Owner, Paging
-from reports.pages import Run
+from comparing.paging import PAGEOUT
 
-from .truth import Truths
+from .truth import Truths, bits
 
 LESS, MORE = "less", "more"
 MEASURES = {
@@ -21,14 +20,32 @@ AGGREGATE = "\naggregate tick="
 SHOW = "\nshow tick="
 ROW = re.compile(r"row (\d+ \S+) count=([1-9]\d*)")
 """A row that was found accessed. All others are cold, as the rows tile the ranges."""
-APPLY = re.compile(r"apply (\d+) (\w+) (\d+ \S+) score=")
-CHECKS = re.compile(r"\bchecks=(\d+) hits=\d+\n\Z")
-NEVER_SOON = 1
-"""How soon a refault comes is not measured."""
+APPLY = re.compile(r"apply \d+ (\w+) (\d+ \S+) score=")
+LAST = re.compile(r"(?:.* )?checks=(\d+) hits=\d+\n")
+MARK_OF_APPLY = "\napply "
 
 
 class ReportError(Exception):
     """A report that is none, or one of other pages."""
+
+
+@dataclass
+class Paged:
+    """The pages that are out, as in tools/compare.py, but for all slots together. A set of pages is a number of bits."""
+
+    out: int = 0
+    put_out: int = 0
+    refaults: int = 0
+    out_sum: int = 0
+    """The pages that were out through a whole aggregation, added up."""
+
+    def add(self, accessed: int, applied: int) -> None:
+        """Takes one aggregation: what was accessed in it comes in, and then what schemes take goes out."""
+        self.refaults += (self.out & accessed).bit_count()
+        self.out &= ~accessed
+        self.out_sum += self.out.bit_count()
+        self.put_out += (applied & ~self.out).bit_count()
+        self.out |= applied
 
 
 @dataclass
@@ -47,7 +64,7 @@ class Sums:
     found_accessed: int = 0
     applied: int = 0
     aggregations: int = 0
-    paging: Paging = field(default_factory=lambda: Paging(NEVER_SOON, False))
+    paged: Paged = field(default_factory=Paged)
 
     def add(self, since: int, tick: int, block: str) -> None:
         """Adds the aggregation at a tick; the block has its lines."""
@@ -68,18 +85,18 @@ class Sums:
         self.cold_wrong += truth.accessed.size - accessed
         self.accessed += truth.accessed.size
         self.found_accessed += found
-        self.follow(tick, truth.accessed.runs, block)
-
-    def follow(self, tick: int, accessed: list[Run], block: str) -> None:
-        """Adds what schemes were applied to."""
-        runs: dict[Owner, list[Run]] = {}
-        for slot, action, place in APPLY.findall(block):
-            run = self.truths.place(place)
-            self.applied += run[1] - run[0]
-            if action == PAGEOUT:
-                runs.setdefault((int(slot), action), []).append(run)
-        self.paging.add(Moment(self.aggregations, tick), accessed, runs)
+        self.paged.add(truth.accessed.bits, self.taken(block) if MARK_OF_APPLY in block else 0)
         self.aggregations += 1
+
+    def taken(self, block: str) -> int:
+        """The pages that `pageout` was applied to. Adds what schemes of all actions were applied to."""
+        result = 0
+        for action, place in APPLY.findall(block):
+            first, after = self.truths.place(place)
+            self.applied += after - first
+            if action == PAGEOUT:
+                result |= bits(first, after)
+        return result
 
 
 def sums_of(report: str, truths: Truths, share: float) -> Sums:
@@ -106,20 +123,20 @@ def blocks_of(report: str) -> Iterator[tuple[int, str]]:
 def measured(report: str, truths: Truths, share: float) -> dict[str, str]:
     """Each measure as the text of its column; nothing where it is not defined. Raises ReportError."""
     sums = sums_of(report, truths, share)
-    checks = CHECKS.search(report)
-    if not checks:
+    last = LAST.fullmatch(report, report.rfind("\n", 0, -1) + 1)
+    if not last:
         raise ReportError("the report has no last line")
-    ledgers = sums.paging.ledgers.values()
+    paged = sums.paged
     return {
-        "checks": checks[1],
+        "checks": last[1],
         "hot_found": ratio(sums.hot_found, sums.hot),
         "hot_false": ratio(sums.called_hot - sums.hot_found, sums.called_hot),
         "cold_false": ratio(sums.cold_wrong, sums.called_cold),
         "working_set_error": ratio(sums.found_accessed - sums.accessed, sums.accessed),
         "applied": str(sums.applied),
-        "put_out": str(sum(ledger.put_out for ledger in ledgers)),
-        "refaults": str(sum(ledger.refaults for ledger in ledgers)),
-        "out": ratio(sum(ledger.out_sum for ledger in ledgers), sums.aggregations),
+        "put_out": str(paged.put_out),
+        "refaults": str(paged.refaults),
+        "out": ratio(paged.out_sum, sums.aggregations),
     }
 
 

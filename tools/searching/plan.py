@@ -147,7 +147,8 @@ def source_of(table: Table, are_traces: bool) -> Source:
                 raise UsageError(f"{name} is for traces, and the plan has scripts")
     clock, form = table.take("clock", str, "accesses"), table.take("form", str, "")
     kinds, gap = table.strings("take"), table.take("gap", int, 16)
-    for name, value, allowed in (("clock", clock, CLOCKS), ("form", form, ("", *FORMS)), *(("take", kind, KINDS) for kind in kinds)):
+    for name, value, allowed in (("clock", clock, CLOCKS), ("form", form, ("", *FORMS)),
+                                 *(("take", kind, KINDS) for kind in kinds)):
         if value not in allowed:
             raise UsageError(f"{name} is {value!r}, and must be one of {', '.join(filter(None, allowed))}")
     if gap < 0:
@@ -197,7 +198,7 @@ def ranged(name: str, value: dict[str, Any]) -> tuple[Value, ...]:
         raise UsageError(f"{name} needs a range such as {{ from = 5, to = 40, step = 5 }}")
     first, last, step = value["from"], value["to"], value.get("step", 1)
     if not 0 <= first <= last or step < 1 or (last - first) // step >= MOST_VALUES:
-        raise UsageError(f"{name} needs a range with `from` at most `to`, a step of at least 1, and at most {MOST_VALUES} values")
+        raise UsageError(f"{name} needs a range with `from` at most `to`, a step from 1, and at most {MOST_VALUES} values")
     return tuple(range(first, last + 1, step))
 
 

@@ -6,10 +6,13 @@ from dataclasses import dataclass
 from itertools import product
 from typing import Mapping, Sequence
 
-from .plan import SEED, SETTINGS, Plan, Value
+from common import UsageError
+
+from .plan import SETTINGS, Plan, Value
 from .workloads import Key, Workload
 
 Axes = Sequence[tuple[str, Sequence[Value | None]]]
+MOST_POINTS = 1 << 60
 OWN = (None,)
 """In place of the values of a setting that the plan does not name: that of the workload."""
 
@@ -38,7 +41,7 @@ class Points:
     """The points of a plan, in their order, each made when it is asked for."""
 
     def __init__(self, plan: Plan, draws: int | None, draw: int) -> None:
-        """With `draws` so many different points are drawn, by a generator that starts with `draw`."""
+        """With `draws` so many different points are drawn, by a generator that starts with `draw`. Raises UsageError."""
         named = {**{name: plan.settings.get(name, OWN) for name in SETTINGS}, **plan.values}
         self.axes: Axes = [("", plan.workloads), *named.items()]
         self.seeds: Sequence[Value | None] = plan.seeds or OWN
@@ -46,6 +49,8 @@ class Points:
         for _, values in self.axes:
             self.all *= len(values)
         self.drawn: list[int] | None = None
+        if self.all > MOST_POINTS:
+            raise UsageError(f"the plan has more than {MOST_POINTS} points")
         if draws is not None and draws < self.all:
             self.drawn = sorted(random.Random(draw).sample(range(self.all), draws))
 

@@ -1,7 +1,6 @@
 """One run: the script of a point and a seed, damon's answer, and what is measured of it."""
 from __future__ import annotations
 
-import subprocess
 from dataclasses import dataclass
 from typing import Mapping, Sequence
 
@@ -12,6 +11,7 @@ from tracing.commits import commits_of
 from .measures import ReportError, measured
 from .plan import SEED, Plan, Value
 from .points import Point
+from .replaying import replayed
 from .workloads import Key, Workload
 
 DONE = "ok"
@@ -56,17 +56,17 @@ def answered(inputs: Inputs, program: str, workload: Workload, point: Point, see
     except PointError as error:
         return one_line(str(error)), {}
     try:
-        ran = subprocess.run([program, "replay"], input=script, capture_output=True, timeout=inputs.seconds)
-    except subprocess.TimeoutExpired:
-        return f"no answer within {inputs.seconds:g} s", {}
+        ended = replayed(program, script, inputs.seconds)
     except OSError as error:
         return one_line(f"{program}: {error.strerror}"), {}
-    if ran.returncode < 0:
-        return f"ended by signal {-ran.returncode}", {}
-    if ran.returncode != OK:
-        return one_line(ran.stderr.decode("latin-1")) or f"status {ran.returncode}", {}
+    if ended is None:
+        return f"no answer within {inputs.seconds:g} s", {}
+    if ended.status < 0:
+        return f"ended by signal {-ended.status}", {}
+    if ended.status != OK:
+        return one_line(ended.errors) or f"status {ended.status}", {}
     try:
-        return DONE, measured(ran.stdout.decode("latin-1"), workload.truths, inputs.plan.hot)
+        return DONE, measured(ended.report, workload.truths, inputs.plan.hot)
     except ReportError as error:
         return one_line(str(error)), {}
 

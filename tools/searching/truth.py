@@ -27,11 +27,16 @@ class Range:
         return self.after - self.first
 
 
+def bits(first: int, after: int) -> int:
+    """The pages from `first` to before `after` as a set: a number with a bit for each page."""
+    return (1 << after) - (1 << first)
+
+
 class PageSet:
     """A set of pages that tells how many of some neighbours it has."""
 
     def __init__(self, runs: list[Run]) -> None:
-        self.runs = runs
+        self.bits = sum(bits(*run) for run in runs)
         self.borders = [border for run in runs for border in run]
         self.below = [0]
         """How many pages of the set lie below each border, but for the first."""
