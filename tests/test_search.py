@@ -5,7 +5,6 @@ from __future__ import annotations
 import csv
 import io
 import os
-import random
 import signal
 import statistics
 import subprocess
@@ -26,7 +25,6 @@ from searching.plan import Plan, plan_of
 from searching.points import Points
 from searching.remaining import Remaining, in_words
 from searching.runs import script_of as script_of_run
-from searching.truth import PageSet
 from searching.workloads import Workload, script_workload, trace_workloads
 
 TOOL = "search.py"
@@ -178,17 +176,6 @@ class Measures(Searches):
             "refaults": str(sum(one.refaults for one in ledgers)),
             "out": ratio(sum(one.out_sum for one in ledgers), accuracy.aggregations)})
         self.assertGreater(applied, 0)
-
-    def test_sets_of_pages(self) -> None:
-        source = random.Random(3)
-        for _ in range(50):
-            borders = sorted(source.sample(range(40), 2 * source.randrange(1, 8)))
-            runs = list(zip(borders[::2], borders[1::2]))
-            pages = {page for start, end in runs for page in range(start, end)}
-            found = PageSet(runs)
-            for first in range(40):
-                for after in range(first, 41):
-                    self.assertEqual(found.within(first, after), len(pages & set(range(first, after))))
 
 
 class Files(Searches):

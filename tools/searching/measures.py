@@ -7,7 +7,7 @@ from typing import Iterator
 
 from comparing.paging import PAGEOUT
 
-from .truth import Truths, bits
+from .truth import PageSet, Truths
 
 LESS, MORE = "less", "more"
 MEASURES = {
@@ -18,11 +18,11 @@ MEASURES = {
 
 AGGREGATE = "\naggregate tick="
 SHOW = "\nshow tick="
-ROW = re.compile(r"row (\d+ \S+) count=([1-9]\d*)")
-"""A row that was found accessed. All others are cold, as the rows tile the ranges."""
-APPLY = re.compile(r"apply \d+ (\w+) (\d+ \S+) score=")
+ROW = re.compile(r"\nrow ([^ ]+ [^ ]+) count=([1-9][0-9]*)")
+"""A row that was found accessed, its place and its count. As rows tile the ranges, all other pages were not."""
+FIRST_ROW, FIRST_APPLY = "\nrow ", "\napply "
+APPLY = re.compile(r"\napply ([0-9]+) ([a-z_]+) ([^ ]+ [^ ]+) score=")
 LAST = re.compile(r"(?:.* )?checks=(\d+) hits=\d+\n")
-MARK_OF_APPLY = "\napply "
 
 
 class ReportError(Exception):
@@ -31,15 +31,15 @@ class ReportError(Exception):
 
 @dataclass
 class Paged:
-    """The pages that are out, as in tools/compare.py, but for all slots together. A set of pages is a number of bits."""
+    """The pages that are out, as in tools/compare.py, but for all slots together."""
 
-    out: int = 0
+    out: PageSet = 0
     put_out: int = 0
     refaults: int = 0
     out_sum: int = 0
     """The pages that were out through a whole aggregation, added up."""
 
-    def add(self, accessed: int, applied: int) -> None:
+    def add(self, accessed: PageSet, applied: PageSet) -> None:
         """Takes one aggregation: what was accessed in it comes in, and then what schemes take goes out."""
         self.refaults += (self.out & accessed).bit_count()
         self.out &= ~accessed
@@ -67,35 +67,34 @@ class Sums:
     paged: Paged = field(default_factory=Paged)
 
     def add(self, since: int, tick: int, block: str) -> None:
-        """Adds the aggregation at a tick; the block has its lines."""
+        """Adds the aggregation at a tick; the block has its lines. Raises ValueError or LookupError if it is none."""
         truth = self.truths.between(since, tick)
         least = self.share * (tick - since)
-        found = accessed = called_hot = hot_found = 0
-        for place, hits in ROW.findall(block):
-            first, after = self.truths.place(place)
-            found += after - first
-            accessed += truth.accessed.within(first, after)
-            if int(hits) >= least:
-                called_hot += after - first
-                hot_found += truth.hot.within(first, after)
-        self.hot += truth.hot.size
-        self.called_hot += called_hot
-        self.hot_found += hot_found
-        self.called_cold += self.truths.pages - found
-        self.cold_wrong += truth.accessed.size - accessed
-        self.accessed += truth.accessed.size
-        self.found_accessed += found
-        self.paged.add(truth.accessed.bits, self.taken(block) if MARK_OF_APPLY in block else 0)
+        rows = ROW.findall(block)
+        found = self.truths.pages_at([place for place, _ in rows])
+        called_hot = self.truths.pages_at([place for place, count in rows if int(count) >= least])
+        self.hot += truth.hot.bit_count()
+        self.called_hot += called_hot.bit_count()
+        self.hot_found += (called_hot & truth.hot).bit_count()
+        self.called_cold += self.truths.pages - found.bit_count()
+        self.cold_wrong += (truth.accessed & ~found).bit_count()
+        self.accessed += truth.accessed.bit_count()
+        self.found_accessed += found.bit_count()
+        self.paged.add(truth.accessed, self.taken(block[: block.find(FIRST_ROW)]) if FIRST_APPLY in block else 0)
         self.aggregations += 1
 
-    def taken(self, block: str) -> int:
+    def taken(self, head: str) -> PageSet:
         """The pages that `pageout` was applied to. Adds what schemes of all actions were applied to."""
         result = 0
-        for action, place in APPLY.findall(block):
-            first, after = self.truths.place(place)
-            self.applied += after - first
+        by_slot: dict[tuple[str, str], list[str]] = {}
+        for slot, action, place in APPLY.findall(head):
+            by_slot.setdefault((slot, action), []).append(place)
+        for (_, action), places in by_slot.items():
+            pages = self.truths.pages_at(places)
+            # The runs of one slot do not overlap.
+            self.applied += pages.bit_count()
             if action == PAGEOUT:
-                result |= bits(first, after)
+                result |= pages
         return result
 
 

@@ -4,14 +4,19 @@ The watched pages of a workload are numbered from 0: range by range, each by add
 """
 from __future__ import annotations
 
-from bisect import bisect_right
 from dataclasses import dataclass
-from typing import Sequence
+from typing import Iterable, Sequence
 
 from reports.exact import touch_counts
-from reports.pages import Run, append
+from reports.pages import Run
 from tracing.accesses import PAGE_BITS
 from tracing.intervals import Runs
+
+
+PageSet = int
+"""A set of pages: a number with a bit for each. So sets are counted and compared at the speed of memory."""
+MOST_KEPT = 1 << 16
+"""The most places whose pages are kept."""
 
 
 @dataclass(frozen=True)
@@ -27,33 +32,41 @@ class Range:
         return self.after - self.first
 
 
-def bits(first: int, after: int) -> int:
-    """The pages from `first` to before `after` as a set: a number with a bit for each page."""
-    return (1 << after) - (1 << first)
+def set_of(pages: int, runs: Iterable[Run]) -> PageSet:
+    """The pages of these runs, of so many pages in all."""
+    digits = bytearray(b"0") * pages
+    for first, after in runs:
+        digits[first:after] = b"1" * (after - first)
+    return int(digits, 2)
 
 
-class PageSet:
-    """A set of pages that tells how many of some neighbours it has."""
+class Places(dict[str, Run]):
+    """The numbers of the pages of `TARGET START-END`, as a report has it. It keeps the answers: the places of rows come again."""
 
-    def __init__(self, runs: list[Run]) -> None:
-        self.bits = sum(bits(*run) for run in runs)
-        self.borders = [border for run in runs for border in run]
-        self.below = [0]
-        """How many pages of the set lie below each border, but for the first."""
-        for start, end in runs:
-            self.below += (self.below[-1], self.below[-1] + end - start)
-        self.size = self.below[-1]
+    def __init__(self, ranges: Sequence[Range]) -> None:
+        super().__init__()
+        self.ranges = list(ranges)
 
-    def within(self, first: int, after: int) -> int:
-        """How many pages of the set are from `first` to before `after`."""
-        low, high = bisect_right(self.borders, first), bisect_right(self.borders, after)
-        if low == high and not low & 1:
-            return 0
-        return self.up_to(after, high) - self.up_to(first, low)
+    def __missing__(self, text: str) -> Run:
+        """Raises LookupError if these pages are not watched, and ValueError if it is no such text."""
+        target, addresses = text.split(" ")
+        start, end = (int(address, 16) >> PAGE_BITS for address in addresses.split("-"))
+        base = 0
+        for one in self.ranges:
+            if one.target == int(target) and one.first <= start < end <= one.after:
+                return self.kept(text, (base + start - one.first, base + end - one.first))
+            base += one.pages
+        raise LookupError(f"pages that are not watched: {text}")
 
-    def up_to(self, page: int, borders: int) -> int:
-        """How many pages of the set lie below this one, which so many borders are at or below."""
-        return self.below[borders] + (page - self.borders[borders - 1] if borders & 1 else 0)
+    def kept(self, text: str, run: Run) -> Run:
+        """Keeps an answer, and forgets all others where they are many."""
+        if len(self) >= MOST_KEPT:
+            self.clear()
+        self[text] = run
+        return run
+
+    def __reduce__(self) -> tuple[type[Places], tuple[list[Range]]]:
+        return (Places, (self.ranges,))
 
 
 @dataclass(frozen=True)
@@ -69,12 +82,11 @@ class Truths:
 
     def __init__(self, ranges: Sequence[Range], intervals: Sequence[Runs], share: float) -> None:
         """The intervals have numbers of watched pages. A hot page was accessed in at least `share` of the passes."""
-        self.ranges = list(ranges)
         self.intervals = intervals
         self.share = share
         self.pages = sum(one.pages for one in ranges)
+        self.places = Places(ranges)
         self.known: dict[tuple[int, int], Truth] = {}
-        self.places: dict[str, Run] = {}
 
     def between(self, since: int, tick: int) -> Truth:
         """What was true of the intervals from one tick to another."""
@@ -85,27 +97,11 @@ class Truths:
 
     def counted(self, since: int, tick: int) -> Truth:
         least = self.share * (tick - since)
-        accessed: list[Run] = []
-        hot: list[Run] = []
-        for first, after, count in touch_counts(self.intervals[since:tick]):
-            append(accessed, first, after)
-            if count >= least:
-                append(hot, first, after)
-        return Truth(PageSet(accessed), PageSet(hot))
+        counts = touch_counts(self.intervals[since:tick])
+        accessed = ((first, after) for first, after, _ in counts)
+        hot = ((first, after) for first, after, count in counts if count >= least)
+        return Truth(set_of(self.pages, accessed), set_of(self.pages, hot))
 
-    def place(self, text: str) -> Run:
-        """The numbers of the pages of `TARGET START-END`, as a report has it. Raises LookupError."""
-        found = self.places.get(text)
-        if found is None:
-            found = self.places[text] = self.numbered(text)
-        return found
-
-    def numbered(self, text: str) -> Run:
-        target, addresses = text.split(" ")
-        start, end = (int(address, 16) >> PAGE_BITS for address in addresses.split("-"))
-        base = 0
-        for one in self.ranges:
-            if one.target == int(target) and one.first <= start < end <= one.after:
-                return base + start - one.first, base + end - one.first
-            base += one.pages
-        raise LookupError(f"pages that are not watched: {text}")
+    def pages_at(self, places: list[str]) -> PageSet:
+        """The pages at these places, as a report has them. Raises LookupError."""
+        return set_of(self.pages, map(self.places.__getitem__, places))
