@@ -360,6 +360,8 @@ class Errors(Searches, Refusals):
         plan, path = str(self.folder / "small.toml"), str(self.folder / "one.csv")
         for option, value in (("--random", "0"), ("--jobs", "0"), ("--timeout", "0"), ("--timeout", "nan")):
             self.refused(TOOL, [f"{option} must be at least"], b"", plan, path, option, value)
+        for same in (plan, path):
+            self.refused(TOOL, ["--points needs a file of its own"], b"", plan, path, "--points", same)
         ran = run(TOOL, plan, path, program=self.folder / "nothing")
         self.assertEqual((ran.returncode, b"there is no program" in ran.stderr), (2, True))
 

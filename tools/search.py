@@ -59,6 +59,8 @@ def options_of() -> argparse.Namespace:
     for name, least in (("random", 1), ("jobs", 1), ("timeout", 0.001)):
         if getattr(options, name) is not None and not getattr(options, name) >= least:
             raise UsageError(f"--{name} must be at least {least:g}")
+    if options.points and Path(options.points).resolve() in (Path(options.runs).resolve(), Path(options.plan).resolve()):
+        raise UsageError("--points needs a file of its own, beside the plan and the runs")
     if not is_there():
         raise UsageError(f"there is no program {program()}: ./damon builds it, or {VARIABLE} in the environment names another")
     return options
