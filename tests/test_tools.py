@@ -1,5 +1,5 @@
 #!/usr/bin/env python3
-"""Tests of the commands of the tutorial."""
+"""Tests of the commands of the tutorial and of the page about searches."""
 from __future__ import annotations
 
 import unittest
@@ -14,16 +14,33 @@ def setUpModule() -> None:
 
 
 class Tutorial(Page):
-    """The commands of docs/TUTORIAL.md work as printed, but for those that need valgrind or gnuplot, or make another run each time."""
+    """The commands of docs/TUTORIAL.md work as printed, but for those that need valgrind, perf or gnuplot, or make another run each time."""
 
     def test_commands_and_outputs(self) -> None:
-        skipped = ("valgrind", "out/shop.trace", "gnuplot", "./damond run")
+        skipped = ("valgrind", "perf script", "out/shop.trace", "gnuplot", "./damond run")
         self.follow("docs/TUTORIAL.md", lambda block: any(word in block for word in skipped), self.compare_pictures)
 
     def compare_pictures(self, folder: Path) -> None:
         for picture in ("shop", "exact", "patient", "heat"):
             made = (folder / f"{picture}.svg").read_bytes()
             self.assertEqual(made == (TOP / f"docs/pictures/{picture}.svg").read_bytes(), True, picture)
+
+
+class Search(Page):
+    """The same of docs/SEARCH.md, but for the cluster, of which tests/test_search_cluster.py has more."""
+
+    def test_commands_and_outputs(self) -> None:
+        self.follow("docs/SEARCH.md", lambda block: "dask-" in block or block == self.plan(), self.compare_pictures)
+
+    def plan(self) -> str:
+        """The plan as the page shows it, without its comments."""
+        lines = (TOP / "examples/search.toml").read_text().splitlines(keepends=True)
+        return "".join(line for line in lines if not line.startswith("#"))
+
+    def compare_pictures(self, folder: Path) -> None:
+        for picture in ("hot", "out"):
+            made = (folder / f"{picture}.svg").read_bytes()
+            self.assertEqual(made == (TOP / f"docs/pictures/search-{picture}.svg").read_bytes(), True, picture)
 
 
 if __name__ == "__main__":

@@ -10,8 +10,9 @@ from pathlib import Path
 from tool_runs import counts_of_report, need_program, notes_of, random_trace, report_of, run, script_of
 
 from tracing.areas import Area
-from tracing.intervals import InstructionClock, record
-from tracing.lackey import INSTRUCTION, Trace
+from tracing.clocks import InstructionClock
+from tracing.intervals import record
+from tracing.lackey import INSTRUCTION, LackeyTrace
 from tracing.names import mappings, names_by_maps, names_by_place
 from tracing.progress import BACK_TO_START, Progress
 
@@ -129,7 +130,7 @@ class OddTraces(unittest.TestCase):
 
     def test_progress_while_a_trace_is_read(self) -> None:
         said: list[int] = []
-        list(Trace(io.BytesIO(b" L 00001000,4\n" * 150_000), b"L", progress=said.append))
+        list(LackeyTrace(io.BytesIO(b" L 00001000,4\n" * 150_000), b"L", progress=said.append))
         self.assertEqual(said, [65_536, 131_072, 150_000])
 
 

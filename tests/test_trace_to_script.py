@@ -11,9 +11,10 @@ from pathlib import Path
 
 from tool_runs import KEPT, Refusals, counts_of_report, need_program, random_trace, report_of, run, script_of
 
+from tracing.accesses import TraceError
 from tracing.areas import chosen, grouped
 from tracing.intervals import record, union
-from tracing.lackey import TraceError, accesses, decode
+from tracing.lackey import LackeyTrace, decode
 
 TOOL = "trace_to_script.py"
 
@@ -181,7 +182,7 @@ class Parts(unittest.TestCase):
         lines = [b" L 00001000,4\n"] * 200_000
         lines[150_000] = b"?\n"
         with self.assertRaisesRegex(TraceError, "^line 150001:"):
-            list(accesses(io.BytesIO(b"".join(lines)), b"L"))
+            list(LackeyTrace(io.BytesIO(b"".join(lines)), b"L"))
 
     def test_areas(self) -> None:
         def spans(gap: int, unit: int) -> list[tuple[int, int, int]]:

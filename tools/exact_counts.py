@@ -7,28 +7,29 @@ from __future__ import annotations
 
 import argparse
 import sys
-from typing import Callable, Iterable, Sequence
+from typing import Sequence
 
-from common import STANDARD_INPUT, UsageError, opened, opened_text, parser, run
+from common import UsageError, opened_text, parser, run
 from reports.events import Report, ReportError
 from reports.exact import exact_lines
 from scripts.wording import counted
+from tracing import reading
+from tracing.accesses import Trace, TraceError
 from tracing.areas import Choice, chosen, grouped
-from tracing.intervals import AccessClock, Clock, InstructionClock, Recording, record
-from tracing.lackey import KINDS, Pages, Trace, TraceError
-from tracing.notes import counted_accesses
-from tracing.progress import Progress
+from tracing.intervals import Recording
+from tracing.notes import counted_accesses, lost_lines
+from tracing.reading import no_limit, read_trace, touched
 
 TOOL = "exact_counts.py"
-CLOCKS: dict[str, Callable[[Iterable[Pages]], Clock]] = {"accesses": AccessClock, "instructions": InstructionClock}
 EXAMPLE = """\
 example:
   tools/exact_counts.py --interval 3000 examples/shop.trace.xz > out/shop.counts
   tools/compare.py out/shop.counts out/shop.report
 
 The options are those that tools/trace_to_script.py was given for the script of the report. There is
-no limit on pages and intervals. With --like the aggregations come at the ticks of a report, so that
-it may be one whose commits change how many passes an aggregation has.
+no limit on pages and intervals, but for 1,048,576 intervals where samples have times. With --like the
+aggregations come at the ticks of a report, so that it may be one whose commits change how many passes
+an aggregation has.
 
 What is written is a report in short: the line `exact counts 1`; then, for each aggregation, a line
 `aggregate tick=T rows=N` and N lines `row TARGET START-END count=C`. Each page from START to before
@@ -38,16 +39,11 @@ END was touched in C of the intervals since the aggregation before; the rows cov
 
 def options_of() -> argparse.Namespace:
     """The options of this run. Raises UsageError."""
-    result = parser(TOOL, "Reads a trace of `valgrind --tool=lackey --trace-mem=yes` and writes the exact counts of its pages.",
-                    EXAMPLE)
+    result = parser(TOOL, "Reads a trace of memory accesses, of valgrind's lackey or of perf, and writes the exact counts of its "
+                    "pages.", EXAMPLE)
     add = result.add_argument
-    add("trace", nargs="?", default=STANDARD_INPUT,
-        help="the trace; `-`, the default, is standard input; .gz and .xz are unpacked")
-    for kind in KINDS:
-        add(f"--{kind}", action="store_true", help=f"take {kind}")
+    reading.add_options(add)
     add("--interval", type=int, default=10_000, metavar="N", help="the length of a sampling interval (10000)")
-    add("--clock", choices=tuple(CLOCKS), default="accesses",
-        help="what the length of an interval counts: accesses that are taken, or instructions (accesses)")
     add("--gap", type=int, default=16, metavar="PAGES", help="untouched pages that a target may have between touched ones (16)")
     add("--unit", type=int, default=1, metavar="PAGES", help="the minimum pages of a target (1)")
     add("--aggr", type=int, default=20, metavar="N", help="sampling intervals of an aggregation (20)")
@@ -59,28 +55,9 @@ def options_of() -> argparse.Namespace:
     return options
 
 
-def read_trace(options: argparse.Namespace) -> tuple[Trace, Recording]:
-    """The trace, read to its end, and the touched pages of each of its intervals. Raises UsageError."""
-    kinds = [kind for kind in KINDS if getattr(options, kind)] or ["loads", "stores"]
-    by_instructions = options.clock == "instructions"
-    progress = Progress(sys.stderr)
-    with opened(options.trace) as stream:
-        trace = Trace(stream, b"".join(KINDS[kind] for kind in kinds), instructions=by_instructions, progress=progress)
-        try:
-            recording = record(trace, options.interval, lambda _: False, CLOCKS[options.clock])
-        except TraceError as error:
-            raise UsageError(str(error)) from None
-        finally:
-            progress.end()
-    if by_instructions and recording.intervals and not recording.duration:
-        raise UsageError("the trace has no instructions (lines `I`) to count: use --clock accesses")
-    return trace, recording
-
-
 def targets_of(recording: Recording, options: argparse.Namespace) -> Choice:
     """The areas that are targets, as tools/trace_to_script.py makes them."""
-    touched = {**dict.fromkeys(recording.more_pages, 0), **recording.uses}
-    choice = chosen(grouped(touched, options.gap, options.unit))
+    choice = chosen(grouped(touched(recording), options.gap, options.unit))
     if not choice.kept:
         raise UsageError("the trace has no access that is taken" if not choice.left_out
                          else "no target fits the limit of 1048576 pages: use a smaller --gap")
@@ -109,16 +86,15 @@ def notes(trace: Trace, recording: Recording, choice: Choice, aggregations: int)
              f"{counted(aggregations, 'aggregation')}; {counted(len(choice.kept), 'target')} with {counted(pages, 'page')}"]
     if choice.left_out:
         lines.append(f"left out {counted(len(choice.left_out), 'area')}, by the limit of 64 targets and 1048576 pages")
-    if trace.beyond:
-        lines.append(f"left out {counted_accesses(trace.beyond)} at addresses that are not below 2^47")
-    if trace.cut:
-        lines.append(f"left out the last line of the trace, which is cut off: {trace.cut}")
-    return lines
+    return [*lines, *lost_lines(trace)]
 
 
 def work() -> None:
     options = options_of()
-    trace, recording = read_trace(options)
+    try:
+        trace, recording = read_trace(options, no_limit(options))
+    except TraceError as error:
+        raise UsageError(str(error)) from None
     choice = targets_of(recording, options)
     ticks = ticks_of(options, len(recording.intervals))
     for line in exact_lines(ticks, choice.kept, recording.intervals):

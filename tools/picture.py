@@ -1,5 +1,5 @@
 #!/usr/bin/env python3
-"""Draws a report of damon, as text or as JSON lines, or its heat tables as a picture: time against addresses, in SVG.
+"""Draws a report of damon, as text or as JSON lines, its heat tables, or the rows of a search as a picture, in SVG.
 
 docs/TUTORIAL.md shows its use.
 """
@@ -11,6 +11,7 @@ import sys
 from typing import Iterable
 
 from common import STANDARD_INPUT, UsageError, opened_text, parser, run
+from drawing.front import front_picture
 from drawing.heat import heat_picture
 from drawing.history import History, ScriptError, commits_of, history_of
 from drawing.panels import spans_of
@@ -18,6 +19,7 @@ from drawing.picture import picture
 from reports.events import Report, ReportError
 from reports.heat import Heat, HeatError, heats_of
 from reports.places import Place, PlaceError, check_places, places_of
+from reports.table import TableError, axis_of, table_of
 
 TOOL = "picture.py"
 EXAMPLE = """\
@@ -41,6 +43,13 @@ passes since the aggregation before. Where targets begin and how many pages they
 tables, so addresses need --script; without it the colour is the heat beside the greatest one of the
 target. Beneath are the working set, and the pages that were found accessed in half of the passes or
 more.
+
+With --front it draws the rows that tools/search.py wrote, of runs or of points:
+  tools/picture.py --front --x checks --y hot_found out/points.csv > front.svg
+
+The axes are two of its measures, or other columns of numbers with :less or :more behind the name, which
+says what is better. In front are the rows that no other one beats: none is as good in both and better
+in one. Rows of points have lines that are as long as the spread of their runs.
 """
 LABEL = re.compile(r"([0-9]{1,2})=(.*)")
 
@@ -90,17 +99,26 @@ def places_read(path: str, heats: list[Heat]) -> list[Place]:
 
 
 def options_of() -> argparse.Namespace:
-    result = parser(TOOL, "Reads a report or heat tables of damon and draws them: time against addresses, as SVG.", EXAMPLE)
+    """The options of this run. Raises UsageError."""
+    result = parser(TOOL, "Reads a report, heat tables or the rows of a search and draws them, as SVG.", EXAMPLE)
     add = result.add_argument
-    add("report", nargs="?", default=STANDARD_INPUT, help="the report, or the tables; `-`, the default, is standard input")
+    add("report", nargs="?", default=STANDARD_INPUT, help="the report, the tables or the rows; `-`, the default, is standard input")
     add("--heat", action="store_true", help="what is read are the tables that `damon heat` wrote")
+    add("--front", action="store_true", help="what is read are the rows that tools/search.py wrote")
+    add("--x", metavar="NAME", help="with --front the measure to the right")
+    add("--y", metavar="NAME", help="with --front the measure upwards")
     add("--script", metavar="FILE", help="the script of the report, which says what its commits have; with --heat the live script "
         "or the journal, which says where its targets are")
     add("--title", help="the title of the picture")
     add("--label", action="append", default=[], metavar="TARGET=TEXT", help="names a target; may be repeated")
     add("--theme", choices=("auto", "light", "dark"), default="auto",
         help="the colours; auto, the default, follows what the reader prefers")
-    return result.parse_args()
+    options = result.parse_args()
+    if options.front and (options.heat or options.label or options.script is not None):
+        raise UsageError("--front takes no --heat, no --label and no --script")
+    if options.front != (options.x is not None) or options.front != (options.y is not None):
+        raise UsageError("--front needs --x and --y, and these need --front")
+    return options
 
 
 def check_labels(labels: Iterable[int], targets: Iterable[int], whose: str) -> None:
@@ -132,9 +150,26 @@ def heat_drawn(options: argparse.Namespace) -> str:
     return heat_picture(heats, places, options.title or "Heat by time and address", labels, options.theme)
 
 
+def front_drawn(options: argparse.Namespace) -> str:
+    """The picture of the rows of a search. Raises UsageError."""
+    try:
+        x, y = axis_of(options.x), axis_of(options.y)
+    except TableError as error:
+        raise UsageError(str(error)) from None
+    with opened_text(options.report) as stream:
+        try:
+            table = table_of(stream, x, y)
+        except TableError as error:
+            raise UsageError(f"{options.report}: {error}") from None
+    if not table.marks:
+        raise UsageError(f"{options.report}: no row has numbers for both {x.name} and {y.name}: there is nothing to draw")
+    return front_picture(table, x, y, options.title or f"{y.name} and {x.name}", options.theme)
+
+
 def work() -> None:
     options = options_of()
-    sys.stdout.write(heat_drawn(options) if options.heat else report_drawn(options))
+    drawn = front_drawn if options.front else heat_drawn if options.heat else report_drawn
+    sys.stdout.write(drawn(options))
 
 
 if __name__ == "__main__":

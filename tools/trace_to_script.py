@@ -1,29 +1,29 @@
 #!/usr/bin/env python3
 """Makes a script of damon from a trace of a program's memory accesses.
 
-The trace is what `valgrind --tool=lackey --trace-mem=yes` writes. docs/TUTORIAL.md shows its use.
+The trace is what `valgrind --tool=lackey --trace-mem=yes` writes, what `perf script` writes of sampled
+addresses, or lines `SECONDS ADDRESS`. docs/TUTORIAL.md shows its use.
 """
 from __future__ import annotations
 
 import argparse
 import re
 import sys
-from typing import Callable, Iterable
 
 import common
-from common import UsageError, opened, opened_text
+from common import UsageError, opened_text
 from scripts.grammar import MOST_CAP
 from scripts.judge import is_there
-from tracing import notes
+from tracing import notes, reading
+from tracing.accesses import Trace, TraceError
 from tracing.areas import Area, chosen, grouped
 from tracing.commits import PARTS, commits_of
 from tracing.early import check_lines
 from tracing.fit import fitted, too_much_at_all, too_much_to_fit
-from tracing.intervals import AccessClock, Clock, InstructionClock, Recording, record
-from tracing.lackey import KINDS, Pages, Trace, TraceError
+from tracing.intervals import Recording
 from tracing.names import MapsError, Mapping, mappings
 from tracing.notes import Result
-from tracing.progress import Progress
+from tracing.reading import read_trace, touched
 from tracing.script import LimitError, Settings, check_ranges, check_settings, written
 
 TOOL = "trace_to_script.py"
@@ -36,6 +36,14 @@ example:
 
 An access is one line of the trace; a modify is one access, and counts as a load and as a store.
 Without --loads, --stores and --fetches, loads and stores are taken.
+
+Where valgrind is too slow, perf samples addresses; with --clock microseconds an interval is a time:
+
+  perf mem record -o mem.data PROGRAM
+  perf script -i mem.data -F comm,tid,time,event,addr > mem.trace
+  tools/trace_to_script.py --clock microseconds --interval 5000 mem.trace > mem.damon
+
+Other traces can be turned into lines `SECONDS ADDRESS`, such as `12.000350 0x7f0000001000`.
 
 --at puts a commit before an interval of the script, counted from 0; with --fit these are the intervals
 that it makes. Lines for one interval make one commit where the format allows it: all `range` lines, which
@@ -52,20 +60,15 @@ USUAL_INTERVAL = 10_000
 """The length of an interval where --interval is not given."""
 SHORTEST_FITTED = 1_000
 """The same with --fit, which makes intervals longer but not shorter."""
-CLOCKS: dict[str, Callable[[Iterable[Pages]], Clock]] = {"accesses": AccessClock, "instructions": InstructionClock}
 
 
 def parser() -> argparse.ArgumentParser:
     result = common.parser(
-        TOOL, "Reads a trace of `valgrind --tool=lackey --trace-mem=yes` and writes a script of damon.", EXAMPLE
+        TOOL, "Reads a trace of memory accesses, of valgrind's lackey or of perf, and writes a script of damon.", EXAMPLE
     )
     add = result.add_argument
-    add("trace", nargs="?", default="-", help="the trace; `-`, the default, is standard input; .gz and .xz are unpacked")
-    for kind in KINDS:
-        add(f"--{kind}", action="store_true", help=f"take {kind}")
+    reading.add_options(add)
     add("--interval", type=int, metavar="N", help="the length of a sampling interval (10000; with --fit 1000)")
-    add("--clock", choices=tuple(CLOCKS), default="accesses",
-        help="what the length of an interval counts: accesses that are taken, or instructions (accesses)")
     add("--fit", action="store_true", help="make the interval longer than --interval where the limits of a script need it")
     add("--gap", type=int, default=16, metavar="PAGES", help="untouched pages that a target may have between touched ones (16)")
     add("--maps", metavar="FILE", help="a copy of /proc/PID/maps of the traced program, which names the targets")
@@ -81,12 +84,6 @@ def parser() -> argparse.ArgumentParser:
         help=f"a commit before this interval, with a line that begins with {', '.join(PARTS[:-1])} or {PARTS[-1]}; may be repeated")
     add("--metric", action="append", default=[], metavar="INTERVAL:N", help="the same as --at INTERVAL:'metric N'")
     return result
-
-
-def letters_of(options: argparse.Namespace) -> bytes:
-    """The letters of the lines that are taken."""
-    kinds = [kind for kind in KINDS if getattr(options, kind)] or ["loads", "stores"]
-    return b"".join(KINDS[kind] for kind in kinds)
 
 
 def placed_lines(options: argparse.Namespace) -> list[tuple[int, str]]:
@@ -142,7 +139,8 @@ def converted(options: argparse.Namespace) -> Result:
     if is_there():
         check_lines(early)
     maps = read_maps(options.maps) if options.maps else None
-    trace, recording = read_trace(options, early)
+    check = too_much_to_fit(early.cap) if options.fit else too_much_at_all(early.cap, options.interval)
+    trace, recording = read_trace(options, check)
     choice = chosen(grouped(touched(recording), options.gap, early.unit))
     if not choice.kept:
         raise UsageError("the trace has no access that is taken" if not choice.left_out
@@ -162,27 +160,6 @@ def read_maps(path: str) -> list[Mapping]:
             return mappings(stream)
         except MapsError as error:
             raise UsageError(f"{path}: {error}") from None
-
-
-def read_trace(options: argparse.Namespace, settings: Settings) -> tuple[Trace, Recording]:
-    """The trace, read to its end, and what is kept of it."""
-    check = too_much_to_fit(settings.cap) if options.fit else too_much_at_all(settings.cap, options.interval)
-    by_instructions = options.clock == "instructions"
-    progress = Progress(sys.stderr)
-    with opened(options.trace) as stream:
-        trace = Trace(stream, letters_of(options), instructions=by_instructions, progress=progress)
-        try:
-            recording = record(trace, options.interval, check, CLOCKS[options.clock])
-        finally:
-            progress.end()
-    if by_instructions and recording.intervals and not recording.duration:
-        raise UsageError("the trace has no instructions (lines `I`) to count: use --clock accesses")
-    return trace, recording
-
-
-def touched(recording: Recording) -> dict[int, int]:
-    """The accesses of each touched page."""
-    return {**dict.fromkeys(recording.more_pages, 0), **recording.uses}
 
 
 def pages_of(areas: list[Area]) -> int:

@@ -11,9 +11,9 @@ from bisect import bisect_right
 from collections import Counter
 from typing import Iterable, Iterator, Sequence
 
+from tracing.accesses import PAGE_BITS
 from tracing.areas import Area
 from tracing.intervals import Runs, pairs
-from tracing.lackey import PAGE_BITS
 
 from .events import EXACT_HEADER
 

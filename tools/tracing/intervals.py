@@ -1,4 +1,4 @@
-"""Cuts a trace into sampling intervals, each of a number of accesses or of instructions.
+"""Cuts a trace into sampling intervals, each of a number of what a clock counts.
 
 Of each interval only the runs of touched pages are kept. To find an interval that fits the limits of
 a script in one reading of the trace, neighbours are joined in pairs whenever too much was collected.
@@ -8,10 +8,11 @@ from __future__ import annotations
 from array import array
 from collections import Counter
 from dataclasses import dataclass, field
-from itertools import chain, islice
-from typing import TYPE_CHECKING, Callable, Iterable, Iterator, Protocol
+from itertools import chain
+from typing import TYPE_CHECKING, Callable, Iterable, Iterator
 
-from .lackey import INSTRUCTION, Pages
+from .accesses import Pages
+from .clocks import AccessClock, Clock
 
 if TYPE_CHECKING:
     Runs = array[int]
@@ -25,7 +26,7 @@ class Recording:
     """What is kept of a trace."""
 
     length: int
-    """The accesses, or the instructions, of each interval; the last interval may have fewer."""
+    """What the clock counts of each interval; of the last one it may be less."""
     intervals: list[Runs] = field(default_factory=list)
     uses: Counter[int] = field(default_factory=Counter)
     """The accesses of each page; one across a border counts for its first page alone."""
@@ -33,64 +34,9 @@ class Recording:
     """Pages behind a border that an access crossed."""
     accesses: int = 0
     duration: int = 0
-    """The accesses, or the instructions, of all intervals together."""
+    """What the clock counts of all intervals together."""
     runs: int = 0
     """The runs of all intervals together."""
-
-
-class Clock(Protocol):
-    """Says where an interval ends."""
-
-    passed: int
-    """The units of time of all intervals so far."""
-
-    def interval(self, length: int) -> list[Pages] | None:
-        """The accesses of the next `length` units of time, or fewer at the end; None after it."""
-
-
-class AccessClock:
-    """Time is counted in accesses."""
-
-    def __init__(self, trace: Iterable[Pages]) -> None:
-        self.trace = iter(trace)
-        self.passed = 0
-
-    def interval(self, length: int) -> list[Pages] | None:
-        found = list(islice(self.trace, length))
-        self.passed += len(found)
-        return found or None
-
-
-class InstructionClock:
-    """Time is counted in instructions; the accesses of an instruction follow its mark in the trace."""
-
-    def __init__(self, trace: Iterable[Pages]) -> None:
-        self.trace = iter(trace)
-        self.passed = 0
-        self.waiting: Pages | None = None
-        """The mark that ended the interval before, with its pages: it belongs to the next one."""
-
-    def interval(self, length: int) -> list[Pages] | None:
-        found: list[Pages] = []
-        left = length
-        for pages in self.rest():
-            if pages[0] == INSTRUCTION:
-                if left == 0:
-                    self.waiting = pages
-                    break
-                left -= 1
-                pages = pages[1:]
-            if pages:
-                found.append(pages)
-        self.passed += length - left
-        return found if found or left < length else None
-
-    def rest(self) -> Iterator[Pages]:
-        """What follows the interval before."""
-        if self.waiting is None:
-            return self.trace
-        waiting, self.waiting = self.waiting, None
-        return chain((waiting,), self.trace)
 
 
 def record(
@@ -99,7 +45,7 @@ def record(
     too_much: Callable[[Recording], bool],
     clock: Callable[[Iterable[Pages]], Clock] = AccessClock,
 ) -> Recording:
-    """Reads a whole trace in intervals of `length` accesses, or of what the clock counts.
+    """Reads a whole trace in intervals of `length` units of the clock.
 
     Whenever `too_much` says so of what was collected so far, neighbours are joined in pairs and the
     length doubles. It may raise an error instead.

@@ -7,32 +7,23 @@ with `==`, `--` or `**`. The fetch of an instruction comes before its loads and 
 from __future__ import annotations
 
 import re
-from itertools import islice
-from typing import BinaryIO, Callable, Iterator
+from typing import Callable, Iterable, Iterator
 
-PAGE_BITS = 12
-"""A page has 2^12 = 4096 bytes."""
-ADDRESS_END = 1 << 47
-"""User space ends before this address."""
+from .accesses import ADDRESS_END, PAGE_BITS, Pages, Trace, TraceError, shown
+
 LONGEST_ACCESS = 1 << 20
 """The most bytes of one access; lackey itself writes at most some hundred."""
 
 LINE = re.compile(rb"(I | [LSM]) ([0-9a-fA-F]{1,16}),([0-9]{1,7})\r?\n?")
 FETCH = b"I"
 OWN_LINES = (b"==", b"--", b"**")
-BATCH = 1 << 16
 MOST_KEPT = 1 << 20
 
 KINDS = {"loads": b"LM", "stores": b"SM", "fetches": FETCH}
 """The letters of the lines that belong to each choice. A modify is both a load and a store."""
 
-Pages = tuple[int, ...]
 INSTRUCTION = -1
 """Stands before the pages of a line that fetches an instruction, where instructions are counted."""
-
-
-class TraceError(Exception):
-    """A line of the trace that is no access."""
 
 
 class BeyondError(TraceError):
@@ -84,70 +75,42 @@ def decode(line: bytes, letters: bytes) -> Pages:
     return tuple(range(first >> PAGE_BITS, ((first + size - 1) >> PAGE_BITS) + 1))
 
 
-def shown(line: bytes) -> str:
-    """The line as one short text for a message."""
-    return ascii(line[:60].decode("latin-1").rstrip("\r\n"))
+class LackeyTrace(Trace):
+    """The accesses of the chosen kinds."""
 
-
-class Trace:
-    """The pages of each chosen access of a trace, in order, and what was left out of it."""
+    form = "lackey"
 
     def __init__(
         self,
-        stream: BinaryIO,
+        stream: Iterable[bytes],
         letters: bytes,
         *,
         instructions: bool = False,
         progress: Callable[[int], None] = lambda lines: None,
     ) -> None:
-        """With `instructions` each fetch also gives a mark. `progress` is told the lines read so far, now and then."""
-        self.stream = stream
-        self.progress = progress
+        """With `instructions` each fetch also gives a mark."""
+        super().__init__(stream, progress)
         self.decoder = Decoder(letters, instructions)
-        self.lines = 0
-        self.cut: str | None = None
-        """The last line, if it was cut off and is no access."""
 
     @property
     def beyond(self) -> int:
-        """The chosen accesses at addresses that are not below 2^47; they are left out."""
         return self.decoder.beyond
 
-    def __iter__(self) -> Iterator[Pages]:
-        """Raises TraceError with the number of the line, counted from 1, for the first malformed one."""
-        while batch := list(islice(self.stream, BATCH)):
-            self.leave_out_cut_line(batch)
-            try:
-                yield from filter(None, map(self.decoder.__getitem__, batch))
-            except TraceError as error:
-                raise TraceError(f"line {self.lines + faulty_line(batch)}: {error}") from None
-            self.lines += len(batch)
-            self.progress(self.lines)
-            if len(self.decoder) > MOST_KEPT:
-                self.decoder.clear()
+    def accesses_of(self, batch: list[bytes]) -> Iterator[Pages]:
+        try:
+            yield from filter(None, map(self.decoder.__getitem__, batch))
+        except TraceError as error:
+            raise TraceError(f"line {self.lines + self.faulty_line(batch)}: {error}") from None
+        if len(self.decoder) > MOST_KEPT:
+            self.decoder.clear()
 
-    def leave_out_cut_line(self, batch: list[bytes]) -> None:
-        """Only the last line of a trace can lack its LF; a program that was killed leaves such a line."""
-        if not batch[-1].endswith(b"\n") and is_malformed(batch[-1]):
-            self.cut = shown(batch.pop())
+    def faulty_line(self, batch: list[bytes]) -> int:
+        """The number of the first malformed line of a batch, counted from 1."""
+        return 1 + next(number for number, line in enumerate(batch) if self.is_malformed(line))
 
-
-def accesses(stream: BinaryIO, letters: bytes) -> Iterator[Pages]:
-    """Gives the pages of each chosen access of a trace, in order.
-
-    Raises TraceError with the number of the line, counted from 1, for the first malformed one.
-    """
-    return iter(Trace(stream, letters))
-
-
-def faulty_line(batch: list[bytes]) -> int:
-    """The number of the first malformed line of a batch, counted from 1."""
-    return 1 + next(number for number, line in enumerate(batch) if is_malformed(line))
-
-
-def is_malformed(line: bytes) -> bool:
-    try:
-        decode(line, b"")
-    except TraceError:
-        return True
-    return False
+    def is_malformed(self, line: bytes) -> bool:
+        try:
+            decode(line, b"")
+        except TraceError:
+            return True
+        return False

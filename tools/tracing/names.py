@@ -6,8 +6,8 @@ from collections import Counter
 from dataclasses import dataclass
 from typing import Iterable, Mapping as Map
 
+from .accesses import PAGE_BITS
 from .areas import Area, Lookup
-from .lackey import PAGE_BITS
 
 LINE = re.compile(r"([0-9a-f]+)-([0-9a-f]+) ([-r][-w][-x][-ps]) [0-9a-f]+ [0-9a-f]+:[0-9a-f]+ [0-9]+ *(.*)")
 BRACKETS = re.compile(r"\[(?:anon:)?(.*)\]")

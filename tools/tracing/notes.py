@@ -10,9 +10,10 @@ from scripts.grammar import first_word, words_of
 from scripts.judge import is_there, program, refusals_of
 from scripts.wording import counted
 
+from .accesses import Trace
 from .areas import Choice
 from .intervals import Recording
-from .lackey import Trace
+from .lackey import LackeyTrace
 from .names import ANONYMOUS, Mapping, names_by_maps, names_by_place
 from .script import Settings, Writer
 
@@ -25,9 +26,9 @@ class Result:
     choice: Choice
     recording: Recording
     length: int
-    """The accesses, or the instructions, of each interval."""
+    """What the clock counts of each interval."""
     clock: str
-    """What is counted: `accesses` or `instructions`."""
+    """What is counted: `accesses`, `instructions` or `microseconds`."""
     settings: Settings
     trace: Trace
     maps: list[Mapping] | None
@@ -49,7 +50,7 @@ def of(result: Result) -> list[str]:
 
 def summary(result: Result) -> str:
     pages = sum(area.pages for area in result.choice.kept)
-    time = "" if result.clock == "accesses" else f"{counted(result.recording.duration, 'instruction')} with "
+    time = "" if result.clock == "accesses" else f"{counted(result.recording.duration, result.clock.removesuffix('s'))} with "
     parts = [
         f"{time}{counted_accesses(result.recording.accesses)} in {counted(result.intervals, 'interval')} of {result.length}",
         f"{counted(len(result.choice.kept), 'target')} with {counted(pages, 'page')}",
@@ -67,7 +68,11 @@ def counted_accesses(number: int) -> str:
 def names(result: Result) -> Iterator[str]:
     """The names of targets, as options of the picture."""
     areas = result.choice.kept
-    known = names_by_place(areas) if result.maps is None else names_by_maps(areas, result.recording.uses, result.maps)
+    if result.maps is not None:
+        known = names_by_maps(areas, result.recording.uses, result.maps)
+    else:
+        # The places are those of valgrind.
+        known = names_by_place(areas) if result.trace.form == LackeyTrace.form else {}
     words = [f"--label {shlex.quote(f'{target}={known[target]}')}" for target in sorted(known) if known[target] != ANONYMOUS]
     if words:
         yield f"names of targets for tools/picture.py: {' '.join(words)}"
@@ -80,10 +85,17 @@ def lost(result: Result) -> Iterator[str]:
         pages, accesses = (sum(getattr(area, name) for area in left_out) for name in ("pages", "accesses"))
         yield (f"left out {counted(len(left_out), 'area')} with {counted(pages, 'page')} and {counted_accesses(accesses)}, "
                "by the limit of 64 targets and 1048576 pages: a larger or smaller --gap may help")
-    if result.trace.beyond:
-        yield f"left out {counted_accesses(result.trace.beyond)} at addresses that are not below 2^47"
-    if result.trace.cut:
-        yield f"left out the last line of the trace, which is cut off: {result.trace.cut}"
+    yield from lost_lines(result.trace)
+
+
+def lost_lines(trace: Trace) -> Iterator[str]:
+    """What was left out while the trace was read."""
+    if trace.beyond:
+        yield f"left out {counted_accesses(trace.beyond)} at addresses that are not below 2^47"
+    if trace.without_address:
+        yield f"left out {counted(trace.without_address, 'sample')} with the address 0, which means none"
+    if trace.cut:
+        yield f"left out the last line of the trace, which is cut off: {trace.cut}"
 
 
 def too_short(result: Result) -> Iterator[str]:

@@ -1,4 +1,4 @@
-"""Says during a long reading of a trace how far it is."""
+"""Says during long work how far it is."""
 from __future__ import annotations
 
 import time
@@ -23,11 +23,14 @@ class Progress:
 
     def __call__(self, lines: int) -> None:
         """Is told how many lines were read so far."""
+        self.say(f"{lines / 1e6:.1f} million lines read")
+
+    def say(self, text: str) -> None:
+        """Says this if the last word is long enough ago."""
         now = self.clock()
         if now - self.said_at < self.seconds:
             return
         self.said_at = now
-        text = f"{lines / 1e6:.1f} million lines read"
         self.stream.write(BACK_TO_START + text if self.on_terminal else f"note: {text}\n")
         self.stream.flush()
         self.is_shown = self.on_terminal

@@ -11,11 +11,11 @@ from typing import Iterator
 from scripts.grammar import HEADER, LEAST_REGIONS, MOST_AGGR, MOST_BYTES, MOST_CAP, MOST_UNIT, MOST_WORK
 from scripts.grammar import pass_work as work_of_call
 
+from .accesses import PAGE_BITS
 from .areas import Area, Lookup
 from .commits import Commits
 from .commits import written as commit_lines
 from .intervals import Runs, pairs
-from .lackey import PAGE_BITS
 
 
 class LimitError(Exception):
@@ -90,12 +90,13 @@ def opening(settings: Settings) -> list[str]:
 
 def setup(areas: list[Area], settings: Settings) -> list[str]:
     """The lines up to `begin`."""
-    lines = opening(settings)
-    lines += [f"target {address(area.first)} {area.pages}" for area in areas]
-    lines += [
-        f"range {target} {address(area.first)} {address(area.after)} 0" for target, area in enumerate(areas)
-    ]
-    return [*lines, *settings.schemes, "begin"]
+    return [*opening(settings), *places(areas), *settings.schemes, "begin"]
+
+
+def places(areas: list[Area]) -> list[str]:
+    """The targets, each with one range."""
+    lines = [f"target {address(area.first)} {area.pages}" for area in areas]
+    return lines + [f"range {target} {address(area.first)} {address(area.after)} 0" for target, area in enumerate(areas)]
 
 
 def touches(runs: Runs, lookup: Lookup) -> Iterator[str]:

@@ -1,0 +1,252 @@
+"""Reads a plan: which workloads are run with which settings. `docs/SEARCH.md` shows one."""
+from __future__ import annotations
+
+import re
+import tomllib
+from dataclasses import dataclass, field
+from pathlib import Path
+from string import Formatter
+from typing import Any, Mapping
+
+from common import UsageError
+from scripts.grammar import first_word
+from tracing.clocks import CLOCKS
+from tracing.commits import PARTS
+from tracing.forms import FORMS
+from tracing.lackey import KINDS
+
+from .measures import MEASURES
+
+SETTINGS = ("interval", "unit", "cap", "min", "max", "aggr")
+"""The settings of a point, in the order of the columns; the seed comes last."""
+SEED = "seed"
+OF_TRACES: dict[str, Any] = {"interval": 10_000, "unit": 1, "min": 10, "max": 100, "aggr": 20, SEED: 1}
+"""What holds where a plan with traces does not say it, as in tools/trace_to_script.py; `cap` is `max`."""
+NAME = re.compile(r"[a-z][a-z0-9_]*")
+PLACED = re.compile(r"([^:]+):(.+)")
+RANGE = {"from", "to", "step"}
+MOST_VALUES = 1_000_000
+
+Value = int | str
+
+
+@dataclass(frozen=True)
+class Source:
+    """How traces are read."""
+
+    clock: str
+    form: str | None
+    kinds: tuple[str, ...]
+    gap: int
+
+
+@dataclass(frozen=True)
+class Plan:
+    """What is run, and what is measured."""
+
+    workloads: tuple[str, ...]
+    """Paths as the plan has them."""
+    are_traces: bool
+    source: Source
+    settings: Mapping[str, tuple[Value, ...]]
+    """The values of `SETTINGS` that the plan names or that have a default."""
+    values: Mapping[str, tuple[Value, ...]]
+    """Those of the placeholders."""
+    seeds: tuple[Value, ...]
+    schemes: tuple[str, ...]
+    commits: tuple[tuple[str, str], ...]
+    """Each an interval and a line of a commit; both may have placeholders."""
+    hot: float
+    measures: tuple[str, ...]
+    folder: Path = field(default=Path())
+    """Where the paths of workloads begin."""
+
+    @property
+    def columns(self) -> list[str]:
+        """The names of what makes up a run."""
+        return ["workload", *SETTINGS, *self.values, SEED]
+
+
+def plan_of(path: str) -> Plan:
+    """Raises UsageError that names the file."""
+    try:
+        with open(path, "rb") as stream:
+            members = tomllib.load(stream)
+    except OSError as error:
+        raise UsageError(f"{path}: {error.strerror}") from None
+    except (tomllib.TOMLDecodeError, UnicodeDecodeError) as error:
+        raise UsageError(f"{path}: {error}") from None
+    try:
+        return plan_from(Table(members, "the plan"), Path(path).parent)
+    except UsageError as error:
+        raise UsageError(f"{path}: {error}") from None
+
+
+class Table:
+    """A table of the plan, whose members are taken one after another."""
+
+    def __init__(self, members: dict[str, Any], name: str) -> None:
+        self.members = dict(members)
+        self.name = name
+
+    def take(self, name: str, kind: type, default: Any) -> Any:
+        """A member of this type. Raises UsageError."""
+        value = self.members.pop(name, default)
+        if not isinstance(value, kind) or isinstance(value, bool):
+            raise UsageError(f"{name} of {self.name} must be {WORDS[kind]}")
+        return value
+
+    def strings(self, name: str) -> tuple[str, ...]:
+        """A member that is a list of texts."""
+        found = self.take(name, list, [])
+        if not all(isinstance(one, str) and one.isprintable() for one in found):
+            raise UsageError(f"{name} of {self.name} must be a list of texts, each one line")
+        return tuple(found)
+
+    def lines(self, name: str) -> tuple[str, ...]:
+        """A member that is a list of lines of a script, with placeholders."""
+        found = self.strings(name)
+        for line in found:
+            if not line.isascii():
+                raise UsageError(f"{name} of {self.name} has a character that is not ASCII: {line!r}")
+        return found
+
+    def table(self, name: str) -> Table:
+        return Table(self.take(name, dict, {}), f"[{name}]")
+
+    def end(self) -> None:
+        """Raises UsageError for a member that nobody took."""
+        for name in self.members:
+            raise UsageError(f"{self.name} has {name!r}, which is not known there")
+
+
+WORDS: dict[type, str] = {str: "a text", int: "a whole number", float: "a number", list: "a list", dict: "a table"}
+
+
+def plan_from(table: Table, folder: Path) -> Plan:
+    """Raises UsageError for the first thing that is wrong."""
+    traces, scripts = table.strings("traces"), table.strings("scripts")
+    if bool(traces) == bool(scripts):
+        raise UsageError("the plan needs one of `traces` and `scripts`, a list of paths")
+    source = source_of(table, bool(traces))
+    settings = settings_of(table.table("settings"), bool(traces))
+    values = values_of(table.table("values"))
+    seeds = settings.pop(SEED, ())
+    schemes, commits = table.lines("schemes"), tuple(map(placed, table.lines("commits")))
+    hot, measures = measures_of(table.table("measure"))
+    table.end()
+    check_schemes(schemes)
+    check_placeholders([*schemes, *(text for commit in commits for text in commit)], values)
+    return Plan(traces or scripts, bool(traces), source, settings, values, seeds, schemes, commits, hot, measures, folder)
+
+
+def source_of(table: Table, are_traces: bool) -> Source:
+    if not are_traces:
+        for name in ("clock", "form", "take", "gap"):
+            if name in table.members:
+                raise UsageError(f"{name} is for traces, and the plan has scripts")
+    clock, form = table.take("clock", str, "accesses"), table.take("form", str, "")
+    kinds, gap = table.strings("take"), table.take("gap", int, 16)
+    for name, value, allowed in (("clock", clock, CLOCKS), ("form", form, ("", *FORMS)),
+                                 *(("take", kind, KINDS) for kind in kinds)):
+        if value not in allowed:
+            raise UsageError(f"{name} is {value!r}, and must be one of {', '.join(filter(None, allowed))}")
+    if gap < 0:
+        raise UsageError("gap must be at least 0")
+    return Source(clock, form or None, kinds, gap)
+
+
+def settings_of(table: Table, are_traces: bool) -> dict[str, tuple[Value, ...]]:
+    """The settings that the plan names, and the defaults of traces."""
+    if "interval" in table.members and not are_traces:
+        raise UsageError("interval is for traces, and the plan has scripts")
+    result: dict[str, tuple[Value, ...]] = {}
+    for name in (*SETTINGS, SEED):
+        if name in table.members:
+            result[name] = listed(name, table.members.pop(name), texts=False)
+        elif are_traces and name in OF_TRACES:
+            result[name] = (OF_TRACES[name],)
+    table.end()
+    return result
+
+
+def values_of(table: Table) -> dict[str, tuple[Value, ...]]:
+    """The values of placeholders."""
+    for name in table.members:
+        if not NAME.fullmatch(name) or name in (*SETTINGS, SEED, "workload", "status", *MEASURES):
+            raise UsageError(f"a placeholder cannot be named {name!r}")
+    return {name: listed(name, value, texts=True) for name, value in table.members.items()}
+
+
+def listed(name: str, value: Any, texts: bool) -> tuple[Value, ...]:
+    """The values of a number, of a list, or of a range. Raises UsageError."""
+    if isinstance(value, dict):
+        return ranged(name, value)
+    found = value if isinstance(value, list) else [value]
+    kinds: tuple[type, ...] = (int, str) if texts else (int,)
+    for one in found:
+        if not isinstance(one, kinds) or isinstance(one, bool) or not str(one).isprintable() or not str(one).isascii():
+            raise UsageError(f"{name} has {one!r}, and needs whole numbers{' or texts of ASCII characters' if texts else ''}")
+    if not found or len(set(found)) < len(found):
+        raise UsageError(f"{name} needs at least one value, and none of them twice")
+    return tuple(found)
+
+
+def ranged(name: str, value: dict[str, Any]) -> tuple[Value, ...]:
+    """The values of `{ from = 5, to = 40, step = 5 }`, both ends included; the step is 1 if it is not given."""
+    if not {"from", "to"} <= set(value) <= RANGE or not all(type(one) is int for one in value.values()):
+        raise UsageError(f"{name} needs a range such as {{ from = 5, to = 40, step = 5 }}")
+    first, last, step = value["from"], value["to"], value.get("step", 1)
+    if not 0 <= first <= last or step < 1 or (last - first) // step >= MOST_VALUES:
+        raise UsageError(f"{name} needs a range with `from` at most `to`, a step from 1, and at most {MOST_VALUES} values")
+    return tuple(range(first, last + 1, step))
+
+
+def placed(text: str) -> tuple[str, str]:
+    """A commit `INTERVAL:LINE` in its two parts. Raises UsageError."""
+    match = PLACED.fullmatch(text)
+    if not match or first_word(match[2]) not in PARTS:
+        raise UsageError(f"a commit needs INTERVAL:LINE, with a line that begins with one of {', '.join(PARTS)}, and not {text!r}")
+    if "{" not in match[1] and not match[1].isdecimal():
+        raise UsageError(f"a commit comes before an interval, which is a number from 0: {text!r}")
+    if first_word(match[2]) == "range":
+        raise UsageError(f"the commits of a search cannot change ranges, by which exact counts are taken: {text!r}")
+    return match[1], match[2]
+
+
+def measures_of(table: Table) -> tuple[float, tuple[str, ...]]:
+    """What share makes a page hot, and which columns there are."""
+    hot = table.members.pop("hot", 0.5)
+    if type(hot) not in (int, float) or not 0 < hot <= 1:
+        raise UsageError("hot of [measure] must be above 0 and at most 1")
+    columns = table.strings("columns") or tuple(MEASURES)
+    for name in columns:
+        if name not in MEASURES or columns.count(name) > 1:
+            raise UsageError(f"columns of [measure] has {name!r}; it can have each of these once: {', '.join(MEASURES)}")
+    table.end()
+    return float(hot), columns
+
+
+def check_schemes(schemes: tuple[str, ...]) -> None:
+    for line in schemes:
+        if first_word(line) != "scheme":
+            raise UsageError(f"a scheme needs a line that begins with `scheme `, and not {line!r}")
+
+
+def check_placeholders(texts: list[str], values: Mapping[str, tuple[Value, ...]]) -> None:
+    """Raises UsageError if a placeholder has no values, or values have no placeholder."""
+    used: set[str] = set()
+    for text in texts:
+        try:
+            parts = list(Formatter().parse(text))
+        except ValueError:
+            raise UsageError(f"a brace without its other one in {text!r}") from None
+        for _, name, spec, conversion in parts:
+            if name is None:
+                continue
+            if name not in values or spec or conversion:
+                raise UsageError(f"{text!r} has the placeholder {{{name}}}, and [values] has no values for it")
+            used.add(name)
+    for name in values:
+        if name not in used:
+            raise UsageError(f"[values] has {name}, and no scheme and no commit has {{{name}}}")

@@ -1,0 +1,197 @@
+"""Workloads: the parts of a script that settings do not change, and the touched pages of each of its intervals.
+
+They are made of traces, as tools/trace_to_script.py makes scripts, or of scripts whose passes are `arm`,
+touches and `finish`.
+"""
+from __future__ import annotations
+
+import argparse
+import re
+from array import array
+from bisect import bisect_right
+from dataclasses import dataclass
+from itertools import accumulate
+from typing import Iterable, Iterator
+
+from common import UsageError, opened
+from scripts.grammar import HEADER, first_word, words_of
+from scripts.setup import Script
+from tracing.accesses import PAGE_BITS, TraceError
+from tracing.areas import Lookup, chosen, grouped
+from tracing.commits import Commits
+from tracing.commits import written as commit_lines
+from tracing.intervals import Recording, Runs, pairs, runs_of
+from tracing.reading import no_limit, read_trace, touched
+from tracing.script import places, touches
+
+from .plan import OF_TRACES, SEED, Plan, Value
+from .truth import Range, Truths
+
+ARM, FINISH = "arm", "finish"
+ARMED = b"arm\n"
+ENDING = b"show\nend\n"
+FIRST_PASS = re.compile(rb"^arm\n", re.MULTILINE)
+
+
+@dataclass(frozen=True)
+class Workload:
+    """What is touched, and where."""
+
+    name: str
+    header: str
+    places: tuple[str, ...]
+    """The lines of targets and ranges."""
+    defaults: dict[str, Value]
+    """The settings that hold where the plan has no others."""
+    schemes: tuple[str, ...]
+    parts: list[bytes]
+    """The body, cut at its lines `arm`: what comes before the first one, and what follows each."""
+    truths: Truths
+
+    def body(self, commits: Commits) -> bytes:
+        """The body, with these commits before their intervals."""
+        if not commits:
+            return ARMED.join(self.parts)
+        pieces = [self.parts[0]]
+        for number, part in enumerate(self.parts[1:]):
+            lines = [line for commit in commits.get(number, ()) for line in commit_lines(commit)]
+            pieces += ["".join(f"{line}\n" for line in lines).encode("latin-1"), ARMED, part]
+        return b"".join(pieces)
+
+
+@dataclass(frozen=True)
+class Key:
+    """What a workload depends on: all scripts with this are the same but for settings."""
+
+    name: str
+    interval: int
+    unit: int
+
+
+def trace_workloads(plan: Plan, name: str, keys: Iterable[Key]) -> Iterator[tuple[Key, Workload]]:
+    """The workloads of a trace. Raises UsageError."""
+    by_interval: dict[int, list[Key]] = {}
+    for key in keys:
+        by_interval.setdefault(key.interval, []).append(key)
+    for interval, same in by_interval.items():
+        recording = recorded(plan, name, interval)
+        for key in same:
+            yield key, of_recording(plan, key, recording)
+
+
+def recorded(plan: Plan, name: str, interval: int) -> Recording:
+    """A trace, cut into intervals. Raises UsageError."""
+    if interval < 1:
+        raise UsageError("interval must be at least 1")
+    source = plan.source
+    options = argparse.Namespace(trace=str(plan.folder / name), form=source.form, clock=source.clock, interval=interval,
+                                 loads="loads" in source.kinds, stores="stores" in source.kinds, fetches="fetches" in source.kinds)
+    try:
+        return read_trace(options, no_limit(options))[1]
+    except TraceError as error:
+        raise UsageError(f"{options.trace}: {error}") from None
+
+
+def of_recording(plan: Plan, key: Key, recording: Recording) -> Workload:
+    areas = chosen(grouped(touched(recording), plan.source.gap, max(key.unit, 1))).kept
+    if not areas:
+        raise UsageError(f"{key.name} has no access that is taken, or no target that fits the limits of a script")
+    ranges = [Range(target, area.first, area.after) for target, area in enumerate(areas)]
+    lookup = Lookup(areas)
+    parts = [b"", *(passed(runs, lookup) for runs in recording.intervals)]
+    parts[-1] += ENDING
+    numbered = Numbers(ranges)
+    intervals = [numbered.of_areas(runs, lookup) for runs in recording.intervals]
+    return Workload(key.name, HEADER, tuple(places(areas)), dict(OF_TRACES), (), parts, Truths(ranges, intervals, plan.hot))
+
+
+def passed(runs: Runs, lookup: Lookup) -> bytes:
+    """What follows the line `arm` of an interval."""
+    return "".join(f"{line}\n" for line in (*touches(runs, lookup), FINISH)).encode("ascii")
+
+
+class Numbers:
+    """The numbers of watched pages, as `Truths` counts them."""
+
+    def __init__(self, ranges: list[Range]) -> None:
+        self.ranges = ranges
+        self.bases = list(accumulate((one.pages for one in ranges), initial=0))
+        self.starts = [(one.target, one.first) for one in ranges]
+
+    def of_areas(self, runs: Runs, lookup: Lookup) -> Runs:
+        """Those of runs, each of which lies in one target that is watched as a whole, or in none."""
+        result: list[int] = []
+        for first, after in pairs(runs):
+            target = lookup.target_of(first)
+            if target is not None:
+                shift = self.bases[target] - self.ranges[target].first
+                result += (first + shift, after + shift)
+        return array("Q", result)
+
+    def of_touches(self, pages: set[tuple[int, int]]) -> Runs:
+        """Those of the watched ones among these pages, each with its target. The ranges of a script rise."""
+        found: list[int] = []
+        for target, page in pages:
+            place = bisect_right(self.starts, (target, page)) - 1
+            one = self.ranges[place]
+            if place >= 0 and one.target == target and page < one.after:
+                found.append(self.bases[place] + page - one.first)
+        return runs_of(sorted(found))
+
+
+def script_workload(plan: Plan, name: str) -> Workload:
+    """The workload of a script. Raises UsageError."""
+    path = str(plan.folder / name)
+    with opened(path) as stream:
+        text = stream.read()
+    try:
+        script = Script.of(text)
+        attrs = [int(word) for word in script.words("attrs")]
+        if len(attrs) != 3:
+            raise UsageError("the line `attrs` must have three numbers")
+        defaults: dict[str, Value] = {"interval": "", "min": attrs[0], "max": attrs[1], "aggr": attrs[2]}
+        defaults |= {word: int(script.words(word)[0]) for word in ("unit", "cap", SEED)}
+        ranges = ranges_of(script)
+        intervals = touched_of(text, ranges)
+    except (IndexError, ValueError):
+        raise UsageError(f"{path}: its setup is not that of a script of damon: tools/explain.py says why") from None
+    except UsageError as error:
+        raise UsageError(f"{path}: {error}") from None
+    kept = tuple(line for line in script.lines if first_word(line) in ("target", "range"))
+    return Workload(name, script.lines[0], kept, defaults, tuple(script.schemes()), FIRST_PASS.split(script.body),
+                    Truths(ranges, intervals, plan.hot))
+
+
+def ranges_of(script: Script) -> list[Range]:
+    """The ranges of the setup."""
+    found = [words_of(line) for line in script.lines if first_word(line) == "range"]
+    return [Range(words[1].number(), words[2].number() >> PAGE_BITS, words[3].number() >> PAGE_BITS) for words in found]
+
+
+def touched_of(text: bytes, ranges: list[Range]) -> list[Runs]:
+    """The watched pages that each pass of a script touches. Raises UsageError for a line that fits in no pass."""
+    numbers = Numbers(ranges)
+    result: list[Runs] = []
+    armed: set[tuple[int, int]] | None = None
+    lines = text.decode("latin-1").split("\n")
+    for number, line in enumerate(lines[lines.index("begin") + 1 :], lines.index("begin") + 2):
+        word = first_word(line)
+        if (armed is None) == (word in ("touch", "sweep", FINISH)) or word in ("step", "range"):
+            raise UsageError(f"line {number}: {line[:40]!r}: a search takes scripts whose passes are `arm`, touches and `finish`, "
+                             "and whose ranges stay")
+        if word == ARM:
+            armed = set()
+        elif armed is not None and word == FINISH:
+            result.append(numbers.of_touches(armed))
+            armed = None
+        elif armed is not None:
+            armed.update(pages_of(line))
+    return result
+
+
+def pages_of(line: str) -> Iterator[tuple[int, int]]:
+    """The pages of a line `touch` or `sweep`, each with its target."""
+    words = words_of(line)
+    first = words[2].number() >> PAGE_BITS
+    after = words[3].number() >> PAGE_BITS if len(words) > 3 else first + 1
+    return ((words[1].number(), page) for page in range(first, after))
