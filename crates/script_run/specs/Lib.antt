@@ -1,5 +1,7 @@
 pub mod Part
 pub mod Parts
+pub mod Callbacks
+pub mod Calls
 pub mod Unfold
 pub mod Report
 pub mod Player
