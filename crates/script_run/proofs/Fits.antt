@@ -14,7 +14,7 @@ use Rattle.live_commit.specs.declared.phase.Phase.TheVariants.{Idle, Clearing, A
 use Rattle.live_commit.specs.Commit.{CommitValue}
 use Rattle.damon_core.specs.Commit.{check_of, committed, if_accepted, regions_after}
 use Rattle.damon_core.specs.State.{State, opening, row_count}
-use Rattle.damon_core.specs.Event.{Event, Fits, IsClearing, IsLoading, IsObserving, touch, prepare, clear, load, observe, aggregate, commit, show, next_hit}
+use Rattle.damon_core.specs.Event.{ByHit, Event, Fits, IsClearing, IsLoading, IsObserving, touch, prepare, clear, load, observe, aggregate, commit, show, next_hit}
 use Rattle.damon_core.specs.After.{after, by_clear, by_load, by_observe}
 use Rattle.damon_core.specs.Bound.{Bound}
 use Rattle.damon_core.specs.Choosing.{ServesBest}
@@ -30,14 +30,17 @@ use Rattle.script_lines.specs.Command.{CommandValue, Touch, Sweep, Step, Arm, Fi
 use Rattle.script_run.specs.Part.{Part}
 use Rattle.script_run.specs.Part as part
 use Rattle.script_run.specs.declared.part.Until.{Until}
-use Rattle.script_run.specs.BoundAlong.{EachScriptIsBound}
-use Rattle.script_run.specs.Choices.{EachChoiceIsBest}
+use Rattle.damon_control.specs.Script.{ScriptValue}
+use Rattle.damon_control.specs.Sound.{IsSound}
+use Rattle.script_run.specs.BoundAlong.{EachRunIsBound}
+use Rattle.script_run.specs.Callbacks.{Callbacks, FitAlways, FitByHit, no_callbacks}
+use Rattle.script_run.specs.Choices.{EachRunChoosesBest}
 use Rattle.script_run.specs.Kept.{ArePartsWithin, IsPartWithin}
 use Rattle.script_run.specs.Parts.{part_of, parts_of, stops_at}
 use Rattle.script_lines.specs.Limits.{AreCommandsWithin, IsCommandWithin}
-use Rattle.script_run.specs.Unfold.{part_events, parts_events, start, steps_until, unfold_script}
+use Rattle.script_run.specs.Unfold.{part_events, parts_events, start, steps_until, unfold_with, with_puts}
 use Rattle.script_run.specs.Way.{Reached-start}
-use Rattle.script_run.proofs.Hits.{AllByHit-prefix, by_hit-parts}
+use Rattle.script_run.proofs.Hits.{AllByHit-append, AllByHit-prefix, by_hit-in, by_hit-touches}
 
 length-drawn : (n : ℕ) (s : Stream) → length (drawn n s) ≡ n
 length-drawn zero s = refl
@@ -62,17 +65,43 @@ next_fits (Checking k) s t is within = fits_check (k == row_count s.core) k s is
 next_fits Void s t is within = subst (λ ph. IsObserving ph (row_count s.core)) (sym is) tt
 next_fits Due s t is within = (is, length-drawn (2 * s.core.attrs.max) t)
 
-fit_unless : (b : Bool) (s : State) (es : List Event) → AllFit s es → AllFit s (cond b [] es)
-fit_unless true s es fit = tt
+-- ---- events with what is put in after them
+
+FitByHit-append : (s : State) (es fs : List Event) → FitByHit s es → FitByHit (run s es) fs → FitByHit s (es ++ fs)
+FitByHit-append s es fs first then = record {
+  fit = AllFit-append s es fs first.fit then.fit;
+  by_hit = AllByHit-append s es fs first.by_hit then.by_hit;
+}
+
+fit_unless : (b : Bool) (s : State) (es : List Event) → FitByHit s es → FitByHit s (cond b [] es)
+fit_unless true s es fit = record { fit = tt; by_hit = tt }
 fit_unless false s es fit = fit
 
-module _ (in_phase : (s : State) → Reached s → IsInPhase s) where
-  steps_fit : (u : Until) (n : ℕ) (m : Moment) → Reached m.state → AllFit m.state (steps_until u n m)
-  steps_fit u zero m reached = tt
-  steps_fit u (suc n) m reached =
-      let e = next_event m.state m.stream in
-      let fits = next_fits m.state.core.phase m.state m.stream refl (in_phase m.state reached) in
-      fit_unless (stops_at u m.state.core.phase) m.state (e ∷ steps_until u n (moved m e)) (fits, steps_fit u n (moved m e) (Reached-run m.state (e ∷ []) reached (fits, tt)))
+-- callbacks that put nothing in
+pub nothing_fits : FitAlways no_callbacks
+nothing_fits s e reached fits = record { fit = tt; by_hit = tt }
+
+module _ (c : Callbacks) (always : FitAlways c) where
+  puts_fit : (s : State) (e : Event) → Reached s → Fits s e → ByHit s e → FitByHit s (with_puts c s e)
+  puts_fit s e reached fits hits =
+      let more = always s e reached fits in
+      record { fit = (fits, more.fit); by_hit = (hits, more.by_hit) }
+
+  -- events, and then those that fit where they lead
+  fit_then : (m : Moment) (es rest : List Event) → FitByHit m.state es → FitByHit (along m es).state rest → FitByHit m.state (es ++ rest)
+  fit_then m es rest first then = FitByHit-append m.state es rest first (subst (λ s. FitByHit s rest) (along-state m es) then)
+
+  module _ (in_phase : (s : State) → Reached s → IsInPhase s) where
+    steps_fit : (u : Until) (n : ℕ) (m : Moment) → Reached m.state → FitByHit m.state (steps_until c u n m)
+    steps_fit u zero m reached = record { fit = tt; by_hit = tt }
+    steps_fit u (suc n) m reached =
+        let e = next_event m.state m.stream in
+        let es = with_puts c m.state e in
+        let fits = next_fits m.state.core.phase m.state m.stream refl (in_phase m.state reached) in
+        let first = puts_fit m.state e reached fits (by_hit-in m.state.core.phase m.state m.stream) in
+        let rest = steps_until c u n (along m es) in
+        fit_unless (stops_at u m.state.core.phase) m.state (es ++ rest)
+        (fit_then m es rest first (steps_fit u n (along m es) (Reached-along m es reached first.fit)))
 
 -- ---- touches
 
@@ -137,21 +166,20 @@ after-cap s e = ap (λ (p : List Target × ℕ). p.1) (after-fixed s e)
 
 -- ---- parts
 
-module _ (in_phase : (s : State) → Reached s → IsInPhase s) where
-  part_fits : (m : Moment) (p : Part) → Reached m.state → IsPartWithin (pages_of m.state.core.space) p → AllFit m.state (part_events m p)
-  part_fits m (part.Touches page count) reached within = touches_fit m.state page count within
-  part_fits m (part.Steps until most) reached within = steps_fit in_phase until most m reached
-  part_fits m part.Show reached within = (tt, tt)
-  part_fits m (part.Commit parts) reached within = (tt, tt)
+module _ (c : Callbacks) (always : FitAlways c) (in_phase : (s : State) → Reached s → IsInPhase s) where
+  part_fits : (m : Moment) (p : Part) → Reached m.state → IsPartWithin (pages_of m.state.core.space) p → FitByHit m.state (part_events c m p)
+  part_fits m (part.Touches page count) reached within = record { fit = touches_fit m.state page count within; by_hit = by_hit-touches m.state page count }
+  part_fits m (part.Steps until most) reached within = steps_fit c always in_phase until most m reached
+  part_fits m part.Show reached within = record { fit = (tt, tt); by_hit = (tt, tt) }
+  part_fits m (part.Commit parts) reached within = puts_fit c always m.state (commit parts) reached tt tt
 
-  parts_fit : (m : Moment) (ps : List Part) → Reached m.state → ArePartsWithin (pages_of m.state.core.space) ps → AllFit m.state (parts_events m ps)
-  parts_fit m [] reached within = tt
+  parts_fit : (m : Moment) (ps : List Part) → Reached m.state → ArePartsWithin (pages_of m.state.core.space) ps → FitByHit m.state (parts_events c m ps)
+  parts_fit m [] reached within = record { fit = tt; by_hit = tt }
   parts_fit m (p ∷ ps) reached within =
-      let es = part_events m p in
-      let rest = parts_events (along m es) ps in
+      let es = part_events c m p in
       let first = part_fits m p reached within.0 in
-      AllFit-append m.state es rest first (subst (λ s. AllFit s rest) (along-state m es)
-      (parts_fit (along m es) ps (Reached-along m es reached first) (subst (λ space. ArePartsWithin (pages_of space) ps) (sym (along-space m es)) within.1)))
+      fit_then c always m es (parts_events c (along m es) ps) first
+      (parts_fit (along m es) ps (Reached-along m es reached first.fit) (subst (λ space. ArePartsWithin (pages_of space) ps) (sym (along-space m es)) within.1))
 
 pub part_within : (cap pages : ℕ) (c : CommandValue) → IsCommandWithin pages c → IsPartWithin pages (part_of cap c)
 part_within cap pages (Touch page) within = omega (arith, within)
@@ -172,36 +200,39 @@ AllFit-prefix : (s : State) (es fs : List Event) → AllFit s (es ++ fs) → All
 AllFit-prefix s [] fs fit = tt
 AllFit-prefix s (e ∷ es) fs fit = (fit.0, AllFit-prefix (after s e) es fs fit.1)
 
--- The events of a script within its limits fit, and each state to which a prefix of them leads is bound.
-pub bound_along : ((s : State) → Reached s → IsInPhase s) → ((s : State) → ReachedByHit s → Bound s) → EachScriptIsBound
-bound_along in_phase bound s sound =
-    let can : CanOpen s.setup = record { space = sound.space; sound = sound.setup; order = sound.order } in
-    let parts = parts_of s.setup.cap s.commands in
-    let fits : AllFit (opening s.setup) (unfold_script s) =
-    parts_fit in_phase (start s) parts (Reached-start s can) (parts_within s.setup.cap (pages_of s.setup.space) s.commands sound.commands) in
+can_open : (s : ScriptValue) → IsSound s → CanOpen s.setup
+can_open s sound = record { space = sound.space; sound = sound.setup; order = sound.order }
+
+-- the events of a script within its limits fit, with those that are put in, and their loads have the results of their pages
+script_fits : (c : Callbacks) → FitAlways c → ((s : State) → Reached s → IsInPhase s) → (s : ScriptValue) (sound : IsSound s) → FitByHit (opening s.setup) (unfold_with c s)
+script_fits c always in_phase s sound =
+    parts_fit c always in_phase (start s) (parts_of s.setup.cap s.commands) (Reached-start s (can_open s sound))
+    (parts_within s.setup.cap (pages_of s.setup.space) s.commands sound.commands)
+
+-- each state to which a prefix of them leads is bound
+pub bound_along : ((s : State) → Reached s → IsInPhase s) → ((s : State) → ReachedByHit s → Bound s) → EachRunIsBound
+bound_along in_phase bound c always s sound =
+    let fits = script_fits c always in_phase s sound in
     record {
-      fit = fits;
+      fit = fits.fit;
       bound = λ events rest is. bound (run (opening s.setup) events) (record {
         setup = s.setup;
         events = events;
-        can_open = can;
-        fit = AllFit-prefix (opening s.setup) events rest (subst (λ es. AllFit (opening s.setup) es) is fits);
-        by_hit = AllByHit-prefix (opening s.setup) events rest (subst (λ es. AllByHit (opening s.setup) es) is (by_hit-parts (start s) parts));
+        can_open = can_open s sound;
+        fit = AllFit-prefix (opening s.setup) events rest (subst (λ es. AllFit (opening s.setup) es) is fits.fit);
+        by_hit = AllByHit-prefix (opening s.setup) events rest (subst (λ es. AllByHit (opening s.setup) es) is fits.by_hit);
         is = refl;
       });
     }
 
--- Each aggregation along the run of a script applies each active scheme to the best choice.
-pub choices_along : ((s : State) → Reached s → IsInPhase s) → ((s : State) → Reached s → ServesBest s) → EachChoiceIsBest
-choices_along in_phase best s sound events rest words is =
-    let can : CanOpen s.setup = record { space = sound.space; sound = sound.setup; order = sound.order } in
-    let parts = parts_of s.setup.cap s.commands in
-    let fits : AllFit (opening s.setup) (unfold_script s) =
-    parts_fit in_phase (start s) parts (Reached-start s can) (parts_within s.setup.cap (pages_of s.setup.space) s.commands sound.commands) in
+-- each aggregation among them applies each active scheme to the best choice
+pub choices_along : ((s : State) → Reached s → IsInPhase s) → ((s : State) → Reached s → ServesBest s) → EachRunChoosesBest
+choices_along in_phase best c always s sound events rest words is =
+    let fits = script_fits c always in_phase s sound in
     best (run (opening s.setup) events) (record {
       setup = s.setup;
       events = events;
-      can_open = can;
-      fit = AllFit-prefix (opening s.setup) events (aggregate words ∷ rest) (subst (λ es. AllFit (opening s.setup) es) is fits);
+      can_open = can_open s sound;
+      fit = AllFit-prefix (opening s.setup) events (aggregate words ∷ rest) (subst (λ es. AllFit (opening s.setup) es) is fits.fit);
       is = refl;
     })
