@@ -1,6 +1,7 @@
 -- What a player makes at once.
 use Rattle.std.proofs.Common.{◌≡◌, ℕ, zero, suc, ◌+◌, ◌-◌, ◌*◌, ◌≤◌, Bool, true, false, List, [], ◌∷◌, ◌++◌, refl, sym, ap, ◌∙◌, subst, append_assoc, append-nil, arith, Result, Ok, Err, OnOk, OnErr, take, length}
 use Rattle.std.specs.Prelude.{◌==◌, ◌||◌}
+use Rattle.std.proofs.Math.Seq.{take-append_seam}
 use Rattle.std.specs.List.{AllByRecursion}
 use Rattle.rand_core.specs.Stream.{Stream}
 use Rattle.live_commit.specs.declared.phase.Phase.{Phase}
@@ -44,11 +45,11 @@ pub whole-ok : {T E : Type 0} (P : List ℕ → Type 0) (made result : Result T 
 whole-ok P made (Ok x) y z same holds is = subst P (sym is) (subst (λ r. OnOk r (P y)) (sym same) holds)
 whole-ok P made (Err e) y z same holds is = is
 
-pub whole-err : {T E : Type 0} (made result : Result T E) (x y z : List ℕ) → result ≡ made → OnErr made (KeepsFront x y) → OnErr result (z ≡ take (length x) y) → OnErr result (z ≡ x)
-whole-err made (Ok v) x y z same kept is = is
-whole-err made (Err e) x y z same kept is =
+pub whole-err : {T E : Type 0} (made result : Result T E) (n : ℕ) (x y z : List ℕ) → n ≡ length x → result ≡ made → OnErr made (KeepsFront x y) → OnErr result (z ≡ take n y) → OnErr result (z ≡ x)
+whole-err made (Ok v) n x y z all same kept is = is
+whole-err made (Err e) n x y z all same kept is =
     let front : KeepsFront x y = subst (λ r. OnErr r (KeepsFront x y)) (sym same) kept in
-    is ∙ ap (take (length x)) front.1 ∙ take-front x front.0
+    is ∙ ap (λ i. take i y) all ∙ ap (take (length x)) front.1 ∙ take-append_seam x front.0
 
 -- a step is left where steps are not done
 pub some_steps : (u : Until) (most : ℕ) (ph : Phase) → is_done (part.Steps u most) ph ≡ false → 1 ≤ most

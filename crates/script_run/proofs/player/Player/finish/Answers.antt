@@ -9,4 +9,4 @@ returns-clause-last g c =
 
 pub returns-clause-err : goal.returns-clause-err
 returns-clause-err g c =
-    whole-err c.append_last-appended.result c.whole_or_nothing.result c.args.out.now.items _ _ c.whole_or_nothing.ensures.same c.append_last-appended.ensures.err c.whole_or_nothing.ensures.err
+    whole-err c.append_last-appended.result c.whole_or_nothing.result c.len-before.result c.args.out.now.items _ _ c.len-before.ensures c.whole_or_nothing.ensures.same c.append_last-appended.ensures.err c.whole_or_nothing.ensures.err
