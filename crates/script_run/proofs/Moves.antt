@@ -51,6 +51,13 @@ whole-err made (Err e) n x y z all same kept is =
     let front : KeepsFront x y = subst (λ r. OnErr r (KeepsFront x y)) (sym same) kept in
     is ∙ ap (λ i. take i y) all ∙ ap (take (length x)) front.1 ∙ take-append_seam x front.0
 
+-- a text that grew keeps what it began with
+pub keeps-more : (x y z added : List ℕ) → y ≡ x ++ added → KeepsFront y z → KeepsFront x z
+keeps-more x y z added grew front = (added ++ front.0, front.1 ∙ ap (λ t. t ++ front.0) grew ∙ append_assoc x added front.0)
+
+pub keeps-none : (x y : List ℕ) → y ≡ x → KeepsFront x y
+keeps-none x y is = ([], is ∙ sym (append-nil x))
+
 -- a step is left where steps are not done
 pub some_steps : (u : Until) (most : ℕ) (ph : Phase) → is_done (part.Steps u most) ph ≡ false → 1 ≤ most
 some_steps u zero ph going = absurd (cc going)

@@ -1,9 +1,10 @@
 use Rattle.std.proofs.Common.{◌≡◌, ◌∷◌, [], refl, sym, ap, ◌∙◌, subst, length, arith}
+use Rattle.std.proofs.lemmas.Result.{err_from_is_err_and}
 use Rattle.live_commit.specs.Commit.{commit_value}
 use Rattle.damon_core.specs.Event.{commit}
 use Rattle.script_run.specs.Kept.{IsMade, StandSomewhere}
-use Rattle.script_run.specs.Report.{text_from}
 use Rattle.script_run.proofs.Making.{made-commit, plays-commit, puts-all, puts-more, puts-none, somewhere-then}
+use Rattle.script_run.proofs.Moves.{keeps-more, keeps-none}
 use Rattle.script_run.proofs.together.put_in.Goals as goal
 
 pub puts-init : goal.puts-init
@@ -33,3 +34,32 @@ puts-preserved g c =
 
 pub puts-smaller : goal.puts-smaller
 puts-smaller g c = omega (arith, ap (λ es. length es) c.in-Some.ensures.next)
+
+pub returns-in_err-put_commit-clause-err : goal.returns-in_err-put_commit-clause-err
+returns-in_err-put_commit-clause-err g c =
+    let p = err_from_is_err_and c.from_residual.result c.from_residual.ensures.1 in
+    let there = c.requires in
+    rw p.1 (keeps-more c.args.out.now.items c.puts.out.items _ _ (c.puts.invariant.so_far.made.text there.moment there.reached there.here) (keeps-none c.puts.out.items _ c.in_err-put_commit.ensures.err))
+
+pub returns-in_err-put_commit-clause-somewhere : goal.returns-in_err-put_commit-clause-somewhere
+returns-in_err-put_commit-clause-somewhere g c =
+    let stream = g.R.Rng.stream in
+    let stands = g.C.Callbacks.stands_for in
+    let parts = commit_value c.in-Some.next in
+    let world = c.put_commit.new.world in
+    let callbacks = c.next_commit.new.self in
+    let plays = plays-commit stream stands c.puts.world world c.puts.callbacks callbacks parts c.put_commit.ensures.source c.put_commit.ensures.event (λ s reached stood same. c.in-Some.ensures.stands s reached stood (tt, tt)) in
+    somewhere-then stream stands c.puts.world world c.puts.callbacks callbacks (λ m. commit parts ∷ []) plays c.puts.invariant.somewhere
+
+pub returns-clause-made : goal.returns-clause-made
+returns-clause-made g c =
+    let stream = g.R.Rng.stream in
+    let stands = g.C.Callbacks.stands_for in
+    let k = g.C.Callbacks.callbacks in
+    let none = c.in-None.is in
+    subst (λ kk. IsMade stream k stands c.args.world.now c.puts.world c.args.callbacks.now kk c.args.form c.args.out.now.items c.puts.out.items (λ m. g.C.Callbacks.pending c.args.callbacks.now)) (sym (c.next_commit.ensures.same none))
+    (puts-all stream k stands g.C.Callbacks.pending c.args.world.now c.puts.world c.args.callbacks.now c.puts.callbacks c.args.form c.args.out.now.items c.puts.out.items c.puts.invariant.so_far (c.next_commit.ensures.none none))
+
+pub returns-clause-somewhere : goal.returns-clause-somewhere
+returns-clause-somewhere g c =
+    subst (λ kk. StandSomewhere g.R.Rng.stream g.C.Callbacks.stands_for c.puts.world kk) (sym (c.next_commit.ensures.same c.in-None.is)) c.puts.invariant.somewhere
