@@ -159,10 +159,13 @@ module _ {R C : Type 0} (stream : R → Stream) (c : Callbacks) (stands : C → 
   pub next_begins : (a b : PlayerOf R C) (text : List ℕ) → is_done a.part a.world.monitor.core.phase ≡ true → b.world ≡ a.world → b.callbacks ≡ a.callbacks → b.form ≡ a.form → a.later ≡ b.part ∷ b.later → GoesOnWith stream c stands a b text text
   next_begins a b text done world callbacks form later = record {
     events = λ m. [];
-    plays = λ m reached here. (tt, record {
-      world = subst (λ w. StandsAt stream w m) (sym world) here.world;
-      callbacks = subst (λ k. stands k m.state) (sym callbacks) here.callbacks;
-    });
+    plays = λ m reached here. (
+      tt,
+      record {
+        world = subst (λ w. StandsAt stream w m) (sym world) here.world;
+        callbacks = subst (λ k. stands k m.state) (sym callbacks) here.callbacks;
+      },
+    );
     left = λ m reached here. parts_events-done c m a.part a.later (done_at a m here done) ∙ ap (parts_events c m) later;
     text = λ m reached here. sym (append-nil text);
     form = form;
@@ -172,10 +175,13 @@ module _ {R C : Type 0} (stream : R → Stream) (c : Callbacks) (stands : C → 
   pub show_made : (in_place : AddInPlace c) (a b : PlayerOf R C) (x y : List ℕ) → a.part ≡ part.Show → b.part ≡ part.Touches 0 0 → b.later ≡ a.later → b.form ≡ a.form → b.world ≡ a.world → b.callbacks ≡ a.callbacks → y ≡ x ++ show_text a.form (printed_monitor a.world.monitor) → GoesOnWith stream c stands a b x y
   show_made in_place a b x y old new later form world callbacks grew = record {
     events = λ m. es;
-    plays = λ m reached here. ((tt, tt), record {
-      world = subst (λ w. StandsAt stream w m) (sym world) here.world;
-      callbacks = subst (λ k. stands k m.state) (sym callbacks) here.callbacks;
-    });
+    plays = λ m reached here. (
+      (tt, tt),
+      record {
+        world = subst (λ w. StandsAt stream w m) (sym world) here.world;
+        callbacks = subst (λ k. stands k m.state) (sym callbacks) here.callbacks;
+      },
+    );
     left = λ m reached here. (
         let all : part_events c m a.part ≡ es ++ part_events c m b.part = ap (part_events c m) old ∙ ap (λ q. es ++ part_events c m q) (sym new) in
         parts_events-made c m es a.part b.part a.later all ∙ ap (λ ps. es ++ parts_events c m (b.part ∷ ps)) (sym later));
