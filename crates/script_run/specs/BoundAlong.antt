@@ -15,7 +15,7 @@ pub record IsBoundWith (c : Callbacks) (s : ScriptValue) : Type 0 where
   pub fit : AllFit (opening s.setup) (unfold_with c s)
   pub bound : (events rest : List Event) → unfold_with c s ≡ events ++ rest → Bound (run (opening s.setup) events)
 
--- the same of the events of the script alone
+-- The events of the script fit from the opening of its setup, and each state to which a prefix of them leads is bound.
 abbrev pub IsBoundAlong : ScriptValue → Type 0
 IsBoundAlong s = IsBoundWith no_callbacks s
 

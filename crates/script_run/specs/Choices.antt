@@ -16,7 +16,7 @@ ChoosesBestWith c s =
     (events rest : List Event) (words : List ℕ) → unfold_with c s ≡ events ++ aggregate words ∷ rest
     → ServesBest (run (opening s.setup) events)
 
--- the same along the run without callbacks
+-- each aggregation along the run of the script applies each active scheme to the best choice within what is left of its quota
 abbrev pub ChoosesBestAlong : ScriptValue → Type 0
 ChoosesBestAlong s = ChoosesBestWith no_callbacks s
 
