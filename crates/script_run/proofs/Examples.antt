@@ -46,7 +46,7 @@ module _ (parts : CommitValue) (line : List ℕ) where
 
   -- the line stands between the text of the aggregation and that of the next event
   the_line_comes_first : (form : Form) (s : State) (words : List ℕ) (es : List Event)
-      → (let then = after s (aggregate words) in
+      → (let s1 = after s (aggregate words) in
       text_from same_each_time form s (aggregate words ∷ es)
-      ≡ aggregate_text form (printed_state then) ++ (line ++ text_from same_each_time form then es))
+      ≡ aggregate_text form (printed_state s1) ++ (line ++ text_from same_each_time form s1 es))
   the_line_comes_first form s words es = refl

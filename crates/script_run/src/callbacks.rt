@@ -63,10 +63,10 @@ pub trait Callbacks {
     /// The next commit that is put in; the caller makes it at once. `None` where none is left. Takes no
     /// memory.
     fn next_commit(&mut self) -> Option<Commit>
-        ensures next { IfSome result (λ next.
-            pending self.old ≡ commit_event (commit_value next) ∷ pending self.new) }
-        ensures stands { IfSome result (λ next. Follows stands_for self.old self.new
-            (commit_event (commit_value next) ∷ [])) }
+        ensures next { IfSome result (λ c.
+            pending self.old ≡ commit_event (commit_value c) ∷ pending self.new) }
+        ensures stands { IfSome result (λ c. Follows stands_for self.old self.new
+            (commit_event (commit_value c) ∷ [])) }
         ensures none { result ≡ None → pending self.old ≡ [] }
         ensures same { result ≡ None → self.new ≡ self.old };
 
