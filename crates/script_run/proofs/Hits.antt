@@ -1,15 +1,14 @@
 -- The results of loads among the events of a script are those of their pages.
-use Rattle.std.proofs.Common.{ℕ, zero, suc, ◌+◌, Bool, true, false, List, [], ◌∷◌, ◌++◌, refl, cond}
+use Rattle.std.proofs.Common.{Bool, true, false, List, [], ◌∷◌, ◌++◌, refl, cond}
 use Rattle.std.specs.Prelude.{◌==◌}
 use Rattle.rand_core.specs.Stream.{Stream}
 use Rattle.live_commit.specs.declared.phase.Phase.{Phase}
 use Rattle.live_commit.specs.declared.phase.Phase.TheVariants.{Idle, Clearing, Armed, Checking, Void, Due}
 use Rattle.damon_core.specs.State.{State, row_count}
-use Rattle.damon_core.specs.Event.{ByHit, Event, load, next_hit, observe, touch}
+use Rattle.damon_core.specs.Event.{ByHit, Event, load, next_hit, observe}
 use Rattle.damon_core.specs.After.{after}
 use Rattle.damon_core.specs.Reached.{AllByHit, run}
 use Rattle.damon_world.specs.Moment.{event_in}
-use Rattle.damon_world.specs.Touches.{touches}
 
 pub AllByHit-append : (s : State) (es fs : List Event) → AllByHit s es → AllByHit (run s es) fs → AllByHit s (es ++ fs)
 AllByHit-append s [] fs hit then = then
@@ -31,7 +30,3 @@ by_hit-in Armed s t = refl
 by_hit-in (Checking k) s t = by_hit-choice (k == row_count s.core) s
 by_hit-in Void s t = tt
 by_hit-in Due s t = tt
-
-pub by_hit-touches : (s : State) (page n : ℕ) → AllByHit s (touches page n)
-by_hit-touches s page zero = tt
-by_hit-touches s page (suc n) = (tt, by_hit-touches (after s (touch page)) (page + 1) n)

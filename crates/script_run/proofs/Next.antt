@@ -27,7 +27,7 @@ next_part cap i cs c q here is value =
 pub less_left : (p : Part) (ps : List Part) → left_in (p ∷ ps) ≡ 1 + left_of p + left_in ps
 less_left p ps = sum_by-cons (λ q. 1 + left_of q) p ps
 
-module _ {R C : Type 0} (stream : R → Stream) (stands : C → State → Type 0) where
+module _ {R C : Type 0} (stream : R → Stream) (stands : C → List ℕ → State → Type 0) where
   -- what a player keeps holds once the next command is the part under way
   pub player-next : (w : WorldView R) (k : C) (p q : Part) (cap i : ℕ) (cs : List CommandValue) (c : CommandValue) → i < length cs → slice_get cs i ≡ Some c → q ≡ part_of cap c → IsPlayer stream stands w k (p ∷ parts_of cap (drop i cs)) → IsPlayer stream stands w k (q ∷ parts_of cap (drop (i + 1) cs))
   player-next w k p q cap i cs c here get value kept =

@@ -5,16 +5,33 @@ use Rattle.damon_core.specs.Event.{Event, Fits, prepare, clear, load, observe, a
 use Rattle.damon_core.specs.After.{after}
 use Rattle.damon_core.specs.Reached.{AllByHit, AllFit, Reached}
 
--- The events that are put in directly after an event of the script, the text directly after an event's own text, and the text
--- after the last line. The state is the one after the event, or the last one.
+-- What callbacks remember first, at the opening, and then after each event of the script; the events that are put in directly
+-- after such an event, the text directly after the event's own text, and the text after the last line. The memory is the one
+-- after the event, the state too; at the end both are the last ones. Nothing is remembered of the events that are put in.
 pub record Callbacks : Type 0 where
-  pub puts : State → Event → List Event
-  pub writes : State → Event → List ℕ
-  pub ends : State → List ℕ
+  pub first : State → List ℕ
+  pub keeps : List ℕ → State → Event → List ℕ
+  pub puts : List ℕ → State → Event → List Event
+  pub writes : List ℕ → State → Event → List ℕ
+  pub ends : List ℕ → State → List ℕ
 
--- callbacks that add nothing
+-- callbacks that remember nothing and add nothing
 abbrev pub no_callbacks : Callbacks
-no_callbacks = record { puts = λ s e. []; writes = λ s e. []; ends = λ s. [] }
+no_callbacks = record {
+  first = λ s. [];
+  keeps = λ memory s e. memory;
+  puts = λ memory s e. [];
+  writes = λ memory s e. [];
+  ends = λ memory s. [];
+}
+
+-- what is remembered directly after an event of the script
+abbrev pub remembered : Callbacks → List ℕ → State → Event → List ℕ
+remembered c memory s e = c.keeps memory (after s e) e
+
+-- the events that are put in directly after an event of the script
+abbrev pub put_after : Callbacks → List ℕ → State → Event → List Event
+put_after c memory s e = c.puts (remembered c memory s e) (after s e) e
 
 -- a step that is no aggregation
 abbrev pub IsStep : Event → Type 0
@@ -35,16 +52,18 @@ IsAlone (aggregate words) = ⊥
 IsAlone (commit parts) = ⊥
 IsAlone _ = Unit {0}
 
--- events are put in after aggregations and commits alone, and text is written after aggregations alone
+-- what is remembered changes and events are put in after aggregations and commits alone, and text is written after
+-- aggregations alone
 pub record AddInPlace (c : Callbacks) : Type 0 where
-  pub puts : (s : State) (e : Event) → IsAlone e → c.puts s e ≡ []
-  pub writes : (s : State) (e : Event) → IsQuiet e → c.writes s e ≡ []
+  pub keeps : (memory : List ℕ) (s : State) (e : Event) → IsAlone e → c.keeps memory s e ≡ memory
+  pub puts : (memory : List ℕ) (s : State) (e : Event) → IsAlone e → c.puts memory s e ≡ []
+  pub writes : (memory : List ℕ) (s : State) (e : Event) → IsQuiet e → c.writes memory s e ≡ []
 
 -- events fit from a state on, and the result of each load among them is that of its page
 pub record FitByHit (s : State) (es : List Event) : Type 0 where
   pub fit : AllFit s es
   pub by_hit : AllByHit s es
 
--- events that are put in after an event that fits fit where they are put in
+-- whatever is remembered, events that are put in after an event that fits fit where they are put in
 abbrev pub FitAlways : Callbacks → Type 0
-FitAlways c = (s : State) (e : Event) → Reached s → Fits s e → FitByHit (after s e) (c.puts (after s e) e)
+FitAlways c = (memory : List ℕ) (s : State) (e : Event) → Reached s → Fits s e → FitByHit (after s e) (put_after c memory s e)

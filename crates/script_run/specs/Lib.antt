@@ -2,6 +2,7 @@ pub mod Part
 pub mod Parts
 pub mod Callbacks
 pub mod Calls
+pub mod Course
 pub mod Unfold
 pub mod Report
 pub mod Player

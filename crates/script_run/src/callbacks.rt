@@ -8,7 +8,7 @@ ghost use Rattle.damon_core.specs.Stands.{Stands};
 ghost use Rattle.damon_core.specs.State.{State};
 ghost use Rattle.damon_world.specs.Touches.{touches};
 ghost use Rattle.live_commit.specs.Commit.{commit_value};
-ghost use Rattle.script_run.specs.Callbacks.{AddInPlace, Callbacks as CallbacksValue, IsStep, no_callbacks};
+ghost use Rattle.script_run.specs.Callbacks.{AddInPlace, Callbacks as CallbacksValue, IsStep, no_callbacks, put_after, remembered};
 ghost use Rattle.script_run.specs.Calls.{Follows, IsAggregated, IsCommitted, MayFollow};
 
 use damon_core::{Changed, Monitor};
@@ -19,49 +19,52 @@ use std::alloc::{AllocError, Global};
 /// was made, makes the commits that they put in, and lets them append lines of their own: after each
 /// aggregation, and at the end.
 pub trait Callbacks {
-    /// What they put in and write, by the state.
+    /// What they remember, put in and write.
     ghost callbacks: { CallbacksValue };
 
-    /// For which states they stand.
-    ghost stands_for: { Self → State → Type 0 };
+    /// For what is remembered and for which states they stand.
+    ghost stands_for: { Self → List ℕ → State → Type 0 };
 
     /// The commits that they still put in before the script goes on.
     ghost pending: { Self → List Event };
 
-    /// The pages from `page` on, `count` of them, were touched, one after another.
+    /// The pages from `page` on, `count` of them, were touched, one after another. Nothing is remembered
+    /// of it.
     fn after_touches(&mut self, page: u32, count: u32)
         requires { MayFollow (stands_for self.old) (touches page count) }
         ensures { Follows stands_for self.old self.new (touches page count) };
 
-    /// Steps were made, none of which is an aggregation.
+    /// Steps were made, none of which is an aggregation. Nothing is remembered of them.
     fn after_steps(&mut self)
         ensures { (steps : List Event) → AllByRecursion IsStep steps
             → Follows stands_for self.old self.new steps };
 
     /// An aggregation was carried out; the monitor is the one after it.
     fn after_aggregation(&mut self, monitor: &Monitor)
-        requires { (s : State) × (words : List ℕ) × IsAggregated (stands_for self.old) monitor.now s words }
-        ensures stands { (s : State) (words : List ℕ)
-            → IsAggregated (stands_for self.old) monitor.now s words
-            → stands_for self.new (after s (aggregate_event words)) }
-        ensures puts { (s : State) (words : List ℕ)
-            → IsAggregated (stands_for self.old) monitor.now s words
-            → pending self.new
-            ≡ callbacks.puts (after s (aggregate_event words)) (aggregate_event words) };
+        requires { (memory : List ℕ) × (s : State) × (words : List ℕ)
+            × IsAggregated (stands_for self.old) monitor.now memory s words }
+        ensures stands { (memory : List ℕ) (s : State) (words : List ℕ)
+            → IsAggregated (stands_for self.old) monitor.now memory s words
+            → stands_for self.new (remembered callbacks memory s (aggregate_event words))
+            (after s (aggregate_event words)) }
+        ensures puts { (memory : List ℕ) (s : State) (words : List ℕ)
+            → IsAggregated (stands_for self.old) monitor.now memory s words
+            → pending self.new ≡ put_after callbacks memory s (aggregate_event words) };
 
     /// A commit of the script was made, with this answer.
     fn after_commit(&mut self, commit: &Commit, answer: &Result<Changed, CommitFault>)
-        ensures stands { (s : State)
-            → IsCommitted (stands_for self.old) (commit_value commit.now) answer.now s
-            → stands_for self.new (after s (commit_event (commit_value commit.now))) }
-        ensures puts { (s : State)
-            → IsCommitted (stands_for self.old) (commit_value commit.now) answer.now s
+        ensures stands { (memory : List ℕ) (s : State)
+            → IsCommitted (stands_for self.old) (commit_value commit.now) answer.now memory s
+            → stands_for self.new
+            (remembered callbacks memory s (commit_event (commit_value commit.now)))
+            (after s (commit_event (commit_value commit.now))) }
+        ensures puts { (memory : List ℕ) (s : State)
+            → IsCommitted (stands_for self.old) (commit_value commit.now) answer.now memory s
             → pending self.new
-            ≡ callbacks.puts (after s (commit_event (commit_value commit.now)))
-            (commit_event (commit_value commit.now)) };
+            ≡ put_after callbacks memory s (commit_event (commit_value commit.now)) };
 
-    /// The next commit that is put in; the caller makes it at once. `None` where none is left. Takes no
-    /// memory.
+    /// The next commit that is put in; the caller makes it at once. Nothing is remembered of it. `None`
+    /// where none is left. Takes no memory.
     fn next_commit(&mut self) -> Option<Commit>
         ensures next { IfSome result (λ c.
             pending self.old ≡ commit_event (commit_value c) ∷ pending self.new) }
@@ -78,9 +81,9 @@ pub trait Callbacks {
         out: &mut Vec<u8>,
         monitor: &Monitor,
     ) -> Result<(), AllocError>
-        ensures ok { OnOk result ((s : State) (words : List ℕ) → stands_for self.now s
-            → Stands monitor.now s
-            → out.new.items ≡ out.old.items ++ callbacks.writes s (aggregate_event words)) }
+        ensures ok { OnOk result ((memory : List ℕ) (s : State) (words : List ℕ)
+            → stands_for self.now memory s → Stands monitor.now s
+            → out.new.items ≡ out.old.items ++ callbacks.writes memory s (aggregate_event words)) }
         ensures err { OnErr result (out.new.items ≡ out.old.items) };
 
     /// Appends the lines after the last line of a report, at the end of which the monitor stands. When out of
@@ -91,15 +94,16 @@ pub trait Callbacks {
         out: &mut Vec<u8>,
         monitor: &Monitor,
     ) -> Result<(), AllocError>
-        ensures ok { OnOk result ((s : State) → stands_for self.now s → Stands monitor.now s
-            → out.new.items ≡ out.old.items ++ callbacks.ends s) }
+        ensures ok { OnOk result ((memory : List ℕ) (s : State) → stands_for self.now memory s
+            → Stands monitor.now s
+            → out.new.items ≡ out.old.items ++ callbacks.ends memory s) }
         ensures err { OnErr result (out.new.items ≡ out.old.items) };
 
-    /// They put in events after aggregations and commits alone, and write after aggregations alone.
+    /// They remember and put in after aggregations and commits alone, and write after aggregations alone.
     ghost in_place: { AddInPlace callbacks };
 }
 
-/// No callbacks: nothing is put in, and no line is added.
+/// No callbacks: nothing is remembered or put in, and no line is added.
 #[derive(Debug, Drop)]
 pub struct NoCallbacks;
 
@@ -108,11 +112,15 @@ impl Callbacks for NoCallbacks {
 
     ghost callbacks = { no_callbacks };
 
-    ghost stands_for = { λ c s. Unit {0} };
+    ghost stands_for = { λ c memory s. Unit {0} };
 
     ghost pending = { λ c. [] };
 
-    ghost in_place = { record { puts = λ s e alone. refl; writes = λ s e quiet. refl } };
+    ghost in_place = { record {
+        keeps = λ memory s e alone. refl;
+        puts = λ memory s e alone. refl;
+        writes = λ memory s e quiet. refl;
+    } };
 
     #[inline(always)]
     fn after_touches(&mut self, _page: u32, _count: u32) {}

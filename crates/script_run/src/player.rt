@@ -345,7 +345,7 @@ pub fn open_player(
     open_player_with(alloc, script, form, NoCallbacks)
 }
 
-/// The same with callbacks, which stand for the opening of the script's setup.
+/// The same with callbacks, which stand for the opening of the script's setup with what they remember first.
 pub fn open_player_with<C: Callbacks + Drop>(
     alloc: Global,
     script: Script,
@@ -354,7 +354,8 @@ pub fn open_player_with<C: Callbacks + Drop>(
 ) -> Result<Player<Lcg64Xsh32, C>, AllocError>
     requires within { AreCommandsWithin (pages_of script.setup.space) script.commands.list }
     requires work { work_of script.setup.cap script.commands.list ≤ MAX_WORK }
-    requires opening { C.stands_for callbacks (opening (said_by script).setup) }
+    requires opening { C.stands_for callbacks (C.callbacks.first (opening (said_by script).setup))
+        (opening (said_by script).setup) }
     ensures { IfOk result (λ p. IsOnItsWayWith (stream_of (steps_u32 pcg32)) C.callbacks
         C.stands_for (said_by script) form p []) }
 {

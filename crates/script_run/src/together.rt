@@ -9,8 +9,7 @@ ghost use Rattle.damon_world.specs.Stands.{StandsFor};
 ghost use Rattle.damon_world.specs.Touches.{touches};
 ghost use Rattle.live_commit.specs.Commit.{commit_value};
 ghost use Rattle.snapshot_print.specs.Commit.{commit_text};
-ghost use Rattle.script_run.specs.Kept.{IsMade, KeepsFront, StandSomewhere};
-ghost use Rattle.script_run.specs.Unfold.{with_puts};
+ghost use Rattle.script_run.specs.Kept.{ArePutIn, IsMade, KeepsFront, StandSomewhere};
 
 use crate::callbacks::Callbacks;
 use damon_world::World;
@@ -48,7 +47,7 @@ pub fn make_aggregation<R: Rng + Drop, C: Callbacks + Drop>(
     requires somewhere { StandSomewhere R.stream C.stands_for world.old callbacks.old }
     ensures made { OnOk result (IsMade R.stream C.callbacks C.stands_for world.old world.new
         callbacks.old callbacks.new form out.old.items out.new.items
-        (λ m. with_puts C.callbacks m.state (next_event m.state m.stream))) }
+        (λ r. next_event r.moment.state r.moment.stream ∷ [])) }
     ensures err { OnErr result (KeepsFront out.old.items out.new.items) }
 
     // What holds in any case.
@@ -75,7 +74,7 @@ pub fn make_commit<R: Rng + Drop, C: Callbacks + Drop>(
     requires { StandSomewhere R.stream C.stands_for world.old callbacks.old }
     ensures made { OnOk result (IsMade R.stream C.callbacks C.stands_for world.old world.new
         callbacks.old callbacks.new form out.old.items out.new.items
-        (λ m. with_puts C.callbacks m.state (commit_event (commit_value commit.now)))) }
+        (λ r. commit_event (commit_value commit.now) ∷ [])) }
     ensures err { OnErr result (KeepsFront out.old.items out.new.items) }
 
     // What holds in any case.
@@ -99,9 +98,8 @@ fn put_in<R: Rng + Drop, C: Callbacks + Drop>(
     callbacks: &mut C,
 ) -> Result<(), AllocError>
     requires { StandSomewhere R.stream C.stands_for world.old callbacks.old }
-    ensures made { OnOk result (IsMade R.stream C.callbacks C.stands_for world.old world.new
-        callbacks.old callbacks.new form out.old.items out.new.items
-        (λ m. C.pending callbacks.old)) }
+    ensures made { OnOk result (ArePutIn R.stream C.stands_for world.old world.new
+        callbacks.old callbacks.new form out.old.items out.new.items (C.pending callbacks.old)) }
     ensures err { OnErr result (KeepsFront out.old.items out.new.items) }
 
     // What holds in any case.

@@ -9,7 +9,7 @@ use Rattle.script_run.specs.Part as part
 use Rattle.script_run.specs.Kept.{ArePartsWithin}
 use Rattle.script_run.specs.Player.{left_in, left_of}
 use Rattle.script_run.specs.Parts.{part_of, parts_of}
-use Rattle.script_run.specs.Unfold.{start}
+use Rattle.script_run.specs.Unfold.{start_with}
 use Rattle.script_run.specs.Way.{Reached-start}
 use Rattle.script_run.proofs.Fits.{parts_within}
 use Rattle.script_run.proofs.player.open_player_with.Goals as goal
@@ -35,7 +35,7 @@ invariant_of-result g c =
     let space : s.setup.space ≡ c.in_ok-world.world.monitor.core.space = ap (λ x. x.space) (sym c.in_ok-world.ensures.core) in
     record {
       somewhere = record {
-        moment = start (said_by s);
+        course = start_with g.C.Callbacks.callbacks (said_by s);
         reached = Reached-start (said_by s) (record { space = c.targets-targets.ensures.sound; sound = s.setup.sound; order = c.len-ranges.ensures.order });
         here = record {
           world = record { state = c.in_ok-world.ensures.opening; words = ap (stream_of (steps_u32 pcg32)) c.in_ok-world.ensures.source ∙ c.random_words.ensures };

@@ -2,14 +2,14 @@ use Rattle.std.proofs.Common.{◌≡◌, ◌∷◌, [], refl, sym, ap, ◌∙◌
 use Rattle.std.proofs.lemmas.Result.{err_from_is_err_and}
 use Rattle.live_commit.specs.Commit.{commit_value}
 use Rattle.damon_core.specs.Event.{commit}
-use Rattle.script_run.specs.Kept.{IsMade, StandSomewhere}
-use Rattle.script_run.proofs.Making.{made-commit, plays-commit, puts-all, puts-more, puts-none, somewhere-then}
+use Rattle.script_run.specs.Kept.{ArePutIn, StandSomewhere}
+use Rattle.script_run.proofs.Making.{put-commit, puts-all, puts-more, puts-none, somewhere-commit}
 use Rattle.script_run.proofs.Moves.{keeps-more, keeps-none}
 use Rattle.script_run.proofs.together.put_in.Goals as goal
 
 pub puts-init : goal.puts-init
 puts-init g c = record {
-  so_far = puts-none g.R.Rng.stream g.C.Callbacks.callbacks g.C.Callbacks.stands_for g.C.Callbacks.pending c.args.world.now c.args.callbacks.now c.args.form c.args.out.now.items;
+  so_far = puts-none g.R.Rng.stream g.C.Callbacks.stands_for g.C.Callbacks.pending c.args.world.now c.args.callbacks.now c.args.form c.args.out.now.items;
   somewhere = c.requires;
   ticks = refl;
   space = refl;
@@ -19,15 +19,16 @@ pub puts-preserved : goal.puts-preserved
 puts-preserved g c =
     let stream = g.R.Rng.stream in
     let stands = g.C.Callbacks.stands_for in
-    let k = g.C.Callbacks.callbacks in
     let parts = commit_value c.in-Some.next in
     let world = c.put_commit.new.world in
     let callbacks = c.next_commit.new.self in
-    let plays = plays-commit stream stands c.puts.world world c.puts.callbacks callbacks parts c.put_commit.ensures.source c.put_commit.ensures.event (λ s reached stood same. c.in-Some.ensures.stands s reached stood (tt, tt)) in
-    let made = made-commit stream stands k g.met.C.Callbacks.in_place c.puts.world world c.puts.callbacks callbacks c.args.form c.puts.out.items c.put_commit.new.out.items parts plays c.in_ok-put_commit.ensures.ok in
+    let x = c.puts.out.items in
+    let y = c.put_commit.new.out.items in
+    let form = c.args.form in
+    let made = put-commit stream stands c.puts.world world c.puts.callbacks callbacks form x y parts c.put_commit.ensures.source c.put_commit.ensures.event c.in-Some.ensures.stands c.in_ok-put_commit.ensures.ok in
     record {
-      so_far = puts-more stream k stands g.C.Callbacks.pending c.args.world.now c.puts.world world c.args.callbacks.now c.puts.callbacks callbacks c.args.form c.args.out.now.items c.puts.out.items c.put_commit.new.out.items (commit parts) c.puts.invariant.so_far c.in-Some.ensures.next made;
-      somewhere = somewhere-then stream stands c.puts.world world c.puts.callbacks callbacks (λ m. commit parts ∷ []) plays c.puts.invariant.somewhere;
+      so_far = puts-more stream stands g.C.Callbacks.pending c.args.world.now c.puts.world world c.args.callbacks.now c.puts.callbacks callbacks form c.args.out.now.items x y (commit parts) c.puts.invariant.so_far c.in-Some.ensures.next made;
+      somewhere = somewhere-commit stream stands c.puts.world world c.puts.callbacks callbacks parts c.put_commit.ensures.source c.put_commit.ensures.event c.in-Some.ensures.stands c.puts.invariant.somewhere;
       ticks = c.put_commit.ensures.ticks ∙ c.puts.invariant.ticks;
       space = c.put_commit.ensures.space ∙ c.puts.invariant.space;
     }
@@ -39,26 +40,19 @@ pub returns-in_err-put_commit-clause-err : goal.returns-in_err-put_commit-clause
 returns-in_err-put_commit-clause-err g c =
     let p = err_from_is_err_and c.from_residual.result c.from_residual.ensures.1 in
     let there = c.requires in
-    rw p.1 (keeps-more c.args.out.now.items c.puts.out.items _ _ (c.puts.invariant.so_far.made.text there.moment there.reached there.here) (keeps-none c.puts.out.items _ c.in_err-put_commit.ensures.err))
+    rw p.1 (keeps-more c.args.out.now.items c.puts.out.items _ _ (c.puts.invariant.so_far.made.text there.course there.reached there.here) (keeps-none c.puts.out.items _ c.in_err-put_commit.ensures.err))
 
 pub returns-in_err-put_commit-clause-somewhere : goal.returns-in_err-put_commit-clause-somewhere
 returns-in_err-put_commit-clause-somewhere g c =
-    let stream = g.R.Rng.stream in
-    let stands = g.C.Callbacks.stands_for in
-    let parts = commit_value c.in-Some.next in
-    let world = c.put_commit.new.world in
-    let callbacks = c.next_commit.new.self in
-    let plays = plays-commit stream stands c.puts.world world c.puts.callbacks callbacks parts c.put_commit.ensures.source c.put_commit.ensures.event (λ s reached stood same. c.in-Some.ensures.stands s reached stood (tt, tt)) in
-    somewhere-then stream stands c.puts.world world c.puts.callbacks callbacks (λ m. commit parts ∷ []) plays c.puts.invariant.somewhere
+    somewhere-commit g.R.Rng.stream g.C.Callbacks.stands_for c.puts.world c.put_commit.new.world c.puts.callbacks c.next_commit.new.self (commit_value c.in-Some.next) c.put_commit.ensures.source c.put_commit.ensures.event c.in-Some.ensures.stands c.puts.invariant.somewhere
 
 pub returns-clause-made : goal.returns-clause-made
 returns-clause-made g c =
     let stream = g.R.Rng.stream in
     let stands = g.C.Callbacks.stands_for in
-    let k = g.C.Callbacks.callbacks in
     let none = c.in-None.is in
-    subst (λ kk. IsMade stream k stands c.args.world.now c.puts.world c.args.callbacks.now kk c.args.form c.args.out.now.items c.puts.out.items (λ m. g.C.Callbacks.pending c.args.callbacks.now)) (sym (c.next_commit.ensures.same none))
-    (puts-all stream k stands g.C.Callbacks.pending c.args.world.now c.puts.world c.args.callbacks.now c.puts.callbacks c.args.form c.args.out.now.items c.puts.out.items c.puts.invariant.so_far (c.next_commit.ensures.none none))
+    subst (λ kk. ArePutIn stream stands c.args.world.now c.puts.world c.args.callbacks.now kk c.args.form c.args.out.now.items c.puts.out.items (g.C.Callbacks.pending c.args.callbacks.now)) (sym (c.next_commit.ensures.same none))
+    (puts-all stream stands g.C.Callbacks.pending c.args.world.now c.puts.world c.args.callbacks.now c.puts.callbacks c.args.form c.args.out.now.items c.puts.out.items c.puts.invariant.so_far (c.next_commit.ensures.none none))
 
 pub returns-clause-somewhere : goal.returns-clause-somewhere
 returns-clause-somewhere g c =

@@ -8,7 +8,6 @@ use Rattle.script_run.specs.Part.{Part, part_value}
 use Rattle.script_run.specs.Part as part
 use Rattle.script_run.specs.Player.{left_in}
 use Rattle.script_run.specs.Parts.{parts_of}
-use Rattle.script_run.specs.Unfold.{with_puts}
 use Rattle.script_run.proofs.Next.{less_left, next_part, player-made, player-next}
 use Rattle.script_run.proofs.Moves.{commit_made, is_over, next_begins, on-none}
 use Rattle.script_run.proofs.player.Player.begin_next.Goals as goal
@@ -76,7 +75,7 @@ returns-in_ok-make_commit-in-Commit-clause-on g c =
     commit_made g.R.Rng.stream cb stands c.args.self.now _ c.args.out.now.items _ k c.requires
     (sym (ap (λ v. v.later) is) ∙ next_part p.cap p.begun p.commands.list (lent_value c.get.result) (part.Commit k) here c.get.ensures c.in-Commit.ensures)
     refl (ap (λ v. v.form) is)
-    (subst (λ v. IsMade g.R.Rng.stream cb stands v.world new v.callbacks c.make_commit.new.callbacks v.form c.args.out.now.items c.make_commit.new.out.items (λ m. with_puts cb m.state (commit k))) is c.in_ok-make_commit-in-Commit.ensures.made)
+    (subst (λ v. IsMade g.R.Rng.stream cb stands v.world new v.callbacks c.make_commit.new.callbacks v.form c.args.out.now.items c.make_commit.new.out.items (λ r. commit k ∷ [])) is c.in_ok-make_commit-in-Commit.ensures.made)
 
 pub returns-in_ok-make_commit-in-Commit-clause-less :
     goal.returns-in_ok-make_commit-in-Commit-clause-less

@@ -25,8 +25,9 @@ invariant_of-self g c =
     let world = c.advance-made.new.self in
     let callbacks = c.after_steps.new.self in
     let early : p.world.monitor.core.phase ≡ Due → ⊥ = λ due. c.requires.between (ap (λ v. v.world.monitor.core.phase) (sym is) ∙ due) in
-    let plays = steps_play stream stands p.world world p.callbacks callbacks n early c.advance-made.ensures.plays c.advance-made.ensures.amid c.after_steps.ensures in
-    let there = somewhere-then stream stands p.world world p.callbacks callbacks (λ m. events_of_steps n m) plays c.self.invariant.somewhere in
+    let k = g.C.Callbacks.callbacks in
+    let plays = steps_play stream k stands g.met.C.Callbacks.in_place p.world world p.callbacks callbacks n early c.advance-made.ensures.plays c.advance-made.ensures.amid c.after_steps.ensures in
+    let there = somewhere-then stream k stands p.world world p.callbacks callbacks (λ r. events_of_steps n r.moment) plays c.self.invariant.somewhere in
     player-stepped stream stands p.world world p.callbacks callbacks (part_value p.part) c.args.until c.args.most n _ (ap (λ v. v.part) is ∙ c.requires.part)
     c.advance-made.ensures.some (omega (arith, c.advance-made.ensures.count)) there c.advance-made.ensures.space c.advance-made.ensures.passes c.self.invariant
 

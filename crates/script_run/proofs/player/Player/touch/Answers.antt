@@ -21,7 +21,8 @@ make_touches-requires g c =
 pub after_touches-requires : goal.after_touches-requires
 after_touches-requires g c =
     let there = c.self.invariant.somewhere in
-    (there.moment.state, there.reached, there.here.callbacks, (c.make_touches.ensures.events there.moment.state there.reached there.here.world.state).0)
+    let s = there.course.moment.state in
+    (there.course.memory, s, there.reached, there.here.callbacks, (c.make_touches.ensures.events s there.reached there.here.world.state).0)
 
 pub invariant_of-self : goal.invariant_of-self
 invariant_of-self g c =
@@ -32,8 +33,9 @@ invariant_of-self g c =
     let one : 1 ≤ left_of q = subst (λ x. 1 ≤ left_of x) (sym (ap (λ v. v.part) c.self.view_is ∙ c.requires.part)) (omega (arith, c.requires.some)) in
     let world = c.make_touches.new.world in
     let callbacks = c.after_touches.new.self in
-    let plays = touches_play stream stands p.world world p.callbacks callbacks c.args.page c.args.count c.make_touches.ensures.source c.make_touches.ensures.events c.after_touches.ensures in
-    let there = somewhere-then stream stands p.world world p.callbacks callbacks (λ m. touches c.args.page c.args.count) plays c.self.invariant.somewhere in
+    let k = g.C.Callbacks.callbacks in
+    let plays = touches_play stream k stands g.met.C.Callbacks.in_place p.world world p.callbacks callbacks c.args.page c.args.count c.make_touches.ensures.source c.make_touches.ensures.events c.after_touches.ensures in
+    let there = somewhere-then stream k stands p.world world p.callbacks callbacks (λ r. touches c.args.page c.args.count) plays c.self.invariant.somewhere in
     player-made stream stands p.world world p.callbacks callbacks q _ one there (ap (λ v. v.core.space) c.make_touches.ensures.monitor) (ap (λ v. v.core.ticks) c.make_touches.ensures.monitor) c.self.invariant
 
 pub returns-clause-on : goal.returns-clause-on

@@ -30,7 +30,8 @@ touch-requires g c =
 pub after_touches-requires : goal.after_touches-requires
 after_touches-requires g c =
     let there = c.self.invariant.somewhere in
-    (there.moment.state, there.reached, there.here.callbacks, (c.touch.ensures.event there.moment.state there.reached there.here.world.state).0)
+    let s = there.course.moment.state in
+    (there.course.memory, s, there.reached, there.here.callbacks, (c.touch.ensures.event s there.reached there.here.world.state).0)
 
 pub invariant_of-self : goal.invariant_of-self
 invariant_of-self g c =
@@ -42,8 +43,9 @@ invariant_of-self g c =
     let kept = player-next g.R.Rng.stream g.C.Callbacks.stands_for p.world p.callbacks (part_value p.part) q p.cap p.begun p.commands.list (lent_value c.get.result) here c.get.ensures value c.self.invariant in
     let world = c.touch.new.self in
     let callbacks = c.after_touches.new.self in
-    let plays = touches_play g.R.Rng.stream g.C.Callbacks.stands_for p.world world p.callbacks callbacks c.in-Some.page 1 c.touch.ensures.source c.touch.ensures.event c.after_touches.ensures in
-    let there = somewhere-then g.R.Rng.stream g.C.Callbacks.stands_for p.world world p.callbacks callbacks (λ m. touches c.in-Some.page 1) plays c.self.invariant.somewhere in
+    let k = g.C.Callbacks.callbacks in
+    let plays = touches_play g.R.Rng.stream k g.C.Callbacks.stands_for g.met.C.Callbacks.in_place p.world world p.callbacks callbacks c.in-Some.page 1 c.touch.ensures.source c.touch.ensures.event c.after_touches.ensures in
+    let there = somewhere-then g.R.Rng.stream k g.C.Callbacks.stands_for p.world world p.callbacks callbacks (λ r. touches c.in-Some.page 1) plays c.self.invariant.somewhere in
     player-made g.R.Rng.stream g.C.Callbacks.stands_for p.world world p.callbacks callbacks q new (omega arith) there (ap (λ m. m.core.space) c.touch.ensures.monitor) (ap (λ m. m.core.ticks) c.touch.ensures.monitor) kept
 
 pub returns-clause-on : goal.returns-clause-on
