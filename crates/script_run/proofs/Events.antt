@@ -183,7 +183,7 @@ module _ (c : Callbacks) (in_place : AddInPlace c) where
       ∙ steps_until-due c u (n + rest) r here
       ∙ ap (λ q. e ∷ steps_until c u (n + rest) q) (alone_after r e (alone_step e step))
       ∙ ap (λ es. e ∷ es) (steps_until-split u n rest (beyond r (e ∷ []))
-          (λ k below. early (suc k) (omega (arith, below))) (λ k below. going (suc k) (omega (arith, below))))
+      (λ k below. early (suc k) (omega (arith, below))) (λ k below. going (suc k) (omega (arith, below))))
 
 -- ---- where steps stop
 

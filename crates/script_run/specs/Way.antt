@@ -13,7 +13,7 @@ use Rattle.script_run.specs.Callbacks.{Callbacks, no_callbacks}
 use Rattle.script_run.specs.Course.{Course, Reached-onward, onward, onward-append, onward-state, with_puts, with_puts-append}
 use Rattle.script_run.specs.Unfold.{own_events, start_with}
 use Rattle.script_run.specs.Report.{last_memory, last_state, last_state_with, last_text_with, report, report_with, text_from, text_from-append}
-use Rattle.script_run.specs.Player.{AnyState, GoesOn, GoesOnWith, IsAt, IsOver, IsOverWith, PlayerOf, PlayerView, left_events}
+use Rattle.script_run.specs.Player.{AnyState, GoesOn, GoesOnWith, IsAt, IsOver, IsOverWith, PlayerOf, PlayerView, WritesLast, WritesLastWith, left_events}
 
 -- The player made the first of the script's own events, with those that its callbacks put in, and all these fit from its
 -- opening; it stands at the course after them; the others are left; and this is the text of those that it made.
@@ -91,16 +91,25 @@ module _ {R C : Type 0} (stream : R → Stream) (c : Callbacks) (stands : C → 
       ∙ append-nil way.made
 
   -- where no event is left, what was written is the report with its last line
-  pub way-report-with : (p : PlayerOf R C) (text : List ℕ) (way : IsOnItsWayWith stream c stands s f p text) → IsOverWith stream c stands p
+  way-report : (p : PlayerOf R C) (text : List ℕ) (way : IsOnItsWayWith stream c stands s f p text) → IsOverWith stream c stands p
       → (let r = onward c (start_with c s) way.made in text ++ last_text_with c p.form r.memory r.moment.state ≡ report_with c f s)
-  way-report-with p text way over =
+  way-report p text way over =
       let first = start_with c s in
       let r = onward c first way.made in
       ap (λ t. t ++ last_text_with c p.form r.memory r.moment.state) way.written
       ∙ ap (λ g. text_from c f first way.made ++ last_text_with c g r.memory r.moment.state) way.form
       ∙ ap (λ t. text_from c f first way.made ++ last_text_with c f r.memory t) (onward-state c first way.made)
       ∙ ap (λ es. text_from c f first es ++ last_text_with c f (onward c first es).memory (run (opening s.setup) (with_puts c first es)))
-          (sym (way-all p text way over))
+      (sym (way-all p text way over))
+
+  -- what was written before, what was filled, and what ends it are the report
+  pub way-finished-with : (p : PlayerOf R C) (written filled last : List ℕ) → IsOnItsWayWith stream c stands s f p (written ++ filled)
+      → IsOverWith stream c stands p → WritesLastWith stream c stands p filled last → written ++ last ≡ report_with c f s
+  way-finished-with p written filled last way over ends =
+      let r = onward c (start_with c s) way.made in
+      ap (λ t. written ++ t) (ends r way.stands)
+      ∙ sym (append_assoc written filled (last_text_with c p.form r.memory r.moment.state))
+      ∙ way-report p (written ++ filled) way over
 
   -- where no event is left, the player stands for the state at the end of the run
   pub way-last-with : (p : PlayerOf R C) (text : List ℕ) (way : IsOnItsWayWith stream c stands s f p text) → IsOverWith stream c stands p
@@ -121,10 +130,9 @@ module _ {R : Type 0} (stream : R → Stream) (s : ScriptValue) (f : Form) where
       → (rest : List ℕ) × (report f s ≡ text ++ rest)
   way-prefix = way-prefix-with stream no_callbacks AnyState s f
 
-  pub way-report : (p : PlayerView R) (text : List ℕ) (way : IsOnItsWay stream s f p text) → IsOver stream p
-      → (let r = onward no_callbacks (start_with no_callbacks s) way.made in
-      text ++ last_text_with no_callbacks p.form r.memory r.moment.state ≡ report f s)
-  way-report = way-report-with stream no_callbacks AnyState s f
+  pub way-finished : (p : PlayerView R) (written filled last : List ℕ) → IsOnItsWay stream s f p (written ++ filled) → IsOver stream p
+      → WritesLast stream p filled last → written ++ last ≡ report f s
+  way-finished = way-finished-with stream no_callbacks AnyState s f
 
   pub way-last : (p : PlayerView R) (text : List ℕ) (way : IsOnItsWay stream s f p text) → IsOver stream p
       → StandsFor p.world (last_state s)

@@ -117,9 +117,9 @@ impl Callbacks for NoCallbacks {
     ghost pending = { λ c. [] };
 
     ghost in_place = { record {
-        keeps = λ memory s e alone. refl;
-        puts = λ memory s e alone. refl;
-        writes = λ memory s e quiet. refl;
+      keeps = λ memory s e alone. refl;
+      puts = λ memory s e alone. refl;
+      writes = λ memory s e quiet. refl;
     } };
 
     #[inline(always)]
