@@ -144,7 +144,7 @@ module _ (c : Callbacks) (always : FitAlways c) where
 
   -- an event of the script, those that are put in after it, and those that fit where they lead
   event_fits : (r : Course) (e : Event) (es : List Event) → Reached r.moment.state → Fits r.moment.state e → ByHit r.moment.state e
-      → (let q = course_after c r e in FitByHit q.moment.state (with_puts c q es) → FitByHit r.moment.state (with_puts c r (e ∷ es)))
+      → FitByHit (course_after c r e).moment.state (with_puts c (course_after c r e) es) → FitByHit r.moment.state (with_puts c r (e ∷ es))
   event_fits r e es reached fits hits rest =
       let s = r.moment.state in
       let ps = put_after c r.memory s e in
@@ -155,7 +155,7 @@ module _ (c : Callbacks) (always : FitAlways c) where
 
   -- events of the script, and then those that fit where they lead
   events_fit : (r : Course) (es fs : List Event) → FitByHit r.moment.state (with_puts c r es)
-      → (let q = onward c r es in FitByHit q.moment.state (with_puts c q fs) → FitByHit r.moment.state (with_puts c r (es ++ fs)))
+      → FitByHit (onward c r es).moment.state (with_puts c (onward c r es) fs) → FitByHit r.moment.state (with_puts c r (es ++ fs))
   events_fit r es fs first rest =
       let later = with_puts c (onward c r es) fs in
       subst (λ xs. FitByHit r.moment.state xs) (sym (with_puts-append c r es fs))
