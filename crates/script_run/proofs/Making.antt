@@ -306,3 +306,14 @@ module _ {R C : Type 0} (stream : R → Stream) (stands : C → List ℕ → Sta
   puts-all w w' k k' form x y so_far none =
       let all : so_far.done ≡ pending k = sym (so_far.split ∙ ap (λ es. so_far.done ++ es) none ∙ append-nil so_far.done) in
       subst (λ es. ArePutIn stream stands w w' k k' form x y es) all so_far.made
+
+  -- one commit more, with its line
+  pub puts-next : (w w' w'' : WorldView R) (k k' k'' : C) (form : Form) (x y z : List ℕ) (parts : CommitValue)
+      → PutsSoFar stream stands pending w w' k k' form x y → StandSomewhere stream stands w' k' → pending k' ≡ commit parts ∷ pending k''
+      → w''.source ≡ w'.source → Makes StandsFor w' w'' (commit parts ∷ []) → Follows stands k' k'' (commit parts ∷ [])
+      → z ≡ y ++ commit_text form w'.monitor.core.ticks (commit_answer parts w'.monitor.core)
+      → PutsSoFar stream stands pending w w'' k k'' form x z × StandSomewhere stream stands w'' k''
+  puts-next w w' w'' k k' k'' form x y z parts so_far there next source makes follow grew = (
+    puts-more w w' w'' k k' k'' form x y z (commit parts) so_far next (put-commit stream stands w' w'' k' k'' form y z parts source makes follow grew),
+    somewhere-commit stream stands w' w'' k' k'' parts source makes follow there,
+  )

@@ -17,12 +17,12 @@ use Rattle.script_run.specs.Player.{AnyState, GoesOn, GoesOnWith, IsAt, IsOver, 
 
 -- The player made the first of the script's own events, with those that its callbacks put in, and all these fit from its
 -- opening; it stands at the course after them; the others are left; and this is the text of those that it made.
-pub record IsOnItsWayWith {R C : Type 0} (stream : R → Stream) (c : Callbacks) (stands : C → List ℕ → State → Type 0) (s : ScriptValue) (f : Form)
+pub record IsOnItsWayWith {R C : Type 0} (stream : R → Stream) (c : Callbacks) (stands_for : C → List ℕ → State → Type 0) (s : ScriptValue) (f : Form)
     (p : PlayerOf R C) (text : List ℕ) : Type 0 where
   pub can_open : CanOpen s.setup
   pub made : List Event
   pub fit : AllFit (opening s.setup) (with_puts c (start_with c s) made)
-  pub stands : IsAt stream stands p (onward c (start_with c s) made)
+  pub stands : IsAt stream stands_for p (onward c (start_with c s) made)
   pub left : own_events c s ≡ made ++ left_events c p (onward c (start_with c s) made)
   pub written : text ≡ text_from c f (start_with c s) made
   pub form : p.form ≡ f

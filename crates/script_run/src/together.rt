@@ -1,5 +1,5 @@
 // What a world makes together with the callbacks of a run.
-ghost use Rattle.std.specs.Prelude.{◌≡◌, ◌+◌, ◌≤◌, ◌++◌, [], ◌∷◌, take, OnErr, OnOk};
+ghost use Rattle.std.specs.Prelude.{◌≡◌, ◌+◌, ◌<◌, ◌≤◌, ◌^◌, ◌++◌, [], ◌∷◌, take, OnErr, OnOk};
 ghost use Rattle.damon_types.specs.Space.{pages_of};
 ghost use Rattle.damon_core.specs.Commit.{commit_answer};
 ghost use Rattle.damon_core.specs.Event.{commit as commit_event};
@@ -44,6 +44,7 @@ pub fn make_aggregation<R: Rng + Drop, C: Callbacks + Drop>(
     callbacks: &mut C,
 ) -> Result<(), AllocError>
     requires due { world.old.monitor.core.phase ≡ Phase.Due }
+    requires ticks { world.old.monitor.core.ticks < 2 ^ 40 }
     requires somewhere { StandSomewhere R.stream C.stands_for world.old callbacks.old }
     ensures made { OnOk result (IsMade R.stream C.callbacks C.stands_for world.old world.new
         callbacks.old callbacks.new form out.old.items out.new.items

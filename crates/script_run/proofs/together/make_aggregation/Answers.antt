@@ -68,7 +68,7 @@ returns-in_err-print_aggregate-clause-somewhere g c =
 
 pub returns-in_err-append_lines-clause-err : goal.returns-in_err-append_lines-clause-err
 returns-in_err-append_lines-clause-err g c =
-    let p = err_from_is_err_and c.from_residual.result c.from_residual.ensures.1 in
+    let p = err_from_is_err_and c.from_residual-in_err-append_lines.result c.from_residual-in_err-append_lines.ensures.1 in
     rw p.1 (keeps-more c.args.out.now.items c.print_aggregate.new.out.items _ _ c.in_ok-print_aggregate.ensures.ok (keeps-none c.print_aggregate.new.out.items _ c.in_err-append_lines.ensures.err))
 
 pub returns-in_err-append_lines-clause-somewhere : goal.returns-in_err-append_lines-clause-somewhere
@@ -86,8 +86,8 @@ returns-in_err-append_lines-clause-somewhere g c =
     λ memory s words is. told.ensures.stands memory s words (subst (λ v. IsAggregated (λ memory t. stands kk memory t) v memory s words) (sym c.monitor.ensures) is) in
     somewhere-one stream k stands old new kk told.new.self (λ r. next_event r.moment.state r.moment.stream) (aggregation_plays stream k stands old new kk told.new.self c.requires.due plays follow) c.requires.somewhere
 
-pub returns-in_ok-append_lines-clause-made : goal.returns-in_ok-append_lines-clause-made
-returns-in_ok-append_lines-clause-made g c =
+pub returns-clause-made : goal.returns-clause-made
+returns-clause-made g c =
     let stream = g.R.Rng.stream in
     let stands = g.C.Callbacks.stands_for in
     let k = g.C.Callbacks.callbacks in
@@ -112,8 +112,8 @@ returns-in_ok-append_lines-clause-made g c =
     (aggregation_puts stream k stands old new kk (g.C.Callbacks.pending told.new.self) c.requires.due plays (λ memory s words is. told.ensures.puts memory s words (subst (λ v. IsAggregated (λ memory t. stands kk memory t) v memory s words) (sym c.monitor.ensures) is))))
     c.put_in.ensures.made
 
-pub returns-in_ok-append_lines-clause-err : goal.returns-in_ok-append_lines-clause-err
-returns-in_ok-append_lines-clause-err g c =
+pub returns-clause-err : goal.returns-clause-err
+returns-clause-err g c =
     let stream = g.R.Rng.stream in
     let stands = g.C.Callbacks.stands_for in
     let k = g.C.Callbacks.callbacks in

@@ -34,8 +34,8 @@ returns-in_err-print_commit-clause-somewhere g c =
     let plays = commit_plays stream k stands c.args.world.now made.new.self c.args.callbacks.now c.after_commit.new.self parts made.ensures.source made.ensures.event (λ memory s reached stood same. c.after_commit.ensures.stands memory s (record { reached = reached; stood = stood; is = made.ensures.answer ∙ same })) in
     somewhere-one stream k stands c.args.world.now made.new.self c.args.callbacks.now c.after_commit.new.self (λ r. commit parts) plays c.requires
 
-pub returns-in_ok-print_commit-clause-made : goal.returns-in_ok-print_commit-clause-made
-returns-in_ok-print_commit-clause-made g c =
+pub returns-clause-made : goal.returns-clause-made
+returns-clause-made g c =
     let stream = g.R.Rng.stream in
     let stands = g.C.Callbacks.stands_for in
     let k = g.C.Callbacks.callbacks in
@@ -56,6 +56,6 @@ returns-in_ok-print_commit-clause-made g c =
     (λ r reached here. told.ensures.puts r.memory r.moment.state (record { reached = reached; stood = here.callbacks; is = made.ensures.answer ∙ ap (λ (q : Core). commit_answer parts q) here.world.state.monitor.same })))
     c.put_in.ensures.made
 
-pub returns-in_ok-print_commit-clause-err : goal.returns-in_ok-print_commit-clause-err
-returns-in_ok-print_commit-clause-err g c =
+pub returns-clause-err : goal.returns-clause-err
+returns-clause-err g c =
     OnErr-map c.put_in.result (λ front. keeps-more c.args.out.now.items c.print_commit.new.out.items c.put_in.new.out.items _ c.in_ok-print_commit.ensures.ok front) c.put_in.ensures.err

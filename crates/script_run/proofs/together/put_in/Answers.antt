@@ -1,9 +1,8 @@
-use Rattle.std.proofs.Common.{◌≡◌, ◌∷◌, [], refl, sym, ap, ◌∙◌, subst, length, arith}
+use Rattle.std.proofs.Common.{refl, sym, ap, ◌∙◌, subst, length, arith}
 use Rattle.std.proofs.lemmas.Result.{err_from_is_err_and}
 use Rattle.live_commit.specs.Commit.{commit_value}
-use Rattle.damon_core.specs.Event.{commit}
 use Rattle.script_run.specs.Kept.{ArePutIn, StandSomewhere}
-use Rattle.script_run.proofs.Making.{put-commit, puts-all, puts-more, puts-none, somewhere-commit}
+use Rattle.script_run.proofs.Making.{puts-all, puts-next, puts-none, somewhere-commit}
 use Rattle.script_run.proofs.Moves.{keeps-more, keeps-none}
 use Rattle.script_run.proofs.together.put_in.Goals as goal
 
@@ -15,23 +14,28 @@ puts-init g c = record {
   space = refl;
 }
 
-pub puts-preserved : goal.puts-preserved
-puts-preserved g c =
-    let stream = g.R.Rng.stream in
-    let stands = g.C.Callbacks.stands_for in
-    let parts = commit_value c.in-Some.next in
-    let world = c.put_commit.new.world in
-    let callbacks = c.next_commit.new.self in
-    let x = c.puts.out.items in
-    let y = c.put_commit.new.out.items in
-    let form = c.args.form in
-    let made = put-commit stream stands c.puts.world world c.puts.callbacks callbacks form x y parts c.put_commit.ensures.source c.put_commit.ensures.event c.in-Some.ensures.stands c.in_ok-put_commit.ensures.ok in
+pub puts-preserved-in_ok-put_commit : goal.puts-preserved-in_ok-put_commit
+puts-preserved-in_ok-put_commit g c =
+    let all = puts-next g.R.Rng.stream g.C.Callbacks.stands_for g.C.Callbacks.pending c.args.world.now c.puts.world c.put_commit.new.world c.args.callbacks.now c.puts.callbacks c.next_commit.new.self c.args.form c.args.out.now.items c.puts.out.items c.put_commit.new.out.items (commit_value c.in-Some.next) c.puts.invariant.so_far c.puts.invariant.somewhere c.in-Some.ensures.next c.put_commit.ensures.source c.put_commit.ensures.event c.in-Some.ensures.stands c.in_ok-put_commit.ensures.ok in
     record {
-      so_far = puts-more stream stands g.C.Callbacks.pending c.args.world.now c.puts.world world c.args.callbacks.now c.puts.callbacks callbacks form c.args.out.now.items x y (commit parts) c.puts.invariant.so_far c.in-Some.ensures.next made;
-      somewhere = somewhere-commit stream stands c.puts.world world c.puts.callbacks callbacks parts c.put_commit.ensures.source c.put_commit.ensures.event c.in-Some.ensures.stands c.puts.invariant.somewhere;
+      so_far = all.0;
+      somewhere = all.1;
       ticks = c.put_commit.ensures.ticks ∙ c.puts.invariant.ticks;
       space = c.put_commit.ensures.space ∙ c.puts.invariant.space;
     }
+
+pub puts-preserved : goal.puts-preserved
+puts-preserved g c =
+    let all = puts-next g.R.Rng.stream g.C.Callbacks.stands_for g.C.Callbacks.pending c.args.world.now c.puts.world c.put_commit.new.world c.args.callbacks.now c.puts.callbacks c.next_commit.new.self c.args.form c.args.out.now.items c.puts.out.items c.put_commit.new.out.items (commit_value c.in-Some.next) c.puts.invariant.so_far c.puts.invariant.somewhere c.in-Some.ensures.next c.put_commit.ensures.source c.put_commit.ensures.event c.in-Some.ensures.stands c.in_ok-put_commit.ensures.ok in
+    record {
+      so_far = all.0;
+      somewhere = all.1;
+      ticks = c.put_commit.ensures.ticks ∙ c.puts.invariant.ticks;
+      space = c.put_commit.ensures.space ∙ c.puts.invariant.space;
+    }
+
+pub puts-smaller-in_ok-put_commit : goal.puts-smaller-in_ok-put_commit
+puts-smaller-in_ok-put_commit g c = omega (arith, ap (λ es. length es) c.in-Some.ensures.next)
 
 pub puts-smaller : goal.puts-smaller
 puts-smaller g c = omega (arith, ap (λ es. length es) c.in-Some.ensures.next)
@@ -50,10 +54,10 @@ pub returns-clause-made : goal.returns-clause-made
 returns-clause-made g c =
     let stream = g.R.Rng.stream in
     let stands = g.C.Callbacks.stands_for in
-    let none = c.in-None.is in
+    let none = c.in_default.is in
     subst (λ kk. ArePutIn stream stands c.args.world.now c.puts.world c.args.callbacks.now kk c.args.form c.args.out.now.items c.puts.out.items (g.C.Callbacks.pending c.args.callbacks.now)) (sym (c.next_commit.ensures.same none))
     (puts-all stream stands g.C.Callbacks.pending c.args.world.now c.puts.world c.args.callbacks.now c.puts.callbacks c.args.form c.args.out.now.items c.puts.out.items c.puts.invariant.so_far (c.next_commit.ensures.none none))
 
 pub returns-clause-somewhere : goal.returns-clause-somewhere
 returns-clause-somewhere g c =
-    subst (λ kk. StandSomewhere g.R.Rng.stream g.C.Callbacks.stands_for c.puts.world kk) (sym (c.next_commit.ensures.same c.in-None.is)) c.puts.invariant.somewhere
+    subst (λ kk. StandSomewhere g.R.Rng.stream g.C.Callbacks.stands_for c.puts.world kk) (sym (c.next_commit.ensures.same c.in_default.is)) c.puts.invariant.somewhere

@@ -1,3 +1,4 @@
+use Rattle.std.proofs.Common.{◌∙◌}
 use Rattle.script_run.specs.Player.{WritesLastWith}
 use Rattle.script_run.proofs.Moves.{whole-err, whole-ok}
 use Rattle.script_run.proofs.player.Player.finish.Goals as goal
@@ -9,4 +10,4 @@ returns-clause-last g c =
 
 pub returns-clause-err : goal.returns-clause-err
 returns-clause-err g c =
-    whole-err c.append_last-appended.result c.whole_or_nothing.result c.len-before.result c.args.out.now.items _ _ c.len-before.ensures c.whole_or_nothing.ensures.same c.append_last-appended.ensures.err c.whole_or_nothing.ensures.err
+    whole-err c.append_last-appended.result c.whole_or_nothing.result c.len-before.result c.args.out.now.items _ _ (c.len-before.ensures ∙ c.args.out.now.ok.0) c.whole_or_nothing.ensures.same c.append_last-appended.ensures.err c.whole_or_nothing.ensures.err

@@ -10,7 +10,7 @@ returns-clause-on g c =
 
 pub returns-clause-err : goal.returns-clause-err
 returns-clause-err g c =
-    whole-err c.make_next-went.result c.whole_or_nothing.result c.len-before.result c.args.out.now.items _ _ c.len-before.ensures c.whole_or_nothing.ensures.same c.make_next-went.ensures.err c.whole_or_nothing.ensures.err
+    whole-err c.make_next-went.result c.whole_or_nothing.result c.len-before.result c.args.out.now.items _ _ (c.len-before.ensures ∙ c.args.out.now.ok.0) c.whole_or_nothing.ensures.same c.make_next-went.ensures.err c.whole_or_nothing.ensures.err
 
 pub returns-clause-less : goal.returns-clause-less
 returns-clause-less g c more = c.make_next-went.ensures.less (sym c.whole_or_nothing.ensures.same ∙ more)
