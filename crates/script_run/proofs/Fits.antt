@@ -20,7 +20,7 @@ use Rattle.damon_core.specs.Bound.{Bound}
 use Rattle.damon_core.specs.Choosing.{ServesBest}
 use Rattle.damon_core.specs.InPhase.{IsInPhase}
 use Rattle.damon_core.specs.Pass.{IsPickWithin}
-use Rattle.damon_core.specs.Makes.{AllFit-append, Reached-run}
+use Rattle.damon_core.specs.Makes.{AllFit-append}
 use Rattle.damon_core.specs.Reached.{AllByHit, AllFit, CanOpen, Reached, ReachedByHit, run}
 use Rattle.sampler.specs.Draws.{drawn}
 use Rattle.damon_world.specs.Moment.{Moment, along, event_in, moved, next_event}

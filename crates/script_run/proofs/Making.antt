@@ -1,31 +1,30 @@
 -- What a world and callbacks make together.
-use Rattle.std.proofs.Common.{◌≡◌, ℕ, ◌*◌, List, [], ◌∷◌, ◌++◌, refl, sym, ap, ◌∙◌, subst, append_assoc, append-nil, length}
+use Rattle.std.proofs.Common.{◌≡◌, ℕ, ◌*◌, List, [], ◌∷◌, ◌++◌, refl, sym, ap, ◌∙◌, subst, append_assoc, append-nil}
 use Rattle.std.specs.List.{AllByRecursion}
 use Rattle.rand_core.specs.Stream.{Stream}
-use Rattle.live_commit.specs.declared.phase.Phase.{Phase}
 use Rattle.live_commit.specs.declared.phase.Phase.TheVariants.{Due}
 use Rattle.live_commit.specs.Commit.{CommitValue}
 use Rattle.damon_core.specs.After.{after}
 use Rattle.damon_core.specs.Commit.{commit_answer}
 use Rattle.damon_core.specs.Event.{Event, Fits, aggregate, commit}
 use Rattle.damon_core.specs.Makes.{AllFit-append, Makes, Reached-run}
-use Rattle.damon_core.specs.Reached.{AllFit, Reached, run}
-use Rattle.damon_core.specs.Stands.{MonitorView, Stands}
+use Rattle.damon_core.specs.Reached.{AllFit, Reached}
+use Rattle.damon_core.specs.Stands.{Stands}
 use Rattle.damon_core.specs.State.{Core, State}
 use Rattle.sampler.specs.Draws.{drawn}
 use Rattle.damon_world.specs.Moment.{Moment, along, event_in, events_of_steps, moved, next_event}
 use Rattle.damon_world.specs.Plays.{Plays, Reached-along, along-append, along-state}
-use Rattle.damon_world.specs.Stands.{StandsAt, StandsFor, WorldView}
+use Rattle.damon_world.specs.Stands.{StandsFor, WorldView}
 use Rattle.snapshot_print.specs.Commit.{commit_text}
 use Rattle.snapshot_print.specs.declared.form.Form.{Form}
 use Rattle.snapshot_print.specs.Lines.{aggregate_text}
 use Rattle.snapshot_print.specs.Printed.{printed_monitor, printed_monitor-stands, printed_state}
 use Rattle.script_run.specs.Callbacks.{AddInPlace, Callbacks, IsAlone, put_after, remembered}
-use Rattle.script_run.specs.Calls.{Follows, IsAggregated, IsCommitted}
-use Rattle.script_run.specs.Course.{Course, Reached-onward, course_after, onward, onward-append, onward-state, with_puts, with_puts-append}
+use Rattle.script_run.specs.Calls.{Follows, IsAggregated}
+use Rattle.script_run.specs.Course.{Course, Reached-onward, onward, onward-append, onward-state, with_puts, with_puts-append}
 use Rattle.script_run.specs.Kept.{ArePutIn, IsMade, StandSomewhere, beyond}
 use Rattle.script_run.specs.Player.{PlayTogether, StandAt}
-use Rattle.script_run.specs.Report.{event_text, events_text, events_text-append, lines_after, text_from}
+use Rattle.script_run.specs.Report.{event_text, events_text, events_text-append, lines_after}
 use Rattle.script_run.proofs.Events.{alone_onward, alone_puts}
 
 -- the course directly after an event of the script, before those that are put in after it

@@ -10,7 +10,7 @@ use Rattle.damon_world.specs.Stands.{StandsFor}
 use Rattle.damon_control.specs.Script.{ScriptValue}
 use Rattle.snapshot_print.specs.declared.form.Form.{Form}
 use Rattle.script_run.specs.Callbacks.{Callbacks, no_callbacks}
-use Rattle.script_run.specs.Course.{Course, Reached-onward, onward, onward-append, onward-state, with_puts, with_puts-append}
+use Rattle.script_run.specs.Course.{Reached-onward, onward, onward-append, onward-state, with_puts, with_puts-append}
 use Rattle.script_run.specs.Unfold.{own_events, start_with}
 use Rattle.script_run.specs.Report.{last_memory, last_state, last_state_with, last_text_with, report, report_with, text_from, text_from-append}
 use Rattle.script_run.specs.Player.{AnyState, GoesOn, GoesOnWith, IsAt, IsOver, IsOverWith, PlayerOf, PlayerView, WritesLast, WritesLastWith, left_events}

@@ -1,4 +1,4 @@
-use Rattle.std.proofs.Common.{◌≡◌, ◌≤◌, ◌∷◌, [], List, false, refl, sym, ap, subst, ◌∙◌, arith}
+use Rattle.std.proofs.Common.{◌≡◌, ◌∷◌, [], false, refl, ap, subst, ◌∙◌, arith}
 use Rattle.damon_world.specs.Moment.{next_event}
 use Rattle.script_run.specs.Kept.{IsMade, is_done}
 use Rattle.script_run.specs.Part.{part_value}

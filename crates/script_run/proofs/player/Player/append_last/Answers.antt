@@ -1,8 +1,8 @@
-use Rattle.std.proofs.Common.{◌≡◌, ◌++◌, List, ℕ, ap, ◌∙◌, append_assoc, subst, sym}
+use Rattle.std.proofs.Common.{◌++◌, ap, ◌∙◌, append_assoc, subst, sym}
 use Rattle.damon_core.specs.Stands.{Stands}
 use Rattle.snapshot_print.specs.Lines.{end_text}
 use Rattle.snapshot_print.specs.Printed.{printed_monitor, printed_monitor-stands, printed_state}
-use Rattle.script_run.proofs.Moves.{OnErr-map, OnOk-map}
+use Rattle.script_run.proofs.Moves.{OnOk-map}
 use Rattle.script_run.proofs.player.Player.append_last.Goals as goal
 
 pub returns-clause-last : goal.returns-clause-last
