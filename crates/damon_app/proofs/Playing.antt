@@ -1,13 +1,11 @@
 -- A report that is handed over piece by piece.
-use Rattle.std.proofs.Common.{◌≡◌, ℕ, List, [], ◌++◌, Option, sym, ap, ◌∙◌, subst, append_assoc}
+use Rattle.std.proofs.Common.{◌≡◌, ℕ, List, [], ◌++◌, Option, sym, subst}
 use Rattle.rand_core.specs.Stream.{Stream}
-use Rattle.damon_world.specs.Moment.{along}
 use Rattle.damon_control.specs.Script.{ScriptValue}
 use Rattle.snapshot_print.specs.declared.form.Form.{Form}
 use Rattle.script_run.specs.Player.{GoesOn, IsOver, PlayerView, WritesLast}
-use Rattle.script_run.specs.Report.{last_text, report}
-use Rattle.script_run.specs.Unfold.{start}
-use Rattle.script_run.specs.Way.{IsOnItsWay, way-on, way-prefix, way-report}
+use Rattle.script_run.specs.Report.{report}
+use Rattle.script_run.specs.Way.{IsOnItsWay, way-finished, way-on, way-prefix}
 use Rattle.text_io.specs.Taken.{WritesPart}
 use Rattle.damon_app.proofs.Known.{WritesPart-longer}
 
@@ -24,8 +22,4 @@ module _ {R : Type 0} (stream : R → Stream) (s : ScriptValue) (form : Form) wh
 
   -- the last piece with the last line ends the report
   pub way-ended : (p : PlayerView R) (written filled last : List ℕ) → IsOnItsWay stream s form p (written ++ filled) → IsOver stream p → WritesLast stream p filled last → written ++ last ≡ report form s
-  way-ended p written filled last way over ends =
-      let m = along (start s) way.made in
-      ap (λ t. written ++ t) (ends m way.stands)
-      ∙ sym (append_assoc written filled (last_text p.form m.state))
-      ∙ way-report stream s form p (written ++ filled) way over
+  way-ended = way-finished stream s form

@@ -1,40 +1,76 @@
 -- The events of parts that are made in pieces, and their text.
 use Rattle.std.proofs.Common.{◌≡◌, ℕ, zero, suc, ◌+◌, ◌≤◌, ◌<◌, Bool, true, false, List, [], ◌∷◌, ◌++◌, refl, sym, ap, ◌∙◌, cond, append_assoc, arith}
 use Rattle.std.specs.Prelude.{◌==◌, ◌||◌}
+use Rattle.std.specs.List.{AllByRecursion}
 use Rattle.std.proofs.lemmas.Bool.Decides.{nat_tests}
 use Rattle.rand_core.specs.Stream.{Stream}
 use Rattle.live_commit.specs.declared.phase.Phase.{Phase}
 use Rattle.live_commit.specs.declared.phase.Phase.TheVariants.{Idle, Clearing, Armed, Checking, Void, Due}
 use Rattle.damon_core.specs.State.{State, row_count}
-use Rattle.damon_core.specs.Event.{Event, touch, observe, load, next_hit}
+use Rattle.damon_core.specs.Event.{Event, touch, prepare, clear, load, observe, aggregate, commit, show, next_hit}
 use Rattle.damon_core.specs.After.{after}
 use Rattle.damon_world.specs.Moment.{along, event_in, events_of_steps, Moment, moved, next_event, stepped_times}
 use Rattle.damon_world.specs.Advance.{IsAmid}
-use Rattle.damon_world.specs.Plays.{along-append}
 use Rattle.damon_world.specs.Touches.{touches}
 use Rattle.snapshot_print.specs.declared.form.Form.{Form}
+use Rattle.script_run.specs.Callbacks.{AddInPlace, Callbacks, IsAlone, IsQuiet, IsStep, put_after, remembered}
+use Rattle.script_run.specs.Course.{Course, course_after, onward, onward-append, with_puts}
 use Rattle.script_run.specs.Part.{Part}
 use Rattle.script_run.specs.Part as part
 use Rattle.script_run.specs.declared.part.Until.{Until}
 use Rattle.script_run.specs.declared.part.Until.TheVariants as until
-use Rattle.script_run.specs.Kept.{is_done}
+use Rattle.script_run.specs.Kept.{beyond, is_done}
 use Rattle.script_run.specs.Parts.{stops_at}
-use Rattle.script_run.specs.Report.{event_text, text_from}
+use Rattle.script_run.specs.Report.{event_text, events_text, lines_after, text_from}
 use Rattle.script_run.specs.Unfold.{part_events, parts_events, steps_until}
 
--- ---- what writes nothing
+-- ---- steps that are no aggregation
 
-silent_choice : (form : Form) (b : Bool) (s : State) → event_text form s (cond b observe (load (next_hit s))) ≡ []
-silent_choice form true s = refl
-silent_choice form false s = refl
+-- nothing is put in after a step
+alone_step : (e : Event) → IsStep e → IsAlone e
+alone_step (touch page) step = tt
+alone_step (prepare words) step = tt
+alone_step clear step = tt
+alone_step (load h) step = tt
+alone_step observe step = tt
+alone_step (aggregate words) step = step
+alone_step (commit parts) step = step
+alone_step show step = tt
 
-silent_in : (form : Form) (ph : Phase) (s : State) (t : Stream) → (ph ≡ Due → ⊥) → event_text form s (event_in ph s t) ≡ []
-silent_in form Idle s t early = refl
-silent_in form (Clearing k) s t early = refl
-silent_in form Armed s t early = refl
-silent_in form (Checking k) s t early = silent_choice form (k == row_count s.core) s
-silent_in form Void s t early = refl
-silent_in form Due s t early = absurd (early refl)
+-- nothing is written after a step
+quiet_step : (e : Event) → IsStep e → IsQuiet e
+quiet_step (touch page) step = tt
+quiet_step (prepare words) step = tt
+quiet_step clear step = tt
+quiet_step (load h) step = tt
+quiet_step observe step = tt
+quiet_step (aggregate words) step = step
+quiet_step (commit parts) step = tt
+quiet_step show step = tt
+
+-- a step writes nothing
+silent_step : (form : Form) (s : State) (e : Event) → IsStep e → event_text form s e ≡ []
+silent_step form s (touch page) step = absurd step
+silent_step form s (prepare words) step = refl
+silent_step form s clear step = refl
+silent_step form s (load h) step = refl
+silent_step form s observe step = refl
+silent_step form s (aggregate words) step = absurd step
+silent_step form s (commit parts) step = absurd step
+silent_step form s show step = absurd step
+
+step_choice : (b : Bool) (s : State) → IsStep (cond b observe (load (next_hit s)))
+step_choice true s = tt
+step_choice false s = tt
+
+-- the next step where no aggregation is due
+step_in : (ph : Phase) (s : State) (t : Stream) → (ph ≡ Due → ⊥) → IsStep (event_in ph s t)
+step_in Idle s t early = tt
+step_in (Clearing k) s t early = tt
+step_in Armed s t early = tt
+step_in (Checking k) s t early = step_choice (k == row_count s.core) s
+step_in Void s t early = tt
+step_in Due s t early = absurd (early refl)
 
 -- no aggregation is due amid a pass
 amid_is_early : (ph : Phase) → IsAmid ph → ph ≡ Due → ⊥
@@ -45,49 +81,111 @@ amid_is_early Armed amid due = absurd amid
 amid_is_early Void amid due = absurd amid
 amid_is_early Due amid due = absurd amid
 
--- the phase of each of the next n moments satisfies P
-abbrev Each : (Phase → Type 0) → ℕ → Moment → Type 0
-Each P n m = (k : ℕ) → k < n → P (stepped_times k m).state.core.phase
+-- no aggregation is due at the next n moments
+abbrev pub NoneDue : ℕ → Moment → Type 0
+NoneDue n m = (k : ℕ) → k < n → (stepped_times k m).state.core.phase ≡ Due → ⊥
 
-early_steps : (form : Form) (n : ℕ) (m : Moment) → Each (λ ph. ph ≡ Due → ⊥) n m → text_from form m.state (events_of_steps n m) ≡ []
-early_steps form zero m early = refl
-early_steps form (suc n) m early =
-    let e = next_event m.state m.stream in
-    ap (λ t. t ++ text_from form (moved m e).state (events_of_steps n (moved m e))) (silent_in form m.state.core.phase m.state m.stream (early 0 (omega arith)))
-    ∙ early_steps form n (moved m e) (λ k below. early (suc k) (omega (arith, below)))
+-- steps of a kind, where no aggregation is due
+pub none_due : (n : ℕ) (m : Moment) → (m.state.core.phase ≡ Due → ⊥) → ((k : ℕ) → 1 ≤ k → k < n → IsAmid (stepped_times k m).state.core.phase)
+    → NoneDue n m
+none_due n m early amid zero below = early
+none_due n m early amid (suc k) below = amid_is_early (stepped_times (suc k) m).state.core.phase (amid (suc k) (omega arith) below)
 
--- steps of a kind write nothing, where no aggregation is due
-pub text_from-steps : (form : Form) (n : ℕ) (m : Moment) → (m.state.core.phase ≡ Due → ⊥) → ((k : ℕ) → 1 ≤ k → k < n → IsAmid (stepped_times k m).state.core.phase)
-    → text_from form m.state (events_of_steps n m) ≡ []
-text_from-steps form n m early amid = early_steps form n m each
-  where
-    each : Each (λ ph. ph ≡ Due → ⊥) n m
-    each zero below = early
-    each (suc k) below = amid_is_early (stepped_times (suc k) m).state.core.phase (amid (suc k) (omega arith) below)
-
--- touches write nothing
-pub text_from-touches : (form : Form) (s : State) (page n : ℕ) → text_from form s (touches page n) ≡ []
-text_from-touches form s page zero = refl
-text_from-touches form s page (suc n) = text_from-touches form (after s (touch page)) (page + 1) n
+pub all_steps : (n : ℕ) (m : Moment) → NoneDue n m → AllByRecursion IsStep (events_of_steps n m)
+all_steps zero m early = tt
+all_steps (suc n) m early =
+    (step_in m.state.core.phase m.state m.stream (early 0 (omega arith)), all_steps n (moved m (next_event m.state m.stream)) (λ k below. early (suc k) (omega (arith, below))))
 
 -- touches draw no random words
 pub along-touches : (m : Moment) (page n : ℕ) → (along m (touches page n)).stream ≡ m.stream
 along-touches m page zero = refl
 along-touches m page (suc n) = along-touches (moved m (touch page)) (page + 1) n
 
--- ---- steps
+-- touches and steps that are no aggregation are alone
+pub touches_alone : (page n : ℕ) → AllByRecursion IsAlone (touches page n)
+touches_alone page zero = tt
+touches_alone page (suc n) = (tt, touches_alone (page + 1) n)
 
--- steps that do not stop, and those after them
-pub steps_until-split : (u : Until) (n rest : ℕ) (m : Moment) → ((k : ℕ) → k < n → stops_at u (stepped_times k m).state.core.phase ≡ false)
-    → steps_until u (n + rest) m ≡ events_of_steps n m ++ steps_until u rest (stepped_times n m)
-steps_until-split u zero rest m going = let same : 0 + rest ≡ rest = omega arith in ap (λ i. steps_until u i m) same
-steps_until-split u (suc n) rest m going =
-    let e = next_event m.state m.stream in
-    let index : suc n + rest ≡ suc (n + rest) = omega arith in
-    let here : stops_at u m.state.core.phase ≡ false = going 0 (omega arith) in
-    ap (λ i. steps_until u i m) index
-    ∙ ap (λ b. cond b [] (e ∷ steps_until u (n + rest) (moved m e))) here
-    ∙ ap (λ es. e ∷ es) (steps_until-split u n rest (moved m e) (λ k below. going (suc k) (omega (arith, below))))
+pub steps_alone : (es : List Event) → AllByRecursion IsStep es → AllByRecursion IsAlone es
+steps_alone [] steps = tt
+steps_alone (e ∷ es) steps = (alone_step e steps.0, steps_alone es steps.1)
+
+-- the next step, which does not stop
+pub steps_until-due : (c : Callbacks) (u : Until) (n : ℕ) (r : Course) → stops_at u r.moment.state.core.phase ≡ false
+    → (let e = next_event r.moment.state r.moment.stream in steps_until c u (suc n) r ≡ e ∷ steps_until c u n (course_after c r e))
+steps_until-due c u n r here =
+    let e = next_event r.moment.state r.moment.stream in
+    ap (λ b. cond b [] (e ∷ steps_until c u n (course_after c r e))) here
+
+-- ---- events after which callbacks remember and add nothing
+
+-- a moment with what is remembered
+abbrev course_of : Moment → List ℕ → Course
+course_of m memory = record { moment = m; memory = memory }
+
+module _ (c : Callbacks) (in_place : AddInPlace c) where
+  nothing_put : (r : Course) (e : Event) → IsAlone e → put_after c r.memory r.moment.state e ≡ []
+  nothing_put r e alone = in_place.puts (remembered c r.memory r.moment.state e) (after r.moment.state e) e alone
+
+  alone_after : (r : Course) (e : Event) → IsAlone e → course_after c r e ≡ beyond r (e ∷ [])
+  alone_after r e alone =
+      ap (λ (ps : List Event). course_of (along r.moment (e ∷ ps)) (remembered c r.memory r.moment.state e)) (nothing_put r e alone)
+      ∙ ap (λ (memory : List ℕ). course_of (along r.moment (e ∷ [])) memory) (in_place.keeps r.memory (after r.moment.state e) e alone)
+
+  pub alone_onward : (r : Course) (es : List Event) → AllByRecursion IsAlone es → onward c r es ≡ beyond r es
+  alone_onward r [] alone = refl
+  alone_onward r (e ∷ es) alone = ap (λ q. onward c q es) (alone_after r e alone.0) ∙ alone_onward (beyond r (e ∷ [])) es alone.1
+
+  pub alone_puts : (r : Course) (es : List Event) → AllByRecursion IsAlone es → with_puts c r es ≡ es
+  alone_puts r [] alone = refl
+  alone_puts r (e ∷ es) alone =
+      ap (λ (ps : List Event). e ∷ (ps ++ with_puts c (course_after c r e) es)) (nothing_put r e alone.0)
+      ∙ ap (λ fs. e ∷ fs) (alone_puts (course_after c r e) es alone.1)
+
+  -- nothing is written where neither the event nor callbacks write
+  silent : (form : Form) (r : Course) (e : Event) (rest : List ℕ) → event_text form r.moment.state e ≡ [] → IsQuiet e → IsAlone e
+      → (let s = r.moment.state in
+      event_text form s e ++ (lines_after c r e ++ (events_text form (after s e) (put_after c r.memory s e) ++ rest)) ≡ rest)
+  silent form r e rest none quiet alone =
+      let s = r.moment.state in
+      let more = events_text form (after s e) (put_after c r.memory s e) ++ rest in
+      ap (λ t. t ++ (lines_after c r e ++ more)) none
+      ∙ ap (λ t. t ++ more) (in_place.writes (remembered c r.memory s e) (after s e) e quiet)
+      ∙ ap (λ ps. events_text form (after s e) ps ++ rest) (nothing_put r e alone)
+
+  -- steps write nothing, where no aggregation is due
+  pub text_from-steps : (form : Form) (r : Course) (es : List Event) → AllByRecursion IsStep es → text_from c form r es ≡ []
+  text_from-steps form r [] steps = refl
+  text_from-steps form r (e ∷ es) steps =
+      silent form r e (text_from c form (course_after c r e) es) (silent_step form r.moment.state e steps.0) (quiet_step e steps.0) (alone_step e steps.0)
+      ∙ text_from-steps form (course_after c r e) es steps.1
+
+  -- touches write nothing
+  pub text_from-touches : (form : Form) (r : Course) (page n : ℕ) → text_from c form r (touches page n) ≡ []
+  text_from-touches form r page zero = refl
+  text_from-touches form r page (suc n) =
+      let q = course_after c r (touch page) in
+      silent form r (touch page) (text_from c form q (touches (page + 1) n)) refl tt tt
+      ∙ text_from-touches form q (page + 1) n
+
+  -- steps that do not stop and are no aggregation, and those after them
+  pub steps_until-split : (u : Until) (n rest : ℕ) (r : Course) → NoneDue n r.moment
+      → ((k : ℕ) → k < n → stops_at u (stepped_times k r.moment).state.core.phase ≡ false)
+      → (let es = events_of_steps n r.moment in steps_until c u (n + rest) r ≡ es ++ steps_until c u rest (beyond r es))
+  steps_until-split u zero rest r early going = let same : 0 + rest ≡ rest = omega arith in ap (λ i. steps_until c u i r) same
+  steps_until-split u (suc n) rest r early going =
+      let m = r.moment in
+      let e = next_event m.state m.stream in
+      let index : suc n + rest ≡ suc (n + rest) = omega arith in
+      let here : stops_at u m.state.core.phase ≡ false = going 0 (omega arith) in
+      let step = step_in m.state.core.phase m.state m.stream (early 0 (omega arith)) in
+      ap (λ i. steps_until c u i r) index
+      ∙ steps_until-due c u (n + rest) r here
+      ∙ ap (λ q. e ∷ steps_until c u (n + rest) q) (alone_after r e (alone_step e step))
+      ∙ ap (λ es. e ∷ es) (steps_until-split u n rest (beyond r (e ∷ []))
+      (λ k below. early (suc k) (omega (arith, below))) (λ k below. going (suc k) (omega (arith, below))))
+
+-- ---- where steps stop
 
 -- steps do not stop amid a pass
 amid_goes_on : (u : Until) (ph : Phase) → IsAmid ph → stops_at u ph ≡ false
@@ -121,30 +219,31 @@ none_touched : (page n : ℕ) → (n == 0) ≡ true → touches page n ≡ []
 none_touched page zero done = refl
 none_touched page (suc n) done = absurd (cc (done, suc_not_zero n))
 
-none_stepped : (u : Until) (n : ℕ) (m : Moment) → ((n == 0) || stops_at u m.state.core.phase) ≡ true → steps_until u n m ≡ []
-none_stepped u zero m done = refl
-none_stepped u (suc n) m done =
-    let here : stops_at u m.state.core.phase ≡ true = ap (λ b. b || stops_at u m.state.core.phase) (sym (suc_not_zero n)) ∙ done in
-    let e = next_event m.state m.stream in
-    ap (λ b. cond b [] (e ∷ steps_until u n (moved m e))) here
+none_stepped : (c : Callbacks) (u : Until) (n : ℕ) (r : Course) → ((n == 0) || stops_at u r.moment.state.core.phase) ≡ true → steps_until c u n r ≡ []
+none_stepped c u zero r done = refl
+none_stepped c u (suc n) r done =
+    let ph = r.moment.state.core.phase in
+    let here : stops_at u ph ≡ true = ap (λ b. b || stops_at u ph) (sym (suc_not_zero n)) ∙ done in
+    let e = next_event r.moment.state r.moment.stream in
+    ap (λ b. cond b [] (e ∷ steps_until c u n (course_after c r e))) here
 
 -- a part of which nothing is left has no event
-done_is_none : (m : Moment) (p : Part) → is_done p m.state.core.phase ≡ true → part_events m p ≡ []
-done_is_none m (part.Touches page count) done = none_touched page count done
-done_is_none m (part.Steps until most) done = none_stepped until most m done
-done_is_none m part.Show done = absurd (cc done)
-done_is_none m (part.Commit parts) done = absurd (cc done)
+done_is_none : (c : Callbacks) (r : Course) (p : Part) → is_done p r.moment.state.core.phase ≡ true → part_events c r p ≡ []
+done_is_none c r (part.Touches page count) done = none_touched page count done
+done_is_none c r (part.Steps until most) done = none_stepped c until most r done
+done_is_none c r part.Show done = absurd (cc done)
+done_is_none c r (part.Commit parts) done = absurd (cc done)
 
 -- a part of which nothing is left is left out
-pub parts_events-done : (m : Moment) (p : Part) (ps : List Part) → is_done p m.state.core.phase ≡ true → parts_events m (p ∷ ps) ≡ parts_events m ps
-parts_events-done m p ps done = ap (λ (es : List Event). es ++ parts_events (along m es) ps) (done_is_none m p done)
+pub parts_events-done : (c : Callbacks) (r : Course) (p : Part) (ps : List Part) → is_done p r.moment.state.core.phase ≡ true → parts_events c r (p ∷ ps) ≡ parts_events c r ps
+parts_events-done c r p ps done = ap (λ (es : List Event). es ++ parts_events c (onward c r es) ps) (done_is_none c r p done)
 
 -- after the first events of a part the rest of it is left
-pub parts_events-made : (m : Moment) (made : List Event) (p q : Part) (ps : List Part) → part_events m p ≡ made ++ part_events (along m made) q
-    → parts_events m (p ∷ ps) ≡ made ++ parts_events (along m made) (q ∷ ps)
-parts_events-made m made p q ps is =
-    let x = along m made in
-    let rest = part_events x q in
-    ap (λ (es : List Event). es ++ parts_events (along m es) ps) is
-    ∙ ap (λ (y : Moment). (made ++ rest) ++ parts_events y ps) (along-append m made rest)
-    ∙ append_assoc made rest (parts_events (along x rest) ps)
+pub parts_events-made : (c : Callbacks) (r : Course) (made : List Event) (p q : Part) (ps : List Part) → part_events c r p ≡ made ++ part_events c (onward c r made) q
+    → parts_events c r (p ∷ ps) ≡ made ++ parts_events c (onward c r made) (q ∷ ps)
+parts_events-made c r made p q ps is =
+    let x = onward c r made in
+    let rest = part_events c x q in
+    ap (λ (es : List Event). es ++ parts_events c (onward c r es) ps) is
+    ∙ ap (λ (y : Course). (made ++ rest) ++ parts_events c y ps) (onward-append c r made rest)
+    ∙ append_assoc made rest (parts_events c (onward c x rest) ps)

@@ -14,13 +14,13 @@ use Rattle.live_commit.specs.declared.phase.Phase.TheVariants.{Idle, Clearing, A
 use Rattle.live_commit.specs.Commit.{CommitValue}
 use Rattle.damon_core.specs.Commit.{check_of, committed, if_accepted, regions_after}
 use Rattle.damon_core.specs.State.{State, opening, row_count}
-use Rattle.damon_core.specs.Event.{Event, Fits, IsClearing, IsLoading, IsObserving, touch, prepare, clear, load, observe, aggregate, commit, show, next_hit}
+use Rattle.damon_core.specs.Event.{ByHit, Event, Fits, IsClearing, IsLoading, IsObserving, touch, prepare, clear, load, observe, aggregate, commit, show, next_hit}
 use Rattle.damon_core.specs.After.{after, by_clear, by_load, by_observe}
 use Rattle.damon_core.specs.Bound.{Bound}
 use Rattle.damon_core.specs.Choosing.{ServesBest}
 use Rattle.damon_core.specs.InPhase.{IsInPhase}
 use Rattle.damon_core.specs.Pass.{IsPickWithin}
-use Rattle.damon_core.specs.Makes.{AllFit-append, Reached-run}
+use Rattle.damon_core.specs.Makes.{AllFit-append}
 use Rattle.damon_core.specs.Reached.{AllByHit, AllFit, CanOpen, Reached, ReachedByHit, run}
 use Rattle.sampler.specs.Draws.{drawn}
 use Rattle.damon_world.specs.Moment.{Moment, along, event_in, moved, next_event}
@@ -30,14 +30,18 @@ use Rattle.script_lines.specs.Command.{CommandValue, Touch, Sweep, Step, Arm, Fi
 use Rattle.script_run.specs.Part.{Part}
 use Rattle.script_run.specs.Part as part
 use Rattle.script_run.specs.declared.part.Until.{Until}
-use Rattle.script_run.specs.BoundAlong.{EachScriptIsBound}
-use Rattle.script_run.specs.Choices.{EachChoiceIsBest}
+use Rattle.damon_control.specs.Script.{ScriptValue}
+use Rattle.damon_control.specs.Sound.{IsSound}
+use Rattle.script_run.specs.BoundAlong.{EachRunIsBound}
+use Rattle.script_run.specs.Callbacks.{Callbacks, FitAlways, FitByHit, no_callbacks, put_after}
+use Rattle.script_run.specs.Choices.{EachRunChoosesBest}
+use Rattle.script_run.specs.Course.{Course, Reached-onward, course_after, onward, onward-moment, onward-state, with_puts, with_puts-append}
 use Rattle.script_run.specs.Kept.{ArePartsWithin, IsPartWithin}
 use Rattle.script_run.specs.Parts.{part_of, parts_of, stops_at}
 use Rattle.script_lines.specs.Limits.{AreCommandsWithin, IsCommandWithin}
-use Rattle.script_run.specs.Unfold.{part_events, parts_events, start, steps_until, unfold_script}
+use Rattle.script_run.specs.Unfold.{part_events, parts_events, start_with, steps_until, unfold_with}
 use Rattle.script_run.specs.Way.{Reached-start}
-use Rattle.script_run.proofs.Hits.{AllByHit-prefix, by_hit-parts}
+use Rattle.script_run.proofs.Hits.{AllByHit-append, AllByHit-prefix, by_hit-in}
 
 length-drawn : (n : ℕ) (s : Stream) → length (drawn n s) ≡ n
 length-drawn zero s = refl
@@ -62,23 +66,17 @@ next_fits (Checking k) s t is within = fits_check (k == row_count s.core) k s is
 next_fits Void s t is within = subst (λ ph. IsObserving ph (row_count s.core)) (sym is) tt
 next_fits Due s t is within = (is, length-drawn (2 * s.core.attrs.max) t)
 
-fit_unless : (b : Bool) (s : State) (es : List Event) → AllFit s es → AllFit s (cond b [] es)
-fit_unless true s es fit = tt
-fit_unless false s es fit = fit
+-- ---- events with what is put in after them
 
-module _ (in_phase : (s : State) → Reached s → IsInPhase s) where
-  steps_fit : (u : Until) (n : ℕ) (m : Moment) → Reached m.state → AllFit m.state (steps_until u n m)
-  steps_fit u zero m reached = tt
-  steps_fit u (suc n) m reached =
-      let e = next_event m.state m.stream in
-      let fits = next_fits m.state.core.phase m.state m.stream refl (in_phase m.state reached) in
-      fit_unless (stops_at u m.state.core.phase) m.state (e ∷ steps_until u n (moved m e)) (fits, steps_fit u n (moved m e) (Reached-run m.state (e ∷ []) reached (fits, tt)))
+FitByHit-append : (s : State) (es fs : List Event) → FitByHit s es → FitByHit (run s es) fs → FitByHit s (es ++ fs)
+FitByHit-append s es fs first then = record {
+  fit = AllFit-append s es fs first.fit then.fit;
+  by_hit = AllByHit-append s es fs first.by_hit then.by_hit;
+}
 
--- ---- touches
-
-touches_fit : (s : State) (page n : ℕ) → page + n ≤ pages_of s.core.space → AllFit s (touches page n)
-touches_fit s page zero within = tt
-touches_fit s page (suc n) within = (omega (arith, within), touches_fit (after s (touch page)) (page + 1) n (omega (arith, within)))
+-- callbacks that put nothing in
+pub nothing_fits : FitAlways no_callbacks
+nothing_fits memory s e reached fits = record { fit = tt; by_hit = tt }
 
 -- ---- no event changes the space and the cap
 
@@ -137,21 +135,75 @@ after-cap s e = ap (λ (p : List Target × ℕ). p.1) (after-fixed s e)
 
 -- ---- parts
 
-module _ (in_phase : (s : State) → Reached s → IsInPhase s) where
-  part_fits : (m : Moment) (p : Part) → Reached m.state → IsPartWithin (pages_of m.state.core.space) p → AllFit m.state (part_events m p)
-  part_fits m (part.Touches page count) reached within = touches_fit m.state page count within
-  part_fits m (part.Steps until most) reached within = steps_fit in_phase until most m reached
-  part_fits m part.Show reached within = (tt, tt)
-  part_fits m (part.Commit parts) reached within = (tt, tt)
+module _ (c : Callbacks) (always : FitAlways c) where
+  -- the state after an event of the script and those that are put in after it is reached
+  Reached-after : (r : Course) (e : Event) → Reached r.moment.state → Fits r.moment.state e → Reached (course_after c r e).moment.state
+  Reached-after r e reached fits =
+      let more = always r.memory r.moment.state e reached fits in
+      Reached-along r.moment (e ∷ put_after c r.memory r.moment.state e) reached (fits, more.fit)
 
-  parts_fit : (m : Moment) (ps : List Part) → Reached m.state → ArePartsWithin (pages_of m.state.core.space) ps → AllFit m.state (parts_events m ps)
-  parts_fit m [] reached within = tt
-  parts_fit m (p ∷ ps) reached within =
-      let es = part_events m p in
-      let rest = parts_events (along m es) ps in
-      let first = part_fits m p reached within.0 in
-      AllFit-append m.state es rest first (subst (λ s. AllFit s rest) (along-state m es)
-      (parts_fit (along m es) ps (Reached-along m es reached first) (subst (λ space. ArePartsWithin (pages_of space) ps) (sym (along-space m es)) within.1)))
+  -- an event of the script, those that are put in after it, and those that fit where they lead
+  event_fits : (r : Course) (e : Event) (es : List Event) → Reached r.moment.state → Fits r.moment.state e → ByHit r.moment.state e
+      → FitByHit (course_after c r e).moment.state (with_puts c (course_after c r e) es) → FitByHit r.moment.state (with_puts c r (e ∷ es))
+  event_fits r e es reached fits hits rest =
+      let s = r.moment.state in
+      let ps = put_after c r.memory s e in
+      let later = with_puts c (course_after c r e) es in
+      let more = always r.memory s e reached fits in
+      let all = FitByHit-append (after s e) ps later more (subst (λ t. FitByHit t later) (along-state r.moment (e ∷ ps)) rest) in
+      record { fit = (fits, all.fit); by_hit = (hits, all.by_hit) }
+
+  -- events of the script, and then those that fit where they lead
+  events_fit : (r : Course) (es fs : List Event) → FitByHit r.moment.state (with_puts c r es)
+      → FitByHit (onward c r es).moment.state (with_puts c (onward c r es) fs) → FitByHit r.moment.state (with_puts c r (es ++ fs))
+  events_fit r es fs first rest =
+      let later = with_puts c (onward c r es) fs in
+      subst (λ xs. FitByHit r.moment.state xs) (sym (with_puts-append c r es fs))
+      (FitByHit-append r.moment.state (with_puts c r es) later first (subst (λ t. FitByHit t later) (onward-state c r es) rest))
+
+  fit_unless : (b : Bool) (r : Course) (es : List Event) → FitByHit r.moment.state (with_puts c r es) → FitByHit r.moment.state (with_puts c r (cond b [] es))
+  fit_unless true r es fit = record { fit = tt; by_hit = tt }
+  fit_unless false r es fit = fit
+
+  touches_fit : (r : Course) (page n : ℕ) → Reached r.moment.state → page + n ≤ pages_of r.moment.state.core.space → FitByHit r.moment.state (with_puts c r (touches page n))
+  touches_fit r page zero reached within = record { fit = tt; by_hit = tt }
+  touches_fit r page (suc n) reached within =
+      let e = touch page in
+      let s = r.moment.state in
+      let q = course_after c r e in
+      let here : page < pages_of s.core.space = omega (arith, within) in
+      let same : pages_of q.moment.state.core.space ≡ pages_of s.core.space = ap pages_of (along-space r.moment (e ∷ put_after c r.memory s e)) in
+      event_fits r e (touches (page + 1) n) reached here tt
+      (touches_fit q (page + 1) n (Reached-after r e reached here) (omega (arith, within, same)))
+
+  module _ (in_phase : (s : State) → Reached s → IsInPhase s) where
+    steps_fit : (u : Until) (n : ℕ) (r : Course) → Reached r.moment.state → FitByHit r.moment.state (with_puts c r (steps_until c u n r))
+    steps_fit u zero r reached = record { fit = tt; by_hit = tt }
+    steps_fit u (suc n) r reached =
+        let m = r.moment in
+        let e = next_event m.state m.stream in
+        let q = course_after c r e in
+        let fits = next_fits m.state.core.phase m.state m.stream refl (in_phase m.state reached) in
+        fit_unless (stops_at u m.state.core.phase) r (e ∷ steps_until c u n q)
+        (event_fits r e (steps_until c u n q) reached fits (by_hit-in m.state.core.phase m.state m.stream)
+        (steps_fit u n q (Reached-after r e reached fits)))
+
+    part_fits : (r : Course) (p : Part) → Reached r.moment.state → IsPartWithin (pages_of r.moment.state.core.space) p → FitByHit r.moment.state (with_puts c r (part_events c r p))
+    part_fits r (part.Touches page count) reached within = touches_fit r page count reached within
+    part_fits r (part.Steps until most) reached within = steps_fit until most r reached
+    part_fits r part.Show reached within = event_fits r show [] reached tt tt (record { fit = tt; by_hit = tt })
+    part_fits r (part.Commit parts) reached within = event_fits r (commit parts) [] reached tt tt (record { fit = tt; by_hit = tt })
+
+    parts_fit : (r : Course) (ps : List Part) → Reached r.moment.state → ArePartsWithin (pages_of r.moment.state.core.space) ps → FitByHit r.moment.state (with_puts c r (parts_events c r ps))
+    parts_fit r [] reached within = record { fit = tt; by_hit = tt }
+    parts_fit r (p ∷ ps) reached within =
+        let es = part_events c r p in
+        let q = onward c r es in
+        let first = part_fits r p reached within.0 in
+        let space : q.moment.state.core.space ≡ r.moment.state.core.space =
+        ap (λ (m : Moment). m.state.core.space) (onward-moment c r es) ∙ along-space r.moment (with_puts c r es) in
+        events_fit r es (parts_events c q ps) first
+        (parts_fit q ps (Reached-onward c r es reached first.fit) (subst (λ sp. ArePartsWithin (pages_of sp) ps) (sym space) within.1))
 
 pub part_within : (cap pages : ℕ) (c : CommandValue) → IsCommandWithin pages c → IsPartWithin pages (part_of cap c)
 part_within cap pages (Touch page) within = omega (arith, within)
@@ -172,36 +224,39 @@ AllFit-prefix : (s : State) (es fs : List Event) → AllFit s (es ++ fs) → All
 AllFit-prefix s [] fs fit = tt
 AllFit-prefix s (e ∷ es) fs fit = (fit.0, AllFit-prefix (after s e) es fs fit.1)
 
--- The events of a script within its limits fit, and each state to which a prefix of them leads is bound.
-pub bound_along : ((s : State) → Reached s → IsInPhase s) → ((s : State) → ReachedByHit s → Bound s) → EachScriptIsBound
-bound_along in_phase bound s sound =
-    let can : CanOpen s.setup = record { space = sound.space; sound = sound.setup; order = sound.order } in
-    let parts = parts_of s.setup.cap s.commands in
-    let fits : AllFit (opening s.setup) (unfold_script s) =
-    parts_fit in_phase (start s) parts (Reached-start s can) (parts_within s.setup.cap (pages_of s.setup.space) s.commands sound.commands) in
+can_open : (s : ScriptValue) → IsSound s → CanOpen s.setup
+can_open s sound = record { space = sound.space; sound = sound.setup; order = sound.order }
+
+-- the events of a script within its limits fit, with those that are put in, and their loads have the results of their pages
+script_fits : (c : Callbacks) → FitAlways c → ((s : State) → Reached s → IsInPhase s) → (s : ScriptValue) (sound : IsSound s) → FitByHit (opening s.setup) (unfold_with c s)
+script_fits c always in_phase s sound =
+    parts_fit c always in_phase (start_with c s) (parts_of s.setup.cap s.commands) (Reached-start s (can_open s sound))
+    (parts_within s.setup.cap (pages_of s.setup.space) s.commands sound.commands)
+
+-- each state to which a prefix of them leads is bound
+pub bound_along : ((s : State) → Reached s → IsInPhase s) → ((s : State) → ReachedByHit s → Bound s) → EachRunIsBound
+bound_along in_phase bound c always s sound =
+    let fits = script_fits c always in_phase s sound in
     record {
-      fit = fits;
+      fit = fits.fit;
       bound = λ events rest is. bound (run (opening s.setup) events) (record {
         setup = s.setup;
         events = events;
-        can_open = can;
-        fit = AllFit-prefix (opening s.setup) events rest (subst (λ es. AllFit (opening s.setup) es) is fits);
-        by_hit = AllByHit-prefix (opening s.setup) events rest (subst (λ es. AllByHit (opening s.setup) es) is (by_hit-parts (start s) parts));
+        can_open = can_open s sound;
+        fit = AllFit-prefix (opening s.setup) events rest (subst (λ es. AllFit (opening s.setup) es) is fits.fit);
+        by_hit = AllByHit-prefix (opening s.setup) events rest (subst (λ es. AllByHit (opening s.setup) es) is fits.by_hit);
         is = refl;
       });
     }
 
--- Each aggregation along the run of a script applies each active scheme to the best choice.
-pub choices_along : ((s : State) → Reached s → IsInPhase s) → ((s : State) → Reached s → ServesBest s) → EachChoiceIsBest
-choices_along in_phase best s sound events rest words is =
-    let can : CanOpen s.setup = record { space = sound.space; sound = sound.setup; order = sound.order } in
-    let parts = parts_of s.setup.cap s.commands in
-    let fits : AllFit (opening s.setup) (unfold_script s) =
-    parts_fit in_phase (start s) parts (Reached-start s can) (parts_within s.setup.cap (pages_of s.setup.space) s.commands sound.commands) in
+-- each aggregation among them applies each active scheme to the best choice
+pub choices_along : ((s : State) → Reached s → IsInPhase s) → ((s : State) → Reached s → ServesBest s) → EachRunChoosesBest
+choices_along in_phase best c always s sound events rest words is =
+    let fits = script_fits c always in_phase s sound in
     best (run (opening s.setup) events) (record {
       setup = s.setup;
       events = events;
-      can_open = can;
-      fit = AllFit-prefix (opening s.setup) events (aggregate words ∷ rest) (subst (λ es. AllFit (opening s.setup) es) is fits);
+      can_open = can_open s sound;
+      fit = AllFit-prefix (opening s.setup) events (aggregate words ∷ rest) (subst (λ es. AllFit (opening s.setup) es) is fits.fit);
       is = refl;
     })

@@ -6,14 +6,24 @@ use Rattle.damon_core.specs.Reached.{run}
 use Rattle.damon_core.specs.Choosing.{ServesBest}
 use Rattle.damon_control.specs.Script.{ScriptValue}
 use Rattle.damon_control.specs.Sound.{IsSound}
-use Rattle.script_run.specs.Unfold.{unfold_script}
+use Rattle.script_run.specs.Callbacks.{Callbacks, FitAlways, no_callbacks}
+use Rattle.script_run.specs.Unfold.{unfold_with}
+
+-- each aggregation along the run of the script with callbacks applies each active scheme to the best choice within what is left
+-- of its quota
+abbrev pub ChoosesBestWith : Callbacks → ScriptValue → Type 0
+ChoosesBestWith c s =
+    (events rest : List Event) (words : List ℕ) → unfold_with c s ≡ events ++ aggregate words ∷ rest
+    → ServesBest (run (opening s.setup) events)
 
 -- each aggregation along the run of the script applies each active scheme to the best choice within what is left of its quota
 abbrev pub ChoosesBestAlong : ScriptValue → Type 0
-ChoosesBestAlong s =
-    (events rest : List Event) (words : List ℕ) → unfold_script s ≡ events ++ aggregate words ∷ rest
-    → ServesBest (run (opening s.setup) events)
+ChoosesBestAlong s = ChoosesBestWith no_callbacks s
 
--- the same for each script within its limits
+-- the same for each script within its limits, with callbacks whose events fit where they are put in
+abbrev pub EachRunChoosesBest : Type 0
+EachRunChoosesBest = (c : Callbacks) → FitAlways c → (s : ScriptValue) → IsSound s → ChoosesBestWith c s
+
+-- the same for each script within its limits, without callbacks
 abbrev pub EachChoiceIsBest : Type 0
 EachChoiceIsBest = (s : ScriptValue) → IsSound s → ChoosesBestAlong s

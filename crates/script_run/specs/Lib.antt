@@ -1,5 +1,8 @@
 pub mod Part
 pub mod Parts
+pub mod Callbacks
+pub mod Calls
+pub mod Course
 pub mod Unfold
 pub mod Report
 pub mod Player

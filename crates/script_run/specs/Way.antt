@@ -2,103 +2,138 @@
 use Rattle.std.specs.Prelude.{◌≡◌, ℕ, List, [], ◌++◌, refl}
 use Rattle.std.proofs.Common.{◌∙◌, ap, sym, subst, append-nil, append_assoc}
 use Rattle.rand_core.specs.Stream.{Stream}
-use Rattle.damon_core.specs.State.{opening}
+use Rattle.damon_core.specs.State.{State, opening}
 use Rattle.damon_core.specs.Event.{Event}
 use Rattle.damon_core.specs.Reached.{AllFit, CanOpen, Reached, run}
 use Rattle.damon_core.specs.Makes.{AllFit-append}
-use Rattle.damon_world.specs.Moment.{Moment, along}
-use Rattle.damon_world.specs.Plays.{Reached-along, along-append, along-state}
-use Rattle.damon_world.specs.Stands.{StandsAt, StandsFor}
+use Rattle.damon_world.specs.Stands.{StandsFor}
 use Rattle.damon_control.specs.Script.{ScriptValue}
 use Rattle.snapshot_print.specs.declared.form.Form.{Form}
-use Rattle.script_run.specs.Unfold.{start, unfold_script}
-use Rattle.script_run.specs.Report.{last_state, last_text, report, text_from, text_from-append}
-use Rattle.script_run.specs.Player.{GoesOn, IsOver, PlayerView, left_events}
+use Rattle.script_run.specs.Callbacks.{Callbacks, no_callbacks}
+use Rattle.script_run.specs.Course.{Reached-onward, onward, onward-append, onward-state, with_puts, with_puts-append}
+use Rattle.script_run.specs.Unfold.{own_events, start_with}
+use Rattle.script_run.specs.Report.{last_memory, last_state, last_state_with, last_text_with, report, report_with, text_from, text_from-append}
+use Rattle.script_run.specs.Player.{AnyState, GoesOn, GoesOnWith, IsAt, IsOver, IsOverWith, PlayerOf, PlayerView, WritesLast, WritesLastWith, left_events}
 
--- The player made the first events of the script, which fit from its opening; it stands at the moment after them; the
--- others are left; and this is the text of those that it made.
-pub record IsOnItsWay {R : Type 0} (stream : R → Stream) (s : ScriptValue) (f : Form)
-    (p : PlayerView R) (text : List ℕ) : Type 0 where
+-- The player made the first of the script's own events, with those that its callbacks put in, and all these fit from its
+-- opening; it stands at the course after them; the others are left; and this is the text of those that it made.
+pub record IsOnItsWayWith {R C : Type 0} (stream : R → Stream) (c : Callbacks) (stands_for : C → List ℕ → State → Type 0) (s : ScriptValue) (f : Form)
+    (p : PlayerOf R C) (text : List ℕ) : Type 0 where
   pub can_open : CanOpen s.setup
   pub made : List Event
-  pub fit : AllFit (opening s.setup) made
-  pub stands : StandsAt stream p.world (along (start s) made)
-  pub left : unfold_script s ≡ made ++ left_events p (along (start s) made)
-  pub written : text ≡ text_from f (opening s.setup) made
+  pub fit : AllFit (opening s.setup) (with_puts c (start_with c s) made)
+  pub stands : IsAt stream stands_for p (onward c (start_with c s) made)
+  pub left : own_events c s ≡ made ++ left_events c p (onward c (start_with c s) made)
+  pub written : text ≡ text_from c f (start_with c s) made
   pub form : p.form ≡ f
+
+-- the same without callbacks
+abbrev pub IsOnItsWay : {R : Type 0} → (R → Stream) → ScriptValue → Form → PlayerView R → List ℕ → Type 0
+IsOnItsWay stream s f p text = IsOnItsWayWith stream no_callbacks AnyState s f p text
 
 -- the state at the start of a script is reached
 pub Reached-start : (s : ScriptValue) → CanOpen s.setup → Reached (opening s.setup)
 Reached-start s can = record { setup = s.setup; events = []; can_open = can; fit = tt; is = refl }
 
-module _ {R : Type 0} (stream : R → Stream) (s : ScriptValue) (f : Form) where
-  -- the moment at which the player stands
-  abbrev pub moment_of : (p : PlayerView R) (text : List ℕ) → IsOnItsWay stream s f p text → Moment
-  moment_of p text way = along (start s) way.made
-
+module _ {R C : Type 0} (stream : R → Stream) (c : Callbacks) (stands : C → List ℕ → State → Type 0) (s : ScriptValue) (f : Form) where
   -- a player that goes on is on its way
-  pub way-on : (a b : PlayerView R) (text added : List ℕ) → IsOnItsWay stream s f a text → GoesOn stream a b [] added
-      → IsOnItsWay stream s f b (text ++ added)
-  way-on a b text added way on =
-      let m = along (start s) way.made in
-      let reached : Reached m.state = Reached-along (start s) way.made (Reached-start s way.can_open) way.fit in
-      let more = on.events m in
-      let plays = on.plays m reached way.stands in
-      let state = along-state (start s) way.made in
-      let there : along (start s) (way.made ++ more) ≡ along m more = along-append (start s) way.made more in
+  pub way-on-with : (a b : PlayerOf R C) (text added : List ℕ) → IsOnItsWayWith stream c stands s f a text
+      → GoesOnWith stream c stands a b [] added → IsOnItsWayWith stream c stands s f b (text ++ added)
+  way-on-with a b text added way on =
+      let first = start_with c s in
+      let made = way.made in
+      let r = onward c first made in
+      let reached : Reached r.moment.state = Reached-onward c first made (Reached-start s way.can_open) way.fit in
+      let more = on.events r in
+      let plays = on.plays r reached way.stands in
+      let there : onward c first (made ++ more) ≡ onward c r more = onward-append c first made more in
       record {
         can_open = way.can_open;
-        made = way.made ++ more;
-        fit = AllFit-append (opening s.setup) way.made more way.fit (subst (λ t. AllFit t more) state plays.0);
-        stands = subst (StandsAt stream b.world) (sym there) plays.1;
+        made = made ++ more;
+        fit =
+            subst (AllFit (opening s.setup)) (sym (with_puts-append c first made more))
+            (AllFit-append (opening s.setup) (with_puts c first made) (with_puts c r more) way.fit
+            (subst (λ t. AllFit t (with_puts c r more)) (onward-state c first made) plays.0));
+        stands = subst (λ x. IsAt stream stands b x) (sym there) plays.1;
         left =
             way.left
-            ∙ ap (λ es. way.made ++ es) (on.left m reached way.stands)
-            ∙ sym (append_assoc way.made more (left_events b (along m more)))
-            ∙ ap (λ x. (way.made ++ more) ++ left_events b x) (sym there);
+            ∙ ap (λ es. made ++ es) (on.left r reached way.stands)
+            ∙ sym (append_assoc made more (left_events c b (onward c r more)))
+            ∙ ap (λ x. (made ++ more) ++ left_events c b x) (sym there);
         written =
             ap (λ t. t ++ added) way.written
-            ∙ ap (λ t. text_from f (opening s.setup) way.made ++ t) (on.text m reached way.stands)
-            ∙ ap (λ g. text_from f (opening s.setup) way.made ++ text_from g m.state more) way.form
-            ∙ ap (λ t. text_from f (opening s.setup) way.made ++ text_from f t more) state
-            ∙ sym (text_from-append f (opening s.setup) way.made more);
+            ∙ ap (λ t. text_from c f first made ++ t) (on.text r reached way.stands)
+            ∙ ap (λ g. text_from c f first made ++ text_from c g r more) way.form
+            ∙ sym (text_from-append c f first made more);
         form = on.form ∙ way.form;
       }
 
   -- what was written is a prefix of the report
-  pub way-prefix : (p : PlayerView R) (text : List ℕ) → IsOnItsWay stream s f p text
-      → (rest : List ℕ) × (report f s ≡ text ++ rest)
-  way-prefix p text way =
-      let left = left_events p (along (start s) way.made) in
-      let there = run (opening s.setup) way.made in
-      let last = last_text f (run (opening s.setup) (unfold_script s)) in
-      let joined : text_from f (opening s.setup) (unfold_script s) ≡ text ++ text_from f there left =
-      ap (text_from f (opening s.setup)) way.left
-      ∙ text_from-append f (opening s.setup) way.made left
-      ∙ ap (λ t. t ++ text_from f there left) (sym way.written) in
-      (text_from f there left ++ last, ap (λ t. t ++ last) joined ∙ append_assoc text (text_from f there left) last)
+  pub way-prefix-with : (p : PlayerOf R C) (text : List ℕ) → IsOnItsWayWith stream c stands s f p text
+      → (rest : List ℕ) × (report_with c f s ≡ text ++ rest)
+  way-prefix-with p text way =
+      let first = start_with c s in
+      let r = onward c first way.made in
+      let left = left_events c p r in
+      let last = last_text_with c f (last_memory c s) (last_state_with c s) in
+      let joined : text_from c f first (own_events c s) ≡ text ++ text_from c f r left =
+      ap (text_from c f first) way.left
+      ∙ text_from-append c f first way.made left
+      ∙ ap (λ t. t ++ text_from c f r left) (sym way.written) in
+      (text_from c f r left ++ last, ap (λ t. t ++ last) joined ∙ append_assoc text (text_from c f r left) last)
+
+  -- where no event is left, all events were made
+  way-all : (p : PlayerOf R C) (text : List ℕ) (way : IsOnItsWayWith stream c stands s f p text) → IsOverWith stream c stands p
+      → own_events c s ≡ way.made
+  way-all p text way over =
+      way.left
+      ∙ ap (λ es. way.made ++ es) (over (onward c (start_with c s) way.made) way.stands)
+      ∙ append-nil way.made
 
   -- where no event is left, what was written is the report with its last line
-  pub way-report : (p : PlayerView R) (text : List ℕ) (way : IsOnItsWay stream s f p text) → IsOver stream p
-      → text ++ last_text p.form (along (start s) way.made).state ≡ report f s
+  way-report : (p : PlayerOf R C) (text : List ℕ) (way : IsOnItsWayWith stream c stands s f p text) → IsOverWith stream c stands p
+      → (let r = onward c (start_with c s) way.made in text ++ last_text_with c p.form r.memory r.moment.state ≡ report_with c f s)
   way-report p text way over =
-      let all : unfold_script s ≡ way.made =
-      way.left
-      ∙ ap (λ es. way.made ++ es) (over (along (start s) way.made) way.stands)
-      ∙ append-nil way.made in
-      ap (λ t. t ++ last_text p.form (along (start s) way.made).state) way.written
-      ∙ ap (λ g. text_from f (opening s.setup) way.made ++ last_text g (along (start s) way.made).state) way.form
-      ∙ ap (λ t. text_from f (opening s.setup) way.made ++ last_text f t) (along-state (start s) way.made)
-      ∙ ap (λ es. text_from f (opening s.setup) es ++ last_text f (run (opening s.setup) es)) (sym all)
+      let first = start_with c s in
+      let r = onward c first way.made in
+      ap (λ t. t ++ last_text_with c p.form r.memory r.moment.state) way.written
+      ∙ ap (λ g. text_from c f first way.made ++ last_text_with c g r.memory r.moment.state) way.form
+      ∙ ap (λ t. text_from c f first way.made ++ last_text_with c f r.memory t) (onward-state c first way.made)
+      ∙ ap (λ es. text_from c f first es ++ last_text_with c f (onward c first es).memory (run (opening s.setup) (with_puts c first es)))
+      (sym (way-all p text way over))
+
+  -- what was written before, what was filled, and what ends it are the report
+  pub way-finished-with : (p : PlayerOf R C) (written filled last : List ℕ) → IsOnItsWayWith stream c stands s f p (written ++ filled)
+      → IsOverWith stream c stands p → WritesLastWith stream c stands p filled last → written ++ last ≡ report_with c f s
+  way-finished-with p written filled last way over ends =
+      let r = onward c (start_with c s) way.made in
+      ap (λ t. written ++ t) (ends r way.stands)
+      ∙ sym (append_assoc written filled (last_text_with c p.form r.memory r.moment.state))
+      ∙ way-report p (written ++ filled) way over
 
   -- where no event is left, the player stands for the state at the end of the run
+  pub way-last-with : (p : PlayerOf R C) (text : List ℕ) (way : IsOnItsWayWith stream c stands s f p text) → IsOverWith stream c stands p
+      → StandsFor p.world (last_state_with c s)
+  way-last-with p text way over =
+      let first = start_with c s in
+      subst (StandsFor p.world)
+      (onward-state c first way.made ∙ ap (λ es. run (opening s.setup) (with_puts c first es)) (sym (way-all p text way over)))
+      way.stands.world.state
+
+-- the same without callbacks
+module _ {R : Type 0} (stream : R → Stream) (s : ScriptValue) (f : Form) where
+  pub way-on : (a b : PlayerView R) (text added : List ℕ) → IsOnItsWay stream s f a text → GoesOn stream a b [] added
+      → IsOnItsWay stream s f b (text ++ added)
+  way-on = way-on-with stream no_callbacks AnyState s f
+
+  pub way-prefix : (p : PlayerView R) (text : List ℕ) → IsOnItsWay stream s f p text
+      → (rest : List ℕ) × (report f s ≡ text ++ rest)
+  way-prefix = way-prefix-with stream no_callbacks AnyState s f
+
+  pub way-finished : (p : PlayerView R) (written filled last : List ℕ) → IsOnItsWay stream s f p (written ++ filled) → IsOver stream p
+      → WritesLast stream p filled last → written ++ last ≡ report f s
+  way-finished = way-finished-with stream no_callbacks AnyState s f
+
   pub way-last : (p : PlayerView R) (text : List ℕ) (way : IsOnItsWay stream s f p text) → IsOver stream p
       → StandsFor p.world (last_state s)
-  way-last p text way over =
-      let all : unfold_script s ≡ way.made =
-      way.left
-      ∙ ap (λ es. way.made ++ es) (over (along (start s) way.made) way.stands)
-      ∙ append-nil way.made in
-      subst (StandsFor p.world)
-      (along-state (start s) way.made ∙ ap (λ es. run (opening s.setup) es) (sym all))
-      way.stands.state
+  way-last = way-last-with stream no_callbacks AnyState s f

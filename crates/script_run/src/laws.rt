@@ -1,14 +1,25 @@
 // What holds of the events of each script.
-ghost use Rattle.script_run.specs.BoundAlong.{EachScriptIsBound};
-ghost use Rattle.script_run.specs.Choices.{EachChoiceIsBest};
+ghost use Rattle.script_run.specs.BoundAlong.{EachRunIsBound, EachScriptIsBound};
+ghost use Rattle.script_run.specs.Choices.{EachChoiceIsBest, EachRunChoosesBest};
 ghost use Rattle.script_run.specs.Reaching.{ReachTheirPhase};
+
+/// What holds of each script within its limits holds with all callbacks whose events fit where they are put in:
+/// the events of the script with these fit from the opening of its setup, each state to which a prefix of
+/// them leads is bound, and each aggregation applies each set and active scheme to the best choice. No
+/// code is run for it.
+pub fn each_run_with_callbacks_is_bound()
+    ensures bound { EachRunIsBound }
+    ensures choices { EachRunChoosesBest }
+{
+    damon_core::reached_states_are_bound();
+}
 
 /// The events of each script within its limits fit from the opening of its setup, and each state to
 /// which a prefix of them leads is bound. No code is run for it.
 pub fn each_script_is_bound()
     ensures { EachScriptIsBound }
 {
-    damon_core::reached_states_are_bound();
+    each_run_with_callbacks_is_bound();
 }
 
 /// Each aggregation along the run of each script within its limits applies each set and active scheme to
@@ -17,7 +28,7 @@ pub fn each_script_is_bound()
 pub fn each_choice_is_best()
     ensures { EachChoiceIsBest }
 {
-    damon_core::reached_states_are_bound();
+    each_run_with_callbacks_is_bound();
 }
 
 /// From each state to which fitting events lead, the steps of `arm` lead to where each pick of a

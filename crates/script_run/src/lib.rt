@@ -1,6 +1,8 @@
 //! What a script's commands mean on a world: their events, and the text that they cause.
 #![tactic(auto)]
 
+/// What the owner of a run adds to it.
+mod callbacks;
 /// What holds of the events of each script.
 mod laws;
 /// A command as far as it is left to make.
@@ -9,6 +11,12 @@ mod part;
 mod player;
 /// The random words of a script.
 mod random;
+/// What a world makes together with callbacks.
+mod together;
 
-pub use laws::{each_choice_is_best, each_script_is_bound, passes_reach_their_phase};
-pub use player::{Filled, Player, open_player, play_to_end};
+pub use callbacks::{Callbacks, NoCallbacks};
+pub use laws::{
+    each_choice_is_best, each_run_with_callbacks_is_bound, each_script_is_bound,
+    passes_reach_their_phase,
+};
+pub use player::{Filled, Player, open_player, open_player_with, play_to_end};

@@ -1,12 +1,9 @@
-use Rattle.std.proofs.Common.{◌+◌, ◌<◌, ◌≤◌, ◌∷◌, [], ◌++◌, length, drop, refl, sym, ap, ◌∙◌, subst, arith}
+use Rattle.std.proofs.Common.{◌+◌, ◌<◌, ◌≤◌, ◌∷◌, [], length, drop, refl, sym, ap, ◌∙◌, subst, arith}
 use Rattle.std.proofs.lemmas.List.{drop_all}
 use Rattle.script_lines.specs.Command.{lent_value}
-use Rattle.damon_core.specs.Commit.{commit_answer}
 use Rattle.damon_core.specs.Event.{commit}
-use Rattle.damon_core.specs.Makes.{Makes}
-use Rattle.damon_world.specs.Stands.{StandsFor}
 use Rattle.live_commit.specs.Commit.{commit_value}
-use Rattle.snapshot_print.specs.Commit.{commit_text}
+use Rattle.script_run.specs.Kept.{IsMade}
 use Rattle.script_run.specs.Part.{Part, part_value}
 use Rattle.script_run.specs.Part as part
 use Rattle.script_run.specs.Player.{left_in}
@@ -16,20 +13,20 @@ use Rattle.script_run.proofs.Moves.{commit_made, is_over, next_begins, on-none}
 use Rattle.script_run.proofs.player.Player.begin_next.Goals as goal
 
 pub returns-then-self-len-clause-on : goal.returns-then-self-len-clause-on
-returns-then-self-len-clause-on g c = on-none g.R.Rng.stream c.args.self.now c.args.out.now.items
+returns-then-self-len-clause-on g c = on-none g.R.Rng.stream g.C.Callbacks.callbacks g.C.Callbacks.stands_for c.args.self.now c.args.out.now.items
 
 pub returns-then-self-len-clause-end : goal.returns-then-self-len-clause-end
 returns-then-self-len-clause-end g c false =
     let p = c.self.inside in
     let over : length p.commands.list ≤ p.begun = omega (arith, c.if-self-len.true, c.len.ensures) in
     let none = ap (parts_of p.cap) (drop_all p.begun p.commands.list over) in
-    is_over g.R.Rng.stream c.args.self.now (sym (ap (λ v. v.later) c.self.view_is) ∙ none) c.requires
+    is_over g.R.Rng.stream g.C.Callbacks.callbacks g.C.Callbacks.stands_for c.args.self.now (sym (ap (λ v. v.later) c.self.view_is) ∙ none) c.requires
 
 pub invariant_of-self : goal.invariant_of-self
 invariant_of-self g c =
     let p = c.self.inside in
     let here : p.begun < length p.commands.list = omega (arith, c.if-self-len.false, c.len.ensures) in
-    player-next p.world (part_value p.part) (part_value c.in-Part.part) p.cap p.begun p.commands.list (lent_value c.get.result) here c.get.ensures c.in-Part.ensures c.self.invariant
+    player-next g.R.Rng.stream g.C.Callbacks.stands_for p.world p.callbacks (part_value p.part) (part_value c.in-Part.part) p.cap p.begun p.commands.list (lent_value c.get.result) here c.get.ensures c.in-Part.ensures c.self.invariant
 
 pub invariant_of-self-in_err-make_commit-in-Commit :
     goal.invariant_of-self-in_err-make_commit-in-Commit
@@ -38,8 +35,8 @@ invariant_of-self-in_err-make_commit-in-Commit g c =
     let here : p.begun < length p.commands.list = omega (arith, c.if-self-len.false, c.len.ensures) in
     let q = part.Commit (commit_value c.in-Commit.commit.now) in
     let new = parts_of p.cap (drop (p.begun + 1) p.commands.list) in
-    player-made p.world c.make_commit.new.world q new (omega arith) c.make_commit.ensures.space c.make_commit.ensures.ticks
-    (player-next p.world (part_value p.part) q p.cap p.begun p.commands.list (lent_value c.get.result) here c.get.ensures c.in-Commit.ensures c.self.invariant)
+    player-made g.R.Rng.stream g.C.Callbacks.stands_for p.world c.make_commit.new.world p.callbacks c.make_commit.new.callbacks q new (omega arith) c.make_commit.ensures.somewhere c.make_commit.ensures.space c.make_commit.ensures.ticks
+    (player-next g.R.Rng.stream g.C.Callbacks.stands_for p.world p.callbacks (part_value p.part) q p.cap p.begun p.commands.list (lent_value c.get.result) here c.get.ensures c.in-Commit.ensures c.self.invariant)
 
 pub invariant_of-self-in-Commit : goal.invariant_of-self-in-Commit
 invariant_of-self-in-Commit g c =
@@ -47,15 +44,15 @@ invariant_of-self-in-Commit g c =
     let here : p.begun < length p.commands.list = omega (arith, c.if-self-len.false, c.len.ensures) in
     let q = part.Commit (commit_value c.in-Commit.commit.now) in
     let new = parts_of p.cap (drop (p.begun + 1) p.commands.list) in
-    player-made p.world c.make_commit.new.world q new (omega arith) c.make_commit.ensures.space c.make_commit.ensures.ticks
-    (player-next p.world (part_value p.part) q p.cap p.begun p.commands.list (lent_value c.get.result) here c.get.ensures c.in-Commit.ensures c.self.invariant)
+    player-made g.R.Rng.stream g.C.Callbacks.stands_for p.world c.make_commit.new.world p.callbacks c.make_commit.new.callbacks q new (omega arith) c.make_commit.ensures.somewhere c.make_commit.ensures.space c.make_commit.ensures.ticks
+    (player-next g.R.Rng.stream g.C.Callbacks.stands_for p.world p.callbacks (part_value p.part) q p.cap p.begun p.commands.list (lent_value c.get.result) here c.get.ensures c.in-Commit.ensures c.self.invariant)
 
 pub returns-in-Part-clause-on : goal.returns-in-Part-clause-on
 returns-in-Part-clause-on g c =
     let p = c.self.inside in
     let is = c.self.view_is in
     let here : p.begun < length p.commands.list = omega (arith, c.if-self-len.false, c.len.ensures) in
-    next_begins g.R.Rng.stream c.args.self.now _ c.args.out.now.items c.requires (ap (λ v. v.world) is) (ap (λ v. v.form) is)
+    next_begins g.R.Rng.stream g.C.Callbacks.callbacks g.C.Callbacks.stands_for c.args.self.now _ c.args.out.now.items c.requires (ap (λ v. v.world) is) (ap (λ v. v.callbacks) is) (ap (λ v. v.form) is)
     (sym (ap (λ v. v.later) is) ∙ next_part p.cap p.begun p.commands.list (lent_value c.get.result) (part_value c.in-Part.part) here c.get.ensures c.in-Part.ensures)
 
 pub returns-in-Part-clause-less : goal.returns-in-Part-clause-less
@@ -73,11 +70,12 @@ returns-in_ok-make_commit-in-Commit-clause-on g c =
     let k = commit_value c.in-Commit.commit.now in
     let new = c.make_commit.new.world in
     let here : p.begun < length p.commands.list = omega (arith, c.if-self-len.false, c.len.ensures) in
-    commit_made g.R.Rng.stream c.args.self.now _ c.args.out.now.items _ k c.requires
+    let cb = g.C.Callbacks.callbacks in
+    let stands = g.C.Callbacks.stands_for in
+    commit_made g.R.Rng.stream cb stands c.args.self.now _ c.args.out.now.items _ k c.requires
     (sym (ap (λ v. v.later) is) ∙ next_part p.cap p.begun p.commands.list (lent_value c.get.result) (part.Commit k) here c.get.ensures c.in-Commit.ensures)
-    refl (ap (λ v. v.form) is) (c.make_commit.ensures.source ∙ ap (λ v. v.world.source) is)
-    (subst (λ w. Makes StandsFor w new (commit k ∷ [])) (ap (λ v. v.world) is) c.make_commit.ensures.event)
-    (c.in_ok-make_commit-in-Commit.ensures.ok ∙ ap (λ v. c.args.out.now.items ++ commit_text v.form v.world.monitor.core.ticks (commit_answer k v.world.monitor.core)) is)
+    refl (ap (λ v. v.form) is)
+    (subst (λ v. IsMade g.R.Rng.stream cb stands v.world new v.callbacks c.make_commit.new.callbacks v.form c.args.out.now.items c.make_commit.new.out.items (λ r. commit k ∷ [])) is c.in_ok-make_commit-in-Commit.ensures.made)
 
 pub returns-in_ok-make_commit-in-Commit-clause-less :
     goal.returns-in_ok-make_commit-in-Commit-clause-less

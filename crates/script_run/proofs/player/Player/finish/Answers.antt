@@ -1,18 +1,13 @@
-use Rattle.std.proofs.Common.{◌++◌, ap, ◌∙◌}
-use Rattle.snapshot_print.specs.Lines.{end_text}
-use Rattle.snapshot_print.specs.Printed.{printed_monitor, printed_monitor-stands}
-use Rattle.script_run.proofs.Moves.{OnOk-map}
+use Rattle.std.proofs.Common.{◌∙◌}
+use Rattle.script_run.specs.Player.{WritesLastWith}
+use Rattle.script_run.proofs.Moves.{whole-err, whole-ok}
 use Rattle.script_run.proofs.player.Player.finish.Goals as goal
 
 pub returns-clause-last : goal.returns-clause-last
 returns-clause-last g c =
-    let is = c.self.view_is in
-    let out = c.args.out.now.items in
-    let form = c.self.inside.form in
-    let player = c.args.self in
-    OnOk-map c.print_end.result
-    (λ grew m stands. grew
-    ∙ ap (λ v. out ++ end_text form (printed_monitor v)) c.monitor.ensures
-    ∙ ap (λ v. out ++ end_text v.form (printed_monitor v.world.monitor)) is
-    ∙ ap (λ p. out ++ end_text player.form p) (printed_monitor-stands player.world.monitor m.state stands.state.monitor))
-    c.print_end.ensures.ok
+    whole-ok (λ text. WritesLastWith g.R.Rng.stream g.C.Callbacks.callbacks g.C.Callbacks.stands_for c.args.self c.args.out.now.items text)
+    c.append_last-appended.result c.whole_or_nothing.result _ _ c.whole_or_nothing.ensures.same c.append_last-appended.ensures.last c.whole_or_nothing.ensures.ok
+
+pub returns-clause-err : goal.returns-clause-err
+returns-clause-err g c =
+    whole-err c.append_last-appended.result c.whole_or_nothing.result c.len-before.result c.args.out.now.items _ _ (c.len-before.ensures ∙ c.args.out.now.ok.0) c.whole_or_nothing.ensures.same c.append_last-appended.ensures.err c.whole_or_nothing.ensures.err

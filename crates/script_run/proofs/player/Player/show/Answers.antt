@@ -1,8 +1,18 @@
-use Rattle.std.proofs.Common.{◌++◌, refl, ap, ◌∙◌}
+use Rattle.std.proofs.Common.{◌≤◌, ◌++◌, refl, sym, ap, ◌∙◌, subst, arith}
 use Rattle.snapshot_print.specs.Lines.{show_text}
 use Rattle.snapshot_print.specs.Printed.{printed_monitor}
+use Rattle.script_run.specs.Part.{part_value}
+use Rattle.script_run.specs.Player.{left_of}
 use Rattle.script_run.proofs.Moves.{OnOk-map, show_made}
+use Rattle.script_run.proofs.Next.{player-made}
 use Rattle.script_run.proofs.player.Player.show.Goals as goal
+
+pub invariant_of-self : goal.invariant_of-self
+invariant_of-self g c =
+    let p = c.self.inside in
+    let q = part_value p.part in
+    let one : 1 ≤ left_of q = subst (λ x. 1 ≤ left_of x) (sym (ap (λ v. v.part) c.self.view_is ∙ c.requires)) (omega arith) in
+    player-made g.R.Rng.stream g.C.Callbacks.stands_for p.world p.world p.callbacks p.callbacks q _ one c.self.invariant.somewhere refl refl c.self.invariant
 
 pub returns-clause-on : goal.returns-clause-on
 returns-clause-on g c =
@@ -10,6 +20,6 @@ returns-clause-on g c =
     let out = c.args.out.now.items in
     let form = c.self.inside.form in
     OnOk-map c.print_show.result
-    (λ grew. show_made g.R.Rng.stream c.args.self.now _ _ _ c.requires refl (ap (λ v. v.later) is) (ap (λ v. v.form) is) (ap (λ v. v.world) is)
+    (λ grew. show_made g.R.Rng.stream g.C.Callbacks.callbacks g.C.Callbacks.stands_for g.met.C.Callbacks.in_place c.args.self.now _ _ _ c.requires refl (ap (λ v. v.later) is) (ap (λ v. v.form) is) (ap (λ v. v.world) is) (ap (λ v. v.callbacks) is)
     (grew ∙ ap (λ v. out ++ show_text form (printed_monitor v)) c.monitor.ensures ∙ ap (λ v. out ++ show_text v.form (printed_monitor v.world.monitor)) is))
     c.print_show.ensures.ok

@@ -4,12 +4,15 @@ use Rattle.rand_core.specs.Steps.{stream_of, steps_u32}
 use Rattle.rand_pcg.specs.Pcg.{pcg32}
 use Rattle.damon_types.specs.Space.{pages_of}
 use Rattle.script_lines.specs.Command.{CommandValue, Touch, Sweep, Step, Arm, Finish, Show, Commit, weight, work_of}
+use Rattle.damon_control.specs.ScriptView.{said_by}
 use Rattle.script_run.specs.Part as part
 use Rattle.script_run.specs.Kept.{ArePartsWithin}
 use Rattle.script_run.specs.Player.{left_in, left_of}
 use Rattle.script_run.specs.Parts.{part_of, parts_of}
+use Rattle.script_run.specs.Unfold.{start_with}
+use Rattle.script_run.specs.Way.{Reached-start}
 use Rattle.script_run.proofs.Fits.{parts_within}
-use Rattle.script_run.proofs.player.open_player.Goals as goal
+use Rattle.script_run.proofs.player.open_player_with.Goals as goal
 
 left_of-part : (cap : ℕ) (c : CommandValue) → left_of (part_of cap c) ≤ weight cap c
 left_of-part cap (Touch page) = omega arith
@@ -26,11 +29,19 @@ left_in-parts cap (c ∷ cs) =
     omega (arith, left_of-part cap c, left_in-parts cap cs, sum_by-cons (λ q. 1 + left_of q) (part_of cap c) (parts_of cap cs), sum_by-cons (weight cap) c cs)
 
 pub invariant_of-result : goal.invariant_of-result
-invariant_of-result c =
+invariant_of-result g c =
     let s = c.args.script in
     let cs = s.commands.list in
     let space : s.setup.space ≡ c.in_ok-world.world.monitor.core.space = ap (λ x. x.space) (sym c.in_ok-world.ensures.core) in
     record {
+      somewhere = record {
+        course = start_with g.C.Callbacks.callbacks (said_by s);
+        reached = Reached-start (said_by s) (record { space = c.targets-targets.ensures.sound; sound = s.setup.sound; order = c.len-ranges.ensures.order });
+        here = record {
+          world = record { state = c.in_ok-world.ensures.opening; words = ap (stream_of (steps_u32 pcg32)) c.in_ok-world.ensures.source ∙ c.random_words.ensures };
+          callbacks = c.requires.opening;
+        };
+      };
       within = (
         omega arith,
         subst (λ sp. ArePartsWithin (pages_of sp) (parts_of s.setup.cap cs)) space
@@ -40,11 +51,14 @@ invariant_of-result c =
     }
 
 pub returns : goal.returns
-returns c = record {
+returns g c = record {
   can_open = record { space = c.targets-targets.ensures.sound; sound = c.args.script.setup.sound; order = c.len-ranges.ensures.order };
   made = [];
   fit = tt;
-  stands = record { state = c.in_ok-world.ensures.opening; words = ap (stream_of (steps_u32 pcg32)) c.in_ok-world.ensures.source ∙ c.random_words.ensures };
+  stands = record {
+    world = record { state = c.in_ok-world.ensures.opening; words = ap (stream_of (steps_u32 pcg32)) c.in_ok-world.ensures.source ∙ c.random_words.ensures };
+    callbacks = c.requires.opening;
+  };
   left = refl;
   written = refl;
   form = refl;
