@@ -1,0 +1,4 @@
+pub mod Placing
+pub mod Bounding
+pub mod Sharing
+mod Examples

@@ -1,0 +1,10 @@
+use Rattle.std.proofs.Common.{◌≡◌, ◌+◌, ◌*◌, ◌-◌, ◌^◌, ◌≤◌, drop}
+use Rattle.quota_goal.specs.Seen.{cold_pages, hot_pages}
+use Rattle.quota_goal.proofs.seen.seen_in.Given as goal
+
+abbrev pub invariant-loop-index : goal.invariant-loop-index
+invariant-loop-index l = record {
+  fits : l.hot + l.cold ≤ l.index * (2 ^ 32 - 1);
+  hot : l.hot + hot_pages (drop l.index l.rows.rows) ≡ hot_pages l.rows.rows;
+  cold : l.cold + cold_pages (drop l.index l.rows.rows) ≡ cold_pages l.rows.rows;
+}

@@ -1,0 +1,4 @@
+pub mod Goals
+pub mod Next
+pub mod Seen
+pub mod Kept

@@ -1,0 +1,16 @@
+//! Byte quotas that follow a goal: by a score that a goal asks for, the bytes of a quota rise and fall.
+#![tactic(auto)]
+
+/// Goals, and lists of them.
+mod goals;
+/// Laws of the bytes that follow from a score.
+mod laws;
+/// The bytes that follow from a score.
+mod next;
+/// How much of the watched memory is hot, and how much is cold.
+mod seen;
+
+pub use goals::{Full, Goal, GoalKind, Goals, MAX_GOALS};
+pub use laws::{bytes_follow_the_score, next_bytes_are_bounded};
+pub use next::next_bytes;
+pub use seen::{Seen, seen_in};
