@@ -1,4 +1,5 @@
 pub mod Placing
 pub mod Bounding
 pub mod Sharing
+pub mod Least
 mod Examples

@@ -5,12 +5,18 @@
 mod goals;
 /// Laws of the bytes that follow from a score.
 mod laws;
+/// Moments at which goals are scored.
+mod moment;
 /// The bytes that follow from a score.
 mod next;
 /// How much of the watched memory is hot, and how much is cold.
 mod seen;
+/// Slots whose quotas follow goals.
+mod tuner;
 
 pub use goals::{Full, Goal, GoalKind, Goals, MAX_GOALS};
 pub use laws::{bytes_follow_the_score, next_bytes_are_bounded};
+pub use moment::Moment;
 pub use next::next_bytes;
 pub use seen::{Seen, seen_in};
+pub use tuner::Tuner;
