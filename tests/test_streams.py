@@ -23,6 +23,8 @@ LINES = {OK: b"", READ_FAULT: b"reading failed\n", WRITE_FAULT: b"writing failed
 MIB = 1 << 20
 # Bytes of a read or a write where each call shall move few, and where it shall move the least.
 FEW, LEAST = 7, 1
+ENTRIES = b"begin\n"
+"""What the entries of a journal come after."""
 # The call of Linux that sets the room of a pipe, which Python names from 3.10 on, and the least room.
 F_SETPIPE_SZ = 1031
 SMALL_PIPE = 4096
@@ -140,8 +142,8 @@ class FailingCalls(Streams):
         """No write follows a write that failed, and what the earlier ones took is the first part of the whole."""
         for command, most in self.pieces():
             whole = self.count(command, MOST_BYTES=most)
-            # In threads each run may write another journal; all of the example's have more bytes than this.
-            last = whole.writes if command.program == DAMON else 20
+            # In threads each run may write another journal; the lines of its setup are the same.
+            last = whole.writes if command.program == DAMON else (whole.ended.stdout.index(ENTRIES) + len(ENTRIES)) // most + 1
             for at in range(1, last + 1):
                 with self.subTest(command.words, most=most, at=at):
                     counted = self.count(command, MOST_BYTES=most, WRITE_FAILS_AT=at)
