@@ -11,7 +11,7 @@ use Rattle.damon_journal.specs.Replayer.{Leads, ReplayerView}
 use Rattle.heat_report.specs.Freq.{working_set}
 use Rattle.heat_report.specs.Text.{last_line}
 use Rattle.text_io.specs.Taken.{WritesPart}
-use Rattle.damon_app.specs.Heating.{TellsNext, tables_of, tables_text}
+use Rattle.damon_app.specs.Heating.{WritesNext, tables_of, tables_text}
 use Rattle.damon_app.proofs.Known.{WritesPart-after, WritesPart-longer, WritesPart-whole}
 
 -- a count that rose after it did not fall has risen
@@ -35,7 +35,7 @@ first_part n before piece state rest states first tables old new part =
 module _ (n : ℕ) (states : List State) (last : State) where
   -- Of the states that a replay leads through, these are done: what the sink took, and then the piece, are their tables, and the
   -- sizes are their working sets.
-  pub record AreTold (r : ReplayerView) (sizes piece : List ℕ) (old new : Option (List ℕ)) : Type 0 where
+  pub record AreWritten (r : ReplayerView) (sizes piece : List ℕ) (old new : Option (List ℕ)) : Type 0 where
     pub done : List State
     pub rest : List State
     pub are : states ≡ done ++ rest
@@ -46,13 +46,13 @@ module _ (n : ℕ) (states : List State) (last : State) where
     pub sizes_are : sizes ≡ map size_of done
 
   -- at first none is done
-  pub told_first : (r : ReplayerView) (sizes piece : List ℕ) (old : Option (List ℕ)) → sizes ≡ [] → piece ≡ [] → Leads states last r → AreTold r sizes piece old old
-  told_first r sizes piece old none empty leads = record { done = []; rest = states; are = refl; leads = leads; written = []; taken = Appends-nil old; tables = empty; sizes_are = none }
+  pub written_first : (r : ReplayerView) (sizes piece : List ℕ) (old : Option (List ℕ)) → sizes ≡ [] → piece ≡ [] → Leads states last r → AreWritten r sizes piece old old
+  written_first r sizes piece old none empty leads = record { done = []; rest = states; are = refl; leads = leads; written = []; taken = Appends-nil old; tables = empty; sizes_are = none }
 
-  module _ (r : ReplayerView) (sizes piece : List ℕ) (old new : Option (List ℕ)) (told : AreTold r sizes piece old new) where
-    -- one more state was told
-    pub told_next : (r' : ReplayerView) (sizes' piece' : List ℕ) (new' : Option (List ℕ)) → TellsNext n (record { replay = r; sizes = sizes; piece = piece; taken = new }) (record { replay = r'; sizes = sizes'; piece = piece'; taken = new' }) → AreTold r' sizes' piece' old new'
-    told_next r' sizes' piece' new' next =
+  module _ (r : ReplayerView) (sizes piece : List ℕ) (old new : Option (List ℕ)) (told : AreWritten r sizes piece old new) where
+    -- one more state was written
+    pub written_next : (r' : ReplayerView) (sizes' piece' : List ℕ) (new' : Option (List ℕ)) → WritesNext n (record { replay = r; sizes = sizes; piece = piece; taken = new }) (record { replay = r'; sizes = sizes'; piece = piece'; taken = new' }) → AreWritten r' sizes' piece' old new'
+    written_next r' sizes' piece' new' next =
         let on = next told.rest last told.leads in
         let one : List State = on.state ∷ [] in
         let (front, all, left) = on.handed in
@@ -74,7 +74,7 @@ module _ (n : ℕ) (states : List State) (last : State) where
         }
 
     -- nothing has changed
-    pub told_same : (sizes' piece' : List ℕ) (new' : Option (List ℕ)) → sizes' ≡ sizes → piece' ≡ piece → new' ≡ new → AreTold r sizes' piece' old new'
+    pub told_same : (sizes' piece' : List ℕ) (new' : Option (List ℕ)) → sizes' ≡ sizes → piece' ≡ piece → new' ≡ new → AreWritten r sizes' piece' old new'
     told_same sizes' piece' new' same_sizes same_piece same = record {
       done = told.done;
       rest = told.rest;

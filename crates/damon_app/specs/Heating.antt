@@ -32,17 +32,17 @@ tables_text n states = flat_map (tables_of n) states ++ last_line (map (λ s. wo
 abbrev pub HandsOver : (old new : Option (List ℕ)) → (piece rest : List ℕ) → Type 0
 HandsOver old new piece rest = (front : List ℕ) × Appends old new front × (front ++ rest ≡ piece)
 
--- A replay that is told: what is left of it, the working sets of the reports so far, the text that is not handed over yet, and what
--- the sink took.
-pub record Telling : Type 0 where
+-- How far the tables of a replay are: what is left of it, the working sets of the reports so far, the text that is not handed over
+-- yet, and what the sink took.
+pub record HeatProgress : Type 0 where
   pub replay : ReplayerView
   pub sizes : List ℕ
   pub piece : List ℕ
   pub taken : Option (List ℕ)
 
--- the first of the states to come was told: its tables followed the piece, of which the front may have been handed over, and its
+-- the first of the states to come was written: its tables followed the piece, of which the front may have been handed over, and its
 -- working set the others
-pub record IsTold (n : ℕ) (old new : Telling) (states : List State) (last : State) : Type 0 where
+pub record IsWrittenNext (n : ℕ) (old new : HeatProgress) (states : List State) (last : State) : Type 0 where
   pub state : State
   pub rest : List State
   pub first : states ≡ state ∷ rest
@@ -50,9 +50,9 @@ pub record IsTold (n : ℕ) (old new : Telling) (states : List State) (last : St
   pub sizes : new.sizes ≡ old.sizes ++ working_set state.core.report.rows ∷ []
   pub handed : HandsOver old.taken new.taken (old.piece ++ tables_of n state) new.piece
 
--- whatever states the replay leads through, the first was told
-abbrev pub TellsNext : ℕ → Telling → Telling → Type 0
-TellsNext n old new = (states : List State) (last : State) → Leads states last old.replay → IsTold n old new states last
+-- whatever states the replay leads through, the first was written
+abbrev pub WritesNext : ℕ → HeatProgress → HeatProgress → Type 0
+WritesNext n old new = (states : List State) (last : State) → Leads states last old.replay → IsWrittenNext n old new states last
 
 -- The bytes are the text of a lawful journal, with receipts, that is read as this. Woven together the journal and the receipts are
 -- one run of the monitor.

@@ -9,7 +9,7 @@ ghost use Rattle.damon_journal.specs.Status.{EndsRun, status_of};
 ghost use Rattle.heat_report.specs.Freq.{working_set};
 ghost use Rattle.text_io.specs.Taken.{WritesPart};
 ghost use Rattle.damon_app.specs.Answers.{IsOutcome, IsRunRefused, IsRunTaken};
-ghost use Rattle.damon_app.specs.Heating.{HandsOver, TellsNext, columns_in, tables_of, tables_text};
+ghost use Rattle.damon_app.specs.Heating.{HandsOver, WritesNext, columns_in, tables_of, tables_text};
 ghost use Rattle.damon_app.specs.declared.request.Request.TheVariants.{Heat as heat};
 
 use crate::request::Columns;
@@ -112,9 +112,19 @@ fn write_next<const N: usize, K: Sink>(
 ) -> Result<bool, Status>
     requires some { 1 ≤ N }
     requires few { N ≤ 4096 }
-    ensures on { result ≡ Ok true → TellsNext N
-        (record { replay = replayer.old; sizes = sizes.old; piece = piece.old.items; taken = K.taken sink.old })
-        (record { replay = replayer.new; sizes = sizes.new; piece = piece.new.items; taken = K.taken sink.new }) }
+    ensures on { result ≡ Ok true → WritesNext N
+        (record {
+          replay = replayer.old;
+          sizes = sizes.old;
+          piece = piece.old.items;
+          taken = K.taken sink.old;
+        })
+        (record {
+          replay = replayer.new;
+          sizes = sizes.new;
+          piece = piece.new.items;
+          taken = K.taken sink.new;
+        }) }
     ensures less { result ≡ Ok true → replayer.new.left < replayer.old.left }
     ensures end { result ≡ Ok false → (states : List State) (last : State)
         → Leads states last replayer.old → states ≡ [] }

@@ -18,8 +18,8 @@ pub enum Request {
     Report { form: Form },
     /// To check the text of a journal, and to write a line of its counts: `verify`.
     Verify,
-    /// To check the text of a journal, and to write its heat tables with so many columns for each target:
-    /// `heat N`.
+    /// To check the text of a journal, and to write its heat tables with this number of columns for each
+    /// target: `heat N`.
     Heat { columns: Columns },
     /// To run the generated script of a number, and to write a line about it: `gen N`. Nothing is
     /// read.

@@ -89,3 +89,12 @@ least_counts = refl
 -- a scheme with marks is not tuned
 marks_are_left_alone : change_at (tuned_by (goal ∷ []) (scheme 40960 (Some (record { high = 9; mid = 5; low = 1 })))) 0 (metric 200) ≡ None
 marks_are_left_alone = refl
+
+-- the bytes after changes by one metric after another
+abbrev after_metrics : List ℕ → TunerView → TunerView
+after_metrics [] t = t
+after_metrics (value ∷ values) t = after_metrics values (after_change (change_at t 0 (metric value)) t)
+
+-- they fall to the low bound, and rise again by half
+rises_after_a_fall : bytes_at (after_metrics (50 ∷ 200 ∷ 50 ∷ []) (tuned_by (goal ∷ []) (scheme 40960 None))) 0 ≡ Some 6144
+rises_after_a_fall = refl

@@ -1,17 +1,19 @@
 -- What a world and callbacks make together.
-use Rattle.std.proofs.Common.{◌≡◌, ℕ, ◌*◌, List, [], ◌∷◌, ◌++◌, refl, sym, ap, ◌∙◌, subst, append_assoc, append-nil}
+use Rattle.std.proofs.Common.{◌≡◌, ℕ, ◌*◌, List, [], ◌∷◌, ◌++◌, refl, sym, ap, ◌∙◌, subst, append_assoc, append-nil, min}
 use Rattle.std.specs.List.{AllByRecursion}
 use Rattle.rand_core.specs.Stream.{Stream}
 use Rattle.live_commit.specs.declared.phase.Phase.TheVariants.{Due}
+use Rattle.live_commit.specs.declared.phase.Phase.{Phase}
 use Rattle.live_commit.specs.Commit.{CommitValue}
 use Rattle.damon_core.specs.After.{after}
 use Rattle.damon_core.specs.Commit.{commit_answer}
 use Rattle.damon_core.specs.Event.{Event, Fits, aggregate, commit}
 use Rattle.damon_core.specs.Makes.{AllFit-append, Makes, Reached-run}
 use Rattle.damon_core.specs.Reached.{AllFit, Reached}
-use Rattle.damon_core.specs.Stands.{Stands}
-use Rattle.damon_core.specs.State.{Core, State}
+use Rattle.damon_core.specs.Stands.{MonitorView, Stands}
+use Rattle.damon_core.specs.State.{Core, State, row_count}
 use Rattle.sampler.specs.Draws.{drawn}
+use Rattle.damon_world.specs.Advance.{steps_of_kind}
 use Rattle.damon_world.specs.Moment.{Moment, along, event_in, events_of_steps, moved, next_event}
 use Rattle.damon_world.specs.Plays.{Plays, Reached-along, along-append, along-state}
 use Rattle.damon_world.specs.Stands.{StandsFor, WorldView}
@@ -154,6 +156,13 @@ module _ {R C : Type 0} (stream : R → Stream) (c : Callbacks) (stands : C → 
   due_at : (w : WorldView R) (k : C) (r : Course) → w.monitor.core.phase ≡ Due → StandAt stream stands w k r → r.moment.state.core.phase ≡ Due
   due_at w k r due here = ap (λ (q : Core). q.phase) (sym here.world.state.monitor.same) ∙ due
 
+  -- the aggregation that is due is one step
+  pub one_step : (w w' : WorldView R) (n : ℕ) → w.monitor.core.phase ≡ Due → n ≡ min 1 (steps_of_kind w.monitor.core.phase (row_count w.monitor.core))
+      → Plays stream w w' (λ m. events_of_steps n m) → Plays stream w w' (λ m. events_of_steps 1 m)
+  one_step w w' n due count plays =
+      let one : n ≡ 1 = count ∙ ap (λ (ph : Phase). min 1 (steps_of_kind ph (row_count w.monitor.core))) due in
+      subst (λ i. Plays stream w w' (λ m. events_of_steps i m)) one plays
+
   -- the random words of the next aggregation
   abbrev pub words_at : Course → List ℕ
   words_at r = drawn (2 * r.moment.state.core.attrs.max) r.moment.stream
@@ -171,9 +180,13 @@ module _ {R C : Type 0} (stream : R → Stream) (c : Callbacks) (stands : C → 
         shows = subst (λ e. Stands w'.monitor (after r.moment.state e)) is made.1.state.monitor;
       }
 
+  -- the callbacks stand for the state after each aggregation that they may have been told of
+  abbrev pub GoesAlong : (monitor : MonitorView) (k k' : C) → Type 0
+  GoesAlong monitor k k' = (memory : List ℕ) (s : State) (words : List ℕ) → IsAggregated (λ memory s. stands k memory s) monitor memory s words
+      → stands k' (remembered c memory s (aggregate words)) (after s (aggregate words))
+
   pub aggregation_plays : (w w' : WorldView R) (k k' : C) → w.monitor.core.phase ≡ Due → Plays stream w w' (λ m. events_of_steps 1 m)
-      → ((memory : List ℕ) (s : State) (words : List ℕ) → IsAggregated (λ memory s. stands k memory s) w'.monitor memory s words
-      → stands k' (remembered c memory s (aggregate words)) (after s (aggregate words)))
+      → GoesAlong w'.monitor k k'
       → PlaysOne w w' k k' (λ r. next_event r.moment.state r.moment.stream)
   aggregation_plays w w' k k' due plays follow r reached here =
       let made = plays r.moment reached here.world in
@@ -187,10 +200,14 @@ module _ {R C : Type 0} (stream : R → Stream) (c : Callbacks) (stands : C → 
         },
       )
 
+  pub somewhere-aggregated : (w w' : WorldView R) (k k' : C) → w.monitor.core.phase ≡ Due → Plays stream w w' (λ m. events_of_steps 1 m)
+      → GoesAlong w'.monitor k k' → StandSomewhere stream stands w k → StandSomewhere stream stands w' k'
+  somewhere-aggregated w w' k k' due plays follow there =
+      somewhere-one w w' k k' (λ r. next_event r.moment.state r.moment.stream) (aggregation_plays w w' k k' due plays follow) there
+
   -- the text of the aggregation that was due and the lines of callbacks
   pub aggregation_writes : (w w' : WorldView R) (k k' : C) (form : Form) (x y z : List ℕ) → w.monitor.core.phase ≡ Due → Plays stream w w' (λ m. events_of_steps 1 m)
-      → ((memory : List ℕ) (s : State) (words : List ℕ) → IsAggregated (λ memory s. stands k memory s) w'.monitor memory s words
-      → stands k' (remembered c memory s (aggregate words)) (after s (aggregate words)))
+      → GoesAlong w'.monitor k k'
       → y ≡ x ++ aggregate_text form (printed_monitor w'.monitor)
       → ((memory : List ℕ) (s : State) (words : List ℕ) → stands k' memory s → Stands w'.monitor s → z ≡ y ++ c.writes memory s (aggregate words))
       → WritesOne w k form x z (λ r. next_event r.moment.state r.moment.stream)

@@ -3,10 +3,10 @@ ghost use Rattle.script_run.specs.BoundAlong.{EachRunIsBound, EachScriptIsBound}
 ghost use Rattle.script_run.specs.Choices.{EachChoiceIsBest, EachRunChoosesBest};
 ghost use Rattle.script_run.specs.Reaching.{ReachTheirPhase};
 
-/// What holds of each script within its limits holds with all callbacks whose events fit where they are put in:
-/// the events of the script with these fit from the opening of its setup, each state to which a prefix of
-/// them leads is bound, and each aggregation applies each set and active scheme to the best choice. No
-/// code is run for it.
+/// What holds of each script within its limits holds with all callbacks whose events fit where they are
+/// put in: the events of the script with these fit from the opening of its setup, each state to which a
+/// prefix of them leads is bound, and each aggregation applies each set and active scheme to the best
+/// choice. No code is run for it.
 pub fn each_run_with_callbacks_is_bound()
     ensures bound { EachRunIsBound }
     ensures choices { EachRunChoosesBest }

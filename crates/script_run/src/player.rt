@@ -98,7 +98,7 @@ impl<R: Rng + Drop, C: Callbacks + Drop> Player<R, C> {
         Ok(Filled::Piece)
     }
 
-    // Makes the next events of a kind or begins the next command. False where no event is left.
+    // Makes the next events of a kind or begins the next command. False if no event is left.
     fn go_on(&mut self, alloc: Global, out: &mut Vec<u8>) -> Result<bool, AllocError>
         ensures on { OnOk result (GoesOnWith R.stream C.callbacks C.stands_for self.old self.new
             out.old.items out.new.items) }
@@ -186,8 +186,8 @@ impl<R: Rng + Drop, C: Callbacks + Drop> Player<R, C> {
         }
     }
 
-    // Begins the next command; a commit is made at once, with those that are put in after it. False where
-    // there is none.
+    // Begins the next command; a commit is made at once, with those that are put in after it. False if
+    // no command is left.
     fn begin_next(&mut self, alloc: Global, out: &mut Vec<u8>) -> Result<bool, AllocError>
         requires { is_done self.old.part self.old.world.monitor.core.phase ≡ true }
         ensures on { OnOk result (GoesOnWith R.stream C.callbacks C.stands_for self.old self.new

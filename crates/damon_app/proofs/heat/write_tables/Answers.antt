@@ -7,12 +7,12 @@ use Rattle.damon_journal.specs.declared.status.Status.TheVariants.{WriteFault}
 use Rattle.text_io.specs.Taken.{WritesPart}
 use Rattle.damon_app.specs.Heating.{tables_text}
 use Rattle.damon_app.proofs.Known.{WritesPart-whole}
-use Rattle.damon_app.proofs.Heating.{Rose-before, told_first, told_kept, told_last, told_next, told_part, told_same, told_whole}
+use Rattle.damon_app.proofs.Heating.{Rose-before, written_first, told_kept, told_last, written_next, told_part, told_same, told_whole}
 use Rattle.damon_app.proofs.heat.write_tables.Goals as goal
 
 pub reports-init : goal.reports-init
 reports-init g c = record {
-  told = λ states last leads. told_first g.row.N states last c.args.replayer.now c.new-sizes.result c.new-piece.result.items (g.K.Sink.taken c.args.sink.now) c.new-sizes.ensures c.new-piece.ensures.items leads;
+  told = λ states last leads. written_first g.row.N states last c.args.replayer.now c.new-sizes.result c.new-piece.result.items (g.K.Sink.taken c.args.sink.now) c.new-sizes.ensures c.new-piece.ensures.items leads;
   later = omega arith;
 }
 
@@ -34,7 +34,7 @@ pub reports-preserved : goal.reports-preserved
 reports-preserved g c =
     let taken = g.K.Sink.taken in
     record {
-      told = λ states last leads. told_next g.row.N states last c.reports.replayer c.reports.sizes c.reports.piece.items (taken c.args.sink.now) (taken c.reports.sink)
+      told = λ states last leads. written_next g.row.N states last c.reports.replayer c.reports.sizes c.reports.piece.items (taken c.args.sink.now) (taken c.reports.sink)
           (c.reports.invariant.told states last leads) c.write_next.new.replayer c.write_next.new.sizes c.write_next.new.piece.items (taken c.write_next.new.sink)
           (c.in_ok-write_next.ensures.on (ap (λ b. Ok b) c.if-branch.true));
       later = omega (arith, c.reports.invariant.later, c.in_ok-write_next.ensures.later);

@@ -1,13 +1,13 @@
 use Rattle.std.proofs.Common.{◌≤◌, List}
 use Rattle.damon_core.specs.State.{State}
 use Rattle.damon_journal.specs.Replayer.{Leads}
-use Rattle.damon_app.proofs.Heating.{AreTold}
+use Rattle.damon_app.proofs.Heating.{AreWritten}
 use Rattle.damon_app.proofs.heat.write_tables.Given as goal
 
 -- the sink took the tables of the states that are done, but for those in the piece
 abbrev pub invariant-reports : goal.invariant-reports
 invariant-reports g l = record {
-  told : (states : List State) (last : State) → Leads states last l.fn.replayer → AreTold g.row.N states last l.replayer l.sizes l.piece.items (g.K.Sink.taken l.fn.sink) (g.K.Sink.taken l.sink);
+  told : (states : List State) (last : State) → Leads states last l.fn.replayer → AreWritten g.row.N states last l.replayer l.sizes l.piece.items (g.K.Sink.taken l.fn.sink) (g.K.Sink.taken l.sink);
   later : g.K.Sink.faults l.fn.sink ≤ g.K.Sink.faults l.sink;
 }
 

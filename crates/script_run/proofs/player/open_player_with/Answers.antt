@@ -47,7 +47,7 @@ invariant_of-result g c =
         subst (λ sp. ArePartsWithin (pages_of sp) (parts_of s.setup.cap cs)) space
             (parts_within s.setup.cap (pages_of s.setup.space) cs c.requires.within),
       );
-      work = omega (arith, left_in-parts s.setup.cap cs, sum_by-cons (λ q. 1 + left_of q) (part.Touches 0 0) (parts_of s.setup.cap cs), c.requires.work, c.len-commands.ensures, c.len-commands.auto.0, ap (λ x. x.ticks) c.in_ok-world.ensures.core);
+      work = omega (arith, left_in-parts s.setup.cap cs, sum_by-cons (λ q. 1 + left_of q) (part.Touches 0 0) (parts_of s.setup.cap cs), c.requires.work, c.len-commands.ensures, ap (λ x. x.ticks) c.in_ok-world.ensures.core);
     }
 
 pub returns : goal.returns

@@ -1,18 +1,11 @@
-use Rattle.std.proofs.Common.{◌≡◌, ℕ, List, ◌++◌, min, sym, ap, ◌∙◌, subst}
+use Rattle.std.proofs.Common.{◌++◌, sym, ap, ◌∙◌, subst}
 use Rattle.std.proofs.lemmas.Result.{err_from_is_err_and}
-use Rattle.live_commit.specs.declared.phase.Phase.{Phase}
-use Rattle.damon_core.specs.After.{after}
-use Rattle.damon_core.specs.Event.{aggregate}
 use Rattle.damon_core.specs.Stands.{Stands}
-use Rattle.damon_core.specs.State.{State, row_count}
-use Rattle.damon_world.specs.Advance.{steps_of_kind}
-use Rattle.damon_world.specs.Moment.{events_of_steps, next_event}
-use Rattle.damon_world.specs.Plays.{Plays}
+use Rattle.damon_world.specs.Moment.{next_event}
 use Rattle.snapshot_print.specs.Lines.{aggregate_text}
 use Rattle.snapshot_print.specs.Printed.{printed_monitor}
-use Rattle.script_run.specs.Callbacks.{remembered}
 use Rattle.script_run.specs.Calls.{IsAggregated}
-use Rattle.script_run.proofs.Making.{aggregated_at, aggregation_plays, aggregation_puts, aggregation_writes, made-puts, somewhere-one, words_at}
+use Rattle.script_run.proofs.Making.{GoesAlong, aggregated_at, aggregation_plays, aggregation_puts, aggregation_writes, made-puts, one_step, somewhere-aggregated, words_at}
 use Rattle.script_run.proofs.Moves.{OnErr-map, OnOk-map, keeps-more, keeps-none}
 use Rattle.script_run.proofs.together.make_aggregation.Goals as goal
 
@@ -24,12 +17,12 @@ after_aggregation-requires g c =
     let old = c.args.world.now in
     let new = c.advance.new.self in
     let kk = c.args.callbacks.now in
-    let one : c.advance.result ≡ 1 = c.advance.ensures.count ∙ ap (λ (ph : Phase). min 1 (steps_of_kind ph (row_count old.monitor.core))) c.requires.due in
-    let plays = subst (λ n. Plays stream old new (λ m. events_of_steps n m)) one c.advance.ensures.plays in
+    let plays = one_step stream k stands old new c.advance.result c.requires.due c.advance.ensures.count c.advance.ensures.plays in
     let there = c.requires.somewhere in
     let r = there.course in
     let words = words_at stream k stands r in
-    (r.memory, r.moment.state, words, subst (λ v. IsAggregated (λ memory t. stands kk memory t) v r.memory r.moment.state words) (sym c.monitor.ensures) (aggregated_at stream k stands old new kk c.requires.due plays r there.reached there.here))
+    let is = aggregated_at stream k stands old new kk c.requires.due plays r there.reached there.here in
+    (r.memory, r.moment.state, words, subst (λ v. IsAggregated (λ memory t. stands kk memory t) v r.memory r.moment.state words) (sym c.monitor.ensures) is)
 
 pub put_in-requires : goal.put_in-requires
 put_in-requires g c =
@@ -39,12 +32,10 @@ put_in-requires g c =
     let old = c.args.world.now in
     let new = c.advance.new.self in
     let kk = c.args.callbacks.now in
-    let one : c.advance.result ≡ 1 = c.advance.ensures.count ∙ ap (λ (ph : Phase). min 1 (steps_of_kind ph (row_count old.monitor.core))) c.requires.due in
-    let plays = subst (λ n. Plays stream old new (λ m. events_of_steps n m)) one c.advance.ensures.plays in
+    let plays = one_step stream k stands old new c.advance.result c.requires.due c.advance.ensures.count c.advance.ensures.plays in
     let told = c.after_aggregation in
-    let follow : (memory : List ℕ) (s : State) (words : List ℕ) → IsAggregated (λ memory t. stands kk memory t) new.monitor memory s words → stands told.new.self (remembered k memory s (aggregate words)) (after s (aggregate words)) =
-    λ memory s words is. told.ensures.stands memory s words (subst (λ v. IsAggregated (λ memory t. stands kk memory t) v memory s words) (sym c.monitor.ensures) is) in
-    somewhere-one stream k stands old new kk told.new.self (λ r. next_event r.moment.state r.moment.stream) (aggregation_plays stream k stands old new kk told.new.self c.requires.due plays follow) c.requires.somewhere
+    let follow = subst (λ v. GoesAlong stream k stands v kk told.new.self) c.monitor.ensures told.ensures.stands in
+    somewhere-aggregated stream k stands old new kk told.new.self c.requires.due plays follow c.requires.somewhere
 
 pub returns-in_err-print_aggregate-clause-err : goal.returns-in_err-print_aggregate-clause-err
 returns-in_err-print_aggregate-clause-err g c =
@@ -59,12 +50,10 @@ returns-in_err-print_aggregate-clause-somewhere g c =
     let old = c.args.world.now in
     let new = c.advance.new.self in
     let kk = c.args.callbacks.now in
-    let one : c.advance.result ≡ 1 = c.advance.ensures.count ∙ ap (λ (ph : Phase). min 1 (steps_of_kind ph (row_count old.monitor.core))) c.requires.due in
-    let plays = subst (λ n. Plays stream old new (λ m. events_of_steps n m)) one c.advance.ensures.plays in
+    let plays = one_step stream k stands old new c.advance.result c.requires.due c.advance.ensures.count c.advance.ensures.plays in
     let told = c.after_aggregation in
-    let follow : (memory : List ℕ) (s : State) (words : List ℕ) → IsAggregated (λ memory t. stands kk memory t) new.monitor memory s words → stands told.new.self (remembered k memory s (aggregate words)) (after s (aggregate words)) =
-    λ memory s words is. told.ensures.stands memory s words (subst (λ v. IsAggregated (λ memory t. stands kk memory t) v memory s words) (sym c.monitor.ensures) is) in
-    somewhere-one stream k stands old new kk told.new.self (λ r. next_event r.moment.state r.moment.stream) (aggregation_plays stream k stands old new kk told.new.self c.requires.due plays follow) c.requires.somewhere
+    let follow = subst (λ v. GoesAlong stream k stands v kk told.new.self) c.monitor.ensures told.ensures.stands in
+    somewhere-aggregated stream k stands old new kk told.new.self c.requires.due plays follow c.requires.somewhere
 
 pub returns-in_err-append_lines-clause-err : goal.returns-in_err-append_lines-clause-err
 returns-in_err-append_lines-clause-err g c =
@@ -79,12 +68,10 @@ returns-in_err-append_lines-clause-somewhere g c =
     let old = c.args.world.now in
     let new = c.advance.new.self in
     let kk = c.args.callbacks.now in
-    let one : c.advance.result ≡ 1 = c.advance.ensures.count ∙ ap (λ (ph : Phase). min 1 (steps_of_kind ph (row_count old.monitor.core))) c.requires.due in
-    let plays = subst (λ n. Plays stream old new (λ m. events_of_steps n m)) one c.advance.ensures.plays in
+    let plays = one_step stream k stands old new c.advance.result c.requires.due c.advance.ensures.count c.advance.ensures.plays in
     let told = c.after_aggregation in
-    let follow : (memory : List ℕ) (s : State) (words : List ℕ) → IsAggregated (λ memory t. stands kk memory t) new.monitor memory s words → stands told.new.self (remembered k memory s (aggregate words)) (after s (aggregate words)) =
-    λ memory s words is. told.ensures.stands memory s words (subst (λ v. IsAggregated (λ memory t. stands kk memory t) v memory s words) (sym c.monitor.ensures) is) in
-    somewhere-one stream k stands old new kk told.new.self (λ r. next_event r.moment.state r.moment.stream) (aggregation_plays stream k stands old new kk told.new.self c.requires.due plays follow) c.requires.somewhere
+    let follow = subst (λ v. GoesAlong stream k stands v kk told.new.self) c.monitor.ensures told.ensures.stands in
+    somewhere-aggregated stream k stands old new kk told.new.self c.requires.due plays follow c.requires.somewhere
 
 pub returns-clause-made : goal.returns-clause-made
 returns-clause-made g c =
@@ -94,11 +81,9 @@ returns-clause-made g c =
     let old = c.args.world.now in
     let new = c.advance.new.self in
     let kk = c.args.callbacks.now in
-    let one : c.advance.result ≡ 1 = c.advance.ensures.count ∙ ap (λ (ph : Phase). min 1 (steps_of_kind ph (row_count old.monitor.core))) c.requires.due in
-    let plays = subst (λ n. Plays stream old new (λ m. events_of_steps n m)) one c.advance.ensures.plays in
+    let plays = one_step stream k stands old new c.advance.result c.requires.due c.advance.ensures.count c.advance.ensures.plays in
     let told = c.after_aggregation in
-    let follow : (memory : List ℕ) (s : State) (words : List ℕ) → IsAggregated (λ memory t. stands kk memory t) new.monitor memory s words → stands told.new.self (remembered k memory s (aggregate words)) (after s (aggregate words)) =
-    λ memory s words is. told.ensures.stands memory s words (subst (λ v. IsAggregated (λ memory t. stands kk memory t) v memory s words) (sym c.monitor.ensures) is) in
+    let follow = subst (λ v. GoesAlong stream k stands v kk told.new.self) c.monitor.ensures told.ensures.stands in
     let x = c.args.out.now.items in
     let y = c.print_aggregate.new.out.items in
     let z = c.append_lines.new.out.items in
@@ -106,10 +91,11 @@ returns-clause-made g c =
     let grew = c.in_ok-print_aggregate.ensures.ok ∙ ap (λ v. x ++ aggregate_text form (printed_monitor v)) c.monitor-2.ensures in
     let writes = aggregation_writes stream k stands old new kk told.new.self form x y z c.requires.due plays follow grew
     (λ memory s words stood shows. c.in_ok-append_lines.ensures.ok memory s words stood (subst (λ v. Stands v s) (sym c.monitor-3.ensures) shows)) in
+    let pending = g.C.Callbacks.pending told.new.self in
     OnOk-map c.put_in.result
-    (λ rest. made-puts stream k stands old new c.put_in.new.world kk told.new.self c.put_in.new.callbacks form x z c.put_in.new.out.items (λ r. next_event r.moment.state r.moment.stream) (g.C.Callbacks.pending told.new.self)
+    (λ rest. made-puts stream k stands old new c.put_in.new.world kk told.new.self c.put_in.new.callbacks form x z c.put_in.new.out.items (λ r. next_event r.moment.state r.moment.stream) pending
     (aggregation_plays stream k stands old new kk told.new.self c.requires.due plays follow) writes rest
-    (aggregation_puts stream k stands old new kk (g.C.Callbacks.pending told.new.self) c.requires.due plays (λ memory s words is. told.ensures.puts memory s words (subst (λ v. IsAggregated (λ memory t. stands kk memory t) v memory s words) (sym c.monitor.ensures) is))))
+    (aggregation_puts stream k stands old new kk pending c.requires.due plays (λ memory s words is. told.ensures.puts memory s words (subst (λ v. IsAggregated (λ memory t. stands kk memory t) v memory s words) (sym c.monitor.ensures) is))))
     c.put_in.ensures.made
 
 pub returns-clause-err : goal.returns-clause-err
@@ -120,11 +106,9 @@ returns-clause-err g c =
     let old = c.args.world.now in
     let new = c.advance.new.self in
     let kk = c.args.callbacks.now in
-    let one : c.advance.result ≡ 1 = c.advance.ensures.count ∙ ap (λ (ph : Phase). min 1 (steps_of_kind ph (row_count old.monitor.core))) c.requires.due in
-    let plays = subst (λ n. Plays stream old new (λ m. events_of_steps n m)) one c.advance.ensures.plays in
+    let plays = one_step stream k stands old new c.advance.result c.requires.due c.advance.ensures.count c.advance.ensures.plays in
     let told = c.after_aggregation in
-    let follow : (memory : List ℕ) (s : State) (words : List ℕ) → IsAggregated (λ memory t. stands kk memory t) new.monitor memory s words → stands told.new.self (remembered k memory s (aggregate words)) (after s (aggregate words)) =
-    λ memory s words is. told.ensures.stands memory s words (subst (λ v. IsAggregated (λ memory t. stands kk memory t) v memory s words) (sym c.monitor.ensures) is) in
+    let follow = subst (λ v. GoesAlong stream k stands v kk told.new.self) c.monitor.ensures told.ensures.stands in
     let x = c.args.out.now.items in
     let y = c.print_aggregate.new.out.items in
     let z = c.append_lines.new.out.items in
