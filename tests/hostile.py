@@ -5,8 +5,8 @@
 
 OTHER_DAMON and OTHER_DAMOND are programs with the same formats. Each input is a valid or a rejected text with one to
 four edits: of bytes, of words, of lines, or one that is aimed at a rule of the formats (`hostile_edits.py`). It is
-given to both programs, with `replay`, `json`, `verify`, `heat 16` or `run`. Both must write the same bytes to standard output
-and to standard error and end with the same status. Two runs of `damond run` in threads may write two journals; there
+given to both programs, with `replay`, `json`, `reclaim`, `tune` and two goals, `verify`, `heat 16` or `run`. Both must write
+the same bytes to standard output and to standard error and end with the same status. Two runs of `damond run` in threads may write two journals; there
 both programs must end alike, and each must accept the journal of either by its `verify`.
 
 Nothing is compared with an answer that was stored. What differs is printed, and its input is written to FOLDER. The
@@ -27,9 +27,9 @@ from hostile_edits import edited
 
 TOP = Path(__file__).resolve().parent.parent
 BUILT = {name: TOP / f"crates/{name}/out/{name}" for name in ("damon", "damond")}
-COMMANDS = ("replay", "json", "verify", "heat", "run")
+COMMANDS = ("replay", "json", "reclaim", "tune", "verify", "heat", "run")
 # The words after a command.
-WORDS = {"heat": ("16",)}
+WORDS = {"heat": ("16",), "tune": ("0:metric:100:4096:81920", "1:cold:700:0:40960")}
 # A longer text is left out: most of its edits are far from the places where rules meet.
 MOST_BYTES = 20_000
 SECONDS = 60
@@ -105,7 +105,8 @@ def load_seeds(with_live: bool) -> Dict[str, List[bytes]]:
         text = file.read_bytes()
         if len(text) <= MOST_BYTES:
             seeds["run" if text.startswith(b"damon live") else "replay"].append(text)
-    seeds["json"] = seeds["json"] + seeds["replay"]
+    for command in ("json", "reclaim", "tune"):
+        seeds[command] = seeds[command] + seeds["replay"]
     seeds["heat"] = seeds["heat"] + seeds["verify"]
     seeds["run"] = [it for it in seeds["run"] + live_scripts(seeds["replay"]) if with_live]
     return seeds

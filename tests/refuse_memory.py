@@ -101,8 +101,8 @@ def runs() -> Iterator[Run]:
         if text.startswith(b"damon live"):
             yield Run(f"damond run < {file.name}", DAMOND, ["run"], text)
         else:
-            for word in ("replay", "json"):
-                yield Run(f"damon {word} < {file.name}", DAMON, [word], text)
+            for words in (["replay"], ["json"], ["reclaim"], ["tune", "0:cold:500:4096:81920"]):
+                yield Run(f"damon {' '.join(words)} < {file.name}", DAMON, words, text)
     for file in sorted((TOP / "examples").glob("*.journal")):
         yield Run(f"damon verify < {file.name}", DAMON, ["verify"], file.read_bytes())
     for file in sorted((TOP / "examples").glob("*.journal.xz")):

@@ -110,6 +110,16 @@ def with_schemes(times: int) -> bytes:
     return aggregations(times, tuple(sixteen_schemes()))
 
 
+def paging(times: int) -> bytes:
+    """Pages are put out that are cold in an aggregation, and fetched back by half of the rest."""
+    return aggregations(times, ("scheme 0 pageout count=0,0", "scheme 1 willneed count=1,4294967295 quota=8388608,1"))
+
+
+def tuning(times: int) -> bytes:
+    """A scheme whose quota may follow a goal."""
+    return aggregations(times, ("scheme 0 pageout count=0,0 quota=8388608,1 prefer=cold",))
+
+
 def live(sweeps_each: int) -> bytes:
     """Eight workers that sweep 4,096 pages at a time, two controllers, and the most passes with 4,096 regions."""
     choose = random.Random(7)
@@ -143,6 +153,8 @@ VERIFY = ("verify",)
 HEAT = ("heat", "64")
 RUN = ("run",)
 JSON = ("json",)
+RECLAIM = ("reclaim",)
+TUNE = ("tune", "0:cold:980:4096:8388608")
 WORKLOADS = (
     Workload("sweeps", "pages in each of 16 sweeps", REPLAY, (MILLION, 104_858, 10_486), sweeps),
     Workload("passes", "passes over 4,000 regions of 1,048,576 pages", REPLAY, (1000, 100, 10), passes(MILLION)),
@@ -155,6 +167,9 @@ WORKLOADS = (
     Workload("showing", "shows of 4,096 regions", REPLAY, (1000, 100, 10), showing),
     Workload("json", "aggregations of some 3,700 regions as JSON", JSON, (366, 36, 4), aggregations),
     Workload("json schemes", "such aggregations with 16 schemes", JSON, (366, 36, 4), with_schemes),
+    Workload("reclaim", "aggregations of some 3,700 regions, with pages put out and fetched", RECLAIM, (366, 36, 4), paging),
+    Workload("reclaim touches", "touches", RECLAIM, (800_000, 80_000, 8_000), reading),
+    Workload("tune", "aggregations of some 3,700 regions, with a goal", TUNE, (366, 36, 4), tuning),
     Workload("verify", "touches of each of 8 workers, 2,000 passes", VERIFY, (70_000, 7_000, 700), journal_of(small_live)),
     Workload("verify wide", "sweeps of each of 8 workers over 1,048,576 pages", VERIFY, (10, 1), journal_of(live)),
     Workload("heat", "touches of each of 8 workers, 2,000 passes", HEAT, (20_000, 2_000, 200), journal_of(small_live)),

@@ -58,6 +58,8 @@ def commands() -> Iterator[Command]:
     script = (TOP / "examples/cold.damon").read_bytes()
     yield Command(DAMON, ["replay"], script)
     yield Command(DAMON, ["json"], script)
+    yield Command(DAMON, ["reclaim"], script)
+    yield Command(DAMON, ["tune", "0:cold:500:4096:81920"], script)
     journal = (TOP / "examples/live.journal").read_text()
     yield Command(DAMON, ["verify"], journal.encode())
     yield Command(DAMON, ["heat", "8"], aggregated(journal).encode())

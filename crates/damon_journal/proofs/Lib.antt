@@ -67,3 +67,4 @@ pub mod KeptEntries
 pub mod OnWay
 pub mod Starting
 pub mod AggregatedExamples
+mod Packing

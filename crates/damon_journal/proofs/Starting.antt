@@ -29,7 +29,7 @@ pub record IsNew (k : Kept) (r : ReplayingView) : Type 0 where
   pub drawn : r.drawn ≡ 0
 
 pub starts : (k : Kept) (r : ReplayingView) → IsNew k r → (v : LiveValue) (j : JournalValue) → IsJournalOf v j → IsKept v j k
-    → Leads (aggregated v j) (replay v j).state (replayer_of r k.bits.items k.calls.items k.entries 0 0 0)
+    → Leads (aggregated v j) (replay v j).state (replayer_of r k.bits k.calls.items k.entries 0 0 0)
 starts k r new v j is kept =
     let bits = sym (kept.bits_are new.keeping) in
     record {
@@ -48,7 +48,7 @@ starts k r new v j is kept =
       drawn = omega (arith, new.drawn);
     }
 
-pub starts_on_way : (k : Kept) (r : ReplayingView) → IsNew k r → IsOfJournal k → IsOnWay (replayer_of r k.bits.items k.calls.items k.entries 0 0 0)
+pub starts_on_way : (k : Kept) (r : ReplayingView) → IsNew k r → IsOfJournal k → IsOnWay (replayer_of r k.bits k.calls.items k.entries 0 0 0)
 starts_on_way k r new of = (aggregated of.0 of.1, (replay of.0 of.1).state, starts k r new of.0 of.1 of.2 of.3)
 
 -- what was read is a lawful journal, so it is of a script

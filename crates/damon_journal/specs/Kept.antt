@@ -29,7 +29,7 @@ pub record IsKept (v : LiveValue) (j : JournalValue) (k : Kept) : Type 0 where
   pub seed : v.seed ≡ k.seed
   pub setup : v.setup ≡ value_of k.setup
   pub entries : k.entries ≡ length j.entries
-  pub bits_are : k.keeping ≡ Everything → k.bits.items ≡ j.bits
+  pub bits_are : k.keeping ≡ Everything → k.bits ≡ j.bits
   pub calls_are : k.keeping ≡ Everything → map kept_call k.calls.items ≡ calls_from v 0 j.entries
 
 -- one entry more is kept, with these results and these calls
@@ -38,7 +38,7 @@ pub record GainsEntry (old new : Kept) (bits : List Bool) (calls : List (ℕ × 
   pub seed : new.seed ≡ old.seed
   pub setup : new.setup ≡ old.setup
   pub entries : new.entries ≡ old.entries + 1
-  pub bits_are : old.keeping ≡ Everything → new.bits.items ≡ old.bits.items ++ bits
+  pub bits_are : old.keeping ≡ Everything → new.bits ≡ old.bits ++ bits
   pub calls_are : old.keeping ≡ Everything → map kept_call new.calls.items ≡ map kept_call old.calls.items ++ calls
 
 -- what is kept is that of a journal of a script

@@ -32,5 +32,6 @@ pub mod Verified
 pub mod CallLine
 pub mod Limits
 pub mod Aggregated
+pub mod Bits
 pub mod Kept
 pub mod Replayer

@@ -6,6 +6,7 @@ ghost use Rattle.damon_journal.specs.Kept.{GainsEntry, IsKept};
 ghost use Rattle.damon_journal.specs.Place.{uncalled};
 ghost use Rattle.damon_journal.specs.Room.{nothing_said};
 
+use crate::bits::BitList;
 use damon_control::{Call, JournalHead};
 use live_commit::Setup;
 use std::alloc::{AllocError, Global};
@@ -32,7 +33,7 @@ pub(crate) struct Kept {
     pub seed: u64,
     pub setup: Setup,
     pub entries: u32,
-    pub bits: Vec<bool>,
+    pub bits: BitList,
     pub calls: Vec<KeptCall>,
 }
 
@@ -49,7 +50,7 @@ impl Kept {
             seed,
             setup,
             entries: 0,
-            bits: Vec::new(alloc),
+            bits: BitList::new(alloc),
             calls: Vec::new(alloc),
         }
     }
@@ -69,7 +70,7 @@ impl Kept {
     {
         match self.keeping {
             Keeping::Nothing => {}
-            Keeping::Everything => self.bits.extend_from_slice(bits)?,
+            Keeping::Everything => self.bits.extend(bits)?,
         }
         self.entries += 1;
         Ok(())

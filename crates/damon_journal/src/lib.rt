@@ -4,6 +4,8 @@
 
 /// Receipts that are read ahead.
 mod ahead;
+/// Results that are kept as bits.
+mod bits;
 /// Receipts that are found by their tags.
 mod by_tag;
 /// The calls of controllers.

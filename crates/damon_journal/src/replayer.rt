@@ -12,6 +12,7 @@ ghost use Rattle.damon_journal.specs.Replay.{IsJournalOf, JournalValue, replay};
 ghost use Rattle.damon_journal.specs.Replayer.{HasStepped, KeepsWay, Leads, ReachesLast, ReachesNext, ReadsRun, StandsForReached};
 ghost use Rattle.damon_journal.specs.Verified.{IsOfNoLawfulRun};
 
+use crate::bits::{BitList, BitPlace, BitRun};
 use crate::kept::{Keeping, Kept, KeptCall};
 use crate::lawful::VerifyFault;
 use crate::laws::{read_journals_are_lawful, rejected_texts_are_unlawful, woven_runs};
@@ -29,25 +30,27 @@ use std::marker::Model;
 pub struct Replayer {
     replay: Replaying,
     // What is kept of the text: the results of all checks, all calls, and the number of entries.
-    bits: Vec<bool>,
+    bits: BitList,
     calls: Vec<KeptCall>,
     entries: u32,
-    // How many of each are done.
+    // How many entries and calls are done, and the place after the results that are.
     done: u32,
-    bits_done: usize,
+    bits_done: BitPlace,
     calls_done: usize,
 }
 
 impl Model for Replayer {
+    ghost use Rattle.damon_journal.specs.Bits.{place_of};
     ghost use Rattle.damon_journal.specs.Replayer.{IsOnWay, ReplayerView, replayer_of};
 
     ghost Value = { ReplayerView };
 
-    ghost view = { λ r. replayer_of r.replay r.bits.items r.calls.items r.entries r.done
-        r.bits_done r.calls_done };
+    ghost view = { λ r. replayer_of r.replay r.bits r.calls.items r.entries r.done
+        (place_of r.bits_done) r.calls_done };
 
     ghost invariant = { λ r. IsOnWay
-        (replayer_of r.replay r.bits.items r.calls.items r.entries r.done r.bits_done r.calls_done) };
+        (replayer_of r.replay r.bits r.calls.items r.entries r.done (place_of r.bits_done)
+        r.calls_done) };
 }
 
 impl Replayer {
@@ -170,9 +173,13 @@ impl Replayer {
         ensures shorter { self.new.left < self.old.left }
         ensures space { self.new.monitor.core.space ≡ self.old.monitor.core.space }
     {
-        let count = self.replay.monitor().rows().len() as usize;
-        self.replay.check(part(&self.bits, self.bits_done, count));
-        self.bits_done += count;
+        let count = self.replay.monitor().rows().len();
+        self.replay.check(&BitRun {
+            list: &self.bits,
+            start: self.bits_done,
+            count,
+        });
+        self.bits_done = self.bits.place_after(self.bits_done, count);
         self.done += 1;
     }
 
@@ -206,14 +213,6 @@ impl Replayer {
     }
 }
 
-// This many results from an index on.
-fn part(bits: &[bool], start: usize, count: usize) -> &[bool]
-    requires { start + count ≤ length bits.now }
-    ensures { result.now ≡ take count (drop start bits.now) }
-{
-    &bits[start..start + count]
-}
-
 // What is kept of a text, of which nothing is carried out yet.
 fn start(alloc: Global, kept: Kept) -> Result<Replayer, AllocError>
     requires keeping { kept.keeping ≡ Everything }
@@ -238,7 +237,7 @@ fn start(alloc: Global, kept: Kept) -> Result<Replayer, AllocError>
         calls,
         entries,
         done: 0,
-        bits_done: 0,
+        bits_done: BitPlace { word: 0, bit: 0 },
         calls_done: 0,
     })
 }

@@ -14,6 +14,7 @@ ghost use Rattle.damon_journal.specs.Replay.{call_answer};
 ghost use Rattle.damon_journal.specs.Replaying.{Carries, CarriesCall, CarriesKnown, IsReplayOf};
 ghost use Rattle.damon_journal.specs.Room.{nothing_said};
 
+use crate::bits::CheckResults;
 use crate::calls::make_call;
 use crate::entry::CallAnswer;
 use crate::laws::journals_grow;
@@ -99,12 +100,12 @@ impl Replaying {
     }
 
     // Takes the results of the picks, one for each, and ends the pass.
-    pub fn check(&mut self, bits: &[bool])
+    pub fn check<B: CheckResults>(&mut self, bits: &B)
         requires armed { self.old.monitor.core.phase ≡ Armed }
-        requires each { length bits.now ≡ row_count self.old.monitor.core }
+        requires each { length (B.results bits.now) ≡ row_count self.old.monitor.core }
         requires ticks { self.old.monitor.core.ticks < 2 ^ 40 }
         ensures entry { Carries self.old self.new
-            (Check (self.old.monitor.core.ticks + 1)) bits.now }
+            (Check (self.old.monitor.core.ticks + 1)) (B.results bits.now) }
         ensures ticks { self.new.monitor.core.ticks ≡ self.old.monitor.core.ticks + 1 }
         ensures drawn { self.new.drawn ≡ self.old.drawn }
         ensures space { self.new.monitor.core.space ≡ self.old.monitor.core.space }
@@ -170,15 +171,15 @@ impl Replaying {
 }
 
 // Hands the results of all picks to the monitor, one after another.
-fn load_all(monitor: &mut Monitor, bits: &[bool])
+fn load_all<B: CheckResults>(monitor: &mut Monitor, bits: &B)
     requires armed { monitor.old.core.phase ≡ Armed }
-    requires each { length bits.now ≡ row_count monitor.old.core }
+    requires each { length (B.results bits.now) ≡ row_count monitor.old.core }
     ensures core { monitor.new.core
-        ≡ record monitor.old.core { phase = phase_loaded (length bits.now) } }
-    ensures events { Makes Stands monitor.old monitor.new (map (λ bit. load bit) bits.now) }
+        ≡ record monitor.old.core { phase = phase_loaded (row_count monitor.old.core) } }
+    ensures events { Makes Stands monitor.old monitor.new (map (λ bit. load bit) (B.results bits.now)) }
 {
-    for k in 0..bits.len() {
-        monitor.loaded(bits[k]);
+    for k in 0..monitor.rows().len() {
+        monitor.loaded(bits.get(k));
     }
 }
 

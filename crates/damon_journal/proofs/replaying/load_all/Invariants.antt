@@ -6,6 +6,6 @@ use Rattle.damon_journal.specs.Phases.{phase_loaded}
 use Rattle.damon_journal.proofs.replaying.load_all.Given as goal
 
 abbrev pub invariant-loop-k : goal.invariant-loop-k
-invariant-loop-k l =
+invariant-loop-k g l =
     (l.monitor.core ≡ record l.initial.monitor.core { phase = phase_loaded l.k })
-    × Makes Stands l.initial.monitor l.monitor (map (λ bit. load bit) (take l.k l.bits))
+    × Makes Stands l.initial.monitor l.monitor (map (λ bit. load bit) (take l.k (g.B.CheckResults.results l.bits)))

@@ -11,11 +11,11 @@ use Rattle.damon_journal.proofs.Carrying.{carries_check, pass_ended}
 use Rattle.damon_journal.proofs.replaying.Replaying.check.Goals as goal
 
 pub returns : goal.returns
-returns c =
+returns g c =
     let s = c.self.inside in
     let old : ReplayingView = record { monitor = s.monitor; words = s.words; drawn = s.drawn } in
     let new : ReplayingView = record { monitor = c.observe.new.self; words = s.words; drawn = s.drawn } in
-    let bits = c.args.bits.now in
+    let bits = g.B.CheckResults.results c.args.bits.now in
     let armed = ap (λ (r : ReplayingView). r.monitor.core.phase) c.self.view_is ∙ c.requires.armed in
     let each = c.requires.each ∙ sym (ap (λ (r : ReplayingView). length r.monitor.core.regions.rows) c.self.view_is) in
     let made = Makes-append Stands s.monitor c.load_all.new.monitor c.observe.new.self (map (λ bit. load bit) bits) (observe ∷ []) c.load_all.ensures.events c.observe.ensures.event in
@@ -28,10 +28,8 @@ returns c =
     }
 
 pub observe-requires-clause-phase : goal.observe-requires-clause-phase
-observe-requires-clause-phase c =
+observe-requires-clause-phase g c =
     let m = c.self.inside.monitor in
     let rows = row_count m.core in
     let some : 0 < rows = c.rows-rows.ensures.some in
-    let each : length c.args.bits.now ≡ rows = c.requires.each ∙ sym (ap (λ (r : ReplayingView). row_count r.monitor.core) c.self.view_is) in
-    let shows : c.load_all.new.monitor.core ≡ record m.core { phase = phase_loaded rows } = c.load_all.ensures.core ∙ ap (λ n. record m.core { phase = phase_loaded n }) each in
-    subst (λ (d : Core). IsObserving d.phase (row_count d)) (sym shows) (all_observed rows some)
+    subst (λ (d : Core). IsObserving d.phase (row_count d)) (sym c.load_all.ensures.core) (all_observed rows some)
