@@ -149,7 +149,8 @@ class Measures(Searches):
 
     def test_measures_of_a_script_with_shows(self) -> None:
         trace = random_trace(7, 1200)
-        words = ("--interval", "10", "--aggr", "4", "--gap", "2", "--scheme", "scheme 2 pageout count=0,0 age=1,9")
+        words = ("--interval", "10", "--aggr", "4", "--gap", "2", "--scheme", "scheme 2 pageout count=0,0 age=1,9",
+                 "--scheme", "scheme 5 willneed count=1,9")
         text = script_of(trace, *words).replace("finish\narm", "finish\nshow\narm", 20)
         (self.folder / "a.damon").write_text(text)
         (self.folder / "own.toml").write_text('scripts = ["a.damon"]\n[measure]\nhot = 0.25\n')
@@ -281,11 +282,11 @@ class Failures(Searches):
                 self.assertEqual({row["status"] for row in self.rows(given)}, {status})
                 self.assertIn(f"{0 if status == 'ok' else 3} of the others have another status than ok", said)
 
-    def test_a_report_without_what_reclaim_says(self) -> None:
+    def test_reports_without_what_reclaim_says(self) -> None:
         (self.folder / "few.toml").write_text('command = "reclaim"\n' + SMALL)
-        program = self.program(f'exec {PROGRAM} replay')
-        rows = self.rows(self.search("few.toml", "few.csv", "--random", "1", program=program)[0])
-        self.assertEqual({row["status"] for row in rows}, {"the report does not say after each aggregation how many pages are out"})
+        for name, body in (("none", f"exec {PROGRAM} replay"), ("less", f"{PROGRAM} reclaim | sed '1,/^reclaim/{{/^reclaim/d}}'")):
+            rows = self.rows(self.search("few.toml", name, "--random", "1", program=self.program(body))[0])
+            self.assertEqual({row["status"] for row in rows}, {"the report does not say after each aggregation how many pages are out"})
 
     def test_a_commit_before_no_interval(self) -> None:
         (self.folder / "odd.toml").write_text('traces = ["a.trace"]\ncommits = ["{when}:metric 5"]\n[values]\nwhen = ["3", "x"]\n')
