@@ -34,9 +34,9 @@ The working set is the pages that were accessed, or those of regions with a coun
 
 A page goes out when `pageout` is applied to it, unless it is out already. It comes back with the
 first later aggregation in which it was accessed: a refault of the slot that put it out. Or it is
-fetched back when `willneed` is applied to it, and nothing else brings it back. So these are the
-numbers that `damon reclaim` has at its last aggregation. --moves also lists which pages went out at
-which tick, and at which tick they were back.
+fetched back when `willneed` is applied to it, and nothing else brings it back. So all slots together
+have the numbers that `damon reclaim` writes at its last aggregation. --moves also lists which pages
+went out at which tick, and at which tick they were back.
 """
 
 

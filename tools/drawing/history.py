@@ -69,7 +69,7 @@ class History:
     snapshots: list[Snapshot]
     """Aggregations, and shows that say what an accepted commit found; all shows if there is no aggregation. Ticks rise."""
     changes: list[Change]
-    """The commits up to the last snapshot."""
+    """The commits up to the last snapshot, but for those that `damon reclaim` puts in."""
     later: int
     """The number of commits after it."""
     slots: dict[int, Slot]
