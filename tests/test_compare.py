@@ -15,10 +15,15 @@ from pathlib import Path
 
 from tool_runs import PROGRAM, TOOLS, Refusals, need_program, random_trace, report_of, run, script_of
 
+from comparing.counts import applied_of, counts_of
+from comparing.paging import Moment, Paging
+from reports.events import Aggregation, Memory, Report
 from reports.pages import common, union, without
 
 TOOL = "compare.py"
 Page = tuple[int, int]
+SingleMove = tuple[int, Page, int, "int | None", bool]
+"""A slot, a page that it put out, the ticks at which it went and came back, and whether it was fetched back."""
 EXACT = """\
 aggregate tick=4 threshold=0 rows=3
 row 0 0x10000-0x11000 count=0 last=0 age=1
@@ -120,7 +125,7 @@ def found_numbers(exact: list[dict], found: list[dict], hot: float) -> list[list
 def slot_numbers(exact: list[dict], found: list[dict], after: int) -> tuple[list[list[str]], set]:
     """The numbers of the lines of slots, and the moves of single pages, followed page by page."""
     out: dict[Page, tuple[int, int]] = {}
-    moves: set[tuple[int, Page, int, int | None]] = set()
+    moves: set[SingleMove] = set()
     total: dict[tuple[int, str], Counter] = {}
     different: dict[int, set[Page]] = {}
     for number, (one, other) in enumerate(zip(exact, found)):
@@ -129,7 +134,7 @@ def slot_numbers(exact: list[dict], found: list[dict], after: int) -> tuple[list
                 slot, since = out.pop(page)
                 total[slot, "pageout"]["back"] += 1
                 total[slot, "pageout"]["soon"] += number - since <= after
-                moves.add((slot, page, found[since]["tick"], other["tick"]))
+                moves.add((slot, page, found[since]["tick"], other["tick"], False))
         for slot, _ in out.values():
             total[slot, "pageout"]["stay"] += 1
         for slot, action, pages in other["applied"]:
@@ -142,7 +147,11 @@ def slot_numbers(exact: list[dict], found: list[dict], after: int) -> tuple[list
                     out[page] = (slot, number)
                     sums["out"] += 1
                     different.setdefault(slot, set()).add(page)
-    moves |= {(slot, page, found[since]["tick"], None) for page, (slot, since) in out.items()}
+                elif action == "willneed" and page in out:
+                    owner, since = out.pop(page)
+                    total[owner, "pageout"]["fetched"] += 1
+                    moves.add((owner, page, found[since]["tick"], other["tick"], True))
+    moves |= {(slot, page, found[since]["tick"], None, False) for page, (slot, since) in out.items()}
     lines: list[list] = []
     for (slot, action), sums in sorted(total.items()):
         if action != "pageout":
@@ -152,23 +161,24 @@ def slot_numbers(exact: list[dict], found: list[dict], after: int) -> tuple[list
         lines += [[slot, sums["applied"]], [slot, sums["out"], len(different.get(slot, ()))],
                   [slot, sums["back"], *percent(sums["back"], sums["out"]), f"{sums['back'] / len(exact):.1f}"],
                   [slot, sums["soon"], after, *percent(sums["soon"], sums["out"])],
+                  *([[slot, sums["fetched"], *percent(sums["fetched"], sums["out"])]] if sums["fetched"] else []),
                   [slot, end, f"{sums['stay'] / len(exact):.1f}"]]
     return [[str(number) for number in line] for line in lines], moves
 
 
-def moves_of(lines: list[str]) -> list[tuple[int, Page, int, int | None]]:
+def moves_of(lines: list[str]) -> list[SingleMove]:
     """The moves that were printed, as moves of single pages."""
     result = []
     for line in lines:
         match = re.fullmatch(r"move: slot (\d+), target (\d+), 0x(\w+)-0x(\w+), (\d+) pages?, out at tick (\d+), "
-                             r"(?:back at tick (\d+)|still out at the end)", line)
+                             r"(?:(fetched )?back at tick (\d+)|still out at the end)", line)
         if not match:
             raise AssertionError(line)
         low, high = int(match[3], 16) // 4096, int(match[4], 16) // 4096
         if high - low != int(match[5]):
             raise AssertionError(line)
-        back = int(match[7]) if match[7] else None
-        result += [(int(match[1]), (int(match[2]), page), int(match[6]), back) for page in range(low, high)]
+        back = int(match[8]) if match[8] else None
+        result += [(int(match[1]), (int(match[2]), page), int(match[6]), back, bool(match[7])) for page in range(low, high)]
     return result
 
 
@@ -266,6 +276,40 @@ def runs_of(pages: set[int]) -> list[tuple[int, int]]:
 
 def pages_of(runs: list[tuple[int, int]]) -> list[int]:
     return [page for start, end in runs for page in range(start, end)]
+
+
+class Reclaim(unittest.TestCase):
+    """What the model says of pages is what `damon reclaim` says after each aggregation."""
+
+    def test_random_runs_of_the_program(self) -> None:
+        schemes = ("scheme 0 pageout count=0,1 age=1,9", "scheme 2 willneed count=0,0 age=5,6", "scheme 3 pageout age=2,99 quota=40960,10",
+                   "scheme 4 pageout marks=900,850,300", "scheme 7 willneed count=2,9 quota=8192,9", "scheme 9 lru_prio")
+        words = [word for line in schemes for word in ("--scheme", line)]
+        total: Counter[str] = Counter()
+        for seed in range(8):
+            with self.subTest(seed=seed):
+                trace, settings = random_trace(seed, 4000), ["--interval", "8", "--aggr", str(2 + seed)]
+                exact = report_of(script_of(trace, *settings, "--exact"))
+                sampled = script_of(trace, *settings, "--max", "40", *words)
+                total += self.check(exact, report_of(sampled, "reclaim"))
+        for name in ("active", "inactive", "out", "pageouts", "refaults", "prefetches"):
+            self.assertGreater(total[name], 100, name)
+
+    def check(self, exact: str, found: str) -> Counter[str]:
+        """Gives how often what happened."""
+        truth, events = Report(exact.splitlines(keepends=True)), list(Report(found.splitlines(keepends=True)).events())
+        aggregations = [event for event in events if isinstance(event, Aggregation)]
+        memory = [event for event in events if isinstance(event, Memory)]
+        self.assertEqual(len(memory), len(aggregations) + 1)
+        paging = Paging(1, False)
+        for number, (one, other, said) in enumerate(zip(truth.aggregations(), aggregations, memory)):
+            paging.add(Moment(number, other.tick), counts_of(one, 1, None).accessed, applied_of(other, None))
+            ledgers = paging.ledgers.values()
+            self.assertEqual((other.tick, *(sum(getattr(ledger, name) for ledger in ledgers)
+                                            for name in ("out", "put_out", "refaults", "prefetches"))),
+                             (said.tick, said.out, said.pageouts, said.refaults, said.prefetches))
+        active = [one.active[4] for one in aggregations]
+        return Counter(memory[-1]._asdict()) + Counter(active=sum(active), inactive=len(active) - sum(active))
 
 
 class Forms(unittest.TestCase):

@@ -11,11 +11,12 @@ import unittest
 import xml.etree.ElementTree as xml
 from pathlib import Path
 
-from tool_runs import PROGRAM, TOOLS, TOP, Refusals, need_program, run
+from tool_runs import PROGRAM, TOOLS, TOP, Refusals, need_program, random_trace, report_of, run, script_of
 
+from drawing.charts import CHART, charts_of, quota_charts
 from drawing.grid import UNWATCHED, level, rectangles
 from drawing.history import commits_of, history_of
-from reports.events import Aggregation, Commit, Report, ReportError, Show
+from reports.events import Aggregation, Commit, Memory, Report, ReportError, Show, Tuned
 
 TOOL = "picture.py"
 SVG = "{http://www.w3.org/2000/svg}"
@@ -35,6 +36,29 @@ row 0 0x10000-0x14000 count=0 last=1 age=0
 scheme 0 pageout active=no charged=2 start=0 tried=1 applied=2 exceeds=0
 end ticks=6 rows=2 checks=12 hits=5
 """
+RECLAIMED = """\
+aggregate tick=4 threshold=0 rows=1
+apply 0 pageout 0 0x10000-0x12000 score=25
+slot 0 left=2 taken=2 lowest=25
+row 0 0x10000-0x16000 count=0 last=0 age=1
+reclaim tick=4 resident=4 out=2 pageouts=2 refaults=0 prefetches=0
+commit tick=4 ok rows=1 void=no
+commit tick=4 ok rows=1 void=no
+aggregate tick=6 threshold=0 rows=1
+slot 0 left=0 taken=0 lowest=none
+row 0 0x10000-0x16000 count=1 last=0 age=0
+reclaim tick=6 resident=5 out=1 pageouts=2 refaults=1 prefetches=0
+commit tick=6 ok rows=1 void=no
+aggregate tick=8 threshold=0 rows=1
+slot 0 left=0 taken=0 lowest=none
+row 0 0x10000-0x16000 count=0 last=1 age=1
+reclaim tick=8 resident=5 out=1 pageouts=2 refaults=1 prefetches=0
+commit tick=8 ok rows=1 void=no
+end ticks=9 rows=1 checks=9 hits=1
+reclaim tick=9 resident=6 out=0 pageouts=2 refaults=2 prefetches=0
+"""
+"""What `damon reclaim` writes of a script with one commit."""
+TUNED = TWO_AGGREGATIONS.replace("slot 0 inactive", "slot 0 left=3 taken=0 lowest=none") + "tuned 0 bytes=12345\ntuned 7 bytes=none\n"
 LEFT, RIGHT = 128, 806
 """Where time begins and ends in a picture."""
 
@@ -81,6 +105,16 @@ class Reports(unittest.TestCase):
                           for one in found if not isinstance(one, Commit)],
                          [(4, 4, 2, 0x2000, {0: True}), (6, 2, 2, 0x4000, {0: False}), (6, 1, 1, 0, {0: False})])
         self.assertEqual(found[1], Commit(4, "ok rows=2 void=no"))
+
+    def test_what_reclaim_and_tune_say(self) -> None:
+        found = list(Report(RECLAIMED.splitlines(keepends=True)).events())
+        self.assertEqual([type(event) for event in found],
+                         [Aggregation, Memory, Commit, Commit, Aggregation, Memory, Commit, Aggregation, Memory, Commit, Memory])
+        self.assertEqual([one for one in found if isinstance(one, Memory)],
+                         [(4, 4, 2, 2, 0, 0), (6, 5, 1, 2, 1, 0), (8, 5, 1, 2, 1, 0), (9, 6, 0, 2, 2, 0)])
+        found = list(Report(TUNED.splitlines(keepends=True)).events())
+        self.assertEqual(found[-2:], [Tuned(0, 12345), Tuned(7, None)])
+        self.assertEqual([one.left for one in found if isinstance(one, Aggregation)], [{0: 2}, {0: 3}])
 
     def test_reports_as_json(self) -> None:
         for name in ("cold", "filters", "watermarks", "commit"):
@@ -161,6 +195,66 @@ class Pictures(unittest.TestCase):
         self.assertLess(len(ran.stdout), 3_000_000)
 
 
+class Memories(unittest.TestCase):
+    """What `damon reclaim` and `damon tune` add to a report is drawn beneath."""
+
+    def curve(self, picture: xml.Element, number: int) -> list[tuple[str, float]]:
+        """The corners of a curve: where they are in time, and how far up in the chart, from 0 to 1."""
+        first, *points, _ = (point.split() for point in paths_of(picture, "class", "area")[number][1:-1].split("L"))
+        return [(x, round((float(first[1]) - float(y)) / CHART, 2)) for x, y in points]
+
+    def test_resident_pages_and_refaults(self) -> None:
+        picture = drawn(RECLAIMED)
+        for text in ("resident", "24 KiB", "0 bytes out at the end", "refaults", "2 in all"):
+            self.assertIn(text, texts_of(picture))
+        # Six pages are resident until tick 4, four until tick 6, and five from then on; the one refault is before tick 6.
+        self.assertEqual(self.curve(picture, 2), self.steps(1.0, 0.67, 0.83))
+        self.assertEqual(self.curve(picture, 3), self.steps(0.0, 1.0, 0.0))
+
+    def steps(self, *heights: float) -> list[tuple[str, float]]:
+        """A curve with these heights up to the ticks 4, 6 and 8."""
+        ticks = [0, 4, 6, 8]
+        return [(x_of(tick, 8), height) for place, height in enumerate(heights) for tick in ticks[place : place + 2]]
+
+    def test_the_metric_that_reclaim_puts_in_is_no_commit_of_the_script(self) -> None:
+        with tempfile.NamedTemporaryFile("w", suffix=".damon") as script:
+            script.write("commit\nattrs 3 8 5\napply\n")
+            script.flush()
+            picture = drawn(RECLAIMED, "--script", script.name)
+        self.assertEqual([title for title in titles_of(picture) if title.startswith("tick")], ["tick 4: attrs 3 8 5: ok rows=1 void=no"])
+
+    def test_what_was_left_of_quotas(self) -> None:
+        picture = drawn(TUNED)
+        for text in ("quota left, slot 0", "12.1 KiB at the end", "12 KiB", "quota left, slot 7", "none at the end"):
+            self.assertIn(text, texts_of(picture))
+        self.assertEqual(self.curve(picture, 2), [("128", 0.67), (x_of(4, 6), 0.67), (x_of(4, 6), 1.0), ("806", 1.0)])
+        self.assertEqual({height for _, height in self.curve(picture, 3)}, {0.0})
+        # It has a mark for the commit, and no line through the picture: the tuner may have put it in.
+        self.assertIn("tick 4: commit: ok rows=2 void=no", titles_of(picture))
+        self.assertEqual(paths_of(picture, "class", "commit"), [])
+
+    def test_what_is_left_where_a_window_begins_is_the_quota(self) -> None:
+        goal, quota = "0:cold:700:8192:400000", 400_000
+        scheme = f"scheme 0 pageout count=0,1 quota={quota},5 prefer=cold"
+        script = script_of(random_trace(3, 1600), "--interval", "10", "--aggr", "5", "--scheme", scheme)
+        history = history_of(Report(report_of(script, "tune", goal).splitlines()).events(), None)
+        parts = script.split("finish\n")
+        wanted = [quota // 4096]
+        for tick in history.ticks:
+            # A run that ends at the aggregation says which bytes the quota has after it.
+            ended = report_of("finish\n".join(parts[:tick]) + "finish\nend\n", "tune", goal)
+            wanted.append(int(ended.rpartition("bytes=")[2]) // 4096)
+        chart, = quota_charts(history)
+        self.assertEqual([*chart.values], wanted[:-1])
+        self.assertGreater(len(set(wanted)), 5)
+        self.assertLess(min(wanted), wanted[-1])
+
+    def test_reports_of_other_commands_have_two_charts(self) -> None:
+        for report in (TWO_AGGREGATIONS, RECLAIMED[: RECLAIMED.index("aggregate tick=6")]):
+            history = history_of(Report(report.splitlines()).events(), None)
+            self.assertEqual([chart.name for chart in charts_of(history)], ["working set", "regions"])
+
+
 class Commits(unittest.TestCase):
     """The effect of commits can be seen; examples/README.md says what those of its scripts do."""
 
@@ -234,6 +328,7 @@ class Errors(Refusals):
         self.refused(TOOL, ["--label", "target 9", "0, 1"], report, "--label", "9=heap")
         self.refused(TOOL, ["no-such-file: No such"], report, "no-such-file")
         self.refused(TOOL, ["0 commits", "1"], report, "--script", str(TOP / "examples/hot.damon"))
+        self.refused(TOOL, ["damon tune", "commits"], TUNED.encode(), "--script", str(TOP / "examples/hot.damon"))
 
     def test_a_closed_pipe_ends_it_in_silence(self) -> None:
         with tempfile.TemporaryDirectory() as folder:

@@ -5,6 +5,7 @@ from __future__ import annotations
 import csv
 import io
 import os
+import re
 import signal
 import statistics
 import subprocess
@@ -19,8 +20,8 @@ from tool_runs import PROGRAM, SECONDS, TOOLS, TOP, Refusals, need_program, rand
 from comparing.accuracy import Accuracy
 from comparing.counts import applied_of, counts_of
 from comparing.paging import Moment, Paging
-from reports.events import Report
-from searching.measures import MEASURES, measured, ratio
+from reports.events import Memory, Report
+from searching.measures import RECLAIM, REPLAY, measured, measures_by, ratio
 from searching.plan import Plan, plan_of
 from searching.points import Points
 from searching.remaining import Remaining, in_words
@@ -30,6 +31,7 @@ from searching.workloads import Workload, script_workload, trace_workloads
 TOOL = "search.py"
 SCHEME = "scheme 0 pageout count=0,{most} age={age},4294967295 prefer=cold"
 PLAN = """\
+command = "reclaim"
 traces = ["a.trace", "b.trace"]
 gap = 4
 schemes = ["scheme 0 pageout count=0,{most} age={age},4294967295 prefer=cold", "scheme 3 stat"]
@@ -131,7 +133,7 @@ def workloads(plan: Plan, points: Points) -> dict[object, Workload]:
 
 
 class Measures(Searches):
-    """The measures are those of tools/compare.py, which reads reports in another way."""
+    """The measures are those of tools/compare.py, which reads reports in another way, and what `damon reclaim` says at the end."""
 
     def test_measures_of_traces(self) -> None:
         plan = plan_of(str(self.folder / "plan.toml"))
@@ -139,23 +141,25 @@ class Measures(Searches):
         found = workloads(plan, points)
         for number in range(0, points.runs, 5):
             point, seed = points.run(number)
-            report = report_of(script_of_run(plan, found[point.key(True)], point, seed).decode())
+            report = report_of(script_of_run(plan, found[point.key(True)], point, seed).decode(), RECLAIM)
             (self.folder / "report").write_text(report)
             words = ("--gap=4", f"--interval={point.chosen['interval']}", f"--like={self.folder / 'report'}")
             counts = run("exact_counts.py", *words, str(self.folder / point.workload))
-            self.same(report, counts.stdout.decode(), found[point.key(True)], 0.5)
+            self.same(report, counts.stdout.decode(), found[point.key(True)], 0.5, RECLAIM)
 
     def test_measures_of_a_script_with_shows(self) -> None:
         trace = random_trace(7, 1200)
-        words = ("--interval", "10", "--aggr", "4", "--gap", "2", "--scheme", "scheme 2 pageout count=0,0 age=1,9")
+        words = ("--interval", "10", "--aggr", "4", "--gap", "2", "--scheme", "scheme 2 pageout count=0,0 age=1,9",
+                 "--scheme", "scheme 5 willneed count=1,9")
         text = script_of(trace, *words).replace("finish\narm", "finish\nshow\narm", 20)
         (self.folder / "a.damon").write_text(text)
         (self.folder / "own.toml").write_text('scripts = ["a.damon"]\n[measure]\nhot = 0.25\n')
         plan = plan_of(str(self.folder / "own.toml"))
         counts = run("exact_counts.py", *words[:6], text=trace).stdout.decode()
-        self.same(report_of(text), counts, script_workload(plan, "a.damon"), 0.25)
+        for command in (REPLAY, RECLAIM):
+            self.same(report_of(text, command), counts, script_workload(plan, "a.damon"), 0.25, command)
 
-    def same(self, report: str, counts: str, workload: Workload, share: float) -> None:
+    def same(self, report: str, counts: str, workload: Workload, share: float, command: str) -> None:
         accuracy, paging, applied = Accuracy(), Paging(1, False), 0
         exact, found = (list(Report(text.splitlines(keepends=True)).aggregations()) for text in (counts, report))
         self.assertEqual([one.tick for one in exact], [one.tick for one in found])
@@ -165,16 +169,20 @@ class Measures(Searches):
             accuracy.add(truth, counts_of(other, share, None))
             paging.add(Moment(number, one.tick), truth.accessed, runs)
             applied += sum(end - start for same in runs.values() for start, end in same)
-        ledgers = paging.ledgers.values()
-        self.assertEqual(measured(report, workload.truths, share), {
-            "checks": report.splitlines()[-1].split()[3].removeprefix("checks="),
+        given = measured(report, workload.truths, share, command)
+        self.assertEqual(tuple(given), measures_by(command))
+        end = [event for event in Report(report.splitlines(keepends=True)).events() if isinstance(event, Memory)][-1:]
+        self.assertEqual(len(end), command == RECLAIM)
+        self.assertEqual(given, {
+            "checks": re.findall(r"^end .* checks=(\d+) ", report, re.MULTILINE)[0],
             "hot_found": ratio(accuracy.hot_found, accuracy.hot),
             "hot_false": ratio(accuracy.called_hot - accuracy.hot_found, accuracy.called_hot),
             "cold_false": ratio(accuracy.called_cold - accuracy.cold_found, accuracy.called_cold),
             "working_set_error": ratio(accuracy.working_set_found - accuracy.working_set, accuracy.working_set),
-            "applied": str(applied), "put_out": str(sum(one.put_out for one in ledgers)),
-            "refaults": str(sum(one.refaults for one in ledgers)),
-            "out": ratio(sum(one.out_sum for one in ledgers), accuracy.aggregations)})
+            "applied": str(applied),
+            **{name: text for one in end for name, text in (
+                ("pageouts", str(one.pageouts)), ("refaults", str(one.refaults)),
+                ("out", ratio(sum(ledger.out_sum for ledger in paging.ledgers.values()), accuracy.aggregations)))}})
         self.assertGreater(applied, 0)
 
 
@@ -229,13 +237,13 @@ class Files(Searches):
         for number, point in enumerate(points):
             same = [row for row in rows[3 * number : 3 * number + 3] if row["status"] == "ok"]
             self.assertEqual((point["min"], point["runs"], point["done"]), (rows[3 * number]["min"], "3", str(len(same))))
-            for name in MEASURES:
+            for name in measures_by(REPLAY):
                 numbers = [float(row[name]) for row in same if row[name]]
                 self.assertEqual(point[f"{name} mean"], f"{statistics.mean(numbers):.4f}" if numbers else "")
                 self.assertEqual(point[f"{name} spread"], f"{statistics.stdev(numbers):.4f}" if len(numbers) > 1 else "")
 
     def test_measures_that_are_chosen(self) -> None:
-        (self.folder / "few.toml").write_text(SMALL + '[measure]\ncolumns = ["out", "checks"]\n')
+        (self.folder / "few.toml").write_text('command = "reclaim"\n' + SMALL + '[measure]\ncolumns = ["out", "checks"]\n')
         rows = self.rows(self.search("few.toml", "few.csv", "--timeout", "1e12")[0])
         others = self.rows(self.search("small.toml", "one.csv")[0])
         self.assertEqual([*rows[0]][-3:], ["out", "checks", "status"])
@@ -274,6 +282,12 @@ class Failures(Searches):
                 self.assertEqual({row["status"] for row in self.rows(given)}, {status})
                 self.assertIn(f"{0 if status == 'ok' else 3} of the others have another status than ok", said)
 
+    def test_reports_without_what_reclaim_says(self) -> None:
+        (self.folder / "few.toml").write_text('command = "reclaim"\n' + SMALL)
+        for name, body in (("none", f"exec {PROGRAM} replay"), ("less", f"{PROGRAM} reclaim | sed '1,/^reclaim/{{/^reclaim/d}}'")):
+            rows = self.rows(self.search("few.toml", name, "--random", "1", program=self.program(body))[0])
+            self.assertEqual({row["status"] for row in rows}, {"the report does not say after each aggregation how many pages are out"})
+
     def test_a_commit_before_no_interval(self) -> None:
         (self.folder / "odd.toml").write_text('traces = ["a.trace"]\ncommits = ["{when}:metric 5"]\n[values]\nwhen = ["3", "x"]\n')
         rows = self.rows(self.search("odd.toml", "odd.csv")[0])
@@ -299,6 +313,7 @@ class Errors(Searches, Refusals):
         self.taken_from(start + "more = 5", "'more'")
         self.taken_from(start + "[settings]\nmore = 5", "[settings]", "'more'")
         self.taken_from(start + "[measure]\nmore = 5", "[measure]", "'more'")
+        self.taken_from(start + 'command = "json"', "command", "replay, reclaim")
         self.taken_from(start + 'clock = "days"', "clock", "microseconds")
         self.taken_from(start + 'form = "x"', "form", "lackey, perf, plain")
         self.taken_from(start + 'take = ["x"]', "take", "loads")
@@ -323,6 +338,7 @@ class Errors(Searches, Refusals):
         self.taken_from(start + 'schemes = ["scheme {max} stat"]\n[values]\nmax = 5', "'max'")
         self.taken_from(start + "[measure]\nhot = 0", "hot")
         self.taken_from(start + '[measure]\ncolumns = ["x"]', "columns", "checks")
+        self.taken_from(start + '[measure]\ncolumns = ["out"]', "columns", "'out'", 'command = "reclaim"')
 
     def test_too_many_points(self) -> None:
         path = self.folder / "wrong.toml"

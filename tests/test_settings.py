@@ -83,7 +83,7 @@ class Notes(unittest.TestCase):
     def test_metrics_of_the_body_count(self) -> None:
         metrics = [int(line.split()[1]) for line in self.SCRIPT.splitlines() if line.startswith("metric ")]
         for marks, wanted in ((f"{metrics[0] + 1},{metrics[0] + 1},{metrics[0]}", []), ("9999,9998,9997", [
-                "note: slot 9: it is never active: it has watermarks, and no metric from 9997 to 9997 comes"])):
+                "note: slot 9: it is never active in a replay: it has watermarks, and no metric from 9997 to 9997 comes"])):
             notes = notes_of(self.SCRIPT, "--scheme", f"scheme 9 stat marks={marks}")
             self.assertEqual([note for note in notes if "slot 9" in note], wanted)
 

@@ -74,7 +74,7 @@ class Notes(unittest.TestCase):
             ("scheme 0 stat age=3,9", "an age of 3 needs as many aggregations, and there are 2"),
             ("scheme 0 stat quota=4095,10", "a quota of 4095 bytes is less than a page"),
             ("scheme 0 stat filter=allow:target:1", "its filter names target 1, and the last target is 0"),
-            ("scheme 0 stat marks=3,2,1", "it is never active: it has watermarks, and no metric comes"),
+            ("scheme 0 stat marks=3,2,1", "it is never active in a replay: it has watermarks, and no metric comes"),
             ("scheme 0 stat marks=3,2,2", "it is never active: its watermarks mid and low are equal"),
         ):
             with self.subTest(scheme=scheme):
@@ -106,7 +106,7 @@ class Notes(unittest.TestCase):
 
     def test_schemes_of_commits(self) -> None:
         notes = notes_of(self.TRACE, "--interval", "10", "--metric", "3:2", "--at", "4:scheme 1 stat marks=5,3,1")
-        self.assertIn("slot 1: it is never active: it has watermarks, and no metric comes", notes)
+        self.assertIn("slot 1: it is never active in a replay: it has watermarks, and no metric comes", notes)
 
     def test_without_a_program_nothing_is_checked(self) -> None:
         ran = run(TOOL, "--interval", "10", "--scheme", "scheme 99 nothing", text=self.TRACE, program=Path("/no/damon"))

@@ -49,9 +49,9 @@ def notes_of(trace: bytes, *words: str) -> str:
     return ran.stderr.decode()
 
 
-def report_of(script: str) -> str:
-    """The report of a script, which the program must take."""
-    ran = subprocess.run([PROGRAM, "replay"], input=script.encode(), capture_output=True, timeout=SECONDS)
+def report_of(script: str, *command: str) -> str:
+    """The report of a script, which the program must take; of `replay` where no other command is given."""
+    ran = subprocess.run([PROGRAM, *(command or ("replay",))], input=script.encode(), capture_output=True, timeout=SECONDS)
     if ran.returncode != 0:
         raise AssertionError(ran.stderr.decode())
     return ran.stdout.decode()

@@ -33,8 +33,10 @@ A page-aggregation is one page in one aggregation. In an aggregation a page is
 The working set is the pages that were accessed, or those of regions with a count above 0.
 
 A page goes out when `pageout` is applied to it, unless it is out already. It comes back with the
-first later aggregation in which it was accessed, and by nothing else: a refault of the slot that put
-it out. --moves also lists which pages went out at which tick, and at which tick they were back.
+first later aggregation in which it was accessed: a refault of the slot that put it out. Or it is
+fetched back when `willneed` is applied to it, and nothing else brings it back. So all slots together
+have the numbers that `damon reclaim` writes at its last aggregation. --moves also lists which pages
+went out at which tick, and at which tick they were back.
 """
 
 
@@ -94,6 +96,8 @@ def paging_lines(slot: int, found: Ledger, aggregations: int, within: int) -> li
         f"{counted(found.refaults, 'refault')} of these: {share(found.refaults, found.put_out)}; "
         f"{found.refaults / aggregations:.1f} an aggregation",
         f"{counted(found.soon, 'refault')} within {counted(within, 'aggregation')}: {share(found.soon, found.put_out)}",
+        *([f"{counted(found.prefetches, 'page')} fetched back by willneed: {share(found.prefetches, found.put_out)}"]
+          if found.prefetches else []),
         f"{counted(found.out, 'page')} out at the end; {found.out_sum / aggregations:.1f} on average through an aggregation",
     ]
     return [f"slot {slot} pageout: {fact}" for fact in facts]
@@ -105,10 +109,10 @@ def use_line(slot: int, action: str, found: Use, within: int) -> str:
 
 
 def move_line(move: Move) -> str:
-    stay, back = move
+    stay, back, is_fetched = move
     target, start = place(stay.start)
     pages = stay.end - stay.start
-    end = f"back at tick {back.tick}" if back else "still out at the end"
+    end = f"{'fetched ' if is_fetched else ''}back at tick {back.tick}" if back else "still out at the end"
     return (f"move: slot {stay.slot}, target {target}, {start:#x}-{start + pages * PAGE_BYTES:#x}, {counted(pages, 'page')}, "
             f"out at tick {stay.since.tick}, {end}")
 

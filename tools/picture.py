@@ -35,6 +35,13 @@ Beneath are the commits: a bar for one that was accepted, a cross for one that w
 triangle for a metric. What a commit has is not in a report, so metrics and words need --script. A
 slot has a thin line while it waits, and a bar while it is active, by the end of each column.
 
+Of a report of `damon reclaim` it also draws which pages are resident, above which is what is out, and
+the refaults. What is resident after an aggregation is drawn until the next one. The metrics that
+`reclaim` puts in are not drawn as commits. Of a report of `damon tune` it draws what was left of each
+quota with a goal before a choice, in whole pages. That is the whole quota where each aggregation
+begins a window of it: where its reset interval is at most that of aggregations. Such a report does
+not say which commits the tuner put in, so none has a line, and --script cannot be used.
+
 With --heat it draws the tables that `damon heat` wrote of a journal:
   ./damon heat 64 < out/live.journal | tools/picture.py --heat --script out/live.journal > heat.svg
 

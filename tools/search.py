@@ -31,8 +31,8 @@ example:
   tools/search.py examples/search.toml out/search.csv --points out/points.csv
   tools/picture.py --front --x checks --y hot_found out/points.csv > out/front.svg
 
-A plan is a text in TOML: traces or scripts, values for settings and for placeholders of schemes and
-commits, and what is measured. docs/SEARCH.md has one, line by line.
+A plan is a text in TOML: traces or scripts, the command of damon that runs them, values for settings
+and for placeholders of schemes and commits, and what is measured. docs/SEARCH.md has one, line by line.
 
 The rows come in the order of the plan. If the file of runs is there already, a search goes on behind
 its last whole row, so one that was stopped is not lost. That the program and the traces are still the

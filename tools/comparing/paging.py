@@ -2,7 +2,8 @@
 
 A page goes out when `pageout` is applied to it, at the end of an aggregation, unless it is out
 already. It comes back in a later aggregation, the first in which it was accessed: a refault of the
-slot that put it out. Nothing else brings a page back.
+slot that put it out. Or it is fetched back when `willneed` is applied to it. Nothing else brings a
+page back. These are the rules of `damon reclaim`.
 """
 from __future__ import annotations
 
@@ -13,7 +14,7 @@ from reports.pages import Run, Runs, size, union, without
 
 Owner = tuple[int, str]
 """A slot, and the action of its scheme."""
-PAGEOUT = "pageout"
+PAGEOUT, WILLNEED = "pageout", "willneed"
 
 
 class Moment(NamedTuple):
@@ -37,6 +38,8 @@ class Move(NamedTuple):
 
     stay: Stay
     back: Moment | None
+    is_fetched: bool = False
+    """Whether `willneed` brought them back, and no access."""
 
 
 @dataclass
@@ -52,6 +55,8 @@ class Ledger:
     refaults: int = 0
     soon: int = 0
     """The refaults at most so many aggregations after the page went out."""
+    prefetches: int = 0
+    """Each time that `willneed` fetched a page back counts."""
     out: int = 0
     out_sum: int = 0
     """The pages that were out through a whole aggregation, added up."""
@@ -68,28 +73,30 @@ class Paging:
         self.moves: list[Move] | None = [] if keep_moves else None
 
     def add(self, now: Moment, accessed: Runs, applied: dict[Owner, list[Run]]) -> None:
-        """Takes one aggregation: what was accessed in it comes in, and then what schemes take goes out."""
-        if self.stays:
-            self.come_in(now, accessed)
+        """Takes one aggregation: what was accessed in it comes in, and then schemes put out and fetch back, slot by slot."""
+        for stay in self.come_in(now, accessed, is_fetched=False):
+            ledger, pages = self.ledgers[stay.slot], stay.end - stay.start
+            ledger.refaults += pages
+            if now.number - stay.since.number <= self.within:
+                ledger.soon += pages
         for ledger in self.ledgers.values():
             ledger.out_sum += ledger.out
         for (slot, action), runs in applied.items():
             if action == PAGEOUT:
                 self.go_out(now, slot, runs)
+            elif action == WILLNEED:
+                for stay in self.come_in(now, sorted(runs), is_fetched=True):
+                    self.ledgers[stay.slot].prefetches += stay.end - stay.start
 
-    def come_in(self, now: Moment, accessed: Runs) -> None:
-        remaining: list[Stay] = []
-        for stay, back in split(self.stays, accessed):
-            if not back:
-                remaining.append(stay)
-                continue
-            ledger, pages = self.ledgers[stay.slot], stay.end - stay.start
-            ledger.out -= pages
-            ledger.refaults += pages
-            if now.number - stay.since.number <= self.within:
-                ledger.soon += pages
-            self.keep(Move(stay, now))
-        self.stays = remaining
+    def come_in(self, now: Moment, pages: Runs, is_fetched: bool) -> list[Stay]:
+        """Takes back those of the pages that are out, and gives them."""
+        found = list(split(self.stays, pages))
+        self.stays = [stay for stay, is_back in found if not is_back]
+        back = [stay for stay, is_back in found if is_back]
+        for stay in back:
+            self.ledgers[stay.slot].out -= stay.end - stay.start
+            self.keep(Move(stay, now, is_fetched))
+        return back
 
     def go_out(self, now: Moment, slot: int, runs: list[Run]) -> None:
         ledger = self.ledgers.setdefault(slot, Ledger())
@@ -111,18 +118,18 @@ class Paging:
         return joined(sorted(moves, key=lambda move: (move.stay.since, move.stay.slot, move.stay.start)))
 
 
-def split(stays: Iterable[Stay], accessed: Runs) -> Iterable[tuple[Stay, bool]]:
-    """The stays, cut where accessed pages begin and end, each with whether it was accessed."""
+def split(stays: Iterable[Stay], pages: Runs) -> Iterable[tuple[Stay, bool]]:
+    """The stays, cut where the pages begin and end, each with whether it is one of them."""
     number = 0
     for stay in stays:
-        while number < len(accessed) and accessed[number][1] <= stay.start:
+        while number < len(pages) and pages[number][1] <= stay.start:
             number += 1
-        if number == len(accessed) or stay.end <= accessed[number][0]:
+        if number == len(pages) or stay.end <= pages[number][0]:
             yield stay, False
             continue
         start, ahead = stay.start, number
-        while ahead < len(accessed) and accessed[ahead][0] < stay.end:
-            first, after = max(start, accessed[ahead][0]), min(stay.end, accessed[ahead][1])
+        while ahead < len(pages) and pages[ahead][0] < stay.end:
+            first, after = max(start, pages[ahead][0]), min(stay.end, pages[ahead][1])
             if start < first:
                 yield stay._replace(start=start, end=first), False
             yield stay._replace(start=first, end=after), True
@@ -136,8 +143,8 @@ def joined(moves: Iterable[Move]) -> list[Move]:
     result: list[Move] = []
     for move in moves:
         last = result[-1] if result else None
-        if last and last == Move(move.stay._replace(start=last.stay.start, end=move.stay.start), move.back):
-            result[-1] = Move(last.stay._replace(end=move.stay.end), move.back)
+        if last and last == move._replace(stay=move.stay._replace(start=last.stay.start, end=move.stay.start)):
+            result[-1] = last._replace(stay=last.stay._replace(end=move.stay.end))
         else:
             result.append(move)
     return result

@@ -1,6 +1,12 @@
 """The curves beneath the panels, and the axis of time."""
 from __future__ import annotations
 
+from dataclasses import dataclass
+from typing import Sequence
+
+from reports.events import Aggregation
+from reports.pages import PAGE_BITS
+
 from .canvas import LEFT, NAME, RIGHT, Canvas, short, size_words, x_of
 from .grid import Columns
 from .history import History
@@ -11,41 +17,100 @@ POINTS = 480
 """The most points of a curve."""
 
 
-def draw_charts(canvas: Canvas, history: History, columns: Columns, top: float) -> float:
-    """Draws the working set and the number of regions; gives where they end."""
-    sets = [float(snapshot.working_set) for snapshot in history.snapshots]
-    draw_chart(canvas, columns, history.ticks, sets, top, "working set", size_words(int(max(sets))))
-    top += CHART + GAP
-    counts = [float(len(snapshot.regions)) for snapshot in history.snapshots]
-    draw_chart(canvas, columns, history.ticks, counts, top, "regions", f"{int(max(counts))}")
-    return top + CHART
+@dataclass(frozen=True)
+class Chart:
+    """A curve in steps: a value holds since the tick before its own. All values are at least 0, and there is at least one."""
+
+    name: str
+    ticks: Sequence[int]
+    values: Sequence[float]
+    highest: str
+    """What the top of the chart is in words."""
+    most: float
+    """What it is as a number."""
+    note: str = ""
+    """What stands beneath the name."""
 
 
-def curve(values: list[float], ticks: list[int], columns: Columns, top: float, most: float) -> list[tuple[float, float]]:
+def chart_of(name: str, ticks: Sequence[int], values: Sequence[int], is_pages: bool, note: str = "") -> Chart:
+    """A chart as high as its highest value."""
+    most = max(values)
+    return Chart(name, ticks, values, pages_words(most) if is_pages else f"{most}", most or 1, note)
+
+
+def pages_words(count: int) -> str:
+    """A number of pages as a size."""
+    return size_words(count << PAGE_BITS)
+
+
+def charts_of(history: History) -> list[Chart]:
+    """The working set and the number of regions, and what `damon reclaim` and `damon tune` add."""
+    sets = [snapshot.working_set >> PAGE_BITS for snapshot in history.snapshots]
+    counts = [len(snapshot.regions) for snapshot in history.snapshots]
+    return [chart_of("working set", history.ticks, sets, True), chart_of("regions", history.ticks, counts, False),
+            *memory_charts(history), *quota_charts(history)]
+
+
+def memory_charts(history: History) -> list[Chart]:
+    """Of a report of `damon reclaim` the resident pages, above which are those that are out, and the refaults.
+
+    What is resident after an aggregation is drawn until the next one. All pages are resident at first.
+    """
+    if len(history.memory) < 2:
+        return []
+    *found, end = history.memory
+    ticks, pages = [one.tick for one in found], end.resident + end.out
+    resident = [pages, *(one.resident for one in found[:-1])]
+    refaults = [one.refaults for one in found]
+    each = [after - before for before, after in zip([0, *refaults], refaults)]
+    return [Chart("resident", ticks, resident, pages_words(pages), pages, f"{pages_words(end.out)} out at the end"),
+            chart_of("refaults", ticks, each, False, f"{end.refaults} in all")]
+
+
+def quota_charts(history: History) -> list[Chart]:
+    """Of a report of `damon tune` what was left of each quota with a goal before a choice: all of it where a window began."""
+    found = [snapshot for snapshot in history.snapshots if isinstance(snapshot, Aggregation)]
+    ticks = [one.tick for one in found]
+    return [chart_of(f"quota left, slot {slot}", ticks, [one.left.get(slot, 0) for one in found], True,
+                     f"{'none' if quota is None else size_words(quota)} at the end")
+            for slot, quota in history.tuned if found]
+
+
+def draw_charts(canvas: Canvas, charts: Sequence[Chart], columns: Columns, top: float) -> float:
+    """Draws at least one chart, one beneath the other; gives where they end."""
+    for chart in charts:
+        draw_chart(canvas, chart, columns, top)
+        top += CHART + GAP
+    return top - GAP
+
+
+def curve(chart: Chart, columns: Columns, top: float) -> list[tuple[float, float]]:
     """The corners of a curve in steps, thinned out to the highest of neighbours where it has too many."""
+    values, ticks = chart.values, chart.ticks
     group = -(-len(values) // POINTS)
     points, since = [], columns.edges[0]
     for start in range(0, len(values), group):
         until = ticks[min(start + group, len(ticks)) - 1]
-        y = top + CHART * (1 - max(values[start : start + group]) / most)
+        y = top + CHART * (1 - max(values[start : start + group]) / chart.most)
         points += [(x_of(since, columns), y), (x_of(until, columns), y)]
         since = until
     return points
 
 
-def draw_chart(canvas: Canvas, columns: Columns, ticks: list[int], values: list[float], top: float,
-               name: str, highest: str) -> None:
-    """A curve over time, with its highest value and 0 at the left."""
-    points = curve(values, ticks, columns, top, max(values) or 1.0)
+def draw_chart(canvas: Canvas, chart: Chart, columns: Columns, top: float) -> None:
+    """A curve over time, with what its top is and 0 at the left, and its name at the right."""
+    points = curve(chart, columns, top)
     line = "L".join(f"{short(x)} {short(y)}" for x, y in points)
-    bottom = top + CHART
+    bottom, middle = top + CHART, top + CHART / 2
     canvas.rect(LEFT, top, RIGHT - LEFT, CHART, "panel")
     canvas.path(f"M{short(points[0][0])} {short(bottom)}L{line}L{short(points[-1][0])} {short(bottom)}z", "area")
     canvas.path(f"M{line}", "edge")
     canvas.rect(LEFT, top, RIGHT - LEFT, CHART, "frame")
-    canvas.text(LEFT - 8, top + 9, highest, "small right soft")
+    canvas.text(LEFT - 8, top + 9, chart.highest, "small right soft")
     canvas.text(LEFT - 8, bottom - 1, "0", "small right soft")
-    canvas.text(NAME, top + CHART / 2 + 4, name)
+    canvas.text(NAME, middle - 2 if chart.note else middle + 4, chart.name)
+    if chart.note:
+        canvas.text(NAME, middle + 11, chart.note, "small soft")
 
 
 def draw_time(canvas: Canvas, columns: Columns, top: float) -> None:

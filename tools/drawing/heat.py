@@ -11,11 +11,10 @@ from dataclasses import dataclass
 from typing import Sequence
 
 from reports.heat import Heat
-from reports.pages import PAGE_BITS
 from reports.places import Place
 
-from .canvas import LEFT, NAME, RIGHT, Canvas, scaled_path, size_words, x_of
-from .charts import AXIS, CHART, GAP, draw_chart, draw_time
+from .canvas import LEFT, NAME, RIGHT, Canvas, scaled_path, x_of
+from .charts import AXIS, chart_of, draw_charts, draw_time
 from .grid import Columns, columns_of, level, rectangles
 from .legend import NOTES, TITLE, draw_scale
 from .panels import Panel, draw_labels, panels_of
@@ -77,7 +76,10 @@ def heat_picture(heats: Sequence[Heat], places: Sequence[Place] | None, title: s
     panels = panels_of({target: table.span for target, table in enumerate(tables)}, labels, TOP)
     for panel in panels:
         draw_table(canvas, panel, tables[panel.target], columns)
-    bottom = draw_curves(canvas, heats, columns, panels[-1].bottom + SPACE)
+    ticks = [found.tick for found in heats]
+    charts = [chart_of("working set", ticks, [found.working_set for found in heats], True),
+              chart_of("often accessed", ticks, [sum(found.freq[OFTEN:]) for found in heats], True)]
+    bottom = draw_charts(canvas, charts, columns, panels[-1].bottom + SPACE)
     draw_heading(canvas, title, tables[0])
     draw_time(canvas, columns, bottom)
     return canvas.document(bottom + AXIS, title, theme)
@@ -117,14 +119,3 @@ def draw_numbers(canvas: Canvas, panel: Panel) -> None:
     canvas.text(NAME, middle - 2, panel.label or f"target {panel.target}")
     if panel.label:
         canvas.text(NAME, middle + 11, f"target {panel.target}", "small soft")
-
-
-def draw_curves(canvas: Canvas, heats: Sequence[Heat], columns: Columns, top: float) -> float:
-    """Draws the working set, and how much was often accessed; gives where they end."""
-    ticks = [found.tick for found in heats]
-    sizes = [("working set", [found.working_set for found in heats]),
-             ("often accessed", [sum(found.freq[OFTEN:]) for found in heats])]
-    for name, pages in sizes:
-        draw_chart(canvas, columns, ticks, [float(count) for count in pages], top, name, size_words(max(pages) << PAGE_BITS))
-        top += CHART + GAP
-    return top - GAP

@@ -4,7 +4,7 @@ from __future__ import annotations
 from dataclasses import dataclass
 from typing import Iterable, Sequence
 
-from reports.events import Aggregation, Commit, Event, Show, Snapshot
+from reports.events import Aggregation, Commit, Event, Memory, Show, Snapshot, Tuned
 from reports.pages import Runs, key, size, union
 
 
@@ -16,15 +16,22 @@ class Change:
     answer: str
     accepted: bool
     parts: tuple[str, ...]
+    is_of_script: bool
+    """Whether it is known that no command put it in."""
 
     @property
     def has_metric(self) -> bool:
         return any(part.startswith("metric ") for part in self.parts)
 
     @property
-    def is_line(self) -> bool:
+    def has_more(self) -> bool:
         """Whether it was accepted and is more than a metric, as far as its lines are known."""
         return self.accepted and not (len(self.parts) == 1 and self.has_metric)
+
+    @property
+    def is_line(self) -> bool:
+        """Whether it has a line through the picture."""
+        return self.has_more and self.is_of_script
 
 
 @dataclass(frozen=True)
@@ -62,10 +69,14 @@ class History:
     snapshots: list[Snapshot]
     """Aggregations, and shows that say what an accepted commit found; all shows if there is no aggregation. Ticks rise."""
     changes: list[Change]
-    """The commits up to the last snapshot."""
+    """The commits up to the last snapshot, but for those that `damon reclaim` puts in."""
     later: int
     """The number of commits after it."""
     slots: dict[int, Slot]
+    memory: list[Memory]
+    """Of a report of `damon reclaim`: what it says after each aggregation, and at the end."""
+    tuned: list[Tuned]
+    """Of a report of `damon tune`: what it says at the end of each slot with a goal."""
 
     @property
     def ticks(self) -> list[int]:
@@ -81,25 +92,41 @@ def history_of(events: Iterable[Event], commits: Sequence[tuple[str, ...]] | Non
     snapshots: list[Snapshot] = []
     shows: list[Snapshot] = []
     answers: list[Commit] = []
+    memory: list[Memory] = []
+    tuned: list[Tuned] = []
+    before: Event | None = None
     for event in events:
         if isinstance(event, Show):
             shows.append(event)
         elif isinstance(event, Aggregation):
             snapshots.append(event)
             shows = []
-        else:
+        elif isinstance(event, Memory):
+            memory.append(event)
+        elif isinstance(event, Tuned):
+            tuned.append(event)
+        elif not isinstance(before, Memory):
+            # Directly after what `reclaim` says of the memory stands the commit of its metric, which it puts in.
             answers.append(event)
             if event.accepted:
                 add_shows(snapshots, shows)
                 shows = []
+        before = event
     if not snapshots:
         add_shows(snapshots, shows)
+    changes = changes_of(answers, commits, bool(tuned))
+    drawn = [change for change in changes if snapshots and change.tick <= snapshots[-1].tick]
+    return History(snapshots, drawn, len(changes) - len(drawn), slots_of(snapshots), memory, tuned)
+
+
+def changes_of(answers: Sequence[Commit], commits: Sequence[tuple[str, ...]] | None, is_tuned: bool) -> list[Change]:
+    """The commits, with their lines where they are known. Raises ScriptError."""
+    if commits is not None and is_tuned:
+        raise ScriptError("the report is one of `damon tune`, which does not say which commits are those of the script")
     if commits is not None and len(commits) != len(answers):
         raise ScriptError(f"the script has {len(commits)} commits and the report {len(answers)}: it is not of this script")
     parts = commits or [()] * len(answers)
-    changes = [Change(answer.tick, answer.answer, answer.accepted, lines) for answer, lines in zip(answers, parts)]
-    drawn = [change for change in changes if snapshots and change.tick <= snapshots[-1].tick]
-    return History(snapshots, drawn, len(changes) - len(drawn), slots_of(snapshots))
+    return [Change(answer.tick, answer.answer, answer.accepted, lines, not is_tuned) for answer, lines in zip(answers, parts)]
 
 
 def add_shows(snapshots: list[Snapshot], shows: Iterable[Snapshot]) -> None:

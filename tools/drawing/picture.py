@@ -2,7 +2,7 @@
 from __future__ import annotations
 
 from .canvas import Canvas
-from .charts import AXIS, draw_charts, draw_time
+from .charts import AXIS, charts_of, draw_charts, draw_time
 from .grid import columns_of
 from .history import History
 from .legend import draw_legend
@@ -21,7 +21,7 @@ def picture(history: History, title: str, labels: dict[int, str], theme: str) ->
     panels = panels_of(spans_of(history), labels, TOP)
     unwatched = draw_panels(canvas, history, panels)
     draw_timeline(canvas, history, columns, panels[-1].bottom)
-    bottom = draw_charts(canvas, history, columns, panels[-1].bottom + height_of(history) + SPACE)
+    bottom = draw_charts(canvas, charts_of(history), columns, panels[-1].bottom + height_of(history) + SPACE)
     draw_lines(canvas, history, columns, TOP, bottom)
     draw_legend(canvas, history, title, unwatched, any(change.is_line for change in history.changes))
     draw_time(canvas, columns, bottom)

@@ -72,7 +72,7 @@ def draw_change(canvas: Canvas, change: Change, x: float, y: float) -> None:
         return
     if change.has_metric:
         canvas.path(f"M{short(x - 4)} {short(y - 5)}h8l-4 9z", "dot", hover)
-    if change.is_line:
+    if change.has_more:
         canvas.rect(x - 1.5, y - 6, 3, 12, "dot", hover)
 
 

@@ -19,10 +19,12 @@ ADDRESS = r"0x([0-9a-f]+)"
 ROW = re.compile(rf"(row (\d+) {ADDRESS}-{ADDRESS} count=(\d+))(?: last=\d+ age=\d+)?\n?")
 SNAPSHOT = re.compile(r"(show|aggregate) tick=(\d+)(?: (?:phase=\w+|threshold=\d+))? rows=(\d+)")
 APPLY = re.compile(rf"apply (\d+) (\w+) (\d+) {ADDRESS}-{ADDRESS} score=\d+")
-SLOT = re.compile(r"slot (\d+) (left=(?:\d+|none) taken=\d+ lowest=(?:\d+|none)|inactive)")
+SLOT = re.compile(r"slot (\d+) (?:left=(\d+|none) taken=\d+ lowest=(?:\d+|none)|(inactive))")
 SCHEME = re.compile(r"scheme (\d+) \w+ active=(yes|no) .*")
 COMMIT = re.compile(r"commit tick=(\d+) ((?:ok|refused) .*)")
 END = re.compile(r"end ticks=\d+ rows=\d+ checks=\d+ hits=\d+")
+MEMORY = re.compile(r"reclaim tick=(\d+) resident=(\d+) out=(\d+) pageouts=(\d+) refaults=(\d+) prefetches=(\d+)")
+TUNED = re.compile(r"tuned (\d+) bytes=(\d+|none)")
 MOST_KEPT = 1 << 16
 """The most regions that are kept while a text is read."""
 
@@ -64,6 +66,8 @@ class Snapshot:
     """For each slot that is set, whether it is active."""
     applied: list[Applied] = field(default_factory=list)
     """The pages that schemes were applied to, in the order of the report; a show has none."""
+    left: dict[int, int] = field(default_factory=dict)
+    """For each active slot with a quota, the pages that were left of it before the choice; a show has none."""
 
     @cached_property
     def by_target(self) -> dict[int, list[Region]]:
@@ -101,7 +105,25 @@ class Commit:
         return self.answer.startswith("ok")
 
 
-Event = Union[Show, Aggregation, Commit]
+class Memory(NamedTuple):
+    """What `damon reclaim` says after an aggregation, and at the end: numbers of pages, the last three of them since the start."""
+
+    tick: int
+    resident: int
+    out: int
+    pageouts: int
+    refaults: int
+    prefetches: int
+
+
+class Tuned(NamedTuple):
+    """What `damon tune` says at the end of a slot that has a goal: the bytes of its quota; None if it is not tunable."""
+
+    slot: int
+    bytes: int | None
+
+
+Event = Union[Show, Aggregation, Commit, Memory, Tuned]
 
 
 class Report:
@@ -152,8 +174,8 @@ def text_events(lines: Iterable[str]) -> Iterator[Event]:
             if current is not None:
                 check_complete(current, number)
                 yield current
-            current = None if isinstance(head, Commit) else head
-            if isinstance(head, Commit):
+            current = head if isinstance(head, (Show, Aggregation)) else None
+            if head is not None and current is None:
                 yield head
     if current is not None:
         check_complete(current, number + 1)
@@ -166,7 +188,9 @@ def is_part(text: str, current: Snapshot | None) -> bool:
         if match := APPLY.fullmatch(text):
             current.applied.append(Applied(int(match[1]), match[2], int(match[3]), int(match[4], 16), int(match[5], 16)))
         elif match := SLOT.fullmatch(text):
-            current.active[int(match[1])] = match[2] != "inactive"
+            current.active[int(match[1])] = match[3] is None
+            if match[2] not in (None, "none"):
+                current.left[int(match[1])] = int(match[2])
         return match is not None
     if current is not None and (match := SCHEME.fullmatch(text)):
         current.active[int(match[1])] = match[2] == "yes"
@@ -181,6 +205,10 @@ def head_of(text: str, number: int, since: int) -> Event | None:
         return kind(int(match[2]), max(1, int(match[2]) - since), int(match[3]))
     if match := COMMIT.fullmatch(text):
         return Commit(int(match[1]), match[2])
+    if match := MEMORY.fullmatch(text):
+        return Memory(*map(int, match.groups()))
+    if match := TUNED.fullmatch(text):
+        return Tuned(int(match[1]), None if match[2] == "none" else int(match[2]))
     if END.fullmatch(text) or number == 1 and text == EXACT_HEADER:
         return None
     raise ReportError(f"line {number}: not a line of a report: {ascii(text[:60])}")
@@ -229,4 +257,5 @@ def json_event(members: dict[str, Any], since: int) -> Event | None:
         return Show(tick, passes, len(regions), regions, active)
     applied = [Applied(run["slot"], run["action"], run["target"], int(run["start"], 16), int(run["end"], 16))
                for run in members["applied"]]
-    return Aggregation(tick, passes, len(regions), regions, active, applied)
+    left = {slot["slot"]: slot["left"] for slot in slots if slot["left"] is not None}
+    return Aggregation(tick, passes, len(regions), regions, active, applied, left)

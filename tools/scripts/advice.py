@@ -77,7 +77,7 @@ def marks(key: Key, run: Circumstances) -> str | None:
     if any(low <= metric < mid for metric in run.metrics):
         return None
     wanted = f"metric from {low} to {mid - 1}" if run.metrics else "metric"
-    return f"it is never active: it has watermarks, and no {wanted} comes"
+    return f"it is never active in a replay: it has watermarks, and no {wanted} comes"
 
 
 def target_filter(key: Key, run: Circumstances) -> str | None:

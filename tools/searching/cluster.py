@@ -21,7 +21,7 @@ from .handing import Answer, Chunk, Rows, in_order, timed
 from .points import Points
 from .runs import Inputs, rows_of
 
-PACKAGES = ("common.py", "comparing", "reports", "scripts", "searching", "tracing")
+PACKAGES = ("common.py", "reports", "scripts", "searching", "tracing")
 """What workers need of the tools."""
 TOOLS = Path(__file__).resolve().parent.parent
 DEBIANS_PYTHON = "/usr/bin/python3"

@@ -1,51 +1,45 @@
-"""What is measured of a run: the numbers of tools/compare.py, from a report and the exact counts of its workload."""
+"""What is measured of a run: what tools/compare.py says of its counts, by the exact counts of its workload, and what
+`damon reclaim` says of its pages."""
 from __future__ import annotations
 
 import re
-from dataclasses import dataclass, field
+from dataclasses import dataclass
 from typing import Iterator
 
-from comparing.paging import PAGEOUT
+from reports.events import MEMORY, Memory
+from reports.pages import size
 
-from .truth import PageSet, Truths
+from .truth import Truths
 
+REPLAY, RECLAIM = COMMANDS = ("replay", "reclaim")
+"""The commands of damon that run scripts."""
 LESS, MORE = "less", "more"
 MEASURES = {
     "checks": LESS, "hot_found": MORE, "hot_false": LESS, "cold_false": LESS, "working_set_error": LESS,
-    "applied": MORE, "put_out": LESS, "refaults": LESS, "out": MORE,
+    "applied": MORE, "pageouts": LESS, "refaults": LESS, "out": MORE,
 }
 """Each measure, and whether less or more of it is better. Of an error it is the distance from 0."""
+OF_MEMORY = ("pageouts", "refaults", "out")
+"""Those that `damon reclaim` alone has."""
 
 AGGREGATE = "\naggregate tick="
 SHOW = "\nshow tick="
 ROW = re.compile(r"\nrow ([^ ]+ [^ ]+) count=([1-9][0-9]*)")
 """A row that was found accessed, its place and its count. As rows tile the ranges, all other pages were not."""
 FIRST_ROW, FIRST_APPLY = "\nrow ", "\napply "
-APPLY = re.compile(r"\napply ([0-9]+) ([a-z_]+) ([^ ]+ [^ ]+) score=")
-LAST = re.compile(r"(?:.* )?checks=(\d+) hits=\d+\n")
+APPLY = re.compile(r"\napply [0-9]+ [a-z_]+ ([^ ]+ [^ ]+) score=")
+"""The place of a run; those of one slot do not overlap."""
+LAST = re.compile(r"end (?:.* )?checks=(\d+) hits=\d+\n(?:reclaim .*\n)?")
+"""The end of a report, from its line `end` on."""
 
 
 class ReportError(Exception):
     """A report that is none, or one of other pages."""
 
 
-@dataclass
-class Paged:
-    """The pages that are out, as in tools/compare.py, but for all slots together."""
-
-    out: PageSet = 0
-    put_out: int = 0
-    refaults: int = 0
-    out_sum: int = 0
-    """The pages that were out through a whole aggregation, added up."""
-
-    def add(self, accessed: PageSet, applied: PageSet) -> None:
-        """Takes one aggregation: what was accessed in it comes in, and then what schemes take goes out."""
-        self.refaults += (self.out & accessed).bit_count()
-        self.out &= ~accessed
-        self.out_sum += self.out.bit_count()
-        self.put_out += (applied & ~self.out).bit_count()
-        self.out |= applied
+def measures_by(command: str) -> tuple[str, ...]:
+    """The measures of runs by this command."""
+    return tuple(name for name in MEASURES if command == RECLAIM or name not in OF_MEMORY)
 
 
 @dataclass
@@ -64,7 +58,6 @@ class Sums:
     found_accessed: int = 0
     applied: int = 0
     aggregations: int = 0
-    paged: Paged = field(default_factory=Paged)
 
     def add(self, since: int, tick: int, block: str) -> None:
         """Adds the aggregation at a tick; the block has its lines. Raises ValueError or LookupError if it is none."""
@@ -80,22 +73,10 @@ class Sums:
         self.cold_wrong += (truth.accessed & ~found).bit_count()
         self.accessed += truth.accessed.bit_count()
         self.found_accessed += found.bit_count()
-        self.paged.add(truth.accessed, self.taken(block[: block.find(FIRST_ROW)]) if FIRST_APPLY in block else 0)
+        if FIRST_APPLY in block:
+            runs = map(self.truths.places.__getitem__, APPLY.findall(block[: block.find(FIRST_ROW)]))
+            self.applied += size(runs)
         self.aggregations += 1
-
-    def taken(self, head: str) -> PageSet:
-        """The pages that `pageout` was applied to. Adds what schemes of all actions were applied to."""
-        result = 0
-        by_slot: dict[tuple[str, str], list[str]] = {}
-        for slot, action, place in APPLY.findall(head):
-            by_slot.setdefault((slot, action), []).append(place)
-        for (_, action), places in by_slot.items():
-            pages = self.truths.pages_at(places)
-            # The runs of one slot do not overlap.
-            self.applied += pages.bit_count()
-            if action == PAGEOUT:
-                result |= pages
-        return result
 
 
 def sums_of(report: str, truths: Truths, share: float) -> Sums:
@@ -119,24 +100,34 @@ def blocks_of(report: str) -> Iterator[tuple[int, str]]:
         yield tick, block.partition(SHOW)[0]
 
 
-def measured(report: str, truths: Truths, share: float) -> dict[str, str]:
+def measured(report: str, truths: Truths, share: float, command: str) -> dict[str, str]:
     """Each measure as the text of its column; nothing where it is not defined. Raises ReportError."""
     sums = sums_of(report, truths, share)
-    last = LAST.fullmatch(report, report.rfind("\n", 0, -1) + 1)
+    last = LAST.fullmatch(report, report.rfind("\nend ") + 1)
     if not last:
         raise ReportError("the report has no last line")
-    paged = sums.paged
-    return {
+    found = {
         "checks": last[1],
         "hot_found": ratio(sums.hot_found, sums.hot),
         "hot_false": ratio(sums.called_hot - sums.hot_found, sums.called_hot),
         "cold_false": ratio(sums.cold_wrong, sums.called_cold),
         "working_set_error": ratio(sums.found_accessed - sums.accessed, sums.accessed),
         "applied": str(sums.applied),
-        "put_out": str(paged.put_out),
-        "refaults": str(paged.refaults),
-        "out": ratio(paged.out_sum, sums.aggregations),
     }
+    return {**found, **memory_measures(report, sums.aggregations)} if command == RECLAIM else found
+
+
+def memory_measures(report: str, aggregations: int) -> dict[str, str]:
+    """The measures that `damon reclaim` alone has, from what it says after each aggregation and at the end. Raises ReportError."""
+    found = [Memory(*map(int, match.groups())) for match in MEMORY.finditer(report)]
+    if len(found) != aggregations + 1:
+        raise ReportError("the report does not say after each aggregation how many pages are out")
+    *each, end = found
+    # Through an aggregation those pages were out that are out after it, less those that it put out itself and with those that
+    # it fetched back. Over all aggregations these add up to the numbers of the last one.
+    moved = each[-1].pageouts - each[-1].prefetches if each else 0
+    out = sum(one.out for one in each) - moved
+    return {"pageouts": str(end.pageouts), "refaults": str(end.refaults), "out": ratio(out, aggregations)}
 
 
 def ratio(part: int, whole: int) -> str:

@@ -15,7 +15,7 @@ from tracing.commits import PARTS
 from tracing.forms import FORMS
 from tracing.lackey import KINDS
 
-from .measures import MEASURES
+from .measures import COMMANDS, MEASURES, RECLAIM, REPLAY, measures_by
 
 SETTINGS = ("interval", "unit", "cap", "min", "max", "aggr")
 """The settings of a point, in the order of the columns; the seed comes last."""
@@ -44,6 +44,8 @@ class Source:
 class Plan:
     """What is run, and what is measured."""
 
+    command: str
+    """That of damon, by which scripts are run."""
     workloads: tuple[str, ...]
     """Paths as the plan has them."""
     are_traces: bool
@@ -128,16 +130,19 @@ def plan_from(table: Table, folder: Path) -> Plan:
     traces, scripts = table.strings("traces"), table.strings("scripts")
     if bool(traces) == bool(scripts):
         raise UsageError("the plan needs one of `traces` and `scripts`, a list of paths")
+    command = table.take("command", str, REPLAY)
+    if command not in COMMANDS:
+        raise UsageError(f"command is {command!r}, and must be one of {', '.join(COMMANDS)}")
     source = source_of(table, bool(traces))
     settings = settings_of(table.table("settings"), bool(traces))
     values = values_of(table.table("values"))
     seeds = settings.pop(SEED, ())
     schemes, commits = table.lines("schemes"), tuple(map(placed, table.lines("commits")))
-    hot, measures = measures_of(table.table("measure"))
+    hot, measures = measures_of(table.table("measure"), command)
     table.end()
     check_schemes(schemes)
     check_placeholders([*schemes, *(text for commit in commits for text in commit)], values)
-    return Plan(traces or scripts, bool(traces), source, settings, values, seeds, schemes, commits, hot, measures, folder)
+    return Plan(command, traces or scripts, bool(traces), source, settings, values, seeds, schemes, commits, hot, measures, folder)
 
 
 def source_of(table: Table, are_traces: bool) -> Source:
@@ -214,15 +219,18 @@ def placed(text: str) -> tuple[str, str]:
     return match[1], match[2]
 
 
-def measures_of(table: Table) -> tuple[float, tuple[str, ...]]:
+def measures_of(table: Table, command: str) -> tuple[float, tuple[str, ...]]:
     """What share makes a page hot, and which columns there are."""
     hot = table.members.pop("hot", 0.5)
     if type(hot) not in (int, float) or not 0 < hot <= 1:
         raise UsageError("hot of [measure] must be above 0 and at most 1")
-    columns = table.strings("columns") or tuple(MEASURES)
+    known = measures_by(command)
+    columns = table.strings("columns") or known
     for name in columns:
-        if name not in MEASURES or columns.count(name) > 1:
-            raise UsageError(f"columns of [measure] has {name!r}; it can have each of these once: {', '.join(MEASURES)}")
+        if name in MEASURES and name not in known:
+            raise UsageError(f'columns of [measure] has {name!r}, which needs command = "{RECLAIM}"')
+        if name not in known or columns.count(name) > 1:
+            raise UsageError(f"columns of [measure] has {name!r}; it can have each of these once: {', '.join(known)}")
     table.end()
     return float(hot), columns
 

@@ -11,7 +11,7 @@ from tracing.commits import commits_of
 from .measures import ReportError, measured
 from .plan import SEED, Plan, Value
 from .points import Point
-from .replaying import replayed
+from .running import ran
 from .workloads import Key, Workload
 
 DONE = "ok"
@@ -56,7 +56,7 @@ def answered(inputs: Inputs, program: str, workload: Workload, point: Point, see
     except PointError as error:
         return one_line(str(error)), {}
     try:
-        ended = replayed(program, script, inputs.seconds)
+        ended = ran(program, inputs.plan.command, script, inputs.seconds)
     except OSError as error:
         return one_line(f"{program}: {error.strerror}"), {}
     if ended is None:
@@ -66,7 +66,7 @@ def answered(inputs: Inputs, program: str, workload: Workload, point: Point, see
     if ended.status != OK:
         return one_line(ended.errors) or f"status {ended.status}", {}
     try:
-        return DONE, measured(ended.report, workload.truths, inputs.plan.hot)
+        return DONE, measured(ended.report, workload.truths, inputs.plan.hot, inputs.plan.command)
     except ReportError as error:
         return one_line(str(error)), {}
 

@@ -21,12 +21,12 @@ class Ended(NamedTuple):
     errors: str
 
 
-def replayed(program: str, script: bytes, seconds: float) -> Ended | None:
-    """Runs a script; None if it takes longer than that. Raises OSError if there is no such program."""
+def ran(program: str, command: str, script: bytes, seconds: float) -> Ended | None:
+    """Runs a command on a script; None if it takes longer than that. Raises OSError if there is no such program."""
     with in_memory("script") as read, in_memory("report") as written, in_memory("errors") as errors:
         read.write(script)
         read.seek(0)
-        with subprocess.Popen([program, "replay"], stdin=read, stdout=written, stderr=errors) as process:
+        with subprocess.Popen([program, command], stdin=read, stdout=written, stderr=errors) as process:
             if not ends_within(process.pid, seconds):
                 process.kill()
                 return None
