@@ -1,8 +1,7 @@
 -- Results that are kept as bits, one more each time.
-use Rattle.std.proofs.Common.{◌≡◌, inl, inr, ℕ, zero, suc, ◌+◌, ◌-◌, ◌*◌, ◌/◌, ◌%◌, ◌^◌, ◌≤◌, ◌<◌, Bool, true, false, List, [], ◌∷◌, ◌++◌, drop, length, map, take, set, get_or, length-set, get_or-set_same, get_or-set_other, length-append, refl, sym, ap, subst, ◌∙◌, arith, w64}
+use Rattle.std.proofs.Common.{◌≡◌, inl, inr, ℕ, zero, suc, ◌+◌, ◌-◌, ◌*◌, ◌/◌, ◌%◌, ◌^◌, ◌≤◌, ◌<◌, Bool, true, false, List, [], ◌∷◌, ◌++◌, drop, length, take, set, get_or, length-set, get_or-set_same, get_or-set_other, length-append, refl, sym, ap, subst, ◌∙◌, arith, w64}
 use Rattle.std.specs.Prelude.{◌≢◌, ◌==◌, bit_and, bit_or, slice_index, slice_index_or}
 use Rattle.std.specs.Int.{bit_at}
-use Rattle.std.specs.List.{range_with_len}
 use Rattle.std.proofs.lemmas.Bool.{cases_eq}
 use Rattle.std.proofs.lemmas.List.{get_or_append_left, get_or_default, get_or-append_right, get_or-drop, get_or-take, length-take}
 use Rattle.std.proofs.lemmas.List.FromFn.{get_or-map-range_with_len, length-map-range_with_len, map-range_with_len_more}
@@ -112,11 +111,12 @@ module _ (words : List ℕ) (packed : ArePacked words 0) where
             let none : slice_index (words ++ 0 ∷ []) (i / 64) ≡ 0 = get_or-append_right words (0 ∷ []) (length words) (i / 64) 0 refl past ∙ no_word (i / 64 - length words) in
             ap (λ v. bit_at v (i % 64) == 1) none ∙ zero_bit (i % 64);
       } where
-    no_word : (k : ℕ) → get_or {A = ℕ} (0 ∷ []) k 0 ≡ 0
-    no_word zero = refl
-    no_word (suc k) = refl
-    zero_bit : (k : ℕ) → (bit_at 0 k == 1) ≡ false
-    zero_bit k = ap (λ b. b == 1) (bit_at-zero k)
+        no_word : (k : ℕ) → get_or {A = ℕ} (0 ∷ []) k 0 ≡ 0
+        no_word zero = refl
+        no_word (suc k) = refl
+
+        zero_bit : (k : ℕ) → (bit_at 0 k == 1) ≡ false
+        zero_bit k = ap (λ b. b == 1) (bit_at-zero k)
 
   pub word_bits : packed_bits (words ++ 0 ∷ []) 64 ≡ packed_bits words 0
   word_bits =

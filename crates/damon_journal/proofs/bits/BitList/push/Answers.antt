@@ -1,7 +1,6 @@
-use Rattle.std.proofs.Common.{◌≡◌, ◌-◌, ◌++◌, [], ◌∷◌, Bool, List, ℕ, false, true, length, rules, sym, ap, ◌∙◌, subst}
-use Rattle.damon_journal.specs.Bits.{ArePacked, packed_bits, used_bits}
+use Rattle.std.proofs.Common.{◌≡◌, ◌-◌, false, true, length, rules, sym, subst}
 use Rattle.damon_journal.specs.declared.bits.BitList.TheInside.{Inside}
-use Rattle.damon_journal.proofs.Packing.{HasRoom, IsLonger, IsPut, longer_by, nothing_put, one_put, one_set, room_left, room_made, set_read}
+use Rattle.damon_journal.proofs.Packing.{HasRoom, IsLonger, longer_by, nothing_put, one_put, one_set, room_left, room_made, set_read}
 use Rattle.damon_journal.proofs.bits.BitList.push.Goals.{then-bit, else-bit, then-self-eq0+in_ok-push, else-self-eq0}
 use Rattle.damon_journal.proofs.bits.BitList.push.Goals as goal
 

@@ -13,7 +13,6 @@ use Rattle.damon_journal.specs.Ahead.{receipts_of}
 use Rattle.damon_journal.specs.EntryLine.{n_bits_of}
 use Rattle.damon_journal.specs.Folding.{open_hits}
 use Rattle.damon_journal.specs.Kept.{GainsEntry}
-use Rattle.damon_journal.specs.Replaying.{IsCarried}
 use Rattle.damon_journal.specs.Spelled.{check_front}
 use Rattle.damon_journal.specs.Steps.{load_steps}
 use Rattle.damon_journal.proofs.EntriesSay.{n_bits_are}
@@ -85,7 +84,7 @@ returns-clause-taken c = λ v j h.
     let unseen = ap (λ n. old.unreceived + n) (open_are c ∙ ap (λ p. open_hits rs (load_steps p picks bits)) pass) in
     let each : length bits ≡ rows = (n_bits_are rows c.in-Some.digits.now bits read).1 in
     let loads : c.from.result ≡ length bits = c.from.ensures ∙ (rows_are c ∙ sym each) in
-    let carried = subst (λ bs. IsCarried v v j (Check (ticks + 1)) bs c.check.new.self) c.deref-4.ensures.value (c.check.ensures.entry v j h.replay) in
+    let carried = c.check.ensures.entry v j h.replay in
     let rest : SameRest bits old new = record { version = refl; next = refl; receipts = refl; space = c.check.ensures.space; kept = kept_is c } in
     ((Check (ticks + 1), bits), said, check_stands v j (ticks + 1) bits old new h carried rest refl each last unseen refl (ap (λ n. old.counts.loads + n) loads) (ap (λ n. old.counts.hits + n) (hits_are c)))
 

@@ -1,10 +1,9 @@
-use Rattle.std.proofs.Common.{◌≡◌, ◌+◌, ◌<◌, [], ◌∷◌, length, map, refl, ap, sym, ◌∙◌, subst}
+use Rattle.std.proofs.Common.{◌+◌, ◌<◌, [], ◌∷◌, length, map, refl, ap, sym, ◌∙◌, subst}
 use Rattle.damon_core.specs.Event.{IsObserving, load, observe}
 use Rattle.damon_core.specs.Makes.{Makes-append}
 use Rattle.damon_core.specs.State.{Core, row_count}
 use Rattle.damon_core.specs.Stands.{Stands, last_pass}
 use Rattle.damon_journal.specs.declared.entry.Entry.TheVariants.{Check}
-use Rattle.damon_journal.specs.Phases.{phase_loaded}
 use Rattle.damon_journal.specs.Replaying.{Carries, ReplayingView}
 use Rattle.damon_journal.proofs.Loading.{all_observed}
 use Rattle.damon_journal.proofs.Carrying.{carries_check, pass_ended}
