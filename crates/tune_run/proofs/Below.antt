@@ -34,7 +34,7 @@ use Rattle.tune_run.proofs.Staying.{IsNoCommit, schemes_stay}
 
 -- ---- changes of the script
 
-own_top : (scheme : Option Scheme) (top : ℕ) → IfSome (option_and_then tunable_bytes scheme) (λ bytes. bytes ≤ top_after scheme top)
+pub own_top : (scheme : Option Scheme) (top : ℕ) → IfSome (option_and_then tunable_bytes scheme) (λ bytes. bytes ≤ top_after scheme top)
 own_top None top = tt
 own_top (Some s) top = by_parts s.marks s.quota
   where
@@ -46,7 +46,7 @@ own_top (Some s) top = by_parts s.marks s.quota
     by_parts (Some m) quota = tt
 
 -- what is asked of a slot, by its scheme and its top
-abbrev below_at : Option Scheme → ℕ → Type 0
+abbrev pub below_at : Option Scheme → ℕ → Type 0
 below_at held top = IfSome (option_and_then tunable_bytes held) (λ bytes. bytes ≤ top)
 
 given_below : (t : TunerView) (c : SlotChange) → c.slot < length t.schemes → c.slot < length t.tops → AreBelowTops t → AreBelowTops (given c t)

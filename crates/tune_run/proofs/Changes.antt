@@ -25,7 +25,7 @@ pub record IsRetuned (t : TunerView) (slot : ℕ) (moment : Moment) (c : SlotCha
   pub is : c ≡ record { slot = slot; scheme = Some (with_bytes scheme bytes) }
 
 -- the change of a slot to a scheme, if there is one
-abbrev change_to : ℕ → Option Scheme → Option SlotChange
+abbrev pub change_to : ℕ → Option Scheme → Option SlotChange
 change_to slot held = option_map (λ s. record { slot = slot; scheme = Some s }) held
 
 pub retuned_is : (t : TunerView) (slot : ℕ) (moment : Moment) (c : SlotChange) → change_at t slot moment ≡ Some c → IsRetuned t slot moment c

@@ -132,18 +132,17 @@ module _ (laws : Bounds) (slot : ℕ) (moment : Moment) (bytes top : ℕ) where
 
   only_scored : (goals : List Goal) → nexts goals slot moment bytes top ≡ filter_map by_scored (scored_goals goals slot moment)
   only_scored [] = refl
-  only_scored (g ∷ goals) =
-      let others = scored_goals goals slot moment in
-      by_test (g.slot == slot) (score_of g.kind moment) refl
+  only_scored (g ∷ goals) = by_test (g.slot == slot) (score_of g.kind moment) refl (only_scored goals)
     where
       by_test : (b : Bool) (o : Option ℕ) → score_of g.kind moment ≡ o
+          → nexts goals slot moment bytes top ≡ filter_map by_scored (scored_goals goals slot moment)
           → cons_option (if b then option_map (next g bytes top) o else None) (nexts goals slot moment bytes top)
           ≡ filter_map by_scored (cond (b && is_some o) (g ∷ scored_goals goals slot moment) (scored_goals goals slot moment))
-      by_test true None is = only_scored goals
-      by_test true (Some score) is =
-          ap (λ ns. next g bytes top score ∷ ns) (only_scored goals)
+      by_test true None is rest = rest
+      by_test true (Some score) is rest =
+          ap (λ ns. next g bytes top score ∷ ns) rest
           ∙ ap (λ x. cons_option (option_map (next g bytes top) x) (filter_map by_scored (scored_goals goals slot moment))) (sym is)
-      by_test false o is = only_scored goals
+      by_test false o is rest = rest
 
   -- by one scored goal alone
   pub one_scored : (goals : List Goal) (g : Goal) (score : ℕ) → scored_goals goals slot moment ≡ g ∷ [] → score_of g.kind moment ≡ Some score

@@ -91,7 +91,8 @@ by_check parts s m (Ok t) is scored = subst (λ (x : State). AllowsCommit x.core
 by_check parts s m (Err fault) is scored =
     let none : moment_after (after s (commit parts)) (commit parts) ≡ None =
     ap (λ x. if x then option_map (λ value. Metric value) parts.metric else None) (is_told [] [] parts s (Err fault) is) in
-    absurd (cc none scored)
+    let bad : None ≡ Some m = sym none ∙ scored in
+    absurd (cc bad)
 
 scored_is_free : (s : State) (e : Event) (m : Moment) → moment_after (after s e) e ≡ Some m → AllowsCommit (after s e).core.phase
 scored_is_free s (touch page) m scored = absurd (cc scored)
@@ -185,7 +186,7 @@ module _ (laws : Bounds) (law : NamesSlots) (goals : List Goal) (r : Course) (e 
       ∙ sym (bytes_tuned then_tuner slot m bytes was) ∙ sym (bytes_then m slot some within) ∙ is in
       let same : next g bytes top score ≡ new = cc now in
       subst (DoFollow g top score bytes) same (rise g bytes top score, fall g bytes top score))
-      (λ beyond. absurd (cc (no_bytes slot beyond) is))
+      (λ beyond. let bad : None ≡ Some new = sym (no_bytes slot beyond) ∙ is in absurd (cc bad))
 
   pub course_carries : IsCarried goals (course_after (tune_callbacks goals) r e).memory (course_after (tune_callbacks goals) r e).moment.state
   course_carries =

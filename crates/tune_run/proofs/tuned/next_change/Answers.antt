@@ -1,4 +1,4 @@
-use Rattle.std.proofs.Common.{◌≡◌, ◌<◌, Some, None, ap, sym, subst, ◌∙◌, arith}
+use Rattle.std.proofs.Common.{◌≡◌, ◌<◌, ◌≤◌, Some, None, ap, sym, subst, ◌∙◌, arith}
 use Rattle.damon_core.specs.Slots.{slot_count}
 use Rattle.quota_goal.specs.Tuned.{TunerView, after_change, change_at}
 use Rattle.tune_run.specs.Kept.{IsNextChange, changes_from}
