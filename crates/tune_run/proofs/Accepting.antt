@@ -119,7 +119,10 @@ set_sound : (version : Version) (slot : ℕ) (scheme : Scheme) (notes : List Not
     → AreSound version notes → AreSound version (set slot scheme ∷ notes)
 set_sound version slot scheme notes ok sound i held is =
     (elim (slot == i) as (λ b. (slot == i) ≡ b → (if b then Some scheme else scheme_of notes i) ≡ Some held → checked_in version i held ≡ Ok tt) [
-      | true ↦ λ test here. let at : slot ≡ i = grind (arith, nat_tests) in let what : scheme ≡ held = cc here in subst (λ (x : Scheme). checked_in version i x ≡ Ok tt) what (subst (λ k. checked_in version k scheme ≡ Ok tt) at ok)
+      | true ↦ λ test here.
+          let at : slot ≡ i = grind (arith, nat_tests) in
+          let what : scheme ≡ held = cc here in
+          subst (λ (x : Scheme). checked_in version i x ≡ Ok tt) what (subst (λ k. checked_in version k scheme ≡ Ok tt) at ok)
       | false ↦ λ test here. sound i held here
     ]) refl is
 
