@@ -1,7 +1,7 @@
 -- The bytes of a slot with one goal, as long as the scores stay on one side of the target.
-use Rattle.std.proofs.Common.{◌≡◌, ℕ, zero, suc, ◌+◌, ◌<◌, ◌≤◌, min, Bool, true, false, List, [], ◌∷◌, ◌++◌, get_or, Option, Some, None, Ok, Err, Result, refl, sym, ap, subst, ◌∙◌, arith}
+use Rattle.std.proofs.Common.{◌≡◌, ℕ, ◌<◌, ◌≤◌, min, true, false, List, [], ◌∷◌, get_or, Option, Some, None, Ok, Err, Result, refl, sym, ap, subst, ◌∙◌, arith}
 use Rattle.std.specs.Prelude.{◌==◌, IfSome, cond, filter_map, if◌then◌else◌}
-use Rattle.std.specs.List.{AllByRecursion, cons_option, filter}
+use Rattle.std.specs.List.{AllByRecursion, cons_option}
 use Rattle.std.specs.Option.{option_and_then, option_map, option_map_or, unwrap_or}
 use Rattle.std.proofs.lemmas.List.{get_or-set_other}
 use Rattle.damon_types.specs.declared.scheme.SlotChange.{SlotChange}
@@ -13,7 +13,6 @@ use Rattle.damon_core.specs.Event.{Event, touch, prepare, clear, load, observe, 
 use Rattle.damon_core.specs.Reached.{run}
 use Rattle.damon_core.specs.Slots.{slot_count}
 use Rattle.damon_core.specs.State.{State}
-use Rattle.damon_world.specs.Moment.{along}
 use Rattle.damon_world.specs.Plays.{along-state}
 use Rattle.script_run.specs.Course.{Course, course_after, onward}
 use Rattle.quota_goal.specs.declared.goals.Goal.{Goal}

@@ -1,10 +1,10 @@
 -- What holds along each run with quotas that follow goals.
-use Rattle.std.specs.Prelude.{◌≡◌, ℕ, ◌<◌, ◌≤◌, min, ◌&&◌, ◌==◌, List, [], ◌∷◌, ◌++◌, filter, map, Option, Some, None, IfSome, Ok}
+use Rattle.std.specs.Prelude.{◌≡◌, ℕ, ◌<◌, ◌≤◌, min, ◌&&◌, ◌==◌, List, [], ◌∷◌, ◌++◌, filter, map, Option, Some, IfSome, Ok}
 use Rattle.std.specs.List.{AllByRecursion}
 use Rattle.std.specs.Option.{is_some, option_and_then}
 use Rattle.damon_core.specs.After.{after}
 use Rattle.damon_core.specs.Commit.{check_of}
-use Rattle.damon_core.specs.Event.{Event, touch, prepare, clear, load, observe, aggregate, commit, show}
+use Rattle.damon_core.specs.Event.{Event, commit}
 use Rattle.damon_core.specs.Reached.{run}
 use Rattle.damon_core.specs.State.{State, opening}
 use Rattle.damon_control.specs.Script.{ScriptValue}
