@@ -1,7 +1,7 @@
 -- What serving slots does, one slot after another.
-use Rattle.std.proofs.Common.{◌≡◌, ℕ, zero, suc, ◌+◌, ◌≤◌, ◌<◌, Bool, true, false, not, ◌&&◌, ◌||◌, List, [], ◌∷◌, ◌++◌, refl, sym, ap, subst, ◌∙◌, arith}
+use Rattle.std.proofs.Common.{◌≡◌, ℕ, zero, suc, ◌+◌, ◌≤◌, ◌<◌, Bool, true, false, not, ◌&&◌, ◌||◌, List, [], ◌∷◌, refl, sym, ap, ◌∙◌, arith}
 use Rattle.std.specs.Prelude.{Option, Some, None, count_by, length, if◌then◌else◌}
-use Rattle.std.specs.List.{AllByRecursion, range_with_len}
+use Rattle.std.specs.List.{AllByRecursion}
 use Rattle.std.specs.Option.{option_map_or}
 use Rattle.damon_types.specs.declared.scheme.Quota.{Quota}
 use Rattle.damon_types.specs.declared.scheme.Scheme.{Scheme}
@@ -20,14 +20,14 @@ use Rattle.damon_core.specs.Serve.{Serving, nothing_served, run_served, serve_sc
 use Rattle.damon_core.specs.Slots.{charged_of, cost_of, is_active_in, scheme_of, slot_count}
 use Rattle.damon_core.specs.State.{State}
 use Rattle.reclaim_module.specs.Counts.{pageouts_of}
-use Rattle.reclaim_module.specs.Out.{holds_pageout, holds_willneed, is_in, is_out, is_paged_out}
-use Rattle.reclaim_module.specs.Pages.{ReclaimView, count_pages, each_page, out_count}
+use Rattle.reclaim_module.specs.Out.{holds_pageout, holds_willneed, is_in, is_out}
+use Rattle.reclaim_module.specs.Pages.{ReclaimView, count_pages, out_count}
 use Rattle.reclaim_module.specs.SlotBySlot.{PagesOutResident, PagesOutSlotBySlot, SlotsPageOut}
 use Rattle.reclaim_module.specs.Stands.{ReclaimStands}
 use Rattle.reclaim_module.proofs.Balancing.{one_held, sixteen}
 use Rattle.reclaim_module.proofs.Counting.{count_none, count_same}
 use Rattle.reclaim_module.proofs.Moving.{out_count_is, resident_count_is}
-use Rattle.reclaim_module.proofs.Serving.{AreOf, all_append, of_slot, slot_same, turn_same}
+use Rattle.reclaim_module.proofs.Serving.{AreOf, all_append, of_slot, slot_same}
 use Rattle.reclaim_module.proofs.Standing.{still_by, still_out, still_pageouts}
 
 -- Notes that tell the same of the pages that are out, of how many went out, and of the schemes.

@@ -106,7 +106,7 @@ module _ (slot tick : ℕ) (quota : Option Quota) (notes : List Note) where
     | false ↦ s
   ]
 
-  pub turn_same : (i : ℕ) → scheme_of (with_turn slot tick quota notes) i ≡ scheme_of notes i
+  turn_same : (i : ℕ) → scheme_of (with_turn slot tick quota notes) i ≡ scheme_of notes i
   turn_same i = elim (window_ends notes slot tick quota) as (λ b. scheme_of (if b then turned slot tick ∷ notes else notes) i ≡ scheme_of notes i) [
     | true ↦ refl
     | false ↦ refl

@@ -1,17 +1,14 @@
 -- Each moment of a run under proactive reclaim.
-use Rattle.std.proofs.Common.{◌≡◌, ℕ, ◌+◌, Bool, true, not, List, [], ◌∷◌, ◌++◌, refl, sym, subst, ◌∙◌, arith}
+use Rattle.std.proofs.Common.{◌≡◌, ℕ, ◌+◌, true, not, List, [], ◌∷◌, ◌++◌, refl, subst, arith}
 use Rattle.damon_types.specs.Space.{pages_of}
 use Rattle.damon_core.specs.After.{after}
-use Rattle.damon_core.specs.Event.{Event, Fits, touch, prepare, clear, load, observe, aggregate, commit, show}
+use Rattle.damon_core.specs.Event.{Event, touch, prepare, clear, load, observe, aggregate, commit, show}
 use Rattle.damon_core.specs.Note.{Note}
 use Rattle.damon_core.specs.Reached.{AllFit, Reached, run}
 use Rattle.damon_core.specs.State.{State, opening}
-use Rattle.damon_control.specs.Script.{ScriptValue}
-use Rattle.damon_control.specs.Sound.{IsSound}
 use Rattle.script_run.specs.BoundAlong.{EachRunIsBound}
 use Rattle.script_run.specs.Callbacks.{FitAlways, FitByHit}
 use Rattle.script_run.specs.Choices.{EachRunChoosesBest}
-use Rattle.script_run.specs.Unfold.{unfold_with}
 use Rattle.reclaim_module.specs.Counts.{pageouts_of, prefetches_of, refaults_of}
 use Rattle.reclaim_module.specs.Out.{IsOutSinceLast, is_out}
 use Rattle.reclaim_module.specs.Pages.{count_pages}

@@ -3,7 +3,6 @@ use Rattle.std.proofs.Common.{◌≡◌, ℕ, ◌+◌, ◌-◌, ◌*◌, ◌^◌
 use Rattle.std.specs.List.{AllByRecursion}
 use Rattle.std.proofs.lemmas.Nat.{mul-le}
 use Rattle.damon_types.specs.declared.scheme.TheConstants.{MAX_SLOT}
-use Rattle.damon_types.specs.declared.space.Target.{Target}
 use Rattle.damon_types.specs.Space.{IsSpace, pages_of}
 use Rattle.scheme_engine.specs.declared.applied.AppliedRun.{AppliedRun}
 use Rattle.scheme_engine.specs.Slots.{SlotValue}
@@ -19,7 +18,7 @@ use Rattle.damon_core.specs.State.{Core, State}
 use Rattle.script_run.specs.Calls.{IsAggregated}
 use Rattle.reclaim_module.specs.Counts.{pageouts_of}
 use Rattle.reclaim_module.specs.Pages.{ReclaimView}
-use Rattle.reclaim_module.specs.Stands.{ReclaimStands, after_applied, after_event}
+use Rattle.reclaim_module.specs.Stands.{after_applied, after_event}
 use Rattle.reclaim_run.specs.Stands.{Models}
 use Rattle.reclaim_run.proofs.Following.{FollowLaws, models_follow}
 
