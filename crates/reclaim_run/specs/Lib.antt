@@ -1,0 +1,5 @@
+pub mod Reclaimed
+pub mod InPlace
+pub mod Stands
+pub mod Along
+pub mod Kept
