@@ -3,11 +3,12 @@ ghost use Rattle.std.specs.Prelude.{◌≡◌, ℕ, ◌+◌, ◌-◌, ◌*◌, �
 ghost use Rattle.std.specs.List.{AllByRecursion};
 ghost use Rattle.damon_types.specs.declared.scheme.Action.{Action};
 ghost use Rattle.damon_types.specs.declared.scheme.Scheme.{Scheme};
+ghost use Rattle.damon_types.specs.declared.scheme.TheConstants.{MAX_SLOT};
 ghost use Rattle.damon_types.specs.Space.{pages_of};
 ghost use Rattle.live_commit.specs.Setup.{SetupValue};
 ghost use Rattle.scheme_engine.specs.declared.applied.AppliedRun.{AppliedRun};
 ghost use Rattle.damon_core.specs.After.{after};
-ghost use Rattle.damon_core.specs.Aggregate.{aggregated};
+ghost use Rattle.damon_core.specs.Aggregate.{aggregated, served};
 ghost use Rattle.damon_core.specs.Event.{Event, Fits};
 ghost use Rattle.damon_core.specs.Note.{Note, ran, touched};
 ghost use Rattle.damon_core.specs.Reached.{AllFit, Reached, run};
@@ -17,6 +18,7 @@ ghost use Rattle.reclaim_module.specs.Calls.{after_action, after_touch, all_resi
 ghost use Rattle.reclaim_module.specs.Counts.{pageouts_of, prefetches_of, refaults_of};
 ghost use Rattle.reclaim_module.specs.Out.{IsOutSinceLast, is_out};
 ghost use Rattle.reclaim_module.specs.Pages.{ReclaimView, count_pages};
+ghost use Rattle.reclaim_module.specs.SlotBySlot.{PagesOutSlotBySlot};
 ghost use Rattle.reclaim_module.specs.Stands.{LeavesPages, MovesNothing, ReclaimStands, TouchesWithin, action_in, after_applied, after_event, after_events, after_runs};
 
 /// A new model stands for notes that move nothing, as those of an opening are. Where a model stands for
@@ -120,6 +122,19 @@ pub fn model_follows_events()
     ensures leave { (es : List Event) (s : State) (r : ReclaimView)
         → AllByRecursion LeavesPages es → after_events es s r ≡ r }
     ensures space { (e : Event) (s : State) → (after s e).core.space ≡ s.core.space }
+{}
+
+/// What an aggregation pages out is, slot by slot, what is resident of the pages that the `pageout` scheme
+/// of the slot is applied to.
+pub fn slots_page_out_what_is_resident()
+    ensures { (s : State) → PagesOutSlotBySlot s }
+{}
+
+/// An aggregation keeps the scheme of each slot, and each of its runs is of one of the slots.
+pub fn aggregations_keep_schemes()
+    ensures schemes { (words : List ℕ) (s : State) (slot : ℕ)
+        → scheme_of (aggregated words s).notes slot ≡ scheme_of s.notes slot }
+    ensures runs { (s : State) → AllByRecursion (λ run. run.slot ≤ MAX_SLOT) (served s).runs }
 {}
 
 /// Runs that are applied follow one another: those of a list and then others, or one more each time.

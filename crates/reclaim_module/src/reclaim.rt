@@ -94,6 +94,13 @@ impl Reclaim {
         }
     }
 
+    /// The number of pages of the space.
+    pub fn pages(&self) -> u32
+        ensures { result ≡ length self.now.out }
+    {
+        self.set.pages()
+    }
+
     /// Whether a page of the space is out.
     pub fn is_out(&self, page: u32) -> bool
         requires { page < length self.now.out }

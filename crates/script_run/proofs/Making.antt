@@ -1,5 +1,5 @@
 -- What a world and callbacks make together.
-use Rattle.std.proofs.Common.{◌≡◌, ℕ, ◌*◌, List, [], ◌∷◌, ◌++◌, refl, sym, ap, ◌∙◌, subst, append_assoc, append-nil, min}
+use Rattle.std.proofs.Common.{◌≡◌, ℕ, ◌*◌, ◌^◌, ◌<◌, List, [], ◌∷◌, ◌++◌, refl, sym, ap, ◌∙◌, subst, append_assoc, append-nil, min}
 use Rattle.std.specs.List.{AllByRecursion}
 use Rattle.rand_core.specs.Stream.{Stream}
 use Rattle.live_commit.specs.declared.phase.Phase.TheVariants.{Due}
@@ -153,6 +153,10 @@ module _ {R C : Type 0} (stream : R → Stream) (c : Callbacks) (stands : C → 
   due_is : (m : Moment) → m.state.core.phase ≡ Due → next_event m.state m.stream ≡ aggregate (drawn (2 * m.state.core.attrs.max) m.stream)
   due_is m due = ap (λ ph. event_in ph m.state m.stream) due
 
+  -- an aggregation is due, and the passes in all are below 2^40
+  abbrev pub IsDue : WorldView R → Type 0
+  IsDue w = (w.monitor.core.phase ≡ Due) × (w.monitor.core.ticks < 2 ^ 40)
+
   due_at : (w : WorldView R) (k : C) (r : Course) → w.monitor.core.phase ≡ Due → StandAt stream stands w k r → r.moment.state.core.phase ≡ Due
   due_at w k r due here = ap (λ (q : Core). q.phase) (sym here.world.state.monitor.same) ∙ due
 
@@ -168,16 +172,17 @@ module _ {R C : Type 0} (stream : R → Stream) (c : Callbacks) (stands : C → 
   words_at r = drawn (2 * r.moment.state.core.attrs.max) r.moment.stream
 
   -- what callbacks are told of the aggregation that was due
-  pub aggregated_at : (w w' : WorldView R) (k : C) → w.monitor.core.phase ≡ Due → Plays stream w w' (λ m. events_of_steps 1 m)
+  pub aggregated_at : (w w' : WorldView R) (k : C) → IsDue w → Plays stream w w' (λ m. events_of_steps 1 m)
       → (r : Course) → Reached r.moment.state → StandAt stream stands w k r → IsAggregated (λ memory s. stands k memory s) w'.monitor r.memory r.moment.state (words_at r)
   aggregated_at w w' k due plays r reached here =
       let made = plays r.moment reached here.world in
-      let is = due_is r.moment (due_at w k r due here) in
+      let is = due_is r.moment (due_at w k r due.0 here) in
       record {
         reached = reached;
         stood = here.callbacks;
         fits = subst (λ e. Fits r.moment.state e) is made.0.0;
         shows = subst (λ e. Stands w'.monitor (after r.moment.state e)) is made.1.state.monitor;
+        few = subst (λ (q : Core). q.ticks < 2 ^ 40) here.world.state.monitor.same due.1;
       }
 
   -- the callbacks stand for the state after each aggregation that they may have been told of
@@ -185,12 +190,12 @@ module _ {R C : Type 0} (stream : R → Stream) (c : Callbacks) (stands : C → 
   GoesAlong monitor k k' = (memory : List ℕ) (s : State) (words : List ℕ) → IsAggregated (λ memory s. stands k memory s) monitor memory s words
       → stands k' (remembered c memory s (aggregate words)) (after s (aggregate words))
 
-  pub aggregation_plays : (w w' : WorldView R) (k k' : C) → w.monitor.core.phase ≡ Due → Plays stream w w' (λ m. events_of_steps 1 m)
+  pub aggregation_plays : (w w' : WorldView R) (k k' : C) → IsDue w → Plays stream w w' (λ m. events_of_steps 1 m)
       → GoesAlong w'.monitor k k'
       → PlaysOne w w' k k' (λ r. next_event r.moment.state r.moment.stream)
   aggregation_plays w w' k k' due plays follow r reached here =
       let made = plays r.moment reached here.world in
-      let is = due_is r.moment (due_at w k r due here) in (
+      let is = due_is r.moment (due_at w k r due.0 here) in (
         made.0.0,
         record {
           world = made.1;
@@ -200,19 +205,19 @@ module _ {R C : Type 0} (stream : R → Stream) (c : Callbacks) (stands : C → 
         },
       )
 
-  pub somewhere-aggregated : (w w' : WorldView R) (k k' : C) → w.monitor.core.phase ≡ Due → Plays stream w w' (λ m. events_of_steps 1 m)
+  pub somewhere-aggregated : (w w' : WorldView R) (k k' : C) → IsDue w → Plays stream w w' (λ m. events_of_steps 1 m)
       → GoesAlong w'.monitor k k' → StandSomewhere stream stands w k → StandSomewhere stream stands w' k'
   somewhere-aggregated w w' k k' due plays follow there =
       somewhere-one w w' k k' (λ r. next_event r.moment.state r.moment.stream) (aggregation_plays w w' k k' due plays follow) there
 
   -- the text of the aggregation that was due and the lines of callbacks
-  pub aggregation_writes : (w w' : WorldView R) (k k' : C) (form : Form) (x y z : List ℕ) → w.monitor.core.phase ≡ Due → Plays stream w w' (λ m. events_of_steps 1 m)
+  pub aggregation_writes : (w w' : WorldView R) (k k' : C) (form : Form) (x y z : List ℕ) → IsDue w → Plays stream w w' (λ m. events_of_steps 1 m)
       → GoesAlong w'.monitor k k'
       → y ≡ x ++ aggregate_text form (printed_monitor w'.monitor)
       → ((memory : List ℕ) (s : State) (words : List ℕ) → stands k' memory s → Stands w'.monitor s → z ≡ y ++ c.writes memory s (aggregate words))
       → WritesOne w k form x z (λ r. next_event r.moment.state r.moment.stream)
   aggregation_writes w w' k k' form x y z due plays follow grew lines r reached here =
-      let is = due_is r.moment (due_at w k r due here) in
+      let is = due_is r.moment (due_at w k r due.0 here) in
       let words = words_at r in
       let shown = aggregated_at w w' k due plays r reached here in
       let s = after r.moment.state (aggregate words) in
@@ -224,13 +229,13 @@ module _ {R C : Type 0} (stream : R → Stream) (c : Callbacks) (stands : C → 
       ∙ append_assoc x own added)
 
   -- what was still to be put in then is what callbacks put in after it
-  pub aggregation_puts : (w w' : WorldView R) (k : C) (ps : List Event) → w.monitor.core.phase ≡ Due → Plays stream w w' (λ m. events_of_steps 1 m)
+  pub aggregation_puts : (w w' : WorldView R) (k : C) (ps : List Event) → IsDue w → Plays stream w w' (λ m. events_of_steps 1 m)
       → ((memory : List ℕ) (s : State) (words : List ℕ) → IsAggregated (λ memory s. stands k memory s) w'.monitor memory s words
       → ps ≡ put_after c memory s (aggregate words))
       → (r : Course) → Reached r.moment.state → StandAt stream stands w k r
       → ps ≡ put_after c r.memory r.moment.state (next_event r.moment.state r.moment.stream)
   aggregation_puts w w' k ps due plays puts r reached here =
-      let is = due_is r.moment (due_at w k r due here) in
+      let is = due_is r.moment (due_at w k r due.0 here) in
       subst (λ e. ps ≡ put_after c r.memory r.moment.state e) (sym is) (puts r.memory r.moment.state (words_at r) (aggregated_at w w' k due plays r reached here))
 
 -- ---- commits that are put in one after another

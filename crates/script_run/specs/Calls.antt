@@ -1,5 +1,5 @@
 -- What the code of callbacks is told, and what it makes of it.
-use Rattle.std.specs.Prelude.{◌≡◌, ℕ, List, Result}
+use Rattle.std.specs.Prelude.{◌≡◌, ℕ, ◌^◌, ◌<◌, List, Result}
 use Rattle.live_commit.specs.Commit.{CommitValue}
 use Rattle.live_commit.specs.declared.fault.CommitFault.{CommitFault}
 use Rattle.damon_core.specs.declared.changed.Changed.{Changed}
@@ -19,12 +19,14 @@ MayFollow stands es = (memory : List ℕ) × (s : State) × Reached s × stands 
 abbrev pub Follows : {C : Type 0} → (C → List ℕ → State → Type 0) → C → C → List Event → Type 0
 Follows stands old new es = (memory : List ℕ) (s : State) → Reached s → stands old memory s → AllFit s es → stands new memory (run s es)
 
--- an aggregation of a reached state for which the callbacks stand, with these random words, after which the monitor stands
+-- An aggregation of a reached state for which the callbacks stand, with these random words, after which the monitor stands. The passes
+-- in all are below 2^40.
 pub record IsAggregated (stands : List ℕ → State → Type 0) (monitor : MonitorView) (memory : List ℕ) (s : State) (words : List ℕ) : Type 0 where
   pub reached : Reached s
   pub stood : stands memory s
   pub fits : Fits s (aggregate words)
   pub shows : Stands monitor (after s (aggregate words))
+  pub few : s.core.ticks < 2 ^ 40
 
 -- a commit in a reached state for which the callbacks stand, with this answer
 pub record IsCommitted (stands : List ℕ → State → Type 0) (parts : CommitValue) (answer : Result Changed CommitFault) (memory : List ℕ) (s : State) : Type 0 where

@@ -17,11 +17,12 @@ after_aggregation-requires g c =
     let old = c.args.world.now in
     let new = c.advance.new.self in
     let kk = c.args.callbacks.now in
+    let due = (c.requires.due, c.requires.ticks) in
     let plays = one_step stream k stands old new c.advance.result c.requires.due c.advance.ensures.count c.advance.ensures.plays in
     let there = c.requires.somewhere in
     let r = there.course in
     let words = words_at stream k stands r in
-    let is = aggregated_at stream k stands old new kk c.requires.due plays r there.reached there.here in
+    let is = aggregated_at stream k stands old new kk due plays r there.reached there.here in
     (r.memory, r.moment.state, words, subst (λ v. IsAggregated (λ memory t. stands kk memory t) v r.memory r.moment.state words) (sym c.monitor.ensures) is)
 
 pub put_in-requires : goal.put_in-requires
@@ -32,10 +33,11 @@ put_in-requires g c =
     let old = c.args.world.now in
     let new = c.advance.new.self in
     let kk = c.args.callbacks.now in
+    let due = (c.requires.due, c.requires.ticks) in
     let plays = one_step stream k stands old new c.advance.result c.requires.due c.advance.ensures.count c.advance.ensures.plays in
     let told = c.after_aggregation in
     let follow = subst (λ v. GoesAlong stream k stands v kk told.new.self) c.monitor.ensures told.ensures.stands in
-    somewhere-aggregated stream k stands old new kk told.new.self c.requires.due plays follow c.requires.somewhere
+    somewhere-aggregated stream k stands old new kk told.new.self due plays follow c.requires.somewhere
 
 pub returns-in_err-print_aggregate-clause-err : goal.returns-in_err-print_aggregate-clause-err
 returns-in_err-print_aggregate-clause-err g c =
@@ -50,10 +52,11 @@ returns-in_err-print_aggregate-clause-somewhere g c =
     let old = c.args.world.now in
     let new = c.advance.new.self in
     let kk = c.args.callbacks.now in
+    let due = (c.requires.due, c.requires.ticks) in
     let plays = one_step stream k stands old new c.advance.result c.requires.due c.advance.ensures.count c.advance.ensures.plays in
     let told = c.after_aggregation in
     let follow = subst (λ v. GoesAlong stream k stands v kk told.new.self) c.monitor.ensures told.ensures.stands in
-    somewhere-aggregated stream k stands old new kk told.new.self c.requires.due plays follow c.requires.somewhere
+    somewhere-aggregated stream k stands old new kk told.new.self due plays follow c.requires.somewhere
 
 pub returns-in_err-append_lines-clause-err : goal.returns-in_err-append_lines-clause-err
 returns-in_err-append_lines-clause-err g c =
@@ -68,10 +71,11 @@ returns-in_err-append_lines-clause-somewhere g c =
     let old = c.args.world.now in
     let new = c.advance.new.self in
     let kk = c.args.callbacks.now in
+    let due = (c.requires.due, c.requires.ticks) in
     let plays = one_step stream k stands old new c.advance.result c.requires.due c.advance.ensures.count c.advance.ensures.plays in
     let told = c.after_aggregation in
     let follow = subst (λ v. GoesAlong stream k stands v kk told.new.self) c.monitor.ensures told.ensures.stands in
-    somewhere-aggregated stream k stands old new kk told.new.self c.requires.due plays follow c.requires.somewhere
+    somewhere-aggregated stream k stands old new kk told.new.self due plays follow c.requires.somewhere
 
 pub returns-clause-made : goal.returns-clause-made
 returns-clause-made g c =
@@ -81,6 +85,7 @@ returns-clause-made g c =
     let old = c.args.world.now in
     let new = c.advance.new.self in
     let kk = c.args.callbacks.now in
+    let due = (c.requires.due, c.requires.ticks) in
     let plays = one_step stream k stands old new c.advance.result c.requires.due c.advance.ensures.count c.advance.ensures.plays in
     let told = c.after_aggregation in
     let follow = subst (λ v. GoesAlong stream k stands v kk told.new.self) c.monitor.ensures told.ensures.stands in
@@ -89,13 +94,13 @@ returns-clause-made g c =
     let z = c.append_lines.new.out.items in
     let form = c.args.form in
     let grew = c.in_ok-print_aggregate.ensures.ok ∙ ap (λ v. x ++ aggregate_text form (printed_monitor v)) c.monitor-2.ensures in
-    let writes = aggregation_writes stream k stands old new kk told.new.self form x y z c.requires.due plays follow grew
+    let writes = aggregation_writes stream k stands old new kk told.new.self form x y z due plays follow grew
     (λ memory s words stood shows. c.in_ok-append_lines.ensures.ok memory s words stood (subst (λ v. Stands v s) (sym c.monitor-3.ensures) shows)) in
     let pending = g.C.Callbacks.pending told.new.self in
     OnOk-map c.put_in.result
     (λ rest. made-puts stream k stands old new c.put_in.new.world kk told.new.self c.put_in.new.callbacks form x z c.put_in.new.out.items (λ r. next_event r.moment.state r.moment.stream) pending
-    (aggregation_plays stream k stands old new kk told.new.self c.requires.due plays follow) writes rest
-    (aggregation_puts stream k stands old new kk pending c.requires.due plays (λ memory s words is. told.ensures.puts memory s words (subst (λ v. IsAggregated (λ memory t. stands kk memory t) v memory s words) (sym c.monitor.ensures) is))))
+    (aggregation_plays stream k stands old new kk told.new.self due plays follow) writes rest
+    (aggregation_puts stream k stands old new kk pending due plays (λ memory s words is. told.ensures.puts memory s words (subst (λ v. IsAggregated (λ memory t. stands kk memory t) v memory s words) (sym c.monitor.ensures) is))))
     c.put_in.ensures.made
 
 pub returns-clause-err : goal.returns-clause-err
@@ -106,6 +111,7 @@ returns-clause-err g c =
     let old = c.args.world.now in
     let new = c.advance.new.self in
     let kk = c.args.callbacks.now in
+    let due = (c.requires.due, c.requires.ticks) in
     let plays = one_step stream k stands old new c.advance.result c.requires.due c.advance.ensures.count c.advance.ensures.plays in
     let told = c.after_aggregation in
     let follow = subst (λ v. GoesAlong stream k stands v kk told.new.self) c.monitor.ensures told.ensures.stands in
@@ -114,7 +120,7 @@ returns-clause-err g c =
     let z = c.append_lines.new.out.items in
     let form = c.args.form in
     let grew = c.in_ok-print_aggregate.ensures.ok ∙ ap (λ v. x ++ aggregate_text form (printed_monitor v)) c.monitor-2.ensures in
-    let writes = aggregation_writes stream k stands old new kk told.new.self form x y z c.requires.due plays follow grew
+    let writes = aggregation_writes stream k stands old new kk told.new.self form x y z due plays follow grew
     (λ memory s words stood shows. c.in_ok-append_lines.ensures.ok memory s words stood (subst (λ v. Stands v s) (sym c.monitor-3.ensures) shows)) in
     let there = c.requires.somewhere in
     OnErr-map c.put_in.result (λ front. keeps-more x z c.put_in.new.out.items _ (writes there.course there.reached there.here) front) c.put_in.ensures.err

@@ -1,0 +1,4 @@
+pub mod Reclaimed
+pub mod InPlace
+pub mod Stands
+pub mod Along
