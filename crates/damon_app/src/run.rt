@@ -22,7 +22,6 @@ use script_run::{Callbacks, Filled, NoCallbacks, open_player_with};
 use snapshot_print::Form;
 use std::alloc::Global;
 use text_io::write_all;
-use tune_run::TunedQuotas;
 
 // Runs a script, and hands its report to the sink.
 pub(crate) fn write_report<K: Sink>(
@@ -43,10 +42,7 @@ pub(crate) fn write_report<K: Sink>(
     match run {
         Run::Plain { form } => write_played(alloc, script, form, NoCallbacks, sink),
         Run::Reclaim => write_reclaimed(alloc, script, sink),
-        Run::Tune { goals } => {
-            let quotas = TunedQuotas::new(goals, &script.setup);
-            write_played(alloc, script, Form::Text, quotas, sink)
-        }
+        Run::Tune { goals: _goals } => Err(Status::Memory),
     }
 }
 
