@@ -121,6 +121,13 @@ impl Tuner {
         tunable_bytes(&scheme)
     }
 
+    /// The goals that the slots follow, in order.
+    pub fn goals(&self) -> &[Goal]
+        ensures { result.now ≡ self.now.goals }
+    {
+        self.goals.as_slice()
+    }
+
     // Makes a slot change of the setup or of a commit of the script.
     fn give(&mut self, change: &SlotChange)
         requires { change.now.slot ≤ MAX_SLOT }

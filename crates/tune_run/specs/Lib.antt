@@ -1,0 +1,4 @@
+pub mod Tops
+pub mod Callbacks
+pub mod Report
+pub mod Kept

@@ -1,0 +1,71 @@
+// The lines of the slots with goals, after the last line of a report.
+ghost use Rattle.std.specs.Prelude.{◌≡◌, ◌≤◌, ◌++◌, OnErr, OnOk};
+ghost use Rattle.tune_run.specs.Kept.{KeepsFront};
+ghost use Rattle.damon_types.specs.declared.scheme.TheConstants.{MAX_SLOT};
+ghost use Rattle.tune_run.specs.Callbacks.{bytes_text, has_goal, slot_text, tuned_text};
+
+use damon_types::MAX_SLOT;
+use line_text::write_number;
+use quota_goal::Tuner;
+use std::alloc::AllocError;
+
+/// The number of slots.
+pub const SLOTS: u8 = MAX_SLOT + 1;
+
+// Appends the line of each slot with a goal, in order. When out of memory, nothing is appended.
+pub fn append_tuned(out: &mut Vec<u8>, tuner: &Tuner) -> Result<(), AllocError>
+    ensures ok { OnOk result (out.new.items ≡ out.old.items ++ tuned_text tuner.now) }
+    ensures err { OnErr result (out.new.items ≡ out.old.items) }
+{
+    let before = out.len();
+    let appended = append_slots(out, tuner);
+    if appended.is_err() {
+        out.truncate(before);
+    }
+    appended
+}
+
+// The same, but that where memory runs out, some of the lines may have been appended.
+fn append_slots(out: &mut Vec<u8>, tuner: &Tuner) -> Result<(), AllocError>
+    ensures ok { OnOk result (out.new.items ≡ out.old.items ++ tuned_text tuner.now) }
+    ensures err { OnErr result (KeepsFront out.old.items out.new.items) }
+{
+    'slots: for slot in 0..SLOTS {
+        append_slot(out, tuner, slot)?;
+    }
+    Ok(())
+}
+
+// Appends the line of a slot, if it has a goal.
+fn append_slot(out: &mut Vec<u8>, tuner: &Tuner, slot: u8) -> Result<(), AllocError>
+    requires { slot ≤ MAX_SLOT }
+    ensures ok { OnOk result (out.new.items ≡ out.old.items ++ slot_text tuner.now slot) }
+    ensures err { OnErr result (KeepsFront out.old.items out.new.items) }
+{
+    if !has_goal(tuner, slot) {
+        return Ok(());
+    }
+    out.extend_from_slice(b"tuned ")?;
+    write_number(out, u64::from(slot))?;
+    out.extend_from_slice(b" bytes=")?;
+    append_bytes(out, tuner.bytes(slot))?;
+    out.extend_from_slice(b"\n")
+}
+
+// Appends the bytes of a slot.
+fn append_bytes(out: &mut Vec<u8>, bytes: Option<u64>) -> Result<(), AllocError>
+    ensures ok { OnOk result (out.new.items ≡ out.old.items ++ bytes_text bytes) }
+    ensures err { OnErr result (out.new.items ≡ out.old.items) }
+{
+    match bytes {
+        Some(bytes) => write_number(out, bytes),
+        None => out.extend_from_slice(b"none"),
+    }
+}
+
+// Whether a slot has a goal.
+fn has_goal(tuner: &Tuner, slot: u8) -> bool
+    ensures { result ≡ has_goal tuner.now.goals slot }
+{
+    tuner.goals().iter().any(|goal| goal.slot == slot)
+}
