@@ -12,7 +12,7 @@ use Rattle.quota_goal.specs.declared.goals.TheConstants.{MAX_GOALS}
 
 infixl 10 ◌>>=◌
 -- the value is passed on, if there is one
-abbrev ◌>>=◌ : {A B : Type 0} → Option A → (A → Option B) → Option B
+abbrev pub ◌>>=◌ : {A B : Type 0} → Option A → (A → Option B) → Option B
 None >>= f = None
 (Some x) >>= f = f x
 

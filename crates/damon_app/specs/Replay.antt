@@ -5,7 +5,7 @@ use Rattle.damon_control.specs.Script.{ScriptValue, script_of}
 use Rattle.damon_control.specs.declared.fault.ScriptFault.{ScriptFault}
 use Rattle.script_run.specs.Report.{report}
 use Rattle.reclaim_run.specs.Reclaimed.{reclaimed_report}
-use Rattle.tune_run.specs.Tuned.{tuned_report}
+use Rattle.tune_run.specs.Report.{tuned_report}
 use Rattle.damon_app.specs.Generated.{gen_text}
 use Rattle.damon_journal.specs.Reading.{read_journal}
 use Rattle.damon_journal.specs.Status.{IsFailure}

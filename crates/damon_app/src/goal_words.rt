@@ -1,5 +1,7 @@
 // The goals of quotas that words say.
-ghost use Rattle.std.specs.Prelude.{◌≡◌, IfSome, map};
+ghost use Rattle.std.specs.Prelude.{◌≡◌, ◌≤◌, IfSome, map};
+ghost use Rattle.damon_types.specs.declared.scheme.TheConstants.{MAX_SLOT};
+ghost use Rattle.line_text.specs.Number.{number};
 ghost use Rattle.quota_goal.specs.Goals.{IsGoal};
 ghost use Rattle.damon_app.specs.GoalWords.{goal_of, goals_of, in_order, kind_of};
 
@@ -28,7 +30,7 @@ fn goal_of(word: &[u8]) -> Option<Goal>
 {
     let (slot, fields) = split_front(word, COLON);
     let (kind, target, low, high) = four_parts(fields?, COLON)?;
-    let slot = read_number(slot, u64::from(MAX_SLOT))? as u8;
+    let slot = read_slot(slot)?;
     let kind = kind_of(kind)?;
     let target = read_number_32(target)?;
     let low = read_number(low, u64::MAX)?;
@@ -40,6 +42,15 @@ fn goal_of(word: &[u8]) -> Option<Goal>
         low,
         high,
     })
+}
+
+// The number of a slot.
+fn read_slot(word: &[u8]) -> Option<u8>
+    ensures exact { result ≡ number MAX_SLOT word.now }
+    ensures within { IfSome result (λ slot. slot ≤ MAX_SLOT) }
+{
+    let slot = read_number(word, u64::from(MAX_SLOT))?;
+    Some(slot as u8)
 }
 
 // The kind of goals that a word names.
@@ -59,7 +70,9 @@ fn kind_of(word: &[u8]) -> Option<GoalKind>
 
 // The goal, if its target is at least 1 and its low bound at most its high bound.
 fn in_order(goal: Goal) -> Option<Goal>
-    ensures { result ≡ in_order goal }
+    requires { goal.slot ≤ MAX_SLOT }
+    ensures exact { result ≡ in_order goal }
+    ensures within { IfSome result IsGoal }
 {
     if 1 <= goal.target && goal.low <= goal.high {
         Some(goal)

@@ -1,4 +1,5 @@
-ghost use Rattle.std.specs.Prelude.{◌≡◌, ◌≢◌, IfOk, None, false, map, option_map};
+ghost use Rattle.std.specs.Prelude.{◌≡◌, ◌≢◌, IfOk, None, false, map};
+ghost use Rattle.std.specs.Option.{option_copied};
 ghost use Rattle.clap.specs.Words.{kind_of, subcommand_rows_of};
 ghost use Rattle.damon_app.specs.Parser.{begins_with_hyphen, by_number, has_option, request_found, words_found};
 ghost use Rattle.damon_app.specs.Request.{asked, asked_alone, asked_to_tune, asked_with, columns_of};
@@ -115,7 +116,7 @@ fn request_in(matches: &ArgMatches) -> Option<Request>
 
 // What a subcommand without goals asks for, with a number or without.
 fn asked_by_number(name: &str, number: Option<&str>) -> Option<Request>
-    ensures { result ≡ by_number name.now (option_map (λ digits. digits.now) number) }
+    ensures { result ≡ by_number name.now (option_copied number.entry) }
 {
     match number {
         Some(number) => asked_with(name.as_bytes(), number.as_bytes()),
