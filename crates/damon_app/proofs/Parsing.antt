@@ -450,15 +450,15 @@ no_goal (c ∷ cs) is = subst (λ (b : ℕ). goal_of (b ∷ cs) ≡ None) (sym (
 -- words one of which begins with a hyphen say no goals
 no_goals : (words : List (String Global)) → has_option words ≡ true → goals_in (map string_bytes words) ≡ None
 no_goals [] is = absurd cc
-no_goals (word ∷ words) is = by (begins_with_hyphen (string_bytes word)) refl is
+no_goals (word ∷ words) is = by (begins_with_hyphen (string_bytes word)) refl is (no_goals words)
   where
     by_rest : (o : Option Goal) → goals_in (map string_bytes words) ≡ None → (o >>= (λ goal. goals_in (map string_bytes words) >>= (λ goals. Some (goal ∷ goals)))) ≡ None
     by_rest None none = refl
     by_rest (Some goal) none = rw none refl
 
-    by : (t : Bool) → begins_with_hyphen (string_bytes word) ≡ t → (t || has_option words) ≡ true → goals_in (map string_bytes (word ∷ words)) ≡ None
-    by true first is = rw (no_goal (string_bytes word) first) refl
-    by false first is = by_rest (goal_of (string_bytes word)) (no_goals words is)
+    by : (t : Bool) → begins_with_hyphen (string_bytes word) ≡ t → (t || has_option words) ≡ true → (has_option words ≡ true → goals_in (map string_bytes words) ≡ None) → goals_in (map string_bytes (word ∷ words)) ≡ None
+    by true first is later = rw (no_goal (string_bytes word) first) refl
+    by false first is later = by_rest (goal_of (string_bytes word)) (later is)
 
 no_tuning : (words : List (String Global)) → goals_in (map string_bytes words) ≡ None → asked_to_tune (map string_bytes words) ≡ None
 no_tuning words none = by (may_tune (map string_bytes words)) refl

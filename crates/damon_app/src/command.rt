@@ -1,6 +1,6 @@
 ghost use Rattle.std.specs.Prelude.{◌≡◌, false, IfOk};
-ghost use Rattle.clap.specs.Words.{app_of, rule_of};
-ghost use Rattle.damon_app.specs.Parser.{damon_app, goals_rule, number_rule};
+ghost use Rattle.clap.specs.Words.{app_of, fields_of, new_app, rule_of, with_rule};
+ghost use Rattle.damon_app.specs.Parser.{damon_app, goals_rule, number_rule, top_app};
 
 use clap::{Arg, ArgAction, Command};
 use quota_goal::MAX_GOALS;
@@ -10,25 +10,39 @@ use std::alloc::{AllocError, Global};
 pub(crate) fn make_command<'a>(alloc: Global) -> Result<Command<'a>, AllocError>
     ensures { IfOk result (λ command. app_of command ≡ damon_app) }
 {
-    let generate = Command::new(alloc, "gen").arg(number_argument(alloc))?;
-    let heat = Command::new(alloc, "heat").arg(number_argument(alloc))?;
-    let tune = Command::new(alloc, "tune").arg(goals_argument(alloc))?;
-    let replay = Command::new(alloc, "replay");
-    let json = Command::new(alloc, "json");
-    let verify = Command::new(alloc, "verify");
-    let reclaim = Command::new(alloc, "reclaim");
+    top_command(alloc)
+        .subcommand(Command::new(alloc, "replay"))?
+        .subcommand(Command::new(alloc, "json"))?
+        .subcommand(Command::new(alloc, "verify"))?
+        .subcommand(with_argument(alloc, "gen", number_argument(alloc))?)?
+        .subcommand(with_argument(alloc, "heat", number_argument(alloc))?)?
+        .subcommand(with_argument(alloc, "tune", goals_argument(alloc))?)?
+        .subcommand(Command::new(alloc, "reclaim"))
+}
+
+// The command without its subcommands.
+fn top_command<'a>(alloc: Global) -> Command<'a>
+    ensures { app_of result ≡ top_app }
+{
     Command::new(alloc, "damon")
         .no_binary_name(true)
         .disable_help_flag(true)
         .disable_help_subcommand(true)
         .subcommand_required(true)
-        .subcommand(replay)?
-        .subcommand(json)?
-        .subcommand(verify)?
-        .subcommand(generate)?
-        .subcommand(heat)?
-        .subcommand(tune)?
-        .subcommand(reclaim)
+}
+
+// A subcommand with one argument.
+fn with_argument<'a>(
+    alloc: Global,
+    name: &'a str,
+    argument: Arg<'a>,
+) -> Result<Command<'a>, AllocError>
+    requires { argument.global ≡ false }
+    ensures app { IfOk result (λ command.
+        app_of command ≡ with_rule (new_app name.now) (rule_of argument)) }
+    ensures local { IfOk result (λ command. (fields_of command).has_globals ≡ false) }
+{
+    Command::new(alloc, name).arg(argument)
 }
 
 // The argument of a subcommand that takes a number.

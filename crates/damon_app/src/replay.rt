@@ -9,7 +9,7 @@ ghost use Rattle.text_io.specs.Given.{GaveOver};
 ghost use Rattle.text_io.specs.Taken.{WritesPart};
 ghost use Rattle.damon_app.specs.Request.{ReadsInput, ReadsJournal, asked};
 ghost use Rattle.damon_app.specs.Generated.{gen_text};
-ghost use Rattle.damon_app.specs.Runs.{EachRunChoosesBest, EachRunIsBound};
+ghost use Rattle.damon_app.specs.Runs.{EachRunChoosesBest, EachRunIsAccounted, EachRunIsBound};
 ghost use Rattle.damon_journal.specs.Status.{EndsRun, IsRead, IsUnwritten, status_of};
 ghost use Rattle.damon_journal.specs.Verified.{IsOfNoLawfulRun};
 ghost use Rattle.damon_app.specs.Replay.{IsBegun, IsDone, IsExpected, MayCome, TellsFault, TellsJournal};
@@ -19,7 +19,7 @@ ghost use Rattle.damon_app.specs.declared.request.Request.TheVariants.{Report as
 use crate::{Request, Run};
 use crate::counts::make_line;
 use crate::heat::show_heat;
-use crate::laws::{each_run_chooses_best, each_run_is_bound};
+use crate::laws::{each_run_chooses_best, each_run_is_accounted, each_run_is_bound};
 use crate::request::read_request;
 use crate::run::write_report;
 use crate::summary::make_summary;
@@ -55,6 +55,11 @@ pub fn replay_main<S: Source, K: Sink>(
     ensures bound { EachRunIsBound }
     ensures choices { EachRunChoosesBest }
 
+    // The same holds of every script under `reclaim` and under `tune`. Under `reclaim` each page is resident
+    // or out, and out exactly since a `pageout` scheme was last applied to it; and an aggregation pages out
+    // what is resident of the pages that such a scheme is applied to.
+    ensures accounted { EachRunIsAccounted }
+
     // The status is the one that is expected, or a failure.
     ensures complete { IsExpected (asked words.now) result INPUT_LIMIT (S.left source.old)
         (Rose (S.faults source.old) (S.faults source.new))
@@ -82,6 +87,7 @@ pub fn replay_main<S: Source, K: Sink>(
     // For their clauses alone: what holds of every script, and that no lawful journal is rejected.
     each_run_is_bound();
     each_run_chooses_best();
+    each_run_is_accounted();
     rejected_texts_are_unlawful();
     serve(alloc, words, source, sink)
 }
