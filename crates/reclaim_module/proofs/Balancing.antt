@@ -48,7 +48,7 @@ one_action Nohugepage = refl
 one_action LruPrio = refl
 one_action LruDeprio = refl
 
-one_held : (held : Option Scheme) → (holds_pageout held && holds_willneed held) ≡ false
+pub one_held : (held : Option Scheme) → (holds_pageout held && holds_willneed held) ≡ false
 one_held None = refl
 one_held (Some scheme) = one_action scheme.action
 
@@ -200,7 +200,7 @@ slots_served pages (suc n) slot space aggr tick regions notes =
     let count : 1 + n ≡ suc n = omega arith in
     subst (λ k. IsServed pages k notes others.notes) count both
 
-sixteen : slot_count ≡ 16
+pub sixteen : slot_count ≡ 16
 unfolding slot_count
 sixteen = refl
 

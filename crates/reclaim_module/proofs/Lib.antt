@@ -7,5 +7,6 @@ pub mod Serving
 pub mod Balancing
 pub mod Reaching
 pub mod Following
+pub mod BySlot
 pub mod Lasting
 mod Examples

@@ -36,6 +36,17 @@ count_of_map f (p ∷ ps) =
 pub out_count_is : (n : ℕ) (f : ℕ → Bool) → out_count (each_page n f) ≡ count_pages n f
 out_count_is n f = count_of_map f (range_with_len 0 n)
 
+-- and how many are resident
+resident_count_of_map : (f : ℕ → Bool) (ps : List ℕ) → count_by not (map f ps) ≡ count_by (λ p. not (f p)) ps
+resident_count_of_map f [] = refl
+resident_count_of_map f (p ∷ ps) =
+    sum_by-cons (λ (b : Bool). cond (not b) 1 0) (f p) (map f ps)
+    ∙ ap (λ k. cond (not (f p)) 1 0 + k) (resident_count_of_map f ps)
+    ∙ sym (sum_by-cons (λ q. cond (not (f q)) 1 0) p ps)
+
+pub resident_count_is : (n : ℕ) (f : ℕ → Bool) → count_by not (each_page n f) ≡ count_pages n (λ p. not (f p))
+resident_count_is n f = resident_count_of_map f (range_with_len 0 n)
+
 pub out_count_again : (xs : List Bool) → out_count xs ≡ count_pages (length xs) (is_out_in xs)
 out_count_again xs = ap out_count (each_page_again xs) ∙ out_count_is (length xs) (is_out_in xs)
 

@@ -44,7 +44,7 @@ still : (note : Note) (r : ReclaimView) (notes : List Note) → MovesNothing not
 still note r notes m s = stands_still note r notes (still_by note notes m) s
 
 -- runs of which the slots hold the same schemes
-applied_alike : (now notes : List Note) (runs : List AppliedRun) (r : ReclaimView) → ((slot : ℕ) → scheme_of now slot ≡ scheme_of notes slot) → after_applied now runs r ≡ after_applied notes runs r
+pub applied_alike : (now notes : List Note) (runs : List AppliedRun) (r : ReclaimView) → ((slot : ℕ) → scheme_of now slot ≡ scheme_of notes slot) → after_applied now runs r ≡ after_applied notes runs r
 applied_alike now notes [] r same = refl
 applied_alike now notes (run ∷ runs) r same =
     ap (λ action. after_applied now runs (after_action action run.start run.pages r)) (ap (λ held. option_map_or (λ (scheme : Scheme). scheme.action) held Stat) (same run.slot))
@@ -60,7 +60,7 @@ applied_next notes runs i none r here =
     ap (λ all. after_applied notes all r) (take_more runs i none here)
     ∙ applied-append notes (take i runs) (get_or runs i none ∷ []) r
 
-all_append : {X : Type 0} (P : X → Type 0) (xs ys : List X) → AllByRecursion P xs → AllByRecursion P ys → AllByRecursion P (xs ++ ys)
+pub all_append : {X : Type 0} (P : X → Type 0) (xs ys : List X) → AllByRecursion P xs → AllByRecursion P ys → AllByRecursion P (xs ++ ys)
 all_append P [] ys all more = more
 all_append P (x ∷ xs) ys all more = (all.0, all_append P xs ys all.1 more)
 
@@ -81,14 +81,14 @@ pub opening_is_still : (v : SetupValue) → AllByRecursion MovesNothing (opening
 opening_is_still v = all_reverse MovesNothing (filter_map note_of_change v.slots) (set_slots v.slots)
 
 -- runs of one slot
-abbrev AreOf : ℕ → List AppliedRun → Type 0
+abbrev pub AreOf : ℕ → List AppliedRun → Type 0
 AreOf slot runs = AllByRecursion (λ run. run.slot ≡ slot) runs
 
 of_candidate : (slot : ℕ) (c : Candidate) (runs : List Run) → AreOf slot (map (applied_run slot c) runs)
 of_candidate slot c [] = tt
 of_candidate slot c (r ∷ runs) = (refl, of_candidate slot c runs)
 
-of_slot : (slot : ℕ) (passes : ℕ → Bool) (ss : List Span) (cs : List Candidate) → AreOf slot (applied_runs slot passes ss cs)
+pub of_slot : (slot : ℕ) (passes : ℕ → Bool) (ss : List Span) (cs : List Candidate) → AreOf slot (applied_runs slot passes ss cs)
 of_slot slot passes ss [] = tt
 of_slot slot passes ss (c ∷ cs) = all_append (λ (run : AppliedRun). run.slot ≡ slot) (candidate_runs slot passes ss c) (applied_runs slot passes ss cs) (of_candidate slot c (taken_runs passes c.share (span_at ss c))) (of_slot slot passes ss cs)
 
@@ -106,7 +106,7 @@ module _ (slot tick : ℕ) (quota : Option Quota) (notes : List Note) where
     | false ↦ s
   ]
 
-  turn_same : (i : ℕ) → scheme_of (with_turn slot tick quota notes) i ≡ scheme_of notes i
+  pub turn_same : (i : ℕ) → scheme_of (with_turn slot tick quota notes) i ≡ scheme_of notes i
   turn_same i = elim (window_ends notes slot tick quota) as (λ b. scheme_of (if b then turned slot tick ∷ notes else notes) i ≡ scheme_of notes i) [
     | true ↦ refl
     | false ↦ refl
@@ -149,7 +149,7 @@ module _ (slot : ℕ) (space : List Target) (aggr tick : ℕ) (regions : RegionL
         | Some scheme ↦ λ held. scheme_stands scheme r held s
       ] refl
 
-  slot_same : (i : ℕ) → scheme_of (serve_slot slot space aggr tick regions notes).notes i ≡ scheme_of notes i
+  pub slot_same : (i : ℕ) → scheme_of (serve_slot slot space aggr tick regions notes).notes i ≡ scheme_of notes i
   slot_same i =
       let by : Option Scheme → Serving = λ held. option_map_or (serve_scheme slot space aggr tick regions notes) held (nothing_served regions notes) in
       elim (scheme_of notes slot) as (λ held. scheme_of (by held).notes i ≡ scheme_of notes i) [

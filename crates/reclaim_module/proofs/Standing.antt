@@ -52,7 +52,7 @@ pub record IsStill (note : Note) (notes : List Note) : Type 0 where
   pub touch : (p : ℕ) → is_touch_of note p ≡ false
   pub refaults : refaults_of (note ∷ notes) ≡ refaults_of notes
 
-still_out : (note : Note) (notes : List Note) (p : ℕ) → IsStill note notes → is_out (note ∷ notes) p ≡ is_out notes p
+pub still_out : (note : Note) (notes : List Note) (p : ℕ) → IsStill note notes → is_out (note ∷ notes) p ≡ is_out notes p
 still_out note notes p still =
     ap (λ b. b || (is_out notes p && not (is_touch_of note p || is_prefetched notes note p))) (still.gone p)
     ∙ ap (λ b. is_out notes p && not (b || is_prefetched notes note p)) (still.touch p)

@@ -1,5 +1,5 @@
 // What the calls make of a monitor's notes, for the crates above. No function here does anything.
-ghost use Rattle.std.specs.Prelude.{◌≡◌, ℕ, ◌+◌, ◌-◌, ◌*◌, ◌≤◌, ◌<◌, Bool, true, not, List, [], ◌∷◌, ◌++◌, Some, None, get_or, length, take};
+ghost use Rattle.std.specs.Prelude.{◌≡◌, ℕ, ◌+◌, ◌-◌, ◌*◌, ◌≤◌, ◌<◌, Bool, true, not, count_by, List, [], ◌∷◌, ◌++◌, Some, None, get_or, length, take};
 ghost use Rattle.std.specs.List.{AllByRecursion};
 ghost use Rattle.damon_types.specs.declared.scheme.Action.{Action};
 ghost use Rattle.damon_types.specs.declared.scheme.Scheme.{Scheme};
@@ -17,7 +17,7 @@ ghost use Rattle.damon_core.specs.State.{State, opening_notes};
 ghost use Rattle.reclaim_module.specs.Calls.{after_action, after_touch, all_resident};
 ghost use Rattle.reclaim_module.specs.Counts.{pageouts_of, prefetches_of, refaults_of};
 ghost use Rattle.reclaim_module.specs.Out.{IsOutSinceLast, is_out};
-ghost use Rattle.reclaim_module.specs.Pages.{ReclaimView, count_pages};
+ghost use Rattle.reclaim_module.specs.Pages.{ReclaimView, count_pages, out_count};
 ghost use Rattle.reclaim_module.specs.SlotBySlot.{PagesOutSlotBySlot};
 ghost use Rattle.reclaim_module.specs.Stands.{LeavesPages, MovesNothing, ReclaimStands, TouchesWithin, action_in, after_applied, after_event, after_events, after_runs};
 
@@ -124,6 +124,15 @@ pub fn model_follows_events()
     ensures space { (e : Event) (s : State) → (after s e).core.space ≡ s.core.space }
 {}
 
+/// Where a model stands for notes, as many of its pages are out, and as many are resident, as by the notes.
+pub fn model_counts_pages()
+    ensures out { (r : ReclaimView) (notes : List Note) → ReclaimStands r notes
+        → out_count r.out ≡ count_pages (length r.out) (is_out notes) }
+    ensures resident { (r : ReclaimView) (notes : List Note) → ReclaimStands r notes
+        → count_by not r.out
+        ≡ count_pages (length r.out) (λ page. not (is_out notes page)) }
+{}
+
 /// What an aggregation pages out is, slot by slot, what is resident of the pages that the `pageout` scheme
 /// of the slot is applied to.
 pub fn slots_page_out_what_is_resident()
@@ -137,8 +146,12 @@ pub fn aggregations_keep_schemes()
     ensures runs { (s : State) → AllByRecursion (λ run. run.slot ≤ MAX_SLOT) (served s).runs }
 {}
 
-/// Runs that are applied follow one another: those of a list and then others, or one more each time.
+/// Runs that are applied follow one another: those of a list and then others, or one more each time. Only
+/// the schemes of the slots count.
 pub fn applied_runs_follow()
+    ensures alike { (now notes : List Note) (runs : List AppliedRun) (r : ReclaimView)
+        → ((slot : ℕ) → scheme_of now slot ≡ scheme_of notes slot)
+        → after_applied now runs r ≡ after_applied notes runs r }
     ensures others { (notes : List Note) (runs others : List AppliedRun) (r : ReclaimView)
         → after_applied notes (runs ++ others) r
         ≡ after_applied notes others (after_applied notes runs r) }

@@ -1,1 +1,4 @@
+pub mod Touching
+pub mod Applying
+pub mod Spelling
 mod Examples

@@ -1,16 +1,26 @@
-ghost use Rattle.std.specs.Prelude.{◌≡◌, ◌^◌, ◌≤◌, ◌<◌, length, IfOk};
+ghost use Rattle.std.specs.Prelude.{◌≡◌, ℕ, ◌+◌, ◌^◌, ◌≤◌, ◌<◌, List, length, IfOk};
+ghost use Rattle.std.specs.List.{AllByRecursion};
+ghost use Rattle.damon_types.specs.declared.scheme.TheConstants.{MAX_SLOT};
 ghost use Rattle.damon_types.specs.Space.{pages_of};
-ghost use Rattle.damon_core.specs.State.{opening};
 ghost use Rattle.live_commit.specs.Setup.{SetupValue};
+ghost use Rattle.damon_core.specs.After.{after};
+ghost use Rattle.damon_core.specs.Event.{aggregate};
+ghost use Rattle.damon_core.specs.Note.{Note};
+ghost use Rattle.damon_core.specs.Slots.{slots_of};
+ghost use Rattle.damon_core.specs.State.{State, opening};
+ghost use Rattle.damon_world.specs.Touches.{touches};
+ghost use Rattle.reclaim_module.specs.Pages.{out_count};
+ghost use Rattle.reclaim_module.specs.Stands.{action_in, after_applied, after_events};
+ghost use Rattle.script_run.specs.Calls.{IsAggregated};
 ghost use Rattle.reclaim_run.specs.Reclaimed.{thousandths};
 ghost use Rattle.reclaim_run.specs.Stands.{Models};
 
 use crate::line::append_line;
 use damon_core::{Changed, Monitor};
-use damon_types::Action;
+use damon_types::{Action, Space};
 use live_commit::{Commit, CommitFault};
 use reclaim_module::Reclaim;
-use scheme_engine::{Engine, SlotView};
+use scheme_engine::{AppliedRun, Engine, SlotView};
 use script_run::Callbacks;
 use std::alloc::{AllocError, Global};
 use std::marker::Model;
@@ -63,6 +73,8 @@ impl Callbacks for Reclaimer {
 
     #[inline]
     fn after_touches(&mut self, page: u32, count: u32) {
+        // For its clauses alone: the model follows events.
+        reclaim_module::model_follows_events();
         touch_pages(&mut self.model, page, count);
     }
 
@@ -73,8 +85,10 @@ impl Callbacks for Reclaimer {
     }
 
     fn after_aggregation(&mut self, monitor: &Monitor) {
-        apply_runs(&mut self.model, monitor);
-        self.share = Some(share(self.model.out(), monitor.space().pages()));
+        // For its clauses alone: the pages that are out, by what has happened.
+        reclaim_module::model_counts_pages();
+        follow_aggregation(&mut self.model, monitor);
+        self.share = Some(share_out(&self.model, monitor.space()));
     }
 
     fn after_commit(&mut self, _commit: &Commit, _answer: &Result<Changed, CommitFault>) {
@@ -83,6 +97,7 @@ impl Callbacks for Reclaimer {
         self.share = None;
     }
 
+    #[inline]
     fn next_commit(&mut self) -> Option<Commit> {
         // For its clauses alone: a commit moves no page.
         reclaim_module::model_follows_events();
@@ -103,6 +118,8 @@ impl Callbacks for Reclaimer {
         out: &mut Vec<u8>,
         monitor: &Monitor,
     ) -> Result<(), AllocError> {
+        // For its clauses alone: the figures by what has happened.
+        reclaim_module::model_counts_pages();
         append_line(out, monitor.ticks(), &self.model)
     }
 
@@ -112,39 +129,87 @@ impl Callbacks for Reclaimer {
         out: &mut Vec<u8>,
         monitor: &Monitor,
     ) -> Result<(), AllocError> {
+        // For its clauses alone: the figures by what has happened.
+        reclaim_module::model_counts_pages();
         append_line(out, monitor.ticks(), &self.model)
     }
 }
 
 // Touches the pages from `page` on, `count` of them, one after another.
 #[inline]
-fn touch_pages(model: &mut Reclaim, page: u32, count: u32) {
-    for touched in page..page + count {
-        model.touch(touched);
+fn touch_pages(model: &mut Reclaim, page: u32, count: u32)
+    requires { (i : ℕ) → i < count → page + i < length model.old.out }
+    ensures { (s : State) → model.new ≡ after_events (touches page count) s model.old }
+{
+    // For their clauses alone: how touches follow one another.
+    reclaim_module::model_follows_events();
+    reclaim_module::pages_stay();
+    // For its clause alone: the pages are a u32.
+    let _pages = model.pages();
+    for index in 0..count {
+        model.touch(page + index);
     }
 }
 
-// Applies the runs of the last aggregation of a monitor, each with the action of its slot.
-fn apply_runs(model: &mut Reclaim, monitor: &Monitor) {
-    let engine = monitor.engine();
-    for run in monitor.report().applied.runs() {
+// Follows the aggregation after which the monitor stands.
+fn follow_aggregation(model: &mut Reclaim, monitor: &Monitor)
+    requires { (memory : List ℕ) × (s : State) × (words : List ℕ)
+        × IsAggregated (λ memory t. Models model.old t) monitor.now memory s words }
+    ensures { (memory : List ℕ) (s : State) (words : List ℕ)
+        → IsAggregated (λ memory t. Models model.old t) monitor.now memory s words
+        → Models model.new (after s (aggregate words)) }
+{
+    // For their clauses alone: what an aggregation makes of the pages, and that few go out.
+    reclaim_module::model_follows_events();
+    reclaim_module::aggregations_keep_schemes();
+    reclaim_module::few_pages_go_out();
+    reclaim_module::applied_runs_follow();
+    reclaim_module::pages_stay();
+    // For its clauses alone: the space is within its limits.
+    let _targets = monitor.space().targets();
+    let runs = monitor.report().applied.runs();
+    apply_runs(model, runs, monitor.engine());
+}
+
+// Applies runs in order, each with the action of its slot.
+fn apply_runs(model: &mut Reclaim, runs: &[AppliedRun], engine: &Engine)
+    requires slots { AllByRecursion (λ run. run.slot ≤ MAX_SLOT) runs.now }
+    requires within { AllByRecursion
+        (λ run. run.start + run.pages ≤ length model.old.out) runs.now }
+    requires few { (notes : List Note) × (engine.now.slots ≡ slots_of notes)
+        × ((after_applied notes runs.now model.old).counts.pageouts < 2 ^ 64) }
+    ensures { (notes : List Note) → engine.now.slots ≡ slots_of notes
+        → model.new ≡ after_applied notes runs.now model.old }
+{
+    // For their clauses alone: how runs follow one another, and that the first ones page out no more than all.
+    reclaim_module::applied_runs_follow();
+    reclaim_module::few_pages_go_out();
+    reclaim_module::pages_stay();
+    for run in runs {
         model.apply(run.start, run.pages, action_of(engine, run.slot));
     }
 }
 
 // The action of the scheme of a slot; where it holds none, one that moves no page.
-fn action_of(engine: &Engine, slot: u8) -> Action {
+fn action_of(engine: &Engine, slot: u8) -> Action
+    requires { slot ≤ MAX_SLOT }
+    ensures { (notes : List Note) → engine.now.slots ≡ slots_of notes
+        → result ≡ action_in notes slot }
+{
     match engine.slot(slot) {
         Some(SlotView { action, .. }) => action,
         None => Action::Stat,
     }
 }
 
-// The share of the pages, at least 1, that are out, in thousandths.
-fn share(out: u32, pages: u32) -> u32
-    requires some { 1 ≤ pages }
-    requires within { out ≤ pages }
-    ensures { result ≡ thousandths out pages }
+// The share of the pages of a space that are out, in thousandths.
+fn share_out(model: &Reclaim, space: &Space) -> u32
+    requires { length model.now.out ≡ pages_of space.now }
+    ensures { result ≡ thousandths (out_count model.now.out) (pages_of space.now) }
 {
-    (1000 * u64::from(out) / u64::from(pages)) as u32
+    // For its clauses alone: the space has a page.
+    let _targets = space.targets();
+    // For its clause alone: no more pages are out than there are.
+    let _resident = model.resident();
+    (1000 * u64::from(model.out()) / u64::from(space.pages())) as u32
 }

@@ -1,0 +1,34 @@
+-- Touches of pages one after another.
+use Rattle.std.proofs.Common.{◌≡◌, ℕ, zero, suc, ◌+◌, ◌<◌, List, [], ◌∷◌, ◌++◌, refl, ap, ◌∙◌, arith}
+use Rattle.damon_types.specs.Space.{pages_of}
+use Rattle.damon_core.specs.After.{after}
+use Rattle.damon_core.specs.Event.{Event, touch}
+use Rattle.damon_core.specs.Reached.{AllFit, run}
+use Rattle.damon_core.specs.State.{State}
+use Rattle.damon_world.specs.Touches.{touches}
+use Rattle.reclaim_module.specs.Calls.{after_touch}
+use Rattle.reclaim_module.specs.Pages.{ReclaimView}
+use Rattle.reclaim_module.specs.Stands.{after_events}
+
+-- one touch more
+touches_more : (page n : ℕ) → touches page (suc n) ≡ touches page n ++ touch (page + n) ∷ []
+touches_more page zero = ap (λ p. touch p ∷ []) (omega arith)
+touches_more page (suc n) =
+    let last : page + 1 + n ≡ page + suc n = omega arith in
+    ap (λ es. touch page ∷ es) (touches_more (page + 1) n ∙ ap (λ p. touches (page + 1) n ++ touch p ∷ []) last)
+
+-- the same of a model
+pub model_touches_more :
+    (others : (es fs : List Event) (s : State) (r : ReclaimView) → after_events (es ++ fs) s r ≡ after_events fs (run s es) (after_events es s r))
+    → (page n : ℕ) (s : State) (r : ReclaimView) → after_events (touches page (n + 1)) s r ≡ after_touch (page + n) (after_events (touches page n) s r)
+model_touches_more others page n s r =
+    let next : n + 1 ≡ suc n = omega arith in
+    ap (λ k. after_events (touches page k) s r) next
+    ∙ ap (λ es. after_events es s r) (touches_more page n)
+    ∙ others (touches page n) (touch (page + n) ∷ []) s r
+
+-- touches that fit are of pages of the space
+pub touches_are_within : (page n : ℕ) (s : State) → AllFit s (touches page n) → (i : ℕ) → i < n → page + i < pages_of s.core.space
+touches_are_within page zero s fit i below = absurd (omega (arith, below))
+touches_are_within page (suc n) s fit zero below = omega (arith, fit.0)
+touches_are_within page (suc n) s fit (suc i) below = omega (arith, touches_are_within (page + 1) n (after s (touch page)) fit.1 i (omega (arith, below)))
