@@ -15,7 +15,11 @@ number_rule = record (new_rule (codes "number")) { required = true; action = Som
 
 -- the argument of `tune`: from 1 to 16 words
 abbrev pub goals_rule : Rule
-goals_rule = record (new_rule (codes "goals")) { required = true; action = Some Set; range = Some (record { start_inclusive = 1; end_inclusive = MAX_GOALS }) }
+goals_rule = record (new_rule (codes "goals")) {
+  required = true;
+  action = Some Set;
+  range = Some (record { start_inclusive = 1; end_inclusive = MAX_GOALS });
+}
 
 -- `gen` with its argument
 abbrev pub generate_shape : Shape
@@ -61,7 +65,8 @@ pub record Found : Type 0 where
 
 -- the subcommand of a parse
 abbrev pub words_found : Option (List ℕ × List Row) → Option Found
-words_found found = option_map (λ p. record { name = p.0; number = first_of (codes "number") p.1; goals = all_of (codes "goals") p.1 }) found
+words_found found =
+    option_map (λ p. record { name = p.0; number = first_of (codes "number") p.1; goals = all_of (codes "goals") p.1 }) found
 
 -- what a subcommand without goals asks for, with a number or without
 abbrev pub by_number : List ℕ → Option (List ℕ) → Option Request

@@ -31,5 +31,4 @@ pub(crate) fn each_run_is_accounted()
 
 pub(crate) fn try_lemmas()
     ensures { ℕ }
-{
-}
+{}

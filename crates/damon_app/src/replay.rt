@@ -16,13 +16,13 @@ ghost use Rattle.damon_app.specs.Replay.{IsBegun, IsDone, IsExpected, MayCome, T
 ghost use Rattle.damon_app.specs.Answers.{IsAnswer, IsOutcome, IsRefused, IsScriptRefused, IsScriptTaken, IsTaken};
 ghost use Rattle.damon_app.specs.declared.request.Request.TheVariants.{Report as report_by, Verify as verify};
 
-use crate::{Request, Run};
 use crate::counts::make_line;
 use crate::heat::show_heat;
 use crate::laws::{each_run_chooses_best, each_run_is_accounted, each_run_is_bound};
 use crate::request::read_request;
 use crate::run::write_report;
 use crate::summary::make_summary;
+use crate::{Request, Run};
 use damon_control::{MAX_WORK, Script, read_script};
 use damon_journal::{Status, rejected_texts_are_unlawful, verify};
 use damon_types::{Sink, Source};
