@@ -1,8 +1,9 @@
 -- For which states tuned quotas stand. Only proofs need this file.
-use Rattle.std.specs.Prelude.{◌≡◌, ℕ, ◌-◌, List, [], ◌++◌, Option, IfSome, refl}
+use Rattle.std.specs.Prelude.{◌≡◌, ℕ, ◌+◌, ◌-◌, ◌≤◌, List, [], ◌∷◌, ◌++◌, Option, Some, IfSome, refl}
 use Rattle.std.specs.List.{range_with_len}
 use Rattle.std.specs.Option.{option_map_or}
 use Rattle.damon_types.specs.declared.scheme.SlotChange.{SlotChange}
+use Rattle.damon_types.specs.declared.scheme.TheConstants.{MAX_SLOT}
 use Rattle.live_commit.specs.Accepted.{AllowsCommit}
 use Rattle.damon_core.specs.Event.{Event, touch, prepare, clear, load, observe, aggregate, commit, show}
 use Rattle.damon_core.specs.Slots.{slot_count}
@@ -10,7 +11,7 @@ use Rattle.damon_core.specs.State.{State}
 use Rattle.script_run.specs.Callbacks.{IsAlone}
 use Rattle.quota_goal.specs.declared.goals.Goal.{Goal}
 use Rattle.quota_goal.specs.declared.moment.Moment.{Moment}
-use Rattle.quota_goal.specs.Tuned.{TunerView}
+use Rattle.quota_goal.specs.Tuned.{TunerView, after_change, change_at}
 use Rattle.tune_run.specs.Callbacks.{changes_at, commits_of, tune_callbacks, tuner_in}
 use Rattle.tune_run.specs.Tops.{tops_kept}
 
@@ -22,6 +23,13 @@ pub record StandsTuned (goals : List Goal) (t : TunerView) (moment : Option Mome
 -- the changes that tune the slots from `next` on
 abbrev pub changes_from : TunerView → ℕ → Moment → List SlotChange
 changes_from t next moment = changes_at t moment (range_with_len next (slot_count - next))
+
+-- the first of the changes that are left, and what is left after it
+pub record IsNextChange (old new : TunerView) (next : ℕ) (moment : Moment) (c : SlotChange) : Type 0 where
+  pub slot : c.slot ≤ MAX_SLOT
+  pub is : change_at old c.slot moment ≡ Some c
+  pub after : new ≡ after_change (Some c) old
+  pub left : changes_from old next moment ≡ c ∷ changes_from new (c.slot + 1) moment
 
 -- the commits that are left to put in, none where no moment is under way
 abbrev pub left_at : TunerView → Option Moment → ℕ → List Event

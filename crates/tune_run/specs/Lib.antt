@@ -1,4 +1,5 @@
 pub mod Tops
 pub mod Callbacks
 pub mod Report
+pub mod Along
 pub mod Kept

@@ -2,6 +2,8 @@
 //! after what scores them, and the bytes at the end are written.
 #![tactic(auto)]
 
+/// What holds of all runs.
+mod laws;
 /// The lines of the slots with goals.
 mod lines;
 /// The names of goals in contracts.
@@ -9,5 +11,6 @@ mod named;
 /// Byte quotas that follow goals along the run of a script.
 mod tuned;
 
+pub use laws::{acceptance_is_told, bytes_follow_their_goals, tuned_runs_are_bound};
 pub use named::Named;
 pub use tuned::TunedQuotas;

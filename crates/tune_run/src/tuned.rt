@@ -1,6 +1,6 @@
 // Byte quotas that follow goals along the run of a script.
 ghost use Rattle.std.specs.Option.{option_map, option_map_or};
-ghost use Rattle.std.specs.Prelude.{◌≡◌, [], ◌∷◌, ◌≤◌, ◌↔◌, IfSome, None, slice_set, true};
+ghost use Rattle.std.specs.Prelude.{◌≡◌, [], ◌≤◌, ◌↔◌, IfSome, None, true};
 ghost use Rattle.damon_types.specs.declared.scheme.TheConstants.{MAX_SLOT};
 ghost use Rattle.live_commit.specs.Commit.{commit_value};
 ghost use Rattle.live_commit.specs.SetupView.{value_of};
@@ -8,7 +8,7 @@ ghost use Rattle.damon_core.specs.State.{opening};
 ghost use Rattle.quota_goal.specs.declared.moment.Moment.TheVariants.{Metric};
 ghost use Rattle.quota_goal.specs.Tuned.{given};
 ghost use Rattle.tune_run.specs.Callbacks.{change_alone, tune_callbacks};
-ghost use Rattle.tune_run.specs.Kept.{StandsTuned, changes_from};
+ghost use Rattle.tune_run.specs.Kept.{IsNextChange, StandsTuned, changes_from};
 
 use crate::lines::{SLOTS, append_tuned};
 use crate::named::Named;
@@ -42,6 +42,7 @@ impl<N: Named> TunedQuotas<N> {
             ((tune_callbacks N.goals).first (opening (value_of setup.now)))
             (opening (value_of setup.now)) }
     {
+        live_commit::accepted_commits_are_within();
         TunedQuotas {
             tuner: Tuner::new(goals, setup),
             moment: None,
@@ -61,26 +62,6 @@ impl<N: Named> TunedQuotas<N> {
         self.tuner.committed(commit);
         self.moment = commit.metric.map(|value| Moment::Metric { value });
         self.next = 0;
-    }
-
-    // The next change at a moment, of the slots that are left.
-    fn next_change(&mut self, moment: &Moment) -> Option<SlotChange>
-        ensures next { IfSome result (λ c. changes_from self.old.tuner self.old.next moment.now
-            ≡ c ∷ changes_from self.new.tuner self.new.next moment.now) }
-        ensures after { IfSome result (λ c. self.new.tuner ≡ record self.old.tuner {
-          schemes = slice_set self.old.tuner.schemes c.slot c.scheme;
-        }) }
-        ensures moment { self.new.moment ≡ self.old.moment }
-        ensures none { result ≡ None → changes_from self.old.tuner self.old.next moment.now ≡ [] }
-        ensures same { result ≡ None → self.new ≡ self.old }
-    {
-        'slots: for slot in self.next..SLOTS {
-            if let Some(change) = self.tuner.score(slot, moment) {
-                self.next = slot + 1;
-                return Some(change);
-            }
-        }
-        None
     }
 }
 
@@ -108,12 +89,14 @@ impl<N: Named> Callbacks for TunedQuotas<N> {
     }
 
     fn after_aggregation(&mut self, monitor: &Monitor) {
+        damon_core::reached_states_are_bound();
         let seen = seen_in(&monitor.report().rows);
         self.moment = Some(Moment::Seen { seen });
         self.next = 0;
     }
 
     fn after_commit(&mut self, commit: &Commit, answer: &Result<Changed, CommitFault>) {
+        live_commit::accepted_commits_are_within();
         self.moment = None;
         if answer.is_ok() && is_within(commit) {
             self.follow(commit);
@@ -122,7 +105,8 @@ impl<N: Named> Callbacks for TunedQuotas<N> {
 
     fn next_commit(&mut self) -> Option<Commit> {
         let moment = self.moment?;
-        let change = self.next_change(&moment)?;
+        let change = next_change(&mut self.tuner, self.next, &moment)?;
+        self.next = change.slot + 1;
         Some(change_alone(change))
     }
 
@@ -143,6 +127,20 @@ impl<N: Named> Callbacks for TunedQuotas<N> {
     ) -> Result<(), AllocError> {
         append_tuned(out, &self.tuner)
     }
+}
+
+// The next change at a moment, of the slots from `next` on.
+fn next_change(tuner: &mut Tuner, next: u8, moment: &Moment) -> Option<SlotChange>
+    ensures next { IfSome result (λ c. IsNextChange tuner.old tuner.new next moment.now c) }
+    ensures none { result ≡ None → changes_from tuner.old next moment.now ≡ [] }
+    ensures same { result ≡ None → tuner.new ≡ tuner.old }
+{
+    'slots: for slot in next..SLOTS {
+        if let Some(change) = tuner.score(slot, moment) {
+            return Some(change);
+        }
+    }
+    None
 }
 
 // Whether the slot that a commit changes, if it does, is one of the slots. That of an accepted commit always is.

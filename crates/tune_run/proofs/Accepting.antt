@@ -1,0 +1,300 @@
+-- Which commits are accepted, what tells it afterwards, and that each change that tunes a slot is.
+use Rattle.std.proofs.Common.{◌≡◌, ℕ, ◌<◌, ◌≤◌, Bool, true, false, List, [], ◌∷◌, ◌++◌, length, map, reverse, Ok, Err, Option, Some, None, refl, sym, ap, subst, ◌∙◌, arith, append-nil, append_assoc}
+use Rattle.std.specs.Prelude.{Result, ◌==◌, nat_lt, is_ok, filter_map, if◌then◌else◌}
+use Rattle.std.specs.Option.{unwrap_or}
+use Rattle.std.specs.Result.{result_and}
+use Rattle.std.proofs.lemmas.Bool.Decides.{nat_tests}
+use Rattle.std.proofs.lemmas.Grind.{reverse_onto}
+use Rattle.std.proofs.lemmas.List.{length-map}
+use Rattle.damon_types.specs.declared.attrs.Attrs.{Attrs}
+use Rattle.damon_types.specs.declared.range.RangeSpec.{RangeSpec}
+use Rattle.damon_types.specs.declared.row.Row.{Row}
+use Rattle.damon_types.specs.declared.scheme.CostPart.{CostPart}
+use Rattle.damon_types.specs.declared.scheme.Quota.{Quota}
+use Rattle.damon_types.specs.declared.scheme.Scheme.{Scheme}
+use Rattle.damon_types.specs.declared.scheme.SchemeFault.{SchemeFault}
+use Rattle.damon_types.specs.declared.scheme.SlotChange.{SlotChange}
+use Rattle.damon_types.specs.declared.scheme.TheConstants.{MAX_SLOT}
+use Rattle.damon_types.specs.declared.scheme.Version.{Version}
+use Rattle.damon_types.specs.Scheme.{checked_in, checked_scheme, checked_time}
+use Rattle.target_ranges.specs.Made.{range_of}
+use Rattle.live_commit.specs.declared.fault.CommitFault.{CommitFault}
+use Rattle.live_commit.specs.declared.fault.CommitFault.TheVariants.{BadScheme}
+use Rattle.live_commit.specs.declared.fault.SetupFault.{SetupFault}
+use Rattle.live_commit.specs.declared.phase.Phase.{Phase}
+use Rattle.live_commit.specs.declared.phase.Phase.TheVariants.{Idle, Clearing, Armed, Checking, Void, Due}
+use Rattle.live_commit.specs.Accepted.{AllowsCommit}
+use Rattle.live_commit.specs.Accepts.{checked_cost, checked_for_slot, checked_new_attrs, checked_new_ranges, checked_new_slot, checked_number, checked_phase, fault_as, max_after, ranges_after}
+use Rattle.live_commit.specs.Commit.{CommitValue}
+use Rattle.live_commit.specs.Setup.{IsSetup, SetupValue}
+use Rattle.live_commit.specs.Slots.{checked_after, checked_free, checked_set, checked_slot, is_set, scheme_fault}
+use Rattle.damon_core.specs.After.{after, by_clear, by_load, by_observe}
+use Rattle.damon_core.specs.Commit.{after_commit, becomes_void, check_of, committed, committed_core, if_accepted, phase_after_commit, view_of, with_cost, with_metric, with_slot}
+use Rattle.damon_core.specs.Event.{Event, touch, prepare, clear, load, observe, aggregate, commit, show}
+use Rattle.damon_core.specs.Note.{Note, set}
+use Rattle.damon_core.specs.Reached.{Reached, run}
+use Rattle.damon_core.specs.Slots.{scheme_of}
+use Rattle.damon_core.specs.State.{Core, State, opening, row_count, set_note}
+use Rattle.quota_goal.specs.Tuned.{quota_with, with_bytes}
+use Rattle.tune_run.specs.Callbacks.{change_alone}
+use Rattle.tune_run.specs.Tops.{was_accepted}
+use Rattle.tune_run.proofs.Slots.{differ, same}
+use Rattle.tune_run.proofs.Staying.{scheme_stays}
+
+-- two checks that succeed
+pub both_ok : {E : Type 0} (r s : Result (Unit {0}) E) → result_and r s ≡ Ok tt → (r ≡ Ok tt) × (s ≡ Ok tt)
+both_ok (Ok t) s ok = (refl, ok)
+both_ok (Err e) s ok = absurd (cc)
+
+and_ok : {E : Type 0} (r s : Result (Unit {0}) E) → r ≡ Ok tt → s ≡ Ok tt → result_and r s ≡ Ok tt
+and_ok (Ok t) s first second = second
+and_ok (Err e) s first second = absurd (cc)
+
+fault_as_ok : {E : Type 0} (fault : E → CommitFault) (r : Result (Unit {0}) E) → fault_as fault r ≡ Ok tt → r ≡ Ok tt
+fault_as_ok fault (Ok t) ok = refl
+fault_as_ok fault (Err why) ok = absurd (cc)
+
+-- ---- what tells afterwards that a commit was accepted
+
+phase_stays_free : (phase : Phase) (rows later : ℕ) (old new : List Row) → checked_phase phase rows ≡ Ok tt
+    → checked_phase (phase_after_commit phase old new) later ≡ Ok tt
+phase_stays_free Idle rows later old new ok = refl
+phase_stays_free (Clearing next) rows later old new ok = absurd (cc)
+phase_stays_free Armed rows later old new ok =
+    elim (becomes_void Armed old new) as (λ b. checked_phase (if b then Void else Armed) later ≡ Ok tt) [
+      | true ↦ refl
+      | false ↦ refl
+    ]
+phase_stays_free (Checking next) rows later old new ok = absurd (cc)
+phase_stays_free Void rows later old new ok = refl
+phase_stays_free Due rows later old new ok = refl
+
+-- the checks of a commit after that of the phase
+abbrev pub later_checks : CommitValue → Core → Result (Unit {0}) CommitFault
+later_checks parts c =
+    let v = view_of c in
+    result_and (checked_new_ranges c.space v.unit v.cap parts.ranges)
+    (result_and (checked_number (ranges_after parts.ranges v.ranges) (max_after parts.attrs v.max))
+    (result_and (checked_new_attrs v.cap parts.attrs)
+    (result_and (checked_new_slot v.version parts.slot) (checked_cost v.version parts.cost))))
+
+later_stay : (c : Core) (attrs : Option Attrs) (ranges : Option (List RangeSpec)) (slot : Option SlotChange) (metric : Option ℕ) (cost : Option CostPart)
+    → (let parts : CommitValue = record { attrs = attrs; ranges = ranges; slot = slot; metric = metric; cost = cost } in
+    later_checks parts (committed_core parts c) ≡ later_checks parts c)
+later_stay c None None slot metric cost = refl
+later_stay c None (Some specs) slot metric cost = refl
+later_stay c (Some a) None slot metric cost = refl
+later_stay c (Some a) (Some specs) slot metric cost = refl
+
+-- after a commit that was accepted its check passes again
+pub passes_again : (parts : CommitValue) (c : Core) → check_of parts c ≡ Ok tt → check_of parts (committed_core parts c) ≡ Ok tt
+passes_again parts c ok =
+    let new = committed_core parts c in
+    let both = both_ok (checked_phase c.phase (row_count c)) (later_checks parts c) ok in
+    and_ok (checked_phase new.phase (row_count new)) (later_checks parts new)
+    (phase_stays_free c.phase (row_count c) (row_count new) c.regions.rows new.regions.rows both.0)
+    (later_stay c parts.attrs parts.ranges parts.slot parts.metric parts.cost ∙ both.1)
+
+told_by : (parts : CommitValue) (s : State) (check : Result (Unit {0}) CommitFault) → check_of parts s.core ≡ check
+    → was_accepted parts (if_accepted check (committed parts s) s) ≡ is_ok check
+told_by parts s (Ok t) is = ap is_ok (passes_again parts s.core is)
+told_by parts s (Err fault) is = ap is_ok is
+
+-- the state after a commit tells whether it was accepted
+pub acceptance_is_told : (parts : CommitValue) (s : State) → was_accepted parts (after s (commit parts)) ≡ is_ok (check_of parts s.core)
+acceptance_is_told parts s = told_by parts s (check_of parts s.core) refl
+
+-- ---- what holds of the schemes of each reached state
+
+-- each scheme is within the limits of the version
+abbrev pub AreSound : Version → List Note → Type 0
+AreSound version notes = (slot : ℕ) (scheme : Scheme) → scheme_of notes slot ≡ Some scheme → checked_in version slot scheme ≡ Ok tt
+
+-- there are no more ranges than regions allowed, and each scheme is within the limits
+abbrev pub TakesChanges : State → Type 0
+TakesChanges s = (length s.core.regions.ranges ≤ s.core.attrs.max) × AreSound s.core.version s.notes
+
+-- one slot set to a scheme within the limits
+set_sound : (version : Version) (slot : ℕ) (scheme : Scheme) (notes : List Note) → checked_in version slot scheme ≡ Ok tt
+    → AreSound version notes → AreSound version (set slot scheme ∷ notes)
+set_sound version slot scheme notes ok sound i held is =
+    (elim (slot == i) as (λ b. (slot == i) ≡ b → (if b then Some scheme else scheme_of notes i) ≡ Some held → checked_in version i held ≡ Ok tt) [
+      | true ↦ λ test here. let at : slot ≡ i = grind (arith, nat_tests) in let what : scheme ≡ held = cc here in subst (λ (x : Scheme). checked_in version i x ≡ Ok tt) what (subst (λ k. checked_in version k scheme ≡ Ok tt) at ok)
+      | false ↦ λ test here. sound i held here
+    ]) refl is
+
+-- the slots of a setup
+scheme_fault_ok : (index : ℕ) (r : Result (Unit {0}) SchemeFault) → scheme_fault index r ≡ Ok tt → r ≡ Ok tt
+scheme_fault_ok index (Ok t) ok = refl
+scheme_fault_ok index (Err why) ok = absurd (cc)
+
+setup_sound : (version : Version) (before changes : List SlotChange) (notes : List Note) → AreSound version notes
+    → checked_after version before changes ≡ Ok tt → AreSound version (reverse (filter_map set_note changes) ++ notes)
+setup_sound version before [] notes sound ok = sound
+setup_sound version before (c ∷ changes) notes sound ok =
+    let both = both_ok (checked_slot version (length before) before c) (checked_after version (before ++ c ∷ []) changes) ok in
+    by_scheme c.slot c.scheme (is_set c.slot before) both.0 (λ earlier held. setup_sound version (before ++ c ∷ []) changes earlier held both.1)
+  where
+    by_scheme : (slot : ℕ) (scheme : Option Scheme) (is : Bool) → checked_set version (length before) is slot scheme ≡ Ok tt
+        → ((earlier : List Note) → AreSound version earlier → AreSound version (reverse (filter_map set_note changes) ++ earlier))
+        → AreSound version (reverse (filter_map set_note (record { slot = slot; scheme = scheme } ∷ changes)) ++ notes)
+    by_scheme slot None is fine rest = rest notes sound
+    by_scheme slot (Some scheme) is fine rest =
+        let others = filter_map set_note changes in
+        let checked = scheme_fault_ok (length before) (checked_in version slot scheme) (both_ok (scheme_fault (length before) (checked_in version slot scheme)) (checked_free (length before) is) fine).0 in
+        subst (λ (all : List Note). AreSound version all)
+        (sym (append_assoc (reverse others) (set slot scheme ∷ []) notes) ∙ ap (λ front. front ++ notes) (sym (reverse_onto others (set slot scheme) [])))
+        (rest (set slot scheme ∷ notes) (set_sound version slot scheme notes checked sound))
+
+pub opening_takes : (v : SetupValue) → IsSetup v → TakesChanges (opening v)
+opening_takes v is = (
+  is.ranges_most,
+  subst (λ (all : List Note). AreSound v.version all) (append-nil (opening v).notes)
+      (setup_sound v.version [] v.slots [] (λ slot scheme held. absurd (cc held)) is.slots),
+)
+
+-- ---- each event keeps it
+
+number_fits : (ranges max : ℕ) → checked_number ranges max ≡ Ok tt → ranges ≤ max
+number_fits ranges max ok = grind (arith, nat_tests)
+
+slot_sound : (version : Version) (slot : Option SlotChange) (notes : List Note) → checked_new_slot version slot ≡ Ok tt
+    → AreSound version notes → AreSound version (with_slot slot notes)
+slot_sound version None notes ok sound = sound
+slot_sound version (Some change) notes ok sound =
+    by_scheme change.scheme (fault_as_ok BadScheme (checked_for_slot version change.slot change.scheme) ok)
+  where
+    by_scheme : (scheme : Option Scheme) → checked_for_slot version change.slot scheme ≡ Ok tt
+        → AreSound version (with_slot (Some (record { slot = change.slot; scheme = scheme })) notes)
+    by_scheme None fine i held is =
+        (elim (change.slot == i) as (λ b. (if b then None else scheme_of notes i) ≡ Some held → checked_in version i held ≡ Ok tt) [
+          | true ↦ λ here. absurd (cc here)
+          | false ↦ λ here. sound i held here
+        ]) is
+    by_scheme (Some scheme) fine i held is = set_sound version change.slot scheme notes fine sound i held is
+
+metric_sound : (version : Version) (value : Option ℕ) (notes : List Note) → AreSound version notes → AreSound version (with_metric value notes)
+metric_sound version None notes sound = sound
+metric_sound version (Some value) notes sound = sound
+
+cost_sound : (version : Version) (part : Option CostPart) (notes : List Note) → AreSound version notes → AreSound version (with_cost part notes)
+cost_sound version None notes sound = sound
+cost_sound version (Some part) notes sound = sound
+
+few_after : (c : Core) (attrs : Option Attrs) (ranges : Option (List RangeSpec)) (slot : Option SlotChange) (metric : Option ℕ) (cost : Option CostPart)
+    → ranges_after ranges (length c.regions.ranges) ≤ max_after attrs c.attrs.max
+    → (let parts : CommitValue = record { attrs = attrs; ranges = ranges; slot = slot; metric = metric; cost = cost } in
+    length (committed_core parts c).regions.ranges ≤ (committed_core parts c).attrs.max)
+few_after c None None slot metric cost few = few
+few_after c None (Some specs) slot metric cost few = subst (λ n. n ≤ c.attrs.max) (sym (length-map specs (range_of c.space))) few
+few_after c (Some a) None slot metric cost few = few
+few_after c (Some a) (Some specs) slot metric cost few = subst (λ n. n ≤ a.max) (sym (length-map specs (range_of c.space))) few
+
+commit_takes : (parts : CommitValue) (s : State) (check : Result (Unit {0}) CommitFault) → check_of parts s.core ≡ check → TakesChanges s
+    → TakesChanges (if_accepted check (committed parts s) s)
+commit_takes parts s (Err fault) is here = here
+commit_takes parts s (Ok t) is here =
+    let c = s.core in
+    let v = view_of c in
+    let version = c.version in
+    let phase = both_ok (checked_phase c.phase (row_count c)) (later_checks parts c) is in
+    let ranges = both_ok (checked_new_ranges c.space v.unit v.cap parts.ranges) _ phase.1 in
+    let number = both_ok (checked_number (ranges_after parts.ranges v.ranges) (max_after parts.attrs v.max)) _ ranges.1 in
+    let attrs = both_ok (checked_new_attrs v.cap parts.attrs) _ number.1 in
+    let slot = both_ok (checked_new_slot version parts.slot) (checked_cost version parts.cost) attrs.1 in (
+      few_after c parts.attrs parts.ranges parts.slot parts.metric parts.cost (number_fits (ranges_after parts.ranges v.ranges) (max_after parts.attrs v.max) number.0),
+      cost_sound version parts.cost (with_metric parts.metric (with_slot parts.slot s.notes))
+          (metric_sound version parts.metric (with_slot parts.slot s.notes) (slot_sound version parts.slot s.notes slot.0 here.1)),
+    )
+
+clear_takes : (phase : Phase) (s : State) → TakesChanges s → TakesChanges (by_clear phase s)
+clear_takes (Clearing k) s here = here
+clear_takes Idle s here = here
+clear_takes Armed s here = here
+clear_takes (Checking k) s here = here
+clear_takes Void s here = here
+clear_takes Due s here = here
+
+load_takes : (phase : Phase) (hit : Bool) (s : State) → TakesChanges s → TakesChanges (by_load phase hit s)
+load_takes Armed hit s here = here
+load_takes (Checking k) hit s here = here
+load_takes Idle hit s here = here
+load_takes (Clearing k) hit s here = here
+load_takes Void hit s here = here
+load_takes Due hit s here = here
+
+observe_takes : (phase : Phase) (s : State) → TakesChanges s → TakesChanges (by_observe phase s)
+observe_takes (Checking k) s here = here
+observe_takes Void s here = here
+observe_takes Idle s here = here
+observe_takes (Clearing k) s here = here
+observe_takes Armed s here = here
+observe_takes Due s here = here
+
+pub event_takes : (e : Event) (s : State) → TakesChanges s → TakesChanges (after s e)
+event_takes (touch page) s here = here
+event_takes (prepare words) s here = here
+event_takes clear s here = clear_takes s.core.phase s here
+event_takes (load hit) s here = load_takes s.core.phase hit s here
+event_takes observe s here = observe_takes s.core.phase s here
+event_takes (aggregate words) s here =
+    (here.0, λ slot scheme is. here.1 slot scheme (sym (scheme_stays s (aggregate words) tt slot) ∙ is))
+event_takes (commit parts) s here = commit_takes parts s (check_of parts s.core) refl here
+event_takes show s here = here
+
+pub run_takes : (es : List Event) (s : State) → TakesChanges s → TakesChanges (run s es)
+run_takes [] s here = here
+run_takes (e ∷ es) s here = run_takes es (after s e) (event_takes e s here)
+
+pub reached_takes : (s : State) → Reached s → TakesChanges s
+reached_takes s reached =
+    subst TakesChanges reached.is (run_takes reached.events (opening reached.setup) (opening_takes reached.setup reached.can_open.sound))
+
+-- ---- a change of a slot in force to other bytes is accepted
+
+other_bytes : (version : Version) (slot : ℕ) (s : Scheme) (bytes : ℕ) → checked_in version slot (with_bytes s bytes) ≡ checked_in version slot s
+other_bytes version slot s bytes = by_quota s.quota
+  where
+    by_quota : (q : Option Quota) → checked_in version slot (with_bytes (record s { quota = q }) bytes) ≡ checked_in version slot (record s { quota = q })
+    by_quota None = refl
+    by_quota (Some q) = refl
+
+phase_allows : (phase : Phase) (rows : ℕ) → AllowsCommit phase → checked_phase phase rows ≡ Ok tt
+phase_allows Idle rows free = refl
+phase_allows (Clearing next) rows free = absurd free
+phase_allows Armed rows free = refl
+phase_allows (Checking next) rows free = absurd free
+phase_allows Void rows free = refl
+phase_allows Due rows free = refl
+
+number_is_few : (ranges max : ℕ) → ranges ≤ max → checked_number ranges max ≡ Ok tt
+number_is_few ranges max few = grind (arith, nat_tests)
+
+fault_as_of_ok : {E : Type 0} (fault : E → CommitFault) (r : Result (Unit {0}) E) → r ≡ Ok tt → fault_as fault r ≡ Ok tt
+fault_as_of_ok fault (Ok t) ok = refl
+fault_as_of_ok fault (Err why) ok = absurd (cc)
+
+pub tuned_is_accepted : (s : State) (slot : ℕ) (scheme : Scheme) (bytes : ℕ) → TakesChanges s → AllowsCommit s.core.phase
+    → scheme_of s.notes slot ≡ Some scheme
+    → check_of (change_alone (record { slot = slot; scheme = Some (with_bytes scheme bytes) })) s.core ≡ Ok tt
+tuned_is_accepted s slot scheme bytes takes free held =
+    let c = s.core in
+    let change : SlotChange = record { slot = slot; scheme = Some (with_bytes scheme bytes) } in
+    let checked = checked_new_slot c.version (Some change) in
+    and_ok (checked_phase c.phase (row_count c)) (later_checks (change_alone change) c) (phase_allows c.phase (row_count c) free)
+    (and_ok (checked_number (length c.regions.ranges) c.attrs.max) (result_and checked (Ok tt)) (number_is_few (length c.regions.ranges) c.attrs.max takes.0)
+    (and_ok checked (Ok tt) (fault_as_of_ok BadScheme (checked_in c.version slot (with_bytes scheme bytes)) (other_bytes c.version slot scheme bytes ∙ takes.1 slot scheme held)) refl))
+
+-- commits are allowed in the phase after a commit that was accepted
+free_phase : (phase : Phase) (rows : ℕ) → checked_phase phase rows ≡ Ok tt → AllowsCommit phase
+free_phase Idle rows ok = tt
+free_phase (Clearing next) rows ok = absurd (cc)
+free_phase Armed rows ok = tt
+free_phase (Checking next) rows ok = absurd (cc)
+free_phase Void rows ok = tt
+free_phase Due rows ok = tt
+
+pub free_again : (parts : CommitValue) (c : Core) → check_of parts c ≡ Ok tt → AllowsCommit (committed_core parts c).phase
+free_again parts c ok =
+    let new = committed_core parts c in
+    free_phase new.phase (row_count new) (both_ok (checked_phase new.phase (row_count new)) (later_checks parts new) (passes_again parts c ok)).0

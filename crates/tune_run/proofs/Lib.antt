@@ -1,0 +1,16 @@
+pub mod Slots
+pub mod Opening
+pub mod Staying
+pub mod Accepting
+pub mod Changes
+pub mod Committing
+pub mod Reporting
+pub mod Writing
+pub mod Fitting
+pub mod Through
+pub mod Least
+pub mod Bytes
+pub mod Below
+pub mod Running
+pub mod Scores
+pub mod Examples

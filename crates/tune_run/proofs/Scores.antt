@@ -1,0 +1,226 @@
+-- The bytes of a slot with one goal, as long as the scores stay on one side of the target.
+use Rattle.std.proofs.Common.{◌≡◌, ℕ, zero, suc, ◌+◌, ◌<◌, ◌≤◌, min, Bool, true, false, List, [], ◌∷◌, ◌++◌, get_or, Option, Some, None, Ok, Err, Result, refl, sym, ap, subst, ◌∙◌, arith}
+use Rattle.std.specs.Prelude.{◌==◌, IfSome, cond, filter_map, if◌then◌else◌}
+use Rattle.std.specs.List.{AllByRecursion, cons_option, filter}
+use Rattle.std.specs.Option.{option_and_then, option_map, option_map_or, unwrap_or}
+use Rattle.std.proofs.lemmas.List.{get_or-set_other}
+use Rattle.damon_types.specs.declared.scheme.SlotChange.{SlotChange}
+use Rattle.live_commit.specs.declared.fault.CommitFault.{CommitFault}
+use Rattle.live_commit.specs.Commit.{CommitValue}
+use Rattle.damon_core.specs.After.{after}
+use Rattle.damon_core.specs.Commit.{check_of}
+use Rattle.damon_core.specs.Event.{Event, touch, prepare, clear, load, observe, aggregate, commit, show}
+use Rattle.damon_core.specs.Reached.{run}
+use Rattle.damon_core.specs.Slots.{slot_count}
+use Rattle.damon_core.specs.State.{State}
+use Rattle.damon_world.specs.Moment.{along}
+use Rattle.damon_world.specs.Plays.{along-state}
+use Rattle.script_run.specs.Course.{Course, course_after, onward}
+use Rattle.quota_goal.specs.declared.goals.Goal.{Goal}
+use Rattle.quota_goal.specs.declared.moment.Moment.{Moment}
+use Rattle.quota_goal.specs.Goals.{IsGoal}
+use Rattle.quota_goal.specs.Moment.{score_of}
+use Rattle.quota_goal.specs.Next.{next}
+use Rattle.quota_goal.specs.Tuned.{TunerView, bytes_at, given, least_of, nexts, scheme_at, top_after, top_at, tunable_bytes}
+use Rattle.tune_run.specs.Along.{LeavesSlot, ScoresAre, StayWithTheScores, bytes_in, goals_of, put_in, score_at, tuner_before, tuner_past, tuner_then}
+use Rattle.tune_run.specs.Callbacks.{moment_after, schemes_in, tune_callbacks, tuned_by, tuner_in}
+use Rattle.tune_run.specs.Tops.{tops_kept}
+use Rattle.tune_run.proofs.Below.{IsCarried, NamesSlots}
+use Rattle.tune_run.proofs.Bytes.{bytes_tuned, none_tunable}
+use Rattle.tune_run.proofs.Committing.{accepted_stands, refused_stands}
+use Rattle.tune_run.proofs.Least.{Bounds}
+use Rattle.tune_run.proofs.Running.{by_count, bytes_then, course_carries, no_scheme}
+use Rattle.tune_run.proofs.Staying.{IsNoCommit, schemes_stay}
+
+-- ---- one goal
+
+-- the next bytes by the goals of a slot
+by_goals : (slot : ℕ) (moment : Moment) (bytes top : ℕ) (goals : List Goal)
+    → nexts goals slot moment bytes top ≡ filter_map (λ g. option_map (next g bytes top) (score_of g.kind moment)) (goals_of goals slot)
+by_goals slot moment bytes top [] = refl
+by_goals slot moment bytes top (g ∷ goals) =
+    let by : Goal → Option ℕ = λ x. option_map (next x bytes top) (score_of x.kind moment) in
+    let others = goals_of goals slot in
+    elim (g.slot == slot) as (λ b. cons_option (if b then by g else None) (nexts goals slot moment bytes top) ≡ filter_map by (cond b (g ∷ others) others)) [
+      | true ↦ ap (cons_option (by g)) (by_goals slot moment bytes top goals)
+      | false ↦ by_goals slot moment bytes top goals
+    ]
+
+least_of_one : (o : Option ℕ) → least_of (cons_option o []) ≡ o
+least_of_one None = refl
+least_of_one (Some n) = refl
+
+by_one : (slot : ℕ) (moment : Moment) (bytes top : ℕ) (goals : List Goal) (g : Goal) → goals_of goals slot ≡ g ∷ []
+    → least_of (nexts goals slot moment bytes top) ≡ option_map (next g bytes top) (score_of g.kind moment)
+by_one slot moment bytes top goals g one =
+    let by : Goal → Option ℕ = λ x. option_map (next x bytes top) (score_of x.kind moment) in
+    ap least_of (by_goals slot moment bytes top goals ∙ ap (filter_map by) one) ∙ least_of_one (by g)
+
+each_of : (slot : ℕ) (goals : List Goal) → AllByRecursion IsGoal goals → AllByRecursion IsGoal (goals_of goals slot)
+each_of slot [] each = tt
+each_of slot (g ∷ goals) each =
+    let rest = each_of slot goals each.1 in
+    elim (g.slot == slot) as (λ b. AllByRecursion IsGoal (cond b (g ∷ goals_of goals slot) (goals_of goals slot))) [
+      | true ↦ (each.0, rest)
+      | false ↦ rest
+    ]
+
+-- bytes within the bounds of a goal
+abbrev IsIn : Goal → ℕ → ℕ → Type 0
+IsIn g top bytes = (min g.low top ≤ bytes) × (bytes ≤ min g.high top)
+
+-- the bytes after a score, if there is one
+abbrev new_by : Goal → ℕ → ℕ → Option ℕ → ℕ
+new_by g top bytes score = unwrap_or (option_map (next g bytes top) score) bytes
+
+-- ---- events that leave a slot
+
+-- two tuners with the same scheme and top of a slot
+abbrev AreAlike : ℕ → TunerView → TunerView → Type 0
+AreAlike slot t u = (scheme_at t slot ≡ scheme_at u slot) × (top_at t slot ≡ top_at u slot)
+
+module _ (goals : List Goal) (tops : List ℕ) (s : State) (slot : ℕ) where
+  abbrev old_tuner : TunerView
+  old_tuner = tuner_in goals tops s
+
+  no_commit : (e : Event) → IsNoCommit e → AreAlike slot (tuner_in goals tops (after s e)) old_tuner
+  no_commit e other = (ap (λ schemes. get_or schemes slot None) (schemes_stay s e other), refl)
+
+  by_change : (change : Option SlotChange) → IfSome change (λ c. c.slot ≡ slot → ⊥) → AreAlike slot (option_map_or (λ c. given c old_tuner) change old_tuner) old_tuner
+  by_change None leaves = (refl, refl)
+  by_change (Some c) leaves =
+      let apart : slot ≡ c.slot → ⊥ = λ e. leaves (sym e) in
+      (get_or-set_other (schemes_in s) c.slot slot c.scheme None apart, get_or-set_other tops c.slot slot (top_after c.scheme (get_or tops c.slot 0)) 0 apart)
+
+  by_commit : NamesSlots → (parts : CommitValue) (check : Result (Unit {0}) CommitFault) → check_of parts s.core ≡ check
+      → IfSome parts.slot (λ c. c.slot ≡ slot → ⊥)
+      → AreAlike slot (tuner_in goals (tops_kept tops (after s (commit parts)) (commit parts)) (after s (commit parts))) old_tuner
+  by_commit law parts (Ok t) is leaves =
+      let new = option_map_or (λ c. given c old_tuner) parts.slot old_tuner in
+      let stands = accepted_stands goals tops parts s old_tuner new None None (record { is = refl; free = tt }) is (law parts s is) refl in
+      subst (λ (x : TunerView). AreAlike slot x old_tuner) stands.is (by_change parts.slot leaves)
+  by_commit law parts (Err fault) is leaves =
+      let stands = refused_stands goals tops parts s old_tuner None fault (record { is = refl; free = tt }) is in
+      subst (λ (x : TunerView). AreAlike slot x old_tuner) stands.is (refl, refl)
+
+  leaves_alike : NamesSlots → (e : Event) → LeavesSlot slot e → AreAlike slot (tuner_in goals (tops_kept tops (after s e) e) (after s e)) old_tuner
+  leaves_alike law (touch page) leaves = no_commit (touch page) tt
+  leaves_alike law (prepare words) leaves = no_commit (prepare words) tt
+  leaves_alike law clear leaves = no_commit clear tt
+  leaves_alike law (load hit) leaves = no_commit (load hit) tt
+  leaves_alike law observe leaves = no_commit observe tt
+  leaves_alike law (aggregate words) leaves = no_commit (aggregate words) tt
+  leaves_alike law (commit parts) leaves = by_commit law parts (check_of parts s.core) refl leaves
+  leaves_alike law show leaves = no_commit show tt
+
+-- ---- one event
+
+module _ (laws : Bounds) (law : NamesSlots) (goals : List Goal) (g : Goal) (one : goals_of goals g.slot ≡ g ∷ []) where
+  abbrev next_course : Course → Event → Course
+  next_course r e = course_after (tune_callbacks goals) r e
+
+  -- the bytes once all is put in
+  bytes_put : (r : Course) (e : Event) → IsCarried goals r.memory r.moment.state → (bytes : ℕ) → bytes_at (tuner_before goals r e) g.slot ≡ Some bytes
+      → g.slot < slot_count
+      → bytes_at (tuner_then goals r e) g.slot ≡ Some (new_by g (top_at (tuner_before goals r e) g.slot) bytes (score_at g r e))
+  bytes_put r e here bytes was within =
+      let t = tuner_before goals r e in
+      let top = top_at t g.slot in
+      (elim (moment_after (after r.moment.state e) e) as (λ o. moment_after (after r.moment.state e) e ≡ o
+      → bytes_at (tuner_then goals r e) g.slot ≡ Some (new_by g top bytes (option_and_then (score_of g.kind) o))) [
+        | None ↦ λ none.
+            let put : put_in goals r e ≡ [] = ap (λ o. option_map_or (tuned_by t) o []) none in
+            ap (λ (es : List Event). bytes_at (tuner_past goals r e es) g.slot) put ∙ was
+        | Some m ↦ λ some.
+            bytes_then laws law goals r e here m g.slot some within
+            ∙ bytes_tuned t g.slot m bytes was
+            ∙ ap (λ o. Some (unwrap_or o bytes)) (by_one g.slot m bytes top goals g one)
+      ]) refl
+
+  -- a slot that there is not has no bytes
+  beyond_all : (goals_too : List Goal) (tops : List ℕ) (s : State) → slot_count ≤ g.slot → bytes_at (tuner_in goals_too tops s) g.slot ≡ None
+  beyond_all goals_too tops s beyond = ap (option_and_then tunable_bytes) (no_scheme s.notes g.slot beyond)
+
+  bytes_next : (r : Course) (e : Event) → IsCarried goals r.memory r.moment.state → (bytes : ℕ) → bytes_at (tuner_before goals r e) g.slot ≡ Some bytes
+      → bytes_in goals (next_course r e) g.slot ≡ Some (new_by g (top_at (tuner_before goals r e) g.slot) bytes (score_at g r e))
+  bytes_next r e here bytes was =
+      let tops = tops_kept r.memory (after r.moment.state e) e in
+      ap (λ (x : State). bytes_at (tuner_in goals tops x) g.slot) (along-state r.moment (e ∷ put_in goals r e))
+      ∙ by_count (bytes_at (tuner_then goals r e) g.slot ≡ Some (new_by g (top_at (tuner_before goals r e) g.slot) bytes (score_at g r e))) g.slot
+      (bytes_put r e here bytes was)
+      (λ beyond. absurd (cc (beyond_all goals tops (after r.moment.state e) beyond) was))
+
+  -- a slot without bytes gets none
+  none_next : (r : Course) (e : Event) → IsCarried goals r.memory r.moment.state → (score : ℕ) → score_at g r e ≡ Some score
+      → bytes_at (tuner_before goals r e) g.slot ≡ None → bytes_in goals (next_course r e) g.slot ≡ None
+  none_next r e here score scored was =
+      let tops = tops_kept r.memory (after r.moment.state e) e in
+      let t = tuner_before goals r e in
+      ap (λ (x : State). bytes_at (tuner_in goals tops x) g.slot) (along-state r.moment (e ∷ put_in goals r e))
+      ∙ (elim (moment_after (after r.moment.state e) e) as (λ o. moment_after (after r.moment.state e) e ≡ o → option_and_then (score_of g.kind) o ≡ Some score
+      → bytes_at (tuner_then goals r e) g.slot ≡ None) [
+        | None ↦ λ none no_score. absurd (cc no_score)
+        | Some m ↦ λ some its_score.
+            by_count (bytes_at (tuner_then goals r e) g.slot ≡ None) g.slot
+            (λ within. bytes_then laws law goals r e here m g.slot some within ∙ none_tunable t g.slot m was)
+            (λ beyond. beyond_all goals tops (run (after r.moment.state e) (put_in goals r e)) beyond)
+      ]) refl scored
+
+  -- bytes after a score lie within the bounds
+  inside : (top bytes : ℕ) (score : Option ℕ) → g.low ≤ g.high → IsIn g top bytes → IsIn g top (new_by g top bytes score)
+  inside top bytes None order here = here
+  inside top bytes (Some score) order here = (laws.least g bytes top score, laws.most g bytes top score order)
+
+  -- ---- many events
+
+  -- a relation of bytes that each score with a property keeps
+  module _ (P : ℕ → Type 0) (R : ℕ → ℕ → Type 0) (itself : (n : ℕ) → R n n) (chain : (a b c : ℕ) → R a b → R b c → R a c)
+      (step : (score bytes top : ℕ) → P score → IsIn g top bytes → R bytes (next g bytes top score)) (order : g.low ≤ g.high) where
+    moved : (top bytes : ℕ) (score : Option ℕ) → IfSome score P → IsIn g top bytes → R bytes (new_by g top bytes score)
+    moved top bytes None is here = itself bytes
+    moved top bytes (Some score) is here = step score bytes top is here
+
+    stretch : (es : List Event) (q : Course) → IsCarried goals q.memory q.moment.state → (bytes new : ℕ) → bytes_in goals q g.slot ≡ Some bytes
+        → IsIn g (get_or q.memory g.slot 0) bytes → bytes_in goals (onward (tune_callbacks goals) q es) g.slot ≡ Some new → ScoresAre goals g P q es
+        → R bytes new
+    stretch [] q here bytes new was within is scores =
+        let alike : Some bytes ≡ Some new = sym was ∙ is in
+        let same : bytes ≡ new = cc alike in
+        subst (R bytes) same (itself bytes)
+    stretch (e ∷ es) q here bytes new was within is scores =
+        let t = tuner_before goals q e in
+        let alike = leaves_alike goals q.memory q.moment.state g.slot law e scores.0 in
+        let top = top_at t g.slot in
+        let before : bytes_at t g.slot ≡ Some bytes = ap (option_and_then tunable_bytes) alike.0 ∙ was in
+        let now : IsIn g top bytes = subst (λ n. IsIn g n bytes) (sym alike.1) within in
+        let score = score_at g q e in
+        let then_bytes = new_by g top bytes score in
+        chain bytes then_bytes new (moved top bytes score scores.1 now)
+        (stretch es (next_course q e) (course_carries laws law goals q e here) then_bytes new (bytes_next q e here bytes before) (inside top bytes score order now) is scores.2)
+
+pub stay : (laws : Bounds) (law : NamesSlots) (goals : List Goal) (r : Course) (e : Event) → IsCarried goals r.memory r.moment.state → AllByRecursion IsGoal goals
+    → ((g : Goal) (bytes top score : ℕ) → score < g.target → bytes ≤ min g.high top → bytes ≤ next g bytes top score)
+    → ((g : Goal) (bytes top score : ℕ) → g.target ≤ score → min g.low top ≤ bytes → next g bytes top score ≤ bytes)
+    → StayWithTheScores goals r e
+stay laws law goals r e here each rise fall es g score bytes new one scored was is =
+    by_before (bytes_at (tuner_before goals r e) g.slot) refl
+  where
+    order : g.low ≤ g.high
+    order = (subst (λ (gs : List Goal). AllByRecursion IsGoal gs) one (each_of g.slot goals each)).0.bounds
+
+    by_before : (o : Option ℕ) → bytes_at (tuner_before goals r e) g.slot ≡ o
+        → (let q = course_after (tune_callbacks goals) r e in
+        (ScoresAre goals g (λ n. n < g.target) q es → bytes ≤ new) × (ScoresAre goals g (λ n. g.target ≤ n) q es → new ≤ bytes))
+    by_before None before = absurd (cc (none_next laws law goals g one r e here score scored before) was)
+    by_before (Some earlier) before =
+        let q = course_after (tune_callbacks goals) r e in
+        let top = top_at (tuner_before goals r e) g.slot in
+        let now : Some (new_by g top earlier (score_at g r e)) ≡ Some bytes = sym (bytes_next laws law goals g one r e here earlier before) ∙ was in
+        let same : new_by g top earlier (Some score) ≡ bytes = cc now (ap (new_by g top earlier) scored) in
+        let within : IsIn g top bytes = subst (λ n. IsIn g top n) same (laws.least g earlier top score, laws.most g earlier top score order) in
+        let there = course_carries laws law goals r e here in (
+          stretch laws law goals g one (λ n. n < g.target) (λ a b. a ≤ b) (λ n. omega arith) (λ a b c first second. omega (arith, first, second))
+              (λ n held at low in_bounds. rise g held at n low in_bounds.1) order es q there bytes new was within is,
+          stretch laws law goals g one (λ n. g.target ≤ n) (λ a b. b ≤ a) (λ n. omega arith) (λ a b c first second. omega (arith, first, second))
+              (λ n held at high in_bounds. fall g held at n high in_bounds.0) order es q there bytes new was within is,
+        )

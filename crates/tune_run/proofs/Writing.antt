@@ -1,0 +1,30 @@
+-- The lines of slots, one after another.
+use Rattle.std.proofs.Common.{◌≡◌, ℕ, zero, suc, ◌+◌, List, [], ◌∷◌, ◌++◌, refl, ap, sym, ◌∙◌, append-nil, append_assoc, arith}
+use Rattle.std.specs.List.{flat_map, range_with_len}
+use Rattle.std.proofs.lemmas.Grind.{flat_map-append}
+use Rattle.std.proofs.lemmas.List.Concat.{flat_map-cons}
+use Rattle.quota_goal.specs.Tuned.{TunerView}
+use Rattle.tune_run.specs.Callbacks.{slot_text}
+use Rattle.tune_run.specs.Kept.{KeepsFront}
+
+range_more : (from n : ℕ) → range_with_len from (n + 1) ≡ range_with_len from n ++ (from + n) ∷ []
+range_more from zero = let here : from ≡ from + 0 = omega arith in ap (λ k. k ∷ []) here
+range_more from (suc n) =
+    let last : from + 1 + n ≡ from + suc n = omega arith in
+    ap (λ xs. from ∷ xs) (range_more (from + 1) n)
+    ∙ ap (λ k. from ∷ (range_with_len (from + 1) n ++ k ∷ [])) last
+
+pub lines_more : (t : TunerView) (i : ℕ)
+    → flat_map (slot_text t) (range_with_len 0 (i + 1)) ≡ flat_map (slot_text t) (range_with_len 0 i) ++ slot_text t i
+lines_more t i =
+    let text = slot_text t in
+    let lines = flat_map text (range_with_len 0 i) in
+    let last : 0 + i ≡ i = omega arith in
+    ap (flat_map text) (range_more 0 i)
+    ∙ flat_map-append text (range_with_len 0 i) ((0 + i) ∷ [])
+    ∙ ap (λ k. lines ++ flat_map text (k ∷ [])) last
+    ∙ ap (λ xs. lines ++ xs) (flat_map-cons text i [] ∙ append-nil (text i))
+
+pub keeps_on : (old now then lines : List ℕ) → now ≡ old ++ lines → KeepsFront now then → KeepsFront old then
+keeps_on old now then lines is keeps =
+    (lines ++ keeps.0, keeps.1 ∙ ap (λ text. text ++ keeps.0) is ∙ append_assoc old lines keeps.0)
