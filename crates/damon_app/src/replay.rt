@@ -9,7 +9,7 @@ ghost use Rattle.text_io.specs.Given.{GaveOver};
 ghost use Rattle.text_io.specs.Taken.{WritesPart};
 ghost use Rattle.damon_app.specs.Request.{ReadsInput, ReadsJournal, asked};
 ghost use Rattle.damon_app.specs.Generated.{gen_text};
-ghost use Rattle.damon_app.specs.Runs.{EachRunChoosesBest, EachRunIsAccounted, EachRunIsBound};
+ghost use Rattle.damon_app.specs.Runs.{EachRunChoosesBest, EachRunFollowsGoals, EachRunIsAccounted, EachRunIsBound};
 ghost use Rattle.damon_journal.specs.Status.{EndsRun, IsRead, IsUnwritten, status_of};
 ghost use Rattle.damon_journal.specs.Verified.{IsOfNoLawfulRun};
 ghost use Rattle.damon_app.specs.Replay.{IsBegun, IsDone, IsExpected, MayCome, TellsFault, TellsJournal};
@@ -18,7 +18,9 @@ ghost use Rattle.damon_app.specs.declared.request.Request.TheVariants.{Report as
 
 use crate::counts::make_line;
 use crate::heat::show_heat;
-use crate::laws::{each_run_chooses_best, each_run_is_accounted, each_run_is_bound};
+use crate::laws::{
+    each_run_chooses_best, each_run_follows_goals, each_run_is_accounted, each_run_is_bound,
+};
 use crate::request::read_request;
 use crate::run::write_report;
 use crate::summary::make_summary;
@@ -60,6 +62,11 @@ pub fn replay_main<S: Source, K: Sink>(
     // what is resident of the pages that such a scheme is applied to.
     ensures accounted { EachRunIsAccounted }
 
+    // Under `tune` the bytes of each tunable slot are at most what the script gave it, and directly after a
+    // score they lie between the bounds of the goals that were scored. Where it is one goal, they do not fall
+    // below its target, and do not rise at or above it.
+    ensures follows { EachRunFollowsGoals }
+
     // The status is the one that is expected, or a failure.
     ensures complete { IsExpected (asked words.now) result INPUT_LIMIT (S.left source.old)
         (Rose (S.faults source.old) (S.faults source.new))
@@ -88,6 +95,7 @@ pub fn replay_main<S: Source, K: Sink>(
     each_run_is_bound();
     each_run_chooses_best();
     each_run_is_accounted();
+    each_run_follows_goals();
     rejected_texts_are_unlawful();
     serve(alloc, words, source, sink)
 }
