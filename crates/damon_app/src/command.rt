@@ -1,5 +1,5 @@
 ghost use Rattle.std.specs.Prelude.{◌≡◌, false, IfOk};
-ghost use Rattle.clap.specs.Words.{app_of, fields_of, new_app, rule_of, with_rule};
+ghost use Rattle.clap.specs.Words.{app_of, new_app, rule_of, with_rule, with_subcommand};
 ghost use Rattle.damon_app.specs.Parser.{damon_app, goals_rule, number_rule, top_app};
 
 use clap::{Arg, ArgAction, Command};
@@ -10,14 +10,13 @@ use std::alloc::{AllocError, Global};
 pub(crate) fn make_command<'a>(alloc: Global) -> Result<Command<'a>, AllocError>
     ensures { IfOk result (λ command. app_of command ≡ damon_app) }
 {
-    top_command(alloc)
-        .subcommand(Command::new(alloc, "replay"))?
-        .subcommand(Command::new(alloc, "json"))?
-        .subcommand(Command::new(alloc, "verify"))?
-        .subcommand(with_argument(alloc, "gen", number_argument(alloc))?)?
-        .subcommand(with_argument(alloc, "heat", number_argument(alloc))?)?
-        .subcommand(with_argument(alloc, "tune", goals_argument(alloc))?)?
-        .subcommand(Command::new(alloc, "reclaim"))
+    let command = add_alone(alloc, top_command(alloc), "replay")?;
+    let command = add_alone(alloc, command, "json")?;
+    let command = add_alone(alloc, command, "verify")?;
+    let command = add_with(alloc, command, "gen", number_argument(alloc))?;
+    let command = add_with(alloc, command, "heat", number_argument(alloc))?;
+    let command = add_with(alloc, command, "tune", goals_argument(alloc))?;
+    add_alone(alloc, command, "reclaim")
 }
 
 // The command without its subcommands.
@@ -31,18 +30,32 @@ fn top_command<'a>(alloc: Global) -> Command<'a>
         .subcommand_required(true)
 }
 
-// A subcommand with one argument.
-fn with_argument<'a>(
+// Adds a subcommand without an argument.
+fn add_alone<'a>(
     alloc: Global,
+    command: Command<'a>,
+    name: &'a str,
+) -> Result<Command<'a>, AllocError>
+    ensures { IfOk result (λ r. app_of r
+        ≡ with_subcommand (app_of command) (new_app name.now).top) }
+{
+    let subcommand = Command::new(alloc, name);
+    command.subcommand(subcommand)
+}
+
+// Adds a subcommand with one argument.
+fn add_with<'a>(
+    alloc: Global,
+    command: Command<'a>,
     name: &'a str,
     argument: Arg<'a>,
 ) -> Result<Command<'a>, AllocError>
     requires { argument.global ≡ false }
-    ensures app { IfOk result (λ command.
-        app_of command ≡ with_rule (new_app name.now) (rule_of argument)) }
-    ensures local { IfOk result (λ command. (fields_of command).has_globals ≡ false) }
+    ensures { IfOk result (λ r. app_of r
+        ≡ with_subcommand (app_of command) (with_rule (new_app name.now) (rule_of argument)).top) }
 {
-    Command::new(alloc, name).arg(argument)
+    let subcommand = Command::new(alloc, name).arg(argument)?;
+    command.subcommand(subcommand)
 }
 
 // The argument of a subcommand that takes a number.
