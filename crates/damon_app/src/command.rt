@@ -37,7 +37,7 @@ fn add_alone<'a>(
     name: &'a str,
 ) -> Result<Command<'a>, AllocError>
     ensures { IfOk result (λ r. app_of r
-        ≡ with_subcommand (app_of command) (new_app name.now).top) }
+        ≡ with_subcommand (app_of command.entry) (new_app name.now).top) }
 {
     let subcommand = Command::new(alloc, name);
     command.subcommand(subcommand)
@@ -51,8 +51,8 @@ fn add_with<'a>(
     argument: Arg<'a>,
 ) -> Result<Command<'a>, AllocError>
     requires { argument.global ≡ false }
-    ensures { IfOk result (λ r. app_of r
-        ≡ with_subcommand (app_of command) (with_rule (new_app name.now) (rule_of argument)).top) }
+    ensures { IfOk result (λ r. app_of r ≡ with_subcommand (app_of command.entry)
+        (with_rule (new_app name.now) (rule_of argument.entry)).top) }
 {
     let subcommand = Command::new(alloc, name).arg(argument)?;
     command.subcommand(subcommand)
