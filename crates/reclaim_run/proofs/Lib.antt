@@ -1,4 +1,8 @@
+pub mod Appending
 pub mod Touching
 pub mod Applying
 pub mod Spelling
+pub mod Following
+pub mod Aggregating
+pub mod Accounting
 mod Examples

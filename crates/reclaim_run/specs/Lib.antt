@@ -2,3 +2,4 @@ pub mod Reclaimed
 pub mod InPlace
 pub mod Stands
 pub mod Along
+pub mod Kept

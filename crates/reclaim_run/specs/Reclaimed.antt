@@ -50,13 +50,17 @@ abbrev pub share_after : State → Event → List Event
 share_after s (aggregate words) = commit (metric_commit (thousandths (figures_in s).out (pages_in s))) ∷ []
 share_after s _ = []
 
+-- how many pages went out and came back, as the line tells it
+abbrev pub counts_part : Counts → List ℕ
+counts_part counts =
+    codes " pageouts=" then decimal counts.pageouts then codes " refaults=" then decimal counts.refaults
+    then codes " prefetches=" then decimal counts.prefetches then codes "\n"
+
 -- the line of these figures at a tick
 abbrev pub reclaim_line : ℕ → Figures → List ℕ
 reclaim_line tick f =
     codes "reclaim tick=" then decimal tick then codes " resident=" then decimal f.resident
-    then codes " out=" then decimal f.out then codes " pageouts=" then decimal f.counts.pageouts
-    then codes " refaults=" then decimal f.counts.refaults
-    then codes " prefetches=" then decimal f.counts.prefetches then codes "\n"
+    then codes " out=" then decimal f.out then counts_part f.counts
 
 -- the line of a state
 abbrev pub line_in : State → List ℕ

@@ -73,15 +73,17 @@ impl Callbacks for Reclaimer {
 
     #[inline]
     fn after_touches(&mut self, page: u32, count: u32) {
-        // For its clauses alone: the model follows events.
+        // For their clauses alone: the model follows events.
         reclaim_module::model_follows_events();
+        reclaim_module::pages_stay();
         touch_pages(&mut self.model, page, count);
     }
 
     #[inline]
     fn after_steps(&mut self) {
-        // For its clauses alone: steps move no page.
+        // For their clauses alone: steps move no page.
         reclaim_module::model_follows_events();
+        reclaim_module::pages_stay();
     }
 
     fn after_aggregation(&mut self, monitor: &Monitor) {
@@ -92,17 +94,18 @@ impl Callbacks for Reclaimer {
     }
 
     fn after_commit(&mut self, _commit: &Commit, _answer: &Result<Changed, CommitFault>) {
-        // For its clauses alone: a commit moves no page.
+        // For their clauses alone: a commit moves no page.
         reclaim_module::model_follows_events();
+        reclaim_module::pages_stay();
         self.share = None;
     }
 
     #[inline]
     fn next_commit(&mut self) -> Option<Commit> {
-        // For its clauses alone: a commit moves no page.
+        // For their clauses alone: a commit moves no page.
         reclaim_module::model_follows_events();
-        let share = self.share?;
-        self.share = None;
+        reclaim_module::pages_stay();
+        let share = self.share.take()?;
         Some(Commit {
             attrs: None,
             ranges: None,

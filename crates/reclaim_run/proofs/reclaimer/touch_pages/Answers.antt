@@ -1,4 +1,4 @@
-use Rattle.std.proofs.Common.{ap, sym, ◌∙◌}
+use Rattle.std.proofs.Common.{length, ap, sym, ◌∙◌}
 use Rattle.damon_world.specs.Touches.{touches}
 use Rattle.reclaim_module.specs.Calls.{after_touch}
 use Rattle.reclaim_run.proofs.Touching.{model_touches_more}
@@ -10,7 +10,7 @@ loop-index-preserved c =
     let page = c.args.page in (
       ap (λ r. length r.out) c.touch.ensures.after ∙ c.pages_stay.ensures.touch (page + l.index) l.model ∙ l.invariant.0,
       λ s.
-      c.touch.ensures.after
-      ∙ ap (after_touch (page + l.index)) (l.invariant.1 s)
-      ∙ sym (model_touches_more c.model_follows_events.ensures.others page l.index s c.args.model.now),
+          c.touch.ensures.after
+          ∙ ap (after_touch (page + l.index)) (l.invariant.1 s)
+          ∙ sym (model_touches_more c.model_follows_events.ensures.others page l.index s c.args.model.now),
     )

@@ -5,7 +5,7 @@ use Rattle.damon_world.specs.Moment.{next_event}
 use Rattle.snapshot_print.specs.Lines.{aggregate_text}
 use Rattle.snapshot_print.specs.Printed.{printed_monitor}
 use Rattle.script_run.specs.Calls.{IsAggregated}
-use Rattle.script_run.proofs.Making.{GoesAlong, aggregated_at, aggregation_plays, aggregation_puts, aggregation_writes, made-puts, one_step, somewhere-aggregated, words_at}
+use Rattle.script_run.proofs.Making.{GoesAlong, IsDue, aggregated_at, aggregation_plays, aggregation_puts, aggregation_writes, made-puts, one_step, somewhere-aggregated, words_at}
 use Rattle.script_run.proofs.Moves.{OnErr-map, OnOk-map, keeps-more, keeps-none}
 use Rattle.script_run.proofs.together.make_aggregation.Goals as goal
 
@@ -17,7 +17,7 @@ after_aggregation-requires g c =
     let old = c.args.world.now in
     let new = c.advance.new.self in
     let kk = c.args.callbacks.now in
-    let due = (c.requires.due, c.requires.ticks) in
+    let due : IsDue stream k stands old = (c.requires.due, c.requires.ticks) in
     let plays = one_step stream k stands old new c.advance.result c.requires.due c.advance.ensures.count c.advance.ensures.plays in
     let there = c.requires.somewhere in
     let r = there.course in
@@ -33,7 +33,7 @@ put_in-requires g c =
     let old = c.args.world.now in
     let new = c.advance.new.self in
     let kk = c.args.callbacks.now in
-    let due = (c.requires.due, c.requires.ticks) in
+    let due : IsDue stream k stands old = (c.requires.due, c.requires.ticks) in
     let plays = one_step stream k stands old new c.advance.result c.requires.due c.advance.ensures.count c.advance.ensures.plays in
     let told = c.after_aggregation in
     let follow = subst (λ v. GoesAlong stream k stands v kk told.new.self) c.monitor.ensures told.ensures.stands in
@@ -52,7 +52,7 @@ returns-in_err-print_aggregate-clause-somewhere g c =
     let old = c.args.world.now in
     let new = c.advance.new.self in
     let kk = c.args.callbacks.now in
-    let due = (c.requires.due, c.requires.ticks) in
+    let due : IsDue stream k stands old = (c.requires.due, c.requires.ticks) in
     let plays = one_step stream k stands old new c.advance.result c.requires.due c.advance.ensures.count c.advance.ensures.plays in
     let told = c.after_aggregation in
     let follow = subst (λ v. GoesAlong stream k stands v kk told.new.self) c.monitor.ensures told.ensures.stands in
@@ -71,7 +71,7 @@ returns-in_err-append_lines-clause-somewhere g c =
     let old = c.args.world.now in
     let new = c.advance.new.self in
     let kk = c.args.callbacks.now in
-    let due = (c.requires.due, c.requires.ticks) in
+    let due : IsDue stream k stands old = (c.requires.due, c.requires.ticks) in
     let plays = one_step stream k stands old new c.advance.result c.requires.due c.advance.ensures.count c.advance.ensures.plays in
     let told = c.after_aggregation in
     let follow = subst (λ v. GoesAlong stream k stands v kk told.new.self) c.monitor.ensures told.ensures.stands in
@@ -85,7 +85,7 @@ returns-clause-made g c =
     let old = c.args.world.now in
     let new = c.advance.new.self in
     let kk = c.args.callbacks.now in
-    let due = (c.requires.due, c.requires.ticks) in
+    let due : IsDue stream k stands old = (c.requires.due, c.requires.ticks) in
     let plays = one_step stream k stands old new c.advance.result c.requires.due c.advance.ensures.count c.advance.ensures.plays in
     let told = c.after_aggregation in
     let follow = subst (λ v. GoesAlong stream k stands v kk told.new.self) c.monitor.ensures told.ensures.stands in
@@ -111,7 +111,7 @@ returns-clause-err g c =
     let old = c.args.world.now in
     let new = c.advance.new.self in
     let kk = c.args.callbacks.now in
-    let due = (c.requires.due, c.requires.ticks) in
+    let due : IsDue stream k stands old = (c.requires.due, c.requires.ticks) in
     let plays = one_step stream k stands old new c.advance.result c.requires.due c.advance.ensures.count c.advance.ensures.plays in
     let told = c.after_aggregation in
     let follow = subst (λ v. GoesAlong stream k stands v kk told.new.self) c.monitor.ensures told.ensures.stands in

@@ -1,0 +1,98 @@
+-- What an aggregation applies, and that what goes out fits in 64 bits.
+use Rattle.std.proofs.Common.{◌≡◌, ℕ, ◌+◌, ◌-◌, ◌*◌, ◌^◌, ◌≤◌, ◌<◌, List, [], ◌∷◌, length, refl, sym, ap, subst, ◌∙◌, arith}
+use Rattle.std.specs.List.{AllByRecursion}
+use Rattle.std.proofs.lemmas.Nat.{mul-le}
+use Rattle.damon_types.specs.declared.scheme.TheConstants.{MAX_SLOT}
+use Rattle.damon_types.specs.declared.space.Target.{Target}
+use Rattle.damon_types.specs.Space.{IsSpace, pages_of}
+use Rattle.scheme_engine.specs.declared.applied.AppliedRun.{AppliedRun}
+use Rattle.scheme_engine.specs.Slots.{SlotValue}
+use Rattle.damon_core.specs.After.{after}
+use Rattle.damon_core.specs.Aggregate.{aggregated, served}
+use Rattle.damon_core.specs.Event.{aggregate}
+use Rattle.damon_core.specs.Makes.{Reached-run}
+use Rattle.damon_core.specs.Note.{Note}
+use Rattle.damon_core.specs.Reached.{Reached}
+use Rattle.damon_core.specs.Slots.{scheme_of, slots_of}
+use Rattle.damon_core.specs.Stands.{MonitorView}
+use Rattle.damon_core.specs.State.{Core, State}
+use Rattle.script_run.specs.Calls.{IsAggregated}
+use Rattle.reclaim_module.specs.Counts.{pageouts_of}
+use Rattle.reclaim_module.specs.Pages.{ReclaimView}
+use Rattle.reclaim_module.specs.Stands.{ReclaimStands, after_applied, after_event}
+use Rattle.reclaim_run.specs.Stands.{Models}
+use Rattle.reclaim_run.proofs.Following.{FollowLaws, models_follow}
+
+-- what holds of each holds of each alike
+all_weaker : (P Q : AppliedRun → Type 0) → ((run : AppliedRun) → P run → Q run) → (runs : List AppliedRun) → AllByRecursion P runs → AllByRecursion Q runs
+all_weaker P Q weaker [] all = tt
+all_weaker P Q weaker (run ∷ runs) all = (weaker run all.0, all_weaker P Q weaker runs all.1)
+
+-- half of 17 times the pages of a space in each of fewer than 2^40 passes
+few_fit : (n pages ticks : ℕ) → 2 * n ≤ 17 * pages * ticks → pages ≤ 1048576 → ticks < 2 ^ 40 → n < 2 ^ 64
+few_fit n pages ticks most few short =
+    let first : 17 * pages ≤ 17 * 1048576 = omega (arith, few) in
+    let all : 17 * pages * ticks ≤ 17 * 1048576 * 1099511627776 = mul-le (17 * pages) ticks (17 * 1048576) 1099511627776 first (omega (arith, short)) in
+    omega (arith, most, all)
+
+-- What a model of pages promises of aggregations.
+pub record AggregateLaws : Type 0 where
+  pub follow : FollowLaws
+  pub schemes : (words : List ℕ) (s : State) (slot : ℕ) → scheme_of (aggregated words s).notes slot ≡ scheme_of s.notes slot
+  pub slots : (s : State) → AllByRecursion (λ run. run.slot ≤ MAX_SLOT) (served s).runs
+  pub alike : (now notes : List Note) (runs : List AppliedRun) (r : ReclaimView)
+      → ((slot : ℕ) → scheme_of now slot ≡ scheme_of notes slot) → after_applied now runs r ≡ after_applied notes runs r
+  pub few : (s : State) → Reached s
+      → 2 * pageouts_of (pages_of s.core.space) s.notes ≤ 17 * pages_of s.core.space * (s.core.ticks - s.core.since)
+
+module _ (laws : AggregateLaws) (old : ReclaimView) (m : MonitorView) (memory : List ℕ) (s : State) (words : List ℕ)
+    (is : IsAggregated (λ memory t. Models old t) m memory s words) where
+  -- the runs that the monitor reports are those that were applied
+  reported : (runs : List AppliedRun) → runs ≡ m.core.report.runs → runs ≡ (served s).runs
+  reported runs shown = shown ∙ ap (λ (q : Core). q.report.runs) is.shows.same
+
+  pub slots_few : (runs : List AppliedRun) → runs ≡ m.core.report.runs → AllByRecursion (λ run. run.slot ≤ MAX_SLOT) runs
+  slots_few runs shown = subst (AllByRecursion (λ run. run.slot ≤ MAX_SLOT)) (sym (reported runs shown)) (laws.slots s)
+
+  same_space : m.core.space ≡ s.core.space
+  same_space = ap (λ (q : Core). q.space) is.shows.same ∙ laws.follow.space (aggregate words) s
+
+  pub runs_within : (runs : List AppliedRun) → runs ≡ m.core.report.runs
+      → AllByRecursion (λ r. (1 ≤ r.pages) × (r.start + r.pages ≤ pages_of m.core.space)) m.core.report.runs
+      → AllByRecursion (λ run. run.start + run.pages ≤ length old.out) runs
+  runs_within runs shown all =
+      let pages : pages_of m.core.space ≡ length old.out = ap pages_of same_space ∙ sym is.stood.pages in
+      subst (AllByRecursion (λ run. run.start + run.pages ≤ length old.out)) (sym shown)
+      (all_weaker (λ r. (1 ≤ r.pages) × (r.start + r.pages ≤ pages_of m.core.space)) (λ run. run.start + run.pages ≤ length old.out) (λ run within. omega (arith, within.1, pages)) m.core.report.runs all)
+
+  -- what the runs make of the model
+  pub applied_is : (runs : List AppliedRun) → runs ≡ m.core.report.runs
+      → after_applied (aggregated words s).notes runs old ≡ after_event (aggregate words) s old
+  applied_is runs shown =
+      ap (λ all. after_applied (aggregated words s).notes all old) (reported runs shown)
+      ∙ laws.alike (aggregated words s).notes s.notes (served s).runs old (laws.schemes words s)
+
+  -- the model after it stands for the state after it
+  pub stands_after : (new : ReclaimView) (runs : List AppliedRun) → runs ≡ m.core.report.runs
+      → new ≡ after_applied (aggregated words s).notes runs old → Models new (after s (aggregate words))
+  stands_after new runs shown made =
+      models_follow laws.follow (aggregate words ∷ []) s old new (made ∙ applied_is runs shown) is.stood (is.fits, tt)
+
+  -- and what went out fits
+  pub few_go_out : (runs : List AppliedRun) → runs ≡ m.core.report.runs → IsSpace m.core.space
+      → (after_applied (aggregated words s).notes runs old).counts.pageouts < 2 ^ 64
+  few_go_out runs shown space =
+      let next = after s (aggregate words) in
+      let new = after_applied (aggregated words s).notes runs old in
+      let here : Models new next = stands_after new runs shown refl in
+      let reached : Reached next = Reached-run s (aggregate words ∷ []) is.reached (is.fits, tt) in
+      let pages : pages_of next.core.space ≤ 1048576 = subst (λ ts. pages_of ts ≤ 1048576) (ap (λ (q : Core). q.space) is.shows.same) space.total in
+      let is_out_in_all : new.counts.pageouts ≡ pageouts_of (pages_of next.core.space) next.notes =
+      here.stands.pageouts ∙ ap (λ n. pageouts_of n next.notes) here.pages in
+      let most : 2 * pageouts_of (pages_of next.core.space) next.notes ≤ 17 * pages_of next.core.space * (next.core.ticks - next.core.since) = laws.few next reached in
+      let short : next.core.ticks - next.core.since < 2 ^ 40 = omega (arith, is.few) in
+      subst (λ n. n < 2 ^ 64) (sym is_out_in_all) (few_fit (pageouts_of (pages_of next.core.space) next.notes) (pages_of next.core.space) (next.core.ticks - next.core.since) most pages short)
+
+  -- the slots of the monitor after it
+  pub slots_after : (slots : List SlotValue) → slots ≡ m.slots → slots ≡ slots_of (aggregated words s).notes
+  slots_after slots shown = shown ∙ is.shows.slots

@@ -1,0 +1,9 @@
+use Rattle.std.proofs.Common.{ap, take, ◌∙◌}
+use Rattle.reclaim_run.proofs.Spelling.{on_any_err}
+use Rattle.reclaim_run.proofs.line.append_line.Goals as goal
+
+pub returns-then-is_err-clause-err : goal.returns-then-is_err-clause-err
+returns-then-is_err-clause-err c =
+    let grown = c.append_figures-appended.new.out.items in
+    on_any_err c.append_figures-appended.result
+    (c.truncate.ensures.items ∙ ap (λ n. take n grown) c.len-before.ensures ∙ c.append_figures-appended.ensures.kept.front)
