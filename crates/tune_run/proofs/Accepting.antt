@@ -1,7 +1,6 @@
 -- Which commits are accepted, what tells it afterwards, and that each change that tunes a slot is.
-use Rattle.std.proofs.Common.{◌≡◌, ℕ, ◌<◌, ◌≤◌, Bool, true, false, List, [], ◌∷◌, ◌++◌, length, map, reverse, Ok, Err, Option, Some, None, refl, sym, ap, subst, ◌∙◌, arith, append-nil, append_assoc}
-use Rattle.std.specs.Prelude.{Result, ◌==◌, nat_lt, is_ok, filter_map, if◌then◌else◌}
-use Rattle.std.specs.Option.{unwrap_or}
+use Rattle.std.proofs.Common.{◌≡◌, ℕ, ◌≤◌, Bool, true, false, List, [], ◌∷◌, ◌++◌, length, reverse, Ok, Err, Option, Some, None, refl, sym, ap, subst, ◌∙◌, arith, append-nil, append_assoc}
+use Rattle.std.specs.Prelude.{Result, ◌==◌, is_ok, filter_map, if◌then◌else◌}
 use Rattle.std.specs.Result.{result_and}
 use Rattle.std.proofs.lemmas.Bool.Decides.{nat_tests}
 use Rattle.std.proofs.lemmas.Grind.{reverse_onto}
@@ -14,13 +13,11 @@ use Rattle.damon_types.specs.declared.scheme.Quota.{Quota}
 use Rattle.damon_types.specs.declared.scheme.Scheme.{Scheme}
 use Rattle.damon_types.specs.declared.scheme.SchemeFault.{SchemeFault}
 use Rattle.damon_types.specs.declared.scheme.SlotChange.{SlotChange}
-use Rattle.damon_types.specs.declared.scheme.TheConstants.{MAX_SLOT}
 use Rattle.damon_types.specs.declared.scheme.Version.{Version}
-use Rattle.damon_types.specs.Scheme.{checked_in, checked_scheme, checked_time}
+use Rattle.damon_types.specs.Scheme.{checked_in}
 use Rattle.target_ranges.specs.Made.{range_of}
 use Rattle.live_commit.specs.declared.fault.CommitFault.{CommitFault}
 use Rattle.live_commit.specs.declared.fault.CommitFault.TheVariants.{BadScheme}
-use Rattle.live_commit.specs.declared.fault.SetupFault.{SetupFault}
 use Rattle.live_commit.specs.declared.phase.Phase.{Phase}
 use Rattle.live_commit.specs.declared.phase.Phase.TheVariants.{Idle, Clearing, Armed, Checking, Void, Due}
 use Rattle.live_commit.specs.Accepted.{AllowsCommit}
@@ -29,16 +26,15 @@ use Rattle.live_commit.specs.Commit.{CommitValue}
 use Rattle.live_commit.specs.Setup.{IsSetup, SetupValue}
 use Rattle.live_commit.specs.Slots.{checked_after, checked_free, checked_set, checked_slot, is_set, scheme_fault}
 use Rattle.damon_core.specs.After.{after, by_clear, by_load, by_observe}
-use Rattle.damon_core.specs.Commit.{after_commit, becomes_void, check_of, committed, committed_core, if_accepted, phase_after_commit, view_of, with_cost, with_metric, with_slot}
+use Rattle.damon_core.specs.Commit.{becomes_void, check_of, committed, committed_core, if_accepted, phase_after_commit, view_of, with_cost, with_metric, with_slot}
 use Rattle.damon_core.specs.Event.{Event, touch, prepare, clear, load, observe, aggregate, commit, show}
 use Rattle.damon_core.specs.Note.{Note, set}
 use Rattle.damon_core.specs.Reached.{Reached, run}
 use Rattle.damon_core.specs.Slots.{scheme_of}
 use Rattle.damon_core.specs.State.{Core, State, opening, row_count, set_note}
-use Rattle.quota_goal.specs.Tuned.{quota_with, with_bytes}
+use Rattle.quota_goal.specs.Tuned.{with_bytes}
 use Rattle.tune_run.specs.Callbacks.{change_alone}
 use Rattle.tune_run.specs.Tops.{was_accepted}
-use Rattle.tune_run.proofs.Slots.{differ, same}
 use Rattle.tune_run.proofs.Staying.{scheme_stays}
 
 -- two checks that succeed
@@ -119,7 +115,10 @@ set_sound : (version : Version) (slot : ℕ) (scheme : Scheme) (notes : List Not
     → AreSound version notes → AreSound version (set slot scheme ∷ notes)
 set_sound version slot scheme notes ok sound i held is =
     (elim (slot == i) as (λ b. (slot == i) ≡ b → (if b then Some scheme else scheme_of notes i) ≡ Some held → checked_in version i held ≡ Ok tt) [
-      | true ↦ λ test here. let at : slot ≡ i = grind (arith, nat_tests) in let what : scheme ≡ held = cc here in subst (λ (x : Scheme). checked_in version i x ≡ Ok tt) what (subst (λ k. checked_in version k scheme ≡ Ok tt) at ok)
+      | true ↦ λ test here.
+          let at : slot ≡ i = grind (arith, nat_tests) in
+          let what : scheme ≡ held = cc here in
+          subst (λ (x : Scheme). checked_in version i x ≡ Ok tt) what (subst (λ k. checked_in version k scheme ≡ Ok tt) at ok)
       | false ↦ λ test here. sound i held here
     ]) refl is
 

@@ -1,6 +1,6 @@
 -- In each state of a run the bytes in force of a tunable slot are at most its top.
-use Rattle.std.proofs.Common.{◌≡◌, ℕ, zero, suc, ◌+◌, ◌<◌, ◌≤◌, Bool, true, false, List, [], ◌∷◌, ◌++◌, map, length, set as put, get_or, Option, Some, None, Ok, Err, Result, refl, sym, ap, subst, ◌∙◌, arith}
-use Rattle.std.specs.Prelude.{◌==◌, IfSome, is_none, is_ok, if◌then◌else◌}
+use Rattle.std.proofs.Common.{◌≡◌, ℕ, zero, suc, ◌+◌, ◌<◌, ◌≤◌, true, false, List, [], ◌∷◌, ◌++◌, length, set as put, get_or, Option, Some, None, Ok, Err, Result, refl, sym, ap, subst, ◌∙◌, arith}
+use Rattle.std.specs.Prelude.{◌==◌, IfSome, is_none, if◌then◌else◌}
 use Rattle.std.specs.List.{cons_option, range_with_len}
 use Rattle.std.specs.Option.{option_and_then, option_map, option_map_or}
 use Rattle.std.proofs.lemmas.Bool.Decides.{nat_tests}
@@ -14,14 +14,14 @@ use Rattle.live_commit.specs.declared.fault.CommitFault.{CommitFault}
 use Rattle.live_commit.specs.Accepted.{AllowsCommit}
 use Rattle.live_commit.specs.Commit.{CommitValue}
 use Rattle.damon_core.specs.After.{after}
-use Rattle.damon_core.specs.Commit.{check_of, committed, if_accepted}
+use Rattle.damon_core.specs.Commit.{check_of}
 use Rattle.damon_core.specs.Event.{Event, touch, prepare, clear, load, observe, aggregate, commit, show}
 use Rattle.damon_core.specs.Reached.{run}
 use Rattle.damon_core.specs.Slots.{scheme_of, slot_count}
 use Rattle.damon_core.specs.State.{State}
 use Rattle.quota_goal.specs.declared.goals.Goal.{Goal}
 use Rattle.quota_goal.specs.declared.moment.Moment.{Moment}
-use Rattle.quota_goal.specs.Tuned.{TunerView, after_change, bytes_at, change_at, given, least_of, nexts, other_than, scheme_at, top_after, top_at, tunable_bytes, with_bytes}
+use Rattle.quota_goal.specs.Tuned.{TunerView, after_change, change_at, given, least_of, nexts, other_than, scheme_at, top_after, top_at, tunable_bytes, with_bytes}
 use Rattle.tune_run.specs.Along.{AreBelowTops}
 use Rattle.tune_run.specs.Callbacks.{change_alone, changes_at, commits_of, schemes_in, tuner_in}
 use Rattle.tune_run.specs.Tops.{tops_after, tops_kept}
@@ -34,7 +34,7 @@ use Rattle.tune_run.proofs.Staying.{IsNoCommit, schemes_stay}
 
 -- ---- changes of the script
 
-own_top : (scheme : Option Scheme) (top : ℕ) → IfSome (option_and_then tunable_bytes scheme) (λ bytes. bytes ≤ top_after scheme top)
+pub own_top : (scheme : Option Scheme) (top : ℕ) → IfSome (option_and_then tunable_bytes scheme) (λ bytes. bytes ≤ top_after scheme top)
 own_top None top = tt
 own_top (Some s) top = by_parts s.marks s.quota
   where
@@ -46,7 +46,7 @@ own_top (Some s) top = by_parts s.marks s.quota
     by_parts (Some m) quota = tt
 
 -- what is asked of a slot, by its scheme and its top
-abbrev below_at : Option Scheme → ℕ → Type 0
+abbrev pub below_at : Option Scheme → ℕ → Type 0
 below_at held top = IfSome (option_and_then tunable_bytes held) (λ bytes. bytes ≤ top)
 
 given_below : (t : TunerView) (c : SlotChange) → c.slot < length t.schemes → c.slot < length t.tops → AreBelowTops t → AreBelowTops (given c t)

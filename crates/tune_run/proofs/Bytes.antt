@@ -1,15 +1,13 @@
 -- The bytes of slots before and after changes.
-use Rattle.std.proofs.Common.{◌≡◌, ℕ, ◌<◌, ◌≤◌, Bool, true, false, List, [], ◌∷◌, set as put, get_or, Option, Some, None, refl, sym, ap, subst, ◌∙◌, arith}
-use Rattle.std.specs.Prelude.{◌==◌, IfSome, is_none, if◌then◌else◌}
+use Rattle.std.proofs.Common.{◌≡◌, ℕ, true, false, Option, Some, None, refl, ap, ◌∙◌, arith}
+use Rattle.std.specs.Prelude.{◌==◌, is_none, if◌then◌else◌}
 use Rattle.std.specs.Option.{option_and_then, option_map, option_map_or, unwrap_or}
 use Rattle.std.proofs.lemmas.Bool.Decides.{nat_tests}
 use Rattle.damon_types.specs.declared.scheme.Marks.{Marks}
 use Rattle.damon_types.specs.declared.scheme.Quota.{Quota}
 use Rattle.damon_types.specs.declared.scheme.Scheme.{Scheme}
-use Rattle.damon_types.specs.declared.scheme.SlotChange.{SlotChange}
-use Rattle.quota_goal.specs.declared.goals.Goal.{Goal}
 use Rattle.quota_goal.specs.declared.moment.Moment.{Moment}
-use Rattle.quota_goal.specs.Tuned.{TunerView, after_change, bytes_at, change_at, given, least_of, new_bytes, nexts, other_than, quota_bytes, retuned, scheme_at, top_after, top_at, tunable_bytes, tuned_at, with_bytes}
+use Rattle.quota_goal.specs.Tuned.{TunerView, bytes_at, least_of, new_bytes, nexts, other_than, retuned, scheme_at, top_at, tunable_bytes, with_bytes}
 use Rattle.tune_run.proofs.Through.{tuned_scheme}
 
 -- a tunable scheme with other bytes has these bytes

@@ -1,5 +1,5 @@
 -- The changes that tune slots, one slot after another.
-use Rattle.std.proofs.Common.{◌≡◌, ℕ, zero, suc, ◌+◌, ◌-◌, ◌<◌, ◌≤◌, Bool, true, false, List, [], ◌∷◌, ◌++◌, map, length, set as put, get_or, Option, Some, None, refl, sym, ap, subst, ◌∙◌, arith}
+use Rattle.std.proofs.Common.{◌≡◌, ℕ, zero, suc, ◌+◌, ◌-◌, ◌<◌, ◌≤◌, [], ◌∷◌, Option, Some, None, refl, sym, ap, subst, ◌∙◌, arith}
 use Rattle.std.specs.Prelude.{filter_map}
 use Rattle.std.specs.List.{cons_option, range_with_len}
 use Rattle.std.specs.Option.{option_and_then, option_map}
@@ -9,7 +9,7 @@ use Rattle.damon_types.specs.declared.scheme.SlotChange.{SlotChange}
 use Rattle.damon_types.specs.declared.scheme.TheConstants.{MAX_SLOT}
 use Rattle.damon_core.specs.Slots.{slot_count}
 use Rattle.quota_goal.specs.declared.moment.Moment.{Moment}
-use Rattle.quota_goal.specs.Tuned.{TunerView, after_change, change_at, new_bytes, retuned, scheme_at, tunable_bytes, tuned_at, with_bytes}
+use Rattle.quota_goal.specs.Tuned.{TunerView, after_change, change_at, new_bytes, retuned, scheme_at, tunable_bytes, with_bytes}
 use Rattle.tune_run.specs.Callbacks.{changes_at}
 use Rattle.tune_run.specs.Kept.{IsNextChange, changes_from}
 use Rattle.tune_run.proofs.Slots.{below_counted}
@@ -25,7 +25,7 @@ pub record IsRetuned (t : TunerView) (slot : ℕ) (moment : Moment) (c : SlotCha
   pub is : c ≡ record { slot = slot; scheme = Some (with_bytes scheme bytes) }
 
 -- the change of a slot to a scheme, if there is one
-abbrev change_to : ℕ → Option Scheme → Option SlotChange
+abbrev pub change_to : ℕ → Option Scheme → Option SlotChange
 change_to slot held = option_map (λ s. record { slot = slot; scheme = Some s }) held
 
 pub retuned_is : (t : TunerView) (slot : ℕ) (moment : Moment) (c : SlotChange) → change_at t slot moment ≡ Some c → IsRetuned t slot moment c

@@ -1,7 +1,6 @@
 -- The tuner after a commit of the script, and after one that is put in.
-use Rattle.std.proofs.Common.{◌≡◌, ℕ, ◌<◌, ◌≤◌, Bool, true, false, List, [], ◌∷◌, map, set as put, get_or, Ok, Err, Option, Some, None, refl, sym, ap, subst, ◌∙◌, arith}
+use Rattle.std.proofs.Common.{◌≡◌, ℕ, ◌<◌, ◌≤◌, Bool, true, false, List, [], set as put, get_or, Ok, Err, Option, Some, None, refl, sym, ap, subst, ◌∙◌}
 use Rattle.std.specs.Prelude.{IfSome, Result, is_ok, if◌then◌else◌}
-use Rattle.std.specs.List.{range_with_len}
 use Rattle.std.specs.Option.{option_map, option_map_or}
 use Rattle.std.specs.Result.{result_and}
 use Rattle.damon_types.specs.declared.scheme.CostPart.{CostPart}
@@ -13,7 +12,7 @@ use Rattle.live_commit.specs.Accepted.{AllowsCommit}
 use Rattle.live_commit.specs.Commit.{CommitValue}
 use Rattle.damon_core.specs.After.{after}
 use Rattle.damon_core.specs.Commit.{changed_by, check_of, commit_answer, committed, committed_notes, if_accepted, with_cost, with_metric, with_slot}
-use Rattle.damon_core.specs.Event.{Event, commit}
+use Rattle.damon_core.specs.Event.{commit}
 use Rattle.damon_core.specs.Note.{Note}
 use Rattle.damon_core.specs.Slots.{scheme_of, slot_count}
 use Rattle.damon_core.specs.declared.changed.Changed.{Changed}
@@ -22,9 +21,9 @@ use Rattle.script_run.specs.Callbacks.{put_after}
 use Rattle.quota_goal.specs.declared.goals.Goal.{Goal}
 use Rattle.quota_goal.specs.declared.moment.Moment.{Moment}
 use Rattle.quota_goal.specs.declared.moment.Moment.TheVariants.{Metric}
-use Rattle.quota_goal.specs.Tuned.{TunerView, after_change, given, top_after, with_bytes}
+use Rattle.quota_goal.specs.Tuned.{TunerView, after_change, given, with_bytes}
 use Rattle.tune_run.specs.Callbacks.{change_alone, commits_of, moment_after, schemes_in, tune_callbacks, tuned_by, tuner_in}
-use Rattle.tune_run.specs.Kept.{IsNextChange, StandsTuned, changes_from, left_at}
+use Rattle.tune_run.specs.Kept.{IsNextChange, StandsTuned, left_at}
 use Rattle.tune_run.specs.Tops.{tops_after, tops_kept, was_accepted}
 use Rattle.tune_run.proofs.Accepting.{acceptance_is_told, TakesChanges, free_again, tuned_is_accepted}
 use Rattle.tune_run.proofs.Changes.{from_the_first, retuned_is}

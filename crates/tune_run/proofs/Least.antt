@@ -1,7 +1,7 @@
 -- The least of the next bytes lies between the least of the bounds.
 use Rattle.std.proofs.Common.{◌≡◌, ℕ, ◌≤◌, min, Bool, true, false, List, [], ◌∷◌, map, Option, Some, None, refl, sym, ap, subst, ◌∙◌, arith}
 use Rattle.std.specs.Prelude.{◌==◌, ◌&&◌, IfSome, cond, filter_map, if◌then◌else◌}
-use Rattle.std.specs.List.{AllByRecursion, cons_option, filter}
+use Rattle.std.specs.List.{AllByRecursion, cons_option}
 use Rattle.std.specs.Option.{is_some, option_map, option_map_or, unwrap_or}
 use Rattle.quota_goal.specs.declared.goals.Goal.{Goal}
 use Rattle.quota_goal.specs.declared.moment.Moment.{Moment}
@@ -132,18 +132,17 @@ module _ (laws : Bounds) (slot : ℕ) (moment : Moment) (bytes top : ℕ) where
 
   only_scored : (goals : List Goal) → nexts goals slot moment bytes top ≡ filter_map by_scored (scored_goals goals slot moment)
   only_scored [] = refl
-  only_scored (g ∷ goals) =
-      let others = scored_goals goals slot moment in
-      by_test (g.slot == slot) (score_of g.kind moment) refl
+  only_scored (g ∷ goals) = by_test (g.slot == slot) (score_of g.kind moment) refl (only_scored goals)
     where
       by_test : (b : Bool) (o : Option ℕ) → score_of g.kind moment ≡ o
+          → nexts goals slot moment bytes top ≡ filter_map by_scored (scored_goals goals slot moment)
           → cons_option (if b then option_map (next g bytes top) o else None) (nexts goals slot moment bytes top)
           ≡ filter_map by_scored (cond (b && is_some o) (g ∷ scored_goals goals slot moment) (scored_goals goals slot moment))
-      by_test true None is = only_scored goals
-      by_test true (Some score) is =
-          ap (λ ns. next g bytes top score ∷ ns) (only_scored goals)
+      by_test true None is rest = rest
+      by_test true (Some score) is rest =
+          ap (λ ns. next g bytes top score ∷ ns) rest
           ∙ ap (λ x. cons_option (option_map (next g bytes top) x) (filter_map by_scored (scored_goals goals slot moment))) (sym is)
-      by_test false o is = only_scored goals
+      by_test false o is rest = rest
 
   -- by one scored goal alone
   pub one_scored : (goals : List Goal) (g : Goal) (score : ℕ) → scored_goals goals slot moment ≡ g ∷ [] → score_of g.kind moment ≡ Some score

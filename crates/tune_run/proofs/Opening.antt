@@ -1,14 +1,14 @@
 -- The tuner of a setup is that of the opening.
-use Rattle.std.proofs.Common.{◌≡◌, ℕ, ◌+◌, ◌<◌, ◌≤◌, List, [], ◌∷◌, ◌++◌, map, reverse, set as put, get_or, length, Option, Some, None, refl, sym, ap, ◌∙◌, append-nil, append_assoc}
-use Rattle.std.specs.Prelude.{All, IsSome, filter_map, replicate}
-use Rattle.std.specs.List.{AllByRecursion, range_with_len}
+use Rattle.std.proofs.Common.{◌≡◌, ℕ, ◌<◌, ◌≤◌, List, [], ◌∷◌, ◌++◌, reverse, set as put, get_or, Option, Some, None, refl, sym, ap, ◌∙◌, append-nil, append_assoc}
+use Rattle.std.specs.Prelude.{IsSome, filter_map}
+use Rattle.std.specs.List.{AllByRecursion}
 use Rattle.std.proofs.lemmas.Grind.{reverse_onto}
 use Rattle.std.proofs.lemmas.List.Elements.{recursion_from_All}
 use Rattle.damon_types.specs.declared.scheme.Scheme.{Scheme}
 use Rattle.damon_types.specs.declared.scheme.SlotChange.{SlotChange}
 use Rattle.damon_types.specs.declared.scheme.TheConstants.{MAX_SLOT}
 use Rattle.damon_core.specs.Note.{Note, set}
-use Rattle.damon_core.specs.Slots.{scheme_of, slot_count}
+use Rattle.damon_core.specs.Slots.{slot_count}
 use Rattle.damon_core.specs.State.{opening, opening_notes, set_note}
 use Rattle.live_commit.specs.Setup.{IsSetup, SetupValue}
 use Rattle.quota_goal.specs.declared.goals.Goal.{Goal}

@@ -1,7 +1,7 @@
 -- What holds at each event of the run of a script.
-use Rattle.std.proofs.Common.{◌≡◌, ℕ, zero, suc, ◌+◌, ◌<◌, ◌≤◌, min, Bool, true, false, List, [], ◌∷◌, ◌++◌, map, length, get_or, Option, Some, None, Ok, Err, Result, refl, sym, ap, subst, ◌∙◌, arith, append-nil}
-use Rattle.std.specs.Prelude.{◌==◌, IfSome, is_ok, nat_lt, if◌then◌else◌}
-use Rattle.std.specs.List.{AllByRecursion, range_with_len}
+use Rattle.std.proofs.Common.{◌≡◌, ℕ, ◌<◌, ◌≤◌, min, true, false, List, [], ◌∷◌, ◌++◌, get_or, Option, Some, None, Ok, Err, Result, refl, sym, ap, subst, ◌∙◌, arith, append-nil}
+use Rattle.std.specs.Prelude.{◌==◌, IfSome, nat_lt, if◌then◌else◌}
+use Rattle.std.specs.List.{AllByRecursion}
 use Rattle.std.specs.Option.{option_and_then, option_map, option_map_or, unwrap_or}
 use Rattle.std.proofs.lemmas.Bool.Decides.{nat_tests}
 use Rattle.std.proofs.lemmas.List.FromFn.{length-map-range_with_len}
@@ -11,29 +11,27 @@ use Rattle.live_commit.specs.declared.fault.CommitFault.{CommitFault}
 use Rattle.live_commit.specs.Accepted.{AllowsCommit}
 use Rattle.live_commit.specs.Commit.{CommitValue}
 use Rattle.damon_core.specs.After.{after}
-use Rattle.damon_core.specs.Commit.{check_of, view_of}
+use Rattle.damon_core.specs.Commit.{check_of}
 use Rattle.damon_core.specs.Event.{Event, touch, prepare, clear, load, observe, aggregate, commit, show}
 use Rattle.damon_core.specs.Note.{Note, touched, cleared, checked, finished, voided, set, dropped, metric, turned, ran, cost}
 use Rattle.damon_core.specs.Reached.{run}
 use Rattle.damon_core.specs.Slots.{scheme_of, slot_count}
 use Rattle.damon_core.specs.State.{State, opening}
-use Rattle.damon_world.specs.Moment.{along}
 use Rattle.damon_world.specs.Plays.{along-state}
 use Rattle.damon_control.specs.Script.{ScriptValue}
 use Rattle.damon_control.specs.Sound.{IsSound}
 use Rattle.script_run.specs.Course.{Course, course_after, onward}
-use Rattle.script_run.specs.Unfold.{own_events, start_with}
+use Rattle.script_run.specs.Unfold.{start_with}
 use Rattle.quota_goal.specs.declared.goals.Goal.{Goal}
 use Rattle.quota_goal.specs.declared.moment.Moment.{Moment}
 use Rattle.quota_goal.specs.declared.moment.Moment.TheVariants.{Metric}
 use Rattle.quota_goal.specs.Goals.{IsGoal}
-use Rattle.quota_goal.specs.Moment.{score_of}
 use Rattle.quota_goal.specs.Next.{next}
-use Rattle.quota_goal.specs.Tuned.{TunerView, bytes_at, least_of, nexts, scheme_at, top_after, top_at, tunable_bytes}
-use Rattle.tune_run.specs.Along.{AllAccepted, AreBelowTops, AreTunedWithin, AtEachEventOfAll, DoFollow, FollowTheScore, LiesBetween, PutsAreAccepted, StayBelowTops, first_tuner, moment_of, put_in, scored_goals, tuner_before, tuner_then}
-use Rattle.tune_run.specs.Callbacks.{commits_of, changes_at, moment_after, schemes_in, tune_callbacks, tuned_by, tuner_in}
+use Rattle.quota_goal.specs.Tuned.{TunerView, bytes_at, top_after, tunable_bytes}
+use Rattle.tune_run.specs.Along.{AllAccepted, AreBelowTops, AreTunedWithin, DoFollow, FollowTheScore, LiesBetween, put_in, scored_goals, tuner_then}
+use Rattle.tune_run.specs.Callbacks.{moment_after, schemes_in, tune_callbacks, tuned_by, tuner_in}
 use Rattle.tune_run.specs.Tops.{top_of, tops_kept, tops_of}
-use Rattle.tune_run.proofs.Accepting.{TakesChanges, free_again, opening_takes}
+use Rattle.tune_run.proofs.Accepting.{free_again, opening_takes}
 use Rattle.tune_run.proofs.Below.{IsCarried, NamesSlots, below_at, event_carries, own_top, puts_carry}
 use Rattle.tune_run.proofs.Bytes.{bytes_tuned, none_tunable}
 use Rattle.tune_run.proofs.Committing.{is_committed, is_told}
@@ -91,7 +89,8 @@ by_check parts s m (Ok t) is scored = subst (λ (x : State). AllowsCommit x.core
 by_check parts s m (Err fault) is scored =
     let none : moment_after (after s (commit parts)) (commit parts) ≡ None =
     ap (λ x. if x then option_map (λ value. Metric value) parts.metric else None) (is_told [] [] parts s (Err fault) is) in
-    absurd (cc none scored)
+    let bad : None ≡ Some m = sym none ∙ scored in
+    absurd (cc bad)
 
 scored_is_free : (s : State) (e : Event) (m : Moment) → moment_after (after s e) e ≡ Some m → AllowsCommit (after s e).core.phase
 scored_is_free s (touch page) m scored = absurd (cc scored)
@@ -185,7 +184,7 @@ module _ (laws : Bounds) (law : NamesSlots) (goals : List Goal) (r : Course) (e 
       ∙ sym (bytes_tuned then_tuner slot m bytes was) ∙ sym (bytes_then m slot some within) ∙ is in
       let same : next g bytes top score ≡ new = cc now in
       subst (DoFollow g top score bytes) same (rise g bytes top score, fall g bytes top score))
-      (λ beyond. absurd (cc (no_bytes slot beyond) is))
+      (λ beyond. let bad : None ≡ Some new = sym (no_bytes slot beyond) ∙ is in absurd (cc bad))
 
   pub course_carries : IsCarried goals (course_after (tune_callbacks goals) r e).memory (course_after (tune_callbacks goals) r e).moment.state
   course_carries =

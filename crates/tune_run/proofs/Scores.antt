@@ -1,7 +1,7 @@
 -- The bytes of a slot with one goal, as long as the scores stay on one side of the target.
-use Rattle.std.proofs.Common.{◌≡◌, ℕ, zero, suc, ◌+◌, ◌<◌, ◌≤◌, min, Bool, true, false, List, [], ◌∷◌, ◌++◌, get_or, Option, Some, None, Ok, Err, Result, refl, sym, ap, subst, ◌∙◌, arith}
+use Rattle.std.proofs.Common.{◌≡◌, ℕ, ◌<◌, ◌≤◌, min, true, false, List, [], ◌∷◌, get_or, Option, Some, None, Ok, Err, Result, refl, sym, ap, subst, ◌∙◌, arith}
 use Rattle.std.specs.Prelude.{◌==◌, IfSome, cond, filter_map, if◌then◌else◌}
-use Rattle.std.specs.List.{AllByRecursion, cons_option, filter}
+use Rattle.std.specs.List.{AllByRecursion, cons_option}
 use Rattle.std.specs.Option.{option_and_then, option_map, option_map_or, unwrap_or}
 use Rattle.std.proofs.lemmas.List.{get_or-set_other}
 use Rattle.damon_types.specs.declared.scheme.SlotChange.{SlotChange}
@@ -13,7 +13,6 @@ use Rattle.damon_core.specs.Event.{Event, touch, prepare, clear, load, observe, 
 use Rattle.damon_core.specs.Reached.{run}
 use Rattle.damon_core.specs.Slots.{slot_count}
 use Rattle.damon_core.specs.State.{State}
-use Rattle.damon_world.specs.Moment.{along}
 use Rattle.damon_world.specs.Plays.{along-state}
 use Rattle.script_run.specs.Course.{Course, course_after, onward}
 use Rattle.quota_goal.specs.declared.goals.Goal.{Goal}
@@ -148,7 +147,7 @@ module _ (laws : Bounds) (law : NamesSlots) (goals : List Goal) (g : Goal) (one 
       ap (λ (x : State). bytes_at (tuner_in goals tops x) g.slot) (along-state r.moment (e ∷ put_in goals r e))
       ∙ by_count (bytes_at (tuner_then goals r e) g.slot ≡ Some (new_by g (top_at (tuner_before goals r e) g.slot) bytes (score_at g r e))) g.slot
       (bytes_put r e here bytes was)
-      (λ beyond. absurd (cc (beyond_all goals tops (after r.moment.state e) beyond) was))
+      (λ beyond. let bad : None ≡ Some bytes = sym (beyond_all goals tops (after r.moment.state e) beyond) ∙ was in absurd (cc bad))
 
   -- a slot without bytes gets none
   none_next : (r : Course) (e : Event) → IsCarried goals r.memory r.moment.state → (score : ℕ) → score_at g r e ≡ Some score
@@ -211,12 +210,13 @@ stay laws law goals r e here each rise fall es g score bytes new one scored was 
     by_before : (o : Option ℕ) → bytes_at (tuner_before goals r e) g.slot ≡ o
         → (let q = course_after (tune_callbacks goals) r e in
         (ScoresAre goals g (λ n. n < g.target) q es → bytes ≤ new) × (ScoresAre goals g (λ n. g.target ≤ n) q es → new ≤ bytes))
-    by_before None before = absurd (cc (none_next laws law goals g one r e here score scored before) was)
+    by_before None before = let bad : None ≡ Some bytes = sym (none_next laws law goals g one r e here score scored before) ∙ was in absurd (cc bad)
     by_before (Some earlier) before =
         let q = course_after (tune_callbacks goals) r e in
         let top = top_at (tuner_before goals r e) g.slot in
         let now : Some (new_by g top earlier (score_at g r e)) ≡ Some bytes = sym (bytes_next laws law goals g one r e here earlier before) ∙ was in
-        let same : new_by g top earlier (Some score) ≡ bytes = cc now (ap (new_by g top earlier) scored) in
+        let scored_now : Some (new_by g top earlier (Some score)) ≡ Some bytes = ap (λ o. Some (new_by g top earlier o)) (sym scored) ∙ now in
+        let same : new_by g top earlier (Some score) ≡ bytes = cc scored_now in
         let within : IsIn g top bytes = subst (λ n. IsIn g top n) same (laws.least g earlier top score, laws.most g earlier top score order) in
         let there = course_carries laws law goals r e here in (
           stretch laws law goals g one (λ n. n < g.target) (λ a b. a ≤ b) (λ n. omega arith) (λ a b c first second. omega (arith, first, second))

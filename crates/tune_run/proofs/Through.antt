@@ -1,8 +1,8 @@
 -- What the commits that are put in at a moment make of the slots.
-use Rattle.std.proofs.Common.{◌≡◌, ℕ, zero, suc, ◌+◌, ◌<◌, ◌≤◌, Bool, true, false, List, [], ◌∷◌, ◌++◌, map, length, set as put, get_or, Ok, Option, Some, None, refl, sym, ap, subst, ◌∙◌, arith}
+use Rattle.std.proofs.Common.{◌≡◌, ℕ, zero, suc, ◌+◌, ◌<◌, ◌≤◌, Bool, true, false, List, [], ◌∷◌, length, set as put, get_or, Option, Some, None, refl, sym, ap, subst, ◌∙◌, arith}
 use Rattle.std.specs.Prelude.{◌==◌}
 use Rattle.std.specs.List.{cons_option, range_with_len}
-use Rattle.std.specs.Option.{option_and_then, option_map, option_map_or, unwrap_or}
+use Rattle.std.specs.Option.{option_and_then, option_map_or}
 use Rattle.std.proofs.lemmas.Bool.Decides.{nat_tests}
 use Rattle.std.proofs.lemmas.List.{get_or-set_other, get_or-set_same}
 use Rattle.std.proofs.lemmas.List.FromFn.{length-map-range_with_len}
@@ -19,11 +19,10 @@ use Rattle.quota_goal.specs.declared.moment.Moment.{Moment}
 use Rattle.quota_goal.specs.Tuned.{TunerView, after_change, change_at, retuned, scheme_at, tuned_at}
 use Rattle.tune_run.specs.Along.{AllAccepted, IsAccepted}
 use Rattle.tune_run.specs.Callbacks.{change_alone, changes_at, commits_of, schemes_in, tuner_in}
-use Rattle.tune_run.specs.Kept.{StandsTuned}
 use Rattle.tune_run.proofs.Accepting.{TakesChanges, event_takes}
-use Rattle.tune_run.proofs.Changes.{later_stay, next_is, slot_is}
+use Rattle.tune_run.proofs.Changes.{change_to, later_stay, next_is, slot_is}
 use Rattle.tune_run.proofs.Committing.{next_accepted, next_stands}
-use Rattle.tune_run.proofs.Slots.{scheme_is, schemes_of}
+use Rattle.tune_run.proofs.Slots.{scheme_is}
 
 -- the scheme of a slot once it was tuned at a moment: with other bytes, or as it was
 abbrev pub tuned_scheme : TunerView → ℕ → Moment → Option Scheme
@@ -39,7 +38,7 @@ tuned_alike t c slot moment apart =
 untouched : (t : TunerView) (slot : ℕ) (moment : Moment) → change_at t slot moment ≡ None → tuned_scheme t slot moment ≡ scheme_at t slot
 untouched t slot moment none = by_tuned (tuned_at t slot moment) none
   where
-    by_tuned : (o : Option Scheme) → option_map (λ s. record { slot = slot; scheme = Some s }) o ≡ None {T = SlotChange}
+    by_tuned : (o : Option Scheme) → change_to slot o ≡ None
         → option_map_or (λ s. Some s) o (scheme_at t slot) ≡ scheme_at t slot
     by_tuned None is = refl
     by_tuned (Some s) is = absurd (cc is)
@@ -48,7 +47,7 @@ untouched t slot moment none = by_tuned (tuned_at t slot moment) none
 changed_to : (t : TunerView) (slot : ℕ) (moment : Moment) (c : SlotChange) → change_at t slot moment ≡ Some c → tuned_scheme t slot moment ≡ c.scheme
 changed_to t slot moment c some = by_tuned (tuned_at t slot moment) some
   where
-    by_tuned : (o : Option Scheme) → option_map (λ s. record { slot = slot; scheme = Some s }) o ≡ Some c
+    by_tuned : (o : Option Scheme) → change_to slot o ≡ Some c
         → option_map_or (λ s. Some s) o (scheme_at t slot) ≡ c.scheme
     by_tuned None is = absurd (cc is)
     by_tuned (Some s) is =

@@ -1,10 +1,10 @@
 -- What holds along each run with quotas that follow goals.
-use Rattle.std.specs.Prelude.{◌≡◌, ℕ, ◌<◌, ◌≤◌, min, ◌&&◌, ◌==◌, List, [], ◌∷◌, ◌++◌, filter, map, Option, Some, None, IfSome, Ok}
+use Rattle.std.specs.Prelude.{◌≡◌, ℕ, ◌<◌, ◌≤◌, min, ◌&&◌, ◌==◌, List, [], ◌∷◌, ◌++◌, filter, map, Option, Some, IfSome, Ok}
 use Rattle.std.specs.List.{AllByRecursion}
 use Rattle.std.specs.Option.{is_some, option_and_then}
 use Rattle.damon_core.specs.After.{after}
 use Rattle.damon_core.specs.Commit.{check_of}
-use Rattle.damon_core.specs.Event.{Event, touch, prepare, clear, load, observe, aggregate, commit, show}
+use Rattle.damon_core.specs.Event.{Event, commit}
 use Rattle.damon_core.specs.Reached.{run}
 use Rattle.damon_core.specs.State.{State, opening}
 use Rattle.damon_control.specs.Script.{ScriptValue}
@@ -38,10 +38,11 @@ abbrev pub tuner_past : List Goal → Course → Event → List Event → TunerV
 tuner_past goals r e puts =
     tuner_in goals (remembered (tune_callbacks goals) r.memory r.moment.state e) (run (after r.moment.state e) puts)
 
--- the tuner directly after an event of the script, and once all is put in
+-- the tuner directly after an event of the script
 abbrev pub tuner_before : List Goal → Course → Event → TunerView
 tuner_before goals r e = tuner_past goals r e []
 
+-- the tuner once all is put in after it
 abbrev pub tuner_then : List Goal → Course → Event → TunerView
 tuner_then goals r e = tuner_past goals r e (put_in goals r e)
 
@@ -51,6 +52,7 @@ moment_of r e = moment_after (after r.moment.state e) e
 
 -- ---- each commit that is put in is accepted
 
+-- an event is a commit that is accepted
 abbrev pub IsAccepted : State → Event → Type 0
 IsAccepted s (commit parts) = check_of parts s.core ≡ Ok tt
 IsAccepted s _ = ⊥
@@ -60,6 +62,7 @@ abbrev pub AllAccepted : State → List Event → Type 0
 AllAccepted s [] = Unit {0}
 AllAccepted s (e ∷ es) = IsAccepted s e × AllAccepted (after s e) es
 
+-- each commit that is put in after an event of the script is accepted
 abbrev pub PutsAreAccepted : List Goal → Course → Event → Type 0
 PutsAreAccepted goals r e = AllAccepted (after r.moment.state e) (put_in goals r e)
 

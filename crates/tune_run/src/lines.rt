@@ -1,5 +1,5 @@
 // The lines of the slots with goals, after the last line of a report.
-ghost use Rattle.std.specs.Prelude.{◌≡◌, ◌≤◌, ◌++◌, OnErr, OnOk};
+ghost use Rattle.std.specs.Prelude.{◌≡◌, ◌≤◌, ◌++◌, take, OnErr, OnOk};
 ghost use Rattle.tune_run.specs.Kept.{KeepsFront};
 ghost use Rattle.damon_types.specs.declared.scheme.TheConstants.{MAX_SLOT};
 ghost use Rattle.tune_run.specs.Callbacks.{bytes_text, has_goal, slot_text, tuned_text};
@@ -19,6 +19,19 @@ pub fn append_tuned(out: &mut Vec<u8>, tuner: &Tuner) -> Result<(), AllocError>
 {
     let before = out.len();
     let appended = append_slots(out, tuner);
+    whole_or_nothing(out, before, appended)
+}
+
+// Removes what was appended after the first `before` bytes where memory ran out.
+fn whole_or_nothing(
+    out: &mut Vec<u8>,
+    before: usize,
+    appended: Result<(), AllocError>,
+) -> Result<(), AllocError>
+    ensures same { result ≡ appended }
+    ensures ok { OnOk result (out.new.items ≡ out.old.items) }
+    ensures err { OnErr result (out.new.items ≡ take before out.old.items) }
+{
     if appended.is_err() {
         out.truncate(before);
     }

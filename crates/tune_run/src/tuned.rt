@@ -143,7 +143,7 @@ fn next_change(tuner: &mut Tuner, next: u8, moment: &Moment) -> Option<SlotChang
     None
 }
 
-// Whether the slot that a commit changes, if it does, is one of the slots. That of an accepted commit always is.
+// Whether the slot that a commit changes, if it does, is one of the slots. That of an accepted one always is.
 fn is_within(commit: &Commit) -> bool
     ensures { result ≡ true ↔ IfSome commit.now.slot (λ c. c.slot ≤ MAX_SLOT) }
 {

@@ -1,6 +1,5 @@
-use Rattle.std.proofs.Common.{◌≤◌, ◌<◌, List}
+use Rattle.std.proofs.Common.{◌<◌}
 use Rattle.damon_types.specs.declared.scheme.SlotChange.{SlotChange}
-use Rattle.damon_types.specs.declared.scheme.TheConstants.{MAX_SLOT}
 use Rattle.damon_core.specs.Commit.{view_of}
 use Rattle.damon_core.specs.Slots.{slot_count}
 use Rattle.script_run.specs.Course.{onward}

@@ -1,7 +1,7 @@
-use Rattle.std.proofs.Common.{◌≡◌, ◌<◌, Some, None, ap, sym, subst, ◌∙◌, arith}
+use Rattle.std.proofs.Common.{◌≡◌, ◌<◌, ◌≤◌, Some, None, ap, sym, subst, ◌∙◌, arith}
 use Rattle.damon_core.specs.Slots.{slot_count}
 use Rattle.quota_goal.specs.Tuned.{TunerView, after_change, change_at}
-use Rattle.tune_run.specs.Kept.{IsNextChange, changes_from}
+use Rattle.tune_run.specs.Kept.{IsNextChange}
 use Rattle.tune_run.proofs.Changes.{next_is, none_left, slot_passed}
 use Rattle.tune_run.proofs.Slots.{count_is}
 use Rattle.tune_run.proofs.tuned.next_change.Goals as goal

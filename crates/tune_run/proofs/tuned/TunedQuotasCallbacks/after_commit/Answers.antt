@@ -1,4 +1,4 @@
-use Rattle.std.proofs.Common.{◌≡◌, ◌≤◌, List, Result, Ok, Err, true, false, refl, ap, sym, ◌∙◌}
+use Rattle.std.proofs.Common.{◌≡◌, ◌≤◌, Err, true, false, ap, sym, ◌∙◌}
 use Rattle.damon_types.specs.declared.scheme.SlotChange.{SlotChange}
 use Rattle.damon_types.specs.declared.scheme.TheConstants.{MAX_SLOT}
 use Rattle.live_commit.specs.declared.fault.CommitFault.{CommitFault}
@@ -41,7 +41,8 @@ refused g c s is =
           let ok = answered_ok parts s.core c.args.answer.now is (sym c.is_ok.ensures.value ∙ w.if-is_ok.true) in
           let slot = (c.accepted_commits_are_within.ensures.accepted s.core.space (view_of s.core) parts ok).slot in
           let within = w.is_within.ensures.1 (if_some_of (λ (x : SlotChange). x.slot ≤ MAX_SLOT) c.args.commit.now.slot slot) in
-          absurd (cc within w.if-is_within.false)
+          let bad : true ≡ false = sym within ∙ w.if-is_within.false in
+          absurd (cc bad)
       | else-is_ok-via-else-is_ok w ↦ answered_err parts s.core c.args.answer.now is (sym c.is_ok.ensures.value ∙ w.if-is_ok.false)
     ]
 

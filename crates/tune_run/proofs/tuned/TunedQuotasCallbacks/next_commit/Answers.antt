@@ -1,4 +1,4 @@
-use Rattle.std.proofs.Common.{List, Option, Some, sym, subst}
+use Rattle.std.proofs.Common.{Option, Some, sym, subst}
 use Rattle.live_commit.specs.Commit.{CommitValue, commit_value}
 use Rattle.damon_core.specs.After.{after}
 use Rattle.damon_core.specs.Event.{commit}
