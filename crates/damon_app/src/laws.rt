@@ -1,5 +1,4 @@
 // What holds of all runs of the program. The functions do nothing.
-ghost use Rattle.std.specs.Prelude.{ℕ};
 ghost use Rattle.damon_app.specs.Runs.{EachRunChoosesBest, EachRunFollowsGoals, EachRunIsAccounted, EachRunIsBound};
 
 // The states along each run are bound.
@@ -39,7 +38,3 @@ pub(crate) fn each_run_follows_goals()
     tune_run::tuned_runs_are_bound();
     tune_run::bytes_follow_their_goals();
 }
-
-pub(crate) fn try_lemmas()
-    ensures { ℕ }
-{}
