@@ -1,7 +1,6 @@
-use Rattle.std.proofs.Common.{ap, ap₂, codes, ◌≡◌, ◌∙◌}
+use Rattle.std.proofs.Common.{ap, ap₂, codes, ◌∙◌}
 use Rattle.std.proofs.lemmas.Result.{IfOk-weaker}
 use Rattle.clap.specs.Words.{App, Rule, new_app, with_rule, with_subcommand}
-use Rattle.damon_app.specs.Parser.{top_app}
 use Rattle.damon_app.proofs.command.make_command.Goals as goal
 
 pub returns : goal.returns

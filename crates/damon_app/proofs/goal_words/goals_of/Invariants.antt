@@ -1,4 +1,4 @@
-use Rattle.std.proofs.Common.{◌≡◌, ◌+◌, ◌≤◌, drop, length, map}
+use Rattle.std.proofs.Common.{◌≡◌, drop, length, map}
 use Rattle.damon_app.proofs.ReadingGoals.{with_front}
 use Rattle.damon_app.specs.GoalWords.{goals_in}
 use Rattle.damon_app.proofs.goal_words.goals_of.Given as goal
