@@ -1,5 +1,5 @@
 -- A model that follows the events of a run, and its figures.
-use Rattle.std.proofs.Common.{◌≡◌, ℕ, Bool, not, List, [], ◌∷◌, ◌++◌, length, refl, sym, ap, subst, ◌∙◌}
+use Rattle.std.proofs.Common.{◌≡◌, ℕ, not, List, [], ◌∷◌, ◌++◌, length, refl, sym, ap, subst, ◌∙◌}
 use Rattle.std.specs.Prelude.{count_by}
 use Rattle.std.specs.List.{AllByRecursion}
 use Rattle.damon_types.specs.Space.{pages_of}
@@ -11,7 +11,6 @@ use Rattle.damon_core.specs.Reached.{AllFit, run}
 use Rattle.damon_core.specs.Stands.{MonitorView, Stands}
 use Rattle.damon_core.specs.State.{Core, State, opening, opening_notes}
 use Rattle.script_run.specs.Callbacks.{IsStep}
-use Rattle.reclaim_module.specs.declared.reclaim.Counts.{Counts}
 use Rattle.reclaim_module.specs.Calls.{all_resident}
 use Rattle.reclaim_module.specs.Counts.{pageouts_of, prefetches_of, refaults_of}
 use Rattle.reclaim_module.specs.Out.{is_out}

@@ -184,7 +184,7 @@ fn apply_runs(model: &mut Reclaim, runs: &[AppliedRun], engine: &Engine)
     ensures { (notes : List Note) → engine.now.slots ≡ slots_of notes
         → model.new ≡ after_applied notes runs.now model.old }
 {
-    // For their clauses alone: how runs follow one another, and that the first ones page out no more than all.
+    // For their clauses alone: runs follow one another, and the first ones page out no more than all.
     reclaim_module::applied_runs_follow();
     reclaim_module::few_pages_go_out();
     reclaim_module::pages_stay();

@@ -1,5 +1,4 @@
-use Rattle.std.proofs.Common.{length, ap, sym, ◌∙◌}
-use Rattle.damon_world.specs.Touches.{touches}
+use Rattle.std.proofs.Common.{◌+◌, length, ap, sym, ◌∙◌}
 use Rattle.reclaim_module.specs.Calls.{after_touch}
 use Rattle.reclaim_run.proofs.Touching.{model_touches_more}
 use Rattle.reclaim_run.proofs.reclaimer.touch_pages.Goals as goal
