@@ -8,7 +8,7 @@ ghost use Rattle.damon_core.specs.State.{opening};
 ghost use Rattle.quota_goal.specs.declared.moment.Moment.TheVariants.{Metric};
 ghost use Rattle.quota_goal.specs.Tuned.{given};
 ghost use Rattle.tune_run.specs.Callbacks.{change_alone, tune_callbacks};
-ghost use Rattle.tune_run.specs.Kept.{IsNextChange, StandsTuned, changes_from};
+ghost use Rattle.tune_run.specs.Kept.{IsNextChange, changes_from};
 
 use crate::lines::{SLOTS, append_tuned};
 use crate::named::Named;
@@ -38,7 +38,7 @@ impl<N: Named> TunedQuotas<N> {
     /// ones. Takes no memory.
     pub fn new(goals: Goals, setup: &Setup) -> TunedQuotas<N>
         requires goals { goals ≡ N.goals }
-        ensures opening { StandsTuned N.goals result.tuner result.moment
+        ensures opening { ⟦<TunedQuotas<N> as Callbacks>⟧.stands_for result
             ((tune_callbacks N.goals).first (opening (value_of setup.now)))
             (opening (value_of setup.now)) }
     {
