@@ -20,6 +20,6 @@ told_unlawful law status (Some bytes) line is tells = law bytes line ((tells lin
 pub unlawful_text : ((text : List ℕ) (line : ℕ) → read_journal text ≡ Err line → IsOfNoLawfulRun text) → (request : Option Request) (status : Status) (told : Option (List ℕ)) (line : ℕ) → MayCome status request → (ReadsInput request → IsRead status → IfSome told (TellsFault request status)) → status ≡ Unlawful line → IfSome told IsOfNoLawfulRun
 unlawful_text law (Some Verify) status told line comes fault is = told_unlawful law status told line is (fault tt (subst IsRead (sym is) tt))
 unlawful_text law (Some (Heat columns)) status told line comes fault is = told_unlawful law status told line is (fault tt (subst IsRead (sym is) tt))
-unlawful_text law (Some (Report form)) status told line comes fault is = absurd (subst (λ (s : Status). MayCome s (Some (Report form))) is comes)
+unlawful_text law (Some (Report run)) status told line comes fault is = absurd (subst (λ (s : Status). MayCome s (Some (Report run))) is comes)
 unlawful_text law (Some (Generate n)) status told line comes fault is = absurd (subst (λ (s : Status). MayCome s (Some (Generate n))) is comes)
 unlawful_text law None status told line comes fault is = absurd (subst (λ (s : Status). MayCome s None) is comes)

@@ -1,7 +1,8 @@
 -- What clap makes of words none of which begins with a hyphen.
-use Rattle.std.proofs.Common.{◌≡◌, ◌≢◌, ◌-◌, ◌^◌, ap₂, arith, ◌⊎◌, inl, inr, ℕ, List, [], ◌∷◌, ◌++◌, true, false, Some, None, Option, codes, refl, ap, sym, ◌∙◌, Bool, subst, append_assoc, append-nil}
-use Rattle.std.specs.Prelude.{◌==◌, ◌||◌, String, fold, if◌then◌else◌, map, string_bytes}
+use Rattle.std.proofs.Common.{◌≡◌, ◌≢◌, ◌-◌, ◌^◌, ap₂, arith, ◌⊎◌, inl, inr, ℕ, List, [], ◌∷◌, true, false, Some, None, Option, codes, length, refl, ap, sym, ◌∙◌, Bool, subst}
+use Rattle.std.specs.Prelude.{◌==◌, ◌||◌, ◌&&◌, nat_le, String, if◌then◌else◌, map, string_bytes}
 use Rattle.std.specs.declared.alloc.Global.{Global}
+use Rattle.std.specs.List.{onto_first}
 use Rattle.std.specs.Str.{bytes_eq}
 use Rattle.std.proofs.lemmas.Slice.Eq.{bytes_eq-Decides}
 use Rattle.clap.specs.declared.error.kind.ErrorKind.{ErrorKind}
@@ -10,49 +11,56 @@ use Rattle.std.proofs.lemmas.Bool.Decides.{nat_tests}
 use Rattle.std.specs.Option.{option_map}
 use Rattle.std.specs.Box.{box_value}
 use Rattle.line_text.specs.Number.{number}
+use Rattle.line_text.specs.Parts.{parts}
+use Rattle.line_text.specs.declared.bytes.TheConstants.{COLON}
+use Rattle.damon_types.specs.declared.scheme.TheConstants.{MAX_SLOT}
 use Rattle.clap.specs.declared.error.Error.{Error}
 use Rattle.clap.specs.declared.parser.matches.ArgMatches.{ArgMatches}
 use Rattle.clap.specs.declared.parser.matches.ArgMatches.TheViews.{out-ArgMatches, out-SubCommand}
 use Rattle.clap.specs.Words.{kind_of, subcommand_name_of, subcommand_rows, subcommand_rows_of}
-use Rattle.clap.specs.Faults.{built_fault, entered_fault, fault_of, is_simple_and_free, walk_fault}
+use Rattle.clap.specs.Faults.{entered_fault, fault_of, is_simple_and_free}
 use Rattle.clap.specs.Kinds.{HasKind, IsAmong, Kinds}
-use Rattle.clap.specs.Simple.{App, Shape, built, is_simple, names_of, subcommand_of}
-use Rattle.clap.specs.Walk.{Held, Names, Row, Rule, Text, Walk, first_of, nothing_held, walk, walk_from, walked}
+use Rattle.clap.specs.Simple.{is_simple, subcommand_of}
+use Rattle.clap.specs.Walk.{Row, Text, all_of, first_of}
 use Rattle.clap.proofs.OnLiterals.{clap_on_literals}
-use Rattle.damon_app.specs.Parser.{begins_with_hyphen, damon_app, has_option, number_found, request_by, request_found}
+use Rattle.quota_goal.specs.declared.goals.Goal.{Goal}
+use Rattle.quota_goal.specs.declared.goals.TheConstants.{MAX_GOALS}
+use Rattle.damon_app.specs.GoalWords.{◌>>=◌, goal_in, goal_of, goals_in}
+use Rattle.damon_app.specs.Parser.{Found, begins_with_hyphen, by_goals, damon_app, has_option, request_found, words_found}
 use Rattle.damon_app.specs.declared.request.Request.{Request}
 use Rattle.damon_app.specs.declared.request.Request.TheVariants.{Report, Verify, Heat}
+use Rattle.damon_app.specs.declared.request.Run.TheVariants.{Plain, Reclaim}
 use Rattle.snapshot_print.specs.declared.form.Form.TheVariants.{Text as TextForm, Json as JsonForm}
-use Rattle.damon_app.specs.Request.{asked, asked_alone, asked_with, columns_of, request_of}
+use Rattle.damon_app.specs.Request.{asked, asked_alone, asked_by, asked_to_tune, asked_with, columns_of, request_of}
+use Rattle.damon_app.proofs.Walking.{ArePlain, IsPlainWord, built_app, sub_fails}
+use Rattle.damon_app.proofs.WalkingGoals.{goals_fail, goals_found, goals_pass}
 
 pub free : is_simple_and_free damon_app ≡ true
 unfolding clap_on_literals
 free = refl
 
--- ---- a walk that stopped
+-- a subcommand that was found alone, with a number, or with goals
+abbrev alone : Text → Found
+alone name = record { name = name; number = None; goals = None }
 
-stopped_fault : (s : Shape) (names : Names) (w : Walk) (p : Text × List Text) (words : List Text) → w.stopped ≡ Some p → walk_fault s names w words ≡ []
-unfolding walk_fault walked
-stopped_fault s names w p [] is = refl
-stopped_fault s names w p (word ∷ words) is = rw is (stopped_fault s names (record w { stopped = Some (p.0, p.1 ++ word ∷ []) }) (p.0, p.1 ++ word ∷ []) words refl)
+abbrev numbered : Text → Text → Found
+numbered name digits = record { name = name; number = Some digits; goals = None }
+
+abbrev tuning : List Text → Found
+tuning words = record { name = codes "tune"; number = None; goals = Some words }
 
 -- ---- words that do not begin with a hyphen
 
--- the first byte is no hyphen
-abbrev pub IsPlainWord : Text → Type 0
-IsPlainWord [] = Unit {0}
-IsPlainWord (c ∷ cs) = (c == 45) ≡ false
-
 module _ (c : ℕ) (cs : List ℕ) (dash : (c == 45) ≡ false) where
-  other_fails : (ws : List Text) → bytes_eq (codes "replay") (c ∷ cs) ≡ false → bytes_eq (codes "json") (c ∷ cs) ≡ false → bytes_eq (codes "verify") (c ∷ cs) ≡ false → bytes_eq (codes "gen") (c ∷ cs) ≡ false → bytes_eq (codes "heat") (c ∷ cs) ≡ false → fault_of damon_app ((c ∷ cs) ∷ ws) ≡ kind.UnknownArgument ∷ kind.InvalidSubcommand ∷ []
+  other_fails : (ws : List Text) → bytes_eq (codes "replay") (c ∷ cs) ≡ false → bytes_eq (codes "json") (c ∷ cs) ≡ false → bytes_eq (codes "verify") (c ∷ cs) ≡ false → bytes_eq (codes "gen") (c ∷ cs) ≡ false → bytes_eq (codes "heat") (c ∷ cs) ≡ false → bytes_eq (codes "tune") (c ∷ cs) ≡ false → bytes_eq (codes "reclaim") (c ∷ cs) ≡ false → fault_of damon_app ((c ∷ cs) ∷ ws) ≡ kind.UnknownArgument ∷ kind.InvalidSubcommand ∷ []
   unfolding clap_on_literals
-  other_fails ws r j v g h = rw (r, j, v, g, h, dash, dash) refl
+  other_fails ws r j v g h t m = rw (r, j, v, g, h, t, m, dash, dash) refl
 
   gen_passes : fault_of damon_app (codes "gen" ∷ (c ∷ cs) ∷ []) ≡ []
   unfolding clap_on_literals
   gen_passes = rw (dash, dash) refl
 
-  gen_finds : number_found (subcommand_of damon_app (codes "gen" ∷ (c ∷ cs) ∷ [])) ≡ Some (codes "gen", Some (c ∷ cs))
+  gen_finds : words_found (subcommand_of damon_app (codes "gen" ∷ (c ∷ cs) ∷ [])) ≡ Some (numbered (codes "gen") (c ∷ cs))
   unfolding clap_on_literals
   gen_finds = rw (dash, dash) refl
 
@@ -60,36 +68,11 @@ module _ (c : ℕ) (cs : List ℕ) (dash : (c == 45) ≡ false) where
   unfolding clap_on_literals
   heat_passes = rw (dash, dash) refl
 
-  heat_finds : number_found (subcommand_of damon_app (codes "heat" ∷ (c ∷ cs) ∷ [])) ≡ Some (codes "heat", Some (c ∷ cs))
+  heat_finds : words_found (subcommand_of damon_app (codes "heat" ∷ (c ∷ cs) ∷ [])) ≡ Some (numbered (codes "heat") (c ∷ cs))
   unfolding clap_on_literals
   heat_finds = rw (dash, dash) refl
 
 -- ---- words after a subcommand
-
--- what stands after a subcommand that was met
-stopped_words : (rules : List Rule) (names : Names) (w : Walk) (p : Text × List Text) (words : List Text) → w.stopped ≡ Some p → (fold (walked rules names) w words).stopped ≡ Some (p.0, p.1 ++ words)
-unfolding walked
-stopped_words rules names w p [] is = is ∙ ap (λ ws. Some (p.0, ws)) (sym (append-nil p.1))
-stopped_words rules names w p (word ∷ words) is =
-    rw is (stopped_words rules names (record w { stopped = Some (p.0, p.1 ++ word ∷ []) }) (p.0, p.1 ++ word ∷ []) words refl)
-    ∙ ap (λ ws. Some (p.0, ws)) (append_assoc p.1 (word ∷ []) words)
-
--- where the top walk stops at a subcommand, the words fail as the subcommand fails
-entered_fails : (a : App) (h : Held) (words rest : List Text) (name : Text) (k : ErrorKind) (ks : Kinds) → walk_fault a.top (names_of a) (walk_from h) words ≡ [] → (walk a.top.rules (names_of a) h words).stopped ≡ Some (name, rest) → entered_fault a (Some (name, rest)) ≡ k ∷ ks → built_fault a h words ≡ k ∷ ks
-entered_fails a h words rest name k ks passes stops below = rw (passes, stops, below) refl
-
-abbrev built_app : App
-built_app = built damon_app
-
-abbrev after : Text → Walk
-after word = walked built_app.top.rules (names_of built_app) (walk_from nothing_held) word
-
-sub_fails : (name : Text) (ws : List Text) (k : ErrorKind) (ks : Kinds) → walk_fault built_app.top (names_of built_app) (walk_from nothing_held) (name ∷ ws) ≡ walk_fault built_app.top (names_of built_app) (after name) ws → (after name).stopped ≡ Some (name, []) → entered_fault built_app (Some (name, ws)) ≡ k ∷ ks → fault_of damon_app (name ∷ ws) ≡ k ∷ ks
-sub_fails name ws k ks walks stops below =
-    entered_fails built_app nothing_held (name ∷ ws) ws name k ks
-    (walks ∙ stopped_fault built_app.top (names_of built_app) (after name) (name, []) ws stops)
-    (stopped_words built_app.top.rules (names_of built_app) (after name) (name, []) ws stops)
-    below
 
 -- one word more than the subcommand takes
 replay_more : (c : ℕ) (cs : List ℕ) (ws : List Text) → (c == 45) ≡ false → entered_fault built_app (Some (codes "replay", (c ∷ cs) ∷ ws)) ≡ kind.UnknownArgument ∷ []
@@ -130,6 +113,19 @@ verify_fails : (x : Text) (ws : List Text) → IsPlainWord x → fault_of damon_
 unfolding clap_on_literals
 verify_fails [] ws dash = sub_fails (codes "verify") ([] ∷ ws) kind.UnknownArgument [] refl refl (verify_empty ws)
 verify_fails (c ∷ cs) ws dash = sub_fails (codes "verify") ((c ∷ cs) ∷ ws) kind.UnknownArgument [] refl refl (verify_more c cs ws dash)
+
+reclaim_more : (c : ℕ) (cs : List ℕ) (ws : List Text) → (c == 45) ≡ false → entered_fault built_app (Some (codes "reclaim", (c ∷ cs) ∷ ws)) ≡ kind.UnknownArgument ∷ []
+unfolding clap_on_literals
+reclaim_more c cs ws dash = rw (dash, dash) refl
+
+reclaim_empty : (ws : List Text) → entered_fault built_app (Some (codes "reclaim", [] ∷ ws)) ≡ kind.UnknownArgument ∷ []
+unfolding clap_on_literals
+reclaim_empty ws = refl
+
+reclaim_fails : (x : Text) (ws : List Text) → IsPlainWord x → fault_of damon_app (codes "reclaim" ∷ x ∷ ws) ≡ kind.UnknownArgument ∷ []
+unfolding clap_on_literals
+reclaim_fails [] ws dash = sub_fails (codes "reclaim") ([] ∷ ws) kind.UnknownArgument [] refl refl (reclaim_empty ws)
+reclaim_fails (c ∷ cs) ws dash = sub_fails (codes "reclaim") ((c ∷ cs) ∷ ws) kind.UnknownArgument [] refl refl (reclaim_more c cs ws dash)
 
 -- two numbers
 gen_more : (c d : ℕ) (cs ds : List ℕ) (ws : List Text) → (c == 45) ≡ false → (d == 45) ≡ false → entered_fault built_app (Some (codes "gen", (c ∷ cs) ∷ (d ∷ ds) ∷ ws)) ≡ kind.UnknownArgument ∷ []
@@ -187,28 +183,34 @@ heat_fails x y ws p q = sub_fails (codes "heat") (x ∷ y ∷ ws) kind.UnknownAr
 
 -- ---- the whole
 
--- what words name, with the number that two of them have
-abbrev pub named : List Text → Option (Text × Option Text)
-named [] = None
-named (word ∷ []) =
-    if bytes_eq word (codes "replay") then Some (codes "replay", None)
-    else if bytes_eq word (codes "json") then Some (codes "json", None)
-    else if bytes_eq word (codes "verify") then Some (codes "verify", None)
+-- what a word other than `tune` names, with the words after it
+abbrev named_by : Text → List Text → Option Found
+named_by word [] =
+    if bytes_eq word (codes "replay") then Some (alone (codes "replay"))
+    else if bytes_eq word (codes "json") then Some (alone (codes "json"))
+    else if bytes_eq word (codes "verify") then Some (alone (codes "verify"))
+    else if bytes_eq word (codes "reclaim") then Some (alone (codes "reclaim"))
     else None
-named (word ∷ digits ∷ []) =
-    if bytes_eq word (codes "gen") then Some (codes "gen", Some digits)
-    else if bytes_eq word (codes "heat") then Some (codes "heat", Some digits)
+named_by word (digits ∷ []) =
+    if bytes_eq word (codes "gen") then Some (numbered (codes "gen") digits)
+    else if bytes_eq word (codes "heat") then Some (numbered (codes "heat") digits)
     else None
-named (word ∷ digits ∷ more ∷ words) = None
+named_by word (digits ∷ more ∷ words) = None
 
-abbrev pub ArePlain : List Text → Type 0
-ArePlain [] = Unit {0}
-ArePlain (word ∷ words) = IsPlainWord word × ArePlain words
+-- whether words may be goals by their number
+abbrev may_tune : List Text → Bool
+may_tune words = nat_le 1 (length words) && nat_le (length words) MAX_GOALS
+
+-- what words name
+abbrev pub named : List Text → Option Found
+named [] = None
+named (word ∷ words) =
+    if bytes_eq word (codes "tune") then (if may_tune words then Some (tuning words) else None) else named_by word words
 
 -- clap takes the words and finds what they name, or refuses words that name nothing
 abbrev pub IsParsedAs : List Text → Type 0
 IsParsedAs words =
-    ((fault_of damon_app words ≡ []) × (number_found (subcommand_of damon_app words) ≡ named words))
+    ((fault_of damon_app words ≡ []) × (words_found (subcommand_of damon_app words) ≡ named words))
     ⊎ ((k : ErrorKind) × (ks : Kinds) × (fault_of damon_app words ≡ k ∷ ks) × (named words ≡ None))
 
 none_parsed : IsParsedAs []
@@ -233,6 +235,12 @@ verify_parsed [] plain = inl (refl, refl)
 verify_parsed (x ∷ []) plain = inr (kind.UnknownArgument, [], verify_fails x [] plain.0, refl)
 verify_parsed (x ∷ y ∷ ws) plain = inr (kind.UnknownArgument, [], verify_fails x (y ∷ ws) plain.0, refl)
 
+reclaim_parsed : (ws : List Text) → ArePlain ws → IsParsedAs (codes "reclaim" ∷ ws)
+unfolding clap_on_literals
+reclaim_parsed [] plain = inl (refl, refl)
+reclaim_parsed (x ∷ []) plain = inr (kind.UnknownArgument, [], reclaim_fails x [] plain.0, refl)
+reclaim_parsed (x ∷ y ∷ ws) plain = inr (kind.UnknownArgument, [], reclaim_fails x (y ∷ ws) plain.0, refl)
+
 gen_parsed : (ws : List Text) → ArePlain ws → IsParsedAs (codes "gen" ∷ ws)
 unfolding clap_on_literals
 gen_parsed [] plain = inr (kind.MissingRequiredArgument, [], refl, refl)
@@ -247,11 +255,29 @@ heat_parsed ([] ∷ []) plain = inl (refl, refl)
 heat_parsed ((c ∷ cs) ∷ []) plain = inl (heat_passes c cs plain.0, heat_finds c cs plain.0)
 heat_parsed (x ∷ y ∷ ws) plain = inr (kind.UnknownArgument, [], heat_fails x y ws plain.0 plain.1.0, refl)
 
+tune_alone : IsParsedAs (codes "tune" ∷ [])
+unfolding clap_on_literals
+tune_alone = inr (kind.MissingRequiredArgument, [], refl, refl)
+
+-- goals, if they are not too many
+tune_named : (word : Text) (words : List Text) (t : Bool) → nat_le (length (word ∷ words)) MAX_GOALS ≡ t → named (codes "tune" ∷ word ∷ words) ≡ (if t then Some (tuning (word ∷ words)) else None)
+tune_named word words t is =
+    let some : nat_le 1 (length (word ∷ words)) ≡ true = grind (arith, nat_tests) in
+    rw (some, is) refl
+
+tune_parsed : (ws : List Text) → ArePlain ws → IsParsedAs (codes "tune" ∷ ws)
+tune_parsed [] plain = tune_alone
+tune_parsed (word ∷ words) plain = by (nat_le (length (word ∷ words)) MAX_GOALS) refl
+  where
+    by : (t : Bool) → nat_le (length (word ∷ words)) MAX_GOALS ≡ t → IsParsedAs (codes "tune" ∷ word ∷ words)
+    by true is = inl (goals_pass word words plain.0 plain.1 is, goals_found word words plain.0 plain.1 ∙ sym (tune_named word words true is))
+    by false is = inr (kind.TooManyValues, [], goals_fail word words plain.0 plain.1 is, tune_named word words false is)
+
 -- words that name no subcommand
-none_named : (word : Text) (ws : List Text) → bytes_eq word (codes "replay") ≡ false → bytes_eq word (codes "json") ≡ false → bytes_eq word (codes "verify") ≡ false → bytes_eq word (codes "gen") ≡ false → bytes_eq word (codes "heat") ≡ false → named (word ∷ ws) ≡ None
-none_named word [] r j v g h = rw (r, j, v) refl
-none_named word (x ∷ []) r j v g h = rw (g, h) refl
-none_named word (x ∷ y ∷ ws) r j v g h = refl
+none_named : (word : Text) (ws : List Text) → bytes_eq word (codes "replay") ≡ false → bytes_eq word (codes "json") ≡ false → bytes_eq word (codes "verify") ≡ false → bytes_eq word (codes "gen") ≡ false → bytes_eq word (codes "heat") ≡ false → bytes_eq word (codes "tune") ≡ false → bytes_eq word (codes "reclaim") ≡ false → named (word ∷ ws) ≡ None
+none_named word [] r j v g h t m = rw (t, r, j, v, m) refl
+none_named word (x ∷ []) r j v g h t m = rw (t, g, h) refl
+none_named word (x ∷ y ∷ ws) r j v g h t m = rw t refl
 
 flipped : (a b : Text) → bytes_eq a b ≡ false → bytes_eq b a ≡ false
 flipped a b not = by (bytes_eq b a) refl
@@ -260,11 +286,11 @@ flipped a b not = by (bytes_eq b a) refl
     by false is = refl
     by true is = let same : b ≡ a = (bytes_eq-Decides b a).0 is in let yes : bytes_eq a b ≡ true = (bytes_eq-Decides a b).1 (sym same) in absurd (let no : true ≡ false = sym yes ∙ not in cc no)
 
-unnamed_parsed : (word : Text) (ws : List Text) → IsPlainWord word → bytes_eq word (codes "replay") ≡ false → bytes_eq word (codes "json") ≡ false → bytes_eq word (codes "verify") ≡ false → bytes_eq word (codes "gen") ≡ false → bytes_eq word (codes "heat") ≡ false → IsParsedAs (word ∷ ws)
+unnamed_parsed : (word : Text) (ws : List Text) → IsPlainWord word → bytes_eq word (codes "replay") ≡ false → bytes_eq word (codes "json") ≡ false → bytes_eq word (codes "verify") ≡ false → bytes_eq word (codes "gen") ≡ false → bytes_eq word (codes "heat") ≡ false → bytes_eq word (codes "tune") ≡ false → bytes_eq word (codes "reclaim") ≡ false → IsParsedAs (word ∷ ws)
 unfolding clap_on_literals
-unnamed_parsed [] ws plain r j v g h = inr (kind.UnknownArgument, kind.InvalidSubcommand ∷ [], refl, none_named [] ws r j v g h)
-unnamed_parsed (c ∷ cs) ws plain r j v g h =
-    inr (kind.UnknownArgument, kind.InvalidSubcommand ∷ [], other_fails c cs plain ws (flipped (c ∷ cs) (codes "replay") r) (flipped (c ∷ cs) (codes "json") j) (flipped (c ∷ cs) (codes "verify") v) (flipped (c ∷ cs) (codes "gen") g) (flipped (c ∷ cs) (codes "heat") h), none_named (c ∷ cs) ws r j v g h)
+unnamed_parsed [] ws plain r j v g h t m = inr (kind.UnknownArgument, kind.InvalidSubcommand ∷ [], refl, none_named [] ws r j v g h t m)
+unnamed_parsed (c ∷ cs) ws plain r j v g h t m =
+    inr (kind.UnknownArgument, kind.InvalidSubcommand ∷ [], other_fails c cs plain ws (flipped (c ∷ cs) (codes "replay") r) (flipped (c ∷ cs) (codes "json") j) (flipped (c ∷ cs) (codes "verify") v) (flipped (c ∷ cs) (codes "gen") g) (flipped (c ∷ cs) (codes "heat") h) (flipped (c ∷ cs) (codes "tune") t) (flipped (c ∷ cs) (codes "reclaim") m), none_named (c ∷ cs) ws r j v g h t m)
 
 is_word : (word name : Text) (ws : List Text) → bytes_eq word name ≡ true → IsParsedAs (name ∷ ws) → IsParsedAs (word ∷ ws)
 is_word word name ws same parsed = subst (λ (w : Text). IsParsedAs (w ∷ ws)) (sym ((bytes_eq-Decides word name).0 same)) parsed
@@ -274,9 +300,17 @@ pub words_parsed : (words : List Text) → ArePlain words → IsParsedAs words
 words_parsed [] plain = none_parsed
 words_parsed (word ∷ ws) plain = by_replay (bytes_eq word (codes "replay")) refl
   where
+    by_reclaim : (u : Bool) → bytes_eq word (codes "reclaim") ≡ u → bytes_eq word (codes "replay") ≡ false → bytes_eq word (codes "json") ≡ false → bytes_eq word (codes "verify") ≡ false → bytes_eq word (codes "gen") ≡ false → bytes_eq word (codes "heat") ≡ false → bytes_eq word (codes "tune") ≡ false → IsParsedAs (word ∷ ws)
+    by_reclaim true is r j v g h t = is_word word (codes "reclaim") ws is (reclaim_parsed ws plain.1)
+    by_reclaim false is r j v g h t = unnamed_parsed word ws plain.0 r j v g h t is
+
+    by_tune : (u : Bool) → bytes_eq word (codes "tune") ≡ u → bytes_eq word (codes "replay") ≡ false → bytes_eq word (codes "json") ≡ false → bytes_eq word (codes "verify") ≡ false → bytes_eq word (codes "gen") ≡ false → bytes_eq word (codes "heat") ≡ false → IsParsedAs (word ∷ ws)
+    by_tune true is r j v g h = is_word word (codes "tune") ws is (tune_parsed ws plain.1)
+    by_tune false is r j v g h = by_reclaim (bytes_eq word (codes "reclaim")) refl r j v g h is
+
     by_heat : (t : Bool) → bytes_eq word (codes "heat") ≡ t → bytes_eq word (codes "replay") ≡ false → bytes_eq word (codes "json") ≡ false → bytes_eq word (codes "verify") ≡ false → bytes_eq word (codes "gen") ≡ false → IsParsedAs (word ∷ ws)
     by_heat true is r j v g = is_word word (codes "heat") ws is (heat_parsed ws plain.1)
-    by_heat false is r j v g = unnamed_parsed word ws plain.0 r j v g is
+    by_heat false is r j v g = by_tune (bytes_eq word (codes "tune")) refl r j v g is
 
     by_gen : (t : Bool) → bytes_eq word (codes "gen") ≡ t → bytes_eq word (codes "replay") ≡ false → bytes_eq word (codes "json") ≡ false → bytes_eq word (codes "verify") ≡ false → IsParsedAs (word ∷ ws)
     by_gen true is r j v = is_word word (codes "gen") ws is (gen_parsed ws plain.1)
@@ -296,27 +330,41 @@ words_parsed (word ∷ ws) plain = by_replay (bytes_eq word (codes "replay")) re
 
 -- ---- what the words ask for
 
-one_asks : (t u v : Bool)
-    → request_found (if t then Some (codes "replay", None) else if u then Some (codes "json", None) else if v then Some (codes "verify", None) else None)
-    ≡ (if t then Some (Report TextForm) else if u then Some (Report JsonForm) else if v then Some Verify else None)
-one_asks true u v = refl
-one_asks false true v = refl
-one_asks false false true = refl
-one_asks false false false = refl
+one_asks : (t u v m : Bool)
+    → request_found (if t then Some (alone (codes "replay")) else if u then Some (alone (codes "json")) else if v then Some (alone (codes "verify")) else if m then Some (alone (codes "reclaim")) else None)
+    ≡ (if t then Some (Report (Plain TextForm)) else if u then Some (Report (Plain JsonForm)) else if v then Some Verify else if m then Some (Report Reclaim) else None)
+one_asks true u v m = refl
+one_asks false true v m = refl
+one_asks false false true m = refl
+one_asks false false false true = refl
+one_asks false false false false = refl
 
 two_ask : (t u : Bool) (digits : Text)
-    → request_found (if t then Some (codes "gen", Some digits) else if u then Some (codes "heat", Some digits) else None)
+    → request_found (if t then Some (numbered (codes "gen") digits) else if u then Some (numbered (codes "heat") digits) else None)
     ≡ (if t then asked_with (codes "gen") digits else if u then asked_with (codes "heat") digits else None)
 two_ask true u digits = refl
 two_ask false true digits = refl
 two_ask false false digits = refl
 
+-- what a word other than `tune` names is what it asks for
+by_asks : (word : Text) (words : List Text) → request_found (named_by word words) ≡ asked_by word words
+by_asks word [] = one_asks (bytes_eq word (codes "replay")) (bytes_eq word (codes "json")) (bytes_eq word (codes "verify")) (bytes_eq word (codes "reclaim"))
+by_asks word (digits ∷ []) = two_ask (bytes_eq word (codes "gen")) (bytes_eq word (codes "heat")) digits
+by_asks word (digits ∷ more ∷ words) = refl
+
+-- words that may not be goals by their number ask for nothing
+tune_asks : (words : List Text) (t : Bool) → may_tune words ≡ t → request_found (if t then Some (tuning words) else None) ≡ asked_to_tune words
+tune_asks words true is = refl
+tune_asks words false is = rw is refl
+
 -- what words name is what they ask for
 named_asks : (words : List Text) → request_found (named words) ≡ request_of words
 named_asks [] = refl
-named_asks (word ∷ []) = one_asks (bytes_eq word (codes "replay")) (bytes_eq word (codes "json")) (bytes_eq word (codes "verify"))
-named_asks (word ∷ digits ∷ []) = two_ask (bytes_eq word (codes "gen")) (bytes_eq word (codes "heat")) digits
-named_asks (word ∷ digits ∷ more ∷ words) = refl
+named_asks (word ∷ words) = by (bytes_eq word (codes "tune"))
+  where
+    by : (t : Bool) → request_found (if t then (if may_tune words then Some (tuning words) else None) else named_by word words) ≡ (if t then asked_to_tune words else asked_by word words)
+    by true = tune_asks words (may_tune words) refl
+    by false = by_asks word words
 
 plain_word : (word : Text) → begins_with_hyphen word ≡ false → IsPlainWord word
 plain_word [] not = tt
@@ -335,7 +383,7 @@ module _ (words : List (String Global)) (none : has_option words ≡ false) wher
   parsed = words_parsed (map string_bytes words) (plain_words words none)
 
   -- where clap takes the words, what it finds is what they ask for
-  pub taken_asks : fault_of damon_app (map string_bytes words) ≡ [] → request_found (number_found (subcommand_of damon_app (map string_bytes words))) ≡ asked words
+  pub taken_asks : fault_of damon_app (map string_bytes words) ≡ [] → request_found (words_found (subcommand_of damon_app (map string_bytes words))) ≡ asked words
   taken_asks passes = elim parsed [
     | inl both ↦ ap request_found both.1 ∙ named_asks (map string_bytes words)
     | inr fails ↦ absurd (let no : fails.0 ∷ fails.1 ≡ [] = sym fails.2 ∙ passes in cc no)
@@ -385,21 +433,66 @@ no_digits word (c ∷ cs) is =
     by false true = refl
     by false false = refl
 
+-- a word that begins with a hyphen says no goal: its first field is no number
+no_slot : (parts : List Text) → goal_in (onto_first 45 parts) ≡ None
+no_slot [] = refl
+no_slot (s ∷ []) = refl
+no_slot (s ∷ a ∷ []) = refl
+no_slot (s ∷ a ∷ b ∷ []) = refl
+no_slot (s ∷ a ∷ b ∷ c ∷ []) = refl
+no_slot (s ∷ a ∷ b ∷ c ∷ d ∷ []) = rw (no_number MAX_SLOT s) refl
+no_slot (s ∷ a ∷ b ∷ c ∷ d ∷ e ∷ es) = refl
+
+no_goal : (word : Text) → begins_with_hyphen word ≡ true → goal_of word ≡ None
+no_goal [] is = absurd cc
+no_goal (c ∷ cs) is = subst (λ (b : ℕ). goal_of (b ∷ cs) ≡ None) (sym (is_hyphen c is)) (no_slot (parts COLON cs))
+
+-- words one of which begins with a hyphen say no goals
+no_goals : (words : List (String Global)) → has_option words ≡ true → goals_in (map string_bytes words) ≡ None
+no_goals [] is = absurd cc
+no_goals (word ∷ words) is = by (begins_with_hyphen (string_bytes word)) refl is (no_goals words)
+  where
+    by_rest : (o : Option Goal) → goals_in (map string_bytes words) ≡ None → (o >>= (λ goal. goals_in (map string_bytes words) >>= (λ goals. Some (goal ∷ goals)))) ≡ None
+    by_rest None none = refl
+    by_rest (Some goal) none = rw none refl
+
+    by : (t : Bool) → begins_with_hyphen (string_bytes word) ≡ t → (t || has_option words) ≡ true → (has_option words ≡ true → goals_in (map string_bytes words) ≡ None) → goals_in (map string_bytes (word ∷ words)) ≡ None
+    by true first is later = rw (no_goal (string_bytes word) first) refl
+    by false first is later = by_rest (goal_of (string_bytes word)) (later is)
+
+no_tuning : (words : List (String Global)) → goals_in (map string_bytes words) ≡ None → asked_to_tune (map string_bytes words) ≡ None
+no_tuning words none = by (may_tune (map string_bytes words)) refl
+  where
+    by : (t : Bool) → may_tune (map string_bytes words) ≡ t → asked_to_tune (map string_bytes words) ≡ None
+    by true is = rw (is, none) refl
+    by false is = rw is refl
+
 -- words with an option ask for nothing
-pub option_asks : (words : List (String Global)) → has_option words ≡ true → asked words ≡ None
-option_asks [] is = absurd cc
-option_asks (word ∷ []) is = by (begins_with_hyphen (string_bytes word)) refl is
+no_request : (word : String Global) (words : List (String Global)) → has_option (word ∷ words) ≡ true → asked_by (string_bytes word) (map string_bytes words) ≡ None
+no_request word [] is = by (begins_with_hyphen (string_bytes word)) refl is
   where
     by : (t : Bool) → begins_with_hyphen (string_bytes word) ≡ t → (t || false) ≡ true → asked_alone (string_bytes word) ≡ None
     by true first is = no_report (string_bytes word) first
     by false first is = absurd cc
-option_asks (word ∷ digits ∷ []) is = by (begins_with_hyphen (string_bytes word)) refl (begins_with_hyphen (string_bytes digits)) refl is
+no_request word (digits ∷ []) is = by (begins_with_hyphen (string_bytes word)) refl (begins_with_hyphen (string_bytes digits)) refl is
   where
     by : (t : Bool) → begins_with_hyphen (string_bytes word) ≡ t → (u : Bool) → begins_with_hyphen (string_bytes digits) ≡ u → (t || (u || false)) ≡ true → asked_with (string_bytes word) (string_bytes digits) ≡ None
     by true first u second is = no_run (string_bytes word) (string_bytes digits) first
     by false first true second is = no_digits (string_bytes word) (string_bytes digits) second
     by false first false second is = absurd cc
-option_asks (word ∷ digits ∷ more ∷ words) is = refl
+no_request word (digits ∷ more ∷ words) is = refl
+
+pub option_asks : (words : List (String Global)) → has_option words ≡ true → asked words ≡ None
+option_asks [] is = absurd cc
+option_asks (word ∷ words) is = by (bytes_eq (string_bytes word) (codes "tune")) refl
+  where
+    tuned : (t : Bool) → begins_with_hyphen (string_bytes word) ≡ t → string_bytes word ≡ codes "tune" → (t || has_option words) ≡ true → asked_to_tune (map string_bytes words) ≡ None
+    tuned true first tune is = absurd (let no : false ≡ true = ap begins_with_hyphen (sym tune) ∙ first in cc no)
+    tuned false first tune is = no_tuning words (no_goals words is)
+
+    by : (t : Bool) → bytes_eq (string_bytes word) (codes "tune") ≡ t → (if t then asked_to_tune (map string_bytes words) else asked_by (string_bytes word) (map string_bytes words)) ≡ None
+    by true tune = tuned (begins_with_hyphen (string_bytes word)) refl ((bytes_eq-Decides (string_bytes word) (codes "tune")).0 tune) is
+    by false other = no_request word words is
 
 -- ---- the subcommand that was found
 
@@ -413,7 +506,7 @@ pair_found (Some p) name rows first second =
 name_pairs : (m : ArgMatches) → subcommand_name_of m ≡ option_map (λ p. p.0) (subcommand_rows_of m)
 name_pairs m = elim ((out-ArgMatches m).subcommand) as (λ o. option_map (λ b. (out-SubCommand (box_value b)).name.now) o ≡ option_map (λ p. p.0) (subcommand_rows o)) [ None ↦ refl | Some b ↦ refl ]
 
-pub subcommand_asks : (m : ArgMatches) (name : Text) (rows : List Row) (digits : Option Text) → Some name ≡ subcommand_name_of m → Some rows ≡ option_map (λ p. p.1) (subcommand_rows_of m) → digits ≡ first_of (codes "number") rows → request_by name digits ≡ request_found (number_found (subcommand_rows_of m))
-subcommand_asks m name rows digits is_name is_rows is_digits =
+pub subcommand_asks : (m : ArgMatches) (name : Text) (rows : List Row) (digits : Option Text) (goals : Option (List Text)) → Some name ≡ subcommand_name_of m → Some rows ≡ option_map (λ p. p.1) (subcommand_rows_of m) → digits ≡ first_of (codes "number") rows → goals ≡ all_of (codes "goals") rows → by_goals name goals digits ≡ request_found (words_found (subcommand_rows_of m))
+subcommand_asks m name rows digits goals is_name is_rows is_digits is_goals =
     let found = pair_found (subcommand_rows_of m) name rows (is_name ∙ name_pairs m) is_rows in
-    ap (request_by name) is_digits ∙ sym (ap (λ f. request_found (number_found f)) found)
+    ap₂ (λ (g : Option (List Text)) (d : Option Text). by_goals name g d) is_goals is_digits ∙ sym (ap (λ f. request_found (words_found f)) found)

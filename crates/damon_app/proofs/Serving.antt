@@ -4,7 +4,7 @@ use Rattle.std.specs.Prelude.{IfSome, IsSome, IfErr, IsErrOf, OnOk}
 use Rattle.std.specs.Io.KnownBytes.{Appends}
 use Rattle.damon_types.specs.Causes.{Rose}
 use Rattle.damon_control.specs.Script.{script_of}
-use Rattle.snapshot_print.specs.declared.form.Form.{Form}
+use Rattle.damon_app.specs.declared.request.Run.{Run}
 use Rattle.damon_app.specs.declared.request.Request.TheVariants.{Report, Verify, Heat, Generate}
 use Rattle.damon_journal.specs.declared.status.Status.{Status}
 use Rattle.damon_journal.specs.declared.status.Status.TheVariants as statuses
@@ -35,35 +35,35 @@ each P Q None more is = tt
 each P Q (Some bytes) more is = more bytes is
 
 -- the answer to a request for a report
-module _ (limit : ℕ) (form : Form) (source source' sink sink' : Ends) (unread same : Type 0) (status : Status) where
-  replays : (bytes : List ℕ) → WritesWanted (Report form) bytes sink.bytes sink'.bytes → Replays form bytes sink.bytes sink'.bytes
+module _ (limit : ℕ) (run : Run) (source source' sink sink' : Ends) (unread same : Type 0) (status : Status) where
+  replays : (bytes : List ℕ) → WritesWanted (Report run) bytes sink.bytes sink'.bytes → Replays run bytes sink.bytes sink'.bytes
   replays bytes (text, (s, spells, is), all) = record { script = s; spells = spells; report = subst (Appends sink.bytes sink'.bytes) (sym is) all }
 
-  begins_report : (bytes : List ℕ) → MayWrite (Report form) same bytes sink.bytes sink'.bytes → same ⊎ WritesPrefix form bytes sink.bytes sink'.bytes
+  begins_report : (bytes : List ℕ) → MayWrite (Report run) same bytes sink.bytes sink'.bytes → same ⊎ WritesPrefix run bytes sink.bytes sink'.bytes
   begins_report bytes (inl is) = inl is
   begins_report bytes (inr (text, (s, spells, is), part)) = inr (s, spells, subst (WritesPart sink.bytes sink'.bytes) (sym is) part)
 
-  tells_script : (bytes : List ℕ) → RefusesAs (Report form) status bytes → TellsFault (Some (Report form)) status bytes
+  tells_script : (bytes : List ℕ) → RefusesAs (Report run) status bytes → TellsFault (Some (Report run)) status bytes
   tells_script bytes refuses fault =
       let by = refuses (statuses.Script fault.line fault.kind) tt in
       let says = spelled_fault (script_of bytes) fault in
       ((λ e. says.0 (by.0 e)), (λ e. by.1 (says.1 e)))
 
-  pub reported : IsOutcome limit (Report form) source source' sink sink' same status → IsAnswer limit (Some (Report form)) source source' sink sink' unread same status
+  pub reported : IsOutcome limit (Report run) source source' sink sink' same status → IsAnswer limit (Some (Report run)) source source' sink sink' unread same status
   reported is = record {
-    ok = λ e. each (λ bytes. WritesWanted (Report form) bytes sink.bytes sink'.bytes) (λ bytes. Replays form bytes sink.bytes sink'.bytes) source.bytes replays (is.ok e);
+    ok = λ e. each (λ bytes. WritesWanted (Report run) bytes sink.bytes sink'.bytes) (λ bytes. Replays run bytes sink.bytes sink'.bytes) source.bytes replays (is.ok e);
     lawful = λ e reads. absurd reads;
     end = λ reads. is.end;
     complete = is.complete;
     usage = λ free. ((λ e. absurd (is.asked e)), (λ e. absurd (cc e)));
     comes = is.comes;
     too_long = is.too_long;
-    refused = λ reads yes. each (RefusesAs (Report form) status) (TellsFault (Some (Report form)) status) source.bytes tells_script (is.refused yes);
+    refused = λ reads yes. each (RefusesAs (Report run) status) (TellsFault (Some (Report run)) status) source.bytes tells_script (is.refused yes);
     read = is.read;
     write = is.write;
     unread = λ not. absurd (not tt);
     unwritten = is.unwritten;
-    prefix = each (λ bytes. MayWrite (Report form) same bytes sink.bytes sink'.bytes) (λ bytes. same ⊎ WritesPrefix form bytes sink.bytes sink'.bytes) source.bytes begins_report is.prefix;
+    prefix = each (λ bytes. MayWrite (Report run) same bytes sink.bytes sink'.bytes) (λ bytes. same ⊎ WritesPrefix run bytes sink.bytes sink'.bytes) source.bytes begins_report is.prefix;
   }
 
 -- the answer to a request to check a journal
@@ -170,14 +170,14 @@ no_room limit request source sink alone same left_alone is = record {
     unknown r = untold (λ bytes. (statuses.Memory ≡ status_of_input r limit bytes) ⊎ IsFailure statuses.Memory (Rose source.faults source.faults) (Rose sink.faults sink.faults)) source.bytes (λ bytes. inr tt)
 
     expected : (request : Option Request) → IsExpected request statuses.Memory limit source.bytes (Rose source.faults source.faults) (Rose sink.faults sink.faults)
-    expected (Some (Report form)) = unknown (Report form)
+    expected (Some (Report run)) = unknown (Report run)
     expected (Some Verify) = unknown Verify
     expected (Some (Heat columns)) = unknown (Heat columns)
     expected (Some (Generate n)) = inr tt
     expected None = inr tt
 
     begun : (request : Option Request) → IsBegun request same source.bytes sink.bytes sink.bytes
-    begun (Some (Report form)) = untold (λ bytes. same ⊎ WritesPrefix form bytes sink.bytes sink.bytes) source.bytes (λ bytes. inl is)
+    begun (Some (Report run)) = untold (λ bytes. same ⊎ WritesPrefix run bytes sink.bytes sink.bytes) source.bytes (λ bytes. inl is)
     begun (Some Verify) = untold (λ bytes. same ⊎ VerifiesPrefix bytes sink.bytes sink.bytes) source.bytes (λ bytes. inl is)
     begun (Some (Heat columns)) = untold (λ bytes. same ⊎ HeatsPrefix columns bytes sink.bytes sink.bytes) source.bytes (λ bytes. inl is)
     begun (Some (Generate n)) = (0, omega arith, Appends-nil sink.bytes)

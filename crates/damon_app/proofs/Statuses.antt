@@ -8,7 +8,7 @@ use Rattle.damon_control.specs.declared.fault.ScriptFault.{ScriptFault}
 use Rattle.damon_journal.specs.Place.{JournalRead}
 use Rattle.damon_journal.specs.Reading.{read_journal}
 use Rattle.damon_journal.specs.declared.status.Status.TheVariants as statuses
-use Rattle.snapshot_print.specs.declared.form.Form.{Form}
+use Rattle.damon_app.specs.declared.request.Run.{Run}
 use Rattle.text_io.specs.Given.{GaveOver}
 use Rattle.damon_app.specs.declared.request.Columns.{Columns}
 use Rattle.damon_app.specs.declared.request.Request.{Request}
@@ -47,9 +47,9 @@ journal_line (Err n) line = ((λ e. let same : n ≡ line = cc e in ap (λ k. Er
 
 -- ---- statuses that can come
 
-spelled_comes : (form : Form) (said : Result ScriptValue ScriptFault) → MayCome (status_of_spelled said) (Some (Report form))
-spelled_comes form (Ok s) = tt
-spelled_comes form (Err fault) = tt
+spelled_comes : (run : Run) (said : Result ScriptValue ScriptFault) → MayCome (status_of_spelled said) (Some (Report run))
+spelled_comes run (Ok s) = tt
+spelled_comes run (Err fault) = tt
 
 journal_comes : (said : Result JournalRead ℕ) → MayCome (status_of_journal said) (Some Verify)
 journal_comes (Ok said) = tt
@@ -61,7 +61,7 @@ heat_comes columns (Err line) = tt
 
 -- the status of a text can come of the request for which it is read
 pub text_comes : (request : Request) (bytes : List ℕ) → MayCome (status_of_text request bytes) (Some request)
-text_comes (Report form) bytes = spelled_comes form (script_of bytes)
+text_comes (Report run) bytes = spelled_comes run (script_of bytes)
 text_comes Verify bytes = journal_comes (read_journal bytes)
 text_comes (Heat columns) bytes = heat_comes columns (read_journal bytes)
 text_comes (Generate n) bytes = tt

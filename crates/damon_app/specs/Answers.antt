@@ -3,8 +3,7 @@ use Rattle.std.specs.Prelude.{◌≡◌, ◌≢◌, ◌⊎◌, ◌↔◌, ℕ, �
 use Rattle.std.specs.Io.KnownBytes.{Appends, Consumes, IsAtEnd}
 use Rattle.damon_types.specs.Causes.{Rose}
 use Rattle.damon_control.specs.Script.{ScriptValue, script_of}
-use Rattle.snapshot_print.specs.declared.form.Form.{Form}
-use Rattle.script_run.specs.Report.{report}
+use Rattle.damon_app.specs.declared.request.Run.{Run}
 use Rattle.damon_app.specs.declared.request.Request.{Request}
 use Rattle.damon_app.specs.declared.request.Request.TheVariants.{Report, Verify, Heat, Generate}
 use Rattle.damon_journal.specs.declared.lawful.Lawful.{Lawful}
@@ -17,7 +16,7 @@ use Rattle.text_io.specs.Ends.{Ends}
 use Rattle.damon_journal.specs.Status.{IsRead, IsUnwritten}
 use Rattle.damon_journal.specs.Verified.{IsVerified}
 use Rattle.damon_app.specs.StatusOf.{status_of_text}
-use Rattle.damon_app.specs.Replay.{IsBegun, IsDone, IsExpected, IsOfInput, MayCome, TellsFault, TellsJournal}
+use Rattle.damon_app.specs.Replay.{IsBegun, IsDone, IsExpected, IsOfInput, MayCome, TellsFault, TellsJournal, report_of}
 use Rattle.damon_journal.specs.Aggregated.{aggregated}
 use Rattle.damon_journal.specs.Replayer.{Leads, ReplayerView}
 use Rattle.damon_journal.specs.Place.{JournalRead}
@@ -28,7 +27,7 @@ use Rattle.damon_app.specs.Verifying.{counts_line}
 
 -- the bytes of an input call for this text
 abbrev pub CallsFor : Request → List ℕ → List ℕ → Type 0
-CallsFor (Report form) bytes text = (s : ScriptValue) × (script_of bytes ≡ Ok s) × (report form s ≡ text)
+CallsFor (Report run) bytes text = (s : ScriptValue) × (script_of bytes ≡ Ok s) × (report_of run s ≡ text)
 CallsFor Verify bytes text = (counts : Lawful) × IsVerified bytes counts × (counts_line counts ≡ text)
 CallsFor (Heat columns) bytes text = (said : JournalRead) × IsRun bytes said × (heat_text columns said ≡ text)
 CallsFor (Generate n) bytes text = ⊥
@@ -81,11 +80,11 @@ IsRefused limit request source source' status = (sink : Ends) → IsOutcome limi
 
 -- the source was read to its end, and its bytes spell this script
 abbrev pub IsScriptTaken : ℕ → Ends → Ends → ScriptValue → Type 0
-IsScriptTaken limit source source' script = (form : Form) → IsTaken limit (Report form) source source' (report form script)
+IsScriptTaken limit source source' script = (run : Run) → IsTaken limit (Report run) source source' (report_of run script)
 
--- what a status says where no script was read, whatever the form of its report
+-- what a status says where no script was read, however it was to be run
 abbrev pub IsScriptRefused : ℕ → Ends → Ends → Status → Type 0
-IsScriptRefused limit source source' status = (form : Form) → IsRefused limit (Report form) source source' status
+IsScriptRefused limit source source' status = (run : Run) → IsRefused limit (Report run) source source' status
 
 -- the source was read to its end, and its bytes are the text of a lawful journal, of which the replay leads through these states
 pub record IsRunTaken (limit : ℕ) (source source' : Ends) (r : ReplayerView) : Type 0 where

@@ -1,3 +1,4 @@
+pub mod GoalWords
 pub mod Request
 pub mod StatusOf
 pub mod Parser

@@ -3,8 +3,9 @@ use Rattle.std.specs.Prelude.{◌≡◌, ◌⊎◌, ◌↔◌, ℕ, List, Option
 use Rattle.std.specs.Io.KnownBytes.{Appends}
 use Rattle.damon_control.specs.Script.{ScriptValue, script_of}
 use Rattle.damon_control.specs.declared.fault.ScriptFault.{ScriptFault}
-use Rattle.snapshot_print.specs.declared.form.Form.{Form}
 use Rattle.script_run.specs.Report.{report}
+use Rattle.reclaim_run.specs.Reclaimed.{reclaimed_report}
+use Rattle.tune_run.specs.Report.{tuned_report}
 use Rattle.damon_app.specs.Generated.{gen_text}
 use Rattle.damon_journal.specs.Reading.{read_journal}
 use Rattle.damon_journal.specs.Status.{IsFailure}
@@ -15,21 +16,29 @@ use Rattle.damon_app.specs.StatusOf.{status_of_input}
 use Rattle.damon_app.specs.Heating.{Heats, HeatsPrefix}
 use Rattle.damon_app.specs.Verifying.{counts_line}
 use Rattle.text_io.specs.Taken.{WritesPart}
+use Rattle.damon_app.specs.declared.request.Run.{Run}
+use Rattle.damon_app.specs.declared.request.Run.TheVariants.{Plain, Reclaim, Tune}
 use Rattle.damon_app.specs.declared.request.Request.{Request}
 use Rattle.damon_app.specs.declared.request.Request.TheVariants.{Report, Verify, Heat, Generate}
 use Rattle.damon_journal.specs.declared.status.Status.{Status}
 use Rattle.damon_journal.specs.declared.status.Status.TheVariants as statuses
 
--- The bytes spell a script, and the sink gained exactly its report in this form.
-pub record Replays (form : Form) (bytes : List ℕ) (old new : Option (List ℕ)) : Type 0 where
+-- the report of a script that is run like this: as it stands, over a model of resident pages, or with quotas that follow goals
+abbrev pub report_of : Run → ScriptValue → List ℕ
+report_of (Plain form) s = report form s
+report_of Reclaim s = reclaimed_report s
+report_of (Tune goals) s = tuned_report goals s
+
+-- The bytes spell a script, and the sink gained exactly its report, where it is run like this.
+pub record Replays (run : Run) (bytes : List ℕ) (old new : Option (List ℕ)) : Type 0 where
   pub script : ScriptValue
   pub spells : script_of bytes ≡ Ok script
-  pub report : Appends old new (report form script)
+  pub report : Appends old new (report_of run script)
 
--- the bytes spell a script, and the sink gained a prefix of its report in this form
-abbrev pub WritesPrefix : Form → List ℕ → Option (List ℕ) → Option (List ℕ) → Type 0
-WritesPrefix form bytes old new =
-    (s : ScriptValue) × (script_of bytes ≡ Ok s) × WritesPart old new (report form s)
+-- the bytes spell a script, and the sink gained a prefix of its report, where it is run like this
+abbrev pub WritesPrefix : Run → List ℕ → Option (List ℕ) → Option (List ℕ) → Type 0
+WritesPrefix run bytes old new =
+    (s : ScriptValue) × (script_of bytes ≡ Ok s) × WritesPart old new (report_of run s)
 
 -- The bytes are the text of a lawful journal, and the sink gained exactly the line of its counts.
 pub record Verifies (bytes : List ℕ) (old new : Option (List ℕ)) : Type 0 where
@@ -58,7 +67,7 @@ TellsJournal _ bytes old new = Unit {0}
 -- What was asked for was done, where `input` is what the source had and the sink went from `old` to `new`: the sink gained
 -- the report of the script that the input spells, the line of a journal's counts, its heat tables, or the line of the generated script.
 abbrev pub IsDone : Option Request → (input old new : Option (List ℕ)) → Type 0
-IsDone (Some (Report form)) input old new = IfSome input (λ bytes. Replays form bytes old new)
+IsDone (Some (Report run)) input old new = IfSome input (λ bytes. Replays run bytes old new)
 IsDone (Some Verify) input old new = IfSome input (λ bytes. WritesCounts old new)
 IsDone (Some (Heat columns)) input old new = IfSome input (λ bytes. WritesTables old new)
 IsDone (Some (Generate n)) input old new = Appends old new (gen_text n)
@@ -66,7 +75,7 @@ IsDone None input old new = ⊥
 
 -- The sink was left alone, which is `same`, or it gained a prefix of what was asked for.
 abbrev pub IsBegun : Option Request → Type 0 → (input old new : Option (List ℕ)) → Type 0
-IsBegun (Some (Report form)) same input old new = IfSome input (λ bytes. same ⊎ WritesPrefix form bytes old new)
+IsBegun (Some (Report run)) same input old new = IfSome input (λ bytes. same ⊎ WritesPrefix run bytes old new)
 IsBegun (Some Verify) same input old new = IfSome input (λ bytes. same ⊎ VerifiesPrefix bytes old new)
 IsBegun (Some (Heat columns)) same input old new = IfSome input (λ bytes. same ⊎ HeatsPrefix columns bytes old new)
 IsBegun (Some (Generate n)) same input old new = WritesPart old new (gen_text n)
@@ -81,7 +90,7 @@ IsOfInput request status limit input read write =
 -- bytes, the status of the input; for a generated run, in which no read can fail, `Ok`; for other words, where nothing is
 -- read or written, `Usage`.
 abbrev pub IsExpected : Option Request → Status → ℕ → Option (List ℕ) → Type 0 → Type 0 → Type 0
-IsExpected (Some (Report form)) status limit input read write = IsOfInput (Report form) status limit input read write
+IsExpected (Some (Report run)) status limit input read write = IsOfInput (Report run) status limit input read write
 IsExpected (Some Verify) status limit input read write = IsOfInput Verify status limit input read write
 IsExpected (Some (Heat columns)) status limit input read write = IsOfInput (Heat columns) status limit input read write
 IsExpected (Some (Generate n)) status limit input read write = (status ≡ statuses.Ok) ⊎ IsFailure status ⊥ write
@@ -89,7 +98,7 @@ IsExpected None status limit input read write = (status ≡ statuses.Usage) ⊎ 
 
 -- the status refuses the text exactly where the bytes have this fault of a script, or this first rejected line of a journal
 abbrev pub TellsFault : Option Request → Status → List ℕ → Type 0
-TellsFault (Some (Report form)) status bytes =
+TellsFault (Some (Report run)) status bytes =
     (fault : ScriptFault) → (status ≡ statuses.Script fault.line fault.kind) ↔ (script_of bytes ≡ Err fault)
 TellsFault (Some Verify) status bytes = (line : ℕ) → (status ≡ statuses.Unlawful line) ↔ (read_journal bytes ≡ Err line)
 TellsFault (Some (Heat columns)) status bytes = (line : ℕ) → (status ≡ statuses.Unlawful line) ↔ (read_journal bytes ≡ Err line)

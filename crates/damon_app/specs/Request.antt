@@ -5,17 +5,20 @@ use Rattle.std.specs.declared.alloc.Global.{Global}
 use Rattle.line_text.specs.Number.{number}
 use Rattle.script_lines.specs.Words.{same_word}
 use Rattle.snapshot_print.specs.declared.form.Form.TheVariants.{Text, Json}
+use Rattle.damon_app.specs.GoalWords.{goals_of}
 use Rattle.damon_app.specs.declared.request.Request.{Request}
 use Rattle.damon_app.specs.declared.request.Request.TheVariants.{Report, Verify, Heat, Generate}
+use Rattle.damon_app.specs.declared.request.Run.TheVariants.{Plain, Reclaim, Tune}
 use Rattle.damon_app.specs.declared.request.Columns.{Columns}
 use Rattle.damon_app.specs.declared.request.Columns.TheVariants.{Eight, Sixteen, SixtyFour}
 
--- what one word asks for: the report of a script in its form, or the check of a journal
+-- what one word asks for: the report of a script in its form, the check of a journal, or the run of a script with proactive reclaim
 abbrev pub asked_alone : List ℕ → Option Request
 asked_alone word =
-    if same_word word (codes "replay") then Some (Report Text)
-    else if same_word word (codes "json") then Some (Report Json)
+    if same_word word (codes "replay") then Some (Report (Plain Text))
+    else if same_word word (codes "json") then Some (Report (Plain Json))
     else if same_word word (codes "verify") then Some Verify
+    else if same_word word (codes "reclaim") then Some (Report Reclaim)
     else None
 
 -- the number of columns that a word says: `8`, `16` or `64`
@@ -34,12 +37,21 @@ asked_with word digits =
     else if same_word word (codes "heat") then option_map (λ c. Heat c) (columns_of digits)
     else None
 
--- what words ask for, each given by its bytes: `replay`, `json` or `verify` alone, or `gen N` or `heat N`, and nothing else
+-- what the words after `tune` ask for: 1 to 16 goals, for the run of a script with quotas that follow them
+abbrev pub asked_to_tune : List (List ℕ) → Option Request
+asked_to_tune words = option_map (λ goals. Report (Tune goals)) (goals_of words)
+
+-- what a word other than `tune` asks for, with the words after it
+abbrev pub asked_by : List ℕ → List (List ℕ) → Option Request
+asked_by word [] = asked_alone word
+asked_by word (digits ∷ []) = asked_with word digits
+asked_by word (digits ∷ more ∷ words) = None
+
+-- what words ask for, each given by its bytes: `replay`, `json`, `verify` or `reclaim` alone, `gen N`, `heat N`, or `tune` and goals,
+-- and nothing else
 abbrev pub request_of : List (List ℕ) → Option Request
 request_of [] = None
-request_of (word ∷ []) = asked_alone word
-request_of (word ∷ digits ∷ []) = asked_with word digits
-request_of (word ∷ digits ∷ more ∷ words) = None
+request_of (word ∷ words) = if same_word word (codes "tune") then asked_to_tune words else asked_by word words
 
 -- what the program's words ask for
 abbrev pub asked : List (String Global) → Option Request
@@ -47,7 +59,7 @@ asked words = request_of (map string_bytes words)
 
 -- a script is read for what was asked
 abbrev pub ReadsScript : Option Request → Type 0
-ReadsScript (Some (Report form)) = Unit {0}
+ReadsScript (Some (Report run)) = Unit {0}
 ReadsScript _ = ⊥
 
 -- the text of a journal is read for it
@@ -58,7 +70,7 @@ ReadsJournal _ = ⊥
 
 -- an input is read for it
 abbrev pub ReadsInput : Option Request → Type 0
-ReadsInput (Some (Report form)) = Unit {0}
+ReadsInput (Some (Report run)) = Unit {0}
 ReadsInput (Some Verify) = Unit {0}
 ReadsInput (Some (Heat columns)) = Unit {0}
 ReadsInput (Some (Generate n)) = ⊥

@@ -1,9 +1,14 @@
 -- What holds along each run of the program.
-use Rattle.std.specs.Prelude.{◌≡◌, ◌⊎◌, ℕ, List, Ok}
+use Rattle.std.specs.Prelude.{◌≡◌, ◌⊎◌, ℕ, List, Ok, Some}
 use Rattle.damon_control.specs.Script.{ScriptValue, script_of}
-use Rattle.script_run.specs.BoundAlong.{IsBoundAlong}
-use Rattle.script_run.specs.Choices.{ChoosesBestAlong}
+use Rattle.script_run.specs.BoundAlong.{IsBoundAlong, IsBoundWith}
+use Rattle.script_run.specs.Choices.{ChoosesBestAlong, ChoosesBestWith}
+use Rattle.quota_goal.specs.declared.goals.Goal.{Goal}
 use Rattle.trace_gen.specs.Gen.{gen}
+use Rattle.reclaim_run.specs.Along.{IsReclaimedRun}
+use Rattle.tune_run.specs.Along.{AreBelowTops, AreTunedWithin, AtEachEvent, FollowTheScore, PutsAreAccepted, StayBelowTops, StayWithTheScores, first_tuner}
+use Rattle.tune_run.specs.Callbacks.{tune_callbacks}
+use Rattle.damon_app.specs.GoalWords.{goals_of}
 
 -- a script that the program can be asked to run: the one that a text spells, or the generated one of a number
 abbrev pub CanRun : ScriptValue → Type 0
@@ -16,3 +21,30 @@ EachRunIsBound = (s : ScriptValue) → CanRun s → IsBoundAlong s
 -- each aggregation along each such script applies each active scheme to the best choice within what is left of its quota
 abbrev pub EachRunChoosesBest : Type 0
 EachRunChoosesBest = (s : ScriptValue) → CanRun s → ChoosesBestAlong s
+
+-- Each such script that is run over a model of resident pages: each state along its run is bound, and its pages are accounted for; each
+-- aggregation makes the best choices, and pages out, slot by slot, what is resident of the pages that a `pageout` scheme is applied to.
+abbrev pub EachRunIsAccounted : Type 0
+EachRunIsAccounted = (s : ScriptValue) → CanRun s → IsReclaimedRun s
+
+-- goals that the program can be asked to follow: those that words say
+abbrev pub CanFollow : List Goal → Type 0
+CanFollow goals = (words : List (List ℕ)) × (goals_of words ≡ Some goals)
+
+-- Along the run of the script with quotas that follow the goals: each state is bound, and each aggregation makes the best choices. Each
+-- commit that is put in is accepted. The bytes in force of a tunable slot are at most its top, at first and after each event. Directly
+-- after a slot was scored they lie between the bounds of its scored goals. Where it has one such goal they do not fall at a score below
+-- the target, and do not rise at or above it.
+pub record IsTunedRun (goals : List Goal) (s : ScriptValue) : Type 0 where
+  pub bound : IsBoundWith (tune_callbacks goals) s
+  pub choices : ChoosesBestWith (tune_callbacks goals) s
+  pub accepted : AtEachEvent goals s (PutsAreAccepted goals)
+  pub first : AreBelowTops (first_tuner goals s)
+  pub tops : AtEachEvent goals s (StayBelowTops goals)
+  pub bounds : AtEachEvent goals s (AreTunedWithin goals)
+  pub follow : AtEachEvent goals s (FollowTheScore goals)
+  pub stay : AtEachEvent goals s (StayWithTheScores goals)
+
+-- the same for each script that can be run, with all goals that words say
+abbrev pub EachRunFollowsGoals : Type 0
+EachRunFollowsGoals = (goals : List Goal) (s : ScriptValue) → CanFollow goals → CanRun s → IsTunedRun goals s

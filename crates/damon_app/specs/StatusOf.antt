@@ -21,7 +21,7 @@ status_of_journal (Err line) = statuses.Unlawful line
 
 -- the status of a text by what it is read for
 abbrev pub status_of_text : Request → List ℕ → Status
-status_of_text (Report form) bytes = status_of_spelled (script_of bytes)
+status_of_text (Report run) bytes = status_of_spelled (script_of bytes)
 status_of_text Verify bytes = status_of_journal (read_journal bytes)
 status_of_text (Heat columns) bytes = status_of_journal (read_journal bytes)
 status_of_text (Generate n) bytes = statuses.Ok

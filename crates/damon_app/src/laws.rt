@@ -1,6 +1,5 @@
 // What holds of all runs of the program. The functions do nothing.
-ghost use Rattle.std.specs.Prelude.{ℕ};
-ghost use Rattle.damon_app.specs.Runs.{EachRunChoosesBest, EachRunIsBound};
+ghost use Rattle.damon_app.specs.Runs.{EachRunChoosesBest, EachRunFollowsGoals, EachRunIsAccounted, EachRunIsBound};
 
 // The states along each run are bound.
 pub(crate) fn each_run_is_bound()
@@ -18,4 +17,24 @@ pub(crate) fn each_run_chooses_best()
     damon_control::scripts_are_sound();
     trace_gen::generated_scripts_are_sound();
     script_run::each_choice_is_best();
+}
+
+// Over a model of resident pages, each page is accounted for along each run.
+pub(crate) fn each_run_is_accounted()
+    ensures { EachRunIsAccounted }
+{
+    damon_control::scripts_are_sound();
+    trace_gen::generated_scripts_are_sound();
+    reclaim_run::each_reclaimed_run_is_accounted();
+}
+
+// With quotas that follow goals, the bytes of slots follow them along each run.
+pub(crate) fn each_run_follows_goals()
+    ensures { EachRunFollowsGoals }
+{
+    damon_control::scripts_are_sound();
+    trace_gen::generated_scripts_are_sound();
+    line_text::number_is_decimal();
+    tune_run::tuned_runs_are_bound();
+    tune_run::bytes_follow_their_goals();
 }

@@ -5,6 +5,8 @@
 mod command;
 /// The line of a lawful journal.
 mod counts;
+/// The goals of quotas that words say.
+mod goal_words;
 /// The heat tables of a journal.
 mod heat;
 /// What holds of all runs.
@@ -13,8 +15,10 @@ mod laws;
 mod replay;
 /// What the words after the program's name ask for.
 mod request;
+/// The run of a script.
+mod run;
 /// The line of a generated run.
 mod summary;
 
 pub use replay::replay_main;
-pub use request::{Columns, Request};
+pub use request::{Columns, Request, Run};

@@ -5,37 +5,38 @@ ghost use Rattle.damon_types.specs.Space.{pages_of};
 ghost use Rattle.script_lines.specs.Command.{work_of};
 ghost use Rattle.script_lines.specs.Limits.{AreCommandsWithin};
 ghost use Rattle.damon_control.specs.ScriptView.{said_by};
-ghost use Rattle.script_run.specs.Report.{report};
 ghost use Rattle.text_io.specs.Given.{GaveOver};
 ghost use Rattle.text_io.specs.Taken.{WritesPart};
 ghost use Rattle.damon_app.specs.Request.{ReadsInput, ReadsJournal, asked};
 ghost use Rattle.damon_app.specs.Generated.{gen_text};
-ghost use Rattle.damon_app.specs.Runs.{EachRunChoosesBest, EachRunIsBound};
+ghost use Rattle.damon_app.specs.Runs.{EachRunChoosesBest, EachRunFollowsGoals, EachRunIsAccounted, EachRunIsBound};
 ghost use Rattle.damon_journal.specs.Status.{EndsRun, IsRead, IsUnwritten, status_of};
 ghost use Rattle.damon_journal.specs.Verified.{IsOfNoLawfulRun};
 ghost use Rattle.damon_app.specs.Replay.{IsBegun, IsDone, IsExpected, MayCome, TellsFault, TellsJournal};
 ghost use Rattle.damon_app.specs.Answers.{IsAnswer, IsOutcome, IsRefused, IsScriptRefused, IsScriptTaken, IsTaken};
-ghost use Rattle.damon_app.specs.declared.request.Request.TheVariants.{Report as report_in, Verify as verify};
+ghost use Rattle.damon_app.specs.declared.request.Request.TheVariants.{Report as report_by, Verify as verify};
 
-use crate::Request;
 use crate::counts::make_line;
 use crate::heat::show_heat;
-use crate::laws::{each_run_chooses_best, each_run_is_bound};
+use crate::laws::{
+    each_run_chooses_best, each_run_follows_goals, each_run_is_accounted, each_run_is_bound,
+};
 use crate::request::read_request;
+use crate::run::write_report;
 use crate::summary::make_summary;
+use crate::{Request, Run};
 use damon_control::{MAX_WORK, Script, read_script};
 use damon_journal::{Status, rejected_texts_are_unlawful, verify};
 use damon_types::{Sink, Source};
-use script_run::{Filled, open_player};
-use snapshot_print::Form;
 use std::alloc::Global;
 use text_io::{INPUT_LIMIT, read_all, write_all};
 
 /// Does all of the program `damon`. For `replay` and `json` it reads a script to its end and writes the
-/// report of its run; for `verify` it reads the text of a journal to its end, checks it, and writes one
-/// line of its counts; for `heat N` it reads and checks such a text, replays its journal, and writes
-/// tables of N columns for each aggregation; for `gen N` it reads nothing, runs the generated script of N,
-/// and writes one line about the end of the run. It takes no lock and always returns.
+/// report of its run; for `reclaim` and `tune` it does the same with a run over a model of resident pages,
+/// and with a run whose byte quotas follow goals. For `verify` it reads the text of a journal to its end,
+/// checks it, and writes one line of its counts; for `heat N` it reads and checks such a text, replays its
+/// journal, and writes tables of N columns for each aggregation; for `gen N` it reads nothing, runs the
+/// generated script of N, and writes one line about the end of the run. It takes no lock and always returns.
 pub fn replay_main<S: Source, K: Sink>(
     alloc: Global,
     words: &[String],
@@ -55,6 +56,16 @@ pub fn replay_main<S: Source, K: Sink>(
     // within what is left of its quota, which is the best choice.
     ensures bound { EachRunIsBound }
     ensures choices { EachRunChoosesBest }
+
+    // The same holds of every script under `reclaim` and under `tune`. Under `reclaim` each page is resident
+    // or out, and out exactly since a `pageout` scheme was last applied to it; and an aggregation pages out
+    // what is resident of the pages that such a scheme is applied to.
+    ensures accounted { EachRunIsAccounted }
+
+    // Under `tune` the bytes of each tunable slot are at most what the script gave it, and directly after a
+    // score they lie between the bounds of the goals that were scored. Where it is one goal, they do not fall
+    // below its target, and do not rise at or above it.
+    ensures follows { EachRunFollowsGoals }
 
     // The status is the one that is expected, or a failure.
     ensures complete { IsExpected (asked words.now) result INPUT_LIMIT (S.left source.old)
@@ -83,6 +94,8 @@ pub fn replay_main<S: Source, K: Sink>(
     // For their clauses alone: what holds of every script, and that no lawful journal is rejected.
     each_run_is_bound();
     each_run_chooses_best();
+    each_run_is_accounted();
+    each_run_follows_goals();
     rejected_texts_are_unlawful();
     serve(alloc, words, source, sink)
 }
@@ -123,7 +136,7 @@ fn fulfil<S: Source, K: Sink>(
         (source.new ≡ source.old) (sink.new ≡ sink.old) result }
 {
     match request {
-        Request::Report { form } => status_of(replay(alloc, form, source, sink)),
+        Request::Report { run } => status_of(replay(alloc, run, source, sink)),
         Request::Verify => status_of(check_journal(alloc, source, sink)),
         Request::Heat { columns } => status_of(show_heat(alloc, columns, source, sink)),
         Request::Generate { number } => status_of(summarize(alloc, number, sink)),
@@ -140,14 +153,14 @@ fn status_of(done: Result<(), Status>) -> Status
     }
 }
 
-// Reads a script and writes its report.
+// Reads a script, runs it, and writes its report.
 fn replay<S: Source, K: Sink>(
     alloc: Global,
-    form: Form,
+    run: Run,
     source: &mut S,
     sink: &mut K,
 ) -> Result<(), Status>
-    ensures { IsOutcome INPUT_LIMIT (report_in form)
+    ensures { IsOutcome INPUT_LIMIT (report_by run)
         (record { bytes = S.left source.old; faults = S.faults source.old })
         (record { bytes = S.left source.new; faults = S.faults source.new })
         (record { bytes = K.taken sink.old; faults = K.faults sink.old })
@@ -155,7 +168,7 @@ fn replay<S: Source, K: Sink>(
         (sink.new ≡ sink.old) (status_of result) }
 {
     let script = take_script(alloc, source)?;
-    write_report(alloc, script, form, sink)?;
+    write_report(alloc, script, run, sink)?;
     Ok(())
 }
 
@@ -179,43 +192,6 @@ fn take_script<S: Source>(alloc: Global, source: &mut S) -> Result<Script, Statu
     let bytes = read_all(alloc, source)?;
     let script = read_script(alloc, &bytes)?;
     Ok(script)
-}
-
-// Plays a script, and hands its report to the sink a piece at a time.
-fn write_report<K: Sink>(
-    alloc: Global,
-    script: Script,
-    form: Form,
-    sink: &mut K,
-) -> Result<(), Status>
-    requires within { AreCommandsWithin (pages_of script.setup.space) script.commands.list }
-    requires work { work_of script.setup.cap script.commands.list ≤ MAX_WORK }
-
-    // The sink gained the report of the script.
-    ensures all { OnOk result
-        (Appends (K.taken sink.old) (K.taken sink.new) (report form (said_by script))) }
-
-    // Each failure.
-    ensures answers { IfErr result EndsRun }
-    ensures cause { IsErrOf result Status.WriteFault →
-        Rose (K.faults sink.old) (K.faults sink.new) }
-    ensures part { WritesPart (K.taken sink.old) (K.taken sink.new) (report form (said_by script)) }
-{
-    let mut player = open_player(alloc, script, form)?;
-    let mut piece = Vec::new(alloc);
-    'pieces: loop {
-        match player.fill(alloc, &mut piece)? {
-            Filled::Piece => {
-                write_all(sink, &piece)?;
-                piece.clear();
-            }
-            Filled::End => {
-                player.finish(alloc, &mut piece)?;
-                write_all(sink, &piece)?;
-                return Ok(());
-            }
-        }
-    }
 }
 
 // Reads the text of a journal, checks it, and hands the line of its counts to the sink.

@@ -1,21 +1,23 @@
-ghost use Rattle.std.specs.Prelude.{◌≡◌, ◌≢◌, IfOk, None, false};
+ghost use Rattle.std.specs.Prelude.{◌≡◌, ◌≢◌, IfOk, None, false, map};
+ghost use Rattle.std.specs.Option.{option_copied};
 ghost use Rattle.clap.specs.Words.{kind_of, subcommand_rows_of};
-ghost use Rattle.damon_app.specs.Parser.{begins_with_hyphen, has_option, number_found, request_found};
-ghost use Rattle.damon_app.specs.Request.{asked, asked_alone, asked_with, columns_of};
+ghost use Rattle.damon_app.specs.Parser.{begins_with_hyphen, by_number, has_option, request_found, words_found};
+ghost use Rattle.damon_app.specs.Request.{asked, asked_alone, asked_to_tune, asked_with, columns_of};
 
 use crate::command::make_command;
+use crate::goal_words::goals_of;
 use clap::error::ErrorKind;
 use clap::{ArgMatches, Error};
 use line_text::read_number;
+use quota_goal::Goals;
 use snapshot_print::Form;
 use std::alloc::{AllocError, Global};
 
 /// What the words after the program's name ask for.
-#[derive(Clone, Copy, Debug, PartialEq, Eq)]
+#[derive(Debug, Drop)]
 pub enum Request {
-    /// To read a script, to run it, and to write its report in a form: `replay` for lines of text, `json`
-    /// for JSON lines.
-    Report { form: Form },
+    /// To read a script, to run it, and to write its report.
+    Report { run: Run },
     /// To check the text of a journal, and to write a line of its counts: `verify`.
     Verify,
     /// To check the text of a journal, and to write its heat tables with this number of columns for each
@@ -24,6 +26,17 @@ pub enum Request {
     /// To run the generated script of a number, and to write a line about it: `gen N`. Nothing is
     /// read.
     Generate { number: u64 },
+}
+
+/// How a script is run.
+#[derive(Debug, Drop)]
+pub enum Run {
+    /// As it stands, with its report in a form: `replay` for lines of text, `json` for JSON lines.
+    Plain { form: Form },
+    /// Over a model of resident pages: `reclaim`.
+    Reclaim,
+    /// With quotas that follow 1 to 16 goals: `tune GOALS`.
+    Tune { goals: Goals },
 }
 
 /// The columns of a heat table.
@@ -92,13 +105,33 @@ fn refusal(error: &Error) -> Result<Option<Request>, AllocError>
 
 // What the subcommand asks for that was found.
 fn request_in(matches: &ArgMatches) -> Option<Request>
-    ensures { result ≡ request_found (number_found (subcommand_rows_of matches.now)) }
+    ensures { result ≡ request_found (words_found (subcommand_rows_of matches.now)) }
 {
     let (name, found) = matches.subcommand()?;
-    match found.get_str("number") {
+    match found.get_strs("goals") {
+        Some(words) => asked_to_tune(words),
+        None => asked_by_number(name, found.get_str("number")),
+    }
+}
+
+// What a subcommand without goals asks for, with a number or without.
+fn asked_by_number(name: &str, number: Option<&str>) -> Option<Request>
+    ensures { result ≡ by_number name.now (option_copied number.entry) }
+{
+    match number {
         Some(number) => asked_with(name.as_bytes(), number.as_bytes()),
         None => asked_alone(name.as_bytes()),
     }
+}
+
+// What the words after `tune` ask for.
+fn asked_to_tune(words: &[&str]) -> Option<Request>
+    ensures { result ≡ asked_to_tune (map (λ word. word.now) words.now) }
+{
+    let goals = goals_of(words)?;
+    Some(Request::Report {
+        run: Run::Tune { goals },
+    })
 }
 
 // What one word asks for.
@@ -106,11 +139,17 @@ fn asked_alone(word: &[u8]) -> Option<Request>
     ensures { result ≡ asked_alone word.now }
 {
     if word == b"replay".as_slice() {
-        Some(Request::Report { form: Form::Text })
+        Some(Request::Report {
+            run: Run::Plain { form: Form::Text },
+        })
     } else if word == b"json".as_slice() {
-        Some(Request::Report { form: Form::Json })
+        Some(Request::Report {
+            run: Run::Plain { form: Form::Json },
+        })
     } else if word == b"verify".as_slice() {
         Some(Request::Verify)
+    } else if word == b"reclaim".as_slice() {
+        Some(Request::Report { run: Run::Reclaim })
     } else {
         None
     }

@@ -1,26 +1,14 @@
-use Rattle.std.proofs.Common.{rules, ap, ap₂, codes, true, ◌≡◌, ◌∙◌}
+use Rattle.std.proofs.Common.{ap, ap₂, codes, ◌∙◌}
 use Rattle.std.proofs.lemmas.Result.{IfOk-weaker}
-use Rattle.clap.specs.Simple.{app_of_fields, on_top}
-use Rattle.clap.specs.Words.{App, app_of, new_app, rule_of, with_rule, with_subcommand}
-use Rattle.damon_app.specs.Parser.{generate_shape, number_rule, top_app}
+use Rattle.clap.specs.Words.{App, Rule, new_app, with_rule, with_subcommand}
 use Rattle.damon_app.proofs.command.make_command.Goals as goal
 
 pub returns : goal.returns
 returns c =
-    let gen_is : app_of c.in_ok-generate.generate ≡ with_rule (new_app (codes "gen")) number_rule = c.in_ok-generate.ensures.shape c.number_argument.ensures.local ∙ ap₂ with_rule c.new.ensures.app c.number_argument.ensures.rule in
-    let heat_is : app_of c.in_ok-heat.heat ≡ with_rule (new_app (codes "heat")) number_rule = c.in_ok-heat.ensures.shape c.number_argument-2.ensures.local ∙ ap₂ with_rule c.new-2.ensures.app c.number_argument-2.ensures.rule in
-    let top_is : app_of c.subcommand_required.result ≡ top_app =
-    ap app_of_fields c.subcommand_required.ensures
-    ∙ ap (λ f. app_of_fields (record f { subcommand_required = true })) c.disable_help_subcommand.ensures
-    ∙ ap (λ f. app_of_fields (record f { disable_help_subcommand = true; subcommand_required = true })) c.disable_help_flag.ensures
-    ∙ ap (λ f. app_of_fields (record f { disable_help_flag = true; disable_help_subcommand = true; subcommand_required = true })) c.no_binary_name.ensures
-    ∙ ap (on_top (λ s. record s { no_binary_name = true; disable_help_flag = true; disable_help_subcommand = true; subcommand_required = true })) c.new-3.ensures.app in
-    let replay_is : app_of c.in_ok-subcommand.field-0 ≡ with_subcommand top_app (new_app (codes "replay")).top = c.in_ok-subcommand.ensures.shape c.new-replay.ensures.local
-    ∙ ap₂ with_subcommand top_is (ap (λ (a : App). a.top) c.new-replay.ensures.app) in
-    let json_is : app_of c.in_ok-subcommand-2.field-0 ≡ with_subcommand (with_subcommand top_app (new_app (codes "replay")).top) (new_app (codes "json")).top = c.in_ok-subcommand-2.ensures.shape c.new-json.ensures.local
-    ∙ ap₂ with_subcommand replay_is (ap (λ (a : App). a.top) c.new-json.ensures.app) in
-    let verify_is : app_of c.in_ok-subcommand-3.field-0 ≡ with_subcommand (with_subcommand (with_subcommand top_app (new_app (codes "replay")).top) (new_app (codes "json")).top) (new_app (codes "verify")).top = c.in_ok-subcommand-3.ensures.shape c.new-verify.ensures.local
-    ∙ ap₂ with_subcommand json_is (ap (λ (a : App). a.top) c.new-verify.ensures.app) in
-    let gen_in : app_of c.in_ok-subcommand-4.field-0 ≡ with_subcommand (with_subcommand (with_subcommand (with_subcommand top_app (new_app (codes "replay")).top) (new_app (codes "json")).top) (new_app (codes "verify")).top) generate_shape = c.in_ok-subcommand-4.ensures.shape (search rules)
-    ∙ ap₂ with_subcommand verify_is (ap (λ (a : App). a.top) gen_is) in
-    IfOk-weaker c.subcommand-5.result _ _ (λ r h. h.shape (search rules) ∙ ap₂ with_subcommand gen_in (ap (λ (a : App). a.top) heat_is)) c.subcommand-5.ensures
+    let replay_in = c.in_ok-command.ensures ∙ ap (λ (a : App). with_subcommand a (new_app (codes "replay")).top) c.top_command.ensures in
+    let json_in = c.in_ok-command-2.ensures ∙ ap (λ (a : App). with_subcommand a (new_app (codes "json")).top) replay_in in
+    let verify_in = c.in_ok-command-3.ensures ∙ ap (λ (a : App). with_subcommand a (new_app (codes "verify")).top) json_in in
+    let gen_in = c.in_ok-command-4.ensures ∙ ap₂ (λ (a : App) (r : Rule). with_subcommand a (with_rule (new_app (codes "gen")) r).top) verify_in c.number_argument.ensures.rule in
+    let heat_in = c.in_ok-command-5.ensures ∙ ap₂ (λ (a : App) (r : Rule). with_subcommand a (with_rule (new_app (codes "heat")) r).top) gen_in c.number_argument-2.ensures.rule in
+    let tune_in = c.in_ok-command-6.ensures ∙ ap₂ (λ (a : App) (r : Rule). with_subcommand a (with_rule (new_app (codes "tune")) r).top) heat_in c.goals_argument.ensures.rule in
+    IfOk-weaker c.add_alone-4.result _ _ (λ r h. h ∙ ap (λ (a : App). with_subcommand a (new_app (codes "reclaim")).top) tune_in) c.add_alone-4.ensures

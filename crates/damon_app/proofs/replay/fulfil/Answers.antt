@@ -6,7 +6,7 @@ use Rattle.damon_app.proofs.replay.fulfil.Goals as goal
 pub returns-in-Report : goal.returns-in-Report
 returns-in-Report g c =
     rw (c.in-Report.is, c.status_of.ensures)
-    (reported INPUT_LIMIT c.in-Report.form
+    (reported INPUT_LIMIT c.in-Report.run'
     (record { bytes = g.S.Source.left c.args.source.now; faults = g.S.Source.faults c.args.source.now })
     (record { bytes = g.S.Source.left c.replay.new.source; faults = g.S.Source.faults c.replay.new.source })
     (record { bytes = g.K.Sink.taken c.args.sink.now; faults = g.K.Sink.faults c.args.sink.now })

@@ -12,7 +12,7 @@ pub returns-in_err-bytes-clause-refused : goal.returns-in_err-bytes-clause-refus
 returns-in_err-bytes-clause-refused g c =
     let p = err_from_is_err_and c.from_residual.result c.from_residual.ensures.1 in
     let failed = c.in_err-bytes.ensures in
-    rw (p.1, p.2) (λ form sink. not_read INPUT_LIMIT (Report form)
+    rw (p.1, p.2) (λ run sink. not_read INPUT_LIMIT (Report run)
     (record { bytes = g.S.Source.left c.args.source.now; faults = g.S.Source.faults c.args.source.now })
     (record { bytes = g.S.Source.left c.read_all.new.source; faults = g.S.Source.faults c.read_all.new.source })
     sink sink (Unit {0}) c.in_err-bytes.field-0.0 tt
@@ -22,7 +22,7 @@ pub returns-in_err-script-clause-refused : goal.returns-in_err-script-clause-ref
 returns-in_err-script-clause-refused g c =
     let p = err_from_is_err_and c.from_residual-in_err-script.result c.from_residual-in_err-script.ensures.1 in
     let read = c.in_ok-bytes.ensures in
-    rw (p.1, p.2) (λ form sink. not_spelled INPUT_LIMIT (Report form)
+    rw (p.1, p.2) (λ run sink. not_spelled INPUT_LIMIT (Report run)
     (record { bytes = g.S.Source.left c.args.source.now; faults = g.S.Source.faults c.args.source.now })
     (record { bytes = g.S.Source.left c.read_all.new.source; faults = g.S.Source.faults c.read_all.new.source })
     sink sink (Unit {0}) c.in_ok-bytes.bytes.items read.all read.end read.limit c.in_err-script.field-0.0 tt
@@ -32,7 +32,7 @@ pub returns-clause-taken : goal.returns-clause-taken
 returns-clause-taken g c =
     let read = c.in_ok-bytes.ensures in
     let spells : script_of c.in_ok-bytes.bytes.items ≡ Ok (said_by c.in_ok-script.script) = ap script_of (sym c.deref.ensures.value) ∙ c.in_ok-script.ensures.script in
-    λ form. record {
+    λ run. record {
       bytes = c.in_ok-bytes.bytes.items;
       all = read.all;
       end = read.end;

@@ -8,12 +8,12 @@ use Rattle.damon_control.specs.ScriptView.{said_by}
 use Rattle.text_io.specs.Taken.{WritesPart}
 use Rattle.damon_app.proofs.Known.{WritesPart-after, WritesPart-whole}
 use Rattle.damon_app.proofs.Playing.{way-ended, way-filled, way-part}
-use Rattle.damon_app.proofs.replay.write_report.Goals as goal
+use Rattle.damon_app.proofs.run.write_played.Goals as goal
 
 pub returns-in_err-fill-clause-part : goal.returns-in_err-fill-clause-part
 returns-in_err-fill-clause-part g c =
     let said = c.pieces.invariant.said in
-    way-part (stream_of (steps_u32 pcg32)) (said_by c.args.script) c.args.form c.pieces.player said.0 _ _ said.1 (WritesPart-whole _ _ said.0 said.2)
+    way-part (stream_of (steps_u32 pcg32)) g.C.Callbacks.callbacks g.C.Callbacks.stands_for (said_by c.args.script) c.args.form c.pieces.player said.0 _ _ said.1 (WritesPart-whole _ _ said.0 said.2)
 
 pub returns-in_err-write_all-in-Piece-clause-part : goal.returns-in_err-write_all-in-Piece-clause-part
 returns-in_err-write_all-in-Piece-clause-part g c =
@@ -21,8 +21,8 @@ returns-in_err-write_all-in-Piece-clause-part g c =
     let taken = g.K.Sink.taken in
     let said = c.pieces.invariant.said in
     let text = c.fill.new.out.items in
-    let way = way-filled stream (said_by c.args.script) c.args.form c.pieces.player c.fill.new.self said.0 _ text c.pieces.invariant.empty said.1 c.in_ok-fill.ensures.on in
-    way-part stream (said_by c.args.script) c.args.form c.fill.new.self (said.0 ++ text) _ _ way
+    let way = way-filled stream g.C.Callbacks.callbacks g.C.Callbacks.stands_for (said_by c.args.script) c.args.form c.pieces.player c.fill.new.self said.0 _ text c.pieces.invariant.empty said.1 c.in_ok-fill.ensures.on in
+    way-part stream g.C.Callbacks.callbacks g.C.Callbacks.stands_for (said_by c.args.script) c.args.form c.fill.new.self (said.0 ++ text) _ _ way
     (WritesPart-after (taken c.args.sink.now) (taken c.pieces.sink) (taken c.write_all.new.sink) said.0 text said.2
     (subst (WritesPart (taken c.pieces.sink) (taken c.write_all.new.sink)) c.deref.ensures.value c.in_err-write_all-in-Piece.ensures.part))
 
@@ -32,7 +32,7 @@ pieces-preserved g c =
     let taken = g.K.Sink.taken in
     let said = c.pieces.invariant.said in
     let text = c.fill.new.out.items in
-    let way = way-filled stream (said_by c.args.script) c.args.form c.pieces.player c.fill.new.self said.0 _ text c.pieces.invariant.empty said.1 c.in_ok-fill.ensures.on in
+    let way = way-filled stream g.C.Callbacks.callbacks g.C.Callbacks.stands_for (said_by c.args.script) c.args.form c.pieces.player c.fill.new.self said.0 _ text c.pieces.invariant.empty said.1 c.in_ok-fill.ensures.on in
     record {
       said = (
         said.0 ++ text,
@@ -47,7 +47,7 @@ pieces-preserved g c =
 pub returns-in_err-finish-in-End-clause-part : goal.returns-in_err-finish-in-End-clause-part
 returns-in_err-finish-in-End-clause-part g c =
     let said = c.pieces.invariant.said in
-    way-part (stream_of (steps_u32 pcg32)) (said_by c.args.script) c.args.form c.pieces.player said.0 _ _ said.1 (WritesPart-whole _ _ said.0 said.2)
+    way-part (stream_of (steps_u32 pcg32)) g.C.Callbacks.callbacks g.C.Callbacks.stands_for (said_by c.args.script) c.args.form c.pieces.player said.0 _ _ said.1 (WritesPart-whole _ _ said.0 said.2)
 
 pub returns-in_err-write_all-in-End-clause-part : goal.returns-in_err-write_all-in-End-clause-part
 returns-in_err-write_all-in-End-clause-part g c =
@@ -57,9 +57,9 @@ returns-in_err-write_all-in-End-clause-part g c =
     let said = c.pieces.invariant.said in
     let text = c.fill.new.out.items in
     let last = c.finish.new.out.items in
-    let way = way-filled stream s c.args.form c.pieces.player c.fill.new.self said.0 _ text c.pieces.invariant.empty said.1 c.in_ok-fill.ensures.on in
+    let way = way-filled stream g.C.Callbacks.callbacks g.C.Callbacks.stands_for s c.args.form c.pieces.player c.fill.new.self said.0 _ text c.pieces.invariant.empty said.1 c.in_ok-fill.ensures.on in
     let over = c.in_ok-fill.ensures.end (ap (λ f. Ok f) c.in-End.is) in
-    let ended = way-ended stream s c.args.form c.fill.new.self said.0 text last way over c.in_ok-finish-in-End.ensures.last in
+    let ended = way-ended stream g.C.Callbacks.callbacks g.C.Callbacks.stands_for s c.args.form c.fill.new.self said.0 text last way over c.in_ok-finish-in-End.ensures.last in
     subst (WritesPart (taken c.args.sink.now) (taken c.write_all-in-End.new.sink)) ended
     (WritesPart-after (taken c.args.sink.now) (taken c.pieces.sink) (taken c.write_all-in-End.new.sink) said.0 last said.2
     (subst (WritesPart (taken c.pieces.sink) (taken c.write_all-in-End.new.sink)) c.deref-in-End.ensures.value c.in_err-write_all-in-End.ensures.part))
@@ -72,9 +72,9 @@ returns-in-End-clause-all g c =
     let said = c.pieces.invariant.said in
     let text = c.fill.new.out.items in
     let last = c.finish.new.out.items in
-    let way = way-filled stream s c.args.form c.pieces.player c.fill.new.self said.0 _ text c.pieces.invariant.empty said.1 c.in_ok-fill.ensures.on in
+    let way = way-filled stream g.C.Callbacks.callbacks g.C.Callbacks.stands_for s c.args.form c.pieces.player c.fill.new.self said.0 _ text c.pieces.invariant.empty said.1 c.in_ok-fill.ensures.on in
     let over = c.in_ok-fill.ensures.end (ap (λ f. Ok f) c.in-End.is) in
-    let ended = way-ended stream s c.args.form c.fill.new.self said.0 text last way over c.in_ok-finish-in-End.ensures.last in
+    let ended = way-ended stream g.C.Callbacks.callbacks g.C.Callbacks.stands_for s c.args.form c.fill.new.self said.0 text last way over c.in_ok-finish-in-End.ensures.last in
     subst (Appends (taken c.args.sink.now) (taken c.write_all-in-End.new.sink)) ended
     (Appends-trans (taken c.args.sink.now) (taken c.pieces.sink) (taken c.write_all-in-End.new.sink) said.0 last said.2
     (subst (Appends (taken c.pieces.sink) (taken c.write_all-in-End.new.sink)) c.deref-in-End.ensures.value c.in_ok-write_all-in-End.ensures.all))

@@ -4,13 +4,13 @@ use Rattle.rand_core.specs.Steps.{stream_of, steps_u32}
 use Rattle.rand_pcg.specs.Pcg.{pcg32}
 use Rattle.damon_control.specs.ScriptView.{said_by}
 use Rattle.script_run.specs.Player.{left_moves}
-use Rattle.script_run.specs.Way.{IsOnItsWay}
-use Rattle.damon_app.proofs.replay.write_report.Given as goal
+use Rattle.script_run.specs.Way.{IsOnItsWayWith}
+use Rattle.damon_app.proofs.run.write_played.Given as goal
 
 -- the sink took the text of the events that the player made, and the piece is empty
 abbrev pub invariant-pieces : goal.invariant-pieces
 invariant-pieces g l = record {
-  said : (written : List ℕ) × IsOnItsWay (stream_of (steps_u32 pcg32)) (said_by l.fn.script) l.fn.form l.player written × Appends (g.K.Sink.taken l.fn.sink) (g.K.Sink.taken l.sink) written;
+  said : (written : List ℕ) × IsOnItsWayWith (stream_of (steps_u32 pcg32)) g.C.Callbacks.callbacks g.C.Callbacks.stands_for (said_by l.fn.script) l.fn.form l.player written × Appends (g.K.Sink.taken l.fn.sink) (g.K.Sink.taken l.sink) written;
   empty : l.piece.items ≡ [];
   later : g.K.Sink.faults l.fn.sink ≤ g.K.Sink.faults l.sink;
 }
