@@ -28,10 +28,10 @@ use Rattle.quota_goal.specs.declared.goals.TheConstants.{MAX_GOALS}
 use Rattle.damon_app.specs.GoalWords.{◌>>=◌, goal_in, goal_of, goals_in}
 use Rattle.damon_app.specs.Parser.{Found, begins_with_hyphen, by_goals, damon_app, has_option, request_found, words_found}
 use Rattle.damon_app.specs.declared.request.Request.{Request}
-use Rattle.damon_app.specs.declared.request.Request.TheVariants.{Report, Verify, Heat}
+use Rattle.damon_app.specs.declared.request.Request.TheVariants.{Report, Verify}
 use Rattle.damon_app.specs.declared.request.Run.TheVariants.{Plain, Reclaim}
 use Rattle.snapshot_print.specs.declared.form.Form.TheVariants.{Text as TextForm, Json as JsonForm}
-use Rattle.damon_app.specs.Request.{asked, asked_alone, asked_by, asked_to_tune, asked_with, columns_of, request_of}
+use Rattle.damon_app.specs.Request.{asked, asked_alone, asked_by, asked_to_tune, asked_with, request_of}
 use Rattle.damon_app.proofs.Walking.{ArePlain, IsPlainWord, built_app, sub_fails}
 use Rattle.damon_app.proofs.WalkingGoals.{goals_fail, goals_found, goals_pass}
 
