@@ -18,7 +18,7 @@ use Rattle.clap.specs.declared.error.Error.{Error}
 use Rattle.clap.specs.declared.parser.matches.ArgMatches.{ArgMatches}
 use Rattle.clap.specs.declared.parser.matches.ArgMatches.TheViews.{out-ArgMatches, out-SubCommand}
 use Rattle.clap.specs.Words.{kind_of, subcommand_name_of, subcommand_rows, subcommand_rows_of}
-use Rattle.clap.specs.Faults.{entered_fault, fault_of, is_simple_and_free}
+use Rattle.clap.specs.Faults.{fault_of, is_simple_and_free}
 use Rattle.clap.specs.Kinds.{HasKind, IsAmong, Kinds}
 use Rattle.clap.specs.Simple.{is_simple, subcommand_of}
 use Rattle.clap.specs.Walk.{Row, Text, all_of, first_of}
@@ -28,11 +28,12 @@ use Rattle.quota_goal.specs.declared.goals.TheConstants.{MAX_GOALS}
 use Rattle.damon_app.specs.GoalWords.{◌>>=◌, goal_in, goal_of, goals_in}
 use Rattle.damon_app.specs.Parser.{Found, begins_with_hyphen, by_goals, damon_app, has_option, request_found, words_found}
 use Rattle.damon_app.specs.declared.request.Request.{Request}
-use Rattle.damon_app.specs.declared.request.Request.TheVariants.{Report, Verify, Heat}
+use Rattle.damon_app.specs.declared.request.Request.TheVariants.{Report, Verify}
 use Rattle.damon_app.specs.declared.request.Run.TheVariants.{Plain, Reclaim}
 use Rattle.snapshot_print.specs.declared.form.Form.TheVariants.{Text as TextForm, Json as JsonForm}
-use Rattle.damon_app.specs.Request.{asked, asked_alone, asked_by, asked_to_tune, asked_with, columns_of, request_of}
-use Rattle.damon_app.proofs.Walking.{ArePlain, IsPlainWord, built_app, sub_fails}
+use Rattle.damon_app.specs.Request.{asked, asked_alone, asked_by, asked_to_tune, asked_with, request_of}
+use Rattle.damon_app.proofs.TooManyWords.{gen_fails, heat_fails, json_fails, reclaim_fails, replay_fails, verify_fails}
+use Rattle.damon_app.proofs.Walking.{ArePlain, IsPlainWord}
 use Rattle.damon_app.proofs.WalkingGoals.{goals_fail, goals_found, goals_pass}
 
 pub free : is_simple_and_free damon_app ≡ true
@@ -71,115 +72,6 @@ module _ (c : ℕ) (cs : List ℕ) (dash : (c == 45) ≡ false) where
   heat_finds : words_found (subcommand_of damon_app (codes "heat" ∷ (c ∷ cs) ∷ [])) ≡ Some (numbered (codes "heat") (c ∷ cs))
   unfolding clap_on_literals
   heat_finds = rw (dash, dash) refl
-
--- ---- words after a subcommand
-
--- one word more than the subcommand takes
-replay_more : (c : ℕ) (cs : List ℕ) (ws : List Text) → (c == 45) ≡ false → entered_fault built_app (Some (codes "replay", (c ∷ cs) ∷ ws)) ≡ kind.UnknownArgument ∷ []
-unfolding clap_on_literals
-replay_more c cs ws dash = rw (dash, dash) refl
-
-replay_empty : (ws : List Text) → entered_fault built_app (Some (codes "replay", [] ∷ ws)) ≡ kind.UnknownArgument ∷ []
-unfolding clap_on_literals
-replay_empty ws = refl
-
-replay_fails : (x : Text) (ws : List Text) → IsPlainWord x → fault_of damon_app (codes "replay" ∷ x ∷ ws) ≡ kind.UnknownArgument ∷ []
-unfolding clap_on_literals
-replay_fails [] ws dash = sub_fails (codes "replay") ([] ∷ ws) kind.UnknownArgument [] refl refl (replay_empty ws)
-replay_fails (c ∷ cs) ws dash = sub_fails (codes "replay") ((c ∷ cs) ∷ ws) kind.UnknownArgument [] refl refl (replay_more c cs ws dash)
-
-json_more : (c : ℕ) (cs : List ℕ) (ws : List Text) → (c == 45) ≡ false → entered_fault built_app (Some (codes "json", (c ∷ cs) ∷ ws)) ≡ kind.UnknownArgument ∷ []
-unfolding clap_on_literals
-json_more c cs ws dash = rw (dash, dash) refl
-
-json_empty : (ws : List Text) → entered_fault built_app (Some (codes "json", [] ∷ ws)) ≡ kind.UnknownArgument ∷ []
-unfolding clap_on_literals
-json_empty ws = refl
-
-json_fails : (x : Text) (ws : List Text) → IsPlainWord x → fault_of damon_app (codes "json" ∷ x ∷ ws) ≡ kind.UnknownArgument ∷ []
-unfolding clap_on_literals
-json_fails [] ws dash = sub_fails (codes "json") ([] ∷ ws) kind.UnknownArgument [] refl refl (json_empty ws)
-json_fails (c ∷ cs) ws dash = sub_fails (codes "json") ((c ∷ cs) ∷ ws) kind.UnknownArgument [] refl refl (json_more c cs ws dash)
-
-verify_more : (c : ℕ) (cs : List ℕ) (ws : List Text) → (c == 45) ≡ false → entered_fault built_app (Some (codes "verify", (c ∷ cs) ∷ ws)) ≡ kind.UnknownArgument ∷ []
-unfolding clap_on_literals
-verify_more c cs ws dash = rw (dash, dash) refl
-
-verify_empty : (ws : List Text) → entered_fault built_app (Some (codes "verify", [] ∷ ws)) ≡ kind.UnknownArgument ∷ []
-unfolding clap_on_literals
-verify_empty ws = refl
-
-verify_fails : (x : Text) (ws : List Text) → IsPlainWord x → fault_of damon_app (codes "verify" ∷ x ∷ ws) ≡ kind.UnknownArgument ∷ []
-unfolding clap_on_literals
-verify_fails [] ws dash = sub_fails (codes "verify") ([] ∷ ws) kind.UnknownArgument [] refl refl (verify_empty ws)
-verify_fails (c ∷ cs) ws dash = sub_fails (codes "verify") ((c ∷ cs) ∷ ws) kind.UnknownArgument [] refl refl (verify_more c cs ws dash)
-
-reclaim_more : (c : ℕ) (cs : List ℕ) (ws : List Text) → (c == 45) ≡ false → entered_fault built_app (Some (codes "reclaim", (c ∷ cs) ∷ ws)) ≡ kind.UnknownArgument ∷ []
-unfolding clap_on_literals
-reclaim_more c cs ws dash = rw (dash, dash) refl
-
-reclaim_empty : (ws : List Text) → entered_fault built_app (Some (codes "reclaim", [] ∷ ws)) ≡ kind.UnknownArgument ∷ []
-unfolding clap_on_literals
-reclaim_empty ws = refl
-
-reclaim_fails : (x : Text) (ws : List Text) → IsPlainWord x → fault_of damon_app (codes "reclaim" ∷ x ∷ ws) ≡ kind.UnknownArgument ∷ []
-unfolding clap_on_literals
-reclaim_fails [] ws dash = sub_fails (codes "reclaim") ([] ∷ ws) kind.UnknownArgument [] refl refl (reclaim_empty ws)
-reclaim_fails (c ∷ cs) ws dash = sub_fails (codes "reclaim") ((c ∷ cs) ∷ ws) kind.UnknownArgument [] refl refl (reclaim_more c cs ws dash)
-
--- two numbers
-gen_more : (c d : ℕ) (cs ds : List ℕ) (ws : List Text) → (c == 45) ≡ false → (d == 45) ≡ false → entered_fault built_app (Some (codes "gen", (c ∷ cs) ∷ (d ∷ ds) ∷ ws)) ≡ kind.UnknownArgument ∷ []
-unfolding clap_on_literals
-gen_more c d cs ds ws dash dash' = rw (dash, dash, dash', dash') refl
-
-gen_empty_more : (d : ℕ) (ds : List ℕ) (ws : List Text) → (d == 45) ≡ false → entered_fault built_app (Some (codes "gen", [] ∷ (d ∷ ds) ∷ ws)) ≡ kind.UnknownArgument ∷ []
-unfolding clap_on_literals
-gen_empty_more d ds ws dash = rw (dash, dash) refl
-
-gen_more_empty : (c : ℕ) (cs : List ℕ) (ws : List Text) → (c == 45) ≡ false → entered_fault built_app (Some (codes "gen", (c ∷ cs) ∷ [] ∷ ws)) ≡ kind.UnknownArgument ∷ []
-unfolding clap_on_literals
-gen_more_empty c cs ws dash = rw (dash, dash) refl
-
-gen_empty_empty : (ws : List Text) → entered_fault built_app (Some (codes "gen", [] ∷ [] ∷ ws)) ≡ kind.UnknownArgument ∷ []
-unfolding clap_on_literals
-gen_empty_empty ws = refl
-
-gen_below : (x y : Text) (ws : List Text) → IsPlainWord x → IsPlainWord y → entered_fault built_app (Some (codes "gen", x ∷ y ∷ ws)) ≡ kind.UnknownArgument ∷ []
-gen_below [] [] ws p q = gen_empty_empty ws
-gen_below [] (d ∷ ds) ws p q = gen_empty_more d ds ws q
-gen_below (c ∷ cs) [] ws p q = gen_more_empty c cs ws p
-gen_below (c ∷ cs) (d ∷ ds) ws p q = gen_more c d cs ds ws p q
-
-gen_fails : (x y : Text) (ws : List Text) → IsPlainWord x → IsPlainWord y → fault_of damon_app (codes "gen" ∷ x ∷ y ∷ ws) ≡ kind.UnknownArgument ∷ []
-unfolding clap_on_literals
-gen_fails x y ws p q = sub_fails (codes "gen") (x ∷ y ∷ ws) kind.UnknownArgument [] refl refl (gen_below x y ws p q)
-
--- the same of `heat`
-heat_more : (c d : ℕ) (cs ds : List ℕ) (ws : List Text) → (c == 45) ≡ false → (d == 45) ≡ false → entered_fault built_app (Some (codes "heat", (c ∷ cs) ∷ (d ∷ ds) ∷ ws)) ≡ kind.UnknownArgument ∷ []
-unfolding clap_on_literals
-heat_more c d cs ds ws dash dash' = rw (dash, dash, dash', dash') refl
-
-heat_empty_more : (d : ℕ) (ds : List ℕ) (ws : List Text) → (d == 45) ≡ false → entered_fault built_app (Some (codes "heat", [] ∷ (d ∷ ds) ∷ ws)) ≡ kind.UnknownArgument ∷ []
-unfolding clap_on_literals
-heat_empty_more d ds ws dash = rw (dash, dash) refl
-
-heat_more_empty : (c : ℕ) (cs : List ℕ) (ws : List Text) → (c == 45) ≡ false → entered_fault built_app (Some (codes "heat", (c ∷ cs) ∷ [] ∷ ws)) ≡ kind.UnknownArgument ∷ []
-unfolding clap_on_literals
-heat_more_empty c cs ws dash = rw (dash, dash) refl
-
-heat_empty_empty : (ws : List Text) → entered_fault built_app (Some (codes "heat", [] ∷ [] ∷ ws)) ≡ kind.UnknownArgument ∷ []
-unfolding clap_on_literals
-heat_empty_empty ws = refl
-
-heat_below : (x y : Text) (ws : List Text) → IsPlainWord x → IsPlainWord y → entered_fault built_app (Some (codes "heat", x ∷ y ∷ ws)) ≡ kind.UnknownArgument ∷ []
-heat_below [] [] ws p q = heat_empty_empty ws
-heat_below [] (d ∷ ds) ws p q = heat_empty_more d ds ws q
-heat_below (c ∷ cs) [] ws p q = heat_more_empty c cs ws p
-heat_below (c ∷ cs) (d ∷ ds) ws p q = heat_more c d cs ds ws p q
-
-heat_fails : (x y : Text) (ws : List Text) → IsPlainWord x → IsPlainWord y → fault_of damon_app (codes "heat" ∷ x ∷ y ∷ ws) ≡ kind.UnknownArgument ∷ []
-unfolding clap_on_literals
-heat_fails x y ws p q = sub_fails (codes "heat") (x ∷ y ∷ ws) kind.UnknownArgument [] refl refl (heat_below x y ws p q)
 
 -- ---- the whole
 

@@ -1,5 +1,5 @@
 -- What clap makes of `tune` and words none of which begins with a hyphen.
-use Rattle.std.proofs.Common.{◌≡◌, ℕ, ◌≤◌, List, [], ◌∷◌, ◌++◌, true, false, Some, None, Option, codes, length, refl, ap, ap₂, sym, ◌∙◌, Bool, append_assoc, append-nil, arith}
+use Rattle.std.proofs.Common.{◌≡◌, ℕ, ◌≤◌, List, [], ◌∷◌, ◌++◌, true, false, Some, None, codes, length, refl, ap, ap₂, sym, ◌∙◌, append_assoc, append-nil, arith}
 use Rattle.std.specs.Prelude.{◌==◌, nat_le, nat_lt, fold}
 use Rattle.std.proofs.lemmas.Bool.Decides.{nat_tests}
 use Rattle.clap.specs.declared.builder.value_parser.ValueParser.TheVariants.{String as any_text}
@@ -10,7 +10,7 @@ use Rattle.clap.specs.Simple.{Shape, built_leaf, entered, inherited, names_of, s
 use Rattle.clap.specs.Walk.{Held, Text, Walk, finished, nothing_held, positional, settled, walk, walk_from, walked}
 use Rattle.clap.proofs.OnLiterals.{clap_on_literals}
 use Rattle.quota_goal.specs.declared.goals.TheConstants.{MAX_GOALS}
-use Rattle.damon_app.specs.Parser.{Found, damon_app, tune_shape, words_found}
+use Rattle.damon_app.specs.Parser.{damon_app, tune_shape, words_found}
 use Rattle.damon_app.proofs.Walking.{ArePlain, IsPlainWord, after, built_app, or_else-nil, stopped_words, sub_fails, sub_passes}
 
 -- the subcommand as it is built

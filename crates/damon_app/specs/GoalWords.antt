@@ -1,5 +1,5 @@
 -- The goals of quotas that words say.
-use Rattle.std.specs.Prelude.{ℕ, ◌-◌, ◌^◌, ◌&&◌, nat_le, Bool, List, [], ◌∷◌, length, codes, Option, Some, None, if◌then◌else◌}
+use Rattle.std.specs.Prelude.{ℕ, ◌-◌, ◌^◌, ◌&&◌, nat_le, List, [], ◌∷◌, length, codes, Option, Some, None, if◌then◌else◌}
 use Rattle.line_text.specs.Number.{number}
 use Rattle.line_text.specs.Parts.{parts}
 use Rattle.line_text.specs.declared.bytes.TheConstants.{COLON}
