@@ -1,9 +1,6 @@
-use Rattle.std.proofs.Common.{◌≡◌, ◌++◌, ◌∷◌, List, ap, refl, sym, ◌∙◌, subst}
+use Rattle.std.proofs.Common.{refl, sym, ◌∙◌, subst}
 use Rattle.std.proofs.lemmas.Result.{err_from_is_err_and}
-use Rattle.std.specs.Prelude.{flat_map}
 use Rattle.damon_core.specs.Stands.{MonitorView, Stands}
-use Rattle.text_io.specs.Taken.{WritesPart}
-use Rattle.damon_app.specs.Heating.{tables_of}
 use Rattle.damon_app.proofs.Heating.{first_part}
 use Rattle.damon_app.proofs.heat.write_next.Goals as goal
 

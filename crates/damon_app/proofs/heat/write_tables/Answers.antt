@@ -1,8 +1,6 @@
-use Rattle.std.proofs.Common.{◌≡◌, ◌≤◌, List, ℕ, Ok, Err, ap, subst, arith}
+use Rattle.std.proofs.Common.{◌≡◌, Ok, Err, ap, subst, arith}
 use Rattle.std.specs.Io.KnownBytes.{Appends}
 use Rattle.std.proofs.lemmas.Result.{err_from_is_err_and}
-use Rattle.damon_core.specs.State.{State}
-use Rattle.damon_journal.specs.Replayer.{Leads}
 use Rattle.damon_journal.specs.declared.status.Status.TheVariants.{WriteFault}
 use Rattle.text_io.specs.Taken.{WritesPart}
 use Rattle.damon_app.specs.Heating.{tables_text}
