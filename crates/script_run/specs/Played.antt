@@ -54,8 +54,8 @@ commands_text f s = text_from no_callbacks f (start_with no_callbacks s) (own_ev
 
 -- A player that carried out these commands of the script, the first ones, and nothing of another; this is their text, and the
 -- other commands are left.
-pub record HasPlayed {R : Type 0} (stream : R → Stream) (s : ScriptValue) (f : Form) (commands : List CommandValue) (p : PlayerView R)
-    (text : List ℕ) : Type 0 where
+pub record HasPlayed {R : Type 0} (stream : R → Stream) (s : ScriptValue) (f : Form) (commands : List CommandValue)
+    (p : PlayerView R) (text : List ℕ) : Type 0 where
   pub way : IsOnItsWay stream (up_to s commands) f (with_later p []) text
   pub over : IsOver stream (with_later p [])
   pub done : is_done p.part p.world.monitor.core.phase ≡ true
@@ -130,21 +130,24 @@ module _ {R : Type 0} (stream : R → Stream) (s : ScriptValue) (f : Form) where
   -- the next command is played
   pub played-next : (cs : List CommandValue) (p q : PlayerView R) (text added : List ℕ) → HasPlayed stream s f cs p text
       → PlaysNextWith stream no_callbacks AnyState p q [] added
-      → (d : CommandValue) × (rest : List CommandValue) × (s.commands ≡ cs ++ (d ∷ rest)) × HasPlayed stream s f (cs ++ d ∷ []) q (text ++ added)
+      → (d : CommandValue) × (rest : List CommandValue) × (s.commands ≡ cs ++ (d ∷ rest))
+      × HasPlayed stream s f (cs ++ d ∷ []) q (text ++ added)
   played-next cs p q text added played next = by_rest played.rest played.all (sym played.later ∙ next.first)
     where
       by_rest : (rest : List CommandValue) → s.commands ≡ cs ++ rest → parts_of s.setup.cap rest ≡ next.next ∷ q.later
-          → (d : CommandValue) × (more : List CommandValue) × (s.commands ≡ cs ++ (d ∷ more)) × HasPlayed stream s f (cs ++ d ∷ []) q (text ++ added)
+          → (d : CommandValue) × (more : List CommandValue) × (s.commands ≡ cs ++ (d ∷ more))
+          × HasPlayed stream s f (cs ++ d ∷ []) q (text ++ added)
       by_rest [] all is = absurd (cc is)
       by_rest (d ∷ more) all is =
           let head : part_of s.setup.cap d ≡ next.next = cc is in
           let tail : parts_of s.setup.cap more ≡ q.later = cc is in
+          let old = with_later p (part_of s.setup.cap d ∷ []) in
           let on = subst (λ n. GoesOnWith stream no_callbacks AnyState (with_later p (n ∷ [])) (with_later q []) [] added) (sym head) next.on in (
             d,
             more,
             all,
             record {
-              way = way-on stream (up_to s (cs ++ d ∷ [])) f (with_later p (part_of s.setup.cap d ∷ [])) (with_later q []) text added (more_allowed cs d p text played) on;
+              way = way-on stream (up_to s (cs ++ d ∷ [])) f old (with_later q []) text added (more_allowed cs d p text played) on;
               over = next.over;
               done = next.done;
               rest = more;

@@ -10,10 +10,12 @@ ghost use Rattle.script_run.specs.Kept.{KeepsFront};
 ghost use Rattle.script_run.specs.Part as left;
 ghost use Rattle.script_run.specs.Parts.{is_done, parts_of};
 ghost use Rattle.script_run.specs.Played.{BeginsWith, PlaysOnWith};
-ghost use Rattle.script_run.specs.Player.{GoesOnWith, IsAt, IsOverWith, WritesLastWith, WritesSomeWith, left_moves};
+ghost use Rattle.script_run.specs.Player.{GoesOnWith, IsAt, IsOverWith, WritesSomeWith, left_moves};
 ghost use Rattle.script_run.specs.Unfold.{start_with};
 ghost use Rattle.script_run.specs.Way.{IsOnItsWay, IsOnItsWayWith};
 
+/// The last line of a report.
+mod last_line;
 /// One command of a player after another.
 mod one_command;
 
@@ -28,7 +30,7 @@ use live_commit::{Commit, Phase};
 pub use one_command::open_waiting;
 use rand_core::Rng;
 use rand_pcg::Lcg64Xsh32;
-use snapshot_print::{Form, print_end, print_show};
+use snapshot_print::{Form, print_show};
 use std::alloc::{AllocError, Global};
 use std::marker::Model;
 use text_io::PIECE;
@@ -313,29 +315,6 @@ impl<R: Rng + Drop, C: Callbacks + Drop> Player<R, C> {
         ensures { result.now ≡ self.now.world.monitor }
     {
         self.world.monitor()
-    }
-
-    /// Appends the last line of the report and the lines of callbacks after it, after the last event. Where
-    /// memory runs out, nothing is appended.
-    pub fn finish(self, alloc: Global, out: &mut Vec<u8>) -> Result<(), AllocError>
-        requires { IsOverWith R.stream C.callbacks C.stands_for self }
-        ensures last { OnOk result (WritesLastWith R.stream C.callbacks C.stands_for self
-            out.old.items out.new.items) }
-        ensures err { OnErr result (out.new.items ≡ out.old.items) }
-    {
-        let before = out.len();
-        let appended = self.append_last(alloc, out);
-        whole_or_nothing(out, before, appended)
-    }
-
-    // The same, but that where memory runs out, some of the text may have been appended.
-    fn append_last(&self, alloc: Global, out: &mut Vec<u8>) -> Result<(), AllocError>
-        ensures last { OnOk result (WritesLastWith R.stream C.callbacks C.stands_for self.now
-            out.old.items out.new.items) }
-        ensures err { OnErr result (KeepsFront out.old.items out.new.items) }
-    {
-        print_end(alloc, out, self.form, self.world.monitor())?;
-        self.callbacks.append_end(alloc, out, self.world.monitor())
     }
 }
 

@@ -8,7 +8,6 @@ ghost use Rattle.damon_control.specs.ScriptView.{said_by};
 ghost use Rattle.script_run.specs.Kept.{KeepsFront, StandSomewhere};
 ghost use Rattle.script_run.specs.Parts.{is_done};
 ghost use Rattle.script_run.specs.Played.{BeginsWith, HasPlayed, PlaysNextWith};
-ghost use Rattle.script_run.specs.Player.{WritesLastWith};
 
 use super::{Player, make_player};
 use crate::callbacks::{Callbacks, NoCallbacks};
@@ -62,18 +61,6 @@ impl<R: Rng + Drop, C: Callbacks + Drop> Player<R, C> {
     {
         // For the invariant of the type.
         let _cap = self.cap;
-    }
-
-    /// Appends the last line of the report and the lines of callbacks after it, for the events so far. Where
-    /// memory runs out, nothing is appended.
-    pub fn write_last(&self, alloc: Global, out: &mut Vec<u8>) -> Result<(), AllocError>
-        ensures last { OnOk result (WritesLastWith R.stream C.callbacks C.stands_for self.now
-            out.old.items out.new.items) }
-        ensures err { OnErr result (out.new.items ≡ out.old.items) }
-    {
-        let before = out.len();
-        let appended = self.append_last(alloc, out);
-        whole_or_nothing(out, before, appended)
     }
 }
 

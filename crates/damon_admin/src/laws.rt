@@ -1,0 +1,18 @@
+// What holds of the output of each input. These functions do nothing.
+ghost use Rattle.damon_admin.specs.Laws.{ContextsAreApart, VoicesAreReports};
+
+/// In the output of each input the lines of a context, without its digit and the space, are the report of
+/// the script that its lines spell, or the line of their fault.
+pub fn voices_are_reports()
+    ensures voices { VoicesAreReports }
+{
+    line_text::parts_are_pieces();
+}
+
+/// Two inputs in which the lines of a context are the same give the same lines of output of that context,
+/// whatever the lines of the others.
+pub fn contexts_are_apart()
+    ensures apart { ContextsAreApart }
+{
+    voices_are_reports();
+}
