@@ -1,5 +1,5 @@
 -- What the monitor of a context stands for.
-use Rattle.std.proofs.Common.{◌≡◌, ℕ, ◌+◌, ◌≤◌, List, [], ◌∷◌, ◌++◌, Ok, refl, sym, ap, ◌∙◌, subst, arith, append-nil, take, drop, Bool, false, Some, None}
+use Rattle.std.proofs.Common.{◌≡◌, ℕ, List, [], ◌∷◌, ◌++◌, sym, ap, ◌∙◌, subst, arith, append-nil, take, drop, Bool, false, Some, None}
 use Rattle.std.specs.Borrow.{Bor}
 use Rattle.std.specs.Prelude.{IfSome, Option, slice_get}
 use Rattle.std.specs.List.{AllByRecursion}
@@ -9,13 +9,13 @@ use Rattle.rand_core.specs.Steps.{stream_of, steps_u32}
 use Rattle.rand_pcg.specs.Lcg.{Lcg}
 use Rattle.rand_pcg.specs.Pcg.{pcg32}
 use Rattle.damon_types.specs.Space.{pages_of}
+use Rattle.line_text.specs.Laws.{PutsPartsTogether}
 use Rattle.script_lines.specs.Command.{CommandValue, weight, work_of}
 use Rattle.script_lines.specs.Limits.{AreCommandsWithin, IsCommandWithin}
-use Rattle.script_lines.specs.Lines.{lines_text}
 use Rattle.snapshot_print.specs.declared.form.Form.TheVariants.{Text}
 use Rattle.damon_core.specs.Bound.{Bound}
 use Rattle.damon_core.specs.Stands.{MonitorView}
-use Rattle.damon_control.specs.Script.{ScriptValue}
+use Rattle.damon_control.specs.Script.{AtEnd, AtHeader, ScriptValue}
 use Rattle.damon_control.specs.Sound.{IsSound, ScriptsAreSound}
 use Rattle.script_run.specs.BoundAlong.{EachScriptIsBound}
 use Rattle.script_run.specs.Callbacks.{no_callbacks}
@@ -28,8 +28,12 @@ use Rattle.damon_admin.specs.declared.context.Context.TheVariants.{Faulty, Runni
 use Rattle.damon_admin.specs.declared.stage.Stage.{Stage}
 use Rattle.damon_admin.specs.Admin.{AdminView, IsMonitorOf, IsScript, all_lines}
 use Rattle.damon_admin.specs.Kept.{IsAdmin, IsContext, IsOfKind, IsRunning, Knows, admin_of, or_none}
-use Rattle.damon_admin.specs.Lines.{ContextLine, context_text, lines_of}
-use Rattle.damon_admin.specs.Written.{commands_at}
+use Rattle.damon_admin.specs.Laws.{ContextsAreBound}
+use Rattle.damon_admin.specs.Lines.{context_text, lines_of}
+use Rattle.damon_admin.specs.Written.{commands_at, place_from, place_of}
+use Rattle.damon_admin.proofs.Contexts.{lines_of-append, pieces_of}
+use Rattle.damon_admin.proofs.Places.{first_commands, place_from-append, script_leads}
+use Rattle.damon_admin.proofs.Words.{bind-Ok}
 
 first_all : {X : Type 0} (P : X → Type 0) (xs ys : List X) → AllByRecursion P (xs ++ ys) → AllByRecursion P xs
 first_all P [] ys all = tt
@@ -51,6 +55,22 @@ bound_first each s cs rest sound is =
     let t = up_to s cs in
     let events = unfold_with no_callbacks t in
     (each t (sound_first s cs rest sound is)).bound events [] (sym (append-nil events))
+
+-- so it is after the first lines of each script
+pub bound_at : PutsPartsTogether → ScriptsAreSound → EachScriptIsBound → ContextsAreBound
+bound_at together sound each input lines said context s spells done left is =
+    let own = lines_of context lines in
+    let before = lines_of context done in
+    let later = lines_of context left in
+    let led = script_leads own s (pieces_of together input lines said context) spells in
+    let split = bind-Ok (place_of before) (λ p. place_from p later) (AtEnd s)
+    (sym (place_from-append AtHeader before later) ∙ ap place_of (sym (ap (lines_of context) is ∙ lines_of-append context done left)) ∙ led) in
+    let first = first_commands split.0 later s split.2 in
+    record {
+      place = split.0;
+      so_far = split.1;
+      bound = bound_first each s (commands_at split.0) first.0 (sound (context_text context lines) s spells) first.1;
+    }
 
 -- the monitor of a player whose script is played as far as the lines of its context came
 pub monitor_of : ScriptsAreSound → EachScriptIsBound → (context : ℕ) (a : AdminView) (player : PlayerView Lcg) (stage : Stage)

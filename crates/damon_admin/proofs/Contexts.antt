@@ -1,10 +1,10 @@
 -- The lines of each context, and the contexts that do them.
-use Rattle.std.proofs.Common.{◌≡◌, ◌≢◌, ℕ, zero, suc, ◌+◌, ◌≤◌, ◌<◌, ◌==◌, Bool, true, false, cond, List, [], ◌∷◌, ◌++◌, length, drop, take, map, Some, None, Ok, Err, refl, sym, ap, ◌∙◌, subst, arith, All, add-one, append_assoc, append-nil}
+use Rattle.std.proofs.Common.{◌≡◌, ◌≢◌, ℕ, zero, suc, ◌+◌, ◌≤◌, ◌==◌, Bool, true, false, cond, List, [], ◌∷◌, ◌++◌, length, drop, take, map, Some, Ok, Err, refl, sym, ap, ◌∙◌, subst, arith, All, add-one, append_assoc, append-nil}
 use Rattle.std.specs.Prelude.{Result, slice_get}
 use Rattle.std.specs.List.{AllByRecursion, filter}
 use Rattle.std.proofs.lemmas.Bool.Decides.{nat_tests}
 use Rattle.std.proofs.lemmas.List.{map-append, take-append-drop}
-use Rattle.std.proofs.lemmas.List.Elements.{All-from_recursion, All-head, All-tail, filter-append, recursion_from_All}
+use Rattle.std.proofs.lemmas.List.Elements.{All-from_recursion, All-tail, filter-append, recursion_from_All}
 use Rattle.line_text.specs.Laws.{PutsPartsTogether}
 use Rattle.line_text.specs.Parts.{IsPiece, parts}
 use Rattle.script_lines.specs.declared.kind.ScriptKind.{ScriptKind}
@@ -13,14 +13,14 @@ use Rattle.script_lines.specs.Lines.{lines_text}
 use Rattle.script_lines.specs.Refusal.{◌>>=◌, only_if}
 use Rattle.script_lines.specs.Words.{same_word}
 use Rattle.damon_control.specs.declared.fault.ScriptFault.{ScriptFault}
-use Rattle.damon_control.specs.Script.{at, script_of}
+use Rattle.damon_control.specs.Script.{at}
 use Rattle.damon_admin.specs.declared.context.Context.{Context}
 use Rattle.damon_admin.specs.declared.context.Context.TheVariants.{Faulty, Running}
 use Rattle.damon_admin.specs.declared.gather.Gathered.{Gathered}
 use Rattle.damon_admin.specs.declared.lines.TakenLine.{TakenLine}
-use Rattle.damon_admin.specs.Kept.{AreGathered, AreOpened, IsAdmin, IsContext, IsGathered, IsNext, IsOfKind, IsOpened, IsTaken, line_value}
-use Rattle.damon_admin.specs.Lines.{ContextLine, context_line, context_text, header, lines_of, lines_said, split, split_from}
-use Rattle.damon_admin.proofs.Taking.{IsSpoken, context_line-Ok}
+use Rattle.damon_admin.specs.Kept.{AreGathered, AreOpened, IsAdmin, IsContext, IsNext, IsOfKind, IsOpened, IsTaken, line_value}
+use Rattle.damon_admin.specs.Lines.{ContextLine, context_line, header, lines_of, lines_said, split, split_from}
+use Rattle.damon_admin.proofs.Taking.{context_line-Ok}
 use Rattle.damon_admin.proofs.Words.{bind-Ok}
 
 -- ---- the lines of a context

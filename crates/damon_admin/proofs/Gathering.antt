@@ -1,8 +1,8 @@
 -- The lines of each context, as they are gathered.
-use Rattle.std.proofs.Common.{◌≡◌, ◌≢◌, ℕ, zero, suc, ◌+◌, ◌≤◌, ◌<◌, List, [], ◌∷◌, ◌++◌, length, Some, Ok, Err, refl, sym, ap, ◌∙◌, subst, arith, All, append_assoc, length-append, slice_set, ◌⊎◌, inl, inr}
+use Rattle.std.proofs.Common.{◌≡◌, ◌≢◌, ℕ, zero, suc, ◌+◌, ◌≤◌, List, [], ◌∷◌, ◌++◌, length, Some, Ok, Err, refl, sym, ap, ◌∙◌, subst, arith, All, append_assoc, length-append, slice_set, ◌⊎◌, inl, inr}
 use Rattle.std.specs.Prelude.{Result, slice_get}
 use Rattle.std.specs.List.{AllByRecursion}
-use Rattle.std.proofs.lemmas.List.Elements.{All-append, All-cons, All-from_recursion, All-nil, All-weaker, recursion_from_All}
+use Rattle.std.proofs.lemmas.List.Elements.{All-append, All-cons, All-nil, All-weaker, recursion_from_All}
 use Rattle.std.proofs.lemmas.List.{length-set}
 use Rattle.std.proofs.lemmas.Option.{slice_get_within}
 use Rattle.script_lines.specs.Lines.{lines_text}
@@ -10,7 +10,7 @@ use Rattle.script_lines.specs.Refusal.{◌>>=◌}
 use Rattle.damon_control.specs.declared.fault.ScriptFault.{ScriptFault}
 use Rattle.damon_admin.specs.declared.gather.Gathered.{Gathered}
 use Rattle.damon_admin.specs.Kept.{AreGathered, AreWithin, IsGathered}
-use Rattle.damon_admin.specs.Lines.{ContextLine, context_text, lines_of, lines_said, split_from}
+use Rattle.damon_admin.specs.Lines.{ContextLine, context_text, lines_of}
 use Rattle.damon_admin.proofs.Contexts.{lines_text-append, other_more, own_more}
 use Rattle.damon_admin.proofs.Puts.{put_at}
 

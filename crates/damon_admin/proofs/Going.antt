@@ -1,13 +1,13 @@
 -- All contexts, when the next line is done.
-use Rattle.std.proofs.Common.{◌≡◌, ◌≢◌, ◌⊎◌, inl, inr, ℕ, zero, suc, slice_set, ◌+◌, ◌≤◌, ◌<◌, Bool, true, false, List, [], ◌∷◌, ◌++◌, length, drop, take, Some, Ok, Err, refl, sym, ap, ◌∙◌, subst, arith}
+use Rattle.std.proofs.Common.{◌≡◌, ◌≢◌, ◌⊎◌, inl, inr, ℕ, zero, suc, slice_set, ◌+◌, ◌<◌, Bool, true, false, List, [], ◌∷◌, ◌++◌, length, drop, take, Some, Ok, refl, sym, ap, ◌∙◌, subst, arith}
 use Rattle.std.specs.Prelude.{slice_get}
 use Rattle.std.proofs.lemmas.List.{drop-drop, length-drop, length-set, take-append-drop}
 use Rattle.std.proofs.lemmas.Option.{slice_get_within}
 use Rattle.line_text.specs.Parts.{parts}
 use Rattle.damon_admin.specs.declared.context.Context.{Context}
 use Rattle.damon_admin.specs.declared.lines.TakenLine.{TakenLine}
-use Rattle.damon_admin.specs.Admin.{AdminView, DoesLine}
-use Rattle.damon_admin.specs.Kept.{AreOfKind, GoesOn, GoesOnAt, IsAdmin, IsContext, IsNext, IsOfKind, IsTaken, MayGoOnAt, admin_of, gained, line_value, or_none}
+use Rattle.damon_admin.specs.Admin.{DoesLine}
+use Rattle.damon_admin.specs.Kept.{AreOfKind, GoesOn, GoesOnAt, IsAdmin, IsContext, IsNext, IsOfKind, IsTaken, MayGoOnAt, admin_of, line_value, or_none}
 use Rattle.damon_admin.specs.Lines.{ContextLine, lines_of, lines_said, split_from}
 use Rattle.damon_admin.specs.Voice.{spoken}
 use Rattle.damon_admin.specs.Written.{line_text}

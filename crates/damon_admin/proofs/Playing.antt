@@ -1,6 +1,6 @@
 -- A context that does its next line.
 use Rattle.std.proofs.Common.{◌≡◌, ◌≢◌, ℕ, ◌+◌, ◌-◌, ◌≤◌, ◌<◌, ◌==◌, Bool, true, false, List, [], ◌∷◌, ◌++◌, length, drop, Ok, Err, refl, sym, ap, ◌∙◌, subst, arith, length-append, append-nil, append_assoc}
-use Rattle.std.specs.Prelude.{Result, if◌then◌else◌}
+use Rattle.std.specs.Prelude.{if◌then◌else◌}
 use Rattle.std.proofs.lemmas.Bool.Decides.{nat_tests}
 use Rattle.std.proofs.lemmas.List.{append_cancel_left, length-map}
 use Rattle.std.proofs.Math.Seq.{drop-append_seam}
@@ -8,7 +8,6 @@ use Rattle.rand_core.specs.Stream.{Stream}
 use Rattle.rand_core.specs.Steps.{stream_of, steps_u32}
 use Rattle.rand_pcg.specs.Lcg.{Lcg}
 use Rattle.rand_pcg.specs.Pcg.{pcg32}
-use Rattle.script_lines.specs.declared.kind.ScriptKind.{ScriptKind}
 use Rattle.script_lines.specs.Command.{CommandValue}
 use Rattle.script_lines.specs.Lines.{lines_text}
 use Rattle.snapshot_print.specs.declared.form.Form.TheVariants.{Text}
@@ -20,7 +19,6 @@ use Rattle.script_run.specs.Part.{Part}
 use Rattle.script_run.specs.Parts.{part_of}
 use Rattle.script_run.specs.Played.{HasPlayed, PlaysNextWith, commands_text, played-next, played-report, played-text, up_to}
 use Rattle.script_run.specs.Player.{AnyState, PlayerView, WritesLast}
-use Rattle.script_run.specs.Report.{report}
 use Rattle.damon_admin.specs.declared.stage.Stage.{Stage}
 use Rattle.damon_admin.specs.declared.stage.Stage.TheVariants as stage
 use Rattle.damon_admin.specs.Kept.{IsNext, IsRunning, MayPlay, Plays, gained}

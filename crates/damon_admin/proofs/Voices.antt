@@ -1,11 +1,11 @@
 -- The voice of each context in the output.
-use Rattle.std.proofs.Common.{◌≡◌, ◌≢◌, ℕ, ◌+◌, ◌<◌, ◌≤◌, ◌==◌, ◌&&◌, Bool, true, false, cond, List, [], ◌∷◌, ◌++◌, length, drop, map, codes, Ok, Err, refl, sym, ap, ◌∙◌, subst, arith, All, append_assoc, append-nil, length-append, ◌⊎◌, inl, inr}
+use Rattle.std.proofs.Common.{◌≡◌, ◌≢◌, ℕ, ◌+◌, ◌<◌, ◌==◌, ◌&&◌, Bool, true, false, cond, List, [], ◌∷◌, ◌++◌, length, drop, map, codes, Ok, Err, refl, sym, ap, ◌∙◌, subst, arith, All, append_assoc, append-nil, length-append, ◌⊎◌, inl, inr}
 use Rattle.std.specs.Prelude.{Result, if◌then◌else◌}
 use Rattle.std.specs.List.{AllByRecursion, filter}
 use Rattle.std.specs.Fmt.{decimal}
 use Rattle.std.proofs.lemmas.Bool.Decides.{nat_tests}
 use Rattle.std.proofs.lemmas.List.{append_cancel_left, map-append}
-use Rattle.std.proofs.lemmas.List.Elements.{All-cons, All-from_recursion, filter-append, recursion_from_All}
+use Rattle.std.proofs.lemmas.List.Elements.{All-cons, filter-append, recursion_from_All}
 use Rattle.std.proofs.Math.Seq.{drop-append_seam}
 use Rattle.line_text.specs.Laws.{PutsPartsTogether}
 use Rattle.line_text.specs.Parts.{IsPiece, parts}
@@ -25,13 +25,13 @@ use Rattle.snapshot_print.specs.Lines.{end_text}
 use Rattle.snapshot_print.specs.Printed.{printed_state}
 use Rattle.damon_admin.specs.Kept.{IsNext, gained}
 use Rattle.damon_admin.specs.Laws.{ContextsAreApart, VoicesAreReports}
-use Rattle.damon_admin.specs.Lines.{ContextLine, context_text, lines_of, lines_said}
+use Rattle.damon_admin.specs.Lines.{ContextLine, lines_of}
 use Rattle.damon_admin.specs.declared.stage.Stage.{Stage}
 use Rattle.damon_admin.specs.declared.stage.Stage.TheVariants as stage
 use Rattle.damon_admin.specs.Stage.{completes, stage_of}
 use Rattle.damon_admin.specs.Voice.{all_but_last, is_of, lines_in, spoken, spoken_line, voice}
 use Rattle.damon_admin.specs.Written.{all_written, commands_at, fault_line, kind_text, line_text, output_of, place_from, place_of, texts_from, told, written, written_as, written_at, written_where}
-use Rattle.damon_admin.proofs.Contexts.{lines_of-append, lines_of-other, lines_of-own, lines_text-append, other_more, own_more, pieces_of}
+use Rattle.damon_admin.proofs.Contexts.{lines_of-append, lines_of-own, lines_text-append, other_more, own_more, pieces_of}
 use Rattle.damon_admin.proofs.Ended.{IsEnded, both_ended, line_ended, lines_text-lines_in, none_ended, some_parts}
 use Rattle.damon_admin.proofs.Places.{NextPlace, end_is_last, next_place, parts_first, place_from-append, script_leads}
 use Rattle.damon_admin.proofs.Playing.{at_end, text_amid, text_before, written_is}

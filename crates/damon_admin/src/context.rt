@@ -1,6 +1,7 @@
+ghost use Rattle.std.specs.Prelude.{◌≡◌, ◌≤◌, ◌-◌, ◌==◌, ◌++◌, [], IfOk, OnOk, List, true, if◌then◌else◌, length, ℕ};
+ghost use Rattle.damon_admin.specs.Kept.{AreOfKind, AreOpened, AreWithin, GoesOn, GoesOnAt, IsOfKind, IsOpened, Knows};
+ghost use Rattle.damon_admin.specs.Kept.{MayGoOn, MayGoOnAt, MayPlay, MayRun, Plays, RunsOn};
 ghost use Rattle.damon_admin.specs.Written.{fault_line};
-ghost use Rattle.std.specs.Prelude.{◌-◌, ◌==◌, ◌++◌, true, if◌then◌else◌, ◌≡◌, ◌≤◌, [], IfOk, IfSome, None, OnOk, List, ℕ, length};
-ghost use Rattle.damon_admin.specs.Kept.{AreOfKind, AreOpened, AreWithin, GoesOn, GoesOnAt, IsOpened, IsOfKind, Knows, MayGoOn, MayGoOnAt, MayPlay, MayRun, Plays, RunsOn};
 
 use crate::fault::write_fault;
 use crate::gather::Gathered;

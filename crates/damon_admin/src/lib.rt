@@ -19,5 +19,5 @@ mod stage;
 mod voice;
 
 pub use admin::{Admin, AdminFail};
-pub use laws::{contexts_are_apart, voices_are_reports};
+pub use laws::{contexts_are_apart, contexts_are_bound, voices_are_reports};
 pub use lines::CONTEXTS;

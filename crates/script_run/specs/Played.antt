@@ -1,5 +1,5 @@
 -- A player that plays one command after another.
-use Rattle.std.specs.Prelude.{◌≡◌, ℕ, List, [], ◌∷◌, ◌++◌, map, refl, true}
+use Rattle.std.specs.Prelude.{◌≡◌, ℕ, List, [], ◌∷◌, ◌++◌, refl, true}
 use Rattle.std.proofs.Common.{◌∙◌, ap, sym, subst, append-nil, append_assoc}
 use Rattle.std.proofs.lemmas.List.{map-append}
 use Rattle.rand_core.specs.Stream.{Stream}

@@ -1,8 +1,7 @@
-use Rattle.std.proofs.Common.{◌≡◌, ◌∷◌, sym, ap, ◌∙◌, false, true}
+use Rattle.std.proofs.Common.{◌≡◌, ◌∷◌, sym, ap, ◌∙◌}
 use Rattle.std.specs.Option.{option_copied}
 use Rattle.line_text.specs.Parts.{parts, parts_left}
-use Rattle.script_lines.specs.Words.{same_word}
-use Rattle.damon_admin.specs.Lines.{header, split_from}
+use Rattle.damon_admin.specs.Lines.{split_from}
 use Rattle.damon_admin.proofs.Taking.{front_dropped, front_used, header_right, header_wrong}
 use Rattle.damon_admin.proofs.lines.read_header.Goals as goal
 

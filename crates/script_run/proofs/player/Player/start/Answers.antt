@@ -1,4 +1,4 @@
-use Rattle.std.proofs.Common.{◌+◌, ◌<◌, ◌≤◌, ◌∷◌, [], length, drop, refl, sym, ap, ◌∙◌, subst, arith}
+use Rattle.std.proofs.Common.{◌+◌, ◌<◌, ◌∷◌, [], length, drop, refl, sym, ap, ◌∙◌, subst, arith}
 use Rattle.script_lines.specs.Command.{lent_value}
 use Rattle.damon_core.specs.Event.{commit}
 use Rattle.live_commit.specs.Commit.{commit_value}
