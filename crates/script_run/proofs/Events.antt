@@ -19,8 +19,8 @@ use Rattle.script_run.specs.Part.{Part}
 use Rattle.script_run.specs.Part as part
 use Rattle.script_run.specs.declared.part.Until.{Until}
 use Rattle.script_run.specs.declared.part.Until.TheVariants as until
-use Rattle.script_run.specs.Kept.{beyond, is_done}
-use Rattle.script_run.specs.Parts.{stops_at}
+use Rattle.script_run.specs.Kept.{beyond}
+use Rattle.script_run.specs.Parts.{is_done, stops_at}
 use Rattle.script_run.specs.Report.{event_text, events_text, lines_after, text_from}
 use Rattle.script_run.specs.Unfold.{part_events, parts_events, steps_until}
 

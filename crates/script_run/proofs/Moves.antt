@@ -23,8 +23,8 @@ use Rattle.script_run.specs.Calls.{Follows}
 use Rattle.script_run.specs.Course.{Course, Reached-onward, onward, onward-append}
 use Rattle.script_run.specs.Part as part
 use Rattle.script_run.specs.declared.part.Until.{Until}
-use Rattle.script_run.specs.Kept.{IsMade, KeepsFront, beyond, is_done}
-use Rattle.script_run.specs.Parts.{stops_at}
+use Rattle.script_run.specs.Kept.{IsMade, KeepsFront, beyond}
+use Rattle.script_run.specs.Parts.{is_done, stops_at}
 use Rattle.script_run.specs.Player.{GoesOnWith, IsAt, IsOverWith, PlayTogether, PlayerOf, WritesSomeWith, left_events}
 use Rattle.script_run.specs.Report.{events_text, lines_after, text_from, text_from-append}
 use Rattle.script_run.specs.Unfold.{part_events, parts_events, steps_until}

@@ -1,8 +1,7 @@
 -- What a player keeps: none of it is promised to callers.
-use Rattle.std.specs.Prelude.{◌≡◌, ℕ, ◌+◌, ◌≤◌, ◌^◌, Bool, false, ◌||◌, ◌==◌, List, [], ◌∷◌, ◌++◌}
+use Rattle.std.specs.Prelude.{◌≡◌, ℕ, ◌+◌, ◌≤◌, ◌^◌, List, [], ◌∷◌, ◌++◌}
 use Rattle.rand_core.specs.Stream.{Stream}
 use Rattle.damon_types.specs.Space.{pages_of}
-use Rattle.live_commit.specs.declared.phase.Phase.{Phase}
 use Rattle.damon_core.specs.Event.{Event}
 use Rattle.damon_core.specs.Reached.{AllFit, Reached}
 use Rattle.damon_core.specs.State.{State}
@@ -13,16 +12,8 @@ use Rattle.script_run.specs.Callbacks.{Callbacks}
 use Rattle.script_run.specs.Course.{Course}
 use Rattle.script_run.specs.Part.{Part}
 use Rattle.script_run.specs.Part as part
-use Rattle.script_run.specs.Parts.{stops_at}
 use Rattle.script_run.specs.Player.{PlayTogether, StandAt, left_in}
 use Rattle.script_run.specs.Report.{events_text, text_from}
-
--- whether no event of a part is left
-abbrev pub is_done : Part → Phase → Bool
-is_done (part.Touches page count) phase = count == 0
-is_done (part.Steps until most) phase = (most == 0) || stops_at until phase
-is_done part.Show phase = false
-is_done (part.Commit parts) phase = false
 
 -- the pages of a part are below this number
 abbrev pub IsPartWithin : ℕ → Part → Type 0

@@ -8,6 +8,7 @@ pub mod Report
 pub mod Player
 pub mod Kept
 pub mod Way
+pub mod Played
 pub mod BoundAlong
 pub mod Choices
 pub mod Reaching

@@ -1,5 +1,5 @@
 -- Commands as parts: what is made of a command is its events, and what is left of it is again a part.
-use Rattle.std.specs.Prelude.{ℕ, ◌+◌, ◌-◌, ◌*◌, Bool, true, false, List, map}
+use Rattle.std.specs.Prelude.{ℕ, ◌+◌, ◌-◌, ◌*◌, ◌||◌, ◌==◌, Bool, true, false, List, map}
 use Rattle.live_commit.specs.declared.phase.Phase.{Phase}
 use Rattle.live_commit.specs.declared.phase.Phase.TheVariants.{Idle, Armed}
 use Rattle.script_lines.specs.Command.{CommandValue, Touch, Sweep, Step, Arm, Finish, Show, Commit}
@@ -23,6 +23,13 @@ abbrev pub stops_at : Until → Phase → Bool
 stops_at until.Count phase = false
 stops_at until.Armed phase = is_armed phase
 stops_at until.Idle phase = is_idle phase
+
+-- whether no event of a part is left
+abbrev pub is_done : Part → Phase → Bool
+is_done (part.Touches page count) phase = count == 0
+is_done (part.Steps until most) phase = (most == 0) || stops_at until phase
+is_done part.Show phase = false
+is_done (part.Commit parts) phase = false
 
 -- the most steps that the arming or the finishing of a pass takes, under a cap
 abbrev pub pass_limit : ℕ → ℕ

@@ -11,6 +11,8 @@ mod part;
 mod player;
 /// The random words of a script.
 mod random;
+/// A script that is played to its end at once.
+mod to_end;
 /// What a world makes together with callbacks.
 mod together;
 
@@ -19,4 +21,5 @@ pub use laws::{
     each_choice_is_best, each_run_with_callbacks_is_bound, each_script_is_bound,
     passes_reach_their_phase,
 };
-pub use player::{Filled, Player, open_player, open_player_with, play_to_end};
+pub use player::{Filled, Player, open_player, open_player_with, open_waiting};
+pub use to_end::play_to_end;

@@ -1,8 +1,7 @@
-ghost use Rattle.std.specs.Prelude.{◌≡◌};
-ghost use Rattle.script_lines.specs.Command.{lent_value};
-ghost use Rattle.script_run.specs.Kept.{is_done};
+ghost use Rattle.std.specs.Prelude.{◌≡◌, IfSome};
+ghost use Rattle.script_lines.specs.Command.{Touch as TouchCommand, lent_value};
 ghost use Rattle.script_run.specs.Part.{part_value, start_value};
-ghost use Rattle.script_run.specs.Parts.{part_of, stops_at};
+ghost use Rattle.script_run.specs.Parts.{is_done, part_of, stops_at};
 
 use damon_control::Command;
 use live_commit::{Commit, Phase};
@@ -91,5 +90,15 @@ fn stops_at(until: Until, phase: Phase) -> bool
         Until::Count => false,
         Until::Armed => phase == Phase::Armed,
         Until::Idle => phase == Phase::Idle,
+    }
+}
+
+// The page that a command touches, if it is a touch of a single page.
+pub fn touched_page(command: Command<&Commit>) -> Option<u32>
+    ensures { IfSome result (λ page. lent_value command.entry ≡ TouchCommand page) }
+{
+    match command {
+        Command::Touch { page } => Some(page),
+        _ => None,
     }
 }

@@ -1,29 +1,36 @@
-ghost use Rattle.std.specs.Prelude.{◌≡◌, ◌≢◌, ◌+◌, ◌<◌, ◌≤◌, ◌∷◌, [], Ok, IfOk, IfSome, OnErr, OnOk, true, false, length, ℕ, List, vec_len};
+ghost use Rattle.std.specs.Prelude.{◌≡◌, ◌≢◌, ◌+◌, ◌<◌, ◌≤◌, ◌∷◌, [], Ok, IfOk, OnErr, OnOk, true, false, length, ℕ, List, vec_len};
 ghost use Rattle.rand_core.specs.Steps.{stream_of, steps_u32};
 ghost use Rattle.rand_pcg.specs.Pcg.{pcg32};
 ghost use Rattle.damon_types.specs.Space.{pages_of};
-ghost use Rattle.script_lines.specs.Command.{Touch as TouchCommand, lent_value, work_of};
+ghost use Rattle.script_lines.specs.Command.{work_of};
 ghost use Rattle.script_lines.specs.Limits.{AreCommandsWithin};
 ghost use Rattle.damon_control.specs.ScriptView.{said_by};
-ghost use Rattle.damon_core.specs.Stands.{Stands};
 ghost use Rattle.damon_core.specs.State.{opening};
-ghost use Rattle.script_run.specs.Kept.{KeepsFront, is_done};
+ghost use Rattle.script_run.specs.Kept.{KeepsFront};
 ghost use Rattle.script_run.specs.Part as left;
-ghost use Rattle.script_run.specs.Player.{GoesOnWith, IsOverWith, WritesLastWith, WritesSomeWith, left_moves};
-ghost use Rattle.script_run.specs.Report.{last_state};
+ghost use Rattle.script_run.specs.Parts.{is_done, parts_of};
+ghost use Rattle.script_run.specs.Played.{BeginsWith, PlaysOnWith};
+ghost use Rattle.script_run.specs.Player.{GoesOnWith, IsAt, IsOverWith, WritesSomeWith, left_moves};
+ghost use Rattle.script_run.specs.Unfold.{start_with};
 ghost use Rattle.script_run.specs.Way.{IsOnItsWay, IsOnItsWayWith};
 
+/// The last line of a report.
+mod last_line;
+/// One command of a player after another.
+mod one_command;
+
 use crate::callbacks::{Callbacks, NoCallbacks};
-use crate::part::{Part, Start, Until, is_done, start_of};
+use crate::part::{Part, Start, Until, is_done, start_of, touched_page};
 use crate::random::random_words;
 use crate::together::{make_aggregation, make_commit, make_touches, whole_or_nothing};
-use damon_control::{Command, Commands, MAX_WORK, Script};
+use damon_control::{Commands, MAX_WORK, Script};
 use damon_core::Monitor;
 use damon_world::World;
 use live_commit::{Commit, Phase};
+pub use one_command::open_waiting;
 use rand_core::Rng;
 use rand_pcg::Lcg64Xsh32;
-use snapshot_print::{Form, print_end, print_show};
+use snapshot_print::{Form, print_show};
 use std::alloc::{AllocError, Global};
 use std::marker::Model;
 use text_io::PIECE;
@@ -165,7 +172,7 @@ impl<R: Rng + Drop, C: Callbacks + Drop> Player<R, C> {
     fn play(&mut self, alloc: Global, out: &mut Vec<u8>, phase: Phase) -> Result<(), AllocError>
         requires phase { phase ≡ self.old.world.monitor.core.phase }
         requires some { is_done self.old.part self.old.world.monitor.core.phase ≡ false }
-        ensures on { OnOk result (GoesOnWith R.stream C.callbacks C.stands_for self.old self.new
+        ensures on { OnOk result (PlaysOnWith R.stream C.callbacks C.stands_for self.old self.new
             out.old.items out.new.items) }
         ensures less { OnOk result (left_moves self.new < left_moves self.old) }
         ensures err { OnErr result (KeepsFront out.old.items out.new.items) }
@@ -186,8 +193,7 @@ impl<R: Rng + Drop, C: Callbacks + Drop> Player<R, C> {
         }
     }
 
-    // Begins the next command; a commit is made at once, with those that are put in after it. False if
-    // no command is left.
+    // Begins the next command. False if no command is left.
     fn begin_next(&mut self, alloc: Global, out: &mut Vec<u8>) -> Result<bool, AllocError>
         requires { is_done self.old.part self.old.world.monitor.core.phase ≡ true }
         ensures on { OnOk result (GoesOnWith R.stream C.callbacks C.stands_for self.old self.new
@@ -199,12 +205,28 @@ impl<R: Rng + Drop, C: Callbacks + Drop> Player<R, C> {
         if self.begun >= self.commands.len() {
             return Ok(false);
         }
+        self.start(alloc, out)?;
+        Ok(true)
+    }
+
+    // Begins the next command, which is there; a commit is made at once, with those that are put in after
+    // it.
+    fn start(&mut self, alloc: Global, out: &mut Vec<u8>) -> Result<(), AllocError>
+        requires done { is_done self.old.part self.old.world.monitor.core.phase ≡ true }
+        requires some { 1 ≤ length self.old.later }
+        ensures on { OnOk result (BeginsWith R.stream C.callbacks C.stands_for self.old self.new
+            out.old.items out.new.items) }
+        ensures less { OnOk result (left_moves self.new < left_moves self.old) }
+        ensures err { OnErr result (KeepsFront out.old.items out.new.items) }
+    {
+        // For its clause alone: the commands are fewer than 2^32.
+        let _commands = self.commands.len();
         let start = start_of(self.cap, self.commands.get(self.begun));
         self.begun += 1;
         match start {
             Start::Part(part) => {
                 self.part = part;
-                Ok(true)
+                Ok(())
             }
             Start::Commit(commit) => {
                 self.part = Part::NOTHING;
@@ -215,8 +237,7 @@ impl<R: Rng + Drop, C: Callbacks + Drop> Player<R, C> {
                     &mut self.world,
                     &mut self.callbacks,
                     commit,
-                )?;
-                Ok(true)
+                )
             }
         }
     }
@@ -226,7 +247,7 @@ impl<R: Rng + Drop, C: Callbacks + Drop> Player<R, C> {
         requires part { self.old.part ≡ left.Touches page count }
         requires some { 0 < count }
         ensures on { (text : List ℕ)
-            → GoesOnWith R.stream C.callbacks C.stands_for self.old self.new text text }
+            → PlaysOnWith R.stream C.callbacks C.stands_for self.old self.new text text }
         ensures less { left_moves self.new < left_moves self.old }
     {
         make_touches(&mut self.world, page, count);
@@ -242,7 +263,7 @@ impl<R: Rng + Drop, C: Callbacks + Drop> Player<R, C> {
         requires some { is_done self.old.part self.old.world.monitor.core.phase ≡ false }
         requires between { self.old.world.monitor.core.phase ≢ Phase.Due }
         ensures on { (text : List ℕ)
-            → GoesOnWith R.stream C.callbacks C.stands_for self.old self.new text text }
+            → PlaysOnWith R.stream C.callbacks C.stands_for self.old self.new text text }
         ensures less { left_moves self.new < left_moves self.old }
     {
         let made = self.world.advance(most);
@@ -265,7 +286,7 @@ impl<R: Rng + Drop, C: Callbacks + Drop> Player<R, C> {
         requires part { self.old.part ≡ left.Steps until most }
         requires some { is_done self.old.part self.old.world.monitor.core.phase ≡ false }
         requires due { self.old.world.monitor.core.phase ≡ Phase.Due }
-        ensures on { OnOk result (GoesOnWith R.stream C.callbacks C.stands_for self.old self.new
+        ensures on { OnOk result (PlaysOnWith R.stream C.callbacks C.stands_for self.old self.new
             out.old.items out.new.items) }
         ensures less { OnOk result (left_moves self.new < left_moves self.old) }
         ensures err { OnErr result (KeepsFront out.old.items out.new.items) }
@@ -280,7 +301,7 @@ impl<R: Rng + Drop, C: Callbacks + Drop> Player<R, C> {
     // Appends the text of a show.
     fn show(&mut self, alloc: Global, out: &mut Vec<u8>) -> Result<(), AllocError>
         requires { self.old.part ≡ left.Show }
-        ensures on { OnOk result (GoesOnWith R.stream C.callbacks C.stands_for self.old self.new
+        ensures on { OnOk result (PlaysOnWith R.stream C.callbacks C.stands_for self.old self.new
             out.old.items out.new.items) }
         ensures less { left_moves self.new < left_moves self.old }
         ensures err { OnErr result (KeepsFront out.old.items out.new.items) }
@@ -294,39 +315,6 @@ impl<R: Rng + Drop, C: Callbacks + Drop> Player<R, C> {
         ensures { result.now ≡ self.now.world.monitor }
     {
         self.world.monitor()
-    }
-
-    /// Appends the last line of the report and the lines of callbacks after it, after the last event. Where
-    /// memory runs out, nothing is appended.
-    pub fn finish(self, alloc: Global, out: &mut Vec<u8>) -> Result<(), AllocError>
-        requires { IsOverWith R.stream C.callbacks C.stands_for self }
-        ensures last { OnOk result (WritesLastWith R.stream C.callbacks C.stands_for self
-            out.old.items out.new.items) }
-        ensures err { OnErr result (out.new.items ≡ out.old.items) }
-    {
-        let before = out.len();
-        let appended = self.append_last(alloc, out);
-        whole_or_nothing(out, before, appended)
-    }
-
-    // The same, but that where memory runs out, some of the text may have been appended.
-    fn append_last(&self, alloc: Global, out: &mut Vec<u8>) -> Result<(), AllocError>
-        ensures last { OnOk result (WritesLastWith R.stream C.callbacks C.stands_for self.now
-            out.old.items out.new.items) }
-        ensures err { OnErr result (KeepsFront out.old.items out.new.items) }
-    {
-        print_end(alloc, out, self.form, self.world.monitor())?;
-        self.callbacks.append_end(alloc, out, self.world.monitor())
-    }
-}
-
-// The page that a command touches, if it is a touch of a single page.
-fn touched_page(command: Command<&Commit>) -> Option<u32>
-    ensures { IfSome result (λ page. lent_value command.entry ≡ TouchCommand page) }
-{
-    match command {
-        Command::Touch { page } => Some(page),
-        _ => None,
     }
 }
 
@@ -360,6 +348,27 @@ pub fn open_player_with<C: Callbacks + Drop>(
     ensures { IfOk result (λ p. IsOnItsWayWith (stream_of (steps_u32 pcg32)) C.callbacks
         C.stands_for (said_by script) form p []) }
 {
+    make_player(alloc, script, form, callbacks)
+}
+
+// The same player, of which all is known.
+fn make_player<C: Callbacks + Drop>(
+    alloc: Global,
+    script: Script,
+    form: Form,
+    callbacks: C,
+) -> Result<Player<Lcg64Xsh32, C>, AllocError>
+    requires within { AreCommandsWithin (pages_of script.setup.space) script.commands.list }
+    requires work { work_of script.setup.cap script.commands.list ≤ MAX_WORK }
+    requires opening { C.stands_for callbacks (C.callbacks.first (opening (said_by script).setup))
+        (opening (said_by script).setup) }
+    ensures way { IfOk result (λ p. IsOnItsWayWith (stream_of (steps_u32 pcg32)) C.callbacks
+        C.stands_for (said_by script) form p []) }
+    ensures at { IfOk result (λ p. IsAt (stream_of (steps_u32 pcg32)) C.stands_for p
+        (start_with C.callbacks (said_by script))) }
+    ensures part { IfOk result (λ p. p.part ≡ left.Touches 0 0) }
+    ensures later { IfOk result (λ p. p.later ≡ parts_of script.setup.cap script.commands.list) }
+{
     // For its clauses alone: the ranges are in order.
     let _ranges = script.setup.ranges.len();
     // For its clauses alone: the commands are fewer than 2^32.
@@ -376,24 +385,4 @@ pub fn open_player_with<C: Callbacks + Drop>(
         part: Part::NOTHING,
         begun: 0,
     })
-}
-
-/// A player after the last event of a script, whose text is not kept. The pages of the commands are pages
-/// of the script's space, and their work is at most [`MAX_WORK`]. Takes memory.
-pub fn play_to_end(
-    alloc: Global,
-    script: Script,
-) -> Result<Player<Lcg64Xsh32, NoCallbacks>, AllocError>
-    requires within { AreCommandsWithin (pages_of script.setup.space) script.commands.list }
-    requires work { work_of script.setup.cap script.commands.list ≤ MAX_WORK }
-    ensures { IfOk result (λ p. Stands p.world.monitor (last_state (said_by script))) }
-{
-    let mut player = open_player(alloc, script, Form::Text)?;
-    let mut unread = Vec::new(alloc);
-    'pieces: loop {
-        match player.fill(alloc, &mut unread)? {
-            Filled::Piece => unread.clear(),
-            Filled::End => return Ok(player),
-        }
-    }
 }

@@ -1,7 +1,9 @@
 use Rattle.std.proofs.Common.{◌≡◌, ◌∷◌, [], false, refl, ap, subst, ◌∙◌, arith}
 use Rattle.damon_world.specs.Moment.{next_event}
-use Rattle.script_run.specs.Kept.{IsMade, is_done}
+use Rattle.script_run.specs.Kept.{IsMade}
 use Rattle.script_run.specs.Part.{part_value}
+use Rattle.script_run.specs.Parts.{is_done}
+use Rattle.script_run.specs.Played.{with_later}
 use Rattle.script_run.proofs.Moves.{OnOk-map, aggregate_made, some_steps}
 use Rattle.script_run.proofs.Next.{player-stepped}
 use Rattle.script_run.proofs.player.Player.aggregate.Goals as goal
@@ -23,6 +25,9 @@ returns-clause-on g c =
     let made = c.make_aggregation in
     let some = some_steps c.args.until c.args.most c.args.self.now.world.monitor.core.phase (subst (λ q. is_done q c.args.self.now.world.monitor.core.phase ≡ false) c.requires.part c.requires.some) in
     OnOk-map made.result
-    (λ all. aggregate_made stream k stands c.args.self.now _ _ _ c.args.until c.args.most c.requires.part refl (ap (λ v. v.later) is) (ap (λ v. v.form) is) some c.requires.some
-    (subst (λ v. IsMade stream k stands v.world made.new.world v.callbacks made.new.callbacks v.form c.args.out.now.items made.new.out.items (λ r. next_event r.moment.state r.moment.stream ∷ [])) is all))
+    (λ all. record {
+      later = ap (λ v. v.later) is;
+      on = λ l. aggregate_made stream k stands (with_later c.args.self.now l) _ _ _ c.args.until c.args.most c.requires.part refl refl (ap (λ v. v.form) is) some c.requires.some
+          (subst (λ v. IsMade stream k stands v.world made.new.world v.callbacks made.new.callbacks v.form c.args.out.now.items made.new.out.items (λ r. next_event r.moment.state r.moment.stream ∷ [])) is all);
+    })
     made.ensures.made

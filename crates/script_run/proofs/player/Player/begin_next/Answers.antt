@@ -1,15 +1,8 @@
-use Rattle.std.proofs.Common.{◌+◌, ◌<◌, ◌≤◌, ◌∷◌, [], length, drop, refl, sym, ap, ◌∙◌, subst, arith}
+use Rattle.std.proofs.Common.{◌<◌, ◌≤◌, length, sym, ap, ◌∙◌, arith}
 use Rattle.std.proofs.lemmas.List.{drop_all}
-use Rattle.script_lines.specs.Command.{lent_value}
-use Rattle.damon_core.specs.Event.{commit}
-use Rattle.live_commit.specs.Commit.{commit_value}
-use Rattle.script_run.specs.Kept.{IsMade}
-use Rattle.script_run.specs.Part.{Part, part_value}
-use Rattle.script_run.specs.Part as part
-use Rattle.script_run.specs.Player.{left_in}
 use Rattle.script_run.specs.Parts.{parts_of}
-use Rattle.script_run.proofs.Next.{less_left, next_part, player-made, player-next}
-use Rattle.script_run.proofs.Moves.{commit_made, is_over, next_begins, on-none}
+use Rattle.script_run.proofs.Commands.{goes_on_begun, some_left}
+use Rattle.script_run.proofs.Moves.{is_over, on-none}
 use Rattle.script_run.proofs.player.Player.begin_next.Goals as goal
 
 pub returns-then-self-len-clause-on : goal.returns-then-self-len-clause-on
@@ -22,67 +15,12 @@ returns-then-self-len-clause-end g c false =
     let none = ap (parts_of p.cap) (drop_all p.begun p.commands.list over) in
     is_over g.R.Rng.stream g.C.Callbacks.callbacks g.C.Callbacks.stands_for c.args.self.now (sym (ap (λ v. v.later) c.self.view_is) ∙ none) c.requires
 
-pub invariant_of-self : goal.invariant_of-self
-invariant_of-self g c =
+pub start-requires-clause-some : goal.start-requires-clause-some
+start-requires-clause-some g c =
     let p = c.self.inside in
     let here : p.begun < length p.commands.list = omega (arith, c.if-self-len.false, c.len.ensures) in
-    player-next g.R.Rng.stream g.C.Callbacks.stands_for p.world p.callbacks (part_value p.part) (part_value c.in-Part.part) p.cap p.begun p.commands.list (lent_value c.get.result) here c.get.ensures c.in-Part.ensures c.self.invariant
+    some_left p.cap p.begun p.commands.list c.args.self.now.later (sym (ap (λ v. v.later) c.self.view_is)) here
 
-pub invariant_of-self-in_err-make_commit-in-Commit :
-    goal.invariant_of-self-in_err-make_commit-in-Commit
-invariant_of-self-in_err-make_commit-in-Commit g c =
-    let p = c.self.inside in
-    let here : p.begun < length p.commands.list = omega (arith, c.if-self-len.false, c.len.ensures) in
-    let q = part.Commit (commit_value c.in-Commit.commit.now) in
-    let new = parts_of p.cap (drop (p.begun + 1) p.commands.list) in
-    player-made g.R.Rng.stream g.C.Callbacks.stands_for p.world c.make_commit.new.world p.callbacks c.make_commit.new.callbacks q new (omega arith) c.make_commit.ensures.somewhere c.make_commit.ensures.space c.make_commit.ensures.ticks
-    (player-next g.R.Rng.stream g.C.Callbacks.stands_for p.world p.callbacks (part_value p.part) q p.cap p.begun p.commands.list (lent_value c.get.result) here c.get.ensures c.in-Commit.ensures c.self.invariant)
-
-pub invariant_of-self-in-Commit : goal.invariant_of-self-in-Commit
-invariant_of-self-in-Commit g c =
-    let p = c.self.inside in
-    let here : p.begun < length p.commands.list = omega (arith, c.if-self-len.false, c.len.ensures) in
-    let q = part.Commit (commit_value c.in-Commit.commit.now) in
-    let new = parts_of p.cap (drop (p.begun + 1) p.commands.list) in
-    player-made g.R.Rng.stream g.C.Callbacks.stands_for p.world c.make_commit.new.world p.callbacks c.make_commit.new.callbacks q new (omega arith) c.make_commit.ensures.somewhere c.make_commit.ensures.space c.make_commit.ensures.ticks
-    (player-next g.R.Rng.stream g.C.Callbacks.stands_for p.world p.callbacks (part_value p.part) q p.cap p.begun p.commands.list (lent_value c.get.result) here c.get.ensures c.in-Commit.ensures c.self.invariant)
-
-pub returns-in-Part-clause-on : goal.returns-in-Part-clause-on
-returns-in-Part-clause-on g c =
-    let p = c.self.inside in
-    let is = c.self.view_is in
-    let here : p.begun < length p.commands.list = omega (arith, c.if-self-len.false, c.len.ensures) in
-    next_begins g.R.Rng.stream g.C.Callbacks.callbacks g.C.Callbacks.stands_for c.args.self.now _ c.args.out.now.items c.requires (ap (λ v. v.world) is) (ap (λ v. v.callbacks) is) (ap (λ v. v.form) is)
-    (sym (ap (λ v. v.later) is) ∙ next_part p.cap p.begun p.commands.list (lent_value c.get.result) (part_value c.in-Part.part) here c.get.ensures c.in-Part.ensures)
-
-pub returns-in-Part-clause-less : goal.returns-in-Part-clause-less
-returns-in-Part-clause-less g c true =
-    let p = c.self.inside in
-    let here : p.begun < length p.commands.list = omega (arith, c.if-self-len.false, c.len.ensures) in
-    let later = sym (ap (λ v. v.later) c.self.view_is) ∙ next_part p.cap p.begun p.commands.list (lent_value c.get.result) (part_value c.in-Part.part) here c.get.ensures c.in-Part.ensures in
-    omega (arith, less_left c.args.self.now.part c.args.self.now.later, ap left_in later)
-
-pub returns-in_ok-make_commit-in-Commit-clause-on :
-    goal.returns-in_ok-make_commit-in-Commit-clause-on
-returns-in_ok-make_commit-in-Commit-clause-on g c =
-    let p = c.self.inside in
-    let is = c.self.view_is in
-    let k = commit_value c.in-Commit.commit.now in
-    let new = c.make_commit.new.world in
-    let here : p.begun < length p.commands.list = omega (arith, c.if-self-len.false, c.len.ensures) in
-    let cb = g.C.Callbacks.callbacks in
-    let stands = g.C.Callbacks.stands_for in
-    commit_made g.R.Rng.stream cb stands c.args.self.now _ c.args.out.now.items _ k c.requires
-    (sym (ap (λ v. v.later) is) ∙ next_part p.cap p.begun p.commands.list (lent_value c.get.result) (part.Commit k) here c.get.ensures c.in-Commit.ensures)
-    refl (ap (λ v. v.form) is)
-    (subst (λ v. IsMade g.R.Rng.stream cb stands v.world new v.callbacks c.make_commit.new.callbacks v.form c.args.out.now.items c.make_commit.new.out.items (λ r. commit k ∷ [])) is c.in_ok-make_commit-in-Commit.ensures.made)
-
-pub returns-in_ok-make_commit-in-Commit-clause-less :
-    goal.returns-in_ok-make_commit-in-Commit-clause-less
-returns-in_ok-make_commit-in-Commit-clause-less g c true =
-    let p = c.self.inside in
-    let q = part.Commit (commit_value c.in-Commit.commit.now) in
-    let new = parts_of p.cap (drop (p.begun + 1) p.commands.list) in
-    let here : p.begun < length p.commands.list = omega (arith, c.if-self-len.false, c.len.ensures) in
-    let later = sym (ap (λ v. v.later) c.self.view_is) ∙ next_part p.cap p.begun p.commands.list (lent_value c.get.result) q here c.get.ensures c.in-Commit.ensures in
-    omega (arith, less_left c.args.self.now.part c.args.self.now.later, ap left_in later, less_left q new, less_left (part.Touches 0 0) new)
+pub returns-clause-on : goal.returns-clause-on
+returns-clause-on g c =
+    goes_on_begun g.R.Rng.stream g.C.Callbacks.callbacks g.C.Callbacks.stands_for c.args.self.now c.start.new.self c.args.out.now.items c.start.new.out.items c.in_ok-start.ensures.on

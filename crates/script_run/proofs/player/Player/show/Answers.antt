@@ -2,6 +2,7 @@ use Rattle.std.proofs.Common.{◌≤◌, ◌++◌, refl, sym, ap, ◌∙◌, sub
 use Rattle.snapshot_print.specs.Lines.{show_text}
 use Rattle.snapshot_print.specs.Printed.{printed_monitor}
 use Rattle.script_run.specs.Part.{part_value}
+use Rattle.script_run.specs.Played.{with_later}
 use Rattle.script_run.specs.Player.{left_of}
 use Rattle.script_run.proofs.Moves.{OnOk-map, show_made}
 use Rattle.script_run.proofs.Next.{player-made}
@@ -20,6 +21,9 @@ returns-clause-on g c =
     let out = c.args.out.now.items in
     let form = c.self.inside.form in
     OnOk-map c.print_show.result
-    (λ grew. show_made g.R.Rng.stream g.C.Callbacks.callbacks g.C.Callbacks.stands_for g.met.C.Callbacks.in_place c.args.self.now _ _ _ c.requires refl (ap (λ v. v.later) is) (ap (λ v. v.form) is) (ap (λ v. v.world) is) (ap (λ v. v.callbacks) is)
-    (grew ∙ ap (λ v. out ++ show_text form (printed_monitor v)) c.monitor.ensures ∙ ap (λ v. out ++ show_text v.form (printed_monitor v.world.monitor)) is))
+    (λ grew. record {
+      later = ap (λ v. v.later) is;
+      on = λ l. show_made g.R.Rng.stream g.C.Callbacks.callbacks g.C.Callbacks.stands_for g.met.C.Callbacks.in_place (with_later c.args.self.now l) _ _ _ c.requires refl refl (ap (λ v. v.form) is) (ap (λ v. v.world) is) (ap (λ v. v.callbacks) is)
+          (grew ∙ ap (λ v. out ++ show_text form (printed_monitor v)) c.monitor.ensures ∙ ap (λ v. out ++ show_text v.form (printed_monitor v.world.monitor)) is);
+    })
     c.print_show.ensures.ok

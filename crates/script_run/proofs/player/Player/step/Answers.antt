@@ -10,6 +10,7 @@ use Rattle.damon_world.specs.Stands.{StandsAt}
 use Rattle.script_run.specs.Callbacks.{IsStep}
 use Rattle.script_run.specs.Calls.{Follows}
 use Rattle.script_run.specs.Part.{part_value}
+use Rattle.script_run.specs.Played.{with_later}
 use Rattle.script_run.proofs.Making.{somewhere-then}
 use Rattle.script_run.proofs.Moves.{steps_made, steps_play}
 use Rattle.script_run.proofs.Next.{player-stepped}
@@ -37,8 +38,11 @@ returns-clause-on g c text =
     let stands = g.C.Callbacks.stands_for in
     let is = c.self.view_is in
     let n = c.advance-made.result in
-    steps_made stream g.C.Callbacks.callbacks stands g.met.C.Callbacks.in_place c.args.self.now _ text c.args.until c.args.most n c.requires.part refl
-    (ap (λ v. v.later) is) (ap (λ v. v.form) is) (omega (arith, c.advance-made.ensures.count)) c.requires.some c.requires.between
-    (subst (λ w. Plays stream w c.advance-made.new.self (λ m. events_of_steps n m)) (ap (λ v. v.world) is) c.advance-made.ensures.plays)
-    (subst (λ w. (m : Moment) → Reached m.state → StandsAt stream w m → AreAmid n m) (ap (λ v. v.world) is) c.advance-made.ensures.amid)
-    (subst (λ k. (steps : List Event) → AllByRecursion IsStep steps → Follows stands k c.after_steps.new.self steps) (ap (λ v. v.callbacks) is) c.after_steps.ensures)
+    record {
+      later = ap (λ v. v.later) is;
+      on = λ l. steps_made stream g.C.Callbacks.callbacks stands g.met.C.Callbacks.in_place (with_later c.args.self.now l) _ text c.args.until c.args.most n c.requires.part refl
+          refl (ap (λ v. v.form) is) (omega (arith, c.advance-made.ensures.count)) c.requires.some c.requires.between
+          (subst (λ w. Plays stream w c.advance-made.new.self (λ m. events_of_steps n m)) (ap (λ v. v.world) is) c.advance-made.ensures.plays)
+          (subst (λ w. (m : Moment) → Reached m.state → StandsAt stream w m → AreAmid n m) (ap (λ v. v.world) is) c.advance-made.ensures.amid)
+          (subst (λ k. (steps : List Event) → AllByRecursion IsStep steps → Follows stands k c.after_steps.new.self steps) (ap (λ v. v.callbacks) is) c.after_steps.ensures);
+    }

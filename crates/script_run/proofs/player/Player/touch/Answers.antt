@@ -7,6 +7,7 @@ use Rattle.script_run.specs.Calls.{Follows}
 use Rattle.script_run.specs.Part.{part_value}
 use Rattle.script_run.specs.Part as part
 use Rattle.script_run.specs.Kept.{IsPartWithin}
+use Rattle.script_run.specs.Played.{with_later}
 use Rattle.script_run.specs.Player.{left_of}
 use Rattle.script_run.proofs.Making.{somewhere-then}
 use Rattle.script_run.proofs.Moves.{touches_made, touches_play}
@@ -42,7 +43,10 @@ pub returns-clause-on : goal.returns-clause-on
 returns-clause-on g c text =
     let is = c.self.view_is in
     let stands = g.C.Callbacks.stands_for in
-    touches_made g.R.Rng.stream g.C.Callbacks.callbacks stands g.met.C.Callbacks.in_place c.args.self.now _ text c.args.page c.args.count c.requires.part refl
-    (ap (λ v. v.later) is) (ap (λ v. v.form) is) (c.make_touches.ensures.source ∙ ap (λ v. v.world.source) is)
-    (subst (λ w. Makes StandsFor w c.make_touches.new.world (touches c.args.page c.args.count)) (ap (λ v. v.world) is) c.make_touches.ensures.events)
-    (subst (λ k. Follows stands k c.after_touches.new.self (touches c.args.page c.args.count)) (ap (λ v. v.callbacks) is) c.after_touches.ensures)
+    record {
+      later = ap (λ v. v.later) is;
+      on = λ l. touches_made g.R.Rng.stream g.C.Callbacks.callbacks stands g.met.C.Callbacks.in_place (with_later c.args.self.now l) _ text c.args.page c.args.count c.requires.part refl
+          refl (ap (λ v. v.form) is) (c.make_touches.ensures.source ∙ ap (λ v. v.world.source) is)
+          (subst (λ w. Makes StandsFor w c.make_touches.new.world (touches c.args.page c.args.count)) (ap (λ v. v.world) is) c.make_touches.ensures.events)
+          (subst (λ k. Follows stands k c.after_touches.new.self (touches c.args.page c.args.count)) (ap (λ v. v.callbacks) is) c.after_touches.ensures);
+    }

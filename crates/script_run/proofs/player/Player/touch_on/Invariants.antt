@@ -1,5 +1,5 @@
 use Rattle.std.proofs.Common.{◌≡◌, ◌≤◌, ℕ, List, true}
-use Rattle.script_run.specs.Kept.{is_done}
+use Rattle.script_run.specs.Parts.{is_done}
 use Rattle.script_run.specs.Player.{GoesOnWith, left_moves}
 use Rattle.script_run.proofs.player.Player.touch_on.Given as goal
 

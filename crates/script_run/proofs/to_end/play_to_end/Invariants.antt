@@ -5,7 +5,7 @@ use Rattle.damon_control.specs.ScriptView.{said_by}
 use Rattle.snapshot_print.specs.declared.form.Form.TheVariants.{Text}
 use Rattle.script_run.specs.Player.{left_moves}
 use Rattle.script_run.specs.Way.{IsOnItsWay}
-use Rattle.script_run.proofs.player.play_to_end.Given as goal
+use Rattle.script_run.proofs.to_end.play_to_end.Given as goal
 
 -- the player is on its way through the script, and no text is kept
 abbrev pub invariant-pieces : goal.invariant-pieces

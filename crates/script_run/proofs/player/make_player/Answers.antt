@@ -12,7 +12,7 @@ use Rattle.script_run.specs.Parts.{part_of, parts_of}
 use Rattle.script_run.specs.Unfold.{start_with}
 use Rattle.script_run.specs.Way.{Reached-start}
 use Rattle.script_run.proofs.Fits.{parts_within}
-use Rattle.script_run.proofs.player.open_player_with.Goals as goal
+use Rattle.script_run.proofs.player.make_player.Goals as goal
 
 left_of-part : (cap : ℕ) (c : CommandValue) → left_of (part_of cap c) ≤ weight cap c
 left_of-part cap (Touch page) = omega arith
@@ -50,8 +50,8 @@ invariant_of-result g c =
       work = omega (arith, left_in-parts s.setup.cap cs, sum_by-cons (λ q. 1 + left_of q) (part.Touches 0 0) (parts_of s.setup.cap cs), c.requires.work, c.len-commands.ensures, ap (λ x. x.ticks) c.in_ok-world.ensures.core);
     }
 
-pub returns : goal.returns
-returns g c = record {
+pub returns-clause-way : goal.returns-clause-way
+returns-clause-way g c = record {
   can_open = record { space = c.targets-targets.ensures.sound; sound = c.args.script.setup.sound; order = c.len-ranges.ensures.order };
   made = [];
   fit = tt;
@@ -62,4 +62,10 @@ returns g c = record {
   left = refl;
   written = refl;
   form = refl;
+}
+
+pub returns-clause-at : goal.returns-clause-at
+returns-clause-at g c = record {
+  world = record { state = c.in_ok-world.ensures.opening; words = ap (stream_of (steps_u32 pcg32)) c.in_ok-world.ensures.source ∙ c.random_words.ensures };
+  callbacks = c.requires.opening;
 }

@@ -1,0 +1,32 @@
+-- A text that a context says, line by line.
+use Rattle.std.proofs.Common.{◌≡◌, ℕ, ◌+◌, ◌<◌, List, [], ◌∷◌, ◌++◌, length, map, refl, sym, ap, ◌∙◌, arith, append_assoc}
+use Rattle.line_text.specs.Parts.{parts}
+use Rattle.script_lines.specs.Lines.{lines_text}
+use Rattle.damon_admin.specs.Voice.{all_but_last, spoken, spoken_line}
+use Rattle.damon_admin.proofs.Ended.{some_parts}
+
+first_kept : (p : List ℕ) (ps : List (List ℕ)) → 0 < length ps → all_but_last (p ∷ ps) ≡ p ∷ all_but_last ps
+first_kept p [] none = absurd (omega arith)
+first_kept p (q ∷ qs) more = refl
+
+-- the first line, and those after it
+pub spoken_first : (c : ℕ) (text line rest : List ℕ) → parts 10 text ≡ line ∷ parts 10 rest → spoken c text ≡ (48 + c) ∷ 32 ∷ (line ++ 10 ∷ spoken c rest)
+spoken_first c text line rest is =
+    ap (λ ps. lines_text (map (spoken_line c) (all_but_last ps))) is
+    ∙ ap (λ ls. lines_text (map (spoken_line c) ls)) (first_kept line (parts 10 rest) (some_parts rest))
+
+-- no line is left
+pub spoken_none : (c : ℕ) (text line : List ℕ) → parts 10 text ≡ line ∷ [] → spoken c text ≡ []
+spoken_none c text line is = ap (λ ps. lines_text (map (spoken_line c) (all_but_last ps))) is
+
+-- what is appended for a line
+pub line_spoken : (c : ℕ) (text line rest o x y z e : List ℕ) → parts 10 text ≡ line ∷ parts 10 rest
+    → x ≡ o ++ (48 + c) ∷ [] → y ≡ x ++ 32 ∷ [] → z ≡ y ++ line → e ≡ z ++ 10 ∷ [] → e ++ spoken c rest ≡ o ++ spoken c text
+line_spoken c text line rest o x y z e is digit space own end =
+    let s = spoken c rest in
+    ap (λ t. t ++ s) (end ∙ ap (λ t. t ++ 10 ∷ []) (own ∙ ap (λ t. t ++ line) (space ∙ ap (λ t. t ++ 32 ∷ []) digit)))
+    ∙ append_assoc (((o ++ (48 + c) ∷ []) ++ 32 ∷ []) ++ line) (10 ∷ []) s
+    ∙ append_assoc ((o ++ (48 + c) ∷ []) ++ 32 ∷ []) line (10 ∷ s)
+    ∙ append_assoc (o ++ (48 + c) ∷ []) (32 ∷ []) (line ++ 10 ∷ s)
+    ∙ append_assoc o ((48 + c) ∷ []) (32 ∷ (line ++ 10 ∷ s))
+    ∙ ap (λ t. o ++ t) (sym (spoken_first c text line rest is))

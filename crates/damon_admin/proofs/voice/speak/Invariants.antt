@@ -1,0 +1,10 @@
+use Rattle.std.proofs.Common.{◌≡◌, ◌++◌, length}
+use Rattle.damon_admin.specs.Voice.{spoken}
+use Rattle.damon_admin.proofs.voice.speak.Given as goal
+
+-- what is said so far and what is left to be said
+abbrev pub invariant-lines : goal.invariant-lines
+invariant-lines l = l.out.items ++ spoken l.context l.left ≡ l.fn.out.items ++ spoken l.context l.text
+
+abbrev pub decreases-lines : goal.decreases-lines
+decreases-lines l = length l.left

@@ -1,0 +1,7 @@
+pub mod Lines
+pub mod Voice
+pub mod Written
+pub mod Stage
+pub mod Admin
+pub mod Kept
+pub mod Laws

@@ -1,0 +1,164 @@
+-- A player that plays one command after another.
+use Rattle.std.specs.Prelude.{◌≡◌, ℕ, List, [], ◌∷◌, ◌++◌, refl, true}
+use Rattle.std.proofs.Common.{◌∙◌, ap, sym, subst, append-nil, append_assoc}
+use Rattle.std.proofs.lemmas.List.{map-append}
+use Rattle.rand_core.specs.Stream.{Stream}
+use Rattle.damon_core.specs.State.{State}
+use Rattle.damon_world.specs.Stands.{StandsFor}
+use Rattle.script_lines.specs.Command.{CommandValue}
+use Rattle.damon_control.specs.Script.{ScriptValue}
+use Rattle.snapshot_print.specs.declared.form.Form.{Form}
+use Rattle.script_run.specs.Callbacks.{Callbacks, no_callbacks}
+use Rattle.script_run.specs.Course.{Course, onward, onward-append}
+use Rattle.script_run.specs.Part.{Part}
+use Rattle.script_run.specs.Parts.{is_done, part_of, parts_of}
+use Rattle.script_run.specs.Player.{AnyState, GoesOnWith, IsOver, IsOverWith, PlayerOf, PlayerView, WritesLast, left_events}
+use Rattle.script_run.specs.Report.{last_state, report, text_from}
+use Rattle.script_run.specs.Unfold.{own_events, part_events, parts_events, start_with}
+use Rattle.script_run.specs.Way.{IsOnItsWay, way-finished, way-last, way-on}
+
+-- a player of which other commands follow the one under way
+abbrev pub with_later : {R C : Type 0} → PlayerOf R C → List Part → PlayerOf R C
+with_later p later = record p { later = later }
+
+-- the player made some of the events that are left of the command under way, whatever commands follow it
+pub record PlaysOnWith {R C : Type 0} (stream : R → Stream) (c : Callbacks) (stands : C → List ℕ → State → Type 0)
+    (old new : PlayerOf R C) (before after : List ℕ) : Type 0 where
+  pub later : new.later ≡ old.later
+  pub on : (later : List Part) → GoesOnWith stream c stands (with_later old later) (with_later new later) before after
+
+-- the player made the first of the events of the next command, whatever commands follow it
+pub record BeginsWith {R C : Type 0} (stream : R → Stream) (c : Callbacks) (stands : C → List ℕ → State → Type 0)
+    (old new : PlayerOf R C) (before after : List ℕ) : Type 0 where
+  pub next : Part
+  pub first : old.later ≡ next ∷ new.later
+  pub on : (later : List Part) → GoesOnWith stream c stands (with_later old (next ∷ later)) (with_later new later) before after
+
+-- The player made all events of the next command and no other, and the text grew by theirs: it went on as if this were the only
+-- command that is left, and no event of it is left.
+pub record PlaysNextWith {R C : Type 0} (stream : R → Stream) (c : Callbacks) (stands : C → List ℕ → State → Type 0)
+    (old new : PlayerOf R C) (before after : List ℕ) : Type 0 where
+  pub next : Part
+  pub first : old.later ≡ next ∷ new.later
+  pub on : GoesOnWith stream c stands (with_later old (next ∷ [])) (with_later new []) before after
+  pub over : IsOverWith stream c stands (with_later new [])
+  pub done : is_done new.part new.world.monitor.core.phase ≡ true
+
+-- a script with these commands in place of its own
+abbrev pub up_to : ScriptValue → List CommandValue → ScriptValue
+up_to s commands = record s { commands = commands }
+
+-- what the commands of a script write: its report without the last line
+abbrev pub commands_text : Form → ScriptValue → List ℕ
+commands_text f s = text_from no_callbacks f (start_with no_callbacks s) (own_events no_callbacks s)
+
+-- A player that carried out these commands of the script, the first ones, and nothing of another; this is their text, and the
+-- other commands are left.
+pub record HasPlayed {R : Type 0} (stream : R → Stream) (s : ScriptValue) (f : Form) (commands : List CommandValue)
+    (p : PlayerView R) (text : List ℕ) : Type 0 where
+  pub way : IsOnItsWay stream (up_to s commands) f (with_later p []) text
+  pub over : IsOver stream (with_later p [])
+  pub done : is_done p.part p.world.monitor.core.phase ≡ true
+  pub rest : List CommandValue
+  pub all : s.commands ≡ commands ++ rest
+  pub later : p.later ≡ parts_of s.setup.cap rest
+
+-- the events of parts and then others
+pub parts_events-append : (c : Callbacks) (r : Course) (ps qs : List Part)
+    → parts_events c r (ps ++ qs) ≡ parts_events c r ps ++ parts_events c (onward c r (parts_events c r ps)) qs
+parts_events-append c r [] qs = refl
+parts_events-append c r (p ∷ ps) qs =
+    let es = part_events c r p in
+    let q = onward c r es in
+    let fs = parts_events c q ps in
+    ap (λ xs. es ++ xs) (parts_events-append c q ps qs)
+    ∙ sym (append_assoc es fs (parts_events c (onward c q fs) qs))
+    ∙ ap (λ x. (es ++ fs) ++ parts_events c x qs) (sym (onward-append c r es fs))
+
+-- the events of one command more
+pub own_events-more : (s : ScriptValue) (cs : List CommandValue) (d : CommandValue)
+    → (let es = own_events no_callbacks (up_to s cs) in
+    own_events no_callbacks (up_to s (cs ++ d ∷ []))
+    ≡ es ++ parts_events no_callbacks (onward no_callbacks (start_with no_callbacks s) es) (part_of s.setup.cap d ∷ []))
+own_events-more s cs d =
+    let first = start_with no_callbacks s in
+    ap (parts_events no_callbacks first) (map-append (part_of s.setup.cap) cs (d ∷ []))
+    ∙ parts_events-append no_callbacks first (parts_of s.setup.cap cs) (part_of s.setup.cap d ∷ [])
+
+module _ {R : Type 0} (stream : R → Stream) (s : ScriptValue) (f : Form) where
+  -- all that was written is the text of the commands that were carried out
+  pub played-text : (cs : List CommandValue) (p : PlayerView R) (text : List ℕ) → HasPlayed stream s f cs p text
+      → text ≡ commands_text f (up_to s cs)
+  played-text cs p text played =
+      let way = played.way in
+      let first = start_with no_callbacks s in
+      let all : own_events no_callbacks (up_to s cs) ≡ way.made =
+      way.left ∙ ap (λ es. way.made ++ es) (played.over (onward no_callbacks first way.made) way.stands) ∙ append-nil way.made in
+      way.written ∙ ap (text_from no_callbacks f first) (sym all)
+
+  -- the player stands for the state after these commands
+  pub played-state : (cs : List CommandValue) (p : PlayerView R) (text : List ℕ) → HasPlayed stream s f cs p text
+      → StandsFor p.world (last_state (up_to s cs))
+  played-state cs p text played = way-last stream (up_to s cs) f (with_later p []) text played.way played.over
+
+  -- where one command more is allowed, the player is on its way through these
+  more_allowed : (cs : List CommandValue) (d : CommandValue) (p : PlayerView R) (text : List ℕ) → HasPlayed stream s f cs p text
+      → IsOnItsWay stream (up_to s (cs ++ d ∷ [])) f (with_later p (part_of s.setup.cap d ∷ [])) text
+  more_allowed cs d p text played =
+      let c = no_callbacks in
+      let way = played.way in
+      let first = start_with c s in
+      let r = onward c first way.made in
+      let next : List Part = part_of s.setup.cap d ∷ [] in
+      let none = left_events c (with_later p []) r in
+      let made_all : own_events c (up_to s cs) ≡ way.made ++ none = way.left in
+      record {
+        can_open = way.can_open;
+        made = way.made;
+        fit = way.fit;
+        stands = way.stands;
+        left =
+            own_events-more s cs d
+            ∙ ap (λ es. es ++ parts_events c (onward c first es) next) made_all
+            ∙ append_assoc way.made none (parts_events c (onward c first (way.made ++ none)) next)
+            ∙ ap (λ x. way.made ++ (none ++ parts_events c x next)) (onward-append c first way.made none)
+            ∙ ap (λ es. way.made ++ es) (sym (parts_events-append c r (p.part ∷ []) next));
+        written = way.written;
+        form = way.form;
+      }
+
+  -- the next command is played
+  pub played-next : (cs : List CommandValue) (p q : PlayerView R) (text added : List ℕ) → HasPlayed stream s f cs p text
+      → PlaysNextWith stream no_callbacks AnyState p q [] added
+      → (d : CommandValue) × (rest : List CommandValue) × (s.commands ≡ cs ++ (d ∷ rest))
+      × HasPlayed stream s f (cs ++ d ∷ []) q (text ++ added)
+  played-next cs p q text added played next = by_rest played.rest played.all (sym played.later ∙ next.first)
+    where
+      by_rest : (rest : List CommandValue) → s.commands ≡ cs ++ rest → parts_of s.setup.cap rest ≡ next.next ∷ q.later
+          → (d : CommandValue) × (more : List CommandValue) × (s.commands ≡ cs ++ (d ∷ more))
+          × HasPlayed stream s f (cs ++ d ∷ []) q (text ++ added)
+      by_rest [] all is = absurd (cc is)
+      by_rest (d ∷ more) all is =
+          let head : part_of s.setup.cap d ≡ next.next = cc is in
+          let tail : parts_of s.setup.cap more ≡ q.later = cc is in
+          let old = with_later p (part_of s.setup.cap d ∷ []) in
+          let on = subst (λ n. GoesOnWith stream no_callbacks AnyState (with_later p (n ∷ [])) (with_later q []) [] added) (sym head) next.on in (
+            d,
+            more,
+            all,
+            record {
+              way = way-on stream (up_to s (cs ++ d ∷ [])) f old (with_later q []) text added (more_allowed cs d p text played) on;
+              over = next.over;
+              done = next.done;
+              rest = more;
+              all = all ∙ sym (append_assoc cs (d ∷ []) more);
+              later = sym tail;
+            },
+          )
+
+  -- once all commands are played, the last line ends the report
+  pub played-report : (p : PlayerView R) (text last : List ℕ) → HasPlayed stream s f s.commands p text → WritesLast stream p [] last
+      → text ++ last ≡ report f s
+  played-report p text last played ends =
+      let q = with_later p [] in
+      way-finished stream s f q text [] last (subst (IsOnItsWay stream s f q) (sym (append-nil text)) played.way) played.over ends
