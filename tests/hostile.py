@@ -5,7 +5,7 @@
 
 OTHER_DAMON and OTHER_DAMOND are programs with the same formats. Each input is a valid or a rejected text with one to
 four edits: of bytes, of words, of lines, or one that is aimed at a rule of the formats (`hostile_edits.py`). It is
-given to both programs, with `replay`, `json`, `reclaim`, `tune` and two goals, `verify`, `heat 16` or `run`. Both must write
+given to both programs, with `replay`, `json`, `reclaim`, `tune` and two goals, `admin`, `verify`, `heat 16` or `run`. Both must write
 the same bytes to standard output and to standard error and end with the same status. Two runs of `damond run` in threads may write two journals; there
 both programs must end alike, and each must accept the journal of either by its `verify`.
 
@@ -20,6 +20,7 @@ import subprocess
 import sys
 import zlib
 from concurrent.futures import ThreadPoolExecutor
+from itertools import zip_longest
 from pathlib import Path
 from typing import Dict, List, NamedTuple, Optional
 
@@ -27,7 +28,7 @@ from hostile_edits import edited
 
 TOP = Path(__file__).resolve().parent.parent
 BUILT = {name: TOP / f"crates/{name}/out/{name}" for name in ("damon", "damond")}
-COMMANDS = ("replay", "json", "reclaim", "tune", "verify", "heat", "run")
+COMMANDS = ("replay", "json", "reclaim", "tune", "admin", "verify", "heat", "run")
 # The words after a command.
 WORDS = {"heat": ("16",), "tune": ("0:metric:100:4096:81920", "1:cold:700:0:40960")}
 # A longer text is left out: most of its edits are far from the places where rules meet.
@@ -108,8 +109,19 @@ def load_seeds(with_live: bool) -> Dict[str, List[bytes]]:
     for command in ("json", "reclaim", "tune"):
         seeds[command] = seeds[command] + seeds["replay"]
     seeds["heat"] = seeds["heat"] + seeds["verify"]
+    seeds["admin"] = seeds["admin"] + beside_each_other(seeds["replay"])
     seeds["run"] = [it for it in seeds["run"] + live_scripts(seeds["replay"]) if with_live]
     return seeds
+
+
+def beside_each_other(scripts: List[bytes]) -> List[bytes]:
+    """Inputs of two contexts: each script beside the next one, a line of each by turns."""
+    made = []
+    for one, other in zip(scripts, scripts[1:]):
+        pairs = zip_longest(one.splitlines(), other.splitlines())
+        lines = [b"%d %s" % (context, line) for pair in pairs for context, line in enumerate(pair) if line is not None]
+        made.append(b"\n".join([b"damon admin 1", *lines, b""]))
+    return [text for text in made if len(text) <= MOST_BYTES]
 
 
 def live_scripts(scripts: List[bytes]) -> List[bytes]:

@@ -21,7 +21,7 @@ from tool_runs import need_program
 
 TOP = Path(__file__).resolve().parent.parent
 CASES = TOP / "tests/cases/heat.jsonl"
-USAGE = "usage: damon replay, json, verify, gen N, tune GOALS, heat N or reclaim"
+USAGE = "usage: damon replay, json, verify, gen N, tune GOALS, heat N, admin or reclaim"
 SIZES = (8, 16, 64)
 MILLION = 1_048_576
 LONGEST = 16_777_216

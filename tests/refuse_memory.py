@@ -103,6 +103,8 @@ def runs() -> Iterator[Run]:
         else:
             for words in (["replay"], ["json"], ["reclaim"], ["tune", "0:cold:500:4096:81920"]):
                 yield Run(f"damon {' '.join(words)} < {file.name}", DAMON, words, text)
+    for file in sorted((TOP / "examples").glob("*.admin")):
+        yield Run(f"damon admin < {file.name}", DAMON, ["admin"], file.read_bytes())
     for file in sorted((TOP / "examples").glob("*.journal")):
         yield Run(f"damon verify < {file.name}", DAMON, ["verify"], file.read_bytes())
     for file in sorted((TOP / "examples").glob("*.journal.xz")):

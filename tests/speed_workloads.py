@@ -120,6 +120,12 @@ def tuning(times: int) -> bytes:
     return aggregations(times, ("scheme 0 pageout count=0,0 quota=8388608,1 prefer=cold",))
 
 
+def contexts(touches: int) -> bytes:
+    """Eight contexts with the same script, a line of each by turns."""
+    lines = reading(touches).splitlines()
+    return b"\n".join([b"damon admin 1", *(b"%d %s" % (context, line) for line in lines for context in range(8)), b""])
+
+
 def live(sweeps_each: int) -> bytes:
     """Eight workers that sweep 4,096 pages at a time, two controllers, and the most passes with 4,096 regions."""
     choose = random.Random(7)
@@ -155,6 +161,7 @@ RUN = ("run",)
 JSON = ("json",)
 RECLAIM = ("reclaim",)
 TUNE = ("tune", "0:cold:980:4096:8388608")
+ADMIN = ("admin",)
 WORKLOADS = (
     Workload("sweeps", "pages in each of 16 sweeps", REPLAY, (MILLION, 104_858, 10_486), sweeps),
     Workload("passes", "passes over 4,000 regions of 1,048,576 pages", REPLAY, (1000, 100, 10), passes(MILLION)),
@@ -170,6 +177,7 @@ WORKLOADS = (
     Workload("reclaim", "aggregations of some 3,700 regions, with pages put out and fetched", RECLAIM, (366, 36, 4), paging),
     Workload("reclaim touches", "touches", RECLAIM, (800_000, 80_000, 8_000), reading),
     Workload("tune", "aggregations of some 3,700 regions, with a goal", TUNE, (366, 36, 4), tuning),
+    Workload("admin", "touches of each of 8 contexts", ADMIN, (80_000, 8_000, 800), contexts),
     Workload("verify", "touches of each of 8 workers, 2,000 passes", VERIFY, (70_000, 7_000, 700), journal_of(small_live)),
     Workload("verify wide", "sweeps of each of 8 workers over 1,048,576 pages", VERIFY, (10, 1), journal_of(live)),
     Workload("heat", "touches of each of 8 workers, 2,000 passes", HEAT, (20_000, 2_000, 200), journal_of(small_live)),

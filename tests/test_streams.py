@@ -60,6 +60,7 @@ def commands() -> Iterator[Command]:
     yield Command(DAMON, ["json"], script)
     yield Command(DAMON, ["reclaim"], script)
     yield Command(DAMON, ["tune", "0:cold:500:4096:81920"], script)
+    yield Command(DAMON, ["admin"], (TOP / "examples/contexts.admin").read_bytes())
     journal = (TOP / "examples/live.journal").read_text()
     yield Command(DAMON, ["verify"], journal.encode())
     yield Command(DAMON, ["heat", "8"], aggregated(journal).encode())

@@ -5,7 +5,7 @@ use Rattle.quota_goal.specs.declared.goals.Goal.{Goal}
 use Rattle.quota_goal.specs.declared.goals.GoalKind.TheVariants.{Metric, Hot}
 use Rattle.damon_app.specs.GoalWords.{goal_of, goals_of}
 use Rattle.damon_app.specs.Request.{request_of}
-use Rattle.damon_app.specs.declared.request.Request.TheVariants.{Report}
+use Rattle.damon_app.specs.declared.request.Request.TheVariants.{Report, Admin}
 use Rattle.damon_app.specs.declared.request.Run.TheVariants.{Reclaim, Tune}
 
 abbrev metric_word : List ℕ
@@ -51,6 +51,12 @@ seventeen_goals : goals_of (replicate 17 metric_word) ≡ None
 seventeen_goals = refl
 
 -- ---- requests
+
+admin_alone : request_of (codes "admin" ∷ []) ≡ Some Admin
+admin_alone = refl
+
+admin_and_a_word : request_of (codes "admin" ∷ codes "1" ∷ []) ≡ None
+admin_and_a_word = refl
 
 reclaim_alone : request_of (codes "reclaim" ∷ []) ≡ Some (Report Reclaim)
 reclaim_alone = refl

@@ -7,7 +7,7 @@ use Rattle.damon_journal.specs.Verified.{IsOfNoLawfulRun}
 use Rattle.damon_journal.specs.declared.status.Status.{Status}
 use Rattle.damon_journal.specs.declared.status.Status.TheVariants.{Unlawful}
 use Rattle.damon_app.specs.declared.request.Request.{Request}
-use Rattle.damon_app.specs.declared.request.Request.TheVariants.{Report, Verify, Heat, Generate}
+use Rattle.damon_app.specs.declared.request.Request.TheVariants.{Report, Verify, Heat, Admin, Generate}
 use Rattle.damon_app.specs.Replay.{MayCome, TellsFault}
 use Rattle.damon_app.specs.Request.{ReadsInput}
 
@@ -21,5 +21,6 @@ pub unlawful_text : ((text : List ℕ) (line : ℕ) → read_journal text ≡ Er
 unlawful_text law (Some Verify) status told line comes fault is = told_unlawful law status told line is (fault tt (subst IsRead (sym is) tt))
 unlawful_text law (Some (Heat columns)) status told line comes fault is = told_unlawful law status told line is (fault tt (subst IsRead (sym is) tt))
 unlawful_text law (Some (Report run)) status told line comes fault is = absurd (subst (λ (s : Status). MayCome s (Some (Report run))) is comes)
+unlawful_text law (Some Admin) status told line comes fault is = absurd (subst (λ (s : Status). MayCome s (Some Admin)) is comes)
 unlawful_text law (Some (Generate n)) status told line comes fault is = absurd (subst (λ (s : Status). MayCome s (Some (Generate n))) is comes)
 unlawful_text law None status told line comes fault is = absurd (subst (λ (s : Status). MayCome s None) is comes)

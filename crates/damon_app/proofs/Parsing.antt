@@ -28,11 +28,11 @@ use Rattle.quota_goal.specs.declared.goals.TheConstants.{MAX_GOALS}
 use Rattle.damon_app.specs.GoalWords.{◌>>=◌, goal_in, goal_of, goals_in}
 use Rattle.damon_app.specs.Parser.{Found, begins_with_hyphen, by_goals, damon_app, has_option, request_found, words_found}
 use Rattle.damon_app.specs.declared.request.Request.{Request}
-use Rattle.damon_app.specs.declared.request.Request.TheVariants.{Report, Verify}
+use Rattle.damon_app.specs.declared.request.Request.TheVariants.{Report, Verify, Admin}
 use Rattle.damon_app.specs.declared.request.Run.TheVariants.{Plain, Reclaim}
 use Rattle.snapshot_print.specs.declared.form.Form.TheVariants.{Text as TextForm, Json as JsonForm}
 use Rattle.damon_app.specs.Request.{asked, asked_alone, asked_by, asked_to_tune, asked_with, request_of}
-use Rattle.damon_app.proofs.TooManyWords.{gen_fails, heat_fails, json_fails, reclaim_fails, replay_fails, verify_fails}
+use Rattle.damon_app.proofs.TooManyWords.{admin_fails, gen_fails, heat_fails, json_fails, reclaim_fails, replay_fails, verify_fails}
 use Rattle.damon_app.proofs.Walking.{ArePlain, IsPlainWord}
 use Rattle.damon_app.proofs.WalkingGoals.{goals_fail, goals_found, goals_pass}
 
@@ -53,9 +53,9 @@ tuning words = record { name = codes "tune"; number = None; goals = Some words }
 -- ---- words that do not begin with a hyphen
 
 module _ (c : ℕ) (cs : List ℕ) (dash : (c == 45) ≡ false) where
-  other_fails : (ws : List Text) → bytes_eq (codes "replay") (c ∷ cs) ≡ false → bytes_eq (codes "json") (c ∷ cs) ≡ false → bytes_eq (codes "verify") (c ∷ cs) ≡ false → bytes_eq (codes "gen") (c ∷ cs) ≡ false → bytes_eq (codes "heat") (c ∷ cs) ≡ false → bytes_eq (codes "tune") (c ∷ cs) ≡ false → bytes_eq (codes "reclaim") (c ∷ cs) ≡ false → fault_of damon_app ((c ∷ cs) ∷ ws) ≡ kind.UnknownArgument ∷ kind.InvalidSubcommand ∷ []
+  other_fails : (ws : List Text) → bytes_eq (codes "replay") (c ∷ cs) ≡ false → bytes_eq (codes "json") (c ∷ cs) ≡ false → bytes_eq (codes "verify") (c ∷ cs) ≡ false → bytes_eq (codes "gen") (c ∷ cs) ≡ false → bytes_eq (codes "heat") (c ∷ cs) ≡ false → bytes_eq (codes "tune") (c ∷ cs) ≡ false → bytes_eq (codes "admin") (c ∷ cs) ≡ false → bytes_eq (codes "reclaim") (c ∷ cs) ≡ false → fault_of damon_app ((c ∷ cs) ∷ ws) ≡ kind.UnknownArgument ∷ kind.InvalidSubcommand ∷ []
   unfolding clap_on_literals
-  other_fails ws r j v g h t m = rw (r, j, v, g, h, t, m, dash, dash) refl
+  other_fails ws r j v g h t a m = rw (r, j, v, g, h, t, a, m, dash, dash) refl
 
   gen_passes : fault_of damon_app (codes "gen" ∷ (c ∷ cs) ∷ []) ≡ []
   unfolding clap_on_literals
@@ -81,6 +81,7 @@ named_by word [] =
     if bytes_eq word (codes "replay") then Some (alone (codes "replay"))
     else if bytes_eq word (codes "json") then Some (alone (codes "json"))
     else if bytes_eq word (codes "verify") then Some (alone (codes "verify"))
+    else if bytes_eq word (codes "admin") then Some (alone (codes "admin"))
     else if bytes_eq word (codes "reclaim") then Some (alone (codes "reclaim"))
     else None
 named_by word (digits ∷ []) =
@@ -127,6 +128,12 @@ verify_parsed [] plain = inl (refl, refl)
 verify_parsed (x ∷ []) plain = inr (kind.UnknownArgument, [], verify_fails x [] plain.0, refl)
 verify_parsed (x ∷ y ∷ ws) plain = inr (kind.UnknownArgument, [], verify_fails x (y ∷ ws) plain.0, refl)
 
+admin_parsed : (ws : List Text) → ArePlain ws → IsParsedAs (codes "admin" ∷ ws)
+unfolding clap_on_literals
+admin_parsed [] plain = inl (refl, refl)
+admin_parsed (x ∷ []) plain = inr (kind.UnknownArgument, [], admin_fails x [] plain.0, refl)
+admin_parsed (x ∷ y ∷ ws) plain = inr (kind.UnknownArgument, [], admin_fails x (y ∷ ws) plain.0, refl)
+
 reclaim_parsed : (ws : List Text) → ArePlain ws → IsParsedAs (codes "reclaim" ∷ ws)
 unfolding clap_on_literals
 reclaim_parsed [] plain = inl (refl, refl)
@@ -166,10 +173,10 @@ tune_parsed (word ∷ words) plain = by (nat_le (length (word ∷ words)) MAX_GO
     by false is = inr (kind.TooManyValues, [], goals_fail word words plain.0 plain.1 is, tune_named word words false is)
 
 -- words that name no subcommand
-none_named : (word : Text) (ws : List Text) → bytes_eq word (codes "replay") ≡ false → bytes_eq word (codes "json") ≡ false → bytes_eq word (codes "verify") ≡ false → bytes_eq word (codes "gen") ≡ false → bytes_eq word (codes "heat") ≡ false → bytes_eq word (codes "tune") ≡ false → bytes_eq word (codes "reclaim") ≡ false → named (word ∷ ws) ≡ None
-none_named word [] r j v g h t m = rw (t, r, j, v, m) refl
-none_named word (x ∷ []) r j v g h t m = rw (t, g, h) refl
-none_named word (x ∷ y ∷ ws) r j v g h t m = rw t refl
+none_named : (word : Text) (ws : List Text) → bytes_eq word (codes "replay") ≡ false → bytes_eq word (codes "json") ≡ false → bytes_eq word (codes "verify") ≡ false → bytes_eq word (codes "gen") ≡ false → bytes_eq word (codes "heat") ≡ false → bytes_eq word (codes "tune") ≡ false → bytes_eq word (codes "admin") ≡ false → bytes_eq word (codes "reclaim") ≡ false → named (word ∷ ws) ≡ None
+none_named word [] r j v g h t a m = rw (t, r, j, v, a, m) refl
+none_named word (x ∷ []) r j v g h t a m = rw (t, g, h) refl
+none_named word (x ∷ y ∷ ws) r j v g h t a m = rw t refl
 
 flipped : (a b : Text) → bytes_eq a b ≡ false → bytes_eq b a ≡ false
 flipped a b not = by (bytes_eq b a) refl
@@ -178,11 +185,11 @@ flipped a b not = by (bytes_eq b a) refl
     by false is = refl
     by true is = let same : b ≡ a = (bytes_eq-Decides b a).0 is in let yes : bytes_eq a b ≡ true = (bytes_eq-Decides a b).1 (sym same) in absurd (let no : true ≡ false = sym yes ∙ not in cc no)
 
-unnamed_parsed : (word : Text) (ws : List Text) → IsPlainWord word → bytes_eq word (codes "replay") ≡ false → bytes_eq word (codes "json") ≡ false → bytes_eq word (codes "verify") ≡ false → bytes_eq word (codes "gen") ≡ false → bytes_eq word (codes "heat") ≡ false → bytes_eq word (codes "tune") ≡ false → bytes_eq word (codes "reclaim") ≡ false → IsParsedAs (word ∷ ws)
+unnamed_parsed : (word : Text) (ws : List Text) → IsPlainWord word → bytes_eq word (codes "replay") ≡ false → bytes_eq word (codes "json") ≡ false → bytes_eq word (codes "verify") ≡ false → bytes_eq word (codes "gen") ≡ false → bytes_eq word (codes "heat") ≡ false → bytes_eq word (codes "tune") ≡ false → bytes_eq word (codes "admin") ≡ false → bytes_eq word (codes "reclaim") ≡ false → IsParsedAs (word ∷ ws)
 unfolding clap_on_literals
-unnamed_parsed [] ws plain r j v g h t m = inr (kind.UnknownArgument, kind.InvalidSubcommand ∷ [], refl, none_named [] ws r j v g h t m)
-unnamed_parsed (c ∷ cs) ws plain r j v g h t m =
-    inr (kind.UnknownArgument, kind.InvalidSubcommand ∷ [], other_fails c cs plain ws (flipped (c ∷ cs) (codes "replay") r) (flipped (c ∷ cs) (codes "json") j) (flipped (c ∷ cs) (codes "verify") v) (flipped (c ∷ cs) (codes "gen") g) (flipped (c ∷ cs) (codes "heat") h) (flipped (c ∷ cs) (codes "tune") t) (flipped (c ∷ cs) (codes "reclaim") m), none_named (c ∷ cs) ws r j v g h t m)
+unnamed_parsed [] ws plain r j v g h t a m = inr (kind.UnknownArgument, kind.InvalidSubcommand ∷ [], refl, none_named [] ws r j v g h t a m)
+unnamed_parsed (c ∷ cs) ws plain r j v g h t a m =
+    inr (kind.UnknownArgument, kind.InvalidSubcommand ∷ [], other_fails c cs plain ws (flipped (c ∷ cs) (codes "replay") r) (flipped (c ∷ cs) (codes "json") j) (flipped (c ∷ cs) (codes "verify") v) (flipped (c ∷ cs) (codes "gen") g) (flipped (c ∷ cs) (codes "heat") h) (flipped (c ∷ cs) (codes "tune") t) (flipped (c ∷ cs) (codes "admin") a) (flipped (c ∷ cs) (codes "reclaim") m), none_named (c ∷ cs) ws r j v g h t a m)
 
 is_word : (word name : Text) (ws : List Text) → bytes_eq word name ≡ true → IsParsedAs (name ∷ ws) → IsParsedAs (word ∷ ws)
 is_word word name ws same parsed = subst (λ (w : Text). IsParsedAs (w ∷ ws)) (sym ((bytes_eq-Decides word name).0 same)) parsed
@@ -192,13 +199,17 @@ pub words_parsed : (words : List Text) → ArePlain words → IsParsedAs words
 words_parsed [] plain = none_parsed
 words_parsed (word ∷ ws) plain = by_replay (bytes_eq word (codes "replay")) refl
   where
-    by_reclaim : (u : Bool) → bytes_eq word (codes "reclaim") ≡ u → bytes_eq word (codes "replay") ≡ false → bytes_eq word (codes "json") ≡ false → bytes_eq word (codes "verify") ≡ false → bytes_eq word (codes "gen") ≡ false → bytes_eq word (codes "heat") ≡ false → bytes_eq word (codes "tune") ≡ false → IsParsedAs (word ∷ ws)
-    by_reclaim true is r j v g h t = is_word word (codes "reclaim") ws is (reclaim_parsed ws plain.1)
-    by_reclaim false is r j v g h t = unnamed_parsed word ws plain.0 r j v g h t is
+    by_reclaim : (u : Bool) → bytes_eq word (codes "reclaim") ≡ u → bytes_eq word (codes "replay") ≡ false → bytes_eq word (codes "json") ≡ false → bytes_eq word (codes "verify") ≡ false → bytes_eq word (codes "gen") ≡ false → bytes_eq word (codes "heat") ≡ false → bytes_eq word (codes "tune") ≡ false → bytes_eq word (codes "admin") ≡ false → IsParsedAs (word ∷ ws)
+    by_reclaim true is r j v g h t a = is_word word (codes "reclaim") ws is (reclaim_parsed ws plain.1)
+    by_reclaim false is r j v g h t a = unnamed_parsed word ws plain.0 r j v g h t a is
+
+    by_admin : (u : Bool) → bytes_eq word (codes "admin") ≡ u → bytes_eq word (codes "replay") ≡ false → bytes_eq word (codes "json") ≡ false → bytes_eq word (codes "verify") ≡ false → bytes_eq word (codes "gen") ≡ false → bytes_eq word (codes "heat") ≡ false → bytes_eq word (codes "tune") ≡ false → IsParsedAs (word ∷ ws)
+    by_admin true is r j v g h t = is_word word (codes "admin") ws is (admin_parsed ws plain.1)
+    by_admin false is r j v g h t = by_reclaim (bytes_eq word (codes "reclaim")) refl r j v g h t is
 
     by_tune : (u : Bool) → bytes_eq word (codes "tune") ≡ u → bytes_eq word (codes "replay") ≡ false → bytes_eq word (codes "json") ≡ false → bytes_eq word (codes "verify") ≡ false → bytes_eq word (codes "gen") ≡ false → bytes_eq word (codes "heat") ≡ false → IsParsedAs (word ∷ ws)
     by_tune true is r j v g h = is_word word (codes "tune") ws is (tune_parsed ws plain.1)
-    by_tune false is r j v g h = by_reclaim (bytes_eq word (codes "reclaim")) refl r j v g h is
+    by_tune false is r j v g h = by_admin (bytes_eq word (codes "admin")) refl r j v g h is
 
     by_heat : (t : Bool) → bytes_eq word (codes "heat") ≡ t → bytes_eq word (codes "replay") ≡ false → bytes_eq word (codes "json") ≡ false → bytes_eq word (codes "verify") ≡ false → bytes_eq word (codes "gen") ≡ false → IsParsedAs (word ∷ ws)
     by_heat true is r j v g = is_word word (codes "heat") ws is (heat_parsed ws plain.1)
@@ -222,14 +233,15 @@ words_parsed (word ∷ ws) plain = by_replay (bytes_eq word (codes "replay")) re
 
 -- ---- what the words ask for
 
-one_asks : (t u v m : Bool)
-    → request_found (if t then Some (alone (codes "replay")) else if u then Some (alone (codes "json")) else if v then Some (alone (codes "verify")) else if m then Some (alone (codes "reclaim")) else None)
-    ≡ (if t then Some (Report (Plain TextForm)) else if u then Some (Report (Plain JsonForm)) else if v then Some Verify else if m then Some (Report Reclaim) else None)
-one_asks true u v m = refl
-one_asks false true v m = refl
-one_asks false false true m = refl
-one_asks false false false true = refl
-one_asks false false false false = refl
+one_asks : (t u v a m : Bool)
+    → request_found (if t then Some (alone (codes "replay")) else if u then Some (alone (codes "json")) else if v then Some (alone (codes "verify")) else if a then Some (alone (codes "admin")) else if m then Some (alone (codes "reclaim")) else None)
+    ≡ (if t then Some (Report (Plain TextForm)) else if u then Some (Report (Plain JsonForm)) else if v then Some Verify else if a then Some Admin else if m then Some (Report Reclaim) else None)
+one_asks true u v a m = refl
+one_asks false true v a m = refl
+one_asks false false true a m = refl
+one_asks false false false true m = refl
+one_asks false false false false true = refl
+one_asks false false false false false = refl
 
 two_ask : (t u : Bool) (digits : Text)
     → request_found (if t then Some (numbered (codes "gen") digits) else if u then Some (numbered (codes "heat") digits) else None)
@@ -240,7 +252,7 @@ two_ask false false digits = refl
 
 -- what a word other than `tune` names is what it asks for
 by_asks : (word : Text) (words : List Text) → request_found (named_by word words) ≡ asked_by word words
-by_asks word [] = one_asks (bytes_eq word (codes "replay")) (bytes_eq word (codes "json")) (bytes_eq word (codes "verify")) (bytes_eq word (codes "reclaim"))
+by_asks word [] = one_asks (bytes_eq word (codes "replay")) (bytes_eq word (codes "json")) (bytes_eq word (codes "verify")) (bytes_eq word (codes "admin")) (bytes_eq word (codes "reclaim"))
 by_asks word (digits ∷ []) = two_ask (bytes_eq word (codes "gen")) (bytes_eq word (codes "heat")) digits
 by_asks word (digits ∷ more ∷ words) = refl
 

@@ -5,7 +5,7 @@ use Rattle.std.specs.Io.KnownBytes.{Appends}
 use Rattle.damon_types.specs.Causes.{Rose}
 use Rattle.damon_control.specs.Script.{script_of}
 use Rattle.damon_app.specs.declared.request.Run.{Run}
-use Rattle.damon_app.specs.declared.request.Request.TheVariants.{Report, Verify, Heat, Generate}
+use Rattle.damon_app.specs.declared.request.Request.TheVariants.{Report, Verify, Heat, Admin, Generate}
 use Rattle.damon_journal.specs.declared.status.Status.{Status}
 use Rattle.damon_journal.specs.declared.status.Status.TheVariants as statuses
 use Rattle.damon_journal.specs.Reading.{read_journal}
@@ -14,6 +14,8 @@ use Rattle.text_io.specs.Given.{GaveOver}
 use Rattle.text_io.specs.Taken.{WritesPart}
 use Rattle.damon_app.specs.declared.request.Columns.{Columns}
 use Rattle.damon_app.specs.declared.request.Request.{Request}
+use Rattle.damon_admin.specs.Lines.{lines_said}
+use Rattle.damon_app.specs.Contexts.{Administers, OutputPrefix}
 use Rattle.damon_app.specs.Heating.{Heats, HeatsPrefix}
 use Rattle.damon_journal.specs.Status.{EndsRun, IsFailure, status_of}
 use Rattle.text_io.specs.Ends.{Ends}
@@ -130,6 +132,38 @@ module _ (limit : ℕ) (columns : Columns) (source source' sink sink' : Ends) (u
     prefix = each (λ bytes. MayWrite (Heat columns) same bytes sink.bytes sink'.bytes) (λ bytes. same ⊎ HeatsPrefix columns bytes sink.bytes sink'.bytes) source.bytes begins_tables is.prefix;
   }
 
+-- the answer to a request for what several contexts say
+module _ (limit : ℕ) (source source' sink sink' : Ends) (unread same : Type 0) (status : Status) where
+  administers : (bytes : List ℕ) → WritesWanted Admin bytes sink.bytes sink'.bytes → Administers bytes sink.bytes sink'.bytes
+  administers bytes (text, (lines, said, is), all) = record { lines = lines; said = said; output = subst (Appends sink.bytes sink'.bytes) (sym is) all }
+
+  begins_output : (bytes : List ℕ) → MayWrite Admin same bytes sink.bytes sink'.bytes → same ⊎ OutputPrefix bytes sink.bytes sink'.bytes
+  begins_output bytes (inl is) = inl is
+  begins_output bytes (inr (text, (lines, said, is), part)) = inr (lines, said, subst (WritesPart sink.bytes sink'.bytes) (sym is) part)
+
+  tells_contexts : (bytes : List ℕ) → RefusesAs Admin status bytes → TellsFault (Some Admin) status bytes
+  tells_contexts bytes refuses fault =
+      let by = refuses (statuses.Script fault.line fault.kind) tt in
+      let says = spelled_fault (lines_said bytes) fault in
+      ((λ e. says.0 (by.0 e)), (λ e. by.1 (says.1 e)))
+
+  pub administered : IsOutcome limit Admin source source' sink sink' same status → IsAnswer limit (Some Admin) source source' sink sink' unread same status
+  administered is = record {
+    ok = λ e. each (λ bytes. WritesWanted Admin bytes sink.bytes sink'.bytes) (λ bytes. Administers bytes sink.bytes sink'.bytes) source.bytes administers (is.ok e);
+    lawful = λ e reads. absurd reads;
+    end = λ reads. is.end;
+    complete = is.complete;
+    usage = λ free. ((λ e. absurd (is.asked e)), (λ e. absurd (cc e)));
+    comes = is.comes;
+    too_long = is.too_long;
+    refused = λ reads yes. each (RefusesAs Admin status) (TellsFault (Some Admin) status) source.bytes tells_contexts (is.refused yes);
+    read = is.read;
+    write = is.write;
+    unread = λ not. absurd (not tt);
+    unwritten = is.unwritten;
+    prefix = each (λ bytes. MayWrite Admin same bytes sink.bytes sink'.bytes) (λ bytes. same ⊎ OutputPrefix bytes sink.bytes sink'.bytes) source.bytes begins_output is.prefix;
+  }
+
 -- the answer to no request
 pub not_asked : (limit : ℕ) (source sink : Ends) (unread same : Type 0) → unread → same → IsAnswer limit None source source sink sink unread same statuses.Usage
 not_asked limit source sink unread same left_alone is = record {
@@ -173,6 +207,7 @@ no_room limit request source sink alone same left_alone is = record {
     expected (Some (Report run)) = unknown (Report run)
     expected (Some Verify) = unknown Verify
     expected (Some (Heat columns)) = unknown (Heat columns)
+    expected (Some Admin) = unknown Admin
     expected (Some (Generate n)) = inr tt
     expected None = inr tt
 
@@ -180,6 +215,7 @@ no_room limit request source sink alone same left_alone is = record {
     begun (Some (Report run)) = untold (λ bytes. same ⊎ WritesPrefix run bytes sink.bytes sink.bytes) source.bytes (λ bytes. inl is)
     begun (Some Verify) = untold (λ bytes. same ⊎ VerifiesPrefix bytes sink.bytes sink.bytes) source.bytes (λ bytes. inl is)
     begun (Some (Heat columns)) = untold (λ bytes. same ⊎ HeatsPrefix columns bytes sink.bytes sink.bytes) source.bytes (λ bytes. inl is)
+    begun (Some Admin) = untold (λ bytes. same ⊎ OutputPrefix bytes sink.bytes sink.bytes) source.bytes (λ bytes. inl is)
     begun (Some (Generate n)) = (0, omega arith, Appends-nil sink.bytes)
     begun None = is
 

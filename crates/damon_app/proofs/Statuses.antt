@@ -5,6 +5,7 @@ use Rattle.std.proofs.lemmas.Bool.{lt-ltb, le-ltb}
 use Rattle.script_lines.specs.declared.kind.ScriptKind.{ScriptKind}
 use Rattle.damon_control.specs.Script.{ScriptValue, script_of}
 use Rattle.damon_control.specs.declared.fault.ScriptFault.{ScriptFault}
+use Rattle.damon_admin.specs.Lines.{ContextLine, lines_said}
 use Rattle.damon_journal.specs.Place.{JournalRead}
 use Rattle.damon_journal.specs.Reading.{read_journal}
 use Rattle.damon_journal.specs.declared.status.Status.TheVariants as statuses
@@ -12,7 +13,7 @@ use Rattle.damon_app.specs.declared.request.Run.{Run}
 use Rattle.text_io.specs.Given.{GaveOver}
 use Rattle.damon_app.specs.declared.request.Columns.{Columns}
 use Rattle.damon_app.specs.declared.request.Request.{Request}
-use Rattle.damon_app.specs.declared.request.Request.TheVariants.{Report, Verify, Heat, Generate}
+use Rattle.damon_app.specs.declared.request.Request.TheVariants.{Report, Verify, Heat, Admin, Generate}
 use Rattle.damon_app.specs.Replay.{MayCome}
 use Rattle.damon_app.specs.StatusOf.{status_of_input, status_of_journal, status_of_spelled, status_of_text}
 
@@ -36,7 +37,7 @@ same_fault : (f g : ScriptFault) → f.line ≡ g.line → f.kind ≡ g.kind →
 same_fault f g line kind = ap (λ (n : ℕ). record f { line = n }) line ∙ ap (λ (k : ScriptKind). record g { kind = k }) kind
 
 -- the status of a text is a fault of a script exactly where the text has it
-pub spelled_fault : (said : Result ScriptValue ScriptFault) (fault : ScriptFault) → (status_of_spelled said ≡ statuses.Script fault.line fault.kind) ↔ (said ≡ Err fault)
+pub spelled_fault : {A : Type 0} (said : Result A ScriptFault) (fault : ScriptFault) → (status_of_spelled said ≡ statuses.Script fault.line fault.kind) ↔ (said ≡ Err fault)
 spelled_fault (Ok s) fault = ((λ e. absurd (cc e)), (λ e. absurd (cc e)))
 spelled_fault (Err f) fault = ((λ e. ap (λ g. Err g) (same_fault f fault (cc e) (cc e))), (λ e. ap status_of_spelled e))
 
@@ -51,6 +52,10 @@ spelled_comes : (run : Run) (said : Result ScriptValue ScriptFault) → MayCome 
 spelled_comes run (Ok s) = tt
 spelled_comes run (Err fault) = tt
 
+lines_come : (said : Result (List ContextLine) ScriptFault) → MayCome (status_of_spelled said) (Some Admin)
+lines_come (Ok lines) = tt
+lines_come (Err fault) = tt
+
 journal_comes : (said : Result JournalRead ℕ) → MayCome (status_of_journal said) (Some Verify)
 journal_comes (Ok said) = tt
 journal_comes (Err line) = tt
@@ -64,4 +69,5 @@ pub text_comes : (request : Request) (bytes : List ℕ) → MayCome (status_of_t
 text_comes (Report run) bytes = spelled_comes run (script_of bytes)
 text_comes Verify bytes = journal_comes (read_journal bytes)
 text_comes (Heat columns) bytes = heat_comes columns (read_journal bytes)
+text_comes Admin bytes = lines_come (lines_said bytes)
 text_comes (Generate n) bytes = tt

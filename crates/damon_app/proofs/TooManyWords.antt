@@ -48,6 +48,19 @@ unfolding clap_on_literals
 verify_fails [] ws dash = sub_fails (codes "verify") ([] ∷ ws) kind.UnknownArgument [] refl refl (verify_empty ws)
 verify_fails (c ∷ cs) ws dash = sub_fails (codes "verify") ((c ∷ cs) ∷ ws) kind.UnknownArgument [] refl refl (verify_more c cs ws dash)
 
+admin_more : (c : ℕ) (cs : List ℕ) (ws : List Text) → (c == 45) ≡ false → entered_fault built_app (Some (codes "admin", (c ∷ cs) ∷ ws)) ≡ kind.UnknownArgument ∷ []
+unfolding clap_on_literals
+admin_more c cs ws dash = rw (dash, dash) refl
+
+admin_empty : (ws : List Text) → entered_fault built_app (Some (codes "admin", [] ∷ ws)) ≡ kind.UnknownArgument ∷ []
+unfolding clap_on_literals
+admin_empty ws = refl
+
+pub admin_fails : (x : Text) (ws : List Text) → IsPlainWord x → fault_of damon_app (codes "admin" ∷ x ∷ ws) ≡ kind.UnknownArgument ∷ []
+unfolding clap_on_literals
+admin_fails [] ws dash = sub_fails (codes "admin") ([] ∷ ws) kind.UnknownArgument [] refl refl (admin_empty ws)
+admin_fails (c ∷ cs) ws dash = sub_fails (codes "admin") ((c ∷ cs) ∷ ws) kind.UnknownArgument [] refl refl (admin_more c cs ws dash)
+
 reclaim_more : (c : ℕ) (cs : List ℕ) (ws : List Text) → (c == 45) ≡ false → entered_fault built_app (Some (codes "reclaim", (c ∷ cs) ∷ ws)) ≡ kind.UnknownArgument ∷ []
 unfolding clap_on_literals
 reclaim_more c cs ws dash = rw (dash, dash) refl

@@ -3,9 +3,12 @@ use Rattle.std.specs.Prelude.{◌≡◌, ◌≢◌, ◌⊎◌, ◌↔◌, ℕ, �
 use Rattle.std.specs.Io.KnownBytes.{Appends, Consumes, IsAtEnd}
 use Rattle.damon_types.specs.Causes.{Rose}
 use Rattle.damon_control.specs.Script.{ScriptValue, script_of}
+use Rattle.damon_admin.specs.Admin.{AdminView, left_text}
+use Rattle.damon_admin.specs.Lines.{ContextLine, lines_said}
+use Rattle.damon_admin.specs.Written.{output_of}
 use Rattle.damon_app.specs.declared.request.Run.{Run}
 use Rattle.damon_app.specs.declared.request.Request.{Request}
-use Rattle.damon_app.specs.declared.request.Request.TheVariants.{Report, Verify, Heat, Generate}
+use Rattle.damon_app.specs.declared.request.Request.TheVariants.{Report, Verify, Heat, Admin, Generate}
 use Rattle.damon_journal.specs.declared.lawful.Lawful.{Lawful}
 use Rattle.damon_journal.specs.declared.status.Status.{Status}
 use Rattle.damon_journal.specs.declared.status.Status.TheVariants as statuses
@@ -30,6 +33,7 @@ abbrev pub CallsFor : Request → List ℕ → List ℕ → Type 0
 CallsFor (Report run) bytes text = (s : ScriptValue) × (script_of bytes ≡ Ok s) × (report_of run s ≡ text)
 CallsFor Verify bytes text = (counts : Lawful) × IsVerified bytes counts × (counts_line counts ≡ text)
 CallsFor (Heat columns) bytes text = (said : JournalRead) × IsRun bytes said × (heat_text columns said ≡ text)
+CallsFor Admin bytes text = (lines : List ContextLine) × (lines_said bytes ≡ Ok lines) × (output_of lines ≡ text)
 CallsFor (Generate n) bytes text = ⊥
 
 -- the sink gained the text that the bytes call for
@@ -95,6 +99,10 @@ pub record IsRunTaken (limit : ℕ) (source source' : Ends) (r : ReplayerView) :
 -- what a status says where no journal was read, whatever the number of columns
 abbrev pub IsRunRefused : ℕ → Ends → Ends → Status → Type 0
 IsRunRefused limit source source' status = (columns : Columns) → IsRefused limit (Heat columns) source source' status
+
+-- the source was read to its end, and its bytes call for what these contexts have left to write
+abbrev pub AreContextsTaken : ℕ → Ends → Ends → AdminView → Type 0
+AreContextsTaken limit source source' contexts = IsTaken limit Admin source source' (left_text contexts)
 
 -- what a status says of what was asked for, where `alone` and `same` are that the source and the sink were left alone
 pub record IsAnswer (limit : ℕ) (request : Option Request) (source source' sink sink' : Ends) (alone same : Type 0) (status : Status) : Type 0 where

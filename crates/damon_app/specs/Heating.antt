@@ -11,6 +11,7 @@ use Rattle.damon_journal.specs.Woven.{WovenRuns}
 use Rattle.heat_report.specs.Freq.{working_set}
 use Rattle.heat_report.specs.Text.{last_line, report_text}
 use Rattle.text_io.specs.Taken.{WritesPart}
+use Rattle.damon_app.specs.Pieces.{HandsOver}
 use Rattle.damon_app.specs.declared.request.Columns.{Columns}
 use Rattle.damon_app.specs.declared.request.Columns.TheVariants.{Eight, Sixteen, SixtyFour}
 
@@ -27,10 +28,6 @@ tables_of n s = report_text n s.core.ticks s.core.report.rows s.core.space s.cor
 -- what is written of such states one after another: their tables, and at last the spread of their working sets
 abbrev pub tables_text : ℕ → List State → List ℕ
 tables_text n states = flat_map (tables_of n) states ++ last_line (map (λ s. working_set s.core.report.rows) states)
-
--- the sink gained the front of a piece, of which the rest is left
-abbrev pub HandsOver : (old new : Option (List ℕ)) → (piece rest : List ℕ) → Type 0
-HandsOver old new piece rest = (front : List ℕ) × Appends old new front × (front ++ rest ≡ piece)
 
 -- How far the tables of a replay are: what is left of it, the working sets of the reports so far, the text that is not handed over
 -- yet, and what the sink took.

@@ -4,7 +4,9 @@ pub mod StatusOf
 pub mod Parser
 pub mod Generated
 pub mod Verifying
+pub mod Pieces
 pub mod Heating
+pub mod Contexts
 pub mod Runs
 pub mod Replay
 pub mod Answers

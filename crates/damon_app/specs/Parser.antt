@@ -46,7 +46,7 @@ with_subcommands app (s ∷ shapes) = with_subcommands (with_subcommand app s) s
 abbrev pub damon_app : App
 damon_app = with_subcommands top_app
     ((new_app (codes "replay")).top ∷ (new_app (codes "json")).top ∷ (new_app (codes "verify")).top ∷ generate_shape ∷ heat_shape
-    ∷ tune_shape ∷ (new_app (codes "reclaim")).top ∷ [])
+    ∷ tune_shape ∷ (new_app (codes "admin")).top ∷ (new_app (codes "reclaim")).top ∷ [])
 
 -- whether a word begins with a hyphen
 abbrev pub begins_with_hyphen : List ℕ → Bool

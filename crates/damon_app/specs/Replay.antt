@@ -13,13 +13,15 @@ use Rattle.damon_journal.specs.Verified.{IsVerified}
 use Rattle.damon_journal.specs.declared.lawful.Lawful.{Lawful}
 use Rattle.damon_app.specs.Request.{ReadsJournal, ReadsScript}
 use Rattle.damon_app.specs.StatusOf.{status_of_input}
+use Rattle.damon_admin.specs.Lines.{lines_said}
+use Rattle.damon_app.specs.Contexts.{Administers, OutputPrefix}
 use Rattle.damon_app.specs.Heating.{Heats, HeatsPrefix}
 use Rattle.damon_app.specs.Verifying.{counts_line}
 use Rattle.text_io.specs.Taken.{WritesPart}
 use Rattle.damon_app.specs.declared.request.Run.{Run}
 use Rattle.damon_app.specs.declared.request.Run.TheVariants.{Plain, Reclaim, Tune}
 use Rattle.damon_app.specs.declared.request.Request.{Request}
-use Rattle.damon_app.specs.declared.request.Request.TheVariants.{Report, Verify, Heat, Generate}
+use Rattle.damon_app.specs.declared.request.Request.TheVariants.{Report, Verify, Heat, Admin, Generate}
 use Rattle.damon_journal.specs.declared.status.Status.{Status}
 use Rattle.damon_journal.specs.declared.status.Status.TheVariants as statuses
 
@@ -65,11 +67,13 @@ TellsJournal (Some (Heat columns)) bytes old new = Heats columns bytes old new
 TellsJournal _ bytes old new = Unit {0}
 
 -- What was asked for was done, where `input` is what the source had and the sink went from `old` to `new`: the sink gained
--- the report of the script that the input spells, the line of a journal's counts, its heat tables, or the line of the generated script.
+-- the report of the script that the input spells, the line of a journal's counts, its heat tables, the output of the contexts' lines, or
+-- the line of the generated script.
 abbrev pub IsDone : Option Request → (input old new : Option (List ℕ)) → Type 0
 IsDone (Some (Report run)) input old new = IfSome input (λ bytes. Replays run bytes old new)
 IsDone (Some Verify) input old new = IfSome input (λ bytes. WritesCounts old new)
 IsDone (Some (Heat columns)) input old new = IfSome input (λ bytes. WritesTables old new)
+IsDone (Some Admin) input old new = IfSome input (λ bytes. Administers bytes old new)
 IsDone (Some (Generate n)) input old new = Appends old new (gen_text n)
 IsDone None input old new = ⊥
 
@@ -78,6 +82,7 @@ abbrev pub IsBegun : Option Request → Type 0 → (input old new : Option (List
 IsBegun (Some (Report run)) same input old new = IfSome input (λ bytes. same ⊎ WritesPrefix run bytes old new)
 IsBegun (Some Verify) same input old new = IfSome input (λ bytes. same ⊎ VerifiesPrefix bytes old new)
 IsBegun (Some (Heat columns)) same input old new = IfSome input (λ bytes. same ⊎ HeatsPrefix columns bytes old new)
+IsBegun (Some Admin) same input old new = IfSome input (λ bytes. same ⊎ OutputPrefix bytes old new)
 IsBegun (Some (Generate n)) same input old new = WritesPart old new (gen_text n)
 IsBegun None same input old new = same
 
@@ -86,26 +91,30 @@ abbrev pub IsOfInput : Request → Status → ℕ → Option (List ℕ) → Type
 IsOfInput request status limit input read write =
     IfSome input (λ bytes. (status ≡ status_of_input request limit bytes) ⊎ IsFailure status read write)
 
--- The status is the one that is expected, or a failure: for a report, a check or tables, of which the input may have at most `limit`
--- bytes, the status of the input; for a generated run, in which no read can fail, `Ok`; for other words, where nothing is
+-- The status is the one that is expected, or a failure: for a report, a check, tables or contexts, of which the input may have at most
+-- `limit` bytes, the status of the input; for a generated run, in which no read can fail, `Ok`; for other words, where nothing is
 -- read or written, `Usage`.
 abbrev pub IsExpected : Option Request → Status → ℕ → Option (List ℕ) → Type 0 → Type 0 → Type 0
 IsExpected (Some (Report run)) status limit input read write = IsOfInput (Report run) status limit input read write
 IsExpected (Some Verify) status limit input read write = IsOfInput Verify status limit input read write
 IsExpected (Some (Heat columns)) status limit input read write = IsOfInput (Heat columns) status limit input read write
+IsExpected (Some Admin) status limit input read write = IsOfInput Admin status limit input read write
 IsExpected (Some (Generate n)) status limit input read write = (status ≡ statuses.Ok) ⊎ IsFailure status ⊥ write
 IsExpected None status limit input read write = (status ≡ statuses.Usage) ⊎ IsFailure status ⊥ ⊥
 
--- the status refuses the text exactly where the bytes have this fault of a script, or this first rejected line of a journal
+-- the status refuses the text exactly where the bytes have this fault of a script, this first refused line of several contexts, or this
+-- first rejected line of a journal
 abbrev pub TellsFault : Option Request → Status → List ℕ → Type 0
 TellsFault (Some (Report run)) status bytes =
     (fault : ScriptFault) → (status ≡ statuses.Script fault.line fault.kind) ↔ (script_of bytes ≡ Err fault)
 TellsFault (Some Verify) status bytes = (line : ℕ) → (status ≡ statuses.Unlawful line) ↔ (read_journal bytes ≡ Err line)
 TellsFault (Some (Heat columns)) status bytes = (line : ℕ) → (status ≡ statuses.Unlawful line) ↔ (read_journal bytes ≡ Err line)
+TellsFault (Some Admin) status bytes =
+    (fault : ScriptFault) → (status ≡ statuses.Script fault.line fault.kind) ↔ (lines_said bytes ≡ Err fault)
 TellsFault _ status bytes = Unit {0}
 
--- a status that what was asked for can have: a fault of a script only where one is read, a rejected line of a journal only where
--- its text is read, and none that is of live scripts
+-- a status that what was asked for can have: a fault of a script only where one or several are read, a rejected line of a journal only
+-- where its text is read, and none that is of live scripts
 abbrev pub MayCome : Status → Option Request → Type 0
 MayCome (statuses.Script line kind) request = ReadsScript request
 MayCome (statuses.Unlawful line) request = ReadsJournal request

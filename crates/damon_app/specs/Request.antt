@@ -7,17 +7,19 @@ use Rattle.script_lines.specs.Words.{same_word}
 use Rattle.snapshot_print.specs.declared.form.Form.TheVariants.{Text, Json}
 use Rattle.damon_app.specs.GoalWords.{goals_of}
 use Rattle.damon_app.specs.declared.request.Request.{Request}
-use Rattle.damon_app.specs.declared.request.Request.TheVariants.{Report, Verify, Heat, Generate}
+use Rattle.damon_app.specs.declared.request.Request.TheVariants.{Report, Verify, Heat, Admin, Generate}
 use Rattle.damon_app.specs.declared.request.Run.TheVariants.{Plain, Reclaim, Tune}
 use Rattle.damon_app.specs.declared.request.Columns.{Columns}
 use Rattle.damon_app.specs.declared.request.Columns.TheVariants.{Eight, Sixteen, SixtyFour}
 
--- what one word asks for: the report of a script in its form, the check of a journal, or the run of a script with proactive reclaim
+-- what one word asks for: the report of a script in its form, the check of a journal, what several contexts say, or the run of a
+-- script with proactive reclaim
 abbrev pub asked_alone : List ℕ → Option Request
 asked_alone word =
     if same_word word (codes "replay") then Some (Report (Plain Text))
     else if same_word word (codes "json") then Some (Report (Plain Json))
     else if same_word word (codes "verify") then Some Verify
+    else if same_word word (codes "admin") then Some Admin
     else if same_word word (codes "reclaim") then Some (Report Reclaim)
     else None
 
@@ -47,8 +49,8 @@ asked_by word [] = asked_alone word
 asked_by word (digits ∷ []) = asked_with word digits
 asked_by word (digits ∷ more ∷ words) = None
 
--- what words ask for, each given by its bytes: `replay`, `json`, `verify` or `reclaim` alone, `gen N`, `heat N`, or `tune` and goals,
--- and nothing else
+-- what words ask for, each given by its bytes: `replay`, `json`, `verify`, `admin` or `reclaim` alone, `gen N`, `heat N`, or `tune`
+-- and goals, and nothing else
 abbrev pub request_of : List (List ℕ) → Option Request
 request_of [] = None
 request_of (word ∷ words) = if same_word word (codes "tune") then asked_to_tune words else asked_by word words
@@ -57,9 +59,10 @@ request_of (word ∷ words) = if same_word word (codes "tune") then asked_to_tun
 abbrev pub asked : List (String Global) → Option Request
 asked words = request_of (map string_bytes words)
 
--- a script is read for what was asked
+-- a script, or the lines of several contexts with one each, is read for what was asked
 abbrev pub ReadsScript : Option Request → Type 0
 ReadsScript (Some (Report run)) = Unit {0}
+ReadsScript (Some Admin) = Unit {0}
 ReadsScript _ = ⊥
 
 -- the text of a journal is read for it
@@ -73,5 +76,6 @@ abbrev pub ReadsInput : Option Request → Type 0
 ReadsInput (Some (Report run)) = Unit {0}
 ReadsInput (Some Verify) = Unit {0}
 ReadsInput (Some (Heat columns)) = Unit {0}
+ReadsInput (Some Admin) = Unit {0}
 ReadsInput (Some (Generate n)) = ⊥
 ReadsInput None = ⊥

@@ -1,17 +1,18 @@
 -- The status that an input has.
 use Rattle.std.specs.Prelude.{ℕ, nat_lt, if◌then◌else◌, List, length, Result, Ok, Err}
-use Rattle.damon_control.specs.Script.{ScriptValue, script_of}
+use Rattle.damon_control.specs.Script.{script_of}
 use Rattle.damon_control.specs.declared.fault.ScriptFault.{ScriptFault}
+use Rattle.damon_admin.specs.Lines.{lines_said}
 use Rattle.damon_journal.specs.Place.{JournalRead}
 use Rattle.damon_journal.specs.Reading.{read_journal}
 use Rattle.damon_journal.specs.declared.status.Status.{Status}
 use Rattle.damon_journal.specs.declared.status.Status.TheVariants as statuses
 use Rattle.damon_app.specs.declared.request.Request.{Request}
-use Rattle.damon_app.specs.declared.request.Request.TheVariants.{Report, Verify, Heat, Generate}
+use Rattle.damon_app.specs.declared.request.Request.TheVariants.{Report, Verify, Heat, Admin, Generate}
 
--- the status of what a text spells: `Ok` for a script, else its first fault
-abbrev pub status_of_spelled : Result ScriptValue ScriptFault → Status
-status_of_spelled (Ok s) = statuses.Ok
+-- the status of what a text spells: `Ok` for a script, or for the lines of several contexts, else its first fault
+abbrev pub status_of_spelled : {A : Type 0} → Result A ScriptFault → Status
+status_of_spelled (Ok said) = statuses.Ok
 status_of_spelled (Err fault) = statuses.Script fault.line fault.kind
 
 -- the status of what a journal text says: `Ok` for a lawful journal, else its first rejected line
@@ -24,6 +25,7 @@ abbrev pub status_of_text : Request → List ℕ → Status
 status_of_text (Report run) bytes = status_of_spelled (script_of bytes)
 status_of_text Verify bytes = status_of_journal (read_journal bytes)
 status_of_text (Heat columns) bytes = status_of_journal (read_journal bytes)
+status_of_text Admin bytes = status_of_spelled (lines_said bytes)
 status_of_text (Generate n) bytes = statuses.Ok
 
 -- the status of the bytes of an input, of which at most `limit` are allowed

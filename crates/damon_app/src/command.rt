@@ -16,6 +16,7 @@ pub(crate) fn make_command<'a>(alloc: Global) -> Result<Command<'a>, AllocError>
     let command = add_with(alloc, command, "gen", number_argument(alloc))?;
     let command = add_with(alloc, command, "heat", number_argument(alloc))?;
     let command = add_with(alloc, command, "tune", goals_argument(alloc))?;
+    let command = add_alone(alloc, command, "admin")?;
     add_alone(alloc, command, "reclaim")
 }
 

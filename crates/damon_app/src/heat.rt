@@ -1,7 +1,7 @@
 // The heat tables of a journal.
 ghost use Rattle.std.specs.Prelude.{◌≡◌, ℕ, ◌≤◌, ◌<◌, ◌++◌, ◌∷◌, [], List, Ok, true, false, flat_map, IfErr, IfOk, IsErrOf, OnErr, OnOk};
 ghost use Rattle.std.specs.Io.KnownBytes.{Appends};
-ghost use Rattle.damon_types.specs.Causes.{HasCause, Rose};
+ghost use Rattle.damon_types.specs.Causes.{Rose};
 ghost use Rattle.damon_core.specs.Stands.{Stands};
 ghost use Rattle.damon_core.specs.State.{State};
 ghost use Rattle.damon_journal.specs.Replayer.{Leads, StandsForReached};
@@ -9,19 +9,17 @@ ghost use Rattle.damon_journal.specs.Status.{EndsRun, status_of};
 ghost use Rattle.heat_report.specs.Freq.{working_set};
 ghost use Rattle.text_io.specs.Taken.{WritesPart};
 ghost use Rattle.damon_app.specs.Answers.{IsOutcome, IsRunRefused, IsRunTaken};
-ghost use Rattle.damon_app.specs.Heating.{HandsOver, WritesNext, columns_in, tables_of, tables_text};
+ghost use Rattle.damon_app.specs.Heating.{WritesNext, columns_in, tables_of, tables_text};
 ghost use Rattle.damon_app.specs.declared.request.Request.TheVariants.{Heat as heat};
 
+use crate::pieces::hand_over;
 use crate::request::Columns;
 use damon_core::Monitor;
 use damon_journal::{Replayer, Status};
-use damon_types::{Failed, Sink, Source};
+use damon_types::{Sink, Source};
 use heat_report::{Sizes, tiled_rows_lie_in, working_set, write_last, write_report};
 use std::alloc::{AllocError, Global};
 use text_io::{INPUT_LIMIT, read_all, write_all};
-
-// A piece is handed over once it has this many bytes.
-const PIECE: usize = 65_536;
 
 // Reads the text of a journal, checks it, and hands its heat tables to the sink a piece at a time.
 pub(crate) fn show_heat<S: Source, K: Sink>(
@@ -144,21 +142,6 @@ fn write_next<const N: usize, K: Sink>(
     write_one::<N>(tick, replayer.monitor(), sizes, piece)?;
     hand_over(sink, piece)?;
     Ok(true)
-}
-
-// Hands a piece over once it is large enough.
-fn hand_over<K: Sink>(sink: &mut K, piece: &mut Vec<u8>) -> Result<(), Failed>
-    ensures all { OnOk result
-        (HandsOver (K.taken sink.old) (K.taken sink.new) piece.old.items piece.new.items) }
-    ensures part { WritesPart (K.taken sink.old) (K.taken sink.new) piece.old.items }
-    ensures cause { HasCause (K.faults sink.old) (K.faults sink.new) result }
-{
-    if piece.len() < PIECE {
-        return Ok(());
-    }
-    write_all(sink, piece)?;
-    piece.clear();
-    Ok(())
 }
 
 // Appends the tables of the report of a monitor directly after an aggregation, and its working set.

@@ -1,6 +1,9 @@
-//! The program that replays scripts, checks journals, shows their heat and runs generated scripts.
+//! The program that replays scripts, one or several beside each other, checks journals, shows their heat and
+//! runs generated scripts.
 #![tactic(auto)]
 
+/// What several contexts say.
+mod admin;
 /// The command that parses the words.
 mod command;
 /// The line of a lawful journal.
@@ -11,6 +14,8 @@ mod goal_words;
 mod heat;
 /// What holds of all runs.
 mod laws;
+/// Text that is handed over piece by piece.
+mod pieces;
 /// The top call.
 mod replay;
 /// What the words after the program's name ask for.

@@ -7,6 +7,7 @@ ghost use Rattle.script_lines.specs.Limits.{AreCommandsWithin};
 ghost use Rattle.damon_control.specs.ScriptView.{said_by};
 ghost use Rattle.text_io.specs.Given.{GaveOver};
 ghost use Rattle.text_io.specs.Taken.{WritesPart};
+ghost use Rattle.damon_admin.specs.Laws.{ContextsAreApart, ContextsAreBound, VoicesAreReports};
 ghost use Rattle.damon_app.specs.Request.{ReadsInput, ReadsJournal, asked};
 ghost use Rattle.damon_app.specs.Generated.{gen_text};
 ghost use Rattle.damon_app.specs.Runs.{EachRunChoosesBest, EachRunFollowsGoals, EachRunIsAccounted, EachRunIsBound};
@@ -16,6 +17,7 @@ ghost use Rattle.damon_app.specs.Replay.{IsBegun, IsDone, IsExpected, MayCome, T
 ghost use Rattle.damon_app.specs.Answers.{IsAnswer, IsOutcome, IsRefused, IsScriptRefused, IsScriptTaken, IsTaken};
 ghost use Rattle.damon_app.specs.declared.request.Request.TheVariants.{Report as report_by, Verify as verify};
 
+use crate::admin::run_contexts;
 use crate::counts::make_line;
 use crate::heat::show_heat;
 use crate::laws::{
@@ -25,6 +27,7 @@ use crate::request::read_request;
 use crate::run::write_report;
 use crate::summary::make_summary;
 use crate::{Request, Run};
+use damon_admin::{contexts_are_apart, contexts_are_bound, voices_are_reports};
 use damon_control::{MAX_WORK, Script, read_script};
 use damon_journal::{Status, rejected_texts_are_unlawful, verify};
 use damon_types::{Sink, Source};
@@ -35,8 +38,10 @@ use text_io::{INPUT_LIMIT, read_all, write_all};
 /// report of its run; for `reclaim` and `tune` it does the same with a run over a model of resident pages,
 /// and with a run whose byte quotas follow goals. For `verify` it reads the text of a journal to its end,
 /// checks it, and writes one line of its counts; for `heat N` it reads and checks such a text, replays its
-/// journal, and writes tables of N columns for each aggregation; for `gen N` it reads nothing, runs the
-/// generated script of N, and writes one line about the end of the run. It takes no lock and always returns.
+/// journal, and writes tables of N columns for each aggregation; for `admin` it reads the lines of up to
+/// eight contexts to their end, and writes what each of these says, line by line; for `gen N` it reads
+/// nothing, runs the generated script of N, and writes one line about the end of the run. It takes no lock
+/// and always returns.
 pub fn replay_main<S: Source, K: Sink>(
     alloc: Global,
     words: &[String],
@@ -44,7 +49,8 @@ pub fn replay_main<S: Source, K: Sink>(
     sink: &mut K,
 ) -> Status
     // What was written is what the words ask for: the report of the script that was read, the line of the
-    // lawful journal whose text was read, its heat tables, or the line of the generated script.
+    // lawful journal whose text was read, its heat tables, the output of the contexts' lines, or the line of
+    // the generated script.
     ensures ok { result ≡ Status.Ok →
         IsDone (asked words.now) (S.left source.old) (K.taken sink.old) (K.taken sink.new) }
     ensures lawful { result ≡ Status.Ok → ReadsJournal (asked words.now) → IfSome (S.left source.old)
@@ -66,6 +72,13 @@ pub fn replay_main<S: Source, K: Sink>(
     // score they lie between the bounds of the goals that were scored. Where it is one goal, they do not fall
     // below its target, and do not rise at or above it.
     ensures follows { EachRunFollowsGoals }
+
+    // Under `admin` what a context says in the output, without its digit and the space, is the report of the
+    // script that its lines spell, or the line of their fault. It follows from its own lines alone. After
+    // each line the state of each context whose lines are a script is bound.
+    ensures voices { VoicesAreReports }
+    ensures apart { ContextsAreApart }
+    ensures contexts { ContextsAreBound }
 
     // The status is the one that is expected, or a failure.
     ensures complete { IsExpected (asked words.now) result INPUT_LIMIT (S.left source.old)
@@ -96,6 +109,9 @@ pub fn replay_main<S: Source, K: Sink>(
     each_run_chooses_best();
     each_run_is_accounted();
     each_run_follows_goals();
+    voices_are_reports();
+    contexts_are_apart();
+    contexts_are_bound();
     rejected_texts_are_unlawful();
     serve(alloc, words, source, sink)
 }
@@ -139,6 +155,7 @@ fn fulfil<S: Source, K: Sink>(
         Request::Report { run } => status_of(replay(alloc, run, source, sink)),
         Request::Verify => status_of(check_journal(alloc, source, sink)),
         Request::Heat { columns } => status_of(show_heat(alloc, columns, source, sink)),
+        Request::Admin => status_of(run_contexts(alloc, source, sink)),
         Request::Generate { number } => status_of(summarize(alloc, number, sink)),
     }
 }

@@ -23,6 +23,9 @@ pub enum Request {
     /// To check the text of a journal, and to write its heat tables with this number of columns for each
     /// target: `heat N`.
     Heat { columns: Columns },
+    /// To read the lines of up to eight contexts, to run the script of each, and to write what they say:
+    /// `admin`.
+    Admin,
     /// To run the generated script of a number, and to write a line about it: `gen N`. Nothing is
     /// read.
     Generate { number: u64 },
@@ -148,6 +151,8 @@ fn asked_alone(word: &[u8]) -> Option<Request>
         })
     } else if word == b"verify".as_slice() {
         Some(Request::Verify)
+    } else if word == b"admin".as_slice() {
+        Some(Request::Admin)
     } else if word == b"reclaim".as_slice() {
         Some(Request::Report { run: Run::Reclaim })
     } else {

@@ -1,6 +1,6 @@
 use Rattle.std.proofs.Common.{◌≡◌, refl}
 use Rattle.text_io.specs.declared.input.TheConstants.{INPUT_LIMIT}
-use Rattle.damon_app.proofs.Serving.{checked, heated, reported, summarized}
+use Rattle.damon_app.proofs.Serving.{administered, checked, heated, reported, summarized}
 use Rattle.damon_app.proofs.replay.fulfil.Goals as goal
 
 pub returns-in-Report : goal.returns-in-Report
@@ -32,6 +32,16 @@ returns-in-Heat g c =
     (record { bytes = g.K.Sink.taken c.args.sink.now; faults = g.K.Sink.faults c.args.sink.now })
     (record { bytes = g.K.Sink.taken c.show_heat.new.sink; faults = g.K.Sink.faults c.show_heat.new.sink })
     (c.show_heat.new.source ≡ c.args.source.now) (c.show_heat.new.sink ≡ c.args.sink.now) _ c.show_heat.ensures)
+
+pub returns-in-Admin : goal.returns-in-Admin
+returns-in-Admin g c =
+    rw (c.in-Admin.is, c.status_of-in-Admin.ensures)
+    (administered INPUT_LIMIT
+    (record { bytes = g.S.Source.left c.args.source.now; faults = g.S.Source.faults c.args.source.now })
+    (record { bytes = g.S.Source.left c.run_contexts.new.source; faults = g.S.Source.faults c.run_contexts.new.source })
+    (record { bytes = g.K.Sink.taken c.args.sink.now; faults = g.K.Sink.faults c.args.sink.now })
+    (record { bytes = g.K.Sink.taken c.run_contexts.new.sink; faults = g.K.Sink.faults c.run_contexts.new.sink })
+    (c.run_contexts.new.source ≡ c.args.source.now) (c.run_contexts.new.sink ≡ c.args.sink.now) _ c.run_contexts.ensures)
 
 pub returns-in-Generate : goal.returns-in-Generate
 returns-in-Generate g c =

@@ -1,0 +1,92 @@
+// What several contexts say.
+ghost use Rattle.std.specs.Prelude.{◌≡◌, ◌≤◌, ◌<◌, ◌++◌, [], Ok, IfErr, IfOk, IsErrOf, OnErr, OnOk, length};
+ghost use Rattle.std.specs.Io.KnownBytes.{Appends};
+ghost use Rattle.damon_types.specs.Causes.{Rose};
+ghost use Rattle.damon_admin.specs.Admin.{left_text};
+ghost use Rattle.damon_journal.specs.Status.{EndsRun, status_of};
+ghost use Rattle.text_io.specs.Taken.{WritesPart};
+ghost use Rattle.damon_app.specs.Answers.{AreContextsTaken, IsOutcome, IsRefused};
+ghost use Rattle.damon_app.specs.Pieces.{HandsOver};
+ghost use Rattle.damon_app.specs.declared.request.Request.TheVariants.{Admin as admin};
+
+use crate::pieces::hand_over;
+use damon_admin::Admin;
+use damon_journal::Status;
+use damon_types::{Sink, Source};
+use std::alloc::Global;
+use text_io::{INPUT_LIMIT, read_all, write_all};
+
+// Reads the lines of several contexts, and hands what these say to the sink a piece at a time.
+pub(crate) fn run_contexts<S: Source, K: Sink>(
+    alloc: Global,
+    source: &mut S,
+    sink: &mut K,
+) -> Result<(), Status>
+    ensures { IsOutcome INPUT_LIMIT admin
+        (record { bytes = S.left source.old; faults = S.faults source.old })
+        (record { bytes = S.left source.new; faults = S.faults source.new })
+        (record { bytes = K.taken sink.old; faults = K.faults sink.old })
+        (record { bytes = K.taken sink.new; faults = K.faults sink.new })
+        (sink.new ≡ sink.old) (status_of result) }
+{
+    let mut contexts = take_contexts(alloc, source)?;
+    write_output(alloc, &mut contexts, sink)?;
+    Ok(())
+}
+
+// Reads a source to its end, and returns the contexts of which its bytes are the lines.
+fn take_contexts<S: Source>(alloc: Global, source: &mut S) -> Result<Admin, Status>
+    ensures taken { IfOk result (AreContextsTaken INPUT_LIMIT
+        (record { bytes = S.left source.old; faults = S.faults source.old })
+        (record { bytes = S.left source.new; faults = S.faults source.new })) }
+    ensures refused { IfErr result (IsRefused INPUT_LIMIT admin
+        (record { bytes = S.left source.old; faults = S.faults source.old })
+        (record { bytes = S.left source.new; faults = S.faults source.new })) }
+{
+    let bytes = read_all(alloc, source)?;
+    let contexts = Admin::new(alloc, &bytes)?;
+    Ok(contexts)
+}
+
+// Does all lines that are left, and hands what they write to the sink.
+fn write_output<K: Sink>(alloc: Global, contexts: &mut Admin, sink: &mut K) -> Result<(), Status>
+    ensures all { OnOk result
+        (Appends (K.taken sink.old) (K.taken sink.new) (left_text contexts.old)) }
+    ensures answers { IfErr result EndsRun }
+    ensures cause { IsErrOf result Status.WriteFault →
+        Rose (K.faults sink.old) (K.faults sink.new) }
+    ensures part { WritesPart (K.taken sink.old) (K.taken sink.new) (left_text contexts.old) }
+{
+    let mut piece = Vec::new(alloc);
+    'lines: while write_next(alloc, contexts, &mut piece, sink)? {}
+    write_all(sink, &piece)?;
+    Ok(())
+}
+
+// Does the next line, and appends what it writes to the piece, which is handed over once it is large enough.
+// False where no line is left.
+fn write_next<K: Sink>(
+    alloc: Global,
+    contexts: &mut Admin,
+    piece: &mut Vec<u8>,
+    sink: &mut K,
+) -> Result<bool, Status>
+    ensures on { result ≡ Ok true → HandsOver (K.taken sink.old) (K.taken sink.new)
+        (piece.old.items ++ left_text contexts.old) (piece.new.items ++ left_text contexts.new) }
+    ensures less { result ≡ Ok true → length contexts.new.left < length contexts.old.left }
+    ensures end { result ≡ Ok false → left_text contexts.old ≡ [] }
+    ensures same { result ≡ Ok false →
+        (piece.new.items ≡ piece.old.items) × (sink.new ≡ sink.old) }
+    ensures answers { IfErr result EndsRun }
+    ensures later { K.faults sink.old ≤ K.faults sink.new }
+    ensures cause { IsErrOf result Status.WriteFault →
+        Rose (K.faults sink.old) (K.faults sink.new) }
+    ensures part { OnErr result (WritesPart (K.taken sink.old) (K.taken sink.new)
+        (piece.old.items ++ left_text contexts.old)) }
+{
+    if !contexts.next(alloc, piece)? {
+        return Ok(false);
+    }
+    hand_over(sink, piece)?;
+    Ok(true)
+}

@@ -1,0 +1,26 @@
+// Text that is handed over piece by piece.
+ghost use Rattle.std.specs.Prelude.{OnOk};
+ghost use Rattle.damon_types.specs.Causes.{HasCause};
+ghost use Rattle.text_io.specs.Taken.{WritesPart};
+ghost use Rattle.damon_app.specs.Pieces.{HandsOver};
+
+use damon_types::{Failed, Sink};
+use text_io::write_all;
+
+// A piece is handed over once it has this many bytes.
+const PIECE: usize = 65_536;
+
+// Hands a piece over once it is large enough.
+pub(crate) fn hand_over<K: Sink>(sink: &mut K, piece: &mut Vec<u8>) -> Result<(), Failed>
+    ensures all { OnOk result
+        (HandsOver (K.taken sink.old) (K.taken sink.new) piece.old.items piece.new.items) }
+    ensures part { WritesPart (K.taken sink.old) (K.taken sink.new) piece.old.items }
+    ensures cause { HasCause (K.faults sink.old) (K.faults sink.new) result }
+{
+    if piece.len() < PIECE {
+        return Ok(());
+    }
+    write_all(sink, piece)?;
+    piece.clear();
+    Ok(())
+}
