@@ -20,7 +20,7 @@ use Rattle.damon_app.specs.Heating.{Heats, HeatsPrefix}
 use Rattle.damon_journal.specs.Status.{EndsRun, IsFailure, status_of}
 use Rattle.text_io.specs.Ends.{Ends}
 use Rattle.damon_app.specs.StatusOf.{status_of_input}
-use Rattle.damon_app.specs.Replay.{IsBegun, IsExpected, IsOfInput, Replays, TellsFault, Verifies, VerifiesPrefix, WritesCounts, WritesPrefix, WritesTables}
+use Rattle.damon_app.specs.Replay.{IsBegun, IsExpected, IsOfInput, Replays, TellsFault, Verifies, VerifiesPrefix, WritesCounts, WritesPrefix, WritesText}
 use Rattle.std.proofs.KnownBytes.{Appends-nil}
 use Rattle.damon_app.proofs.Answering.{untold}
 use Rattle.damon_app.specs.Answers.{IsAnswer, IsOutcome, MayWrite, RefusesAs, WritesWanted}
@@ -55,6 +55,7 @@ module _ (limit : ℕ) (run : Run) (source source' sink sink' : Ends) (unread sa
   reported is = record {
     ok = λ e. each (λ bytes. WritesWanted (Report run) bytes sink.bytes sink'.bytes) (λ bytes. Replays run bytes sink.bytes sink'.bytes) source.bytes replays (is.ok e);
     lawful = λ e reads. absurd reads;
+    output = λ e asks. absurd (cc asks);
     end = λ reads. is.end;
     complete = is.complete;
     usage = λ free. ((λ e. absurd (is.asked e)), (λ e. absurd (cc e)));
@@ -87,6 +88,7 @@ module _ (limit : ℕ) (source source' sink sink' : Ends) (unread same : Type 0)
   checked is = record {
     ok = λ e. each (λ bytes. WritesWanted Verify bytes sink.bytes sink'.bytes) (λ bytes. WritesCounts sink.bytes sink'.bytes) source.bytes (λ bytes wrote. let is = verifies bytes wrote in (is.counts, is.line)) (is.ok e);
     lawful = λ e reads. each (λ bytes. WritesWanted Verify bytes sink.bytes sink'.bytes) (λ bytes. Verifies bytes sink.bytes sink'.bytes) source.bytes verifies (is.ok e);
+    output = λ e asks. absurd (cc asks);
     end = λ reads. is.end;
     complete = is.complete;
     usage = λ free. ((λ e. absurd (is.asked e)), (λ e. absurd (cc e)));
@@ -117,8 +119,9 @@ module _ (limit : ℕ) (columns : Columns) (source source' sink sink' : Ends) (u
 
   pub heated : IsOutcome limit (Heat columns) source source' sink sink' same status → IsAnswer limit (Some (Heat columns)) source source' sink sink' unread same status
   heated is = record {
-    ok = λ e. each (λ bytes. WritesWanted (Heat columns) bytes sink.bytes sink'.bytes) (λ bytes. WritesTables sink.bytes sink'.bytes) source.bytes (λ bytes wrote. (wrote.0, wrote.2)) (is.ok e);
+    ok = λ e. each (λ bytes. WritesWanted (Heat columns) bytes sink.bytes sink'.bytes) (λ bytes. WritesText sink.bytes sink'.bytes) source.bytes (λ bytes wrote. (wrote.0, wrote.2)) (is.ok e);
     lawful = λ e reads. each (λ bytes. WritesWanted (Heat columns) bytes sink.bytes sink'.bytes) (λ bytes. Heats columns bytes sink.bytes sink'.bytes) source.bytes heats (is.ok e);
+    output = λ e asks. absurd (cc asks);
     end = λ reads. is.end;
     complete = is.complete;
     usage = λ free. ((λ e. absurd (is.asked e)), (λ e. absurd (cc e)));
@@ -149,8 +152,9 @@ module _ (limit : ℕ) (source source' sink sink' : Ends) (unread same : Type 0)
 
   pub administered : IsOutcome limit Admin source source' sink sink' same status → IsAnswer limit (Some Admin) source source' sink sink' unread same status
   administered is = record {
-    ok = λ e. each (λ bytes. WritesWanted Admin bytes sink.bytes sink'.bytes) (λ bytes. Administers bytes sink.bytes sink'.bytes) source.bytes administers (is.ok e);
+    ok = λ e. each (λ bytes. WritesWanted Admin bytes sink.bytes sink'.bytes) (λ bytes. WritesText sink.bytes sink'.bytes) source.bytes (λ bytes wrote. (wrote.0, wrote.2)) (is.ok e);
     lawful = λ e reads. absurd reads;
+    output = λ e asks. each (λ bytes. WritesWanted Admin bytes sink.bytes sink'.bytes) (λ bytes. Administers bytes sink.bytes sink'.bytes) source.bytes administers (is.ok e);
     end = λ reads. is.end;
     complete = is.complete;
     usage = λ free. ((λ e. absurd (is.asked e)), (λ e. absurd (cc e)));
@@ -169,6 +173,7 @@ pub not_asked : (limit : ℕ) (source sink : Ends) (unread same : Type 0) → un
 not_asked limit source sink unread same left_alone is = record {
   ok = λ e. absurd (cc e);
   lawful = λ e. absurd (cc e);
+  output = λ e. absurd (cc e);
   end = λ reads. absurd reads;
   complete = inl refl;
   usage = λ free. ((λ e. refl), (λ e. refl));
@@ -187,6 +192,7 @@ pub no_room : (limit : ℕ) (request : Option Request) (source sink : Ends) (alo
 no_room limit request source sink alone same left_alone is = record {
   ok = λ e. absurd (cc e);
   lawful = λ e. absurd (cc e);
+  output = λ e. absurd (cc e);
   end = λ reads no. absurd no;
   complete = expected request;
   usage = λ free. absurd (free refl);
@@ -225,6 +231,7 @@ module _ (limit n : ℕ) (source sink sink' : Ends) (unread same : Type 0) (left
   generated all = record {
     ok = λ e. all;
     lawful = λ e reads. absurd reads;
+    output = λ e asks. absurd (cc asks);
     end = λ reads. absurd reads;
     complete = inl refl;
     usage = λ free. ((λ e. absurd (cc e)), (λ e. absurd (cc e)));
@@ -242,6 +249,7 @@ module _ (limit n : ℕ) (source sink sink' : Ends) (unread same : Type 0) (left
   not_generated statuses.WriteFault ends cause = record {
     ok = λ e. absurd (cc e);
     lawful = λ e. absurd (cc e);
+    output = λ e. absurd (cc e);
     end = λ reads. absurd reads;
     complete = inr (cause refl);
     usage = λ free. ((λ e. absurd (cc e)), (λ e. absurd (cc e)));
@@ -257,6 +265,7 @@ module _ (limit n : ℕ) (source sink sink' : Ends) (unread same : Type 0) (left
   not_generated statuses.Memory ends cause = record {
     ok = λ e. absurd (cc e);
     lawful = λ e. absurd (cc e);
+    output = λ e. absurd (cc e);
     end = λ reads. absurd reads;
     complete = inr tt;
     usage = λ free. ((λ e. absurd (cc e)), (λ e. absurd (cc e)));

@@ -25,6 +25,7 @@ use Rattle.damon_journal.specs.Replayer.{Leads, ReplayerView}
 use Rattle.damon_journal.specs.Place.{JournalRead}
 use Rattle.damon_journal.specs.Replay.{replay}
 use Rattle.damon_app.specs.declared.request.Columns.{Columns}
+use Rattle.damon_app.specs.Contexts.{Administers}
 use Rattle.damon_app.specs.Heating.{IsRun, heat_text}
 use Rattle.damon_app.specs.Verifying.{counts_line}
 
@@ -108,6 +109,7 @@ AreContextsTaken limit source source' contexts = IsTaken limit Admin source sour
 pub record IsAnswer (limit : ℕ) (request : Option Request) (source source' sink sink' : Ends) (alone same : Type 0) (status : Status) : Type 0 where
   pub ok : status ≡ statuses.Ok → IsDone request source.bytes sink.bytes sink'.bytes
   pub lawful : status ≡ statuses.Ok → ReadsJournal request → IfSome source.bytes (λ bytes. TellsJournal request bytes sink.bytes sink'.bytes)
+  pub output : status ≡ statuses.Ok → request ≡ Some Admin → IfSome source.bytes (λ bytes. Administers bytes sink.bytes sink'.bytes)
   pub end : ReadsInput request → IsRead status → IsAtEnd source'.bytes
   pub complete : IsExpected request status limit source.bytes (Rose source.faults source'.faults) (Rose sink.faults sink'.faults)
   pub usage : status ≢ statuses.Memory → (status ≡ statuses.Usage) ↔ (request ≡ None)

@@ -14,7 +14,7 @@ use Rattle.damon_journal.specs.declared.lawful.Lawful.{Lawful}
 use Rattle.damon_app.specs.Request.{ReadsJournal, ReadsScript}
 use Rattle.damon_app.specs.StatusOf.{status_of_input}
 use Rattle.damon_admin.specs.Lines.{lines_said}
-use Rattle.damon_app.specs.Contexts.{Administers, OutputPrefix}
+use Rattle.damon_app.specs.Contexts.{OutputPrefix}
 use Rattle.damon_app.specs.Heating.{Heats, HeatsPrefix}
 use Rattle.damon_app.specs.Verifying.{counts_line}
 use Rattle.text_io.specs.Taken.{WritesPart}
@@ -56,9 +56,9 @@ VerifiesPrefix bytes old new = (counts : Lawful) × IsVerified bytes counts × W
 abbrev pub WritesCounts : Option (List ℕ) → Option (List ℕ) → Type 0
 WritesCounts old new = (counts : Lawful) × Appends old new (counts_line counts)
 
--- the sink gained some tables; `Heats` says of which states
-abbrev pub WritesTables : Option (List ℕ) → Option (List ℕ) → Type 0
-WritesTables old new = (text : List ℕ) × Appends old new text
+-- the sink gained some text; for tables `Heats` says which, and for contexts `Administers`
+abbrev pub WritesText : Option (List ℕ) → Option (List ℕ) → Type 0
+WritesText old new = (text : List ℕ) × Appends old new text
 
 -- the line or the tables are those of the journal that the bytes are
 abbrev pub TellsJournal : Option Request → List ℕ → Option (List ℕ) → Option (List ℕ) → Type 0
@@ -67,13 +67,13 @@ TellsJournal (Some (Heat columns)) bytes old new = Heats columns bytes old new
 TellsJournal _ bytes old new = Unit {0}
 
 -- What was asked for was done, where `input` is what the source had and the sink went from `old` to `new`: the sink gained
--- the report of the script that the input spells, the line of a journal's counts, its heat tables, the output of the contexts' lines, or
--- the line of the generated script.
+-- the report of the script that the input spells, the line of a journal's counts, its heat tables, the output of contexts, or the line of
+-- the generated script.
 abbrev pub IsDone : Option Request → (input old new : Option (List ℕ)) → Type 0
 IsDone (Some (Report run)) input old new = IfSome input (λ bytes. Replays run bytes old new)
 IsDone (Some Verify) input old new = IfSome input (λ bytes. WritesCounts old new)
-IsDone (Some (Heat columns)) input old new = IfSome input (λ bytes. WritesTables old new)
-IsDone (Some Admin) input old new = IfSome input (λ bytes. Administers bytes old new)
+IsDone (Some (Heat columns)) input old new = IfSome input (λ bytes. WritesText old new)
+IsDone (Some Admin) input old new = IfSome input (λ bytes. WritesText old new)
 IsDone (Some (Generate n)) input old new = Appends old new (gen_text n)
 IsDone None input old new = ⊥
 

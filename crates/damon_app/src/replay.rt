@@ -9,13 +9,15 @@ ghost use Rattle.text_io.specs.Given.{GaveOver};
 ghost use Rattle.text_io.specs.Taken.{WritesPart};
 ghost use Rattle.damon_admin.specs.Laws.{ContextsAreApart, ContextsAreBound, VoicesAreReports};
 ghost use Rattle.damon_app.specs.Request.{ReadsInput, ReadsJournal, asked};
+ghost use Rattle.damon_app.specs.Contexts.{Administers};
 ghost use Rattle.damon_app.specs.Generated.{gen_text};
 ghost use Rattle.damon_app.specs.Runs.{EachRunChoosesBest, EachRunFollowsGoals, EachRunIsAccounted, EachRunIsBound};
 ghost use Rattle.damon_journal.specs.Status.{EndsRun, IsRead, IsUnwritten, status_of};
 ghost use Rattle.damon_journal.specs.Verified.{IsOfNoLawfulRun};
 ghost use Rattle.damon_app.specs.Replay.{IsBegun, IsDone, IsExpected, MayCome, TellsFault, TellsJournal};
 ghost use Rattle.damon_app.specs.Answers.{IsAnswer, IsOutcome, IsRefused, IsScriptRefused, IsScriptTaken, IsTaken};
-ghost use Rattle.damon_app.specs.declared.request.Request.TheVariants.{Report as report_by, Verify as verify};
+ghost use Rattle.damon_app.specs.declared.request.Request.TheVariants.{Admin as admin, Verify as verify};
+ghost use Rattle.damon_app.specs.declared.request.Request.TheVariants.{Report as report_by};
 
 use crate::admin::run_contexts;
 use crate::counts::make_line;
@@ -49,12 +51,14 @@ pub fn replay_main<S: Source, K: Sink>(
     sink: &mut K,
 ) -> Status
     // What was written is what the words ask for: the report of the script that was read, the line of the
-    // lawful journal whose text was read, its heat tables, the output of the contexts' lines, or the line of
-    // the generated script.
+    // lawful journal whose text was read, its heat tables, the output of contexts, or the line of the
+    // generated script.
     ensures ok { result ≡ Status.Ok →
         IsDone (asked words.now) (S.left source.old) (K.taken sink.old) (K.taken sink.new) }
     ensures lawful { result ≡ Status.Ok → ReadsJournal (asked words.now) → IfSome (S.left source.old)
         (λ bytes. TellsJournal (asked words.now) bytes (K.taken sink.old) (K.taken sink.new)) }
+    ensures output { result ≡ Status.Ok → asked words.now ≡ Some admin → IfSome (S.left source.old)
+        (λ bytes. Administers bytes (K.taken sink.old) (K.taken sink.new)) }
     ensures end { ReadsInput (asked words.now) → IsRead result → IsAtEnd (S.left source.new) }
 
     // Whatever the status, the states along the run of every script that can be run are bound; and each
