@@ -7,6 +7,7 @@ pub mod Serving
 pub mod Balancing
 pub mod Reaching
 pub mod Following
+pub mod TouchedRuns
 pub mod BySlot
 pub mod Lasting
 mod Examples

@@ -15,7 +15,7 @@ pub behind_run : (start pages p : ℕ) → start + pages ≤ p → in_run start 
 behind_run start pages p above = grind (arith, nat_tests)
 
 -- two runs, of which the second begins where the first ends
-run_joins : (start n m p : ℕ) → in_run start (n + m) p ≡ (in_run start n p || in_run (start + n) m p)
+pub run_joins : (start n m p : ℕ) → in_run start (n + m) p ≡ (in_run start n p || in_run (start + n) m p)
 run_joins start n m p = elim (nat_lt p (start + n)) as (λ b. nat_lt p (start + n) ≡ b → in_run start (n + m) p ≡ (in_run start n p || in_run (start + n) m p)) [
   | true ↦ λ early.
       let short : nat_lt p (start + (n + m)) ≡ true = grind (arith, nat_tests) in
@@ -35,7 +35,7 @@ run_joins start n m p = elim (nat_lt p (start + n)) as (λ b. nat_lt p (start + 
   or_false false = refl
 
 -- a run that is set after another one
-both_bits : (out a b old : Bool) → (if b then out else (if a then out else old)) ≡ (if a || b then out else old)
+pub both_bits : (out a b old : Bool) → (if b then out else (if a then out else old)) ≡ (if a || b then out else old)
 both_bits out true true old = refl
 both_bits out true false old = refl
 both_bits out false true old = refl

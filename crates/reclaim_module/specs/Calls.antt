@@ -40,6 +40,15 @@ prefetched start pages r = record {
   };
 }
 
+-- the pages of a run are touched, one after another: those that were out come back, and each of them is a refault
+abbrev pub touched_run : ℕ → ℕ → ReclaimView → ReclaimView
+touched_run start pages r = record {
+  out = with_run start pages false r.out;
+  counts = record r.counts {
+    refaults = r.counts.refaults + count_pages (length r.out) (λ page. in_run start pages page && is_out_in r.out page);
+  };
+}
+
 -- an action is applied to a run; those other than `pageout` and `willneed` move nothing
 abbrev pub after_action : Action → ℕ → ℕ → ReclaimView → ReclaimView
 after_action Pageout start pages r = paged_out start pages r

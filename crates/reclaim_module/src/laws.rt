@@ -14,7 +14,7 @@ ghost use Rattle.damon_core.specs.Note.{Note, ran, touched};
 ghost use Rattle.damon_core.specs.Reached.{AllFit, Reached, run};
 ghost use Rattle.damon_core.specs.Slots.{scheme_of};
 ghost use Rattle.damon_core.specs.State.{State, opening_notes};
-ghost use Rattle.reclaim_module.specs.Calls.{after_action, after_touch, all_resident};
+ghost use Rattle.reclaim_module.specs.Calls.{after_action, after_touch, all_resident, touched_run};
 ghost use Rattle.reclaim_module.specs.Counts.{pageouts_of, prefetches_of, refaults_of};
 ghost use Rattle.reclaim_module.specs.Out.{IsOutSinceLast, is_out};
 ghost use Rattle.reclaim_module.specs.Pages.{ReclaimView, count_pages, out_count};
@@ -144,6 +144,15 @@ pub fn aggregations_keep_schemes()
     ensures schemes { (words : List ℕ) (s : State) (slot : ℕ)
         → scheme_of (aggregated words s).notes slot ≡ scheme_of s.notes slot }
     ensures runs { (s : State) → AllByRecursion (λ run. run.slot ≤ MAX_SLOT) (served s).runs }
+{}
+
+/// Touches of the pages of a run, one after another, are one touch of the run: of no page it changes
+/// nothing, and with one page more it is as if this one were touched after the others.
+pub fn touches_of_a_run_are_one()
+    ensures none { (start : ℕ) (r : ReclaimView) → touched_run start 0 r ≡ r }
+    ensures next { (start pages : ℕ) (r : ReclaimView) → start + pages < length r.out
+        → touched_run start (pages + 1) r
+        ≡ after_touch (start + pages) (touched_run start pages r) }
 {}
 
 /// Runs that are applied follow one another: those of a list and then others, or one more each time. Only

@@ -1,5 +1,5 @@
 ghost use Rattle.std.specs.Prelude.{◌≡◌, ◌+◌, ◌^◌, ◌≤◌, ◌<◌, not, length, count_by, IfOk};
-ghost use Rattle.reclaim_module.specs.Calls.{after_action, after_touch, all_resident};
+ghost use Rattle.reclaim_module.specs.Calls.{after_action, after_touch, all_resident, touched_run};
 ghost use Rattle.reclaim_module.specs.Pages.{is_out_in, out_count};
 
 use crate::page_set::PageSet;
@@ -68,6 +68,18 @@ impl Reclaim {
         self.out -= u32::from(was_out);
         self.counts.refaults += u64::from(was_out);
         was_out
+    }
+
+    /// Touches the `pages` pages from `start` on, which lie in the space, one after another. Those that were
+    /// out come back, and each of them is a refault.
+    #[tactic(auto, using(crate::proofs::Moving::out_loss))]
+    pub fn touch_run(&mut self, start: u32, pages: u32)
+        requires { start + pages ≤ length self.old.out }
+        ensures { self.new ≡ touched_run start pages self.old }
+    {
+        let back = self.set.put_run(start, pages, false);
+        self.out -= back;
+        self.counts.refaults += u64::from(back);
     }
 
     /// Applies an action to the `pages` pages from `start` on, which lie in the space: [`Action::Pageout`]

@@ -144,13 +144,11 @@ fn touch_pages(model: &mut Reclaim, page: u32, count: u32)
     requires { (i : ℕ) → i < count → page + i < length model.old.out }
     ensures { (s : State) → model.new ≡ after_events (touches page count) s model.old }
 {
-    // For their clauses alone: how touches follow one another.
+    // For their clauses alone: touches one after another are one touch of the run.
     reclaim_module::model_follows_events();
-    reclaim_module::pages_stay();
-    // For its clause alone: the pages are a u32.
-    let _pages = model.pages();
-    for index in 0..count {
-        model.touch(page + index);
+    reclaim_module::touches_of_a_run_are_one();
+    if count > 0 {
+        model.touch_run(page, count);
     }
 }
 
