@@ -209,7 +209,8 @@ class Files(Searches):
 
     def test_it_is_interrupted_and_goes_on(self) -> None:
         whole, _ = self.search("small.toml", "one.csv")
-        slow = self.program(f'sleep 0.05\nexec {PROGRAM} "$@"')
+        # So slow that much is left to do once the first rows are there.
+        slow = self.program(f'sleep 0.2\nexec {PROGRAM} "$@"')
         path = self.folder / "two.csv"
         words = [sys.executable, str(TOOLS / TOOL), str(self.folder / "small.toml"), str(path), "--jobs", "2"]
         with subprocess.Popen(words, stderr=subprocess.PIPE, env={**os.environ, "DAMON": str(slow)}) as tool:
