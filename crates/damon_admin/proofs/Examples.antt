@@ -1,10 +1,16 @@
 -- Inputs that were written out by hand.
-use Rattle.std.proofs.Common.{◌≡◌, List, ℕ, [], ◌∷◌, codes, Ok, Err, refl}
+use Rattle.std.proofs.Common.{◌≡◌, List, ℕ, [], ◌∷◌, ◌++◌, codes, Ok, Err, Some, refl}
+use Rattle.std.specs.Prelude.{Result}
 use Rattle.std.specs.Fmt.{digits}
+use Rattle.script_lines.specs.declared.kind.ScriptKind.{ScriptKind}
 use Rattle.script_lines.specs.declared.kind.ScriptKind.TheVariants.{Cut, Form, Header}
+use Rattle.script_lines.specs.Body.{no_commit}
+use Rattle.script_lines.specs.Command.{CommandValue, Commit, Step}
+use Rattle.damon_control.specs.declared.grammar.Grammar.TheVariants.{OfScript}
+use Rattle.damon_control.specs.Script.{Place}
 use Rattle.damon_admin.specs.Lines.{ContextLine, context_text, lines_said}
 use Rattle.damon_admin.specs.Voice.{spoken, voice}
-use Rattle.damon_admin.specs.Written.{all_written, output_of}
+use Rattle.damon_admin.specs.Written.{all_written, commands_at, output_of, place_of, written}
 
 -- ---- the lines of an input
 
@@ -68,3 +74,36 @@ missing_line = refl
 second_line : all_written (codes "damon script 1\nx\n") ≡ codes "fault line=2 unexpected word\n"
 unfolding digits
 second_line = refl
+
+-- ---- which lines complete commands
+
+setup : List (List ℕ)
+setup =
+    codes "damon script 1" ∷ codes "seed 42" ∷ codes "unit 1" ∷ codes "cap 8" ∷ codes "attrs 3 8 5" ∷ codes "target 0x10000 3"
+    ∷ codes "range 0 0x10000 0x13000 0" ∷ codes "begin" ∷ []
+
+said : Result (Place OfScript) ScriptKind → List CommandValue
+said (Ok place) = commands_at place
+said (Err kind) = []
+
+no_command_in_the_setup : said (place_of setup) ≡ []
+unfolding setup said
+no_command_in_the_setup = refl
+
+one_at_its_line : said (place_of (setup ++ codes "step 4" ∷ [])) ≡ Step 4 ∷ []
+unfolding setup said
+one_at_its_line = refl
+
+none_within_a_commit : said (place_of (setup ++ codes "step 4" ∷ codes "commit" ∷ codes "metric 300" ∷ [])) ≡ Step 4 ∷ []
+unfolding setup said
+none_within_a_commit = refl
+
+a_commit_at_its_apply : said (place_of (setup ++ codes "step 4" ∷ codes "commit" ∷ codes "metric 300" ∷ codes "apply" ∷ []))
+    ≡ Step 4 ∷ Commit (record no_commit { metric = Some 300 }) ∷ []
+unfolding setup said
+a_commit_at_its_apply = refl
+
+-- nothing is written before the first command
+nothing_in_the_setup : written (setup ++ codes "show" ∷ codes "end" ∷ []) setup ≡ []
+unfolding setup
+nothing_in_the_setup = refl

@@ -76,8 +76,8 @@ impl Admin {
     }
 
     /// Does the next line of the input, and appends to `out` what its context writes at it. False where no
-    /// line is left. Takes memory. Where it runs out, nothing of the line's text is appended, and so it is
-    /// at every later call.
+    /// line is left. Takes memory. Where it runs out, nothing of the line's text is appended, and every
+    /// later call fails.
     pub fn next(&mut self, alloc: Global, out: &mut Vec<u8>) -> Result<bool, AllocError>
         ensures line { result ≡ Ok true → DoesLine self.old self.new out.old.items out.new.items }
         ensures end { result ≡ Ok false → self.old.left ≡ [] }
@@ -109,7 +109,7 @@ impl Admin {
         let Ok(Some(taken)) = take_line(rest_from(&self.input, self.at), 0) else {
             return Ok(false);
         };
-        // So it stays where memory runs out: a context may then be amid a command.
+        // It stays so where memory runs out: a context may then be amid a command.
         self.failed = true;
         self.said.clear();
         self.spoken.clear();
