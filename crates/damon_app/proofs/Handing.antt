@@ -1,11 +1,11 @@
 -- Text that is handed over piece by piece.
-use Rattle.std.proofs.Common.{◌≡◌, ℕ, List, [], ◌++◌, Option, refl, sym, ap, ◌∙◌, subst, append-nil, append_assoc}
+use Rattle.std.proofs.Common.{◌≡◌, ℕ, List, [], ◌++◌, Option, sym, ap, ◌∙◌, subst, append-nil, append_assoc}
 use Rattle.std.proofs.KnownBytes.{Appends-nil, Appends-trans}
 use Rattle.std.specs.Io.KnownBytes.{Appends}
 use Rattle.damon_admin.specs.Admin.{AdminView, DoesLine, left_text, line-done}
 use Rattle.text_io.specs.Taken.{WritesPart}
 use Rattle.damon_app.specs.Pieces.{HandsOver}
-use Rattle.damon_app.proofs.Known.{WritesPart-after, WritesPart-longer, WritesPart-whole}
+use Rattle.damon_app.proofs.Known.{WritesPart-after, WritesPart-longer}
 
 -- at first all of it is left
 pub handed_first : (old : Option (List ℕ)) (piece text rest : List ℕ) → piece ≡ [] → rest ≡ text → HandsOver old old text (piece ++ rest)
