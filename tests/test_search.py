@@ -13,6 +13,7 @@ import sys
 import tempfile
 import time
 import unittest
+from functools import partial
 from pathlib import Path
 
 from tool_runs import PROGRAM, SECONDS, TOOLS, TOP, Refusals, need_program, random_trace, report_of, run, script_of
@@ -213,7 +214,9 @@ class Files(Searches):
         slow = self.program(f'sleep 0.2\nexec {PROGRAM} "$@"')
         path = self.folder / "two.csv"
         words = [sys.executable, str(TOOLS / TOOL), str(self.folder / "small.toml"), str(path), "--jobs", "2"]
-        with subprocess.Popen(words, stderr=subprocess.PIPE, env={**os.environ, "DAMON": str(slow)}) as tool:
+        # A shell in the background ignores the signal, and what it starts would ignore it too.
+        heed = partial(signal.signal, signal.SIGINT, signal.SIG_DFL)
+        with subprocess.Popen(words, stderr=subprocess.PIPE, env={**os.environ, "DAMON": str(slow)}, preexec_fn=heed) as tool:
             self.wait_for(path, 12)
             tool.send_signal(signal.SIGINT)
             said = tool.communicate(timeout=SECONDS)[1]
