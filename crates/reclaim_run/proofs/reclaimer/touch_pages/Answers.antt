@@ -1,11 +1,13 @@
-use Rattle.std.proofs.Common.{◌≡◌, ◌-◌, ◌+◌, ap, ◌∙◌, sym, arith}
-use Rattle.damon_world.specs.Touches.{touches}
-use Rattle.reclaim_module.specs.Stands.{after_events}
+use Rattle.std.proofs.Common.{◌<◌, ◌-◌, ◌∙◌, arith}
 use Rattle.reclaim_run.proofs.Touching.{run_is_touches}
 use Rattle.reclaim_run.proofs.reclaimer.touch_pages.Goals as goal
 
 pub touch_run-requires : goal.touch_run-requires
-touch_run-requires c = omega (arith, c.requires (c.args.count - 1) ?)
+touch_run-requires c =
+    let last : c.args.count - 1 < c.args.count = omega (arith, c.if-count-gt0.true) in
+    omega (arith, c.requires (c.args.count - 1) last, c.if-count-gt0.true)
 
-pub returns : goal.returns
-returns c = ?
+pub returns-then-count-gt0 : goal.returns-then-count-gt0
+returns-then-count-gt0 c s =
+    let one = c.touches_of_a_run_are_one.ensures in
+    c.touch_run.ensures ∙ run_is_touches c.model_follows_events.ensures.others one.none one.next c.args.page c.args.count s c.args.model.now c.requires
