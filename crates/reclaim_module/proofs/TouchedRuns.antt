@@ -90,5 +90,5 @@ touched_next start n r here =
     let was : cond {A = ℕ} (is_out_in ys (start + n)) 1 0 ≡ cond (is_out_in xs (start + n)) 1 0 = ap (λ (b : Bool). cond b 1 0) (behind_stays start n xs here) in
     let before = r.counts.refaults + count_pages (length xs) (λ p. in_run start n p && is_out_in xs p) in
     same_model r (with_run start (n + 1) false xs) (slice_set ys (start + n) false)
-        (r.counts.refaults + count_pages (length xs) (λ p. in_run start (n + 1) p && is_out_in xs p)) (before + cond (is_out_in ys (start + n)) 1 0)
-        outs (omega (arith, one_more start n xs here, was))
+    (r.counts.refaults + count_pages (length xs) (λ p. in_run start (n + 1) p && is_out_in xs p)) (before + cond (is_out_in ys (start + n)) 1 0)
+    outs (omega (arith, one_more start n xs here, was))

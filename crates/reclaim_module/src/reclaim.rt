@@ -77,9 +77,9 @@ impl Reclaim {
         requires { start + pages ≤ length self.old.out }
         ensures { self.new ≡ touched_run start pages self.old }
     {
-        let back = self.set.put_run(start, pages, false);
-        self.out -= back;
-        self.counts.refaults += u64::from(back);
+        let refaults = self.set.put_run(start, pages, false);
+        self.out -= refaults;
+        self.counts.refaults += u64::from(refaults);
     }
 
     /// Applies an action to the `pages` pages from `start` on, which lie in the space: [`Action::Pageout`]
