@@ -9,7 +9,8 @@ use std::env::Env;
 use std::process::ExitCode;
 use std::{env, io};
 
-const USAGE: &str = "usage: damon replay, json, verify, gen N, tune GOALS, heat N, admin or reclaim";
+const USAGE: &str =
+    "usage: damon replay, json, verify, gen N, tune GOALS, heat N, admin or reclaim";
 
 fn main(rt: HostRuntime) -> ExitCode {
     let status = run(&rt);
