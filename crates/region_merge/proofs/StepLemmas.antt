@@ -70,3 +70,7 @@ joined_row gs threshold limit a b left rows is may = rw (is, may) refl
 
 pub next_row : (gs : List Range) (threshold limit : ℕ) (a b : Row) (left rows : List Row) → left ≡ b ∷ rows → may_join gs threshold limit a b ≡ false → merged_from gs threshold limit a left ≡ a ∷ merged_from gs threshold limit b rows
 next_row gs threshold limit a b left rows is may = rw (is, may) refl
+
+-- where a row and the next one are known by what is left
+pub begins_two : (gs : List Range) (a b : Row) (left after rows : List Row) (k end : ℕ) → left ≡ a ∷ after → after ≡ b ∷ rows → BeginsIn gs left k end → BeginsIn gs (a ∷ b ∷ rows) k end
+begins_two gs a b left after rows k end first second here = subst (λ rs. BeginsIn gs (a ∷ rs) k end) second (subst (λ rs. BeginsIn gs rs k end) first here)

@@ -1,7 +1,8 @@
-ghost use Rattle.std.specs.Prelude.{◌≡◌, false, List, ◌+◌, ◌≤◌, ◌<◌, ◌^◌, ◌≢◌, ◌&&◌, ◌==◌, Some, not, length, slice_get};
+ghost use Rattle.std.specs.Prelude.{◌≡◌, false, List, ◌+◌, ◌≤◌, ◌<◌, ◌^◌, ◌≢◌, ◌&&◌, ◌==◌, ◌++◌, Some, not, length, take, drop, slice_get};
 ghost use Rattle.std.specs.Option.{option_map};
 ghost use Rattle.damon_types.specs.declared.range.Range.{Range as range};
-ghost use Rattle.damon_types.specs.Ranges.{end_of};
+ghost use Rattle.damon_types.specs.Ranges.{InOrder, end_of};
+ghost use Rattle.region_list.specs.Walk.{BeginsIn};
 ghost use Rattle.region_merge.specs.Merged.{row_end, is_within, merged};
 ghost use Rattle.region_merge.specs.Grouping.{IsMerged};
 
@@ -82,13 +83,28 @@ impl RowPass for MergePass {
             range: 0,
             end: range_end(ranges, 0),
         };
-        for index in 1..rows.len() {
+        let mut index = 1;
+        'groups: while index < rows.len() {
             let row = rows.next(index);
             if self.joins(&group, &row) {
                 group.row = join_rows(&group.row, &row);
+                index += 1;
             } else {
                 made.push(group.row);
-                group = group.next_group(ranges, &row);
+                let begun = group.next_group(ranges, &row);
+                let from = RowPlace {
+                    index,
+                    range: begun.range,
+                    end: begun.end,
+                };
+                let first = self.first_pair(ranges, rows, from);
+                made.append_rows(rows, index as usize, first.index as usize);
+                group = OpenGroup {
+                    row: rows.next(first.index),
+                    range: first.range,
+                    end: first.end,
+                };
+                index = first.index + 1;
             }
         }
         made.push(group.row);
@@ -96,6 +112,44 @@ impl RowPass for MergePass {
 }
 
 impl MergePass {
+    // The first row from this one on to which the next one is joined, or the last row. The rows before it stay
+    // as they are, and most rows do: such a stretch is copied in one piece.
+    fn first_pair(&self, ranges: &Ranges, rows: &RowBuf, from: RowPlace) -> RowPlace
+        requires order { InOrder ranges.now.list }
+        requires within { from.index < length rows.now.rows }
+        requires here { BeginsIn ranges.now.list (drop from.index rows.now.rows) from.range from.end }
+        ensures within { result.index < length rows.now.rows }
+        ensures later { from.index ≤ result.index }
+        ensures here { BeginsIn ranges.now.list (drop result.index rows.now.rows) result.range result.end }
+        ensures stay { take result.index rows.now.rows
+            ++ merged ranges.now.list self.now.threshold self.now.limit (drop result.index rows.now.rows)
+            ≡ take from.index rows.now.rows
+            ++ merged ranges.now.list self.now.threshold self.now.limit (drop from.index rows.now.rows) }
+    {
+        // For its clauses alone: the rows follow the ranges.
+        rows_follow_ranges();
+        let last = rows.len() - 1;
+        let mut at = from;
+        'pairs: while at.index < last {
+            let group = OpenGroup {
+                row: rows.next(at.index),
+                range: at.range,
+                end: at.end,
+            };
+            let next = rows.next(at.index + 1);
+            if self.joins(&group, &next) {
+                return at;
+            }
+            let begun = group.next_group(ranges, &next);
+            at = RowPlace {
+                index: at.index + 1,
+                range: begun.range,
+                end: begun.end,
+            };
+        }
+        at
+    }
+
     // Whether the next row is joined to the group.
     fn joins(&self, group: &OpenGroup, row: &Row) -> bool
         requires end { row_end group.now.row < 2 ^ 32 }
@@ -108,6 +162,14 @@ impl MergePass {
             && group.row.count.abs_diff(row.count) <= self.threshold
             && group.row.pages + row.pages <= self.limit
     }
+}
+
+// A row, by its index, and the range that holds it, with its index and its end.
+#[derive(Clone, Copy)]
+struct RowPlace {
+    index: u32,
+    range: u32,
+    end: u32,
 }
 
 // The group of rows that is being joined: the row that they became so far, and the range that holds

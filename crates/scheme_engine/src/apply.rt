@@ -1,5 +1,6 @@
 // Applying a scheme to the rows of its candidates.
 ghost use Rattle.std.specs.Prelude.{◌≡◌, ◌+◌, ◌*◌, ◌≤◌, ◌<◌, ◌&&◌, nat_lt, ◌++◌, length, fold, Some, None, All, if◌then◌else◌};
+ghost use Rattle.region_list.specs.Find.{row_index};
 ghost use Rattle.region_list.specs.Rows.{row_at};
 ghost use Rattle.damon_types.specs.Span.{spans};
 ghost use Rattle.damon_types.specs.Within.{AreWithin};
@@ -48,19 +49,24 @@ pub(crate) fn apply(
         (spans regions.old.rows)) None candidates.now.list }
 {
     let mut part = None;
+    let mut near = 0;
     for candidate in candidates.as_slice() {
-        let next = apply_to(slot, scheme, context, candidate, regions, applied);
+        let next = apply_to(
+            slot, scheme, context, candidate, &mut near, regions, applied,
+        );
         part = next.or(part);
     }
     part
 }
 
-// Applies a scheme to the pages that are taken of one candidate.
+// Applies a scheme to the pages that are taken of one candidate. The row is looked for at the index `near`
+// first, which becomes the one after it.
 fn apply_to(
     slot: u8,
     scheme: &Scheme,
     context: &Context,
     candidate: &Candidate,
+    near: &mut u32,
     regions: &mut Regions,
     applied: &mut Applied,
 ) -> Option<Part>
@@ -88,7 +94,8 @@ fn apply_to(
     if candidate.share == 0 {
         return None;
     }
-    let index = regions.find(candidate.start)?;
+    let index = find_near(regions, *near, candidate.start)?;
+    *near = index + 1;
     let row = regions.row(index);
     let pages = take_row(
         slot,
@@ -100,6 +107,19 @@ fn apply_to(
         applied,
     );
     renew(scheme.action, candidate, Part { index, pages }, regions)
+}
+
+// The index of the row that holds a page. The row with the index `near` is looked at first: the rows of
+// candidates mostly follow each other as these do, and the branches of a search are often predicted wrongly.
+fn find_near(regions: &Regions, near: u32, page: u32) -> Option<u32>
+    ensures { result ≡ row_index regions.now.rows page }
+{
+    // Its clauses also say that no two rows start at the same page.
+    let count = regions.len();
+    if near < count && regions.row(near).start == page {
+        return Some(near);
+    }
+    regions.find(page)
 }
 
 // Gives the row of a candidate age 0 if all its passing pages are taken and the action changes rows. If

@@ -41,14 +41,14 @@ returns-in_err-index c =
     let old = c.args.regions.now in
     let p = passes c.args.scheme.now.filters c.args.context.now.space.now old.ranges in
     let ascend = rows_ascend old.unit old.ranges (spans old.rows) c.len-count.ensures.unit c.len-count.ensures.order c.len-count.ensures.tiling in
-    absurd (is_found p old.rows c.args.candidate.now ascend c.requires.row (sym c.find.ensures ∙ c.in_err-index.was))
+    absurd (is_found p old.rows c.args.candidate.now ascend c.requires.row (sym c.find_near.ensures ∙ c.in_err-index.was))
 
 pub take_row-pages-requires-clause-held : goal.take_row-pages-requires-clause-held
 take_row-pages-requires-clause-held c =
     let old = c.args.regions.now in
     let p = passes c.args.scheme.now.filters c.args.context.now.space.now old.ranges in
     let ascend = rows_ascend old.unit old.ranges (spans old.rows) c.len-count.ensures.unit c.len-count.ensures.order c.len-count.ensures.tiling in
-    let is = found p old.rows c.args.candidate.now c.in_ok-index.index c.row-row.result ascend c.requires.row (sym c.find.ensures ∙ c.in_ok-index.was) c.row-row.ensures.row in
+    let is = found p old.rows c.args.candidate.now c.in_ok-index.index c.row-row.result ascend c.requires.row (sym c.find_near.ensures ∙ c.in_ok-index.was) c.row-row.ensures.row in
     rw c.ranges-2.ensures.list (subst (λ (r : Row). Any (LiesIn (span_of r)) old.ranges) is.read (row_held old.ranges old.rows c.in_ok-index.index c.len-count.ensures.tiles.within is.within))
 
 pub take_row-pages-requires-clause-passing : goal.take_row-pages-requires-clause-passing
@@ -56,7 +56,7 @@ take_row-pages-requires-clause-passing c =
     let old = c.args.regions.now in
     let p = passes c.args.scheme.now.filters c.args.context.now.space.now old.ranges in
     let ascend = rows_ascend old.unit old.ranges (spans old.rows) c.len-count.ensures.unit c.len-count.ensures.order c.len-count.ensures.tiling in
-    let is = found p old.rows c.args.candidate.now c.in_ok-index.index c.row-row.result ascend c.requires.row (sym c.find.ensures ∙ c.in_ok-index.was) c.row-row.ensures.row in
+    let is = found p old.rows c.args.candidate.now c.in_ok-index.index c.row-row.result ascend c.requires.row (sym c.find_near.ensures ∙ c.in_ok-index.was) c.row-row.ensures.row in
     rw c.ranges-2.ensures.list is.passing
 
 pub renew-requires : goal.renew-requires
@@ -64,7 +64,7 @@ renew-requires c =
     let old = c.args.regions.now in
     let p = passes c.args.scheme.now.filters c.args.context.now.space.now old.ranges in
     let ascend = rows_ascend old.unit old.ranges (spans old.rows) c.len-count.ensures.unit c.len-count.ensures.order c.len-count.ensures.tiling in
-    let is = found p old.rows c.args.candidate.now c.in_ok-index.index c.row-row.result ascend c.requires.row (sym c.find.ensures ∙ c.in_ok-index.was) c.row-row.ensures.row in
+    let is = found p old.rows c.args.candidate.now c.in_ok-index.index c.row-row.result ascend c.requires.row (sym c.find_near.ensures ∙ c.in_ok-index.was) c.row-row.ensures.row in
     record { within = is.within; start = is.start ∙ ap (λ (r : Row). r.start) (sym is.read); share = c.requires.row.share }
 
 pub returns : goal.returns
@@ -75,7 +75,7 @@ returns c =
     let row = c.row-row.result in
     let test : List Range → ℕ → Bool = λ gs. passes c.args.scheme.now.filters c.args.context.now.space.now gs in
     let ascend = rows_ascend old.unit old.ranges (spans old.rows) c.len-count.ensures.unit c.len-count.ensures.order c.len-count.ensures.tiling in
-    let is = found (test old.ranges) old.rows cand c.in_ok-index.index row ascend c.requires.row (sym c.find.ensures ∙ c.in_ok-index.was) c.row-row.ensures.row in
+    let is = found (test old.ranges) old.rows cand c.in_ok-index.index row ascend c.requires.row (sym c.find_near.ensures ∙ c.in_ok-index.was) c.row-row.ensures.row in
     let with : (ℕ → Bool) → Span → AppliedList = λ p s. record before { runs = before.runs ++ map (applied_run c.args.slot cand) (taken_runs p cand.share s) } in
     let pages = c.take_row-pages.ensures.pages ∙ ap (λ gs. cut_place (test gs) cand.share (span_of row)) c.ranges-2.ensures.list in
     record {
