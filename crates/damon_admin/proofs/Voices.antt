@@ -10,6 +10,7 @@ use Rattle.std.proofs.Math.Seq.{drop-append_seam}
 use Rattle.line_text.specs.Laws.{PutsPartsTogether}
 use Rattle.line_text.specs.Parts.{IsPiece, parts}
 use Rattle.script_lines.specs.Command.{CommandValue}
+use Rattle.script_lines.specs.KindText.{kind_text}
 use Rattle.script_lines.specs.Lines.{lines_text}
 use Rattle.snapshot_print.specs.declared.form.Form.TheVariants.{Text}
 use Rattle.damon_control.specs.declared.fault.ScriptFault.{ScriptFault}
@@ -30,7 +31,7 @@ use Rattle.damon_admin.specs.declared.stage.Stage.{Stage}
 use Rattle.damon_admin.specs.declared.stage.Stage.TheVariants as stage
 use Rattle.damon_admin.specs.Stage.{completes, stage_of}
 use Rattle.damon_admin.specs.Voice.{all_but_last, is_of, lines_in, spoken, spoken_line, voice}
-use Rattle.damon_admin.specs.Written.{all_written, commands_at, fault_line, kind_text, line_text, output_of, place_from, place_of, texts_from, told, written, written_as, written_at, written_where}
+use Rattle.damon_admin.specs.Written.{all_written, commands_at, fault_line, line_text, output_of, place_from, place_of, texts_from, told, written, written_as, written_at, written_where}
 use Rattle.damon_admin.proofs.Contexts.{lines_of-append, lines_of-own, lines_text-append, other_more, own_more, pieces_of}
 use Rattle.damon_admin.proofs.Ended.{IsEnded, both_ended, line_ended, lines_text-lines_in, none_ended, some_parts}
 use Rattle.damon_admin.proofs.Places.{NextPlace, end_is_last, next_place, parts_first, place_from-append, script_leads}

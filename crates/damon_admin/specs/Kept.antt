@@ -171,7 +171,7 @@ abbrev pub or_none : Result (List ContextLine) ScriptFault → List ContextLine
 or_none (Ok lines) = lines
 or_none (Err fault) = []
 
--- an input of which so many lines are done
+-- an input whose first `done` lines are done
 abbrev pub admin_of : List ℕ → ℕ → Bool → AdminView
 admin_of input done failed = record {
   done = take done (or_none (lines_said input));
@@ -179,8 +179,8 @@ admin_of input done failed = record {
   failed = failed;
 }
 
--- What stands in the input from `at` on are the lines that are left; each context runs a script or has its fault; and as long as
--- there was memory, each has done its lines so far.
+-- What stands in the input from `at` on are the lines that are left; each context runs a script or has its fault; and until
+-- memory runs out, each has done its lines so far.
 pub record IsAdmin (input : List ℕ) (at done : ℕ) (failed : Bool) (contexts : List Context) : Type 0 where
   pub lines : List ContextLine
   pub said : lines_said input ≡ Ok lines

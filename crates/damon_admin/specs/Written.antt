@@ -2,8 +2,8 @@
 use Rattle.std.specs.Prelude.{ℕ, ◌==◌, List, [], ◌∷◌, ◌++◌, drop, length, codes, Result, Ok, Err, if◌then◌else◌}
 use Rattle.std.specs.Fmt.{decimal}
 use Rattle.script_lines.specs.declared.kind.ScriptKind.{ScriptKind}
-use Rattle.script_lines.specs.declared.kind.ScriptKind.TheVariants as kind
 use Rattle.script_lines.specs.Command.{CommandValue}
+use Rattle.script_lines.specs.KindText.{kind_text}
 use Rattle.script_lines.specs.Lines.{lines_text}
 use Rattle.script_lines.specs.Refusal.{◌>>=◌}
 use Rattle.snapshot_print.specs.Fields.{◌then◌}
@@ -15,24 +15,6 @@ use Rattle.script_run.specs.Played.{commands_text, up_to}
 use Rattle.script_run.specs.Report.{report}
 use Rattle.damon_admin.specs.Lines.{ContextLine, lines_of}
 use Rattle.damon_admin.specs.Voice.{spoken}
-
--- the text of a kind of fault
-abbrev pub kind_text : ScriptKind → List ℕ
-kind_text kind.After = codes "text after end"
-kind_text kind.Cut = codes "input ends early"
-kind_text kind.Header = codes "no header"
-kind_text kind.Word = codes "unexpected word"
-kind_text kind.Form = codes "bad form"
-kind_text kind.Number = codes "bad number"
-kind_text kind.Limit = codes "out of limit"
-kind_text (kind.Attrs why) = codes "bad attrs"
-kind_text kind.OverCap = codes "max over cap"
-kind_text (kind.Range why) = codes "bad range"
-kind_text kind.RangesOverMax = codes "ranges over max"
-kind_text (kind.Scheme why) = codes "bad scheme"
-kind_text kind.Repeated = codes "slot set twice"
-kind_text kind.Outside = codes "outside span"
-kind_text kind.TooMuch = codes "too much work"
 
 -- the line of a context whose lines are no script
 abbrev pub fault_line : ScriptFault → List ℕ

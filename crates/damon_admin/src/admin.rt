@@ -14,7 +14,7 @@ use script_run::each_script_is_bound;
 use std::alloc::{AllocError, Global};
 use std::marker::Model;
 
-/// Why no contexts were made of an input: its first line that is refused, or want of memory.
+/// Why no contexts were made of an input: its first line that is refused, or that memory ran out.
 pub type AdminFail = ReadFail;
 
 /// The contexts of an input, which go on line by line.
@@ -27,7 +27,7 @@ pub struct Admin {
     // Memory has run out.
     failed: bool,
     contexts: Vec<Context>,
-    // What a context writes at the line that is being done, and the same as it says it.
+    // What a context writes at the line that is being done, and the same with the context's digit.
     said: Vec<u8>,
     spoken: Vec<u8>,
 }
@@ -76,8 +76,8 @@ impl Admin {
     }
 
     /// Does the next line of the input, and appends to `out` what its context writes at it. False where no
-    /// line is left. Takes memory. Where it runs out, nothing of the line's text is appended, and every
-    /// later call fails.
+    /// line is left. Takes memory. If memory runs out, nothing of the line's text is appended, and
+    /// every later call fails.
     pub fn next(&mut self, alloc: Global, out: &mut Vec<u8>) -> Result<bool, AllocError>
         ensures line { result ≡ Ok true → DoesLine self.old self.new out.old.items out.new.items }
         ensures end { result ≡ Ok false → self.old.left ≡ [] }
@@ -109,7 +109,7 @@ impl Admin {
         let Ok(Some(taken)) = take_line(rest_from(&self.input, self.at), 0) else {
             return Ok(false);
         };
-        // It stays so where memory runs out: a context may then be amid a command.
+        // It stays set if memory runs out: a context may then be in the middle of a command.
         self.failed = true;
         self.said.clear();
         self.spoken.clear();
@@ -130,7 +130,7 @@ impl Admin {
     }
 
     /// The monitor of a context, as it stands after the commands of the context's lines so far. `None` where
-    /// these lines are no script. After want of memory the monitor may stand anywhere.
+    /// these lines are no script. Once memory has run out, the monitor may stand in any state.
     pub fn context(&self, context: u32) -> Option<&Monitor>
         requires { context < CONTEXTS }
         ensures some { IfSome result (λ _. IsScript context self.now) }

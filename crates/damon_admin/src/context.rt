@@ -19,9 +19,9 @@ type ScriptPlayer = Player<Lcg64Xsh32, NoCallbacks>;
 // One context, by its lines.
 #[derive(Drop)]
 pub enum Context {
-    // They are no script; this many of them are left.
+    // The lines are no script; `left` of them are still to come.
     Faulty { fault: ScriptFault, left: u64 },
-    // They are a script, which is played as far as they came.
+    // The lines are a script, which is played up to the last line that was done.
     Running { player: ScriptPlayer, stage: Stage },
 }
 

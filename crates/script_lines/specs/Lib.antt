@@ -1,3 +1,4 @@
+pub mod KindText
 pub mod Refusal
 pub mod Words
 pub mod Separators

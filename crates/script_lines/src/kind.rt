@@ -1,3 +1,6 @@
+ghost use Rattle.std.specs.Prelude.{◌≡◌};
+ghost use Rattle.script_lines.specs.KindText.{kind_text};
+
 use damon_types::{AttrsFault, SchemeFault};
 use std::fmt;
 use target_ranges::RangeWhy;
@@ -5,8 +8,7 @@ use target_ranges::RangeWhy;
 /// Why a line is rejected. If more than one kind applies, the first is given. The kinds and their
 /// order are this project's own.
 ///
-/// [`Display`](fmt::Display) writes the kind in a few words, without the reason that three of the
-/// kinds hold.
+/// [`Display`](fmt::Display) writes its [`text`](ScriptKind::text).
 #[derive(Clone, Copy, Debug, PartialEq, Eq)]
 pub enum ScriptKind {
     /// Bytes follow the line `end`.
@@ -42,9 +44,12 @@ pub enum ScriptKind {
     TooMuch,
 }
 
-impl fmt::Display for ScriptKind {
-    fn fmt<W: fmt::Write>(&self, f: &mut fmt::Formatter<W>) -> fmt::Result {
-        f.write_str(match self {
+impl ScriptKind {
+    /// The kind in a few words, without the reason that three of the kinds hold.
+    pub fn text(self) -> &'static str
+        ensures { result.now ≡ kind_text self }
+    {
+        match self {
             ScriptKind::After => "text after end",
             ScriptKind::Cut => "input ends early",
             ScriptKind::Header => "no header",
@@ -60,6 +65,16 @@ impl fmt::Display for ScriptKind {
             ScriptKind::Repeated => "slot set twice",
             ScriptKind::Outside => "outside span",
             ScriptKind::TooMuch => "too much work",
-        })
+        }
+    }
+}
+
+impl fmt::Display for ScriptKind {
+    ghost use Rattle.std.specs.Prelude.{Some};
+
+    ghost output = { λ kind. Some (kind_text kind) };
+
+    fn fmt<W: fmt::Write>(&self, f: &mut fmt::Formatter<W>) -> fmt::Result {
+        f.write_str(self.text())
     }
 }
