@@ -15,7 +15,7 @@ PAGES = [TOP / "README.md", *sorted((TOP / "docs").glob("*.md")), *sorted((TOP /
 NAME = re.compile(r"`([^`]+)`")
 LINK = re.compile(r"\]\(([^)\s]+)\)")
 LOGIC = re.compile(r"\blogic ([0-9a-f]{16})\b")
-TESTS = {"part_tests", "engine_tests", "monitor_tests", "script_tests", "replay_tests", "journal_tests", "live_tests", "grammar_cases"}
+TESTS = {"part_tests", "engine_tests", "monitor_tests", "script_tests", "replay_tests", "journal_tests", "admin_tests", "live_tests", "grammar_cases"}
 
 
 def tables(page: Path) -> Iterator[Tuple[List[str], List[List[str]]]]:

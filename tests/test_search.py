@@ -218,7 +218,10 @@ class Files(Searches):
         heed = partial(signal.signal, signal.SIGINT, signal.SIG_DFL)
         with subprocess.Popen(words, stderr=subprocess.PIPE, env={**os.environ, "DAMON": str(slow)}, preexec_fn=heed) as tool:
             self.wait_for(path, 12)
-            tool.send_signal(signal.SIGINT)
+            # More than once, as somebody does who is impatient: also while the tool ends.
+            while tool.poll() is None:
+                tool.send_signal(signal.SIGINT)
+                time.sleep(0.01)
             said = tool.communicate(timeout=SECONDS)[1]
         self.assertEqual(tool.returncode, 128 + signal.SIGINT)
         rows = path.read_bytes().count(b"\n") - 1

@@ -53,8 +53,8 @@ class WithoutIt(Refusals):
         if has_package(sys.executable):
             self.skipTest(f"{sys.executable} has dask.distributed")
         with tempfile.TemporaryDirectory() as folder:
+            # There is no trace: it would be read after this.
             plan = Path(folder) / "plan.toml"
-            (Path(folder) / "a.trace").write_bytes(random_trace(1, 300))
             plan.write_text(PLAN)
             wanted = f"run {DEBIANS_PYTHON} tools/search.py" if has_package(DEBIANS_PYTHON) else "apt-get install python3-distributed"
             self.refused(TOOL, [wanted], b"", str(plan), str(Path(folder) / "a.csv"), "--cluster", "127.0.0.1:1")

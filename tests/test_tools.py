@@ -30,7 +30,7 @@ class Search(Page):
     """The same of docs/SEARCH.md, but for the cluster, of which tests/test_search_cluster.py has more."""
 
     def test_commands_and_outputs(self) -> None:
-        self.follow("docs/SEARCH.md", lambda block: "dask-" in block or block == self.plan(), self.compare_pictures)
+        self.follow("docs/SEARCH.md", lambda block: "dask " in block or block == self.plan(), self.compare_pictures)
 
     def plan(self) -> str:
         """The plan as the page shows it, without its comments."""

@@ -7,15 +7,17 @@ from __future__ import annotations
 
 import argparse
 import os
+import signal
 import sys
 from contextlib import AbstractContextManager
 from pathlib import Path
+from types import FrameType
 from typing import Iterator
 
 from common import UsageError, parser, run
 from scripts.judge import VARIABLE, is_there, program
 from scripts.wording import counted
-from searching.cluster import cluster_rows
+from searching.cluster import cluster_rows, distributed
 from searching.handing import Rows
 from searching.local import local_rows
 from searching.plan import Plan, plan_of
@@ -63,6 +65,9 @@ def options_of() -> argparse.Namespace:
         raise UsageError("--points needs a file of its own, beside the plan and the runs")
     if not is_there():
         raise UsageError(f"there is no program {program()}: ./damon builds it, or {VARIABLE} in the environment names another")
+    if options.cluster:
+        # Said before the traces are read, which takes some time.
+        distributed()
     return options
 
 
@@ -118,7 +123,20 @@ def search(options: argparse.Namespace) -> str:
             f"{failed} of the others have another status than ok")
 
 
+def interrupt_once() -> None:
+    """The first interrupt ends the search. Those after it, which would come while it ends, are ignored."""
+
+    def end(number: int, frame: FrameType | None) -> None:
+        signal.signal(signal.SIGINT, signal.SIG_IGN)
+        raise KeyboardInterrupt
+
+    # Where a shell in the background has the signal ignored, it stays so.
+    if signal.getsignal(signal.SIGINT) is signal.default_int_handler:
+        signal.signal(signal.SIGINT, end)
+
+
 def work() -> None:
+    interrupt_once()
     print(f"note: {search(options_of())}", file=sys.stderr)
 
 
