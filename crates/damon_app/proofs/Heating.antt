@@ -1,11 +1,10 @@
 -- Heat tables that are handed over piece by piece.
-use Rattle.std.proofs.Common.{arith, ◌≤◌, ◌≡◌, ℕ, List, [], ◌∷◌, ◌++◌, Option, map, refl, sym, ap, ◌∙◌, subst, append-nil, append_assoc}
+use Rattle.std.proofs.Common.{◌≡◌, ℕ, List, [], ◌∷◌, ◌++◌, Option, map, refl, sym, ap, ◌∙◌, subst, append-nil, append_assoc}
 use Rattle.std.proofs.KnownBytes.{Appends-nil, Appends-trans}
 use Rattle.std.proofs.lemmas.List.{map-append}
 use Rattle.std.proofs.lemmas.Grind.{flat_map-append}
 use Rattle.std.specs.Prelude.{flat_map}
 use Rattle.std.specs.Io.KnownBytes.{Appends}
-use Rattle.damon_types.specs.Causes.{Rose}
 use Rattle.damon_core.specs.State.{State}
 use Rattle.damon_journal.specs.Replayer.{Leads, ReplayerView}
 use Rattle.heat_report.specs.Freq.{working_set}
@@ -13,10 +12,6 @@ use Rattle.heat_report.specs.Text.{last_line}
 use Rattle.text_io.specs.Taken.{WritesPart}
 use Rattle.damon_app.specs.Heating.{WritesNext, tables_of, tables_text}
 use Rattle.damon_app.proofs.Known.{WritesPart-after, WritesPart-longer, WritesPart-whole}
-
--- a count that rose after it did not fall has risen
-pub Rose-before : {a b c : ℕ} → a ≤ b → Rose b c → Rose a c
-Rose-before {a} {b} {c} later rose = omega (arith, later, rose)
 
 -- the working set of a state's report
 abbrev pub size_of : State → ℕ

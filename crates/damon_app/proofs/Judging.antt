@@ -1,6 +1,9 @@
--- What is said of journals by the status that refuses their text.
-use Rattle.std.proofs.Common.{◌≡◌, ℕ, List, Option, Some, None, Err, sym, subst}
-use Rattle.std.specs.Prelude.{IfSome}
+-- What the answer says of two requests: of a plain report, and of a journal whose text is refused.
+use Rattle.std.proofs.Common.{◌≡◌, ℕ, List, Option, Some, None, Err, ap, sym, subst}
+use Rattle.std.specs.Prelude.{IfSome, String}
+use Rattle.std.specs.declared.alloc.Global.{Global}
+use Rattle.snapshot_print.specs.declared.form.Form.TheVariants.{Text}
+use Rattle.script_run.specs.Report.{report}
 use Rattle.damon_journal.specs.Reading.{read_journal}
 use Rattle.damon_journal.specs.Status.{IsRead}
 use Rattle.damon_journal.specs.Verified.{IsOfNoLawfulRun}
@@ -8,8 +11,12 @@ use Rattle.damon_journal.specs.declared.status.Status.{Status}
 use Rattle.damon_journal.specs.declared.status.Status.TheVariants.{Unlawful}
 use Rattle.damon_app.specs.declared.request.Request.{Request}
 use Rattle.damon_app.specs.declared.request.Request.TheVariants.{Report, Verify, Heat, Admin, Generate}
-use Rattle.damon_app.specs.Replay.{MayCome, TellsFault}
-use Rattle.damon_app.specs.Request.{ReadsInput}
+use Rattle.damon_app.specs.Replay.{MayCome, Reports, TellsFault, TellsReport}
+use Rattle.damon_app.specs.Request.{AskToReplay, ReadsInput, asked, request_of}
+
+-- the report that `replay` asks for is the one in text
+pub plain_report : (words : List (String Global)) (told old new : Option (List ℕ)) → AskToReplay words → IfSome told (λ bytes. TellsReport (asked words) bytes old new) → IfSome told (λ bytes. Reports (report Text) bytes old new)
+plain_report words told old new asks tells = subst (λ (request : Option Request). IfSome told (λ bytes. TellsReport request bytes old new)) (ap request_of asks) tells
 
 -- a text that is told has a rejected line, and so is that of no lawful run
 told_unlawful : ((text : List ℕ) (line : ℕ) → read_journal text ≡ Err line → IsOfNoLawfulRun text) → (status : Status) (told : Option (List ℕ)) (line : ℕ) → status ≡ Unlawful line → IfSome told (TellsFault (Some Verify) status) → IfSome told IsOfNoLawfulRun

@@ -1,7 +1,7 @@
 -- The clauses of the top call in one record, for the private functions below it. No public clause cites this file.
-use Rattle.std.specs.Prelude.{◌≡◌, ◌≢◌, ◌⊎◌, ◌↔◌, ℕ, ◌≤◌, List, length, Option, Some, None, Ok, IfSome, IsSome}
+use Rattle.std.specs.Prelude.{◌≡◌, ◌≢◌, ◌⊎◌, ◌↔◌, ℕ, ◌≤◌, ◌+◌, List, length, Option, Some, None, Ok, IfSome, IsSome}
 use Rattle.std.specs.Io.KnownBytes.{Appends, Consumes, IsAtEnd}
-use Rattle.damon_types.specs.Causes.{Rose}
+use Rattle.damon_types.specs.Calls.{EndsAtFault, Rose}
 use Rattle.damon_control.specs.Script.{ScriptValue, script_of}
 use Rattle.damon_admin.specs.Admin.{AdminView, left_text}
 use Rattle.damon_admin.specs.Lines.{ContextLine, lines_said}
@@ -19,13 +19,14 @@ use Rattle.text_io.specs.Ends.{Ends}
 use Rattle.damon_journal.specs.Status.{IsRead, IsUnwritten}
 use Rattle.damon_journal.specs.Verified.{IsVerified}
 use Rattle.damon_app.specs.StatusOf.{status_of_text}
-use Rattle.damon_app.specs.Replay.{IsBegun, IsDone, IsExpected, IsOfInput, MayCome, TellsFault, TellsJournal, report_of}
+use Rattle.damon_app.specs.Replay.{IsBegun, IsExpected, IsOfInput, MayCome, TellsFault, TellsJournal, TellsReport, report_of}
 use Rattle.damon_journal.specs.Aggregated.{aggregated}
 use Rattle.damon_journal.specs.Replayer.{Leads, ReplayerView}
 use Rattle.damon_journal.specs.Place.{JournalRead}
 use Rattle.damon_journal.specs.Replay.{replay}
 use Rattle.damon_app.specs.declared.request.Columns.{Columns}
 use Rattle.damon_app.specs.Contexts.{Administers}
+use Rattle.damon_app.specs.Generated.{gen_text}
 use Rattle.damon_app.specs.Heating.{IsRun, heat_text}
 use Rattle.damon_app.specs.Verifying.{counts_line}
 
@@ -59,12 +60,13 @@ RefusesAs request status bytes = (refusal : Status) → IsRefusal refusal → (s
 pub record IsOutcome (limit : ℕ) (request : Request) (source source' sink sink' : Ends) (same : Type 0) (status : Status) : Type 0 where
   pub ok : status ≡ statuses.Ok → IfSome source.bytes (λ bytes. WritesWanted request bytes sink.bytes sink'.bytes)
   pub end : IsRead status → IsAtEnd source'.bytes
-  pub complete : IsOfInput request status limit source.bytes (Rose source.faults source'.faults) (Rose sink.faults sink'.faults)
+  pub complete : IsOfInput request status limit source.bytes (Rose source.calls source'.calls) (Rose sink.calls sink'.calls)
   pub too_long : status ≢ statuses.Memory → IsSome source.bytes
       → (status ≡ statuses.TooLong) ↔ GaveOver limit source.bytes source'.bytes
   pub refused : IsRead status → IfSome source.bytes (RefusesAs request status)
-  pub read : status ≡ statuses.ReadFault → Rose source.faults source'.faults
-  pub write : status ≡ statuses.WriteFault → Rose sink.faults sink'.faults
+  pub reads : EndsAtFault (status ≡ statuses.ReadFault) source.calls source'.calls
+  pub calls : source'.calls.made ≤ source.calls.made + (limit + 1)
+  pub writes : EndsAtFault (status ≡ statuses.WriteFault) sink.calls sink'.calls
   pub asked : status ≢ statuses.Usage
   pub comes : MayCome status (Some request)
   pub unwritten : IsUnwritten status → same
@@ -78,6 +80,8 @@ pub record IsTaken (limit : ℕ) (request : Request) (source source' : Ends) (te
   pub few : length bytes ≤ limit
   pub wanted : CallsFor request bytes text
   pub status : status_of_text request bytes ≡ statuses.Ok
+  pub reads : EndsAtFault ⊥ source.calls source'.calls
+  pub calls : source'.calls.made ≤ source.calls.made + (limit + 1)
 
 -- what a status says where the input was not taken: it is right for each sink that was left alone
 abbrev pub IsRefused : ℕ → Request → Ends → Ends → Status → Type 0
@@ -107,18 +111,20 @@ AreContextsTaken limit source source' contexts = IsTaken limit Admin source sour
 
 -- what a status says of what was asked for, where `alone` and `same` are that the source and the sink were left alone
 pub record IsAnswer (limit : ℕ) (request : Option Request) (source source' sink sink' : Ends) (alone same : Type 0) (status : Status) : Type 0 where
-  pub ok : status ≡ statuses.Ok → IsDone request source.bytes sink.bytes sink'.bytes
+  pub report : status ≡ statuses.Ok → IfSome source.bytes (λ bytes. TellsReport request bytes sink.bytes sink'.bytes)
   pub lawful : status ≡ statuses.Ok → ReadsJournal request → IfSome source.bytes (λ bytes. TellsJournal request bytes sink.bytes sink'.bytes)
   pub output : status ≡ statuses.Ok → request ≡ Some Admin → IfSome source.bytes (λ bytes. Administers bytes sink.bytes sink'.bytes)
+  pub summary : (n : ℕ) → status ≡ statuses.Ok → request ≡ Some (Generate n) → Appends sink.bytes sink'.bytes (gen_text n)
   pub end : ReadsInput request → IsRead status → IsAtEnd source'.bytes
-  pub complete : IsExpected request status limit source.bytes (Rose source.faults source'.faults) (Rose sink.faults sink'.faults)
+  pub complete : IsExpected request status limit source.bytes (Rose source.calls source'.calls) (Rose sink.calls sink'.calls)
   pub usage : status ≢ statuses.Memory → (status ≡ statuses.Usage) ↔ (request ≡ None)
   pub comes : MayCome status request
   pub too_long : status ≢ statuses.Memory → IsSome source.bytes
       → (status ≡ statuses.TooLong) ↔ GaveOver limit source.bytes source'.bytes
   pub refused : ReadsInput request → IsRead status → IfSome source.bytes (TellsFault request status)
-  pub read : status ≡ statuses.ReadFault → Rose source.faults source'.faults
-  pub write : status ≡ statuses.WriteFault → Rose sink.faults sink'.faults
+  pub reads : EndsAtFault (status ≡ statuses.ReadFault) source.calls source'.calls
+  pub calls : source'.calls.made ≤ source.calls.made + (limit + 1)
+  pub writes : EndsAtFault (status ≡ statuses.WriteFault) sink.calls sink'.calls
   pub unread : (ReadsInput request → ⊥) → alone
   pub unwritten : IsUnwritten status → same
   pub prefix : IsBegun request same source.bytes sink.bytes sink'.bytes

@@ -31,11 +31,16 @@ report_of (Plain form) s = report form s
 report_of Reclaim s = reclaimed_report s
 report_of (Tune goals) s = tuned_report goals s
 
--- The bytes spell a script, and the sink gained exactly its report, where it is run like this.
-pub record Replays (run : Run) (bytes : List ℕ) (old new : Option (List ℕ)) : Type 0 where
+-- The bytes spell a script, and the sink gained exactly this report of it.
+pub record Reports (report_of : ScriptValue → List ℕ) (bytes : List ℕ) (old new : Option (List ℕ)) : Type 0 where
   pub script : ScriptValue
   pub spells : script_of bytes ≡ Ok script
-  pub report : Appends old new (report_of run script)
+  pub report : Appends old new (report_of script)
+
+-- where a script is run, the sink gained exactly the report of that run
+abbrev pub TellsReport : Option Request → List ℕ → Option (List ℕ) → Option (List ℕ) → Type 0
+TellsReport (Some (Report run)) bytes old new = Reports (report_of run) bytes old new
+TellsReport _ bytes old new = Unit {0}
 
 -- the bytes spell a script, and the sink gained a prefix of its report, where it is run like this
 abbrev pub WritesPrefix : Run → List ℕ → Option (List ℕ) → Option (List ℕ) → Type 0
@@ -52,30 +57,11 @@ pub record Verifies (bytes : List ℕ) (old new : Option (List ℕ)) : Type 0 wh
 abbrev pub VerifiesPrefix : List ℕ → Option (List ℕ) → Option (List ℕ) → Type 0
 VerifiesPrefix bytes old new = (counts : Lawful) × IsVerified bytes counts × WritesPart old new (counts_line counts)
 
--- the sink gained the line of some counts; `Verifies` says of which
-abbrev pub WritesCounts : Option (List ℕ) → Option (List ℕ) → Type 0
-WritesCounts old new = (counts : Lawful) × Appends old new (counts_line counts)
-
--- the sink gained some text; for tables `Heats` says which, and for contexts `Administers`
-abbrev pub WritesText : Option (List ℕ) → Option (List ℕ) → Type 0
-WritesText old new = (text : List ℕ) × Appends old new text
-
 -- the line or the tables are those of the journal that the bytes are
 abbrev pub TellsJournal : Option Request → List ℕ → Option (List ℕ) → Option (List ℕ) → Type 0
 TellsJournal (Some Verify) bytes old new = Verifies bytes old new
 TellsJournal (Some (Heat columns)) bytes old new = Heats columns bytes old new
 TellsJournal _ bytes old new = Unit {0}
-
--- What was asked for was done, where `input` is what the source had and the sink went from `old` to `new`: the sink gained
--- the report of the script that the input spells, the line of a journal's counts, its heat tables, the output of contexts, or the line of
--- the generated script.
-abbrev pub IsDone : Option Request → (input old new : Option (List ℕ)) → Type 0
-IsDone (Some (Report run)) input old new = IfSome input (λ bytes. Replays run bytes old new)
-IsDone (Some Verify) input old new = IfSome input (λ bytes. WritesCounts old new)
-IsDone (Some (Heat columns)) input old new = IfSome input (λ bytes. WritesText old new)
-IsDone (Some Admin) input old new = IfSome input (λ bytes. WritesText old new)
-IsDone (Some (Generate n)) input old new = Appends old new (gen_text n)
-IsDone None input old new = ⊥
 
 -- The sink was left alone, which is `same`, or it gained a prefix of what was asked for.
 abbrev pub IsBegun : Option Request → Type 0 → (input old new : Option (List ℕ)) → Type 0

@@ -1,5 +1,5 @@
 -- What the words after the program's name ask for.
-use Rattle.std.specs.Prelude.{ℕ, ◌-◌, ◌^◌, List, [], ◌∷◌, Option, Some, None, if◌then◌else◌, map, codes, string_bytes, String}
+use Rattle.std.specs.Prelude.{◌≡◌, ℕ, ◌-◌, ◌^◌, List, [], ◌∷◌, Option, Some, None, if◌then◌else◌, map, codes, string_bytes, String}
 use Rattle.std.specs.Option.{option_map}
 use Rattle.std.specs.declared.alloc.Global.{Global}
 use Rattle.line_text.specs.Number.{number}
@@ -58,6 +58,10 @@ request_of (word ∷ words) = if same_word word (codes "tune") then asked_to_tun
 -- what the program's words ask for
 abbrev pub asked : List (String Global) → Option Request
 asked words = request_of (map string_bytes words)
+
+-- the words are `replay` alone
+abbrev pub AskToReplay : List (String Global) → Type 0
+AskToReplay words = map string_bytes words ≡ codes "replay" ∷ []
 
 -- a script, or the lines of several contexts with one each, is read for what was asked
 abbrev pub ReadsScript : Option Request → Type 0

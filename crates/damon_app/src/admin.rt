@@ -2,7 +2,7 @@
 ghost use Rattle.std.specs.Prelude.{◌≡◌, ◌≤◌, ◌<◌, ◌++◌, [], Ok, true, false, length};
 ghost use Rattle.std.specs.Prelude.{IfErr, IfOk, IsErrOf, OnErr, OnOk};
 ghost use Rattle.std.specs.Io.KnownBytes.{Appends};
-ghost use Rattle.damon_types.specs.Causes.{Rose};
+ghost use Rattle.damon_types.specs.Calls.{EndsAtFault};
 ghost use Rattle.damon_admin.specs.Admin.{left_text};
 ghost use Rattle.damon_journal.specs.Status.{EndsRun, status_of};
 ghost use Rattle.text_io.specs.Taken.{WritesPart};
@@ -24,10 +24,10 @@ pub(crate) fn run_contexts<S: Source, K: Sink>(
     sink: &mut K,
 ) -> Result<(), Status>
     ensures { IsOutcome INPUT_LIMIT admin
-        (record { bytes = S.left source.old; faults = S.faults source.old })
-        (record { bytes = S.left source.new; faults = S.faults source.new })
-        (record { bytes = K.taken sink.old; faults = K.faults sink.old })
-        (record { bytes = K.taken sink.new; faults = K.faults sink.new })
+        (record { bytes = S.left source.old; calls = S.calls source.old })
+        (record { bytes = S.left source.new; calls = S.calls source.new })
+        (record { bytes = K.taken sink.old; calls = K.calls sink.old })
+        (record { bytes = K.taken sink.new; calls = K.calls sink.new })
         (sink.new ≡ sink.old) (status_of result) }
 {
     let mut contexts = take_contexts(alloc, source)?;
@@ -38,11 +38,11 @@ pub(crate) fn run_contexts<S: Source, K: Sink>(
 // Reads a source to its end, and returns the contexts of which its bytes are the lines.
 fn take_contexts<S: Source>(alloc: Global, source: &mut S) -> Result<Admin, Status>
     ensures taken { IfOk result (AreContextsTaken INPUT_LIMIT
-        (record { bytes = S.left source.old; faults = S.faults source.old })
-        (record { bytes = S.left source.new; faults = S.faults source.new })) }
+        (record { bytes = S.left source.old; calls = S.calls source.old })
+        (record { bytes = S.left source.new; calls = S.calls source.new })) }
     ensures refused { IfErr result (IsRefused INPUT_LIMIT admin
-        (record { bytes = S.left source.old; faults = S.faults source.old })
-        (record { bytes = S.left source.new; faults = S.faults source.new })) }
+        (record { bytes = S.left source.old; calls = S.calls source.old })
+        (record { bytes = S.left source.new; calls = S.calls source.new })) }
 {
     let bytes = read_all(alloc, source)?;
     let contexts = Admin::new(alloc, &bytes)?;
@@ -54,8 +54,8 @@ fn write_output<K: Sink>(alloc: Global, contexts: &mut Admin, sink: &mut K) -> R
     ensures all { OnOk result
         (Appends (K.taken sink.old) (K.taken sink.new) (left_text contexts.old)) }
     ensures answers { IfErr result EndsRun }
-    ensures cause { IsErrOf result Status.WriteFault →
-        Rose (K.faults sink.old) (K.faults sink.new) }
+    ensures writes { EndsAtFault (IsErrOf result Status.WriteFault)
+        (K.calls sink.old) (K.calls sink.new) }
     ensures part { WritesPart (K.taken sink.old) (K.taken sink.new) (left_text contexts.old) }
 {
     let mut piece = Vec::new(alloc);
@@ -79,9 +79,8 @@ fn write_next<K: Sink>(
     ensures same { result ≡ Ok false →
         (piece.new.items ≡ piece.old.items) × (sink.new ≡ sink.old) }
     ensures answers { IfErr result EndsRun }
-    ensures later { K.faults sink.old ≤ K.faults sink.new }
-    ensures cause { IsErrOf result Status.WriteFault →
-        Rose (K.faults sink.old) (K.faults sink.new) }
+    ensures writes { EndsAtFault (IsErrOf result Status.WriteFault)
+        (K.calls sink.old) (K.calls sink.new) }
     ensures part { OnErr result (WritesPart (K.taken sink.old) (K.taken sink.new)
         (piece.old.items ++ left_text contexts.old)) }
 {

@@ -1,7 +1,7 @@
 // The heat tables of a journal.
 ghost use Rattle.std.specs.Prelude.{◌≡◌, ℕ, ◌≤◌, ◌<◌, ◌++◌, ◌∷◌, [], List, Ok, true, false, flat_map, IfErr, IfOk, IsErrOf, OnErr, OnOk};
 ghost use Rattle.std.specs.Io.KnownBytes.{Appends};
-ghost use Rattle.damon_types.specs.Causes.{Rose};
+ghost use Rattle.damon_types.specs.Calls.{EndsAtFault};
 ghost use Rattle.damon_core.specs.Stands.{Stands};
 ghost use Rattle.damon_core.specs.State.{State};
 ghost use Rattle.damon_journal.specs.Replayer.{Leads, StandsForReached};
@@ -29,10 +29,10 @@ pub(crate) fn show_heat<S: Source, K: Sink>(
     sink: &mut K,
 ) -> Result<(), Status>
     ensures { IsOutcome INPUT_LIMIT (heat columns)
-        (record { bytes = S.left source.old; faults = S.faults source.old })
-        (record { bytes = S.left source.new; faults = S.faults source.new })
-        (record { bytes = K.taken sink.old; faults = K.faults sink.old })
-        (record { bytes = K.taken sink.new; faults = K.faults sink.new })
+        (record { bytes = S.left source.old; calls = S.calls source.old })
+        (record { bytes = S.left source.new; calls = S.calls source.new })
+        (record { bytes = K.taken sink.old; calls = K.calls sink.old })
+        (record { bytes = K.taken sink.new; calls = K.calls sink.new })
         (sink.new ≡ sink.old) (status_of result) }
 {
     let mut replayer = take_run(alloc, source)?;
@@ -43,11 +43,11 @@ pub(crate) fn show_heat<S: Source, K: Sink>(
 // Reads a source to its end, and returns the replay of the lawful journal of which its bytes are the text.
 fn take_run<S: Source>(alloc: Global, source: &mut S) -> Result<Replayer, Status>
     ensures taken { IfOk result (IsRunTaken INPUT_LIMIT
-        (record { bytes = S.left source.old; faults = S.faults source.old })
-        (record { bytes = S.left source.new; faults = S.faults source.new })) }
+        (record { bytes = S.left source.old; calls = S.calls source.old })
+        (record { bytes = S.left source.new; calls = S.calls source.new })) }
     ensures refused { IfErr result (IsRunRefused INPUT_LIMIT
-        (record { bytes = S.left source.old; faults = S.faults source.old })
-        (record { bytes = S.left source.new; faults = S.faults source.new })) }
+        (record { bytes = S.left source.old; calls = S.calls source.old })
+        (record { bytes = S.left source.new; calls = S.calls source.new })) }
 {
     let bytes = read_all(alloc, source)?;
     let replayer = Replayer::new(alloc, &bytes)?;
@@ -64,8 +64,8 @@ fn write_tables_in<K: Sink>(
     ensures all { OnOk result ((states : List State) (last : State) → Leads states last replayer.old
         → Appends (K.taken sink.old) (K.taken sink.new) (tables_text (columns_in columns) states)) }
     ensures answers { IfErr result EndsRun }
-    ensures cause { IsErrOf result Status.WriteFault →
-        Rose (K.faults sink.old) (K.faults sink.new) }
+    ensures writes { EndsAtFault (IsErrOf result Status.WriteFault)
+        (K.calls sink.old) (K.calls sink.new) }
     ensures part { (states : List State) (last : State) → Leads states last replayer.old
         → WritesPart (K.taken sink.old) (K.taken sink.new) (tables_text (columns_in columns) states) }
 {
@@ -87,8 +87,8 @@ fn write_tables<const N: usize, K: Sink>(
     ensures all { OnOk result ((states : List State) (last : State) → Leads states last replayer.old
         → Appends (K.taken sink.old) (K.taken sink.new) (tables_text N states)) }
     ensures answers { IfErr result EndsRun }
-    ensures cause { IsErrOf result Status.WriteFault →
-        Rose (K.faults sink.old) (K.faults sink.new) }
+    ensures writes { EndsAtFault (IsErrOf result Status.WriteFault)
+        (K.calls sink.old) (K.calls sink.new) }
     ensures part { (states : List State) (last : State) → Leads states last replayer.old
         → WritesPart (K.taken sink.old) (K.taken sink.new) (tables_text N states) }
 {
@@ -129,9 +129,8 @@ fn write_next<const N: usize, K: Sink>(
     ensures same { result ≡ Ok false → (sizes.new ≡ sizes.old)
         × (piece.new.items ≡ piece.old.items) × (sink.new ≡ sink.old) }
     ensures answers { IfErr result EndsRun }
-    ensures later { K.faults sink.old ≤ K.faults sink.new }
-    ensures cause { IsErrOf result Status.WriteFault →
-        Rose (K.faults sink.old) (K.faults sink.new) }
+    ensures writes { EndsAtFault (IsErrOf result Status.WriteFault)
+        (K.calls sink.old) (K.calls sink.new) }
     ensures part { OnErr result ((states : List State) (last : State) → Leads states last replayer.old
         → WritesPart (K.taken sink.old) (K.taken sink.new)
         (piece.old.items ++ flat_map (tables_of N) states)) }

@@ -1,6 +1,6 @@
 // Text that is handed over piece by piece.
-ghost use Rattle.std.specs.Prelude.{OnOk};
-ghost use Rattle.damon_types.specs.Causes.{HasCause};
+ghost use Rattle.std.specs.Prelude.{IsErr, OnOk};
+ghost use Rattle.damon_types.specs.Calls.{EndsAtFault};
 ghost use Rattle.text_io.specs.Taken.{WritesPart};
 ghost use Rattle.damon_app.specs.Pieces.{HandsOver};
 
@@ -15,7 +15,7 @@ pub(crate) fn hand_over<K: Sink>(sink: &mut K, piece: &mut Vec<u8>) -> Result<()
     ensures all { OnOk result
         (HandsOver (K.taken sink.old) (K.taken sink.new) piece.old.items piece.new.items) }
     ensures part { WritesPart (K.taken sink.old) (K.taken sink.new) piece.old.items }
-    ensures cause { HasCause (K.faults sink.old) (K.faults sink.new) result }
+    ensures writes { EndsAtFault (IsErr result) (K.calls sink.old) (K.calls sink.new) }
 {
     if piece.len() < PIECE {
         return Ok(());

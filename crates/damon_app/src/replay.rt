@@ -1,22 +1,24 @@
-ghost use Rattle.std.specs.Prelude.{◌≡◌, ◌≢◌, ◌≤◌, ◌↔◌, ℕ, None, Some, IfErr, IfOk, IfSome, IsSome, IsErrOf, OnOk};
+ghost use Rattle.std.specs.Prelude.{◌≡◌, ◌≢◌, ◌≤◌, ◌↔◌, ◌+◌, ℕ, None, Some, IfErr, IfOk, IfSome, IsSome, IsErrOf, OnOk};
 ghost use Rattle.std.specs.Io.KnownBytes.{Appends, IsAtEnd};
-ghost use Rattle.damon_types.specs.Causes.{Rose};
+ghost use Rattle.damon_types.specs.Calls.{EndsAtFault, Rose};
 ghost use Rattle.damon_types.specs.Space.{pages_of};
 ghost use Rattle.script_lines.specs.Command.{work_of};
 ghost use Rattle.script_lines.specs.Limits.{AreCommandsWithin};
 ghost use Rattle.damon_control.specs.ScriptView.{said_by};
 ghost use Rattle.text_io.specs.Given.{GaveOver};
 ghost use Rattle.text_io.specs.Taken.{WritesPart};
+ghost use Rattle.snapshot_print.specs.declared.form.Form.TheVariants.{Text as text};
+ghost use Rattle.script_run.specs.Report.{report};
 ghost use Rattle.damon_admin.specs.Laws.{ContextsAreApart, ContextsAreBound, VoicesAreReports};
-ghost use Rattle.damon_app.specs.Request.{ReadsInput, ReadsJournal, asked};
+ghost use Rattle.damon_app.specs.Request.{AskToReplay, ReadsInput, ReadsJournal, asked};
 ghost use Rattle.damon_app.specs.Contexts.{Administers};
 ghost use Rattle.damon_app.specs.Generated.{gen_text};
 ghost use Rattle.damon_app.specs.Runs.{EachRunChoosesBest, EachRunFollowsGoals, EachRunIsAccounted, EachRunIsBound};
 ghost use Rattle.damon_journal.specs.Status.{EndsRun, IsRead, IsUnwritten, status_of};
 ghost use Rattle.damon_journal.specs.Verified.{IsOfNoLawfulRun};
-ghost use Rattle.damon_app.specs.Replay.{IsBegun, IsDone, IsExpected, MayCome, TellsFault, TellsJournal};
+ghost use Rattle.damon_app.specs.Replay.{IsBegun, IsExpected, MayCome, Reports, TellsFault, TellsJournal, TellsReport};
 ghost use Rattle.damon_app.specs.Answers.{IsAnswer, IsOutcome, IsRefused, IsScriptRefused, IsScriptTaken, IsTaken};
-ghost use Rattle.damon_app.specs.declared.request.Request.TheVariants.{Admin as admin, Verify as verify};
+ghost use Rattle.damon_app.specs.declared.request.Request.TheVariants.{Admin as admin, Generate as generate, Verify as verify};
 ghost use Rattle.damon_app.specs.declared.request.Request.TheVariants.{Report as report_by};
 
 use crate::admin::run_contexts;
@@ -50,15 +52,21 @@ pub fn replay_main<S: Source, K: Sink>(
     source: &mut S,
     sink: &mut K,
 ) -> Status
-    // What was written is what the words ask for: the report of the script that was read, the line of the
-    // lawful journal whose text was read, its heat tables, the output of contexts, or the line of the
-    // generated script.
-    ensures ok { result ≡ Status.Ok →
-        IsDone (asked words.now) (S.left source.old) (K.taken sink.old) (K.taken sink.new) }
+    // With `replay`, what was written is the report of the script that was read.
+    ensures ok { result ≡ Status.Ok → AskToReplay words.now → IfSome (S.left source.old)
+        (λ bytes. Reports (report text) bytes (K.taken sink.old) (K.taken sink.new)) }
+
+    // It is what the words ask for, whatever they are: the report of a script in its form, over a model of
+    // resident pages or with quotas that follow goals, the line of the lawful journal whose text was read,
+    // its heat tables, the output of contexts, or the line of the generated script.
+    ensures report { result ≡ Status.Ok → IfSome (S.left source.old)
+        (λ bytes. TellsReport (asked words.now) bytes (K.taken sink.old) (K.taken sink.new)) }
     ensures lawful { result ≡ Status.Ok → ReadsJournal (asked words.now) → IfSome (S.left source.old)
         (λ bytes. TellsJournal (asked words.now) bytes (K.taken sink.old) (K.taken sink.new)) }
     ensures output { result ≡ Status.Ok → asked words.now ≡ Some admin → IfSome (S.left source.old)
         (λ bytes. Administers bytes (K.taken sink.old) (K.taken sink.new)) }
+    ensures summary { (n : ℕ) → result ≡ Status.Ok → asked words.now ≡ Some (generate n) →
+        Appends (K.taken sink.old) (K.taken sink.new) (gen_text n) }
     ensures end { ReadsInput (asked words.now) → IsRead result → IsAtEnd (S.left source.new) }
 
     // Whatever the status, the states along the run of every script that can be run are bound; and each
@@ -86,8 +94,8 @@ pub fn replay_main<S: Source, K: Sink>(
 
     // The status is the one that is expected, or a failure.
     ensures complete { IsExpected (asked words.now) result INPUT_LIMIT (S.left source.old)
-        (Rose (S.faults source.old) (S.faults source.new))
-        (Rose (K.faults sink.old) (K.faults sink.new)) }
+        (Rose (S.calls source.old) (S.calls source.new))
+        (Rose (K.calls sink.old) (K.calls sink.new)) }
 
     // When each other status comes; memory may run out at any time.
     ensures usage { result ≢ Status.Memory →
@@ -99,8 +107,12 @@ pub fn replay_main<S: Source, K: Sink>(
         IfSome (S.left source.old) (TellsFault (asked words.now) result) }
     ensures unlawful { (line : ℕ) → result ≡ Status.Unlawful line →
         IfSome (S.left source.old) IsOfNoLawfulRun }
-    ensures read { result ≡ Status.ReadFault → Rose (S.faults source.old) (S.faults source.new) }
-    ensures write { result ≡ Status.WriteFault → Rose (K.faults sink.old) (K.faults sink.new) }
+
+    // How the source and the sink were called: a read or a write that fails is the last one, and the status
+    // says so. Otherwise none failed. Each read but the last gives a byte.
+    ensures reads { EndsAtFault (result ≡ Status.ReadFault) (S.calls source.old) (S.calls source.new) }
+    ensures calls { (S.calls source.new).made ≤ (S.calls source.old).made + (INPUT_LIMIT + 1) }
+    ensures writes { EndsAtFault (result ≡ Status.WriteFault) (K.calls sink.old) (K.calls sink.new) }
 
     // What was read and written in any case: nothing, or a prefix of what was asked for.
     ensures unread { (ReadsInput (asked words.now) → ⊥) → source.new ≡ source.old }
@@ -128,10 +140,10 @@ fn serve<S: Source, K: Sink>(
     sink: &mut K,
 ) -> Status
     ensures { IsAnswer INPUT_LIMIT (asked words.now)
-        (record { bytes = S.left source.old; faults = S.faults source.old })
-        (record { bytes = S.left source.new; faults = S.faults source.new })
-        (record { bytes = K.taken sink.old; faults = K.faults sink.old })
-        (record { bytes = K.taken sink.new; faults = K.faults sink.new })
+        (record { bytes = S.left source.old; calls = S.calls source.old })
+        (record { bytes = S.left source.new; calls = S.calls source.new })
+        (record { bytes = K.taken sink.old; calls = K.calls sink.old })
+        (record { bytes = K.taken sink.new; calls = K.calls sink.new })
         (source.new ≡ source.old) (sink.new ≡ sink.old) result }
 {
     match read_request(alloc, words) {
@@ -149,10 +161,10 @@ fn fulfil<S: Source, K: Sink>(
     sink: &mut K,
 ) -> Status
     ensures { IsAnswer INPUT_LIMIT (Some request)
-        (record { bytes = S.left source.old; faults = S.faults source.old })
-        (record { bytes = S.left source.new; faults = S.faults source.new })
-        (record { bytes = K.taken sink.old; faults = K.faults sink.old })
-        (record { bytes = K.taken sink.new; faults = K.faults sink.new })
+        (record { bytes = S.left source.old; calls = S.calls source.old })
+        (record { bytes = S.left source.new; calls = S.calls source.new })
+        (record { bytes = K.taken sink.old; calls = K.calls sink.old })
+        (record { bytes = K.taken sink.new; calls = K.calls sink.new })
         (source.new ≡ source.old) (sink.new ≡ sink.old) result }
 {
     match request {
@@ -182,10 +194,10 @@ fn replay<S: Source, K: Sink>(
     sink: &mut K,
 ) -> Result<(), Status>
     ensures { IsOutcome INPUT_LIMIT (report_by run)
-        (record { bytes = S.left source.old; faults = S.faults source.old })
-        (record { bytes = S.left source.new; faults = S.faults source.new })
-        (record { bytes = K.taken sink.old; faults = K.faults sink.old })
-        (record { bytes = K.taken sink.new; faults = K.faults sink.new })
+        (record { bytes = S.left source.old; calls = S.calls source.old })
+        (record { bytes = S.left source.new; calls = S.calls source.new })
+        (record { bytes = K.taken sink.old; calls = K.calls sink.old })
+        (record { bytes = K.taken sink.new; calls = K.calls sink.new })
         (sink.new ≡ sink.old) (status_of result) }
 {
     let script = take_script(alloc, source)?;
@@ -197,12 +209,12 @@ fn replay<S: Source, K: Sink>(
 // of this function: the run needs only the script, and does not keep the memory of both.
 fn take_script<S: Source>(alloc: Global, source: &mut S) -> Result<Script, Status>
     ensures taken { IfOk result (λ script. IsScriptTaken INPUT_LIMIT
-        (record { bytes = S.left source.old; faults = S.faults source.old })
-        (record { bytes = S.left source.new; faults = S.faults source.new })
+        (record { bytes = S.left source.old; calls = S.calls source.old })
+        (record { bytes = S.left source.new; calls = S.calls source.new })
         (said_by script)) }
     ensures refused { IfErr result (IsScriptRefused INPUT_LIMIT
-        (record { bytes = S.left source.old; faults = S.faults source.old })
-        (record { bytes = S.left source.new; faults = S.faults source.new })) }
+        (record { bytes = S.left source.old; calls = S.calls source.old })
+        (record { bytes = S.left source.new; calls = S.calls source.new })) }
 
     // What the player of a script needs.
     ensures within { IfOk result (λ script.
@@ -222,10 +234,10 @@ fn check_journal<S: Source, K: Sink>(
     sink: &mut K,
 ) -> Result<(), Status>
     ensures { IsOutcome INPUT_LIMIT verify
-        (record { bytes = S.left source.old; faults = S.faults source.old })
-        (record { bytes = S.left source.new; faults = S.faults source.new })
-        (record { bytes = K.taken sink.old; faults = K.faults sink.old })
-        (record { bytes = K.taken sink.new; faults = K.faults sink.new })
+        (record { bytes = S.left source.old; calls = S.calls source.old })
+        (record { bytes = S.left source.new; calls = S.calls source.new })
+        (record { bytes = K.taken sink.old; calls = K.calls sink.old })
+        (record { bytes = K.taken sink.new; calls = K.calls sink.new })
         (sink.new ≡ sink.old) (status_of result) }
 {
     let line = take_journal(alloc, source)?;
@@ -236,12 +248,12 @@ fn check_journal<S: Source, K: Sink>(
 // Reads a source to its end, and returns the line of the lawful journal of which its bytes are the text.
 fn take_journal<S: Source>(alloc: Global, source: &mut S) -> Result<Vec<u8>, Status>
     ensures taken { IfOk result (λ line. IsTaken INPUT_LIMIT verify
-        (record { bytes = S.left source.old; faults = S.faults source.old })
-        (record { bytes = S.left source.new; faults = S.faults source.new })
+        (record { bytes = S.left source.old; calls = S.calls source.old })
+        (record { bytes = S.left source.new; calls = S.calls source.new })
         line.items) }
     ensures refused { IfErr result (IsRefused INPUT_LIMIT verify
-        (record { bytes = S.left source.old; faults = S.faults source.old })
-        (record { bytes = S.left source.new; faults = S.faults source.new })) }
+        (record { bytes = S.left source.old; calls = S.calls source.old })
+        (record { bytes = S.left source.new; calls = S.calls source.new })) }
 {
     let bytes = read_all(alloc, source)?;
     let counts = verify(alloc, &bytes)?;
@@ -253,8 +265,8 @@ fn take_journal<S: Source>(alloc: Global, source: &mut S) -> Result<Vec<u8>, Sta
 fn summarize<K: Sink>(alloc: Global, number: u64, sink: &mut K) -> Result<(), Status>
     ensures all { OnOk result (Appends (K.taken sink.old) (K.taken sink.new) (gen_text number)) }
     ensures answers { IfErr result EndsRun }
-    ensures cause { IsErrOf result Status.WriteFault →
-        Rose (K.faults sink.old) (K.faults sink.new) }
+    ensures writes { EndsAtFault (IsErrOf result Status.WriteFault)
+        (K.calls sink.old) (K.calls sink.new) }
     ensures part { WritesPart (K.taken sink.old) (K.taken sink.new) (gen_text number) }
 {
     let line = make_summary(alloc, number)?;

@@ -1,7 +1,7 @@
 // The run of a script, whose report is handed over piece by piece.
 ghost use Rattle.std.specs.Prelude.{◌≡◌, ◌≤◌, IfErr, IsErrOf, OnOk};
 ghost use Rattle.std.specs.Io.KnownBytes.{Appends};
-ghost use Rattle.damon_types.specs.Causes.{Rose};
+ghost use Rattle.damon_types.specs.Calls.{EndsAtFault};
 ghost use Rattle.damon_types.specs.Space.{pages_of};
 ghost use Rattle.damon_core.specs.State.{opening};
 ghost use Rattle.script_lines.specs.Command.{work_of};
@@ -39,8 +39,8 @@ pub(crate) fn write_report<K: Sink>(
     ensures all { OnOk result
         (Appends (K.taken sink.old) (K.taken sink.new) (report_of run (said_by script))) }
     ensures answers { IfErr result EndsRun }
-    ensures cause { IsErrOf result Status.WriteFault →
-        Rose (K.faults sink.old) (K.faults sink.new) }
+    ensures writes { EndsAtFault (IsErrOf result Status.WriteFault)
+        (K.calls sink.old) (K.calls sink.new) }
     ensures part { WritesPart (K.taken sink.old) (K.taken sink.new) (report_of run (said_by script)) }
 {
     match run {
@@ -57,8 +57,8 @@ fn write_reclaimed<K: Sink>(alloc: Global, script: Script, sink: &mut K) -> Resu
     ensures all { OnOk result
         (Appends (K.taken sink.old) (K.taken sink.new) (reclaimed_report (said_by script))) }
     ensures answers { IfErr result EndsRun }
-    ensures cause { IsErrOf result Status.WriteFault →
-        Rose (K.faults sink.old) (K.faults sink.new) }
+    ensures writes { EndsAtFault (IsErrOf result Status.WriteFault)
+        (K.calls sink.old) (K.calls sink.new) }
     ensures part { WritesPart (K.taken sink.old) (K.taken sink.new) (reclaimed_report (said_by script)) }
 {
     let reclaimer = Reclaimer::new(alloc, script.setup.space.pages())?;
@@ -78,8 +78,8 @@ fn write_tuned<N: Named + Drop, K: Sink>(
     ensures all { OnOk result
         (Appends (K.taken sink.old) (K.taken sink.new) (tuned_report N.goals (said_by script))) }
     ensures answers { IfErr result EndsRun }
-    ensures cause { IsErrOf result Status.WriteFault →
-        Rose (K.faults sink.old) (K.faults sink.new) }
+    ensures writes { EndsAtFault (IsErrOf result Status.WriteFault)
+        (K.calls sink.old) (K.calls sink.new) }
     ensures part { WritesPart (K.taken sink.old) (K.taken sink.new)
         (tuned_report N.goals (said_by script)) }
 {
@@ -107,8 +107,8 @@ fn write_played<C: Callbacks + Drop, K: Sink>(
 
     // Each failure.
     ensures answers { IfErr result EndsRun }
-    ensures cause { IsErrOf result Status.WriteFault →
-        Rose (K.faults sink.old) (K.faults sink.new) }
+    ensures writes { EndsAtFault (IsErrOf result Status.WriteFault)
+        (K.calls sink.old) (K.calls sink.new) }
     ensures part { WritesPart (K.taken sink.old) (K.taken sink.new)
         (report_with C.callbacks form (said_by script)) }
 {

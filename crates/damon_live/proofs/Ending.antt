@@ -1,11 +1,11 @@
 -- What the status of a run says, end by end.
-use Rattle.std.proofs.Common.{◌≡◌, ◌⊎◌, inl, inr, ◌≤◌, ◌<◌, ℕ, true, false, List, length, Some, Result, Ok, Err, refl, sym, ap, ◌∙◌, subst, arith}
+use Rattle.std.proofs.Common.{◌≡◌, ◌⊎◌, inl, inr, ◌≤◌, ◌<◌, ◌+◌, ℕ, true, false, List, length, Some, Result, Ok, Err, refl, sym, ap, ◌∙◌, subst, arith}
 use Rattle.std.proofs.lemmas.Bool.{lt-ltb, le-ltb}
 use Rattle.std.proofs.lemmas.Bool.Decides.{nat_tests}
 use Rattle.std.specs.Prelude.{nat_le}
 use Rattle.std.specs.Prelude.{IsSome, IfErr, IfSome, IsErrOf, OnOk}
 use Rattle.std.specs.Io.KnownBytes.{Appends, Consumes, IsAtEnd}
-use Rattle.damon_types.specs.Causes.{Rose}
+use Rattle.damon_types.specs.Calls.{EndsAtFault, Rose}
 use Rattle.text_io.specs.declared.input.InputFault.{InputFault}
 use Rattle.text_io.specs.declared.input.InputFault.TheVariants as inputs
 use Rattle.text_io.specs.Ends.{Ends}
@@ -28,6 +28,7 @@ use Rattle.damon_live.specs.declared.top.TheConstants.{MAX_RESULTS}
 use Rattle.damon_live.specs.Answers.{IsEnding}
 use Rattle.damon_live.specs.Ending.{Ending, TellsFault, TellsPasses, ended_early, most_results, status_of_input, status_of_spelled}
 use Rattle.damon_live.specs.Whole.{IsWholeRun}
+use Rattle.damon_live.proofs.Counting.{EndsAtFault-as, EndsAtFault-error, EndsAtFault-none, EndsAtFault-not, EndsAtFault-rose}
 use Rattle.damon_live.proofs.Known.{few_not_over, had_over, none_given, read_whole, untold}
 
 -- a fault is its line and its kind
@@ -71,8 +72,9 @@ not_asked limit source sink alone same left is = record {
   too_long = λ not known. ((λ e. absurd (cc e)), (λ gave. absurd (none_given limit source.bytes known gave)));
   fault = λ e. absurd (cc e);
   passes = λ e. absurd (cc e);
-  read = λ e. absurd (cc e);
-  write = λ e. absurd (cc e);
+  reads = EndsAtFault-none source.calls (λ e. cc e);
+  calls = omega arith;
+  writes = EndsAtFault-none sink.calls (λ e. cc e);
   unread = λ not. left;
 }
 
@@ -96,22 +98,27 @@ left_alone limit source source' sink alone same status is e = record {
   too_long = e.too_long;
   fault = e.fault;
   passes = e.passes;
-  read = e.read;
-  write = e.write;
+  reads = e.reads;
+  calls = e.calls;
+  writes = e.writes;
   unread = λ not. absurd (not refl);
 }
 
 module _ (limit : ℕ) (source source' sink : Ends) where
   -- the status is the one of the bytes, or a failure
   abbrev HasStatus : Status → List ℕ → Type 0
-  HasStatus status bytes = (status ≡ status_of_input limit bytes) ⊎ IsFailure status (Rose source.faults source'.faults) (Rose sink.faults sink.faults)
+  HasStatus status bytes = (status ≡ status_of_input limit bytes) ⊎ IsFailure status (Rose source.calls source'.calls) (Rose sink.calls sink.calls)
 
   abbrev Refused : Status → Type 0
   Refused status = IsEnding limit true source source' sink sink (Unit {0}) (Unit {0}) (ended_early status)
 
+  -- how a source was read that did not fail
+  abbrev ReadsWell : Type 0
+  ReadsWell = EndsAtFault ⊥ source.calls source'.calls × (source'.calls.made ≤ source.calls.made + (limit + 1))
+
   -- there was no memory
-  pub out_of_memory : Refused statuses.Memory
-  out_of_memory = record {
+  pub out_of_memory : ReadsWell → Refused statuses.Memory
+  out_of_memory read = record {
     run = tt;
     script = tt;
     ran = λ no. absurd no;
@@ -127,15 +134,16 @@ module _ (limit : ℕ) (source source' sink : Ends) where
     too_long = λ not known. absurd (not refl);
     fault = λ asked no. absurd no;
     passes = λ asked no. absurd no;
-    read = λ e. absurd (cc e);
-    write = λ e. absurd (cc e);
+    reads = EndsAtFault-not (λ no. no) (λ e. cc e) read.0;
+    calls = read.1;
+    writes = EndsAtFault-none sink.calls (λ e. cc e);
     unread = λ not. tt;
   }
 
   -- the input was not read to its end
-  pub not_read : (fault : InputFault) → (fault ≡ inputs.TooLong → GaveOver limit source.bytes source'.bytes) → (fault ≡ inputs.Fault → GaveUpTo limit source.bytes source'.bytes) → (fault ≡ inputs.Fault → Rose source.faults source'.faults) → Refused (input_status fault)
-  not_read inputs.Memory over within cause = out_of_memory
-  not_read inputs.Fault over within cause = record {
+  pub not_read : (fault : InputFault) → (fault ≡ inputs.TooLong → GaveOver limit source.bytes source'.bytes) → (fault ≡ inputs.Fault → GaveUpTo limit source.bytes source'.bytes) → EndsAtFault (fault ≡ inputs.Fault) source.calls source'.calls → source'.calls.made ≤ source.calls.made + (limit + 1) → Refused (input_status fault)
+  not_read inputs.Memory over within reads calls = out_of_memory (EndsAtFault-not (λ e. cc e) (λ no. no) reads, calls)
+  not_read inputs.Fault over within reads calls = record {
     run = tt;
     script = tt;
     ran = λ no. absurd no;
@@ -146,16 +154,17 @@ module _ (limit : ℕ) (source source' sink : Ends) where
     unwritten = tt;
     early = λ no. tt;
     end = λ asked no. absurd no;
-    complete = untold (HasStatus statuses.ReadFault) source.bytes (λ bytes. inr (cause refl));
+    complete = untold (HasStatus statuses.ReadFault) source.bytes (λ bytes. inr (EndsAtFault-rose refl reads));
     usage = ((λ e. absurd (cc e)), (λ not. absurd (not refl)));
     too_long = λ not known. ((λ e. absurd (cc e)), (λ gave. absurd (few_not_over limit source.bytes source'.bytes known (within refl) gave)));
     fault = λ asked no. absurd no;
     passes = λ asked no. absurd no;
-    read = λ e. cause refl;
-    write = λ e. absurd (cc e);
+    reads = EndsAtFault-as (λ e. refl) (λ e. refl) reads;
+    calls = calls;
+    writes = EndsAtFault-none sink.calls (λ e. cc e);
     unread = λ not. tt;
   }
-  not_read inputs.TooLong over within cause = record {
+  not_read inputs.TooLong over within reads calls = record {
     run = tt;
     script = tt;
     ran = λ no. absurd no;
@@ -171,8 +180,9 @@ module _ (limit : ℕ) (source source' sink : Ends) where
     too_long = λ not known. ((λ e. over refl), (λ gave. refl));
     fault = λ asked no. absurd no;
     passes = λ asked no. absurd no;
-    read = λ e. absurd (cc e);
-    write = λ e. absurd (cc e);
+    reads = EndsAtFault-not (λ e. cc e) (λ e. cc e) reads;
+    calls = calls;
+    writes = EndsAtFault-none sink.calls (λ e. cc e);
     unread = λ not. tt;
   }
 
@@ -188,8 +198,8 @@ module _ (limit : ℕ) (source source' sink : Ends) where
     has_status spelled spells = of_bytes (HasStatus (status_of_spelled spelled)) (inl (sym (input_is_spelled limit bytes spelled few spells)))
 
     -- the text has this fault
-    faulty : (fault : ScriptFault) → live_of bytes ≡ Err fault → Refused (statuses.Script fault.line fault.kind)
-    faulty fault spells = record {
+    faulty : (fault : ScriptFault) → ReadsWell → live_of bytes ≡ Err fault → Refused (statuses.Script fault.line fault.kind)
+    faulty fault read spells = record {
       run = tt;
       script = tt;
       ran = λ no. absurd no;
@@ -208,19 +218,20 @@ module _ (limit : ℕ) (source source' sink : Ends) where
         (λ e. let one : Err fault ≡ Err other = sym spells ∙ e in let equal : fault ≡ other = cc one in rw equal refl),
       ));
       passes = λ asked yes. of_bytes (TellsPasses (statuses.Script fault.line fault.kind)) (λ v says. absurd (let two : Err fault ≡ Ok v = sym spells ∙ says in cc two));
-      read = λ e. absurd (cc e);
-      write = λ e. absurd (cc e);
+      reads = EndsAtFault-not (λ no. no) (λ e. cc e) read.0;
+      calls = read.1;
+      writes = EndsAtFault-none sink.calls (λ e. cc e);
       unread = λ not. tt;
     }
 
     -- the text was not read as a live script
-    pub not_spelled : (fail : ReadFail) → ((fault : ScriptFault) → fail ≡ reads.Script fault → live_of bytes ≡ Err fault) → Refused (read_status fail)
-    not_spelled reads.Memory fault = out_of_memory
-    not_spelled (reads.Script f) fault = faulty f (fault f refl)
+    pub not_spelled : (fail : ReadFail) → ReadsWell → ((fault : ScriptFault) → fail ≡ reads.Script fault → live_of bytes ≡ Err fault) → Refused (read_status fail)
+    not_spelled reads.Memory read fault = out_of_memory read
+    not_spelled (reads.Script f) read fault = faulty f read (fault f refl)
 
     -- the text is a live script with too many passes
-    pub too_many : (v : LiveValue) → live_of bytes ≡ Ok v → MAX_RESULTS < most_results v → Refused (statuses.TooManyPasses v.passes v.setup.cap)
-    too_many v spells many = record {
+    pub too_many : (v : LiveValue) → ReadsWell → live_of bytes ≡ Ok v → MAX_RESULTS < most_results v → Refused (statuses.TooManyPasses v.passes v.setup.cap)
+    too_many v read spells many = record {
       run = tt;
       script = tt;
       ran = λ no. absurd no;
@@ -241,20 +252,21 @@ module _ (limit : ℕ) (source source' sink : Ends) where
       passes = λ asked yes. of_bytes (TellsPasses (statuses.TooManyPasses v.passes v.setup.cap)) (λ w says.
           let same : v ≡ w = cc (sym spells ∙ says) in
           ((λ e. subst (λ u. MAX_RESULTS < most_results u) same many), (λ e. rw same refl)));
-      read = λ e. absurd (cc e);
-      write = λ e. absurd (cc e);
+      reads = EndsAtFault-not (λ no. no) (λ e. cc e) read.0;
+      calls = read.1;
+      writes = EndsAtFault-none sink.calls (λ e. cc e);
       unread = λ not. tt;
     }
 
 -- ---- a script was carried out
 
 module _ (limit : ℕ) (source source' sink sink' : Ends) (alone same : Type 0) (bytes : List ℕ) (all : Consumes source.bytes source'.bytes bytes) (end : IsAtEnd source'.bytes) (few : length bytes ≤ limit)
-    (v : LiveValue) (j : JournalValue) (receipts : List (List Receipt)) (spells : live_of bytes ≡ Ok v) (fits : most_results v ≤ MAX_RESULTS) (whole : IsWholeRun v j receipts) (back : IsReadBack v j receipts) (part : WritesPart sink.bytes sink'.bytes (journal_text v j receipts)) where
+    (v : LiveValue) (j : JournalValue) (receipts : List (List Receipt)) (spells : live_of bytes ≡ Ok v) (fits : most_results v ≤ MAX_RESULTS) (whole : IsWholeRun v j receipts) (back : IsReadBack v j receipts) (reads : EndsAtFault ⊥ source.calls source'.calls) (calls : source'.calls.made ≤ source.calls.made + (limit + 1)) (part : WritesPart sink.bytes sink'.bytes (journal_text v j receipts)) where
   abbrev ended : Status → Ending
   ended status = record { status = status; script = Some v; journal = j; receipts = receipts }
 
   abbrev HasRunStatus : Status → List ℕ → Type 0
-  HasRunStatus status bs = (status ≡ status_of_input limit bs) ⊎ IsFailure status (Rose source.faults source'.faults) (Rose sink.faults sink'.faults)
+  HasRunStatus status bs = (status ≡ status_of_input limit bs) ⊎ IsFailure status (Rose source.calls source'.calls) (Rose sink.calls sink'.calls)
 
   of_read : (P : List ℕ → Type 0) → P bytes → IfSome source.bytes P
   of_read P holds = read_whole P source.bytes source'.bytes bytes all end holds
@@ -272,8 +284,8 @@ module _ (limit : ℕ) (source source' sink sink' : Ends) (alone same : Type 0) 
       ((λ e. absurd (not w.passes w.setup.cap e)), (λ many. absurd (omega (arith, many, subst (λ u. most_results u ≤ MAX_RESULTS) one fits))))
 
   -- all of the text was written
-  written : Appends sink.bytes sink'.bytes (journal_text v j receipts) → IsEnding limit true source source' sink sink' alone same (ended statuses.Ok)
-  written taken = record {
+  written : EndsAtFault ⊥ sink.calls sink'.calls → Appends sink.bytes sink'.bytes (journal_text v j receipts) → IsEnding limit true source source' sink sink' alone same (ended statuses.Ok)
+  written silent taken = record {
     run = whole;
     script = of_read (λ bs. live_of bs ≡ Ok v) spells;
     ran = λ yes. refl;
@@ -289,14 +301,15 @@ module _ (limit : ℕ) (source source' sink sink' : Ends) (alone same : Type 0) 
     too_long = λ not known. ((λ e. absurd (cc e)), (λ gave. absurd (no_over known gave)));
     fault = λ asked yes. of_read (TellsFault statuses.Ok) (no_fault statuses.Ok (λ fault e. cc e));
     passes = λ asked yes. of_read (TellsPasses statuses.Ok) (no_passes statuses.Ok (λ passes cap e. cc e));
-    read = λ e. absurd (cc e);
-    write = λ e. absurd (cc e);
+    reads = EndsAtFault-not (λ no. no) (λ e. cc e) reads;
+    calls = calls;
+    writes = EndsAtFault-not (λ no. no) (λ e. cc e) silent;
     unread = λ not. absurd (not refl);
   }
 
   -- the text was not written whole
-  not_written : (status : Status) → EndsRun status → (status ≡ statuses.WriteFault → Rose sink.faults sink'.faults) → IsEnding limit true source source' sink sink' alone same (ended status)
-  not_written statuses.WriteFault ends cause = record {
+  not_written : (status : Status) → EndsRun status → EndsAtFault (status ≡ statuses.WriteFault) sink.calls sink'.calls → IsEnding limit true source source' sink sink' alone same (ended status)
+  not_written statuses.WriteFault ends writes = record {
     run = whole;
     script = of_read (λ bs. live_of bs ≡ Ok v) spells;
     ran = λ yes. refl;
@@ -307,16 +320,17 @@ module _ (limit : ℕ) (source source' sink sink' : Ends) (alone same : Type 0) 
     unwritten = tt;
     early = λ no. absurd no;
     end = λ asked yes. end;
-    complete = of_read (HasRunStatus statuses.WriteFault) (inr (cause refl));
+    complete = of_read (HasRunStatus statuses.WriteFault) (inr (EndsAtFault-rose refl writes));
     usage = ((λ e. absurd (cc e)), (λ not. absurd (not refl)));
     too_long = λ not known. ((λ e. absurd (cc e)), (λ gave. absurd (no_over known gave)));
     fault = λ asked yes. of_read (TellsFault statuses.WriteFault) (no_fault statuses.WriteFault (λ fault e. cc e));
     passes = λ asked yes. of_read (TellsPasses statuses.WriteFault) (no_passes statuses.WriteFault (λ passes cap e. cc e));
-    read = λ e. absurd (cc e);
-    write = λ e. cause refl;
+    reads = EndsAtFault-not (λ no. no) (λ e. cc e) reads;
+    calls = calls;
+    writes = writes;
     unread = λ not. absurd (not refl);
   }
-  not_written statuses.Memory ends cause = record {
+  not_written statuses.Memory ends writes = record {
     run = whole;
     script = of_read (λ bs. live_of bs ≡ Ok v) spells;
     ran = λ no. absurd no;
@@ -332,19 +346,20 @@ module _ (limit : ℕ) (source source' sink sink' : Ends) (alone same : Type 0) 
     too_long = λ not known. absurd (not refl);
     fault = λ asked no. absurd no;
     passes = λ asked no. absurd no;
-    read = λ e. absurd (cc e);
-    write = λ e. absurd (cc e);
+    reads = EndsAtFault-not (λ no. no) (λ e. cc e) reads;
+    calls = calls;
+    writes = EndsAtFault-not (λ e. cc e) (λ e. cc e) writes;
     unread = λ not. absurd (not refl);
   }
-  not_written statuses.Ok ends cause = absurd ends
-  not_written statuses.Usage ends cause = absurd ends
-  not_written (statuses.Script line kind) ends cause = absurd ends
-  not_written statuses.TooLong ends cause = absurd ends
-  not_written statuses.ReadFault ends cause = absurd ends
-  not_written (statuses.TooManyPasses passes cap) ends cause = absurd ends
-  not_written (statuses.Unlawful line) ends cause = absurd ends
+  not_written statuses.Ok ends writes = absurd ends
+  not_written statuses.Usage ends writes = absurd ends
+  not_written (statuses.Script line kind) ends writes = absurd ends
+  not_written statuses.TooLong ends writes = absurd ends
+  not_written statuses.ReadFault ends writes = absurd ends
+  not_written (statuses.TooManyPasses passes cap) ends writes = absurd ends
+  not_written (statuses.Unlawful line) ends writes = absurd ends
 
   -- what the status says of a run whose text was handed over
-  pub handed_over : (r : Result (Unit {0}) Status) → OnOk r (Appends sink.bytes sink'.bytes (journal_text v j receipts)) → IfErr r EndsRun → (IsErrOf r statuses.WriteFault → Rose sink.faults sink'.faults) → IsEnding limit true source source' sink sink' alone same (ended (status_of r))
-  handed_over (Ok done) taken ends cause = written taken
-  handed_over (Err status) taken ends cause = not_written status ends (λ e. cause (ap (λ s. Err s) e))
+  pub handed_over : (r : Result (Unit {0}) Status) → OnOk r (Appends sink.bytes sink'.bytes (journal_text v j receipts)) → IfErr r EndsRun → EndsAtFault (IsErrOf r statuses.WriteFault) sink.calls sink'.calls → IsEnding limit true source source' sink sink' alone same (ended (status_of r))
+  handed_over (Ok done) taken ends writes = written (EndsAtFault-not (λ e. cc e) (λ no. no) writes) taken
+  handed_over (Err status) taken ends writes = not_written status ends (EndsAtFault-error writes)

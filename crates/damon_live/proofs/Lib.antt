@@ -12,4 +12,5 @@ pub mod Working
 pub mod Wholes
 pub mod OwnText
 pub mod Known
+pub mod Counting
 pub mod Ending

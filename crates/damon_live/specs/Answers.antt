@@ -1,7 +1,7 @@
 -- The clauses of the top call in one record, for the private functions below it. No public clause cites this file.
-use Rattle.std.specs.Prelude.{◌≡◌, ◌≢◌, ◌↔◌, ℕ, ◌≤◌, Bool, true, List, length, Ok, IfNone, IfSome, IsSome}
+use Rattle.std.specs.Prelude.{◌≡◌, ◌≢◌, ◌↔◌, ℕ, ◌≤◌, ◌+◌, Bool, true, List, length, Ok, IfNone, IfSome, IsSome}
 use Rattle.std.specs.Io.KnownBytes.{Appends, Consumes, IsAtEnd}
-use Rattle.damon_types.specs.Causes.{Rose}
+use Rattle.damon_types.specs.Calls.{EndsAtFault, Rose}
 use Rattle.text_io.specs.Ends.{Ends}
 use Rattle.text_io.specs.Given.{GaveOver}
 use Rattle.text_io.specs.Taken.{WritesPart}
@@ -27,14 +27,15 @@ pub record IsEnding (limit : ℕ) (asked : Bool) (source source' sink sink' : En
   pub unwritten : IfNone e.script same
   pub early : IsUnwritten e.status → same
   pub end : asked ≡ true → IsRead e.status → IsAtEnd source'.bytes
-  pub complete : IsExpected asked e.status limit source.bytes (Rose source.faults source'.faults) (Rose sink.faults sink'.faults)
+  pub complete : IsExpected asked e.status limit source.bytes (Rose source.calls source'.calls) (Rose sink.calls sink'.calls)
   pub usage : (e.status ≡ statuses.Usage) ↔ (asked ≢ true)
   pub too_long : e.status ≢ statuses.Memory → IsSome source.bytes
       → (e.status ≡ statuses.TooLong) ↔ GaveOver limit source.bytes source'.bytes
   pub fault : asked ≡ true → IsRead e.status → IfSome source.bytes (TellsFault e.status)
   pub passes : asked ≡ true → IsRead e.status → IfSome source.bytes (TellsPasses e.status)
-  pub read : e.status ≡ statuses.ReadFault → Rose source.faults source'.faults
-  pub write : e.status ≡ statuses.WriteFault → Rose sink.faults sink'.faults
+  pub reads : EndsAtFault (e.status ≡ statuses.ReadFault) source.calls source'.calls
+  pub calls : source'.calls.made ≤ source.calls.made + (limit + 1)
+  pub writes : EndsAtFault (e.status ≡ statuses.WriteFault) sink.calls sink'.calls
   pub unread : asked ≢ true → alone
 
 -- the source was read to its end, and its bytes spell this live script
@@ -44,6 +45,8 @@ pub record IsTaken (limit : ℕ) (source source' : Ends) (v : LiveValue) : Type 
   pub end : IsAtEnd source'.bytes
   pub few : length bytes ≤ limit
   pub spells : live_of bytes ≡ Ok v
+  pub reads : EndsAtFault ⊥ source.calls source'.calls
+  pub calls : source'.calls.made ≤ source.calls.made + (limit + 1)
 
 -- what a status says where no script was carried out: it is right for each sink that was left alone
 abbrev pub IsRefused : ℕ → Ends → Ends → Status → Type 0

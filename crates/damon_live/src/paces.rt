@@ -1,6 +1,9 @@
 // Paces that hold the threads of a run, for tests of runs whose order is given.
+ghost use Rattle.std.specs.Prelude.{◌≡◌, IfOk};
+
 use crate::pace::{Pace, Spot};
 use std::alloc::{AllocError, Global};
+use std::marker::Model;
 use std::sync::atomic::{AtomicBool, Ordering};
 use std::thread;
 use std::time::{Clock, Duration};
@@ -11,15 +14,24 @@ const TURN: u64 = 1;
 // The most turns for which a spot is held.
 const MAX_TURNS: u32 = 10_000;
 
-/// A pace that sleeps for a millisecond at each spot, so that threads meet in another order each time.
+/// A pace that sleeps for a millisecond at each spot, so that threads meet in another order each time. To
+/// contracts it is its clock.
 #[derive(Drop)]
 pub struct SleepPace<R: Clock> {
     clock: R,
 }
 
+impl<R: Clock> Model for SleepPace<R> {
+    ghost Value = { R };
+
+    ghost view = { λ p. p.clock };
+}
+
 impl<R: Clock> SleepPace<R> {
     /// A pace that sleeps by this clock.
-    pub fn new(clock: R) -> SleepPace<R> {
+    pub fn new(clock: R) -> SleepPace<R>
+        ensures { result ≡ clock }
+    {
         SleepPace { clock }
     }
 }
@@ -46,18 +58,30 @@ struct Gate {
     open: AtomicBool,
 }
 
-/// A pace that holds spots until others were reached, each for at most ten seconds.
+/// A pace that holds spots until others were reached, each for at most ten seconds. To contracts it is the
+/// list of its holds.
 #[derive(Drop)]
 pub struct GatePace<R: Clock> {
     clock: R,
     gates: Vec<Gate>,
 }
 
+impl<R: Clock> Model for GatePace<R> {
+    ghost use Rattle.std.specs.Prelude.{List, map};
+    ghost use Rattle.damon_live.specs.declared.paces.Hold.{Hold};
+
+    ghost Value = { List Hold };
+
+    ghost view = { λ p. map (λ g. g.hold) p.gates.items };
+}
+
 impl<R: Clock + Drop> GatePace<R> {
     /// A pace with these holds, which sleeps by this clock. Takes memory; on an error the clock is dropped.
-    pub fn new(alloc: Global, clock: R, holds: &[Hold]) -> Result<GatePace<R>, AllocError> {
+    pub fn new(alloc: Global, clock: R, holds: &[Hold]) -> Result<GatePace<R>, AllocError>
+        ensures { IfOk result (λ p. p ≡ holds.now) }
+    {
         let mut gates = Vec::new(alloc);
-        for hold in holds {
+        'gates: for hold in holds {
             gates.push(Gate {
                 hold: *hold,
                 open: AtomicBool::new(false),

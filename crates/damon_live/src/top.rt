@@ -1,7 +1,7 @@
-ghost use Rattle.std.specs.Prelude.{◌≡◌, ◌≢◌, ◌↔◌, ◌≤◌, ◌<◌, true, Ok, Some, IfErr, IfNone, IfOk, IfSome, IsErrOf, IsSome, OnOk};
+ghost use Rattle.std.specs.Prelude.{◌≡◌, ◌≢◌, ◌↔◌, ◌≤◌, ◌<◌, ◌+◌, true, Ok, Some, IfErr, IfNone, IfOk, IfSome, IsErrOf, IsSome, OnOk};
 ghost use Rattle.std.specs.List.{AllByRecursion};
 ghost use Rattle.std.specs.Io.KnownBytes.{Appends, IsAtEnd};
-ghost use Rattle.damon_types.specs.Causes.{Rose};
+ghost use Rattle.damon_types.specs.Calls.{EndsAtFault, Rose};
 ghost use Rattle.damon_types.specs.Space.{pages_of};
 ghost use Rattle.damon_core.specs.Stands.{Stands};
 ghost use Rattle.damon_control.specs.LiveText.{KeepsLimits};
@@ -83,8 +83,8 @@ pub fn live_main<R: Threads + Wait + Sync, S: Source, K: Sink, P: Pace + Sync>(
 
     // The status is the one that is expected, or a failure.
     ensures complete { IsExpected (asks_run words.now) result.status INPUT_LIMIT (S.left source.old)
-        (Rose (S.faults source.old) (S.faults source.new))
-        (Rose (K.faults sink.old) (K.faults sink.new)) }
+        (Rose (S.calls source.old) (S.calls source.new))
+        (Rose (K.calls sink.old) (K.calls sink.new)) }
 
     // When each other status comes; memory may run out at any time.
     ensures usage { (result.status ≡ Status.Usage) ↔ (asks_run words.now ≢ true) }
@@ -94,10 +94,14 @@ pub fn live_main<R: Threads + Wait + Sync, S: Source, K: Sink, P: Pace + Sync>(
         IfSome (S.left source.old) (TellsFault result.status) }
     ensures passes { asks_run words.now ≡ true → IsRead result.status →
         IfSome (S.left source.old) (TellsPasses result.status) }
-    ensures read { result.status ≡ Status.ReadFault →
-        Rose (S.faults source.old) (S.faults source.new) }
-    ensures write { result.status ≡ Status.WriteFault →
-        Rose (K.faults sink.old) (K.faults sink.new) }
+
+    // How the source and the sink were called: a read or a write that fails is the last one, and the status
+    // says so. Otherwise none failed. Each read but the last gives a byte.
+    ensures reads { EndsAtFault (result.status ≡ Status.ReadFault)
+        (S.calls source.old) (S.calls source.new) }
+    ensures calls { (S.calls source.new).made ≤ (S.calls source.old).made + (INPUT_LIMIT + 1) }
+    ensures writes { EndsAtFault (result.status ≡ Status.WriteFault)
+        (K.calls sink.old) (K.calls sink.new) }
 
     // What was read.
     ensures end { asks_run words.now ≡ true → IsRead result.status → IsAtEnd (S.left source.new) }
@@ -116,10 +120,10 @@ fn serve<R: Threads + Wait + Sync, S: Source, K: Sink, P: Pace + Sync>(
     pace: &P,
 ) -> LiveEnd
     ensures { IsEnding INPUT_LIMIT (asks_run words.now)
-        (record { bytes = S.left source.old; faults = S.faults source.old })
-        (record { bytes = S.left source.new; faults = S.faults source.new })
-        (record { bytes = K.taken sink.old; faults = K.faults sink.old })
-        (record { bytes = K.taken sink.new; faults = K.faults sink.new })
+        (record { bytes = S.left source.old; calls = S.calls source.old })
+        (record { bytes = S.left source.new; calls = S.calls source.new })
+        (record { bytes = K.taken sink.old; calls = K.calls sink.old })
+        (record { bytes = K.taken sink.new; calls = K.calls sink.new })
         (source.new ≡ source.old) (sink.new ≡ sink.old) (ending result) }
 {
     whole_runs_are_read_back();
@@ -198,8 +202,8 @@ fn carry_out<R: Threads + Wait + Sync, S: Source, P: Pace + Sync>(
     pace: &P,
 ) -> Result<AloneRun, Status>
     ensures taken { IfOk result (λ run. IsTaken INPUT_LIMIT
-        (record { bytes = S.left source.old; faults = S.faults source.old })
-        (record { bytes = S.left source.new; faults = S.faults source.new })
+        (record { bytes = S.left source.old; calls = S.calls source.old })
+        (record { bytes = S.left source.new; calls = S.calls source.new })
         (live_said run.script)) }
     ensures few { IfOk result (λ run. most_results (live_said run.script) ≤ MAX_RESULTS) }
     ensures spelled { IfOk result (λ run. SpellsCalls (live_said run.script)) }
@@ -210,8 +214,8 @@ fn carry_out<R: Threads + Wait + Sync, S: Source, P: Pace + Sync>(
     ensures sizes { IfOk result (λ run.
         run.journal.checked ≡ check_sizes (live_said run.script) run.journal.value) }
     ensures refused { IfErr result (IsRefused INPUT_LIMIT
-        (record { bytes = S.left source.old; faults = S.faults source.old })
-        (record { bytes = S.left source.new; faults = S.faults source.new })) }
+        (record { bytes = S.left source.old; calls = S.calls source.old })
+        (record { bytes = S.left source.new; calls = S.calls source.new })) }
 {
     let script = take_script(alloc, source)?;
     let run = run_threads(rt, alloc, script, pace)?;
@@ -222,16 +226,16 @@ fn carry_out<R: Threads + Wait + Sync, S: Source, P: Pace + Sync>(
 // end of this function.
 fn take_script<S: Source>(alloc: Global, source: &mut S) -> Result<LiveScript, Status>
     ensures taken { IfOk result (λ script. IsTaken INPUT_LIMIT
-        (record { bytes = S.left source.old; faults = S.faults source.old })
-        (record { bytes = S.left source.new; faults = S.faults source.new })
+        (record { bytes = S.left source.old; calls = S.calls source.old })
+        (record { bytes = S.left source.new; calls = S.calls source.new })
         (live_said script)) }
     ensures limits { IfOk result (λ script. KeepsLimits (live_said script)) }
     ensures pages { IfOk result (λ script. TracesAreInSpace script) }
     ensures few { IfOk result (λ script. most_results (live_said script) ≤ MAX_RESULTS) }
     ensures spelled { IfOk result (λ script. SpellsCalls (live_said script)) }
     ensures refused { IfErr result (IsRefused INPUT_LIMIT
-        (record { bytes = S.left source.old; faults = S.faults source.old })
-        (record { bytes = S.left source.new; faults = S.faults source.new })) }
+        (record { bytes = S.left source.old; calls = S.calls source.old })
+        (record { bytes = S.left source.new; calls = S.calls source.new })) }
 {
     live_scripts_are_sound();
     let bytes = read_all(alloc, source)?;
@@ -266,8 +270,8 @@ fn hand_over<K: Sink>(alloc: Global, run: &AloneRun, sink: &mut K) -> Result<(),
     ensures all { OnOk result (Appends (K.taken sink.old) (K.taken sink.new)
         (journal_text (live_said run.now.script) run.now.journal.value (receipts_said run.now.receipts))) }
     ensures answers { IfErr result EndsRun }
-    ensures cause { IsErrOf result Status.WriteFault →
-        Rose (K.faults sink.old) (K.faults sink.new) }
+    ensures writes { EndsAtFault (IsErrOf result Status.WriteFault)
+        (K.calls sink.old) (K.calls sink.new) }
     ensures part { WritesPart (K.taken sink.old) (K.taken sink.new)
         (journal_text (live_said run.now.script) run.now.journal.value (receipts_said run.now.receipts)) }
 {

@@ -1,5 +1,5 @@
 -- Targets, attributes and schemes at their limits, with the first one that they break, worked out by hand.
-use Rattle.std.proofs.Common.{◌≡◌, ℕ, ◌-◌, ◌^◌, true, List, [], ◌∷◌, Ok, Err, Some, None, refl}
+use Rattle.std.proofs.Common.{◌≡◌, ℕ, ◌-◌, ◌^◌, true, false, List, [], ◌∷◌, Ok, Err, Some, None, refl}
 use Rattle.damon_types.specs.declared.attrs.Attrs.{Attrs}
 use Rattle.damon_types.specs.declared.attrs.AttrsFault.TheVariants.{MinTooSmall, MinOverMax, AggrOutOfRange}
 use Rattle.damon_types.specs.declared.filter.Filter.{Filter}
@@ -15,6 +15,7 @@ use Rattle.damon_types.specs.declared.space.SpaceFault.TheVariants.{NoTarget, To
 use Rattle.damon_types.specs.Attrs.{checked_attrs}
 use Rattle.damon_types.specs.Scheme.{checked_scheme}
 use Rattle.damon_types.specs.Space.{checked, page_of}
+use Rattle.damon_types.specs.Calls.{EndsAtFault, after_call, no_calls}
 
 abbrev target : ℕ → ℕ → Target
 target base pages = record { base = base; pages = pages }
@@ -105,3 +106,13 @@ no_page_is_refused = refl
 
 byte_off_a_page_is_refused : checked_scheme 0 (scheme (span 1 2) 1 5 (filter (Addr 0 4095) ∷ [])) ≡ Err (BadFilter 0)
 byte_off_a_page_is_refused = refl
+
+-- ---- how often a stream was called
+
+-- a call that fails, and one after it: two calls, one failure, one call too late
+called_after_a_failure : after_call false (after_call true no_calls) ≡ record { made = 2; failed = 1; late = 1 }
+called_after_a_failure = refl
+
+-- a run that makes a call after one that failed does not end at the fault
+does_not_end_at_the_fault : EndsAtFault (Unit {0}) no_calls (after_call false (after_call true no_calls)) → ⊥
+does_not_end_at_the_fault ends = let late : 1 ≡ 0 = ends.late refl in cc late

@@ -1,5 +1,5 @@
 pub mod Memory
-pub mod Causes
+pub mod Calls
 pub mod Faulty
 pub mod Standard
 pub mod Attrs

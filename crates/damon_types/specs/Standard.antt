@@ -1,7 +1,7 @@
 -- Streams over readers and writers of std, as contracts see them.
-use Rattle.std.specs.Prelude.{ℕ}
+use Rattle.damon_types.specs.declared.calls.Calls.{Calls}
 
--- the reader or the writer, and how many of its calls have failed
+-- the reader or the writer, and how often it was called
 pub record Counted (T : Type 0) : Type 0 where
   pub inner : T
-  pub faults : ℕ
+  pub calls : Calls

@@ -1,12 +1,11 @@
 // Streams over memory that limit the bytes of a call, and fail at stated calls.
-ghost use Rattle.std.specs.Prelude.{◌≡◌, ◌⊎◌, ◌-◌, ◌≤◌, ◌<◌, ◌↔◌, [], length, min, Some, true, IfOk, OnErr, IsErr, is_err, if◌then◌else◌};
+ghost use Rattle.std.specs.Prelude.{◌≡◌, ◌⊎◌, ◌-◌, ◌≤◌, ◌<◌, ◌↔◌, [], length, min, Some, true, IfOk, OnErr, IsErr, is_err};
 ghost use Rattle.std.specs.Io.{ReadsAtMost, WritesAtMost};
 ghost use Rattle.std.specs.Io.KnownBytes.{ReadConsumes, WriteAppends};
-ghost use Rattle.damon_types.specs.Causes.{HasCause};
-ghost use Rattle.damon_types.specs.Memory.{next_count};
+ghost use Rattle.damon_types.specs.Calls.{after_call, next_count, no_calls};
 ghost use Rattle.damon_types.specs.Faulty.{is_listed};
 
-use crate::{Failed, MemSink, MemSource, Sink, Source};
+use crate::{Calls, Failed, MemSink, MemSource, Sink, Source};
 use std::alloc::{AllocError, Global};
 use std::marker::Model;
 
@@ -17,8 +16,7 @@ pub struct FaultSource<'a> {
     bytes: MemSource<'a>,
     piece: u32,
     fails: &'a [u32],
-    calls: u64,
-    faults: u64,
+    calls: Calls,
 }
 
 impl<'a> Model for FaultSource<'a> {
@@ -28,11 +26,10 @@ impl<'a> Model for FaultSource<'a> {
     ghost Value = { FaultyGiven };
 
     ghost view = { λ s. record {
-      bytes = s.bytes;
+      bytes = s.bytes.bytes;
       piece = s.piece;
       fails = s.fails.now;
       calls = s.calls;
-      faults = s.faults;
     } };
 
     ghost invariant = { λ s. 1 ≤ s.piece };
@@ -47,52 +44,47 @@ impl<'a> FaultSource<'a> {
           bytes = bytes.now;
           piece = piece;
           fails = fails.now;
-          calls = 0;
-          faults = 0;
+          calls = no_calls;
         } }
     {
         FaultSource {
             bytes: MemSource::new(bytes),
             piece,
             fails,
-            calls: 0,
-            faults: 0,
+            calls: Calls::new(),
         }
     }
 
     /// The number of calls so far; at 2^64 - 1 it stays there.
     pub fn calls(&self) -> u64
-        ensures { result ≡ self.now.calls }
+        ensures { result ≡ self.now.calls.made }
     {
-        self.calls
+        self.calls.made
     }
 }
 
 impl Source for FaultSource<'_> {
     ghost left = { λ s. Some s.bytes };
 
-    ghost faults = { λ s. s.faults };
+    ghost calls = { λ s. s.calls };
 
     /// Gives the bytes that are left, at most `piece` and as many as fit into the buffer, unless
     /// this call is to fail.
     fn read(&mut self, buf: &mut [u8]) -> Result<usize, Failed>
         ensures bound { ReadsAtMost result buf.new }
         ensures bytes { ReadConsumes (Some self.old.bytes) (Some self.new.bytes) result buf.new }
-        ensures cause { HasCause self.old.faults self.new.faults result }
+        ensures counted { self.new.calls ≡ after_call (is_err result) self.old.calls }
 
-        ensures fails { is_err result ≡ is_listed (next_count self.old.calls) self.old.fails }
+        ensures fails { is_err result ≡ is_listed (next_count self.old.calls.made) self.old.fails }
         ensures count { IfOk result (λ n.
             n ≡ min (min (length self.old.bytes) (length buf.old)) self.old.piece) }
         ensures kept { OnErr result (buf.new ≡ buf.old) }
-        ensures calls { self.new.calls ≡ next_count self.old.calls }
-        ensures faults { self.new.faults
-            ≡ (if is_err result then next_count self.old.faults else self.old.faults) }
         ensures piece { self.new.piece ≡ self.old.piece }
         ensures listed { self.new.fails ≡ self.old.fails }
     {
-        self.calls = self.calls.saturating_add(1);
-        if is_listed(self.calls, self.fails) {
-            self.faults = self.faults.saturating_add(1);
+        let fails = is_listed(self.calls.made.saturating_add(1), self.fails);
+        self.calls.count(fails);
+        if fails {
             return Err(Failed);
         }
         let room = buf.len().min(self.piece as usize);
@@ -107,8 +99,7 @@ pub struct FaultSink<'a> {
     bytes: MemSink,
     piece: u32,
     fails: &'a [u32],
-    calls: u64,
-    faults: u64,
+    calls: Calls,
 }
 
 impl<'a> Model for FaultSink<'a> {
@@ -123,7 +114,6 @@ impl<'a> Model for FaultSink<'a> {
       piece = s.piece;
       fails = s.fails.now;
       calls = s.calls;
-      faults = s.faults;
     } };
 
     ghost invariant = { λ s. 1 ≤ s.piece };
@@ -145,8 +135,7 @@ impl<'a> FaultSink<'a> {
           room = room;
           piece = piece;
           fails = fails.now;
-          calls = 0;
-          faults = 0;
+          calls = no_calls;
         }) }
     {
         let bytes = MemSink::new(alloc, room)?;
@@ -154,8 +143,7 @@ impl<'a> FaultSink<'a> {
             bytes,
             piece,
             fails,
-            calls: 0,
-            faults: 0,
+            calls: Calls::new(),
         })
     }
 
@@ -168,16 +156,16 @@ impl<'a> FaultSink<'a> {
 
     /// The number of calls so far; at 2^64 - 1 it stays there.
     pub fn calls(&self) -> u64
-        ensures { result ≡ self.now.calls }
+        ensures { result ≡ self.now.calls.made }
     {
-        self.calls
+        self.calls.made
     }
 }
 
 impl Sink for FaultSink<'_> {
     ghost taken = { λ s. Some s.bytes };
 
-    ghost faults = { λ s. s.faults };
+    ghost calls = { λ s. s.calls };
 
     /// Takes bytes from the front of the piece, at most `piece` and as many as fit, unless this
     /// call is to fail.
@@ -185,30 +173,24 @@ impl Sink for FaultSink<'_> {
         ensures bound { WritesAtMost result piece.now }
         ensures bytes { WriteAppends (Some self.old.bytes) (Some self.new.bytes) result piece.now }
         ensures some { 0 < length piece.now → IfOk result (λ n. 0 < n) }
-        ensures cause { HasCause self.old.faults self.new.faults result }
+        ensures counted { self.new.calls ≡ after_call (is_err result) self.old.calls }
 
         ensures fails { IsErr result
-            ↔ ((is_listed (next_count self.old.calls) self.old.fails ≡ true)
+            ↔ ((is_listed (next_count self.old.calls.made) self.old.fails ≡ true)
             ⊎ ((0 < length piece.now) × (self.old.room - length self.old.bytes ≡ 0))) }
         ensures count { IfOk result (λ n. n ≡ min (min (length piece.now) self.old.piece)
             (self.old.room - length self.old.bytes)) }
-        ensures calls { self.new.calls ≡ next_count self.old.calls }
-        ensures faults { self.new.faults
-            ≡ (if is_err result then next_count self.old.faults else self.old.faults) }
         ensures room { self.new.room ≡ self.old.room }
         ensures piece { self.new.piece ≡ self.old.piece }
         ensures listed { self.new.fails ≡ self.old.fails }
     {
-        self.calls = self.calls.saturating_add(1);
         let front = piece.len().min(self.piece as usize);
-        let written = if is_listed(self.calls, self.fails) {
+        let written = if is_listed(self.calls.made.saturating_add(1), self.fails) {
             Err(Failed)
         } else {
             self.bytes.write(&piece[..front])
         };
-        if written.is_err() {
-            self.faults = self.faults.saturating_add(1);
-        }
+        self.calls.count(written.is_err());
         written
     }
 }

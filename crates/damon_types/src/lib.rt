@@ -3,6 +3,8 @@
 
 /// The attributes of a monitor, and their limits.
 mod attrs;
+/// How often a stream was called, and how often it failed.
+mod calls;
 /// Streams over memory that fail at stated calls.
 mod faulty;
 /// Filters of pages, and lists of them.
@@ -29,6 +31,7 @@ mod standard;
 mod stream;
 
 pub use attrs::{Attrs, AttrsFault, MAX_AGGR, MIN_REGIONS};
+pub use calls::Calls;
 pub use faulty::{FaultSink, FaultSource};
 pub use filter::{Filter, FilterKind, Filters, Full, MAX_FILTERS};
 pub use laws::{pages_are_numbered, pages_rise};

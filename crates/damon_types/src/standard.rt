@@ -1,12 +1,11 @@
 // Streams over readers and writers of std: the trusted edge to the system.
-ghost use Rattle.std.specs.Prelude.{◌≡◌, ◌<◌, length, IfOk, is_err, if◌then◌else◌};
+ghost use Rattle.std.specs.Prelude.{◌≡◌, ◌<◌, length, IfOk, is_err};
 ghost use Rattle.std.specs.Io.{ReadsAtMost, WritesAtMost};
 ghost use Rattle.std.specs.Io.KnownBytes.{ReadConsumes, WriteAppends};
-ghost use Rattle.damon_types.specs.Causes.{HasCause};
-ghost use Rattle.damon_types.specs.Memory.{next_count};
+ghost use Rattle.damon_types.specs.Calls.{after_call, no_calls};
 ghost use Rattle.damon_types.specs.Standard.{Counted};
 
-use crate::{Failed, Sink, Source};
+use crate::{Calls, Failed, Sink, Source};
 use std::io::{Read, Write};
 use std::marker::Model;
 
@@ -15,7 +14,7 @@ use std::marker::Model;
 #[derive(Debug, Drop)]
 pub struct StdSource<R: Read> {
     inner: R,
-    faults: u64,
+    calls: Calls,
 }
 
 impl<R: Read> Model for StdSource<R> {
@@ -23,36 +22,40 @@ impl<R: Read> Model for StdSource<R> {
 
     ghost Value = { Counted R };
 
-    ghost view = { λ s. record { inner = s.inner; faults = s.faults } };
+    ghost view = { λ s. record { inner = s.inner; calls = s.calls } };
 }
 
 impl<R: Read> StdSource<R> {
-    /// A source over this reader, with no failure so far.
+    /// A source over this reader, with no call so far.
     pub fn new(inner: R) -> Self
-        ensures { result ≡ record { inner = inner; faults = 0 } }
+        ensures { result ≡ record { inner = inner; calls = no_calls } }
     {
-        StdSource { inner, faults: 0 }
+        StdSource {
+            inner,
+            calls: Calls::new(),
+        }
     }
 }
 
 impl<R: Read> Source for StdSource<R> {
     ghost left = { λ s. R.remaining s.inner };
 
-    ghost faults = { λ s. s.faults };
+    ghost calls = { λ s. s.calls };
 
     /// Makes one read of the reader, and no second one where that fails.
     fn read(&mut self, buf: &mut [u8]) -> Result<usize, Failed>
         ensures bound { ReadsAtMost result buf.new }
         ensures bytes { ReadConsumes
             (R.remaining self.old.inner) (R.remaining self.new.inner) result buf.new }
-        ensures cause { HasCause self.old.faults self.new.faults result }
-        ensures faults { self.new.faults
-            ≡ (if is_err result then next_count self.old.faults else self.old.faults) }
+        ensures counted { self.new.calls ≡ after_call (is_err result) self.old.calls }
     {
         match self.inner.read(buf) {
-            Ok(count) => Ok(count),
+            Ok(count) => {
+                self.calls.count(false);
+                Ok(count)
+            }
             Err(_) => {
-                self.faults = self.faults.saturating_add(1);
+                self.calls.count(true);
                 Err(Failed)
             }
         }
@@ -63,7 +66,7 @@ impl<R: Read> Source for StdSource<R> {
 #[derive(Debug, Drop)]
 pub struct StdSink<W: Write> {
     inner: W,
-    faults: u64,
+    calls: Calls,
 }
 
 impl<W: Write> Model for StdSink<W> {
@@ -71,22 +74,25 @@ impl<W: Write> Model for StdSink<W> {
 
     ghost Value = { Counted W };
 
-    ghost view = { λ s. record { inner = s.inner; faults = s.faults } };
+    ghost view = { λ s. record { inner = s.inner; calls = s.calls } };
 }
 
 impl<W: Write> StdSink<W> {
-    /// A sink over this writer, with no failure so far.
+    /// A sink over this writer, with no call so far.
     pub fn new(inner: W) -> Self
-        ensures { result ≡ record { inner = inner; faults = 0 } }
+        ensures { result ≡ record { inner = inner; calls = no_calls } }
     {
-        StdSink { inner, faults: 0 }
+        StdSink {
+            inner,
+            calls: Calls::new(),
+        }
     }
 }
 
 impl<W: Write> Sink for StdSink<W> {
     ghost taken = { λ s. W.contents s.inner };
 
-    ghost faults = { λ s. s.faults };
+    ghost calls = { λ s. s.calls };
 
     /// Makes one write of the writer, and no second one where that fails.
     fn write(&mut self, piece: &[u8]) -> Result<usize, Failed>
@@ -94,18 +100,19 @@ impl<W: Write> Sink for StdSink<W> {
         ensures bytes { WriteAppends
             (W.contents self.old.inner) (W.contents self.new.inner) result piece.now }
         ensures some { 0 < length piece.now → IfOk result (λ n. 0 < n) }
-        ensures cause { HasCause self.old.faults self.new.faults result }
-        ensures faults { self.new.faults
-            ≡ (if is_err result then next_count self.old.faults else self.old.faults) }
+        ensures counted { self.new.calls ≡ after_call (is_err result) self.old.calls }
     {
         match self.inner.write(piece) {
             Ok(0) if !piece.is_empty() => {
-                self.faults = self.faults.saturating_add(1);
+                self.calls.count(true);
                 Err(Failed)
             }
-            Ok(count) => Ok(count),
+            Ok(count) => {
+                self.calls.count(false);
+                Ok(count)
+            }
             Err(_) => {
-                self.faults = self.faults.saturating_add(1);
+                self.calls.count(true);
                 Err(Failed)
             }
         }

@@ -1,6 +1,6 @@
 // Streams over readers and writers of std: a failed call is not repeated.
 use damon_types::{Failed, Sink, Source, StdSink, StdSource};
-use std::io::{self, Cursor, ErrorKind, Read};
+use std::io::{self, Cursor, ErrorKind, Read, Write};
 
 // A reader whose first read fails.
 #[derive(Drop)]
@@ -19,6 +19,26 @@ impl Read for FailsOnce<'_> {
     }
 }
 
+// A writer whose first write fails.
+#[derive(Drop)]
+struct RefusesOnce {
+    refused: bool,
+}
+
+impl Write for RefusesOnce {
+    fn write(&mut self, buf: &[u8]) -> io::Result<usize> {
+        if !self.refused {
+            self.refused = true;
+            return Err(io::Error::from(ErrorKind::Interrupted));
+        }
+        Ok(buf.len())
+    }
+
+    fn flush(&mut self) -> io::Result<()> {
+        Ok(())
+    }
+}
+
 #[test]
 fn a_failed_read_is_not_repeated(rt: HostRuntime) {
     let mut source = StdSource::new(FailsOnce {
@@ -30,6 +50,13 @@ fn a_failed_read_is_not_repeated(rt: HostRuntime) {
     assert_eq!(rt; source.read(&mut buf), Ok(3));
     assert_eq!(rt; buf, *b"abc\0");
     assert_eq!(rt; source.read(&mut buf), Ok(0));
+}
+
+#[test]
+fn a_failed_write_is_not_repeated(rt: HostRuntime) {
+    let mut sink = StdSink::new(RefusesOnce { refused: false });
+    assert_eq!(rt; sink.write(b"ab"), Err(Failed));
+    assert_eq!(rt; sink.write(b"ab"), Ok(2));
 }
 
 // The cursor returns Ok(0) when its three bytes are full.

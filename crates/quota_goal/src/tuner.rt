@@ -15,9 +15,9 @@ use std::marker::Model;
 /// The number of slots.
 const SLOTS: usize = MAX_SLOT as usize + 1;
 
-/// Slots whose quotas follow goals. It knows the scheme in force of each slot, and its top: the bytes that the
-/// setup or a commit of the script gave it last. A slot is tunable where it is set and its scheme has a quota
-/// and no marks. No call takes memory.
+/// Slots whose quotas follow goals. It knows the scheme in force of each slot, and its top: the bytes that
+/// the setup or a commit of the script gave it last. A slot is tunable where it is set and its scheme has a
+/// quota and no marks. No call takes memory.
 #[derive(Debug, Drop)]
 pub struct Tuner {
     goals: Goals,

@@ -1,7 +1,7 @@
 // A sink that tells how it was used.
 ghost use Rattle.std.specs.Prelude.{◌≡◌, ◌≤◌, None, length};
 
-use damon_types::{Failed, Sink};
+use damon_types::{Calls, Failed, Sink};
 use std::alloc::{AllocError, Global};
 
 // Takes at most a piece a call, and keeps the sizes of what was handed over.
@@ -10,7 +10,7 @@ pub struct KeptSink {
     piece: usize,
     pub taken: Vec<u8>,
     pub handed: Vec<usize>,
-    faults: u64,
+    calls: Calls,
 }
 
 impl KeptSink {
@@ -19,14 +19,14 @@ impl KeptSink {
             piece,
             taken: Vec::new(alloc),
             handed: Vec::new(alloc),
-            faults: 0,
+            calls: Calls::new(),
         }
     }
 
     // Keeps the first `count` bytes of a piece that was handed over.
     fn keep(&mut self, piece: &[u8], count: usize) -> Result<(), AllocError>
         requires { count ≤ length piece.now }
-        ensures { self.new.faults ≡ self.old.faults }
+        ensures { self.new.calls ≡ self.old.calls }
     {
         self.handed.push(piece.len())?;
         self.taken.extend_from_slice(&piece[..count])
@@ -36,12 +36,13 @@ impl KeptSink {
 impl Sink for KeptSink {
     ghost taken = { λ _. None };
 
-    ghost faults = { λ s. s.faults };
+    ghost calls = { λ s. s.calls };
 
     fn write(&mut self, piece: &[u8]) -> Result<usize, Failed> {
         let count = piece.len().min(self.piece);
-        if count == 0 || self.keep(piece, count).is_err() {
-            self.faults = self.faults.saturating_add(1);
+        let fails = count == 0 || self.keep(piece, count).is_err();
+        self.calls.count(fails);
+        if fails {
             return Err(Failed);
         }
         Ok(count)

@@ -1,6 +1,6 @@
 ghost use Rattle.std.specs.Prelude.{◌≡◌, ◌≤◌, ◌+◌, length, vec_len, IfOk, OnOk, IsErrOf};
 ghost use Rattle.std.specs.Io.KnownBytes.{Consumes, IsAtEnd};
-ghost use Rattle.damon_types.specs.Causes.{Rose};
+ghost use Rattle.damon_types.specs.Calls.{EndsAtFault};
 ghost use Rattle.text_io.specs.Given.{GaveOver, GaveUpTo};
 
 use crate::PIECE;
@@ -55,9 +55,11 @@ pub fn read_all<S: Source>(alloc: Global, source: &mut S) -> Result<Vec<u8>, Inp
         GaveOver INPUT_LIMIT (S.left source.old) (S.left source.new) }
     ensures within { IsErrOf result InputFault.Fault →
         GaveUpTo INPUT_LIMIT (S.left source.old) (S.left source.new) }
-    ensures cause { IsErrOf result InputFault.Fault →
-        Rose (S.faults source.old) (S.faults source.new) }
-    ensures later { S.faults source.old ≤ S.faults source.new }
+
+    // How often the source was read: each read gives a byte, finds the end, or is the last.
+    ensures reads { EndsAtFault (IsErrOf result InputFault.Fault)
+        (S.calls source.old) (S.calls source.new) }
+    ensures calls { (S.calls source.new).made ≤ (S.calls source.old).made + (INPUT_LIMIT + 1) }
 {
     let mut piece = empty_piece(alloc)?;
     let mut bytes = Vec::new(alloc);

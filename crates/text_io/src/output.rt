@@ -1,6 +1,6 @@
-ghost use Rattle.std.specs.Prelude.{◌≡◌, ◌≤◌, ◌<◌, ◌-◌, ◌≢◌, ◌⊎◌, [], All, true, false, length, take, drop, slice_index, IfSome, IfNone, OnOk};
+ghost use Rattle.std.specs.Prelude.{◌≡◌, ◌≤◌, ◌<◌, ◌-◌, ◌≢◌, ◌⊎◌, [], All, true, false, length, take, drop, slice_index, IfSome, IfNone, IsErr, OnOk};
 ghost use Rattle.std.specs.Io.KnownBytes.{Appends};
-ghost use Rattle.damon_types.specs.Causes.{HasCause};
+ghost use Rattle.damon_types.specs.Calls.{EndsAtFault};
 ghost use Rattle.text_io.specs.Taken.{WritesPart};
 
 use damon_types::{Failed, Sink};
@@ -16,7 +16,7 @@ const BLOCK: usize = 64;
 pub fn write_all<K: Sink>(sink: &mut K, text: &[u8]) -> Result<(), Failed>
     ensures all { OnOk result (Appends (K.taken sink.old) (K.taken sink.new) text.now) }
     ensures part { WritesPart (K.taken sink.old) (K.taken sink.new) text.now }
-    ensures cause { HasCause (K.faults sink.old) (K.faults sink.new) result }
+    ensures writes { EndsAtFault (IsErr result) (K.calls sink.old) (K.calls sink.new) }
     ensures empty { text.now ≡ [] → sink.new ≡ sink.old }
 {
     let mut rest = text;
@@ -32,7 +32,7 @@ pub fn write_all<K: Sink>(sink: &mut K, text: &[u8]) -> Result<(), Failed>
 fn write_piece<K: Sink>(sink: &mut K, piece: &[u8]) -> Result<(), Failed>
     ensures all { OnOk result (Appends (K.taken sink.old) (K.taken sink.new) piece.now) }
     ensures part { WritesPart (K.taken sink.old) (K.taken sink.new) piece.now }
-    ensures cause { HasCause (K.faults sink.old) (K.faults sink.new) result }
+    ensures writes { EndsAtFault (IsErr result) (K.calls sink.old) (K.calls sink.new) }
 {
     let mut rest = piece;
     'writes: while !rest.is_empty() {

@@ -1,26 +1,23 @@
-use Rattle.std.proofs.Common.{◌≡◌, ◌++◌, Ok, Err, ap, refl, subst, arith}
+use Rattle.std.proofs.Common.{◌++◌, Ok, ap, refl, subst}
 use Rattle.std.specs.Io.KnownBytes.{Appends}
 use Rattle.std.proofs.lemmas.Result.{err_from_is_err_and}
 use Rattle.damon_admin.specs.Admin.{left_text}
-use Rattle.damon_journal.specs.declared.status.Status.TheVariants.{WriteFault}
 use Rattle.text_io.specs.Taken.{WritesPart}
 use Rattle.damon_app.proofs.Known.{WritesPart-whole}
 use Rattle.damon_app.proofs.Handing.{handed_all, handed_first, handed_last, handed_next, handed_part}
-use Rattle.damon_app.proofs.Heating.{Rose-before}
+use Rattle.damon_app.proofs.Counting.{EndsAtFault-as, EndsAtFault-none, EndsAtFault-not, EndsAtFault-passed, EndsAtFault-then}
 use Rattle.damon_app.proofs.admin.write_output.Goals as goal
 
 pub lines-init : goal.lines-init
 lines-init g c = record {
   told = handed_first (g.K.Sink.taken c.args.sink.now) c.new-piece.result.items (left_text c.args.contexts.now) (left_text c.args.contexts.now) c.new-piece.ensures.items refl;
-  later = omega arith;
+  quiet = EndsAtFault-none (g.K.Sink.calls c.args.sink.now) (λ no. no);
 }
 
-pub returns-in_err-write_next-clause-cause : goal.returns-in_err-write_next-clause-cause
-returns-in_err-write_next-clause-cause g c =
+pub returns-in_err-write_next-clause-writes : goal.returns-in_err-write_next-clause-writes
+returns-in_err-write_next-clause-writes g c =
     let p = err_from_is_err_and c.from_residual.result c.from_residual.ensures.1 in
-    rw (p.1, p.2) (λ e.
-    let same : c.in_err-write_next.field-0.0 ≡ WriteFault = cc e in
-    Rose-before c.lines.invariant.later (c.in_err-write_next.ensures.cause (ap (λ x. Err x) same)))
+    rw (p.1, p.2) (EndsAtFault-then (λ no. no) c.lines.invariant.quiet (EndsAtFault-passed c.in_err-write_next.ensures.writes))
 
 pub returns-in_err-write_next-clause-part : goal.returns-in_err-write_next-clause-part
 returns-in_err-write_next-clause-part g c =
@@ -34,12 +31,19 @@ lines-preserved g c =
     record {
       told = handed_next (taken c.args.sink.now) (taken c.lines.sink) (left_text c.args.contexts.now) (c.lines.piece.items ++ left_text c.lines.contexts) c.lines.invariant.told
           (taken c.write_next.new.sink) (c.write_next.new.piece.items ++ left_text c.write_next.new.contexts) (c.in_ok-write_next.ensures.on (ap (λ b. Ok b) c.if-branch.true));
-      later = omega (arith, c.lines.invariant.later, c.in_ok-write_next.ensures.later);
+      quiet = EndsAtFault-then (λ no. no) c.lines.invariant.quiet (EndsAtFault-not (λ e. cc e) (λ no. no) c.in_ok-write_next.ensures.writes);
     }
 
-pub returns-in_err-write_all-clause-cause : goal.returns-in_err-write_all-clause-cause
-returns-in_err-write_all-clause-cause g c e =
-    Rose-before c.lines.invariant.later (Rose-before c.in_ok-write_next.ensures.later c.in_err-write_all.ensures.cause.failed)
+pub returns-in_err-write_all-clause-writes : goal.returns-in_err-write_all-clause-writes
+returns-in_err-write_all-clause-writes g c =
+    let p = err_from_is_err_and c.from_residual-in_err-write_all.result c.from_residual-in_err-write_all.ensures.1 in
+    rw (p.1, p.2) (EndsAtFault-then (λ no. no) c.lines.invariant.quiet
+    (EndsAtFault-then (λ e. cc e) c.in_ok-write_next.ensures.writes (EndsAtFault-as (λ e. refl) (λ e. refl) c.in_err-write_all.ensures.writes)))
+
+pub returns-clause-writes : goal.returns-clause-writes
+returns-clause-writes g c =
+    EndsAtFault-then (λ no. no) c.lines.invariant.quiet
+    (EndsAtFault-then (λ e. cc e) c.in_ok-write_next.ensures.writes (EndsAtFault-not (λ e. cc e) (λ e. cc e) c.in_ok-write_all.ensures.writes))
 
 pub returns-in_err-write_all-clause-part : goal.returns-in_err-write_all-clause-part
 returns-in_err-write_all-clause-part g c =

@@ -1,4 +1,4 @@
-use Rattle.std.proofs.Common.{◌≡◌, Err, ap, refl}
+use Rattle.std.proofs.Common.{◌≡◌, refl}
 use Rattle.std.proofs.lemmas.Result.{err_from_is_err_and}
 use Rattle.text_io.specs.Ends.{Ends}
 use Rattle.text_io.specs.declared.input.TheConstants.{INPUT_LIMIT}
@@ -7,15 +7,16 @@ use Rattle.damon_journal.specs.Replay.{replay}
 use Rattle.damon_app.specs.declared.request.Request.TheVariants.{Heat}
 use Rattle.damon_app.specs.Heating.{heat_text}
 use Rattle.damon_app.proofs.Answering.{left_alone, not_written, written}
+use Rattle.damon_app.proofs.Counting.{EndsAtFault-error, EndsAtFault-not}
 use Rattle.damon_app.proofs.heat.show_heat.Goals as goal
 
 pub returns-in_err-replayer : goal.returns-in_err-replayer
 returns-in_err-replayer g c =
     let p = err_from_is_err_and c.from_residual.result c.from_residual.ensures.1 in
-    let sink : Ends = record { bytes = g.K.Sink.taken c.args.sink.now; faults = g.K.Sink.faults c.args.sink.now } in
+    let sink : Ends = record { bytes = g.K.Sink.taken c.args.sink.now; calls = g.K.Sink.calls c.args.sink.now } in
     rw (p.1, p.2) (left_alone INPUT_LIMIT (Heat c.args.columns)
-    (record { bytes = g.S.Source.left c.args.source.now; faults = g.S.Source.faults c.args.source.now })
-    (record { bytes = g.S.Source.left c.take_run.new.source; faults = g.S.Source.faults c.take_run.new.source })
+    (record { bytes = g.S.Source.left c.args.source.now; calls = g.S.Source.calls c.args.source.now })
+    (record { bytes = g.S.Source.left c.take_run.new.source; calls = g.S.Source.calls c.take_run.new.source })
     sink (c.args.sink.now ≡ c.args.sink.now) c.in_err-replayer.field-0.0 refl (c.in_err-replayer.ensures.refused c.args.columns sink))
 
 pub returns-in_err-write_tables_in : goal.returns-in_err-write_tables_in
@@ -26,12 +27,12 @@ returns-in_err-write_tables_in g c =
     let states = aggregated run.said.live run.said.journal in
     let last = (replay run.said.live run.said.journal).state in
     rw (p.1, p.2) (not_written INPUT_LIMIT (Heat c.args.columns)
-    (record { bytes = g.S.Source.left c.args.source.now; faults = g.S.Source.faults c.args.source.now })
-    (record { bytes = g.S.Source.left c.take_run.new.source; faults = g.S.Source.faults c.take_run.new.source })
-    (record { bytes = g.K.Sink.taken c.args.sink.now; faults = g.K.Sink.faults c.args.sink.now })
-    (record { bytes = g.K.Sink.taken c.write_tables_in.new.sink; faults = g.K.Sink.faults c.write_tables_in.new.sink })
+    (record { bytes = g.S.Source.left c.args.source.now; calls = g.S.Source.calls c.args.source.now })
+    (record { bytes = g.S.Source.left c.take_run.new.source; calls = g.S.Source.calls c.take_run.new.source })
+    (record { bytes = g.K.Sink.taken c.args.sink.now; calls = g.K.Sink.calls c.args.sink.now })
+    (record { bytes = g.K.Sink.taken c.write_tables_in.new.sink; calls = g.K.Sink.calls c.write_tables_in.new.sink })
     (c.write_tables_in.new.sink ≡ c.args.sink.now) (heat_text c.args.columns run.said) (run.taken c.args.columns) c.in_err-write_tables_in.field-0.0
-    failed.answers (λ e. failed.cause (ap (λ x. Err x) e)) (failed.part states last run.leads))
+    failed.answers (EndsAtFault-error failed.writes) (failed.part states last run.leads))
 
 pub returns : goal.returns
 returns g c =
@@ -39,8 +40,8 @@ returns g c =
     let states = aggregated run.said.live run.said.journal in
     let last = (replay run.said.live run.said.journal).state in
     written INPUT_LIMIT (Heat c.args.columns)
-    (record { bytes = g.S.Source.left c.args.source.now; faults = g.S.Source.faults c.args.source.now })
-    (record { bytes = g.S.Source.left c.take_run.new.source; faults = g.S.Source.faults c.take_run.new.source })
-    (record { bytes = g.K.Sink.taken c.args.sink.now; faults = g.K.Sink.faults c.args.sink.now })
-    (record { bytes = g.K.Sink.taken c.write_tables_in.new.sink; faults = g.K.Sink.faults c.write_tables_in.new.sink })
-    (c.write_tables_in.new.sink ≡ c.args.sink.now) (heat_text c.args.columns run.said) (run.taken c.args.columns) (c.in_ok-write_tables_in.ensures.all states last run.leads)
+    (record { bytes = g.S.Source.left c.args.source.now; calls = g.S.Source.calls c.args.source.now })
+    (record { bytes = g.S.Source.left c.take_run.new.source; calls = g.S.Source.calls c.take_run.new.source })
+    (record { bytes = g.K.Sink.taken c.args.sink.now; calls = g.K.Sink.calls c.args.sink.now })
+    (record { bytes = g.K.Sink.taken c.write_tables_in.new.sink; calls = g.K.Sink.calls c.write_tables_in.new.sink })
+    (c.write_tables_in.new.sink ≡ c.args.sink.now) (heat_text c.args.columns run.said) (run.taken c.args.columns) (EndsAtFault-not (λ e. cc e) (λ no. no) c.in_ok-write_tables_in.ensures.writes) (c.in_ok-write_tables_in.ensures.all states last run.leads)

@@ -6,6 +6,7 @@ use Rattle.damon_app.specs.declared.request.Request.TheVariants.{Heat}
 use Rattle.damon_app.specs.Heating.{IsRun}
 use Rattle.damon_app.specs.StatusOf.{status_of_journal}
 use Rattle.damon_app.proofs.Answering.{not_read, not_verified}
+use Rattle.damon_app.proofs.Counting.{EndsAtFault-error, EndsAtFault-none, EndsAtFault-not}
 use Rattle.damon_app.proofs.heat.take_run.Goals as goal
 
 pub returns-in_err-bytes-clause-refused : goal.returns-in_err-bytes-clause-refused
@@ -13,19 +14,19 @@ returns-in_err-bytes-clause-refused g c =
     let p = err_from_is_err_and c.from_residual.result c.from_residual.ensures.1 in
     let failed = c.in_err-bytes.ensures in
     rw (p.1, p.2) (λ columns sink. not_read INPUT_LIMIT (Heat columns)
-    (record { bytes = g.S.Source.left c.args.source.now; faults = g.S.Source.faults c.args.source.now })
-    (record { bytes = g.S.Source.left c.read_all.new.source; faults = g.S.Source.faults c.read_all.new.source })
+    (record { bytes = g.S.Source.left c.args.source.now; calls = g.S.Source.calls c.args.source.now })
+    (record { bytes = g.S.Source.left c.read_all.new.source; calls = g.S.Source.calls c.read_all.new.source })
     sink sink (Unit {0}) c.in_err-bytes.field-0.0 tt
-    (λ e. failed.too_long (ap (λ x. Err x) e)) (λ e. failed.within (ap (λ x. Err x) e)) (λ e. failed.cause (ap (λ x. Err x) e)))
+    (λ e. failed.too_long (ap (λ x. Err x) e)) (λ e. failed.within (ap (λ x. Err x) e)) (EndsAtFault-error failed.reads) failed.calls (EndsAtFault-none sink.calls (λ no. no)))
 
 pub returns-in_err-replayer-clause-refused : goal.returns-in_err-replayer-clause-refused
 returns-in_err-replayer-clause-refused g c =
     let p = err_from_is_err_and c.from_residual-in_err-replayer.result c.from_residual-in_err-replayer.ensures.1 in
     let read = c.in_ok-bytes.ensures in
     rw (p.1, p.2) (λ columns sink. not_verified INPUT_LIMIT (Heat columns)
-    (record { bytes = g.S.Source.left c.args.source.now; faults = g.S.Source.faults c.args.source.now })
-    (record { bytes = g.S.Source.left c.read_all.new.source; faults = g.S.Source.faults c.read_all.new.source })
-    sink sink (Unit {0}) c.in_ok-bytes.bytes.items read.all read.end read.limit c.in_err-replayer.field-0.0 tt
+    (record { bytes = g.S.Source.left c.args.source.now; calls = g.S.Source.calls c.args.source.now })
+    (record { bytes = g.S.Source.left c.read_all.new.source; calls = g.S.Source.calls c.read_all.new.source })
+    sink sink (Unit {0}) c.in_ok-bytes.bytes.items read.all read.end read.limit c.in_err-replayer.field-0.0 (EndsAtFault-not (λ e. cc e) (λ no. no) read.reads, read.calls) (EndsAtFault-none sink.calls (λ no. no)) tt
     (λ n e. ap status_of_journal (subst (λ bs. read_journal bs ≡ Err n) c.deref.ensures.value (rw e at c.in_err-replayer.ensures.line))))
 
 pub returns-clause-taken : goal.returns-clause-taken
@@ -42,5 +43,7 @@ returns-clause-taken g c =
         few = read.limit;
         wanted = (run.said, subst (λ bs. IsRun bs run.said) c.deref.ensures.value (record { read = run.read; lawful = run.lawful; woven = run.woven }), refl);
         status = ap (λ bs. status_of_journal (read_journal bs)) (sym c.deref.ensures.value) ∙ ap status_of_journal run.read;
+        reads = EndsAtFault-not (λ e. cc e) (λ no. no) read.reads;
+        calls = read.calls;
       };
     }

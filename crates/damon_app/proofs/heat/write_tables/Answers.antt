@@ -1,25 +1,23 @@
-use Rattle.std.proofs.Common.{◌≡◌, Ok, Err, ap, subst, arith}
+use Rattle.std.proofs.Common.{Ok, refl, ap, subst}
 use Rattle.std.specs.Io.KnownBytes.{Appends}
 use Rattle.std.proofs.lemmas.Result.{err_from_is_err_and}
-use Rattle.damon_journal.specs.declared.status.Status.TheVariants.{WriteFault}
 use Rattle.text_io.specs.Taken.{WritesPart}
 use Rattle.damon_app.specs.Heating.{tables_text}
 use Rattle.damon_app.proofs.Known.{WritesPart-whole}
-use Rattle.damon_app.proofs.Heating.{Rose-before, written_first, told_kept, told_last, written_next, told_part, told_same, told_whole}
+use Rattle.damon_app.proofs.Heating.{written_first, told_kept, told_last, written_next, told_part, told_same, told_whole}
+use Rattle.damon_app.proofs.Counting.{EndsAtFault-as, EndsAtFault-none, EndsAtFault-not, EndsAtFault-passed, EndsAtFault-then, no_fault_of_memory}
 use Rattle.damon_app.proofs.heat.write_tables.Goals as goal
 
 pub reports-init : goal.reports-init
 reports-init g c = record {
   told = λ states last leads. written_first g.row.N states last c.args.replayer.now c.new-sizes.result c.new-piece.result.items (g.K.Sink.taken c.args.sink.now) c.new-sizes.ensures c.new-piece.ensures.items leads;
-  later = omega arith;
+  quiet = EndsAtFault-none (g.K.Sink.calls c.args.sink.now) (λ no. no);
 }
 
-pub returns-in_err-write_next-clause-cause : goal.returns-in_err-write_next-clause-cause
-returns-in_err-write_next-clause-cause g c =
+pub returns-in_err-write_next-clause-writes : goal.returns-in_err-write_next-clause-writes
+returns-in_err-write_next-clause-writes g c =
     let p = err_from_is_err_and c.from_residual.result c.from_residual.ensures.1 in
-    rw (p.1, p.2) (λ e.
-    let same : c.in_err-write_next.field-0.0 ≡ WriteFault = cc e in
-    Rose-before c.reports.invariant.later (c.in_err-write_next.ensures.cause (ap (λ x. Err x) same)))
+    rw (p.1, p.2) (EndsAtFault-then (λ no. no) c.reports.invariant.quiet (EndsAtFault-passed c.in_err-write_next.ensures.writes))
 
 pub returns-in_err-write_next-clause-part : goal.returns-in_err-write_next-clause-part
 returns-in_err-write_next-clause-part g c states last leads =
@@ -35,7 +33,7 @@ reports-preserved g c =
       told = λ states last leads. written_next g.row.N states last c.reports.replayer c.reports.sizes c.reports.piece.items (taken c.args.sink.now) (taken c.reports.sink)
           (c.reports.invariant.told states last leads) c.write_next.new.replayer c.write_next.new.sizes c.write_next.new.piece.items (taken c.write_next.new.sink)
           (c.in_ok-write_next.ensures.on (ap (λ b. Ok b) c.if-branch.true));
-      later = omega (arith, c.reports.invariant.later, c.in_ok-write_next.ensures.later);
+      quiet = EndsAtFault-then (λ no. no) c.reports.invariant.quiet (EndsAtFault-not (λ e. cc e) (λ no. no) c.in_ok-write_next.ensures.writes);
     }
 
 pub returns-in_err-write_last-clause-part : goal.returns-in_err-write_last-clause-part
@@ -47,9 +45,21 @@ returns-in_err-write_last-clause-part g c states last leads =
     same.0 same.1 (ap taken same.2) in
     told_kept g.row.N states last c.reports.replayer c.write_next.new.sizes c.write_next.new.piece.items (taken c.args.sink.now) (taken c.write_next.new.sink) told
 
-pub returns-in_err-write_all-clause-cause : goal.returns-in_err-write_all-clause-cause
-returns-in_err-write_all-clause-cause g c e =
-    Rose-before c.reports.invariant.later (Rose-before c.in_ok-write_next.ensures.later c.in_err-write_all.ensures.cause.failed)
+pub returns-in_err-write_last-clause-writes : goal.returns-in_err-write_last-clause-writes
+returns-in_err-write_last-clause-writes g c =
+    let p = err_from_is_err_and c.from_residual-in_err-write_last.result c.from_residual-in_err-write_last.ensures.1 in
+    rw (p.1, p.2) (EndsAtFault-then (λ no. no) c.reports.invariant.quiet (EndsAtFault-not (λ e. cc e) no_fault_of_memory c.in_ok-write_next.ensures.writes))
+
+pub returns-in_err-write_all-clause-writes : goal.returns-in_err-write_all-clause-writes
+returns-in_err-write_all-clause-writes g c =
+    let p = err_from_is_err_and c.from_residual-in_err-write_all.result c.from_residual-in_err-write_all.ensures.1 in
+    rw (p.1, p.2) (EndsAtFault-then (λ no. no) c.reports.invariant.quiet
+    (EndsAtFault-then (λ e. cc e) c.in_ok-write_next.ensures.writes (EndsAtFault-as (λ e. refl) (λ e. refl) c.in_err-write_all.ensures.writes)))
+
+pub returns-clause-writes : goal.returns-clause-writes
+returns-clause-writes g c =
+    EndsAtFault-then (λ no. no) c.reports.invariant.quiet
+    (EndsAtFault-then (λ e. cc e) c.in_ok-write_next.ensures.writes (EndsAtFault-not (λ e. cc e) (λ e. cc e) c.in_ok-write_all.ensures.writes))
 
 pub returns-in_err-write_all-clause-part : goal.returns-in_err-write_all-clause-part
 returns-in_err-write_all-clause-part g c states last leads =

@@ -1,6 +1,7 @@
-use Rattle.std.proofs.Common.{◌≤◌, List}
+use Rattle.std.proofs.Common.{List}
 use Rattle.damon_core.specs.State.{State}
 use Rattle.damon_journal.specs.Replayer.{Leads}
+use Rattle.damon_types.specs.Calls.{EndsAtFault}
 use Rattle.damon_app.proofs.Heating.{AreWritten}
 use Rattle.damon_app.proofs.heat.write_tables.Given as goal
 
@@ -8,7 +9,7 @@ use Rattle.damon_app.proofs.heat.write_tables.Given as goal
 abbrev pub invariant-reports : goal.invariant-reports
 invariant-reports g l = record {
   told : (states : List State) (last : State) → Leads states last l.fn.replayer → AreWritten g.row.N states last l.replayer l.sizes l.piece.items (g.K.Sink.taken l.fn.sink) (g.K.Sink.taken l.sink);
-  later : g.K.Sink.faults l.fn.sink ≤ g.K.Sink.faults l.sink;
+  quiet : EndsAtFault ⊥ (g.K.Sink.calls l.fn.sink) (g.K.Sink.calls l.sink);
 }
 
 abbrev pub decreases-reports : goal.decreases-reports

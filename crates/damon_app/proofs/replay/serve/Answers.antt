@@ -11,7 +11,7 @@ use Rattle.damon_app.proofs.replay.serve.Goals as goal
 pub returns-in-Ok-None : goal.returns-in-Ok-None
 returns-in-Ok-None g c =
     let none : asked c.args.words.now ≡ None = sym c.in-Ok-None.ensures ∙ c.in-Ok-None.field-0-is in
-    let source : Ends = record { bytes = g.S.Source.left c.args.source.now; faults = g.S.Source.faults c.args.source.now } in
-    let sink : Ends = record { bytes = g.K.Sink.taken c.args.sink.now; faults = g.K.Sink.faults c.args.sink.now } in
+    let source : Ends = record { bytes = g.S.Source.left c.args.source.now; calls = g.S.Source.calls c.args.source.now } in
+    let sink : Ends = record { bytes = g.K.Sink.taken c.args.sink.now; calls = g.K.Sink.calls c.args.sink.now } in
     subst (λ (request : Option Request). IsAnswer INPUT_LIMIT request source source sink sink (c.args.source.now ≡ c.args.source.now) (c.args.sink.now ≡ c.args.sink.now) Usage)
     (sym none) (not_asked INPUT_LIMIT source sink (c.args.source.now ≡ c.args.source.now) (c.args.sink.now ≡ c.args.sink.now) refl refl)

@@ -1,4 +1,4 @@
-use Rattle.std.proofs.Common.{◌++◌, [], List, Ok, ℕ, length, ap, subst, arith}
+use Rattle.std.proofs.Common.{◌++◌, [], List, Ok, ℕ, length, refl, ap, subst, arith}
 use Rattle.std.specs.Io.KnownBytes.{Appends}
 use Rattle.std.proofs.KnownBytes.{Appends-nil, Appends-trans}
 use Rattle.std.proofs.lemmas.Result.{err_from_is_err_and}
@@ -8,6 +8,7 @@ use Rattle.damon_control.specs.ScriptView.{said_by}
 use Rattle.text_io.specs.Taken.{WritesPart}
 use Rattle.damon_app.proofs.Known.{WritesPart-after, WritesPart-whole}
 use Rattle.damon_app.proofs.Playing.{way-ended, way-filled, way-part}
+use Rattle.damon_app.proofs.Counting.{EndsAtFault-as, EndsAtFault-none, EndsAtFault-not, EndsAtFault-then, no_fault_of_memory}
 use Rattle.damon_app.proofs.run.write_played.Goals as goal
 
 pub returns-in_err-fill-clause-part : goal.returns-in_err-fill-clause-part
@@ -41,7 +42,7 @@ pieces-preserved g c =
             (subst (Appends (taken c.pieces.sink) (taken c.write_all.new.sink)) c.deref.ensures.value c.in_ok-write_all-in-Piece.ensures.all),
       );
       empty = c.clear.ensures.items;
-      later = omega (arith, c.pieces.invariant.later, c.in_ok-write_all-in-Piece.ensures.cause.later);
+      quiet = EndsAtFault-then (λ no. no) c.pieces.invariant.quiet (EndsAtFault-not (λ e. cc e) (λ no. no) c.in_ok-write_all-in-Piece.ensures.writes);
     }
 
 pub returns-in_err-finish-in-End-clause-part : goal.returns-in_err-finish-in-End-clause-part
@@ -96,10 +97,41 @@ pub pieces-init : goal.pieces-init
 pieces-init g c = record {
   said = ([], c.in_ok-player.ensures, Appends-nil (g.K.Sink.taken c.args.sink.now));
   empty = c.new-piece.ensures.items;
-  later = omega arith;
+  quiet = EndsAtFault-none (g.K.Sink.calls c.args.sink.now) (λ no. no);
 }
 
 pub pieces-smaller : goal.pieces-smaller
 pieces-smaller g c =
     let empty = ap (λ (xs : List ℕ). length xs) c.pieces.invariant.empty in
     c.in_ok-fill.ensures.less (ap (λ f. Ok f) c.in-Piece.is) (omega (arith, empty, c.pieces.piece.ok))
+
+-- ---- how often the sink was written to
+
+pub returns-in_err-player-clause-writes : goal.returns-in_err-player-clause-writes
+returns-in_err-player-clause-writes g c =
+    let p = err_from_is_err_and c.from_residual.result c.from_residual.ensures.1 in
+    rw (p.1, p.2) (EndsAtFault-none (g.K.Sink.calls c.args.sink.now) no_fault_of_memory)
+
+pub returns-in_err-fill-clause-writes : goal.returns-in_err-fill-clause-writes
+returns-in_err-fill-clause-writes g c =
+    let p = err_from_is_err_and c.from_residual-in_err-fill.result c.from_residual-in_err-fill.ensures.1 in
+    rw (p.1, p.2) (EndsAtFault-not (λ no. no) no_fault_of_memory c.pieces.invariant.quiet)
+
+pub returns-in_err-finish-in-End-clause-writes : goal.returns-in_err-finish-in-End-clause-writes
+returns-in_err-finish-in-End-clause-writes g c =
+    let p = err_from_is_err_and c.from_residual-in_err-finish-in-End.result c.from_residual-in_err-finish-in-End.ensures.1 in
+    rw (p.1, p.2) (EndsAtFault-not (λ no. no) no_fault_of_memory c.pieces.invariant.quiet)
+
+pub returns-in_err-write_all-in-Piece-clause-writes : goal.returns-in_err-write_all-in-Piece-clause-writes
+returns-in_err-write_all-in-Piece-clause-writes g c =
+    let p = err_from_is_err_and c.from_residual-in_err-write_all-in-Piece.result c.from_residual-in_err-write_all-in-Piece.ensures.1 in
+    rw (p.1, p.2) (EndsAtFault-then (λ no. no) c.pieces.invariant.quiet (EndsAtFault-as (λ e. refl) (λ e. refl) c.in_err-write_all-in-Piece.ensures.writes))
+
+pub returns-in_err-write_all-in-End-clause-writes : goal.returns-in_err-write_all-in-End-clause-writes
+returns-in_err-write_all-in-End-clause-writes g c =
+    let p = err_from_is_err_and c.from_residual-in_err-write_all-in-End.result c.from_residual-in_err-write_all-in-End.ensures.1 in
+    rw (p.1, p.2) (EndsAtFault-then (λ no. no) c.pieces.invariant.quiet (EndsAtFault-as (λ e. refl) (λ e. refl) c.in_err-write_all-in-End.ensures.writes))
+
+pub returns-in-End-clause-writes : goal.returns-in-End-clause-writes
+returns-in-End-clause-writes g c =
+    EndsAtFault-then (λ no. no) c.pieces.invariant.quiet (EndsAtFault-not (λ e. cc e) (λ e. cc e) c.in_ok-write_all-in-End.ensures.writes)
