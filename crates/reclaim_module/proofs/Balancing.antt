@@ -22,7 +22,8 @@ use Rattle.damon_core.specs.State.{State}
 use Rattle.reclaim_module.specs.Calls.{after_action}
 use Rattle.reclaim_module.specs.Counts.{pageouts_of, prefetches_of, refaults_of}
 use Rattle.reclaim_module.specs.Out.{is_in, is_out, is_paged_out, is_pageout, is_prefetched, is_touch_of, is_willneed, holds_pageout, holds_willneed}
-use Rattle.reclaim_module.specs.Pages.{ReclaimView, count_pages, in_run, is_out_in}
+use Rattle.page_bits.specs.Runs.{count_pages, in_run}
+use Rattle.reclaim_module.specs.Pages.{ReclaimView, is_out_in}
 use Rattle.reclaim_module.specs.Stands.{TouchesWithin, action_in, after_applied}
 use Rattle.reclaim_module.proofs.Counting.{count_adds, count_all, count_evens, count_none, count_run_le}
 use Rattle.reclaim_module.proofs.Moving.{count_le, one_counts, one_page}

@@ -21,7 +21,8 @@ use Rattle.damon_core.specs.Slots.{charged_of, cost_of, is_active_in, scheme_of,
 use Rattle.damon_core.specs.State.{State}
 use Rattle.reclaim_module.specs.Counts.{pageouts_of}
 use Rattle.reclaim_module.specs.Out.{holds_pageout, holds_willneed, is_in, is_out}
-use Rattle.reclaim_module.specs.Pages.{ReclaimView, count_pages, out_count}
+use Rattle.page_bits.specs.Runs.{count_pages}
+use Rattle.reclaim_module.specs.Pages.{ReclaimView, out_count}
 use Rattle.reclaim_module.specs.SlotBySlot.{PagesOutResident, PagesOutSlotBySlot, SlotsPageOut}
 use Rattle.reclaim_module.specs.Stands.{ReclaimStands}
 use Rattle.reclaim_module.proofs.Balancing.{one_held, sixteen}

@@ -5,7 +5,8 @@ use Rattle.std.specs.List.{range_with_len}
 use Rattle.std.proofs.lemmas.Bool.Decides.{nat_tests}
 use Rattle.std.proofs.lemmas.List.Sums.{sum_by_push}
 use Rattle.std.proofs.lemmas.List.FromFn.{get_or-map-range_with_len, length-map-range_with_len}
-use Rattle.reclaim_module.specs.Pages.{count_pages, each_page, in_run, is_out_in}
+use Rattle.page_bits.specs.Runs.{count_pages, in_run}
+use Rattle.reclaim_module.specs.Pages.{each_page, is_out_in}
 
 range_more : (a n : ℕ) → range_with_len a (suc n) ≡ range_with_len a n ++ (a + n) ∷ []
 range_more a zero = ap (λ x. x ∷ []) (omega arith)
@@ -33,22 +34,6 @@ count_none (suc n) f each =
     count_more n f
     ∙ ap (λ b. count_pages n f + cond b 1 0) (each n (omega arith))
     ∙ ap (λ k. k + 0) (count_none n f (λ p below. each p (omega arith)))
-
-pub count_split : (m k : ℕ) (f : ℕ → Bool) → count_pages (m + k) f ≡ count_pages m f + count_pages k (λ i. f (m + i))
-count_split m zero f =
-    let same : m + 0 ≡ m = omega arith in
-    ap (λ n. count_pages n f) same ∙ omega arith
-count_split m (suc k) f =
-    let first : m + suc k ≡ suc (m + k) = omega arith in
-    let more = count_more k (λ i. f (m + i)) in
-    ap (λ n. count_pages n f) first ∙ count_more (m + k) f
-    ∙ omega (arith, count_split m k f, more)
-
-pub count_beyond : (m n : ℕ) (f : ℕ → Bool) → m ≤ n → ((p : ℕ) → m ≤ p → f p ≡ false) → count_pages n f ≡ count_pages m f
-count_beyond m n f le beyond =
-    let whole : n ≡ m + (n - m) = omega arith in
-    let rest = count_none (n - m) (λ i. f (m + i)) (λ p below. beyond (m + p) (omega arith)) in
-    ap (λ k. count_pages k f) whole ∙ omega (arith, count_split m (n - m) f, rest)
 
 -- counts of which each page adds up
 pub count_adds : (n : ℕ) (f g h : ℕ → Bool) → ((p : ℕ) → p < n → cond (f p) 1 0 + cond (g p) 1 0 ≡ cond (h p) 1 0) → count_pages n f + count_pages n g ≡ count_pages n h

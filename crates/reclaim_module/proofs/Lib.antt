@@ -1,6 +1,5 @@
 pub mod Counting
-pub mod Digits
-pub mod Masking
+pub mod Runs
 pub mod Moving
 pub mod Standing
 pub mod Serving

@@ -9,10 +9,12 @@ use Rattle.std.proofs.lemmas.List.FromFn.{fill_by_all}
 use Rattle.std.proofs.lemmas.Nat.Bits.{bit_at-zero}
 use Rattle.std.proofs.lemmas.List.Sums.{sum_by-cons, sum_by-set}
 use Rattle.reclaim_module.specs.Calls.{with_run}
-use Rattle.reclaim_module.specs.Kept.{bit_in, bits_in, differs, is_set}
-use Rattle.reclaim_module.specs.Pages.{count_pages, each_page, in_run, is_out_in, out_count}
+use Rattle.page_bits.specs.Bits.{bit_in, is_set}
+use Rattle.page_bits.specs.Runs.{count_pages, differs, in_run}
+use Rattle.reclaim_module.specs.Kept.{bits_in}
+use Rattle.reclaim_module.specs.Pages.{each_page, is_out_in, out_count}
 use Rattle.reclaim_module.proofs.Counting.{at_page, count_adds, count_more, count_none, count_same, length_pages}
-use Rattle.reclaim_module.proofs.Masking.{before_run, behind_run}
+use Rattle.reclaim_module.proofs.Runs.{before_run, behind_run}
 
 -- a list by what it says of each page
 pub each_page_is : (f : ℕ → Bool) (xs : List Bool) (n : ℕ) → length xs ≡ n → ((p : ℕ) → p < n → is_out_in xs p ≡ f p) → xs ≡ each_page n f

@@ -15,7 +15,8 @@ use Rattle.damon_core.specs.Slots.{scheme_of}
 use Rattle.reclaim_module.specs.Calls.{after_action, after_touch, all_resident, paged_out, prefetched, with_run}
 use Rattle.reclaim_module.specs.Counts.{pageouts_of, prefetches_of, refaults_of}
 use Rattle.reclaim_module.specs.Out.{is_in, is_out, is_paged_out, is_pageout, is_prefetched, is_touch_of, is_willneed, holds_pageout, holds_willneed}
-use Rattle.reclaim_module.specs.Pages.{ReclaimView, each_page, in_run, is_out_in}
+use Rattle.page_bits.specs.Runs.{in_run}
+use Rattle.reclaim_module.specs.Pages.{ReclaimView, each_page, is_out_in}
 use Rattle.reclaim_module.specs.Stands.{MovesNothing, ReclaimStands, after_runs}
 use Rattle.reclaim_module.proofs.Counting.{at_page, count_adds, count_none, count_same}
 use Rattle.reclaim_module.proofs.Moving.{each_page_is, each_page_same, length_with_run}

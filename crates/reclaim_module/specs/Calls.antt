@@ -2,7 +2,8 @@
 use Rattle.std.specs.Prelude.{ℕ, ◌+◌, Bool, true, false, not, ◌&&◌, List, length, replicate, slice_set, if◌then◌else◌, cond}
 use Rattle.damon_types.specs.declared.scheme.Action.{Action}
 use Rattle.damon_types.specs.declared.scheme.Action.TheVariants.{Pageout, Willneed}
-use Rattle.reclaim_module.specs.Pages.{ReclaimView, count_pages, each_page, in_run, is_out_in}
+use Rattle.page_bits.specs.Runs.{count_pages, in_run}
+use Rattle.reclaim_module.specs.Pages.{ReclaimView, each_page, is_out_in}
 
 -- all pages of a space are resident, and nothing was counted
 abbrev pub all_resident : ℕ → ReclaimView

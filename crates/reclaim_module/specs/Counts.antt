@@ -2,7 +2,7 @@
 use Rattle.std.specs.Prelude.{ℕ, ◌+◌, not, ◌&&◌, List, [], ◌∷◌, cond}
 use Rattle.damon_core.specs.Note.{Note, touched}
 use Rattle.reclaim_module.specs.Out.{is_out, is_paged_out, is_prefetched}
-use Rattle.reclaim_module.specs.Pages.{count_pages}
+use Rattle.page_bits.specs.Runs.{count_pages}
 
 -- over all runs of `pageout` schemes: the pages of the space in their runs that were not out just before
 abbrev pub pageouts_of : ℕ → List Note → ℕ

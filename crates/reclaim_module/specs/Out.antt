@@ -8,7 +8,7 @@ use Rattle.damon_types.specs.declared.scheme.Scheme.{Scheme}
 use Rattle.scheme_engine.specs.declared.applied.AppliedRun.{AppliedRun}
 use Rattle.damon_core.specs.Note.{Note, touched, ran}
 use Rattle.damon_core.specs.Slots.{scheme_of}
-use Rattle.reclaim_module.specs.Pages.{in_run}
+use Rattle.page_bits.specs.Runs.{in_run}
 
 -- whether an action pages out
 abbrev pub is_pageout : Action → Bool

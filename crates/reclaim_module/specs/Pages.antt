@@ -1,5 +1,5 @@
--- Sets of pages of a space, and runs of pages.
-use Rattle.std.specs.Prelude.{ℕ, ◌+◌, Bool, false, ◌&&◌, nat_le, nat_lt, List, map, count_by, slice_index_or}
+-- Sets of pages of a space.
+use Rattle.std.specs.Prelude.{ℕ, Bool, false, List, map, count_by, slice_index_or}
 use Rattle.std.specs.List.{range_with_len}
 use Rattle.reclaim_module.specs.declared.reclaim.Counts.{Counts}
 
@@ -19,11 +19,3 @@ out_count out = count_by (λ is_out. is_out) out
 -- for each page of a space of this many pages, whether the test holds
 abbrev pub each_page : ℕ → (ℕ → Bool) → List Bool
 each_page pages test = map test (range_with_len 0 pages)
-
--- for how many pages of the space the test holds
-abbrev pub count_pages : ℕ → (ℕ → Bool) → ℕ
-count_pages pages test = count_by test (range_with_len 0 pages)
-
--- whether a run of `pages` pages from `start` on has this page
-abbrev pub in_run : ℕ → ℕ → ℕ → Bool
-in_run start pages page = nat_le start page && nat_lt page (start + pages)

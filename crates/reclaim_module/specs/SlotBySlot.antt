@@ -10,7 +10,7 @@ use Rattle.damon_core.specs.Slots.{scheme_of, slot_count}
 use Rattle.damon_core.specs.State.{State}
 use Rattle.reclaim_module.specs.Counts.{pageouts_of}
 use Rattle.reclaim_module.specs.Out.{holds_pageout, is_in, is_out}
-use Rattle.reclaim_module.specs.Pages.{count_pages}
+use Rattle.page_bits.specs.Runs.{count_pages}
 
 -- Serving a slot that holds a `pageout` scheme pages out the pages of its runs, and counts those of them that were resident.
 -- Serving another slot pages out nothing: no page is out that was not, and none is counted.

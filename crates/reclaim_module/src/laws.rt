@@ -17,7 +17,8 @@ ghost use Rattle.damon_core.specs.State.{State, opening_notes};
 ghost use Rattle.reclaim_module.specs.Calls.{after_action, after_touch, all_resident, touched_run};
 ghost use Rattle.reclaim_module.specs.Counts.{pageouts_of, prefetches_of, refaults_of};
 ghost use Rattle.reclaim_module.specs.Out.{IsOutSinceLast, is_out};
-ghost use Rattle.reclaim_module.specs.Pages.{ReclaimView, count_pages, out_count};
+ghost use Rattle.page_bits.specs.Runs.{count_pages};
+ghost use Rattle.reclaim_module.specs.Pages.{ReclaimView, out_count};
 ghost use Rattle.reclaim_module.specs.SlotBySlot.{PagesOutSlotBySlot};
 ghost use Rattle.reclaim_module.specs.Stands.{LeavesPages, MovesNothing, ReclaimStands, TouchesWithin, action_in, after_applied, after_event, after_events, after_runs};
 

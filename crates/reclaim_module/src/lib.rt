@@ -8,8 +8,6 @@ mod laws;
 mod page_set;
 /// The pages that are out, and what is counted.
 mod reclaim;
-/// One bit for each page, in words.
-mod words;
 
 pub use laws::{
     aggregations_keep_schemes, applied_runs_follow, few_pages_go_out, model_counts_pages,

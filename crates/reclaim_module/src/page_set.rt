@@ -1,9 +1,9 @@
 ghost use Rattle.std.specs.Prelude.{◌≡◌, ◌+◌, ◌^◌, ◌≤◌, ◌<◌, ◌&&◌, false, length, replicate, slice_set, IfOk};
 ghost use Rattle.reclaim_module.specs.Calls.{with_run};
-ghost use Rattle.reclaim_module.specs.Kept.{differs};
-ghost use Rattle.reclaim_module.specs.Pages.{count_pages, in_run, is_out_in, out_count};
+ghost use Rattle.page_bits.specs.Runs.{count_pages, differs, in_run};
+ghost use Rattle.reclaim_module.specs.Pages.{is_out_in, out_count};
 
-use crate::words::{WORD, is_page_set, put_bits_of_run};
+use page_bits::{WORD, is_bit_set, put_bits_of_run};
 use std::alloc::{AllocError, Global};
 use std::marker::Model;
 
@@ -48,7 +48,7 @@ impl PageSet {
         requires { page < length self.now }
         ensures { result ≡ is_out_in self.now page }
     {
-        is_page_set(&self.words, page)
+        is_bit_set(&self.words, page)
     }
 
     /// Takes a page out of the set, and returns whether it was in it.

@@ -11,7 +11,7 @@ use Rattle.script_run.specs.Callbacks.{FitAlways, FitByHit}
 use Rattle.script_run.specs.Choices.{EachRunChoosesBest}
 use Rattle.reclaim_module.specs.Counts.{pageouts_of, prefetches_of, refaults_of}
 use Rattle.reclaim_module.specs.Out.{IsOutSinceLast, is_out}
-use Rattle.reclaim_module.specs.Pages.{count_pages}
+use Rattle.page_bits.specs.Runs.{count_pages}
 use Rattle.reclaim_module.specs.SlotBySlot.{PagesOutSlotBySlot}
 use Rattle.reclaim_module.specs.Stands.{TouchesWithin}
 use Rattle.reclaim_run.specs.Along.{EachReclaimedRun, IsAccounted}

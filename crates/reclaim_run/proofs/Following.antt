@@ -14,7 +14,8 @@ use Rattle.script_run.specs.Callbacks.{IsStep}
 use Rattle.reclaim_module.specs.Calls.{all_resident}
 use Rattle.reclaim_module.specs.Counts.{pageouts_of, prefetches_of, refaults_of}
 use Rattle.reclaim_module.specs.Out.{is_out}
-use Rattle.reclaim_module.specs.Pages.{ReclaimView, count_pages, out_count}
+use Rattle.page_bits.specs.Runs.{count_pages}
+use Rattle.reclaim_module.specs.Pages.{ReclaimView, out_count}
 use Rattle.reclaim_module.specs.Stands.{LeavesPages, ReclaimStands, after_event, after_events}
 use Rattle.reclaim_run.specs.Reclaimed.{Figures, figures_in, line_in, pages_in, reclaim_line}
 use Rattle.reclaim_run.specs.Stands.{Models, figures_of}

@@ -13,7 +13,7 @@ use Rattle.script_run.specs.Report.{report_with}
 use Rattle.reclaim_module.specs.declared.reclaim.Counts.{Counts}
 use Rattle.reclaim_module.specs.Counts.{pageouts_of, prefetches_of, refaults_of}
 use Rattle.reclaim_module.specs.Out.{is_out}
-use Rattle.reclaim_module.specs.Pages.{count_pages}
+use Rattle.page_bits.specs.Runs.{count_pages}
 
 -- The pages of a space that are resident, those that are out, and how many went out and came back.
 pub record Figures : Type 0 where

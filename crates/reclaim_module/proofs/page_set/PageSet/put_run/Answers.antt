@@ -3,8 +3,10 @@ use Rattle.std.specs.Prelude.{if◌then◌else◌}
 use Rattle.std.proofs.lemmas.List.{with_items_is}
 use Rattle.std.specs.Vec.{with_items}
 use Rattle.reclaim_module.specs.Calls.{with_run}
-use Rattle.reclaim_module.specs.Kept.{bit_in, bits_in, differs}
-use Rattle.reclaim_module.specs.Pages.{count_pages, in_run, is_out_in, out_count}
+use Rattle.page_bits.specs.Bits.{bit_in}
+use Rattle.page_bits.specs.Runs.{count_pages, differs, in_run}
+use Rattle.reclaim_module.specs.Kept.{bits_in}
+use Rattle.reclaim_module.specs.Pages.{is_out_in, out_count}
 use Rattle.reclaim_module.proofs.Counting.{length_pages}
 use Rattle.reclaim_module.proofs.Moving.{count_is, out_count_with_run_le, set_is}
 use Rattle.reclaim_module.proofs.page_set.PageSet.put_run.Goals as goal

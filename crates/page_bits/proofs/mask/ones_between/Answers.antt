@@ -1,5 +1,5 @@
-use Rattle.reclaim_module.proofs.Digits.{ones_between_is}
-use Rattle.reclaim_module.proofs.words.ones_between.Goals as goal
+use Rattle.page_bits.proofs.Ones.{ones_between_is}
+use Rattle.page_bits.proofs.mask.ones_between.Goals as goal
 
 pub returns : goal.returns
 returns c = λ i below. ones_between_is c.args.from c.args.to i c.requires.from c.requires.some c.requires.to below

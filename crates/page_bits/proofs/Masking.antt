@@ -3,9 +3,9 @@ use Rattle.std.proofs.Common.{◌≡◌, inl, inr, ℕ, ◌+◌, ◌-◌, ◌*�
 use Rattle.std.specs.Prelude.{◌&&◌, ◌||◌, nat_le, nat_lt, slice_index, if◌then◌else◌}
 use Rattle.std.proofs.lemmas.Bool.{cases_eq}
 use Rattle.std.proofs.lemmas.Bool.Decides.{nat_tests}
-use Rattle.reclaim_module.specs.Pages.{count_pages, in_run}
-use Rattle.reclaim_module.specs.Kept.{IsRunPut, bit_in, differs, is_set}
-use Rattle.reclaim_module.proofs.Counting.{count_adds, count_beyond, count_none, count_run_le, count_same, count_split}
+use Rattle.page_bits.specs.Runs.{count_pages, differs, in_run, IsRunPut}
+use Rattle.page_bits.specs.Bits.{bit_in, is_set}
+use Rattle.page_bits.proofs.Counting.{count_adds, count_beyond, count_none, count_run_le, count_same, count_split}
 
 -- the pages before a run and behind it
 pub before_run : (start pages p : ℕ) → p < start → in_run start pages p ≡ false

@@ -1,0 +1,6 @@
+pub mod Counting
+pub mod Ones
+pub mod One
+pub mod Digits
+pub mod Masking
+mod Examples

@@ -1,0 +1,16 @@
+//! One bit for each page of a space, 64 in each word.
+#![tactic(auto)]
+
+/// One page's bit: whether it is 1, and setting and clearing it.
+mod bit;
+/// The bits of a word that lie next to each other.
+mod mask;
+/// The bits of a run of pages.
+mod run;
+
+pub use bit::{clear_bit, is_bit_set, set_bit};
+pub use mask::ones_between;
+pub use run::put_bits_of_run;
+
+/// How many pages a word has.
+pub const WORD: u32 = 64;
