@@ -1,13 +1,13 @@
 -- Steps of one kind.
-use Rattle.std.proofs.Common.{◌≡◌, ℕ, zero, suc, ◌+◌, ◌*◌, ◌≤◌, ◌<◌, Bool, cond, List, [], ◌∷◌, ◌++◌, drop, length, refl, sym, ap, ◌∙◌, subst, arith}
-use Rattle.std.specs.Prelude.{slice_index}
-use Rattle.std.proofs.lemmas.List.{get_or-drop, length-drop, length-set, map-append, take_more}
+use Rattle.std.proofs.Common.{◌≡◌, ℕ, zero, suc, ◌+◌, ◌≤◌, ◌<◌, Bool, false, cond, List, [], ◌∷◌, ◌++◌, drop, length, refl, sym, ap, ◌∙◌, subst, arith}
+use Rattle.std.specs.Prelude.{◌==◌, slice_index, if◌then◌else◌}
+use Rattle.std.proofs.lemmas.List.{get_or-drop, length-drop, map-append, take_more}
 use Rattle.rand_core.specs.Stream.{Stream}
 use Rattle.damon_types.specs.Space.{pages_of}
 use Rattle.live_commit.specs.declared.phase.Phase.{Phase}
 use Rattle.live_commit.specs.declared.phase.Phase.TheVariants.{Idle, Clearing, Armed, Checking, Void, Due}
 use Rattle.sampler.specs.Loaded.{mark_of, next_picks}
-use Rattle.damon_core.specs.Note.{Note, cleared, hit, word_of}
+use Rattle.damon_core.specs.Note.{cleared, hit, is_touched, last_clear, word_of}
 use Rattle.damon_core.specs.State.{Core, State, row_count}
 use Rattle.damon_core.specs.Event.{Event, IsLoading, clear, load, load_index, load_page, next_hit}
 use Rattle.damon_core.specs.Several.{clears, loads}
@@ -16,13 +16,14 @@ use Rattle.damon_core.specs.Reached.{AllFit, Reached, run}
 use Rattle.damon_core.specs.Makes.{Makes, run-append}
 use Rattle.damon_core.specs.Pass.{IsInPass, cleared_so_far}
 use Rattle.damon_core.specs.Stands.{MonitorView, Stands}
-use Rattle.damon_world.specs.Words.{cleared_words}
 use Rattle.damon_world.specs.Moment.{Moment, drawn_by, event_in, events_of_steps, moved, next_event, stepped, stepped_times}
 use Rattle.sampler.specs.Draws.{drawn_rest}
 use Rattle.damon_world.specs.Stands.{StandsAt}
 use Rattle.damon_world.specs.Advance.{IsAmid}
 use Rattle.damon_world.specs.Kept.{IsAdvance}
-use Rattle.damon_world.proofs.Words.{set_words, word_of-cleared_same, word_of-cleared_other}
+use Rattle.damon_world.specs.Pages.{ArePagesOf, AreCleared, PagesView, is_picked}
+use Rattle.damon_world.proofs.Notes.{same_pages}
+use Rattle.damon_world.proofs.Parts.{put_more}
 use Rattle.damon_world.specs.Steps.{events_more, stepped_more}
 use Rattle.damon_world.proofs.Stepping.{event_in-load, not_last, word_of-by_load}
 
@@ -63,8 +64,8 @@ clear_core : (s : State) (k : ℕ) → s.core.phase ≡ Clearing k → (after s 
 clear_core s k is = ap (λ x. (by_clear x s).core) is
 
 -- the state after one clear more
-last_clear : (s : State) (n : ℕ) → run s (clears (suc n)) ≡ after (run s (clears n)) clear
-last_clear s n = ap (run s) (clears_more n) ∙ run-append s (clears n) (clear ∷ [])
+one_clear_more : (s : State) (n : ℕ) → run s (clears (suc n)) ≡ after (run s (clears n)) clear
+one_clear_more s n = ap (run s) (clears_more n) ∙ run-append s (clears n) (clear ∷ [])
 
 pub clears_to : (x : Moment) (k n : ℕ) → x.state.core.phase ≡ Clearing k → k < row_count x.state.core → k + n ≤ row_count x.state.core → ClearsTo x k n
 clears_to x k zero is some within =
@@ -78,7 +79,7 @@ clears_to x k (suc n) is some within =
     let here = run x.state (clears n) in
     let amid : here.core.phase ≡ Clearing (k + n) = ap (λ (c : Core). c.phase) before.core ∙ clearing_amid (k + n) rows (omega arith) in
     let next : next_event here x.stream ≡ clear = ap (λ ph. event_in ph here x.stream) amid in
-    let last = last_clear x.state n in
+    let last = one_clear_more x.state n in
     let index : k + n + 1 ≡ k + suc n = omega arith in
     record {
       state = one_more x here clear n before.state next refl ∙ ap (λ s. record { state = s; stream = x.stream }) (sym last);
@@ -90,34 +91,45 @@ clears_to x k (suc n) is some within =
           ∙ ap (λ i. record x.state.core { phase = phase_cleared i rows }) index;
     }
 
--- the words stand for the notes
-abbrev pub WordsOf : List ℕ → List Note → ℕ → Type 0
-WordsOf words notes pages = (p : ℕ) → p < pages → slice_index words p ≡ word_of notes p
+-- the marks and tags after clears
+record AreAfterClears (x : Moment) (k n : ℕ) : Type 0 where
+  marks : (p : ℕ) → is_touched (run x.state (clears n)).notes p ≡ (if is_picked x.state.core.picks k n p then false else is_touched x.state.notes p)
+  tags : (p : ℕ) → last_clear (run x.state (clears n)).notes p ≡ (if is_picked x.state.core.picks k n p then x.state.core.ticks + 1 else last_clear x.state.notes p)
 
-pub length-cleared_words : (picks : List ℕ) (from n w : ℕ) (words : List ℕ) → length (cleared_words picks from n w words) ≡ length words
-length-cleared_words picks from zero w words = refl
-length-cleared_words picks from (suc n) w words = length-set (cleared_words picks from n w words) (slice_index picks (from + n)) w ∙ length-cleared_words picks from n w words
-
--- words that are cleared stand for the notes of the clears
-pub words_cleared : (x : Moment) (k n pages : ℕ) (words : List ℕ) → x.state.core.phase ≡ Clearing k → k < row_count x.state.core → k + n ≤ row_count x.state.core → length words ≡ pages → ((j : ℕ) → j < k + n → slice_index x.state.core.picks j < pages) → WordsOf words x.state.notes pages → WordsOf (cleared_words x.state.core.picks k n (2 * (x.state.core.ticks + 1)) words) (run x.state (clears n)).notes pages
-words_cleared x k zero pages words is some within len inside stands = stands
-words_cleared x k (suc n) pages words is some within len inside stands =
+after_clears : (x : Moment) (k n : ℕ) → x.state.core.phase ≡ Clearing k → k < row_count x.state.core → k + n ≤ row_count x.state.core → AreAfterClears x k n
+after_clears x k zero is some within = record { marks = λ p. refl; tags = λ p. refl }
+after_clears x k (suc n) is some within =
     let rows = row_count x.state.core in
     let to = clears_to x k n is some (omega arith) in
     let here = run x.state (clears n) in
     let picks = x.state.core.picks in
     let page = slice_index picks (k + n) in
-    let w = 2 * (x.state.core.ticks + 1) in
-    let old = cleared_words picks k n w words in
-    let before = words_cleared x k n pages words is some (omega arith) len (λ j below. inside j (omega arith)) stands in
+    let pass = x.state.core.ticks + 1 in
+    let before = after_clears x k n is some (omega arith) in
     let amid : here.core.phase ≡ Clearing (k + n) = ap (λ (c : Core). c.phase) to.core ∙ clearing_amid (k + n) rows (omega arith) in
-    let last = last_clear x.state n in
-    let notes : (run x.state (clears (suc n))).notes ≡ cleared (x.state.core.ticks + 1) (k + n) page ∷ here.notes =
-    ap (λ s. s.notes) last ∙ clear_notes here.core.phase here (k + n) amid ∙ ap (λ (c : Core). cleared (c.ticks + 1) (k + n) (slice_index c.picks (k + n)) ∷ here.notes) to.core in
-    let added = cleared (x.state.core.ticks + 1) (k + n) page ∷ here.notes in
-    λ p below.
-    (set_words old pages page w (word_of here.notes) (word_of added) (length-cleared_words picks k n w words ∙ len) (inside (k + n) (omega arith)) before (sym (word_of-cleared_same here.notes (x.state.core.ticks + 1) (k + n) page)) (λ q other. word_of-cleared_other here.notes (x.state.core.ticks + 1) (k + n) page q other) p below
-    ∙ ap (λ ns. word_of ns p) (sym notes))
+    let notes : (run x.state (clears (suc n))).notes ≡ cleared pass (k + n) page ∷ here.notes =
+    ap (λ s. s.notes) (one_clear_more x.state n) ∙ clear_notes here.core.phase here (k + n) amid ∙ ap (λ (c : Core). cleared (c.ticks + 1) (k + n) (slice_index c.picks (k + n)) ∷ here.notes) to.core in
+    record {
+      marks = λ p. ap (λ ns. is_touched ns p) notes ∙ put_more (page == p) (is_picked picks k n p) false (is_touched here.notes p) (is_touched x.state.notes p) (before.marks p);
+      tags = λ p. ap (λ ns. last_clear ns p) notes ∙ put_more (page == p) (is_picked picks k n p) pass (last_clear here.notes p) (last_clear x.state.notes p) (before.tags p);
+    }
+
+-- pages that are cleared are those after the clears
+pages_cleared : (x : Moment) (k n count : ℕ) (old new : PagesView) → x.state.core.phase ≡ Clearing k → k < row_count x.state.core → k + n ≤ row_count x.state.core → length old.marks ≡ count → AreCleared x.state.core.picks k n (x.state.core.ticks + 1) old new → ArePagesOf old x.state.notes count → ArePagesOf new (run x.state (clears n)).notes count
+pages_cleared x k n count old new is some within len made are =
+    let all = after_clears x k n is some within in
+    let picked : ℕ → Bool = is_picked x.state.core.picks k n in
+    record {
+      marks = λ p below.
+          (made.marks p (omega (arith, below, len))
+          ∙ ap (λ b. if picked p then false else b) (are.marks p below)
+          ∙ sym (all.marks p));
+      tags = λ p below.
+          (let old_tag : p < length old.tags = omega (arith, below, made.tagged) in
+          made.tags p old_tag
+          ∙ ap (λ t. if picked p then x.state.core.ticks + 1 else t) (are.tags p old_tag)
+          ∙ sym (all.tags p));
+    }
 
 -- the phase after so many loads
 abbrev pub phase_by_loads : ℕ → ℕ → Phase → Phase
@@ -199,24 +211,24 @@ loads_to x marks from (suc n) loading index within each true_marks =
     }
 
 -- a world whose next n picks are cleared makes n steps
-pub clears_advance : {R : Type 0} (stream : R → Stream) (m new : MonitorView) (words : List ℕ) (source : R) (k n : ℕ) → m.core.phase ≡ Clearing k → k < row_count m.core → k + n ≤ row_count m.core → new.core ≡ cleared_core n m.core → Makes Stands m new (clears n) → length words ≡ pages_of m.core.space → ((j : ℕ) → j < row_count m.core → slice_index m.core.picks j < pages_of m.core.space)
-    → IsAdvance stream (record { monitor = m; words = words; source = source }) (record { monitor = new; words = cleared_words m.core.picks k n (2 * (m.core.ticks + 1)) words; source = source }) n
-clears_advance {R} stream m new words source k n clearing some within shown events len inside = record {
+pub clears_advance : {R : Type 0} (stream : R → Stream) (m new : MonitorView) (pages now : PagesView) (source : R) (k n : ℕ) → m.core.phase ≡ Clearing k → k < row_count m.core → k + n ≤ row_count m.core → new.core ≡ cleared_core n m.core → Makes Stands m new (clears n) → length pages.marks ≡ pages_of m.core.space → AreCleared m.core.picks k n (m.core.ticks + 1) pages now
+    → IsAdvance stream (record { monitor = m; pages = pages; source = source }) (record { monitor = new; pages = now; source = source }) n
+clears_advance {R} stream m new pages now source k n clearing some within shown events len made_now = record {
   plays = λ x reached stands.
       (let same = stands.state.monitor.same in
       let rows : row_count m.core ≡ row_count x.state.core = ap row_count same in
       let clearing_x : x.state.core.phase ≡ Clearing k = ap (λ (c : Core). c.phase) (sym same) ∙ clearing in
       let some_x : k < row_count x.state.core = omega (arith, some, rows) in
-      let all = clears_to x k n clearing_x some_x (omega (arith, within, rows)) in
+      let within_x : k + n ≤ row_count x.state.core = omega (arith, within, rows) in
+      let all = clears_to x k n clearing_x some_x within_x in
       let made = events x.state reached stands.state.monitor in
-      let inside_x : (j : ℕ) → j < row_count x.state.core → slice_index x.state.core.picks j < pages_of m.core.space = subst (λ (c : Core). (j : ℕ) → j < row_count c → slice_index c.picks j < pages_of m.core.space) same inside in
-      let now = words_cleared x k n (pages_of m.core.space) words clearing_x some_x (omega (arith, within, rows)) len (λ j below. inside_x j (omega (arith, below, within, rows))) stands.state.words in
-      let now_m : WordsOf (cleared_words m.core.picks k n (2 * (m.core.ticks + 1)) words) (run x.state (clears n)).notes (pages_of m.core.space) = subst (λ (c : Core). WordsOf (cleared_words c.picks k n (2 * (c.ticks + 1)) words) (run x.state (clears n)).notes (pages_of m.core.space)) (sym same) now in
-      let here : StandsAt stream (record { monitor = new; words = cleared_words m.core.picks k n (2 * (m.core.ticks + 1)) words; source = source }) (record { state = run x.state (clears n); stream = x.stream }) = record {
-        state = record { monitor = made.1; words = λ p below. now_m p (subst (λ ts. p < pages_of ts) space below) };
+      let made_x : AreCleared x.state.core.picks k n (x.state.core.ticks + 1) pages now = subst (λ (c : Core). AreCleared c.picks k n (c.ticks + 1) pages now) same made_now in
+      let after = pages_cleared x k n (pages_of m.core.space) pages now clearing_x some_x within_x len made_x stands.state.pages in
+      let here : StandsAt stream (record { monitor = new; pages = now; source = source }) (record { state = run x.state (clears n); stream = x.stream }) = record {
+        state = record { monitor = made.1; pages = subst (λ ts. ArePagesOf now (run x.state (clears n)).notes (pages_of ts)) (sym space) after };
         words = stands.words;
       } in
-      (subst (AllFit x.state) (sym all.events) made.0, subst (StandsAt stream (record { monitor = new; words = cleared_words m.core.picks k n (2 * (m.core.ticks + 1)) words; source = source })) (sym all.state) here));
+      (subst (AllFit x.state) (sym all.events) made.0, subst (StandsAt stream (record { monitor = new; pages = now; source = source })) (sym all.state) here));
   amid = λ x reached stands j least below.
       (let same = stands.state.monitor.same in
       let rows : row_count m.core ≡ row_count x.state.core = ap row_count same in
@@ -227,6 +239,7 @@ clears_advance {R} stream m new words source k n clearing some within shown even
   passes = omega (arith, ap (λ (c : Core). c.ticks) shown);
   space = space;
   cap = ap (λ (c : Core). c.regions.cap) shown;
+  tags = made_now.tagged;
 }
   where
     space : new.core.space ≡ m.core.space
@@ -237,42 +250,43 @@ amid_by_loads from zero ph some = absurd (omega arith)
 amid_by_loads from (suc n) ph some = tt
 
 -- the marks of a world's picks are the hits of its state
-abbrev pub MarksAre : List Bool → MonitorView → List ℕ → Type 0
-MarksAre marks m words = (s : State) → Reached s → Stands m s → WordsOf words s.notes (pages_of m.core.space) → (j : ℕ) → j < row_count m.core → mark_of marks (slice_index m.core.picks j) ≡ hit s.notes (slice_index m.core.picks j)
+abbrev pub MarksAre : List Bool → MonitorView → PagesView → Type 0
+MarksAre marks m pages = (s : State) → Reached s → Stands m s → ArePagesOf pages s.notes (pages_of m.core.space) → (j : ℕ) → j < row_count m.core → mark_of marks (slice_index m.core.picks j) ≡ hit s.notes (slice_index m.core.picks j)
 
 -- a world whose next n picks are loaded makes n steps
-pub loads_advance : {R : Type 0} (stream : R → Stream) (m new : MonitorView) (words : List ℕ) (source : R) (marks : List Bool) (from n : ℕ) → IsLoading m.core.phase (row_count m.core) → load_index m.core.phase ≡ from → from + n ≤ row_count m.core → length m.core.picks ≡ row_count m.core → new.core ≡ loaded_core n m.core → Makes Stands m new (loads marks (next_picks m.core.picks from n)) → MarksAre marks m words
-    → IsAdvance stream (record { monitor = m; words = words; source = source }) (record { monitor = new; words = words; source = source }) n
-loads_advance {R} stream m new words source marks from n loading index within each shown events true_marks = record {
+pub loads_advance : {R : Type 0} (stream : R → Stream) (m new : MonitorView) (pages : PagesView) (source : R) (marks : List Bool) (from n : ℕ) → IsLoading m.core.phase (row_count m.core) → load_index m.core.phase ≡ from → from + n ≤ row_count m.core → length m.core.picks ≡ row_count m.core → new.core ≡ loaded_core n m.core → Makes Stands m new (loads marks (next_picks m.core.picks from n)) → MarksAre marks m pages
+    → IsAdvance stream (record { monitor = m; pages = pages; source = source }) (record { monitor = new; pages = pages; source = source }) n
+loads_advance {R} stream m new pages source marks from n loading index within each shown events true_marks = record {
   plays = λ x reached stands.
       (let same = stands.state.monitor.same in
       let all = to x reached stands n (omega arith) in
       let here = run x.state (next_loads marks x from n) in
       let made = subst (λ (c : Core). AllFit x.state (loads marks (next_picks c.picks from n)) × Stands new (run x.state (loads marks (next_picks c.picks from n)))) same (events x.state reached stands.state.monitor) in
-      let now : StandsAt stream (record { monitor = new; words = words; source = source }) (record { state = here; stream = x.stream }) = record {
-        state = record { monitor = made.1; words = λ p below. stands.state.words p (subst (λ ts. p < pages_of ts) space below) ∙ sym (all.words p) };
+      let now : StandsAt stream (record { monitor = new; pages = pages; source = source }) (record { state = here; stream = x.stream }) = record {
+        state = record { monitor = made.1; pages = subst (λ ts. ArePagesOf pages here.notes (pages_of ts)) (sym space) (same_pages pages x.state.notes here.notes (pages_of m.core.space) all.words stands.state.pages) };
         words = stands.words;
       } in
-      (subst (AllFit x.state) (sym all.events) made.0, subst (StandsAt stream (record { monitor = new; words = words; source = source })) (sym all.state) now));
+      (subst (AllFit x.state) (sym all.events) made.0, subst (StandsAt stream (record { monitor = new; pages = pages; source = source })) (sym all.state) now));
   amid = λ x reached stands j least below.
       (let part = to x reached stands j (omega arith) in
       subst (λ (y : Moment). IsAmid y.state.core.phase) (sym part.state) (subst (λ (c : Core). IsAmid c.phase) (sym part.core) (amid_by_loads from j x.state.core.phase least)));
   passes = omega (arith, ap (λ (c : Core). c.ticks) shown);
   space = space;
   cap = ap (λ (c : Core). c.regions.cap) shown;
+  tags = refl;
 }
   where
     space : new.core.space ≡ m.core.space
     space = ap (λ (c : Core). c.space) shown
 
-    to : (x : Moment) → Reached x.state → StandsAt stream (record { monitor = m; words = words; source = source }) x → (j : ℕ) → j ≤ n → LoadsTo x marks from j
+    to : (x : Moment) → Reached x.state → StandsAt stream (record { monitor = m; pages = pages; source = source }) x → (j : ℕ) → j ≤ n → LoadsTo x marks from j
     to x reached stands j few =
         let same = stands.state.monitor.same in
         let rows : row_count m.core ≡ row_count x.state.core = ap row_count same in
         let loading_x = subst (λ (c : Core). IsLoading c.phase (row_count c)) same loading in
         let index_x : load_index x.state.core.phase ≡ from = ap (λ (c : Core). load_index c.phase) (sym same) ∙ index in
         let each_x : length x.state.core.picks ≡ row_count x.state.core = subst (λ (c : Core). length c.picks ≡ row_count c) same each in
-        let marks_x : (i : ℕ) → i < row_count x.state.core → mark_of marks (slice_index x.state.core.picks i) ≡ hit x.state.notes (slice_index x.state.core.picks i) = subst (λ (c : Core). (i : ℕ) → i < row_count c → mark_of marks (slice_index c.picks i) ≡ hit x.state.notes (slice_index c.picks i)) same (true_marks x.state reached stands.state.monitor stands.state.words) in
+        let marks_x : (i : ℕ) → i < row_count x.state.core → mark_of marks (slice_index x.state.core.picks i) ≡ hit x.state.notes (slice_index x.state.core.picks i) = subst (λ (c : Core). (i : ℕ) → i < row_count c → mark_of marks (slice_index c.picks i) ≡ hit x.state.notes (slice_index c.picks i)) same (true_marks x.state reached stands.state.monitor stands.state.pages) in
         loads_to x marks from j loading_x index_x (omega (arith, few, within, rows)) each_x (λ i below. marks_x i (omega (arith, below, few, within, rows)))
 
 -- where a load comes next each pick is cleared

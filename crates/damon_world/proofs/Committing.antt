@@ -1,4 +1,4 @@
--- The words of pages before and after a commit.
+-- The words of pages in the notes before and after a commit.
 use Rattle.std.proofs.Common.{◌≡◌, ℕ, List, ◌∷◌, Option, Some, None, Ok, Err, refl, ◌∙◌}
 use Rattle.std.specs.Prelude.{Result}
 use Rattle.damon_types.specs.declared.scheme.CostPart.{CostPart}

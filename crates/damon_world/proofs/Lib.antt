@@ -1,8 +1,7 @@
-pub mod Words
 pub mod Parts
+pub mod Notes
+pub mod Drawn
 pub mod Stepping
-pub mod Touching
 pub mod Committing
 pub mod Advancing
 pub mod Passing
-pub mod Clearing

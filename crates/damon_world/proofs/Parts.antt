@@ -1,143 +1,99 @@
--- The words of pages, part by part.
-use Rattle.std.proofs.Common.{◌≡◌, ℕ, zero, suc, ◌-◌, ◌/◌, ◌%◌, ◌≤◌, ◌<◌, true, false, Bool, List, [], ◌∷◌, ◌++◌, length, map, set, get_or, length-set, get_or-set_same, get_or-set_other, ◌≢◌, inl, inr, refl, sym, ap, ◌∙◌, subst, arith}
+-- The pages of a world, by what is stored of them.
+use Rattle.std.proofs.Common.{◌≡◌, ◌≢◌, inl, inr, ℕ, zero, suc, ◌+◌, ◌-◌, ◌/◌, ◌%◌, ◌≤◌, ◌<◌, Bool, true, false, List, length, set, get_or-set_same, get_or-set_other, refl, sym, ap, ◌∙◌, subst, arith}
 use Rattle.std.specs.Prelude.{◌==◌, ◌||◌, replicate, slice_index, slice_index_or, if◌then◌else◌}
 use Rattle.std.proofs.lemmas.Bool.{cases_eq}
 use Rattle.std.proofs.lemmas.Bool.Decides.{nat_tests}
-use Rattle.std.proofs.lemmas.List.{length-append, length-replicate}
-use Rattle.std.specs.List.{range_with_len}
+use Rattle.std.proofs.lemmas.List.{length-replicate}
 use Rattle.std.proofs.lemmas.List.FromFn.{fill_by_all, get_or-map-range_with_len, length-map-range_with_len}
-use Rattle.damon_world.specs.Words.{Puts, low_in, mark_in, word, word_in, words_in, touched_word, is_touched_word}
+use Rattle.std.proofs.lemmas.Nat.Bits.{bit_at-zero}
+use Rattle.sampler.specs.Loaded.{mark_of}
+use Rattle.page_bits.specs.Bits.{bit_in, is_set}
+use Rattle.page_bits.specs.Runs.{in_run}
+use Rattle.damon_world.specs.Pages.{AreCleared, AreTouched, PagesView, bits_of, is_picked}
 
--- the words of pages by a function, one by one
-pub view_at : (f : ℕ → ℕ) (n p : ℕ) → p < n → slice_index (map f (range_with_len 0 n)) p ≡ f p
-view_at f n p here = get_or-map-range_with_len f 0 n p p 0 here (omega arith)
+pub length_bits : (n : ℕ) (words : List ℕ) → length (bits_of n words) ≡ n
+length_bits n words = length-map-range_with_len (bit_in words) 0 n
 
-pub length_view : (f : ℕ → ℕ) (n : ℕ) → length (map f (range_with_len 0 n)) ≡ n
-length_view f n = length-map-range_with_len f 0 n
-
--- words that are these one by one
-pub view_is : (f : ℕ → ℕ) (xs : List ℕ) (n : ℕ) → length xs ≡ n → ((p : ℕ) → p < n → slice_index xs p ≡ f p) → xs ≡ map f (range_with_len 0 n)
-view_is f xs n len each = fill_by_all f xs n 0 len each
-
--- functions that agree
-pub view_same : (f g : ℕ → ℕ) (n : ℕ) → ((p : ℕ) → p < n → g p ≡ f p) → map g (range_with_len 0 n) ≡ map f (range_with_len 0 n)
-view_same f g n each = view_is f (map g (range_with_len 0 n)) n (length_view g n) (λ p here. view_at g n p here ∙ each p here)
-
--- one page gets another word
-pub view_set : (f g : ℕ → ℕ) (n q v : ℕ) → q < n → g q ≡ v → ((p : ℕ) → p < n → p ≢ q → g p ≡ f p) → map g (range_with_len 0 n) ≡ set (map f (range_with_len 0 n)) q v
-view_set f g n q v here now rest =
-    let xs = set (map f (range_with_len 0 n)) q v in
-    let len : length xs ≡ n = length-set (map f (range_with_len 0 n)) q v ∙ length_view f n in
-    sym (view_is g xs n len (λ p below. elim (cases_eq p q) [
-      | inl is ↦
-          let old : q < length (map f (range_with_len 0 n)) = omega (arith, here, length_view f n) in
-          subst (λ j. slice_index xs j ≡ g j) (sym is) (get_or-set_same (map f (range_with_len 0 n)) q v 0 old ∙ sym now)
-      | inr isnt ↦
-          let kept : slice_index xs p ≡ slice_index (map f (range_with_len 0 n)) p = rw get_or-set_other refl in
-          kept ∙ view_at f n p below ∙ sym (rest p below isnt)
-    ]))
+-- the mark of a page is its bit
+pub mark_is_bit : (n : ℕ) (words : List ℕ) (p : ℕ) → p < n → mark_of (bits_of n words) p ≡ bit_in words p
+mark_is_bit n words p below = get_or-map-range_with_len (bit_in words) 0 n p p false below (omega arith)
 
 pub index_of_zeros : (n q : ℕ) → slice_index (replicate n 0) q ≡ 0
 index_of_zeros zero q = refl
 index_of_zeros (suc n) zero = refl
 index_of_zeros (suc n) (suc q) = index_of_zeros n q
 
--- zeros behind numbers
-pub index_with_zeros : (xs : List ℕ) (n q : ℕ) → slice_index (xs ++ replicate n 0) q ≡ slice_index xs q
-index_with_zeros [] n q = index_of_zeros n q
-index_with_zeros (x ∷ xs) n zero = refl
-index_with_zeros (x ∷ xs) n (suc q) = index_with_zeros xs n q
+pub no_mark : (n p : ℕ) → slice_index_or (replicate n false) p false ≡ false
+no_mark zero p = refl
+no_mark (suc n) zero = refl
+no_mark (suc n) (suc p) = no_mark n p
 
--- numbers with zeros behind them, up to so many
-pub filled_up : (xs : List ℕ) (n : ℕ) → n ≤ length (xs ++ replicate (n - length xs) 0)
-filled_up xs n = omega (arith, length-append xs (replicate (n - length xs) 0), length-replicate {A = ℕ} (n - length xs) 0)
+-- no bit of words that are 0 is set
+no_bits : (k p : ℕ) → bit_in (replicate k 0) p ≡ false
+no_bits k p = ap (λ w. is_set w (p % 64)) (index_of_zeros k (p / 64)) ∙ ap (λ n. n == 1) (bit_at-zero (p % 64))
 
--- a touch changes the low part alone
-pub touch_of_word : (l h : ℕ) → touched_word (word l h) ≡ word (touched_word l) h
-touch_of_word l h = omega arith
+pub bits_of_none : (n k : ℕ) → bits_of n (replicate k 0) ≡ replicate n false
+bits_of_none n k = sym (fill_by_all (bit_in (replicate k 0)) (replicate n false) n false (length-replicate {A = Bool} n false) (λ p below. no_mark n p ∙ sym (no_bits k p)))
 
--- the low part has the mark
-pub mark_of_word : (l h : ℕ) → is_touched_word (word l h) ≡ is_touched_word l
-mark_of_word l h = let rest : word l h % 2 ≡ l % 2 = omega arith in ap (λ n. n == 1) rest
-
--- a word is its lowest bits and those above
-pub word_of_parts : (w : ℕ) → word (w % 65536) (w / 65536) ≡ w
-word_of_parts w = omega arith
-
--- the mark of one page
-pub mark_of_page : (words : List ℕ) (p : ℕ) → p < length words → slice_index_or (map is_touched_word words) p false ≡ is_touched_word (slice_index words p)
-mark_of_page [] p here = absurd (omega arith)
-mark_of_page (w ∷ words) zero here = refl
-mark_of_page (w ∷ words) (suc p) here = mark_of_page words p (omega arith)
-
--- an item that is there is the same for each default
-pub get_or-default : {X : Type 0} (xs : List X) (i : ℕ) (d e : X) → i < length xs → get_or xs i d ≡ get_or xs i e
-get_or-default [] i d e here = absurd (omega arith)
-get_or-default (x ∷ xs) zero d e here = refl
-get_or-default (x ∷ xs) (suc i) d e here = get_or-default xs i d e (omega arith)
-
--- no block is swept
-none_swept : (n q : ℕ) → slice_index_or (replicate n false) q false ≡ false
-none_swept zero q = refl
-none_swept (suc n) zero = refl
-none_swept (suc n) (suc q) = none_swept n q
-
--- words of pages that were neither cleared nor touched
-pub zeros_of_none : (blocks n : ℕ) → map (word_in (replicate blocks false) [] []) (range_with_len 0 n) ≡ replicate n 0
-zeros_of_none blocks n =
-    sym (view_is (word_in (replicate blocks false) [] []) (replicate n 0) n (length-replicate {A = ℕ} n 0) (λ p here. index_of_zeros n p ∙ sym (ap (λ (b : Bool). word (if b then touched_word (slice_index [] p) else slice_index [] p) 0) (none_swept blocks (p / 64)))))
-
--- a second touch changes nothing
-pub touched_again : (l : ℕ) → touched_word (touched_word l) ≡ touched_word l
-touched_again l = omega arith
-
--- the mark of a page by what is stored
-pub mark_is : (swept : List Bool) (lows highs : List ℕ) (p : ℕ) → mark_in swept lows p ≡ is_touched_word (word_in swept lows highs p)
-mark_is swept lows highs p =
-    let l = slice_index lows p in
-    let h = slice_index highs p in
-    let odd : word (touched_word l) h % 2 ≡ 1 = omega arith in
-    elim (slice_index_or swept (p / 64) false) as (λ b. (b || l % 2 == 1) ≡ is_touched_word (word (if b then touched_word l else l) h)) [
-      | true ↦ sym (ap (λ n. n == 1) odd)
-      | false ↦ sym (mark_of_word l h)
-    ]
-
--- a number is put where it is
-pub puts_same : (xs : List ℕ) (p : ℕ) → Puts xs xs p (slice_index xs p)
-puts_same xs p q = elim (cases_eq q p) [
+-- a run of one page
+pub one_page : (page p : ℕ) → (page == p) ≡ in_run page 1 p
+one_page page p = elim (cases_eq page p) [
   | inl is ↦
-      let test : (q == p) ≡ true = grind (arith, nat_tests) in
-      ap (slice_index xs) is ∙ sym (ap (λ b. if b then slice_index xs p else slice_index xs q) test)
+      let test : (page == p) ≡ true = grind (arith, nat_tests) in
+      let inside : in_run page 1 p ≡ true = grind (arith, nat_tests) in
+      test ∙ sym inside
   | inr isnt ↦
-      let test : (q == p) ≡ false = grind (arith, nat_tests) in
-      sym (ap (λ b. if b then slice_index xs p else slice_index xs q) test)
+      let test : (page == p) ≡ false = grind (arith, nat_tests) in
+      let outside : in_run page 1 p ≡ false = grind (arith, nat_tests) in
+      test ∙ sym outside
 ]
 
--- the lowest bits of a page whose block is not swept
-pub low_unswept : (swept : List Bool) (lows : List ℕ) (p : ℕ) → slice_index_or swept (p / 64) false ≡ false → low_in swept lows p ≡ slice_index lows p
-low_unswept swept lows p off = ap (λ (b : Bool). if b then touched_word (slice_index lows p) else slice_index lows p) off
+-- pages by their marks, which are stored so
+abbrev pub stored : ℕ → List ℕ → List ℕ → PagesView
+stored n words tags = record { marks = bits_of n words; tags = tags }
 
--- a page in a block that is settled gets other parts
-pub stored_set : (swept settled : List Bool) (lows grown highs puts : List ℕ) (n page low high : ℕ) → page < n → n ≤ length grown → slice_index_or settled (page / 64) false ≡ false → ((p : ℕ) → p < n → low_in settled grown p ≡ low_in swept lows p) → Puts highs puts page high → words_in n settled (set grown page low) puts ≡ set (words_in n swept lows highs) page (word low high)
-stored_set swept settled lows grown highs puts n page low high here each off same high_is =
-    let new = set grown page low in
-    let test : (page == page) ≡ true = grind (arith, nat_tests) in
-    let at : low_in settled new page ≡ low = low_unswept settled new page off ∙ get_or-set_same grown page low 0 (omega (arith, here, each)) in
-    let above : slice_index puts page ≡ high = high_is page ∙ ap (λ b. if b then high else slice_index highs page) test in
-    view_set (word_in swept lows highs) (word_in settled new puts) n page (word low high) here (ap (λ l. word l (slice_index puts page)) at ∙ ap (λ h. word low h) above) (λ p below isnt.
-    let other : (p == page) ≡ false = grind (arith, nat_tests) in
-    let kept : slice_index new p ≡ slice_index grown p = rw get_or-set_other refl in
-    let high_kept : slice_index puts p ≡ slice_index highs p = high_is p ∙ ap (λ b. if b then high else slice_index highs p) other in
-    let low_kept : low_in settled new p ≡ low_in swept lows p = ap (λ l. if slice_index_or settled (p / 64) false then touched_word l else l) kept ∙ same p below in
-    ap (λ l. word l (slice_index puts p)) low_kept ∙ ap (λ h. word (low_in swept lows p) h) high_kept)
+-- marks of which a run is set
+pub are_touched : (n from k : ℕ) (old new tags : List ℕ) → ((p : ℕ) → bit_in new p ≡ (if in_run from k p then true else bit_in old p)) → AreTouched from k (stored n old tags) (stored n new tags)
+are_touched n from k old new tags bits = record {
+  len = length_bits n new ∙ sym (length_bits n old);
+  marks = λ p below.
+      (let here : p < n = omega (arith, below, length_bits n old) in
+      mark_is_bit n new p here ∙ bits p ∙ ap (λ b. if in_run from k p then true else b) (sym (mark_is_bit n old p here)));
+  tags = refl;
+}
 
--- the word of a page in a block that is settled
-pub settled_word : (swept settled : List Bool) (lows grown highs : List ℕ) (n page : ℕ) → page < n → slice_index_or settled (page / 64) false ≡ false → ((p : ℕ) → p < n → low_in settled grown p ≡ low_in swept lows p) → slice_index (words_in n swept lows highs) page ≡ word (slice_index grown page) (slice_index highs page)
-settled_word swept settled lows grown highs n page here off same =
-    view_at (word_in swept lows highs) n page here
-    ∙ ap (λ l. word l (slice_index highs page)) (sym (same page here) ∙ low_unswept settled grown page off)
+-- marks of which those of picks are cleared, with the tags of these
+pub are_cleared : (picks : List ℕ) (from k pass n : ℕ) (old new tags new_tags : List ℕ) → ((p : ℕ) → bit_in new p ≡ (if is_picked picks from k p then false else bit_in old p)) → length new_tags ≡ length tags → ((p : ℕ) → p < length tags → slice_index new_tags p ≡ (if is_picked picks from k p then pass else slice_index tags p)) → AreCleared picks from k pass (stored n old tags) (stored n new new_tags)
+are_cleared picks from k pass n old new tags new_tags bits len at = record {
+  len = length_bits n new ∙ sym (length_bits n old);
+  marks = λ p below.
+      (let here : p < n = omega (arith, below, length_bits n old) in
+      mark_is_bit n new p here ∙ bits p ∙ ap (λ b. if is_picked picks from k p then false else b) (sym (mark_is_bit n old p here)));
+  tagged = len;
+  tags = at;
+}
 
--- marks of words, one by one
-pub marks_are : (f : ℕ → Bool) (g : ℕ → ℕ) (ps : List ℕ) → ((p : ℕ) → f p ≡ is_touched_word (g p)) → map f ps ≡ map is_touched_word (map g ps)
-marks_are f g [] each = refl
-marks_are f g (p ∷ ps) each = ap (λ b. b ∷ map f ps) (each p) ∙ ap (λ bs. is_touched_word (g p) ∷ bs) (marks_are f g ps each)
+-- one item more is put
+pub put_more : {A : Type 0} (b rest : Bool) (now x old : A) → x ≡ (if rest then now else old) → (if b then now else x) ≡ (if b || rest then now else old)
+put_more true rest now x old is = refl
+put_more false rest now x old is = is
+
+-- one pick more
+pub picked_next : (picks : List ℕ) (from i page p : ℕ) → from ≤ i → slice_index picks i ≡ page → (page == p || is_picked picks from (i - from) p) ≡ is_picked picks from (i + 1 - from) p
+picked_next picks from i page p order is =
+    let count : i + 1 - from ≡ suc (i - from) = omega arith in
+    let at : from + (i - from) ≡ i = omega arith in
+    let others : ℕ → Bool = λ q. q == p || is_picked picks from (i - from) p in
+    sym (ap (λ n. is_picked picks from n p) count ∙ ap (λ k. others (slice_index picks k)) at ∙ ap others is)
+
+-- one tag is put
+pub tag_put : (tags : List ℕ) (page tag p : ℕ) → page < length tags → slice_index (set tags page tag) p ≡ (if page == p then tag else slice_index tags p)
+tag_put tags page tag p here = elim (cases_eq p page) [
+  | inl is ↦
+      let test : (page == p) ≡ true = grind (arith, nat_tests) in
+      subst (λ q. slice_index (set tags page tag) q ≡ tag) (sym is) (get_or-set_same tags page tag 0 here) ∙ sym (ap (λ b. if b then tag else slice_index tags p) test)
+  | inr isnt ↦
+      let test : (page == p) ≡ false = (let e : page ≢ p = λ w. isnt (sym w) in grind (arith, nat_tests)) in
+      let kept : slice_index (set tags page tag) p ≡ slice_index tags p = rw get_or-set_other refl in
+      kept ∙ sym (ap (λ b. if b then tag else slice_index tags p) test)
+]

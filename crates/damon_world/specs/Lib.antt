@@ -1,4 +1,5 @@
-pub mod Words
+pub mod Pages
+pub mod Drawing
 pub mod Moment
 pub mod Stands
 pub mod Plays

@@ -1,13 +1,17 @@
-//! The machine of one thread: a monitor, the words of its pages and a source of random words.
+//! The machine of one thread: a monitor, its pages and a source of random words.
 #![tactic(auto)]
 
+/// The random words of an aggregation, and sources that can jump.
+mod drawing;
 /// How many steps a pass takes.
 mod laws;
-/// The words of the pages of one thread.
-mod plain_words;
+/// The pages of one thread.
+mod plain_pages;
 /// The monitor, its pages and its random words, moved step by step.
 mod world;
 
+pub use drawing::Jump;
+use drawing::draw_all;
 pub use laws::a_pass_takes_its_steps;
-use plain_words::PlainWords;
+use plain_pages::PlainPages;
 pub use world::{Stepped, World};

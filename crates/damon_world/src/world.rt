@@ -3,26 +3,25 @@ ghost use Rattle.damon_types.specs.Space.{pages_of};
 ghost use Rattle.live_commit.specs.Commit.{commit_value};
 ghost use Rattle.live_commit.specs.SetupView.{value_of};
 ghost use Rattle.damon_core.specs.Commit.{commit_answer, core_after_commit};
-ghost use Rattle.damon_core.specs.State.{State, opening, opening_core, row_count};
+ghost use Rattle.damon_core.specs.State.{State, opening, opening_core, opening_notes, row_count};
 ghost use Rattle.damon_core.specs.Event.{IsLoading, IsObserving, load_index, commit as commit_event, touch as touch_event};
 ghost use Rattle.damon_core.specs.Makes.{Makes};
 ghost use Rattle.damon_core.specs.Pass.{IsInPass};
 ghost use Rattle.damon_core.specs.Reached.{Reached};
 ghost use Rattle.sampler.specs.Draws.{drawn, drawn_rest};
-ghost use Rattle.damon_world.specs.Stands.{StandsAt, StandsFor};
-ghost use Rattle.damon_world.specs.Words.{cleared_words};
+ghost use Rattle.damon_world.specs.Pages.{ArePagesOf, AreCleared};
+ghost use Rattle.damon_world.specs.Stands.{KeepsTags, StandsAt, StandsFor};
 ghost use Rattle.damon_world.specs.Touches.{touches};
 ghost use Rattle.damon_world.specs.Advance.{AreAmid, steps_of_kind};
 ghost use Rattle.damon_world.specs.Moment.{Moment, Tells, events_of_steps, next_event};
 ghost use Rattle.damon_world.specs.Plays.{Plays};
 ghost use Rattle.damon_world.specs.Kept.{IsAdvance};
 
-use crate::PlainWords;
-use crate::plain_words::fill_up;
+use crate::{Jump, PlainPages, draw_all};
 use damon_core::{Changed, Monitor};
 use live_commit::{Commit, CommitFault, Phase, Setup};
 use rand_core::Rng;
-use sampler::{Marks, draw_words};
+use sampler::Marks;
 use std::alloc::{AllocError, Global};
 use std::marker::Model;
 
@@ -41,11 +40,11 @@ pub enum Stepped {
     Aggregated,
 }
 
-/// A monitor with the words of the pages of one thread.
+/// A monitor with the pages of one thread.
 #[derive(Drop)]
 pub struct World<R: Rng> {
     monitor: Monitor,
-    words: PlainWords,
+    pages: PlainPages,
     // The random words of an aggregation; the room for them is taken once.
     drawn: Vec<u32>,
     source: R,
@@ -59,26 +58,58 @@ impl<R: Rng> Model for World<R> {
     ghost use Rattle.std.specs.Prelude.{vec_capacity};
     ghost use Rattle.damon_world.specs.Kept.{IsWorld};
 
-    ghost view = { λ w. record { monitor = w.monitor; words = w.words; source = w.source } };
+    ghost view = { λ w. record { monitor = w.monitor; pages = w.pages; source = w.source } };
 
-    ghost invariant = { λ w. IsWorld w.monitor w.words (vec_capacity w.drawn) };
+    ghost invariant = { λ w. IsWorld w.monitor w.pages (vec_capacity w.drawn) };
 }
 
-impl<R: Rng + Drop> World<R> {
-    /// A world before its first event: no page was touched. `words` is the source of its random words.
-    /// Takes memory; no other call does.
+impl<R: Jump + Drop> World<R> {
+    /// A world before its first event, which keeps the tags of its pages: no page was touched. `words` is the
+    /// source of its random words. Takes memory, as [`World::without_tags`] does; no other call does.
     pub fn new(alloc: Global, setup: &Setup, words: R) -> Result<World<R>, AllocError>
         ensures core { IfOk result (λ w. w.monitor.core ≡ opening_core (value_of setup.now)) }
         ensures source { IfOk result (λ w. w.source ≡ words) }
         ensures opening { IfOk result (λ w. StandsFor w (opening (value_of setup.now))) }
+        ensures tags { IfOk result (λ w. KeepsTags w) }
     {
+        // For its clause alone: no page was touched or cleared before the first event.
         damon_core::pages_are_kept();
+        let pages = PlainPages::new(alloc, setup.space.pages())?;
+        World::with_pages(alloc, setup, pages, words)
+    }
+
+    /// The same without tags, so that [`World::touch`] may not be called.
+    pub fn without_tags(alloc: Global, setup: &Setup, words: R) -> Result<World<R>, AllocError>
+        ensures core { IfOk result (λ w. w.monitor.core ≡ opening_core (value_of setup.now)) }
+        ensures source { IfOk result (λ w. w.source ≡ words) }
+        ensures opening { IfOk result (λ w. StandsFor w (opening (value_of setup.now))) }
+    {
+        // For its clause alone: no page was touched or cleared before the first event.
+        damon_core::pages_are_kept();
+        let pages = PlainPages::without_tags(alloc, setup.space.pages())?;
+        World::with_pages(alloc, setup, pages, words)
+    }
+
+    // The same with these pages, none of which was touched or cleared.
+    fn with_pages(
+        alloc: Global,
+        setup: &Setup,
+        pages: PlainPages,
+        words: R,
+    ) -> Result<World<R>, AllocError>
+        requires each { length pages.marks ≡ pages_of setup.now.space }
+        requires fresh { ArePagesOf pages (opening_notes (value_of setup.now))
+            (pages_of setup.now.space) }
+        ensures core { IfOk result (λ w. w.monitor.core ≡ opening_core (value_of setup.now)) }
+        ensures pages { IfOk result (λ w. w.pages ≡ pages) }
+        ensures source { IfOk result (λ w. w.source ≡ words) }
+        ensures opening { IfOk result (λ w. StandsFor w (opening (value_of setup.now))) }
+    {
         let monitor = Monitor::new(alloc, setup)?;
-        let page_words = PlainWords::new(alloc, setup.space.pages())?;
         let drawn = Vec::with_capacity(alloc, 2 * setup.cap as usize)?;
         Ok(World {
             monitor,
-            words: page_words,
+            pages,
             drawn,
             source: words,
         })
@@ -91,16 +122,31 @@ impl<R: Rng + Drop> World<R> {
         &self.monitor
     }
 
-    /// Touches a page of the space, and returns the tag: the pass that cleared the page last, 0 if none
-    /// did.
+    /// Touches a page of the space, and returns its tag: the pass that cleared it last, 0 if none did. The world
+    /// keeps tags.
     pub fn touch(&mut self, page: u32) -> u64
-        requires { page < pages_of self.old.monitor.core.space }
-        ensures tag { result ≡ slice_index self.old.words page / 2 }
+        requires page { page < pages_of self.old.monitor.core.space }
+        requires tags { KeepsTags self.old }
+        ensures tag { result ≡ slice_index self.old.pages.tags page }
         ensures monitor { self.new.monitor ≡ self.old.monitor }
         ensures source { self.new.source ≡ self.old.source }
         ensures event { Makes StandsFor self.old self.new (touch_event page ∷ []) }
+        ensures tags { length self.new.pages.tags ≡ length self.old.pages.tags }
     {
-        self.words.touch(page)
+        let tag = self.pages.tag(page);
+        self.touch_page(page);
+        tag
+    }
+
+    /// Touches a page of the space.
+    pub fn touch_page(&mut self, page: u32)
+        requires { page < pages_of self.old.monitor.core.space }
+        ensures monitor { self.new.monitor ≡ self.old.monitor }
+        ensures source { self.new.source ≡ self.old.source }
+        ensures event { Makes StandsFor self.old self.new (touch_event page ∷ []) }
+        ensures tags { length self.new.pages.tags ≡ length self.old.pages.tags }
+    {
+        self.pages.touch(page);
     }
 
     /// Touches the pages of the space from `from` to before `to`, in ascending order.
@@ -110,8 +156,9 @@ impl<R: Rng + Drop> World<R> {
         ensures monitor { self.new.monitor ≡ self.old.monitor }
         ensures source { self.new.source ≡ self.old.source }
         ensures events { Makes StandsFor self.old self.new (touches from (to - from)) }
+        ensures tags { length self.new.pages.tags ≡ length self.old.pages.tags }
     {
-        self.words.sweep(from, to);
+        self.pages.sweep(from, to);
     }
 
     /// Commits new attributes, new ranges, a slot change, a metric or a cost, as [`Monitor::commit`] does:
@@ -129,6 +176,7 @@ impl<R: Rng + Drop> World<R> {
         ensures space { self.new.monitor.core.space ≡ self.old.monitor.core.space }
         ensures cap { self.new.monitor.core.regions.cap ≡ self.old.monitor.core.regions.cap }
         ensures ticks { self.new.monitor.core.ticks ≡ self.old.monitor.core.ticks }
+        ensures tags { length self.new.pages.tags ≡ length self.old.pages.tags }
     {
         self.monitor.commit(commit)
     }
@@ -144,6 +192,7 @@ impl<R: Rng + Drop> World<R> {
         ensures passes { self.new.monitor.core.ticks ≤ self.old.monitor.core.ticks + 1 }
         ensures space { self.new.monitor.core.space ≡ self.old.monitor.core.space }
         ensures cap { self.new.monitor.core.regions.cap ≡ self.old.monitor.core.regions.cap }
+        ensures tags { length self.new.pages.tags ≡ length self.old.pages.tags }
     {
         let stepped = self.next_step();
         self.advance(1);
@@ -167,6 +216,7 @@ impl<R: Rng + Drop> World<R> {
         ensures passes { self.new.monitor.core.ticks ≤ self.old.monitor.core.ticks + 1 }
         ensures space { self.new.monitor.core.space ≡ self.old.monitor.core.space }
         ensures cap { self.new.monitor.core.regions.cap ≡ self.old.monitor.core.regions.cap }
+        ensures tags { length self.new.pages.tags ≡ length self.old.pages.tags }
     {
         match self.monitor.phase() {
             Phase::Idle => self.prepare(),
@@ -206,7 +256,7 @@ impl<R: Rng + Drop> World<R> {
         ensures { (s : State) → Reached s → StandsFor self.now s → Tells s.core.phase s result }
     {
         let page = self.monitor.pick(next);
-        let hit = self.words.marks().is_marked(page);
+        let hit = self.pages.marks().is_marked(page);
         Stepped::Loaded { page, hit }
     }
 
@@ -228,7 +278,7 @@ impl<R: Rng + Drop> World<R> {
     {
         damon_core::pages_are_kept();
         let attrs = self.monitor.attrs();
-        draw_words(&mut self.source, 2 * attrs.max as usize, &mut self.drawn);
+        draw_all(&mut self.source, 2 * attrs.max as usize, &mut self.drawn);
         self.monitor.aggregate(&self.drawn);
         1
     }
@@ -245,7 +295,7 @@ impl<R: Rng + Drop> World<R> {
         // For its clauses alone: each pick is a page of the space.
         let _picks = self.monitor.picks();
         let count = at_most(self.monitor.rows().len() - next, most);
-        clear_words(&self.monitor, next, next + count, &mut self.words);
+        clear_pages(&self.monitor, next, next + count, &mut self.pages);
         self.monitor.cleared_next(count);
         u64::from(count)
     }
@@ -262,7 +312,7 @@ impl<R: Rng + Drop> World<R> {
         // For its clauses alone: each pick is a page of the space, and those to be loaded are cleared.
         let _picks = self.monitor.picks();
         let count = at_most(self.monitor.rows().len() - next, most);
-        self.monitor.loaded_next(count, self.words.marks());
+        self.monitor.loaded_next(count, self.pages.marks());
         u64::from(count)
     }
 
@@ -285,17 +335,16 @@ fn at_most(count: u32, most: u64) -> u32
     u64::from(count).min(most) as u32
 }
 
-// Clears the words of the picks of the pass under way from pick `from` to before pick `to`.
-fn clear_words(monitor: &Monitor, from: u32, to: u32, words: &mut PlainWords)
+// Clears the pages of the picks of the pass under way from pick `from` to before pick `to`.
+fn clear_pages(monitor: &Monitor, from: u32, to: u32, pages: &mut PlainPages)
     requires pass { IsInPass monitor.now.core.phase }
     requires order { from ≤ to }
     requires within { to ≤ row_count monitor.now.core }
-    requires each { length words.old ≡ pages_of monitor.now.core.space }
+    requires each { length pages.old.marks ≡ pages_of monitor.now.core.space }
     requires ticks { monitor.now.core.ticks < 2 ^ 40 }
-    ensures { words.new
-        ≡ cleared_words monitor.now.core.picks from (to - from)
-        (2 * (monitor.now.core.ticks + 1)) words.old }
+    ensures { AreCleared monitor.now.core.picks from (to - from) (monitor.now.core.ticks + 1)
+        pages.old pages.new }
 {
     let pass = monitor.ticks() + 1;
-    words.clear(monitor.picks(), from, to, pass);
+    pages.clear(monitor.picks(), from, to, pass);
 }

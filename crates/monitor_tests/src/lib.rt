@@ -1,4 +1,4 @@
-//! A test of the monitor. It stands in a crate of its own, since a crate with tests is proved twice.
+//! Tests of the monitor and of a world. They stand in a crate of their own, since a crate with tests is proved twice.
 #![tactic(auto)]
 
 /// The steps of a pass.
@@ -7,3 +7,6 @@ mod fixtures;
 /// A pass of a monitor.
 #[cfg(test)]
 mod monitor;
+/// A touch of a world that keeps tags.
+#[cfg(test)]
+mod world;

@@ -25,7 +25,7 @@ use crate::random::random_words;
 use crate::together::{make_aggregation, make_commit, make_touches, whole_or_nothing};
 use damon_control::{Commands, MAX_WORK, Script};
 use damon_core::Monitor;
-use damon_world::World;
+use damon_world::{Jump, World};
 use live_commit::{Commit, Phase};
 pub use one_command::open_waiting;
 use rand_core::Rng;
@@ -80,7 +80,7 @@ impl<R: Rng, C: Callbacks> Model for Player<R, C> {
         (part_value p.part ∷ parts_of p.cap (drop p.begun p.commands.list)) };
 }
 
-impl<R: Rng + Drop, C: Callbacks + Drop> Player<R, C> {
+impl<R: Jump + Drop, C: Callbacks + Drop> Player<R, C> {
     /// Makes the next events and appends exactly their text to `out`, until `out` has [`PIECE`]
     /// bytes or more, or no event is left. Takes memory for the text. Where it runs out, a prefix of the
     /// text that was left was appended, and no more is known of the player.
@@ -162,7 +162,7 @@ impl<R: Rng + Drop, C: Callbacks + Drop> Player<R, C> {
             return false;
         };
         self.begun += 1;
-        self.world.touch(page);
+        self.world.touch_page(page);
         self.callbacks.after_touches(page, 1);
         self.part = Part::NOTHING;
         true
@@ -375,7 +375,7 @@ fn make_player<C: Callbacks + Drop>(
     let _commands = script.commands.len();
     // For its clauses alone: the targets are within their limits.
     let _targets = script.setup.space.targets();
-    let world = World::new(alloc, &script.setup, random_words(script.seed))?;
+    let world = World::without_tags(alloc, &script.setup, random_words(script.seed))?;
     Ok(Player {
         world,
         callbacks,

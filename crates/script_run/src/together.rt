@@ -12,22 +12,21 @@ ghost use Rattle.snapshot_print.specs.Commit.{commit_text};
 ghost use Rattle.script_run.specs.Kept.{ArePutIn, IsMade, KeepsFront, StandSomewhere};
 
 use crate::callbacks::Callbacks;
-use damon_world::World;
+use damon_world::{Jump, World};
 use live_commit::{Commit, Phase};
-use rand_core::Rng;
 use snapshot_print::{Form, print_aggregate, print_commit};
 use std::alloc::{AllocError, Global};
 
 // Touches some pages of a world, one after another. One page alone, as most commands say, takes less time
 // than a sweep.
-pub fn make_touches<R: Rng + Drop>(world: &mut World<R>, page: u32, count: u32)
+pub fn make_touches<R: Jump + Drop>(world: &mut World<R>, page: u32, count: u32)
     requires { page + count ≤ pages_of world.old.monitor.core.space }
     ensures events { Makes StandsFor world.old world.new (touches page count) }
     ensures monitor { world.new.monitor ≡ world.old.monitor }
     ensures source { world.new.source ≡ world.old.source }
 {
     if count == 1 {
-        world.touch(page);
+        world.touch_page(page);
     } else {
         // For its clause alone: the pages are a u32.
         let _pages = world.monitor().space().pages();
@@ -36,7 +35,7 @@ pub fn make_touches<R: Rng + Drop>(world: &mut World<R>, page: u32, count: u32)
 }
 
 // Makes the aggregation that is due with the commits that are put in after it, and appends what they write.
-pub fn make_aggregation<R: Rng + Drop, C: Callbacks + Drop>(
+pub fn make_aggregation<R: Jump + Drop, C: Callbacks + Drop>(
     alloc: Global,
     out: &mut Vec<u8>,
     form: Form,
@@ -64,7 +63,7 @@ pub fn make_aggregation<R: Rng + Drop, C: Callbacks + Drop>(
 }
 
 // Makes a commit of the script with those that are put in after it, and appends their lines.
-pub fn make_commit<R: Rng + Drop, C: Callbacks + Drop>(
+pub fn make_commit<R: Jump + Drop, C: Callbacks + Drop>(
     alloc: Global,
     out: &mut Vec<u8>,
     form: Form,
@@ -91,7 +90,7 @@ pub fn make_commit<R: Rng + Drop, C: Callbacks + Drop>(
 
 // Makes the commits that callbacks still put in, and appends their lines.
 #[inline]
-fn put_in<R: Rng + Drop, C: Callbacks + Drop>(
+fn put_in<R: Jump + Drop, C: Callbacks + Drop>(
     alloc: Global,
     out: &mut Vec<u8>,
     form: Form,
@@ -115,7 +114,7 @@ fn put_in<R: Rng + Drop, C: Callbacks + Drop>(
 }
 
 // Makes one commit of a world, and appends its line.
-fn put_commit<R: Rng + Drop>(
+fn put_commit<R: Jump + Drop>(
     alloc: Global,
     out: &mut Vec<u8>,
     form: Form,

@@ -5,11 +5,11 @@ ghost use Rattle.script_run.specs.Player.{IsOverWith, WritesLastWith};
 use super::Player;
 use crate::callbacks::Callbacks;
 use crate::together::whole_or_nothing;
-use rand_core::Rng;
+use damon_world::Jump;
 use snapshot_print::print_end;
 use std::alloc::{AllocError, Global};
 
-impl<R: Rng + Drop, C: Callbacks + Drop> Player<R, C> {
+impl<R: Jump + Drop, C: Callbacks + Drop> Player<R, C> {
     /// Appends the last line of the report and the lines of callbacks after it, after the last event. Where
     /// memory runs out, nothing is appended.
     pub fn finish(self, alloc: Global, out: &mut Vec<u8>) -> Result<(), AllocError>

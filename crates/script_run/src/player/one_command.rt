@@ -14,12 +14,12 @@ use crate::callbacks::{Callbacks, NoCallbacks};
 use crate::part::is_done;
 use crate::together::whole_or_nothing;
 use damon_control::{MAX_WORK, Script};
-use rand_core::Rng;
+use damon_world::Jump;
 use rand_pcg::Lcg64Xsh32;
 use snapshot_print::Form;
 use std::alloc::{AllocError, Global};
 
-impl<R: Rng + Drop, C: Callbacks + Drop> Player<R, C> {
+impl<R: Jump + Drop, C: Callbacks + Drop> Player<R, C> {
     /// Plays the next command, all of it and no other, and appends exactly its text to `out`. There must be
     /// a next command, and nothing left of the one before. Takes memory for the text. Where it runs out,
     /// nothing is appended, and no more is known of the player.

@@ -9,7 +9,7 @@ use Rattle.damon_world.proofs.world.World.aggregate.Goals as goal
 
 pub aggregate-requires-clause-words : goal.aggregate-requires-clause-words
 aggregate-requires-clause-words g c =
-    ap length c.deref.ensures.value ∙ c.draw_words.ensures.len
+    ap length c.deref.ensures.value ∙ c.draw_all.ensures.len
     ∙ ap (λ (a : Attrs). 2 * a.max) c.attrs-attrs.ensures.attrs
 
 pub returns-clause-advance : goal.returns-clause-advance
@@ -18,9 +18,9 @@ returns-clause-advance g c =
     let stream = g.R.Rng.stream in
     let most : 2 * c.attrs-attrs.result.max ≡ 2 * inside.monitor.core.attrs.max = ap (λ (a : Attrs). 2 * a.max) c.attrs-attrs.ensures.attrs in
     let due : inside.monitor.core.phase ≡ Due = ap (λ w. w.monitor.core.phase) c.self.view_is ∙ c.requires in
-    let drew : c.deref.result.now ≡ drawn (2 * inside.monitor.core.attrs.max) (stream inside.source) = c.deref.ensures.value ∙ c.draw_words.ensures.words ∙ ap (λ n. drawn n (stream inside.source)) most in
-    let len : length c.deref.result.now ≡ 2 * inside.monitor.core.attrs.max = ap length c.deref.ensures.value ∙ c.draw_words.ensures.len ∙ most in
-    let rest = c.draw_words.ensures.rest ∙ ap (λ n. drawn_rest n (stream inside.source)) most in
-    let new : WorldView g.row.R.Denot = record { monitor = c.aggregate.new.self; words = inside.words; source = c.draw_words.new.source } in
+    let drew : c.deref.result.now ≡ drawn (2 * inside.monitor.core.attrs.max) (stream inside.source) = c.deref.ensures.value ∙ c.draw_all.ensures.words ∙ ap (λ n. drawn n (stream inside.source)) most in
+    let len : length c.deref.result.now ≡ 2 * inside.monitor.core.attrs.max = ap length c.deref.ensures.value ∙ c.draw_all.ensures.len ∙ most in
+    let rest = c.draw_all.ensures.rest ∙ ap (λ n. drawn_rest n (stream inside.source)) most in
+    let new : WorldView g.row.R.Denot = record { monitor = c.aggregate.new.self; pages = inside.pages; source = c.draw_all.new.source } in
     subst (λ w. IsAdvance stream w new 1) c.self.view_is
-    (aggregate_advances c.pages_are_kept.ensures.aggregated stream inside.monitor c.aggregate.new.self inside.words inside.source c.draw_words.new.source c.deref.result.now due len drew rest c.aggregate.ensures.core c.aggregate.ensures.event)
+    (aggregate_advances c.pages_are_kept.ensures.aggregated stream inside.monitor c.aggregate.new.self inside.pages inside.source c.draw_all.new.source c.deref.result.now due len drew rest c.aggregate.ensures.core c.aggregate.ensures.event)

@@ -1,21 +1,19 @@
-use Rattle.std.proofs.Common.{◌≡◌, ◌+◌, ◌-◌, ◌*◌, ◌≤◌, ◌<◌, ℕ, List, length, ap, sym, subst, ◌∙◌, arith}
+use Rattle.std.proofs.Common.{◌≡◌, ◌+◌, ◌-◌, ◌≤◌, ◌<◌, length, ap, sym, subst, ◌∙◌, arith}
 use Rattle.region_list.specs.Regions.{RegionList}
 use Rattle.damon_types.specs.Space.{pages_of}
 use Rattle.live_commit.specs.declared.phase.Phase.TheVariants.{Clearing}
-use Rattle.damon_core.specs.Pass.{IsInPass}
 use Rattle.damon_core.specs.State.{Core, row_count}
 use Rattle.damon_world.specs.Stands.{WorldView}
 use Rattle.damon_world.specs.Kept.{IsAdvance}
-use Rattle.damon_world.specs.Words.{cleared_words}
-use Rattle.damon_world.proofs.Advancing.{clears_advance, length-cleared_words}
+use Rattle.damon_world.specs.Pages.{AreCleared}
+use Rattle.damon_world.proofs.Advancing.{clears_advance}
 use Rattle.damon_world.proofs.world.World.clear_picks.Goals as goal
 
 pub invariant_of-self : goal.invariant_of-self
 invariant_of-self g c =
-    let m = c.self.inside.monitor in
     let shown = c.cleared_next.ensures.core in
     record {
-      each = ap length c.clear_words.ensures ∙ length-cleared_words m.core.picks c.args.next (c.args.next + c.at_most-count.result - c.args.next) (2 * (m.core.ticks + 1)) c.self.inside.words ∙ c.self.invariant.each ∙ ap (λ (x : Core). pages_of x.space) (sym shown);
+      each = c.clear_pages.ensures.len ∙ c.self.invariant.each ∙ ap (λ (x : Core). pages_of x.space) (sym shown);
       room = omega (arith, c.self.invariant.room, ap (λ (x : Core). x.regions.cap) shown);
     }
 
@@ -26,16 +24,15 @@ returns-clause-advance g c =
     let stream = g.R.Rng.stream in
     let k = c.args.next in
     let n = c.at_most-count.result in
+    let after = c.clear_pages.new.pages in
     let rows : c.len.result ≡ row_count m.core = c.len.ensures.len ∙ ap (λ (r : RegionList). length r.rows) c.rows.ensures.rows in
     let clearing : m.core.phase ≡ Clearing k = ap (λ w. w.monitor.core.phase) c.self.view_is ∙ c.requires.phase in
     let below : k < row_count m.core = subst (λ w. k < row_count w.monitor.core) (sym c.self.view_is) c.requires.within in
     let within : k + n ≤ row_count m.core = omega (arith, c.at_most-count.ensures, rows, below) in
-    let inside_space = c.picks-picks.ensures.inside (subst IsInPass (sym clearing) tt) in
-    let made = clears_advance stream m c.cleared_next.new.self inside.words inside.source k n clearing below within c.cleared_next.ensures.core c.cleared_next.ensures.events c.self.invariant.each inside_space in
     let count : k + n - k ≡ n = omega arith in
-    let words = c.clear_words.ensures ∙ ap (λ j. cleared_words m.core.picks k j (2 * (m.core.ticks + 1)) inside.words) count in
-    let old : WorldView g.row.R.Denot = record { monitor = m; words = inside.words; source = inside.source } in
-    let new : List ℕ → WorldView g.row.R.Denot = λ ws. record { monitor = c.cleared_next.new.self; words = ws; source = inside.source } in
-    subst (λ x. IsAdvance stream x (new c.clear_words.new.words) c.from.result) c.self.view_is
-    (subst (λ j. IsAdvance stream old (new c.clear_words.new.words) j) (sym c.from.ensures)
-    (subst (λ ws. IsAdvance stream old (new ws) n) (sym words) made))
+    let cleared : AreCleared m.core.picks k n (m.core.ticks + 1) inside.pages after = subst (λ j. AreCleared m.core.picks k j (m.core.ticks + 1) inside.pages after) count c.clear_pages.ensures in
+    let made = clears_advance stream m c.cleared_next.new.self inside.pages after inside.source k n clearing below within c.cleared_next.ensures.core c.cleared_next.ensures.events c.self.invariant.each cleared in
+    let old : WorldView g.row.R.Denot = record { monitor = m; pages = inside.pages; source = inside.source } in
+    let new : WorldView g.row.R.Denot = record { monitor = c.cleared_next.new.self; pages = after; source = inside.source } in
+    subst (λ x. IsAdvance stream x new c.from.result) c.self.view_is
+    (subst (λ j. IsAdvance stream old new j) (sym c.from.ensures) made)

@@ -1,9 +1,13 @@
-use Rattle.std.proofs.Common.{◌<◌, List, sym, ◌∙◌, subst}
+use Rattle.std.proofs.Common.{List, sym, subst}
 use Rattle.damon_types.specs.declared.space.Target.{Target}
 use Rattle.damon_types.specs.Space.{pages_of}
 use Rattle.live_commit.specs.Commit.{CommitValue, commit_value}
 use Rattle.damon_world.specs.Stands.{StandsFor}
+use Rattle.damon_core.specs.After.{after}
+use Rattle.damon_core.specs.Event.{commit}
+use Rattle.damon_world.specs.Pages.{ArePagesOf}
 use Rattle.damon_world.proofs.Committing.{word_of-commit}
+use Rattle.damon_world.proofs.Notes.{same_pages}
 use Rattle.damon_world.proofs.world.World.commit.Goals as goal
 
 pub returns-clause-event : goal.returns-clause-event
@@ -14,6 +18,7 @@ returns-clause-event g c s reached stands =
       made.0,
       record {
         monitor = made.1;
-        words = λ p below. inner.words p (subst (λ (ts : List Target). p < pages_of ts) c.commit.ensures.space below) ∙ sym (word_of-commit parts s p);
+        pages = subst (λ (ts : List Target). ArePagesOf c.self.inside.pages (after s (commit parts)).notes (pages_of ts)) (sym c.commit.ensures.space)
+            (same_pages c.self.inside.pages s.notes (after s (commit parts)).notes (pages_of c.self.inside.monitor.core.space) (word_of-commit parts s) inner.pages);
       },
     )

@@ -1,17 +1,15 @@
-use Rattle.std.proofs.Common.{◌≡◌, ◌+◌, ◌≤◌, ◌<◌, length, map, refl, ap, sym, subst, ◌∙◌, arith}
-use Rattle.std.specs.Prelude.{slice_index}
+use Rattle.std.proofs.Common.{◌≡◌, ◌+◌, ◌≤◌, ◌<◌, length, refl, ap, sym, subst, ◌∙◌, arith}
+use Rattle.std.specs.Prelude.{◌&&◌, slice_index}
 use Rattle.region_list.specs.Regions.{RegionList}
 use Rattle.damon_core.specs.Event.{IsLoading, load_index}
 use Rattle.damon_core.specs.State.{row_count}
 use Rattle.damon_core.specs.Makes.{Makes}
+use Rattle.damon_core.specs.Note.{is_touched}
 use Rattle.damon_core.specs.Several.{loads}
 use Rattle.damon_core.specs.Stands.{Stands}
 use Rattle.sampler.specs.Loaded.{next_picks}
 use Rattle.damon_world.specs.Stands.{WorldView}
 use Rattle.damon_world.specs.Kept.{IsAdvance}
-use Rattle.damon_world.specs.Words.{is_touched_word}
-use Rattle.damon_world.proofs.Words.{lowest_is_hit}
-use Rattle.damon_world.proofs.Parts.{mark_of_page}
 use Rattle.damon_world.proofs.Stepping.{load_below}
 use Rattle.damon_world.proofs.Advancing.{MarksAre, loading_kept, loads_advance}
 use Rattle.damon_world.proofs.world.World.load_picks.Goals as goal
@@ -31,23 +29,22 @@ returns-clause-advance g c =
     let stream = g.R.Rng.stream in
     let from = load_index m.core.phase in
     let n = c.at_most-count.result in
-    let marks = map is_touched_word inside.words in
+    let marks = inside.pages.marks in
     let rows : c.len.result ≡ row_count m.core = c.len.ensures.len ∙ ap (λ (r : RegionList). length r.rows) c.rows.ensures.rows in
     let loading : IsLoading m.core.phase (row_count m.core) = subst (λ w. IsLoading w.monitor.core.phase (row_count w.monitor.core)) (sym c.self.view_is) c.requires.phase in
     let index : c.args.next ≡ from = c.requires.index ∙ sym (ap (λ w. load_index w.monitor.core.phase) c.self.view_is) in
     let below : from < row_count m.core = load_below m.core.phase (row_count m.core) loading c.rows.ensures.some in
     let within : from + n ≤ row_count m.core = omega (arith, c.at_most-count.ensures, rows, below, index) in
     let ready = loading_kept m.core.phase (row_count m.core) loading in
-    let true_marks : MarksAre marks m inside.words = λ s reached stands words j here.
+    let true_marks : MarksAre marks m inside.pages = λ s reached stands pages j here.
     (let page = slice_index m.core.picks j in
     let in_space = c.picks-picks.ensures.inside ready.0 j here in
     let done = c.picks-picks.ensures.cleared s reached stands j (omega (arith, here, ready.1)) in
-    mark_of_page inside.words page (omega (arith, in_space, c.self.invariant.each))
-    ∙ lowest_is_hit s.notes page (slice_index inside.words page) (words page in_space) done) in
+    pages.marks page in_space ∙ sym (ap (λ b. b && is_touched s.notes page) done)) in
     let events : Makes Stands m c.loaded_next.new.self (loads marks (next_picks m.core.picks from n)) =
     subst (λ bs. Makes Stands m c.loaded_next.new.self (loads bs (next_picks m.core.picks from n))) c.marks.ensures c.loaded_next.ensures.events in
-    let made = loads_advance stream m c.loaded_next.new.self inside.words inside.source marks from n loading refl within (c.picks-picks.ensures.each ready.0) c.loaded_next.ensures.core events true_marks in
-    let old : WorldView g.row.R.Denot = record { monitor = m; words = inside.words; source = inside.source } in
-    let new : WorldView g.row.R.Denot = record { monitor = c.loaded_next.new.self; words = inside.words; source = inside.source } in
+    let made = loads_advance stream m c.loaded_next.new.self inside.pages inside.source marks from n loading refl within (c.picks-picks.ensures.each ready.0) c.loaded_next.ensures.core events true_marks in
+    let old : WorldView g.row.R.Denot = record { monitor = m; pages = inside.pages; source = inside.source } in
+    let new : WorldView g.row.R.Denot = record { monitor = c.loaded_next.new.self; pages = inside.pages; source = inside.source } in
     subst (λ x. IsAdvance stream x new c.from.result) c.self.view_is
     (subst (λ j. IsAdvance stream old new j) (sym c.from.ensures) made)

@@ -11,6 +11,6 @@ returns-clause-advance g c =
     let inside = c.self.inside in
     let stream = g.R.Rng.stream in
     let fits = subst (λ w. IsObserving w.monitor.core.phase (row_count w.monitor.core)) (sym c.self.view_is) c.requires.phase in
-    let new : WorldView g.row.R.Denot = record { monitor = c.observe.new.self; words = inside.words; source = inside.source } in
+    let new : WorldView g.row.R.Denot = record { monitor = c.observe.new.self; pages = inside.pages; source = inside.source } in
     subst (λ w. IsAdvance stream w new 1) c.self.view_is
-    (observe_advances stream inside.monitor c.observe.new.self inside.words inside.source fits c.observe.ensures.core c.observe.ensures.cap c.observe.ensures.event)
+    (observe_advances stream inside.monitor c.observe.new.self inside.pages inside.source fits c.observe.ensures.core c.observe.ensures.cap c.observe.ensures.event)

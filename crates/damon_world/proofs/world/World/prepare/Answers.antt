@@ -14,6 +14,6 @@ returns-clause-advance g c =
     let made = c.prepare_from.ensures in
     let idle : inside.monitor.core.phase ≡ Idle = ap (λ w. w.monitor.core.phase) c.self.view_is ∙ c.requires in
     let words = drawn (row_count inside.monitor.core) (stream inside.source) in
-    let new : WorldView g.row.R.Denot = record { monitor = c.prepare_from.new.self; words = inside.words; source = c.prepare_from.new.source } in
+    let new : WorldView g.row.R.Denot = record { monitor = c.prepare_from.new.self; pages = inside.pages; source = c.prepare_from.new.source } in
     subst (λ w. IsAdvance stream w new 1) c.self.view_is
-    (prepare_advances stream inside.monitor c.prepare_from.new.self inside.words inside.source c.prepare_from.new.source words idle made.each refl made.rest made.core made.event)
+    (prepare_advances stream inside.monitor c.prepare_from.new.self inside.pages inside.source c.prepare_from.new.source words idle made.each refl made.rest made.core made.event)

@@ -19,8 +19,8 @@ returns-then-self-len-clause-on g c text = on-none g.R.Rng.stream g.C.Callbacks.
 pub returns-in_default-clause-on : goal.returns-in_default-clause-on
 returns-in_default-clause-on g c text = on-none g.R.Rng.stream g.C.Callbacks.callbacks g.C.Callbacks.stands_for c.args.self.now text
 
-pub touch-requires : goal.touch-requires
-touch-requires g c =
+pub touch_page-requires : goal.touch_page-requires
+touch_page-requires g c =
     let p = c.self.inside in
     let here : p.begun < length p.commands.list = omega (arith, c.if-self-len.false, c.len.ensures) in
     let value = sym (ap (part_of p.cap) c.in-Some.ensures) in
@@ -31,7 +31,7 @@ pub after_touches-requires : goal.after_touches-requires
 after_touches-requires g c =
     let there = c.self.invariant.somewhere in
     let s = there.course.moment.state in
-    (there.course.memory, s, there.reached, there.here.callbacks, (c.touch.ensures.event s there.reached there.here.world.state).0)
+    (there.course.memory, s, there.reached, there.here.callbacks, (c.touch_page.ensures.event s there.reached there.here.world.state).0)
 
 pub invariant_of-self : goal.invariant_of-self
 invariant_of-self g c =
@@ -41,12 +41,12 @@ invariant_of-self g c =
     let q = part.Touches c.in-Some.page 1 in
     let new = parts_of p.cap (drop (p.begun + 1) p.commands.list) in
     let kept = player-next g.R.Rng.stream g.C.Callbacks.stands_for p.world p.callbacks (part_value p.part) q p.cap p.begun p.commands.list (lent_value c.get.result) here c.get.ensures value c.self.invariant in
-    let world = c.touch.new.self in
+    let world = c.touch_page.new.self in
     let callbacks = c.after_touches.new.self in
     let k = g.C.Callbacks.callbacks in
-    let plays = touches_play g.R.Rng.stream k g.C.Callbacks.stands_for g.met.C.Callbacks.in_place p.world world p.callbacks callbacks c.in-Some.page 1 c.touch.ensures.source c.touch.ensures.event c.after_touches.ensures in
+    let plays = touches_play g.R.Rng.stream k g.C.Callbacks.stands_for g.met.C.Callbacks.in_place p.world world p.callbacks callbacks c.in-Some.page 1 c.touch_page.ensures.source c.touch_page.ensures.event c.after_touches.ensures in
     let there = somewhere-then g.R.Rng.stream k g.C.Callbacks.stands_for p.world world p.callbacks callbacks (λ r. touches c.in-Some.page 1) plays c.self.invariant.somewhere in
-    player-made g.R.Rng.stream g.C.Callbacks.stands_for p.world world p.callbacks callbacks q new (omega arith) there (ap (λ m. m.core.space) c.touch.ensures.monitor) (ap (λ m. m.core.ticks) c.touch.ensures.monitor) kept
+    player-made g.R.Rng.stream g.C.Callbacks.stands_for p.world world p.callbacks callbacks q new (omega arith) there (ap (λ m. m.core.space) c.touch_page.ensures.monitor) (ap (λ m. m.core.ticks) c.touch_page.ensures.monitor) kept
 
 pub returns-clause-on : goal.returns-clause-on
 returns-clause-on g c text =
@@ -57,8 +57,8 @@ returns-clause-on g c text =
     let value = sym (ap (part_of p.cap) c.in-Some.ensures) in
     touch_made g.R.Rng.stream g.C.Callbacks.callbacks g.C.Callbacks.stands_for g.met.C.Callbacks.in_place c.args.self.now _ text page c.requires
     (sym (ap (λ v. v.later) is) ∙ next_part p.cap p.begun p.commands.list (lent_value c.get.result) (part.Touches page 1) here c.get.ensures value)
-    refl (ap (λ v. v.form) is) (c.touch.ensures.source ∙ ap (λ v. v.world.source) is)
-    (subst (λ w. Makes StandsFor w c.touch.new.self (touches page 1)) (ap (λ v. v.world) is) c.touch.ensures.event)
+    refl (ap (λ v. v.form) is) (c.touch_page.ensures.source ∙ ap (λ v. v.world.source) is)
+    (subst (λ w. Makes StandsFor w c.touch_page.new.self (touches page 1)) (ap (λ v. v.world) is) c.touch_page.ensures.event)
     (subst (λ k. Follows g.C.Callbacks.stands_for k c.after_touches.new.self (touches page 1)) (ap (λ v. v.callbacks) is) c.after_touches.ensures)
 
 pub returns-clause-less : goal.returns-clause-less

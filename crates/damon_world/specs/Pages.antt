@@ -1,0 +1,46 @@
+-- The pages of one thread.
+use Rattle.std.specs.Prelude.{◌≡◌, ℕ, zero, suc, ◌+◌, ◌*◌, ◌≤◌, ◌<◌, Bool, true, false, ◌==◌, ◌||◌, List, length, map, slice_index, if◌then◌else◌}
+use Rattle.std.specs.List.{range_with_len}
+use Rattle.sampler.specs.Loaded.{mark_of}
+use Rattle.page_bits.specs.Bits.{bit_in}
+use Rattle.page_bits.specs.Runs.{in_run}
+use Rattle.damon_core.specs.Note.{Note, is_touched, last_clear}
+
+-- The mark of each page: whether it was touched since it was cleared last, or ever. And the tag of each page, or of none: the pass that cleared it last.
+pub record PagesView : Type 0 where
+  pub marks : List Bool
+  pub tags : List ℕ
+
+-- so many pages have the marks that the notes give, and those that have tags the tags
+pub record ArePagesOf (pages : PagesView) (notes : List Note) (count : ℕ) : Type 0 where
+  pub marks : (p : ℕ) → p < count → mark_of pages.marks p ≡ is_touched notes p
+  pub tags : (p : ℕ) → p < length pages.tags → slice_index pages.tags p ≡ last_clear notes p
+
+-- the n pages from `from` on are touched, and all else is as before
+pub record AreTouched (from n : ℕ) (old new : PagesView) : Type 0 where
+  pub len : length new.marks ≡ length old.marks
+  pub marks : (p : ℕ) → p < length old.marks → mark_of new.marks p ≡ (if in_run from n p then true else mark_of old.marks p)
+  pub tags : new.tags ≡ old.tags
+
+-- whether a page is one of the n picks that begin with pick `from`
+abbrev pub is_picked : List ℕ → ℕ → ℕ → ℕ → Bool
+is_picked picks from zero page = false
+is_picked picks from (suc n) page = slice_index picks (from + n) == page || is_picked picks from n page
+
+-- this pass clears the n picks that begin with pick `from`, and all else is as before
+pub record AreCleared (picks : List ℕ) (from n pass : ℕ) (old new : PagesView) : Type 0 where
+  pub len : length new.marks ≡ length old.marks
+  pub marks : (p : ℕ) → p < length old.marks → mark_of new.marks p ≡ (if is_picked picks from n p then false else mark_of old.marks p)
+  pub tagged : length new.tags ≡ length old.tags
+  pub tags : (p : ℕ) → p < length old.tags → slice_index new.tags p ≡ (if is_picked picks from n p then pass else slice_index old.tags p)
+
+-- How they are stored. Only proofs need what follows.
+
+-- the bits of this many pages
+abbrev pub bits_of : ℕ → List ℕ → List Bool
+bits_of pages words = map (bit_in words) (range_with_len 0 pages)
+
+-- there is a bit for each page, and a tag for each or for none
+pub record IsStored (pages : ℕ) (words tags : List ℕ) : Type 0 where
+  pub marked : pages ≤ 64 * length words
+  pub tagged : 0 < length tags → length tags ≡ pages

@@ -1,0 +1,160 @@
+ghost use Rattle.std.specs.Prelude.{◌≡◌, ◌+◌, ◌-◌, ◌*◌, ◌/◌, ◌≤◌, ◌<◌, [], ℕ, false, if◌then◌else◌, length, replicate, slice_index, IfOk};
+ghost use Rattle.page_bits.specs.Bits.{bit_in};
+ghost use Rattle.damon_world.specs.Pages.{AreCleared, AreTouched, bits_of, is_picked};
+
+use page_bits::{WORD, clear_bit, is_bit_set, put_bits_of_run, set_bit};
+use sampler::{Marks, Picks};
+use std::alloc::{AllocError, Global};
+use std::marker::Model;
+
+/// The pages of one thread: the mark of each, which says whether it was touched since it was cleared last, or
+/// ever; and the tag of each, if tags are kept: the pass that cleared it last, 0 if none did.
+///
+/// A mark takes one bit. Those of a million pages are 128 KB, which stay within the nearest caches. The tags of
+/// as many pages are 8 MB, and each clear would wait for memory; so they are kept only for who asks for them.
+#[derive(Drop)]
+pub struct PlainPages {
+    pages: u32,
+    marks: Vec<u64>,
+    // Empty if no tags are kept.
+    tags: Vec<u64>,
+}
+
+impl Model for PlainPages {
+    ghost use Rattle.damon_world.specs.Pages.{IsStored, PagesView, bits_of};
+
+    ghost Value = { PagesView };
+
+    ghost view = { λ p. record { marks = bits_of p.pages p.marks.items; tags = p.tags.items } };
+
+    ghost invariant = { λ p. IsStored p.pages p.marks.items p.tags.items };
+}
+
+impl PlainPages {
+    /// `pages` pages with tags, none of which was cleared or touched. This call and
+    /// [`PlainPages::without_tags`] take memory, and no other one does.
+    pub fn new(alloc: Global, pages: u32) -> Result<PlainPages, AllocError>
+        ensures { IfOk result (λ p. p
+            ≡ record { marks = replicate pages false; tags = replicate pages 0 }) }
+    {
+        let marks = no_marks(alloc, pages)?;
+        let tags = vec![in alloc; 0; pages as usize]?;
+        Ok(PlainPages { pages, marks, tags })
+    }
+
+    /// The same without tags.
+    pub fn without_tags(alloc: Global, pages: u32) -> Result<PlainPages, AllocError>
+        ensures { IfOk result (λ p. p ≡ record { marks = replicate pages false; tags = [] }) }
+    {
+        let marks = no_marks(alloc, pages)?;
+        let tags = Vec::new(alloc);
+        Ok(PlainPages { pages, marks, tags })
+    }
+
+    /// The tag of a page, if tags are kept.
+    pub fn tag(&self, page: u32) -> u64
+        requires { page < length self.now.tags }
+        ensures { result ≡ slice_index self.now.tags page }
+    {
+        self.tags[page as usize]
+    }
+
+    /// Touches a page.
+    pub fn touch(&mut self, page: u32)
+        requires { page < length self.old.marks }
+        ensures { AreTouched page 1 self.old self.new }
+    {
+        set_bit(&mut self.marks, page);
+    }
+
+    /// Touches the pages from `from` to before `to`.
+    pub fn sweep(&mut self, from: u32, to: u32)
+        requires order { from ≤ to }
+        requires within { to ≤ length self.old.marks }
+        ensures { AreTouched from (to - from) self.old self.new }
+    {
+        put_bits_of_run(&mut self.marks, from, to - from, true);
+    }
+
+    /// The marks of the pages.
+    pub fn marks(&self) -> PlainMarks<'_>
+        ensures { bits_of result.pages result.words.now ≡ self.now.marks }
+    {
+        PlainMarks {
+            pages: self.pages,
+            words: &self.marks,
+        }
+    }
+
+    /// Clears in this pass the pages of the picks from `from` to before `to`.
+    pub fn clear(&mut self, picks: &Picks, from: u32, to: u32, pass: u64)
+        requires order { from ≤ to }
+        requires within { to ≤ length picks.now.pages }
+        requires pages { (k : ℕ) → k < to
+            → slice_index picks.now.pages k < length self.old.marks }
+        ensures { AreCleared picks.now.pages from (to - from) pass self.old self.new }
+    {
+        clear_marks(&mut self.marks, picks, from, to);
+        if !self.tags.is_empty() {
+            put_tags(&mut self.tags, picks, from, to, pass);
+        }
+    }
+}
+
+/// The marks of the pages of one thread, as they are stored. It is handed over by value, so that a loop
+/// which stores its results keeps these parts in registers.
+#[derive(Clone, Copy)]
+pub struct PlainMarks<'a> {
+    pages: u32,
+    words: &'a [u64],
+    ghost each: { pages ≤ 64 * length words.now },
+}
+
+impl Marks for PlainMarks<'_> {
+    ghost use Rattle.damon_world.specs.Pages.{bits_of};
+
+    ghost marks_of = { λ m. bits_of m.pages m.words.now };
+
+    fn is_marked(&self, page: u32) -> bool {
+        is_bit_set(self.words, page)
+    }
+}
+
+// The marks of `pages` pages, none of which was touched.
+#[tactic(auto, using(crate::proofs::Parts::bits_of_none))]
+fn no_marks(alloc: Global, pages: u32) -> Result<Vec<u64>, AllocError>
+    ensures each { IfOk result (λ marks. pages ≤ 64 * length marks.items) }
+    ensures none { IfOk result (λ marks. bits_of pages marks.items ≡ replicate pages false) }
+{
+    vec![in alloc; 0; pages.div_ceil(WORD) as usize]
+}
+
+// Clears the bits of the pages of the picks from `from` to before `to`. It is kept apart, so that its loop has
+// the registers.
+#[inline(never)]
+fn clear_marks(marks: &mut [u64], picks: &Picks, from: u32, to: u32)
+    requires order { from ≤ to }
+    requires within { to ≤ length picks.now.pages }
+    requires pages { (k : ℕ) → k < to → slice_index picks.now.pages k / 64 < length marks.old }
+    ensures len { length marks.new ≡ length marks.old }
+    ensures bits { (p : ℕ) → bit_in marks.new p
+        ≡ (if is_picked picks.now.pages from (to - from) p then false else bit_in marks.old p) }
+{
+    for next in from..to {
+        clear_bit(marks, picks.page(next));
+    }
+}
+
+// Stores this tag for the pages of the picks from `from` to before `to`.
+fn put_tags(tags: &mut [u64], picks: &Picks, from: u32, to: u32, tag: u64)
+    requires order { from ≤ to }
+    requires within { to ≤ length picks.now.pages }
+    requires pages { (k : ℕ) → k < to → slice_index picks.now.pages k < length tags.old }
+    ensures len { length tags.new ≡ length tags.old }
+    ensures tags { (p : ℕ) → p < length tags.old → slice_index tags.new p
+        ≡ (if is_picked picks.now.pages from (to - from) p then tag else slice_index tags.old p) }
+{
+    for next in from..to {
+        tags[picks.page(next) as usize] = tag;
+    }
+}
