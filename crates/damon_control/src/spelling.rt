@@ -23,8 +23,8 @@ use script_lines::{
 use std::alloc::{AllocError, Global};
 
 /// Appends the lines of a seed and a setup, as they stand in a script between its first line, which says
-/// the version, and `begin`, each ended by its LF: the seed, the unit, the cap, the attributes, the targets, the ranges
-/// by their addresses, and the schemes. A key whose value is the default is left out. By the law
+/// the version, and `begin`, each ended by its LF: the seed, the unit, the cap, the attributes, the targets,
+/// the ranges by their addresses, and the schemes. A key whose value is the default is left out. By the law
 /// [`setups_are_read_back`] they are read as the same seed and setup. When out of memory, nothing is
 /// appended.
 ///
@@ -46,9 +46,9 @@ pub fn write_setup(
 /// Appends the lines of a commit, as they stand in a script between `commit` and `apply`, each ended by
 /// its LF: its attributes, its ranges, its slot change, its metric and its cost, where it has them. A
 /// key whose value is the default is left out. By the law [`commits_are_read_back`] they are read as
-/// the same commit, in a text of version Two where it has a cost or a quota with a time. No text spells an empty list of ranges, so a commit may not have one. The ranges of a commit
-/// are given by addresses already, so nothing is asked of the space. When out of memory, nothing is
-/// appended.
+/// the same commit, in a text of version Two where it has a cost or a quota with a time. No text spells an
+/// empty list of ranges, so a commit may not have one. The ranges of a commit are given by addresses already,
+/// so nothing is asked of the space. When out of memory, nothing is appended.
 ///
 /// [`commits_are_read_back`]: crate::commits_are_read_back
 pub fn write_commit(

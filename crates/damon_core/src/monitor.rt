@@ -219,8 +219,8 @@ impl Monitor {
         self.sampling.picks()
     }
 
-    /// Prepares a pass: picks a page of each row by the words that are given, one for each. No pass is under way
-    /// and no aggregation is due.
+    /// Prepares a pass: picks a page of each row by the words that are given, one for each. No pass is under
+    /// way and no aggregation is due.
     pub fn prepare(&mut self, words: &[u32])
         requires idle { self.old.core.phase ≡ Phase.Idle }
         requires words { length words.now ≡ row_count self.old.core }
@@ -232,8 +232,8 @@ impl Monitor {
         self.sampling.prepare(words);
     }
 
-    /// Prepares a pass as [`Monitor::prepare`] does, by the next random words of a source. They are drawn as the
-    /// pages are picked, which is faster than a list of them.
+    /// Prepares a pass as [`Monitor::prepare`] does, by the next random words of a source. They are drawn as
+    /// the pages are picked, which is faster than a list of them.
     pub fn prepare_from<R: Rng>(&mut self, source: &mut R)
         requires { self.old.core.phase ≡ Phase.Idle }
         ensures core { self.new.core
@@ -357,8 +357,8 @@ impl Monitor {
         self.clock.since = 0;
     }
 
-    /// Commits new attributes, new ranges, a change of a slot, a metric and a cost, or some of these. Returns the
-    /// number of rows and whether the pass under way became void, or the first check that failed
+    /// Commits new attributes, new ranges, a change of a slot, a metric and a cost, or some of these. Returns
+    /// the number of rows and whether the pass under way became void, or the first check that failed
     /// ([`validate`]); then nothing has changed.
     ///
     /// The attributes take effect first. New ranges replace those that are watched, and the rows become
@@ -473,8 +473,8 @@ fn first_engine(alloc: Global, setup: &Setup) -> Result<Engine, AllocError>
     Ok(engine)
 }
 
-// Makes the slot change of a commit, and hands on its metric and its cost, if it has them. The slots are ones that
-// exist.
+// Makes the slot change of a commit, and hands on its metric and its cost, if it has them. The slots are ones
+// that exist.
 fn change_slots(engine: &mut Engine, commit: &Commit)
     requires slot { (change : slot_change) → commit.now.slot ≡ Some change → change.slot ≤ MAX_SLOT }
     requires cost { (part : cost_part) → commit.now.cost ≡ Some part → part.slot ≤ MAX_SLOT }

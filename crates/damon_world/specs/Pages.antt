@@ -11,7 +11,7 @@ pub record PagesView : Type 0 where
   pub marks : List Bool
   pub tags : List ℕ
 
--- so many pages have the marks that the notes give, and those that have tags the tags
+-- the first `count` pages have the marks that the notes give, and those that have tags have the tags
 pub record ArePagesOf (pages : PagesView) (notes : List Note) (count : ℕ) : Type 0 where
   pub marks : (p : ℕ) → p < count → mark_of pages.marks p ≡ is_touched notes p
   pub tags : (p : ℕ) → p < length pages.tags → slice_index pages.tags p ≡ last_clear notes p

@@ -10,8 +10,9 @@ use std::marker::Model;
 /// The pages of one thread: the mark of each, which says whether it was touched since it was cleared last, or
 /// ever; and the tag of each, if tags are kept: the pass that cleared it last, 0 if none did.
 ///
-/// A mark takes one bit. Those of a million pages are 128 KB, which stay within the nearest caches. The tags of
-/// as many pages are 8 MB, and each clear would wait for memory; so they are kept only for who asks for them.
+/// A mark takes one bit. Those of a million pages are 128 KB, which stay within the nearest caches. The tags
+/// of as many pages are 8 MB, and each clear would wait for memory; so they are kept only for who asks for
+/// them.
 #[derive(Drop)]
 pub struct PlainPages {
     pages: u32,
@@ -129,8 +130,8 @@ fn no_marks(alloc: Global, pages: u32) -> Result<Vec<u64>, AllocError>
     vec![in alloc; 0; pages.div_ceil(WORD) as usize]
 }
 
-// Clears the bits of the pages of the picks from `from` to before `to`. It is kept apart, so that its loop has
-// the registers.
+// Clears the bits of the pages of the picks from `from` to before `to`. It is kept apart, so that its loop
+// has the registers.
 #[inline(never)]
 fn clear_marks(marks: &mut [u64], picks: &Picks, from: u32, to: u32)
     requires order { from ≤ to }

@@ -122,8 +122,8 @@ impl<R: Jump + Drop> World<R> {
         &self.monitor
     }
 
-    /// Touches a page of the space, and returns its tag: the pass that cleared it last, 0 if none did. The world
-    /// keeps tags.
+    /// Touches a page of the space, and returns its tag: the pass that cleared it last, 0 if none did. The
+    /// world keeps tags.
     pub fn touch(&mut self, page: u32) -> u64
         requires page { page < pages_of self.old.monitor.core.space }
         requires tags { KeepsTags self.old }

@@ -14,7 +14,8 @@ use target_ranges::check_ranges;
 /// nor `Checking`; new ranges are at least one, and each is accepted; the ranges after the commit
 /// are no more than the regions that are allowed after it; new attributes are within their limits,
 /// and allow at most `cap` regions; a slot that is changed exists, and its new scheme is within its
-/// limits; a cost is of a slot that exists, in a version that has costs. The clears and loads that the pass has made must be fewer than 2^32.
+/// limits; a cost is of a slot that exists, in a version that has costs. The clears and loads that the pass
+/// has made must be fewer than 2^32.
 pub fn validate(commit: &Commit, space: &Space, view: &View) -> Result<(), CommitFault>
     requires few { steps_made view.now.phase view.now.rows < 2 ^ 32 }
     ensures exact { result ≡ checked_commit space.now view.now (commit_value commit.now) }

@@ -1,4 +1,5 @@
-//! Tests of the monitor and of a world. They stand in a crate of their own, since a crate with tests is proved twice.
+//! Tests of the monitor and of a world. They stand in a crate of their own, since a crate with tests is
+//! proved twice.
 #![tactic(auto)]
 
 /// The steps of a pass.

@@ -15,7 +15,7 @@ count_pages pages test = count_by test (range_with_len 0 pages)
 abbrev pub differs : Bool → Bool → Bool
 differs now bit = if now then not bit else bit
 
--- The bits of a run are all `now`, and so many of them were not so before: counted over any number of pages that has the run.
+-- The bits of a run are all `now`, and `changed` of them were not so before: counted over any number of pages that has the run.
 pub record IsRunPut (old new : List ℕ) (start pages : ℕ) (now : Bool) (changed : ℕ) : Type 0 where
   pub len : length new ≡ length old
   pub bits : (p : ℕ) → bit_in new p ≡ (if in_run start pages p then now else bit_in old p)

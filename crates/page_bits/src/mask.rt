@@ -3,8 +3,8 @@ ghost use Rattle.page_bits.specs.Bits.{is_set};
 
 use crate::WORD;
 
-/// The word with ones from bit `from`, which is below 64, to before bit `to`, which is from 1 to 64, and with zeros
-/// elsewhere.
+/// The word with ones from bit `from`, which is below 64, to before bit `to`, which is from 1 to 64, and with
+/// zeros elsewhere.
 #[inline(always)]
 pub fn ones_between(from: u32, to: u32) -> u64
     requires from { from < 64 }

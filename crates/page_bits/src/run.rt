@@ -4,8 +4,8 @@ ghost use Rattle.page_bits.specs.Runs.{IsRunPut, count_pages, differs};
 
 use crate::{WORD, ones_between};
 
-/// Sets the bits of the pages of a run, which have words, or clears them: each becomes `now`. Returns how many of
-/// them were not so.
+/// Sets the bits of the pages of a run, which have words, or clears them: each becomes `now`. Returns how
+/// many of them were not so.
 pub fn put_bits_of_run(words: &mut [u64], start: u32, pages: u32, now: bool) -> u32
     requires sum { start + pages < 2 ^ 32 }
     requires within { start + pages ≤ 64 * length words.old }

@@ -57,7 +57,8 @@ impl Reclaim {
         })
     }
 
-    /// Touches a page of the space, and returns whether it was out. If so, this is a refault, and brings it back.
+    /// Touches a page of the space, and returns whether it was out. If so, this is a refault, and brings it
+    /// back.
     #[tactic(auto, using(crate::proofs::Moving::touch_loss))]
     pub fn touch(&mut self, page: u32) -> bool
         requires { page < length self.old.out }

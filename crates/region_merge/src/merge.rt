@@ -112,8 +112,8 @@ impl RowPass for MergePass {
 }
 
 impl MergePass {
-    // The first row from this one on to which the next one is joined, or the last row. The rows before it stay
-    // as they are, and most rows do: such a stretch is copied in one piece.
+    // The first row from this one on to which the next one is joined, or the last row. The rows before it
+    // stay as they are, and most rows do: such a stretch is copied in one piece.
     fn first_pair(&self, ranges: &Ranges, rows: &RowBuf, from: RowPlace) -> RowPlace
         requires order { InOrder ranges.now.list }
         requires within { from.index < length rows.now.rows }
