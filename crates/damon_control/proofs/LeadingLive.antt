@@ -37,17 +37,17 @@ use Rattle.damon_control.proofs.Steps.{bind-Ok, either_way}
 -- ---- touches
 
 -- a touch or a sweep
-abbrev touches : CommandValue → Bool
+abbrev pub touches : CommandValue → Bool
 touches (Touch page) = true
 touches (Sweep from to) = true
 touches _ = false
 
 -- a line that touches pages is read as a command that touches them
-record IsTouching (space : List Target) (line : List ℕ) (pages : List ℕ) : Type 0 where
-  begins : (begins_with (codes "touch") line || begins_with (codes "sweep") line) ≡ true
-  command : CommandValue
-  read : touching space line ≡ Ok command
-  touched_is : touched command ≡ pages
+pub record IsTouching (space : List Target) (line : List ℕ) (pages : List ℕ) : Type 0 where
+  pub begins : (begins_with (codes "touch") line || begins_with (codes "sweep") line) ≡ true
+  pub command : CommandValue
+  pub read : touching space line ≡ Ok command
+  pub touched_is : touched command ≡ pages
 
 word_touches : (word : List ℕ) (said : CommandValue) (line : List ℕ) (c : CommandValue) → touches said ≡ false → word_line word said line ≡ Ok c → touches c ≡ true → ⊥
 word_touches word said line c differs e is_touching =
@@ -57,7 +57,7 @@ word_touches word said line c differs e is_touching =
     absurd cc
 
 -- a line that is read as a touch or a sweep begins with its word
-touching_read : (space : List Target) (line : List ℕ) (c : CommandValue) → touches c ≡ true → command_line space line ≡ Ok c → IsTouching space line (touched c)
+pub touching_read : (space : List Target) (line : List ℕ) (c : CommandValue) → touches c ≡ true → command_line space line ≡ Ok c → IsTouching space line (touched c)
 touching_read space line c is e =
     both_ways (begins_with (codes "touch") line) _ _ _
     (λ begins read. record {

@@ -1,3 +1,4 @@
+pub mod LiveTouch
 pub mod Steps
 pub mod PartLemmas
 pub mod TouchLemmas

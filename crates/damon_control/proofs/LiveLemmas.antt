@@ -34,7 +34,7 @@ pub some_more : {A : Type 0} (xs : List A) (x : A) → (length (xs ++ x ∷ []) 
 some_more xs x = grind (arith, nat_tests, length-append xs (x ∷ []))
 
 -- what is said by a step within a live script
-joined : {A : Type 0} (n : ℕ) (r : Result A ScriptKind) (f : A → LiveValue) (next : Place OfLive → Result LiveValue ScriptFault)
+pub joined : {A : Type 0} (n : ℕ) (r : Result A ScriptKind) (f : A → LiveValue) (next : Place OfLive → Result LiveValue ScriptFault)
     → (at n (live_within (r >>= λ x. Ok (f x))) >>= next) ≡ (at n r >>= λ x. next (InBody (f x)))
 joined n (Ok x) f next = refl
 joined n (Err kind) f next = refl

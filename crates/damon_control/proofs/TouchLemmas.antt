@@ -22,7 +22,7 @@ joined_line line [] some = absurd (omega arith)
 joined_line line (next ∷ more) some = refl
 
 -- a line without an LF is the first part of a text
-parts_line : (puts : PutsPartsTogether) (takes : TakesApartPieces) (line rest : List ℕ) → IsPiece 10 line → parts 10 (line ++ 10 ∷ rest) ≡ line ∷ parts 10 rest
+pub parts_line : (puts : PutsPartsTogether) (takes : TakesApartPieces) (line rest : List ℕ) → IsPiece 10 line → parts 10 (line ++ 10 ∷ rest) ≡ line ∷ parts 10 rest
 parts_line puts takes line rest piece =
     ap (λ bytes. parts 10 (line ++ 10 ∷ bytes)) (sym (puts 10 rest).0)
     ∙ ap (parts 10) (sym (joined_line line (parts 10 rest) (parts-some 10 rest)))

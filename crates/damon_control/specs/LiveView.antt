@@ -1,5 +1,5 @@
 -- What a live script and its parts show.
-use Rattle.std.specs.Prelude.{◌≡◌, ◌≤◌, ℕ, ◌+◌, true, false, List, [], ◌∷◌, ◌++◌, length, map, codes, Result}
+use Rattle.std.specs.Prelude.{◌≡◌, ◌≤◌, ℕ, ◌+◌, true, false, nat_le, List, [], ◌∷◌, ◌++◌, length, map, codes, Option, None, Some, Result}
 use Rattle.damon_types.specs.Listed.{Listed}
 use Rattle.live_commit.specs.Commit.{commit_value}
 use Rattle.live_commit.specs.SetupView.{value_of}
@@ -12,8 +12,12 @@ use Rattle.damon_control.specs.declared.lines.Lines.{Lines}
 use Rattle.damon_control.specs.declared.live.TheConstants.{MAX_CONTROLLERS, MAX_WORKERS}
 use Rattle.damon_control.specs.Left.{first_begins, reads_left}
 use Rattle.damon_control.specs.Live.{CallValue, CommitCall, LiveValue, ShowCall, call_within, count_all, has_controller}
-use Rattle.script_lines.specs.Blocks.{block_line, touches_within}
-use Rattle.script_lines.specs.Refusal.{◌>>=◌}
+use Rattle.script_lines.specs.declared.blocks.Pages.{Pages}
+use Rattle.script_lines.specs.declared.blocks.TheConstants.{MAX_TOUCHES}
+use Rattle.script_lines.specs.declared.kind.ScriptKind.{ScriptKind}
+use Rattle.script_lines.specs.declared.kind.ScriptKind.TheVariants.{TooMuch}
+use Rattle.script_lines.specs.Blocks.{block_line, page_list, touches_within}
+use Rattle.script_lines.specs.Refusal.{◌>>=◌, only_if}
 use Rattle.damon_control.specs.Script.{AtEnd, InBody, at}
 use Rattle.script_lines.specs.Words.{alone}
 
@@ -57,6 +61,20 @@ reads_worker v ws line lines =
 abbrev pub reads_touches : LiveValue → List (List ℕ) → List ℕ → List ℕ → Lines → Result LiveValue ScriptFault
 reads_touches v ws t line lines =
     at lines.taken (touches_within v.setup.space line (count_all ws + length t)) >>= λ pages. reads_left OfLive (InBody (with_workers v (ws ++ (t ++ pages) ∷ []))) lines
+
+-- the page of a touch, where it and this number of touches before it are at most MAX_TOUCHES
+abbrev pub touch_within : ℕ → ℕ → Result (List ℕ) ScriptKind
+touch_within page before = only_if (nat_le (before + 1) MAX_TOUCHES) TooMuch (page ∷ [])
+
+-- what is said by a touch of this page by the last worker, whose line was taken, and the lines that are left after it
+abbrev pub reads_touch : LiveValue → List (List ℕ) → List ℕ → ℕ → Lines → Result LiveValue ScriptFault
+reads_touch v ws t page lines =
+    at lines.taken (touch_within page (count_all ws + length t)) >>= λ pages. reads_left OfLive (InBody (with_workers v (ws ++ (t ++ pages) ∷ []))) lines
+
+-- a trace with the pages of one more line, if there is one
+abbrev pub with_pages : List ℕ → Option Pages → List ℕ
+with_pages trace None = trace
+with_pages trace (Some pages) = trace ++ page_list pages
 
 -- the same of a line that begins a controller after these
 abbrev pub reads_controller : LiveValue → List (List CallValue) → List ℕ → Lines → Result LiveValue ScriptFault

@@ -1,10 +1,12 @@
-ghost use Rattle.std.specs.Prelude.{ℕ, List, ◌≡◌, ◌+◌, ◌<◌, ◌≤◌, length, IfOk, IfErr, IfNone, IfSome, OnOk, Ok, Err};
+ghost use Rattle.std.specs.Prelude.{ℕ, List, [], ◌∷◌, ◌++◌, ◌≡◌, ◌+◌, ◌<◌, ◌≤◌, length, IfOk, IfErr, IfNone, IfSome, OnOk, Ok, Err};
 ghost use Rattle.damon_types.specs.Space.{pages_of};
 ghost use Rattle.script_lines.specs.Command.{Touch};
 ghost use Rattle.damon_control.specs.Left.{IsOpen, IsShort, first_begins, reads_command, reads_on, reads_left};
 ghost use Rattle.damon_control.specs.Script.{AtEnd, Body, InBody, Place, Said, at};
 ghost use Rattle.damon_control.specs.declared.grammar.Grammar.{Grammar as grammar};
-ghost use Rattle.damon_control.specs.declared.grammar.Grammar.TheVariants.{OfScript as of_script};
+ghost use Rattle.damon_control.specs.declared.grammar.Grammar.TheVariants.{OfLive as of_live, OfScript as of_script};
+ghost use Rattle.damon_control.specs.Live.{LiveValue as live};
+ghost use Rattle.damon_control.specs.LiveView.{reads_touch, with_workers};
 ghost use Rattle.script_lines.specs.Words.{begins_with};
 
 use crate::ScriptFault;
@@ -61,11 +63,16 @@ impl<'a> Lines<'a> {
         }
     }
 
-    // Takes the next line if it is a touch, and returns the page. Else nothing is taken.
+    // Takes the next line if it is a touch, and returns the page. Else nothing is taken. A touch is read by
+    // a script and by a live script.
     pub fn take_touch(&mut self, space: &Space) -> Option<u32>
         requires { IsShort self.old }
         ensures said { IfSome result (λ page. (b : Body) → b.said.setup.space ≡ space.now →
             reads_left of_script (InBody b) self.old ≡ reads_command b (Touch page) self.new) }
+        ensures live { IfSome result (λ page. (v : live) (ws : List (List ℕ)) (t : List ℕ)
+            → v.setup.space ≡ space.now →
+            reads_left of_live (InBody (with_workers v (ws ++ t ∷ []))) self.old
+            ≡ reads_touch v ws t page self.new) }
         ensures below { IfSome result (λ page. page < pages_of space.now) }
         ensures taken { IfSome result (λ _. self.new.taken ≡ self.old.taken + 1) }
         ensures shorter { IfSome result (λ _. length self.new.rest.now < length self.old.rest.now) }

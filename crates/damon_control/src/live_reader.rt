@@ -1,4 +1,4 @@
-ghost use Rattle.std.specs.Prelude.{◌≡◌, ℕ, List, [], ◌∷◌, ◌++◌, ◌≤◌, ◌<◌, ◌+◌, ◌-◌, All, true, false, Ok, Err, IfOk, IfErr, OnOk, codes, ◌||◌, length, nat_le, nat_lt, map, Result};
+ghost use Rattle.std.specs.Prelude.{◌≡◌, ℕ, List, [], ◌∷◌, ◌++◌, ◌≤◌, ◌<◌, ◌+◌, ◌-◌, All, true, false, Ok, Err, IfOk, IfErr, IfNone, IfSome, OnOk, codes, ◌||◌, length, nat_le, nat_lt, map, Result};
 ghost use Rattle.std.specs.List.{range_with_len};
 ghost use Rattle.damon_types.specs.declared.range.RangeSpec.{RangeSpec as spec};
 ghost use Rattle.damon_types.specs.declared.scheme.SlotChange.{SlotChange as change};
@@ -12,8 +12,8 @@ ghost use Rattle.script_lines.specs.declared.setup.Frame.{Frame as frame};
 ghost use Rattle.script_lines.specs.Head.{setup_said};
 ghost use Rattle.damon_control.specs.Left.{FaultOf, IsShort, MovesTo, first_begins, reads_left};
 ghost use Rattle.damon_control.specs.Live.{LiveValue as live, count_all, live_begun};
-ghost use Rattle.script_lines.specs.Blocks.{page_list};
-ghost use Rattle.damon_control.specs.LiveView.{NoBlock, NoTouch, NoWorker, calls_of, live_said, reads_end, reads_touches, reads_worker, traces_of, with_workers};
+ghost use Rattle.script_lines.specs.Blocks.{page_list, pages_said};
+ghost use Rattle.damon_control.specs.LiveView.{NoBlock, NoTouch, NoWorker, calls_of, live_said, reads_end, reads_touches, reads_worker, touch_within, traces_of, with_pages, with_workers};
 ghost use Rattle.damon_control.specs.Script.{AtEnd, AtHeader, AtSchemes, InBody, live_of};
 
 use crate::calls::read_controllers;
@@ -24,7 +24,9 @@ use crate::reader::{make_setup, read_head};
 use crate::{ReadFail, ScriptFault};
 use damon_types::Space;
 use live_commit::Setup;
-use script_lines::{MAX_PASSES, MAX_TOUCHES, Pages, alone, read_block, read_passes, read_touches};
+use script_lines::{
+    MAX_PASSES, MAX_TOUCHES, Pages, ScriptKind, alone, read_block, read_passes, read_touches,
+};
 use std::alloc::{AllocError, Global};
 
 /// Reads a live script of at most [`MAX_BYTES`](crate::MAX_BYTES) bytes. For any other text, returns the
@@ -191,8 +193,7 @@ fn read_trace(
     ensures shorter { OnOk result (length lines.new.rest.now ≤ length lines.old.rest.now) }
 {
     let mut trace = Trace::new(alloc);
-    'touches: while is_touched(lines) {
-        let pages = take_touches(lines, space, *touches)?;
+    'touches: while let Some(pages) = next_touches(lines, space, *touches)? {
         *touches += pages.to - pages.from;
         push_pages(&mut trace, pages)?;
     }
@@ -223,6 +224,65 @@ fn take_end<'a>(lines: &mut Lines<'a>) -> Result<&'a [u8], ScriptFault>
 {
     let line = lines.take_line()?;
     Ok(line)
+}
+
+// Reads the next line of touches, after this many touches, or nothing where the next line is none. Most
+// lines are a plain touch, which has a faster reader.
+fn next_touches(
+    lines: &mut Lines,
+    space: &Space,
+    touches: u32,
+) -> Result<Option<Pages>, ScriptFault>
+    requires small { IsShort lines.old }
+    requires most { touches ≤ MAX_TOUCHES }
+    ensures ok { IfOk result (λ next. (v : live) (ws : List (List ℕ)) (t : List ℕ)
+        → v.setup.space ≡ space.now → count_all ws + length t ≡ touches →
+        MovesTo of_live (InBody (with_workers v (ws ++ t ∷ []))) lines.old
+        (InBody (with_workers v (ws ++ with_pages t next ∷ []))) lines.new) }
+    ensures fault { IfErr result (λ fault. (v : live) (ws : List (List ℕ)) (t : List ℕ)
+        → v.setup.space ≡ space.now → count_all ws + length t ≡ touches →
+        reads_left of_live (InBody (with_workers v (ws ++ t ∷ []))) lines.old ≡ Err fault) }
+    ensures rise { IfOk result (λ next. IfSome next (λ p. p.from ≤ p.to)) }
+    ensures most { IfOk result (λ next. IfSome next (λ p. touches + (p.to - p.from) ≤ MAX_TOUCHES)) }
+    ensures within { IfOk result (λ next. IfSome next (λ p. p.to ≤ pages_of space.now)) }
+    ensures past { IfOk result (λ next. IfNone next (NoTouch lines.new.rest.now)) }
+    ensures small { IsShort lines.new }
+    ensures shorter { IfOk result (λ next. IfSome next (λ _.
+        length lines.new.rest.now < length lines.old.rest.now)) }
+    ensures as_long { IfOk result (λ next. IfNone next (
+        length lines.new.rest.now ≡ length lines.old.rest.now)) }
+{
+    if let Some(page) = lines.take_touch(space) {
+        let pages = lines.refuse(one_page(space, page, touches))?;
+        return Ok(Some(pages));
+    }
+    if is_touched(lines) {
+        let pages = take_touches(lines, space, touches)?;
+        Ok(Some(pages))
+    } else {
+        Ok(None)
+    }
+}
+
+// The page of a touch, after this many touches.
+fn one_page(space: &Space, page: u32, touches: u32) -> Result<Pages, ScriptKind>
+    requires below { page < pages_of space.now }
+    requires most { touches ≤ MAX_TOUCHES }
+    ensures exact { pages_said result ≡ touch_within page touches }
+    ensures rise { IfOk result (λ p. p.from ≤ p.to) }
+    ensures most { IfOk result (λ p. touches + (p.to - p.from) ≤ MAX_TOUCHES) }
+    ensures within { IfOk result (λ p. p.to ≤ pages_of space.now) }
+{
+    // There are at most 1,048,576 pages.
+    let _targets = space.targets();
+    if touches < MAX_TOUCHES {
+        Ok(Pages {
+            from: page,
+            to: page + 1,
+        })
+    } else {
+        Err(ScriptKind::TooMuch)
+    }
 }
 
 // Whether the next line is a touch or a sweep.
