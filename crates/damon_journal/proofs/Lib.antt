@@ -2,6 +2,9 @@ pub mod Listing
 pub mod Appending
 pub mod Appended
 pub mod OpenHits
+pub mod ReceiptColumns
+pub mod ReceiptExamples
+pub mod SeenGroups
 pub mod SeenText
 pub mod SpelledCalls
 pub mod EntriesText

@@ -1,3 +1,4 @@
+pub mod ReceiptColumns
 pub mod Status
 pub mod Phases
 pub mod Words

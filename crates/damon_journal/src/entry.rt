@@ -1,3 +1,4 @@
+use crate::receipt_list::ReceiptList;
 use damon_types::PlainList;
 use live_commit::CommitFault;
 
@@ -52,4 +53,4 @@ pub struct Receipt {
 }
 
 /// The receipts of each worker, in the order of its touches.
-pub type Receipts = PlainList<PlainList<Receipt>>;
+pub type Receipts = PlainList<ReceiptList>;

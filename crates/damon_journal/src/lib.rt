@@ -34,6 +34,8 @@ mod lawful;
 mod laws;
 /// Parts of lines.
 mod line_parts;
+/// The receipts of a worker, in columns.
+mod receipt_list;
 /// A journal that is carried out from one aggregation to the next.
 mod replayer;
 /// The monitor that carries out a journal.
@@ -74,6 +76,7 @@ pub use laws::{
     hits_are_few, journals_grow, lawful_journals_are_read, lawful_numbers_fit, one_pass_by_hand,
     read_journals_are_lawful, rejected_texts_are_unlawful, settled_receipts_are_lawful, woven_runs,
 };
+pub use receipt_list::ReceiptList;
 pub use replayer::Replayer;
 pub use status::Status;
 pub use text::journal_text;

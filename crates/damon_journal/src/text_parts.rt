@@ -51,7 +51,7 @@ pub(crate) enum Part<'a> {
     // Before the entry with this index, with the results of the checks from there on.
     Entries { next: usize, results: Results<'a> },
     // Before a receipt of a worker, or before the line after all receipts.
-    Receipts { worker: u32, next: usize },
+    Receipts { worker: u32, next: u32 },
     // Before what is shown of the monitor.
     Last,
     // After the last line.
@@ -258,7 +258,7 @@ fn write_receipts<'a>(
     out: &mut Vec<u8>,
     run: &Recorded<'a>,
     worker: u32,
-    next: usize,
+    next: u32,
     limit: usize,
 ) -> Result<Part<'a>, AllocError>
     requires recorded { IsRecorded run.now }
@@ -274,7 +274,7 @@ fn write_receipts<'a>(
         write_line(out, b"settled")?;
         return Ok(Part::Last);
     }
-    let own = run.receipts.get(worker).as_slice();
+    let own = run.receipts.get(worker);
     let at = write_seen(out, &run.script.setup.space, worker, own, next, limit)?;
     if at < own.len() {
         return Ok(Part::Receipts { worker, next: at });
