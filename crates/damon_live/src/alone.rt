@@ -10,7 +10,7 @@ ghost use Rattle.damon_live.specs.Whole.{AreInSpace, IsWholeRun, TracesAreInSpac
 ghost use Rattle.damon_live.specs.Work.{AreNumbered};
 
 use crate::begin::{Begun, begin_run};
-use crate::ends::{AloneRun, end_run};
+use crate::ends::{AloneRun, Ended, end_run, with_script};
 use crate::jobs::make_words;
 use crate::named::Named;
 use crate::pace::NoPace;
@@ -39,7 +39,8 @@ pub fn run_alone(alloc: Global, script: LiveScript) -> Result<AloneRun, AllocErr
         r.journal.checked ≡ check_sizes (live_said script) r.journal.value) }
 {
     let WordsAndSeat { words, seat } = make_words(alloc, &script)?;
-    run_named::<Brand>(alloc, words, seat, script)
+    let ended = run_named::<Brand>(alloc, words, seat, &script)?;
+    Ok(with_script(script, ended))
 }
 
 // The same on the named table.
@@ -47,17 +48,16 @@ fn run_named<N: Named>(
     alloc: Global,
     words: PageWords,
     seat: MonitorSeat,
-    script: LiveScript,
-) -> Result<AloneRun, AllocError>
+    script: &LiveScript,
+) -> Result<Ended, AllocError>
     requires table { words ≡ N.table }
     requires seat { seat ≡ record { table = N.table; entries = []; out = 0 } }
-    requires said { live_said script ≡ N.script }
+    requires said { live_said script.now ≡ N.script }
     requires seats { length N.script.workers ≡ N.seats }
     requires space { N.table.words ≡ pages_of N.script.setup.space }
     requires limits { KeepsLimits N.script }
     requires product { N.script.passes * N.script.setup.cap ≤ 4194304 }
     requires pages { AreInSpace N.script }
-    ensures script { IfOk result (λ r. live_said r.script ≡ N.script) }
     ensures run { IfOk result (λ r.
         IsWholeRun N.script r.journal.value (receipts_said r.receipts)) }
     ensures stands { IfOk result (λ r. Stands r.monitor (replay N.script r.journal.value).state) }
@@ -69,7 +69,7 @@ fn run_named<N: Named>(
         receipts,
     } = begin_run::<N>(alloc, &words, seat, script)?;
     make_rest(&mut kept, &words);
-    let made = work_all(alloc, &words, &kept.script().workers, jobs)?;
+    let made = work_all(alloc, &words, &script.workers, jobs)?;
     Ok(end_run(words, kept, made, receipts))
 }
 

@@ -17,22 +17,22 @@ use std::alloc::{AllocError, Global};
 /// A run before its first step: what the lock keeps, what workers are given, and room for the lists of
 /// their receipts.
 #[derive(Drop)]
-pub(crate) struct Begun<N: Named> {
-    pub kept: Kept<N>,
+pub(crate) struct Begun<'a, N: Named> {
+    pub kept: Kept<'a, N>,
     pub jobs: Vec<Job<N>>,
     pub receipts: Receipts,
 }
 
 /// Takes the memory of a run.
-pub(crate) fn begin_run<N: Named>(
+pub(crate) fn begin_run<'a, N: Named>(
     alloc: Global,
     words: &PageWords,
     mut seat: MonitorSeat,
-    script: LiveScript,
-) -> Result<Begun<N>, AllocError>
+    script: &'a LiveScript,
+) -> Result<Begun<'a, N>, AllocError>
     requires table { words.now ≡ N.table }
     requires seat { seat ≡ record { table = N.table; entries = []; out = 0 } }
-    requires said { live_said script ≡ N.script }
+    requires said { live_said script.now ≡ N.script }
     requires seats { length N.script.workers ≡ N.seats }
     requires space { N.table.words ≡ pages_of N.script.setup.space }
     requires limits { KeepsLimits N.script }
@@ -43,7 +43,7 @@ pub(crate) fn begin_run<N: Named>(
     ensures room { IfOk result (λ r. N.seats ≤ r.receipts.spare) }
 {
     let receipts = room_for(alloc, script.workers.len())?;
-    let jobs = split_all::<N>(alloc, words, &mut seat, &script)?;
+    let jobs = split_all::<N>(alloc, words, &mut seat, script)?;
     let kept = Kept::<N>::new(alloc, script, seat)?;
     Ok(Begun {
         kept,

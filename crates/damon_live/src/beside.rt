@@ -1,15 +1,15 @@
 // Workers, controllers and passes beside each other.
 ghost use Rattle.std.specs.Prelude.{◌≡◌, ℕ, ◌<◌, IfOk, length, vec_len, slice_index_or};
 ghost use Rattle.damon_types.specs.Space.{pages_of};
-ghost use Rattle.damon_control.specs.LiveView.{traces_of};
+ghost use Rattle.damon_control.specs.LiveView.{live_said};
 ghost use Rattle.damon_live.specs.Whole.{AreInSpace};
 ghost use Rattle.damon_live.specs.Work.{AreNumbered};
 
 use crate::kept::Kept;
 use crate::named::Named;
 use crate::pace::{Pace, Spot};
-use crate::told::Told;
 use crate::work::{Done, Job, work};
+use damon_control::LiveScript;
 use live_commit::Phase;
 use page_words::PageWords;
 use std::alloc::{AllocError, Global};
@@ -19,17 +19,17 @@ use std::thread::Threads;
 
 /// Makes the touches of each worker and the calls of each controller in threads of their own, and the
 /// passes in this one.
-pub(crate) fn run_beside<N: Named + Send + Sync, R: Threads + Wait + Sync, P: Pace + Sync>(
+pub(crate) fn run_beside<'a, N: Named + Send + Sync, R: Threads + Wait + Sync, P: Pace + Sync>(
     rt: &R,
     alloc: Global,
     words: &PageWords,
-    kept: Kept<N>,
-    told: &Told,
+    kept: Kept<'a, N>,
+    script: &LiveScript,
     jobs: Vec<Job<N>>,
     pace: &P,
-) -> Result<(Kept<N>, Vec<Done<N>>), AllocError>
+) -> Result<(Kept<'a, N>, Vec<Done<N>>), AllocError>
     requires table { words.now ≡ N.table }
-    requires told { traces_of told.now.traces.list ≡ N.script.workers }
+    requires said { live_said script.now ≡ N.script }
     requires space { N.table.words ≡ pages_of N.script.setup.space }
     requires pages { AreInSpace N.script }
     requires numbered { AreNumbered (λ j. j.worker) jobs.items }
@@ -42,16 +42,16 @@ pub(crate) fn run_beside<N: Named + Send + Sync, R: Threads + Wait + Sync, P: Pa
         rt,
         || -> Result<Vec<Done<N>>, AllocError>
             requires { (words.now ≡ N.table)
-                × (traces_of told.now.traces.list ≡ N.script.workers)
+                × (live_said script.now ≡ N.script)
                 × (N.table.words ≡ pages_of N.script.setup.space)
                 × AreInSpace N.script
                 × AreNumbered (λ j. j.worker) jobs.items }
             ensures { IfOk result (λ d. (vec_len d ≡ vec_len jobs)
                 × AreNumbered (λ d. d.worker) d.items) }
-        { work_beside(rt, words, told, jobs, pace) },
+        { work_beside(rt, words, script, jobs, pace) },
         || -> Result<Vec<u32>, AllocError>
             requires { words.now ≡ N.table }
-        { call_beside(rt, alloc, words, shared, told, pace) },
+        { call_beside(rt, alloc, words, shared, script, pace) },
     );
     let made = made?;
     called?;
@@ -62,19 +62,19 @@ pub(crate) fn run_beside<N: Named + Send + Sync, R: Threads + Wait + Sync, P: Pa
 fn work_beside<N: Named + Send + Sync, R: Threads + Sync, P: Pace + Sync>(
     rt: &R,
     words: &PageWords,
-    told: &Told,
+    script: &LiveScript,
     jobs: Vec<Job<N>>,
     pace: &P,
 ) -> Result<Vec<Done<N>>, AllocError>
     requires table { words.now ≡ N.table }
-    requires told { traces_of told.now.traces.list ≡ N.script.workers }
+    requires said { live_said script.now ≡ N.script }
     requires space { N.table.words ≡ pages_of N.script.setup.space }
     requires pages { AreInSpace N.script }
     requires numbered { AreNumbered (λ j. j.worker) jobs.items }
     ensures len { IfOk result (λ d. vec_len d ≡ vec_len jobs) }
     ensures numbered { IfOk result (λ d. AreNumbered (λ d. d.worker) d.items) }
 {
-    let made = touch_beside(rt, words, told, jobs, pace)?;
+    let made = touch_beside(rt, words, script, jobs, pace)?;
     Ok(made)
 }
 
@@ -82,12 +82,12 @@ fn work_beside<N: Named + Send + Sync, R: Threads + Sync, P: Pace + Sync>(
 fn touch_beside<N: Named + Send + Sync, R: Threads + Sync, P: Pace + Sync>(
     rt: &R,
     words: &PageWords,
-    told: &Told,
+    script: &LiveScript,
     jobs: Vec<Job<N>>,
     pace: &P,
 ) -> Result<Vec<Done<N>>, AllocError>
     requires table { words.now ≡ N.table }
-    requires told { traces_of told.now.traces.list ≡ N.script.workers }
+    requires said { live_said script.now ≡ N.script }
     requires space { N.table.words ≡ pages_of N.script.setup.space }
     requires pages { AreInSpace N.script }
     ensures len { IfOk result (λ d. vec_len d ≡ vec_len jobs) }
@@ -99,11 +99,11 @@ fn touch_beside<N: Named + Send + Sync, R: Threads + Sync, P: Pace + Sync>(
         jobs,
         &|job: Job<N>| -> Done<N>
             requires { (words.now ≡ N.table)
-                × (traces_of told.now.traces.list ≡ N.script.workers)
+                × (live_said script.now ≡ N.script)
                 × (N.table.words ≡ pages_of N.script.setup.space)
                 × AreInSpace N.script }
             ensures { result.worker ≡ job.worker }
-        { work(words, &told.traces, job, pace) },
+        { work(words, &script.workers, job, pace) },
     )
 }
 
@@ -112,8 +112,8 @@ fn call_beside<N: Named + Send + Sync, R: Threads + Wait + Sync, P: Pace + Sync>
     rt: &R,
     alloc: Global,
     words: &PageWords,
-    lock: &Mutex<Kept<N>>,
-    told: &Told,
+    lock: &Mutex<Kept<'_, N>>,
+    script: &LiveScript,
     pace: &P,
 ) -> Result<Vec<u32>, AllocError>
     requires { words.now ≡ N.table }
@@ -123,12 +123,12 @@ fn call_beside<N: Named + Send + Sync, R: Threads + Wait + Sync, P: Pace + Sync>
         || thread::map_indices(
             rt,
             alloc,
-            told.calls.len(),
-            &|controller| call_all(rt, lock, told, controller, pace),
+            script.controllers.len() as usize,
+            &|controller| call_all(rt, lock, script, controller, pace),
         ),
         || -> ()
             requires { words.now ≡ N.table }
-        { pass_all(rt, lock, words, told.passes, pace) },
+        { pass_all(rt, lock, words, script.passes, pace) },
     );
     called
 }
@@ -136,17 +136,16 @@ fn call_beside<N: Named + Send + Sync, R: Threads + Wait + Sync, P: Pace + Sync>
 // Makes the calls of a controller, each in one hold of the lock, and returns how many were made.
 fn call_all<N: Named, P: Pace>(
     rt: &impl Wait,
-    lock: &Mutex<Kept<N>>,
-    told: &Told,
+    lock: &Mutex<Kept<'_, N>>,
+    script: &LiveScript,
     controller: usize,
     pace: &P,
 ) -> u32 {
     let controller = controller.min(u32::MAX as usize) as u32;
-    let place = controller as usize;
-    if place >= told.calls.len() {
+    if controller >= script.controllers.len() {
         return 0;
     }
-    let calls = told.calls[place];
+    let calls = script.controllers.get(controller).len();
     for index in 0..calls {
         pace.wait(Spot::BeforeCall { controller, index });
         call_next(rt, lock, controller);
@@ -156,7 +155,7 @@ fn call_all<N: Named, P: Pace>(
 }
 
 // Makes the next call of a controller, if one is left, in one hold of the lock.
-fn call_next<N: Named>(rt: &impl Wait, lock: &Mutex<Kept<N>>, controller: u32) {
+fn call_next<N: Named>(rt: &impl Wait, lock: &Mutex<Kept<'_, N>>, controller: u32) {
     let mut kept = lock.lock(rt);
     if kept.calls(controller) < kept.call_limit(controller) {
         kept.call(controller);
@@ -166,7 +165,7 @@ fn call_next<N: Named>(rt: &impl Wait, lock: &Mutex<Kept<N>>, controller: u32) {
 // Makes the passes, each in two holds of the lock.
 fn pass_all<N: Named, P: Pace>(
     rt: &impl Wait,
-    lock: &Mutex<Kept<N>>,
+    lock: &Mutex<Kept<'_, N>>,
     words: &PageWords,
     passes: u32,
     pace: &P,
@@ -182,7 +181,7 @@ fn pass_all<N: Named, P: Pace>(
 }
 
 // Arms the next pass, if one is left, in one hold of the lock.
-fn arm_next<N: Named>(rt: &impl Wait, lock: &Mutex<Kept<N>>, words: &PageWords)
+fn arm_next<N: Named>(rt: &impl Wait, lock: &Mutex<Kept<'_, N>>, words: &PageWords)
     requires { words.now ≡ N.table }
 {
     let mut kept = lock.lock(rt);
@@ -194,7 +193,7 @@ fn arm_next<N: Named>(rt: &impl Wait, lock: &Mutex<Kept<N>>, words: &PageWords)
 }
 
 // Ends the pass that is begun, if there is one, in one hold of the lock.
-fn check_begun<N: Named>(rt: &impl Wait, lock: &Mutex<Kept<N>>, words: &PageWords)
+fn check_begun<N: Named>(rt: &impl Wait, lock: &Mutex<Kept<'_, N>>, words: &PageWords)
     requires { words.now ≡ N.table }
 {
     let mut kept = lock.lock(rt);

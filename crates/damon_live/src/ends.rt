@@ -1,7 +1,6 @@
 // The end of a run, once no thread but this one is left.
 ghost use Rattle.std.specs.Prelude.{◌≡◌, ◌-◌, ◌≤◌, ◌++◌, ◌∷◌, [], length, map, vec_len};
 ghost use Rattle.damon_core.specs.Stands.{Stands};
-ghost use Rattle.damon_control.specs.LiveView.{live_said};
 ghost use Rattle.damon_journal.specs.Lawful.{gathers, receipts_said};
 ghost use Rattle.damon_journal.specs.Replay.{check_sizes, replay};
 ghost use Rattle.damon_live.specs.Whole.{AreAllMade, AreInSpace, IsWholeRun, pages_touched};
@@ -24,13 +23,43 @@ pub struct AloneRun {
     pub monitor: Monitor,
 }
 
+/// A whole run beside its script: its journal and receipts, and the monitor after it.
+#[derive(Drop)]
+pub(crate) struct Ended {
+    pub journal: Journal,
+    pub receipts: Receipts,
+    pub monitor: Monitor,
+}
+
+/// A run together with the script that it carried out.
+pub(crate) fn with_script(script: LiveScript, ended: Ended) -> AloneRun
+    ensures { result ≡ record {
+      script = script;
+      journal = ended.journal;
+      receipts = ended.receipts;
+      monitor = ended.monitor;
+    } }
+{
+    let Ended {
+        journal,
+        receipts,
+        monitor,
+    } = ended;
+    AloneRun {
+        script,
+        journal,
+        receipts,
+        monitor,
+    }
+}
+
 /// Gathers the seats of all workers, and settles the words. Takes no memory.
 pub(crate) fn end_run<N: Named>(
     words: PageWords,
-    kept: Kept<N>,
+    kept: Kept<'_, N>,
     made: Vec<Done<N>>,
     mut receipts: Receipts,
-) -> AloneRun
+) -> Ended
     requires table { words ≡ N.table }
     requires made { AreAllMade N.script kept }
     requires workers { length N.script.workers ≡ N.seats }
@@ -39,13 +68,11 @@ pub(crate) fn end_run<N: Named>(
     requires pages { AreInSpace N.script }
     requires empty { receipts.list ≡ [] }
     requires room { N.seats ≤ receipts.spare }
-    ensures script { live_said result.script ≡ N.script }
     ensures run { IsWholeRun N.script result.journal.value (receipts_said result.receipts) }
     ensures stands { Stands result.monitor (replay N.script result.journal.value).state }
     ensures sizes { result.journal.checked ≡ check_sizes N.script result.journal.value }
 {
     let KeptParts {
-        script,
         monitor,
         mut seat,
         journal,
@@ -54,8 +81,7 @@ pub(crate) fn end_run<N: Named>(
     words.settle(seat);
     damon_journal::settled_receipts_are_lawful();
     damon_journal::woven_runs();
-    AloneRun {
-        script,
+    Ended {
         journal,
         receipts,
         monitor,

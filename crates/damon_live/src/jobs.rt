@@ -7,7 +7,7 @@ ghost use Rattle.damon_live.specs.Work.{AreNumbered, trace_of};
 use crate::named::Named;
 use crate::work::Job;
 use damon_control::LiveScript;
-use damon_journal::{Receipt, Receipts};
+use damon_journal::{ReceiptList, Receipts};
 use damon_types::PlainList;
 use page_words::{MonitorSeat, PageWords, TouchSeat, WordsAndSeat};
 use std::alloc::{AllocError, Global};
@@ -59,21 +59,17 @@ pub(crate) fn split_all<N: Named>(
 }
 
 // Room for the receipts of a worker.
-fn room_of(
-    alloc: Global,
-    script: &LiveScript,
-    worker: u32,
-) -> Result<PlainList<Receipt>, AllocError>
+fn room_of(alloc: Global, script: &LiveScript, worker: u32) -> Result<ReceiptList, AllocError>
     requires { worker < length script.now.workers.list }
     ensures empty { IfOk result (λ r. r.list ≡ []) }
     ensures room { IfOk result (λ r. length (trace_of (live_said script.now) worker) ≤ r.spare) }
 {
-    let mut receipts = PlainList::new(alloc);
+    let mut receipts = ReceiptList::new(alloc);
     receipts.reserve(script.workers.get(worker).len())?;
     Ok(receipts)
 }
 
-fn make_job<N: Named>(worker: u32, seat: TouchSeat, receipts: PlainList<Receipt>) -> Job<N>
+fn make_job<N: Named>(worker: u32, seat: TouchSeat, receipts: ReceiptList) -> Job<N>
     requires seat { seat ≡ record { table = N.table; worker = worker; touches = [] } }
     requires some { worker < length N.script.workers }
     requires empty { receipts.list ≡ [] }

@@ -34,7 +34,6 @@ pub struct Kept1 {
 /// What a run is made of, once no lock holds it.
 #[derive(Drop)]
 pub struct KeptParts {
-    pub script: LiveScript,
     pub monitor: Monitor,
     pub seat: MonitorSeat,
     pub journal: Journal,
@@ -43,13 +42,13 @@ pub struct KeptParts {
 /// What the lock keeps: a machine between two passes, or within an armed or void one. In contracts it is
 /// what its journal says.
 #[derive(Drop)]
-pub struct Kept<N: Named> {
-    machine: Machine<N>,
+pub struct Kept<'a, N: Named> {
+    machine: Machine<'a, N>,
     // How many calls each controller has made.
     counts: Vec<u32>,
 }
 
-impl<N: Named> Model for Kept<N> {
+impl<'a, N: Named> Model for Kept<'a, N> {
     ghost use Rattle.damon_journal.specs.Replay.{JournalValue};
     ghost use Rattle.damon_live.specs.Kept.{IsKept};
 
@@ -60,11 +59,15 @@ impl<N: Named> Model for Kept<N> {
     ghost invariant = { λ k. IsKept N.script k.machine k.counts.items };
 }
 
-impl<N: Named> Kept<N> {
+impl<'a, N: Named> Kept<'a, N> {
     /// The monitor before its first pass, with a journal that says nothing. Takes memory; no other call
     /// does.
-    pub fn new(alloc: Global, script: LiveScript, seat: MonitorSeat) -> Result<Kept<N>, AllocError>
-        requires said { live_said script ≡ N.script }
+    pub fn new(
+        alloc: Global,
+        script: &'a LiveScript,
+        seat: MonitorSeat,
+    ) -> Result<Kept<'a, N>, AllocError>
+        requires said { live_said script.now ≡ N.script }
         requires seat { seat ≡ record { table = N.table; entries = []; out = N.seats } }
         requires pages { N.table.words ≡ pages_of N.script.setup.space }
         requires limits { KeepsLimits N.script }
@@ -120,13 +123,6 @@ impl<N: Named> Kept<N> {
         count_of(&self.counts, controller)
     }
 
-    /// The script.
-    pub fn script(&self) -> &LiveScript
-        ensures { live_said result.now ≡ N.script }
-    {
-        self.machine.script()
-    }
-
     /// Prepares a pass and clears its picks. The phase is Idle, and passes are left.
     pub fn arm(&mut self, words: &PageWords)
         requires table { words.now ≡ N.table }
@@ -168,7 +164,6 @@ impl<N: Named> Kept<N> {
 
     /// Takes what is kept apart, once no lock holds it.
     pub fn into_parts(self) -> KeptParts
-        ensures script { live_said result.script ≡ N.script }
         ensures journal { result.journal.value ≡ self }
         ensures fits { IsJournalOf N.script self }
         ensures sizes { result.journal.checked ≡ check_sizes N.script self }
@@ -187,7 +182,7 @@ impl<N: Named> Kept<N> {
 }
 
 // Ends the pass.
-fn end_pass<N: Named>(machine: &mut Machine<N>, words: &PageWords)
+fn end_pass<N: Named>(machine: &mut Machine<'_, N>, words: &PageWords)
     requires table { words.now ≡ N.table }
     requires free { IsFree (replay N.script machine.old).state.core.phase }
     requires begun { passes_open (replay N.script machine.old).state.core.phase ≡ 1 }
@@ -202,7 +197,7 @@ fn end_pass<N: Named>(machine: &mut Machine<N>, words: &PageWords)
 }
 
 // Makes the aggregation if one is due.
-fn make_due<N: Named>(machine: &mut Machine<N>)
+fn make_due<N: Named>(machine: &mut Machine<'_, N>)
     requires { HasEnded (replay N.script machine.old).state.core.phase }
     ensures adds { AddsPlain machine.old machine.new }
     ensures idle { (replay N.script machine.new).state.core.phase ≡ Idle }

@@ -39,8 +39,6 @@ mod passes;
 mod rest;
 /// A whole run in threads.
 mod threads;
-/// What the threads of a run read of its script.
-mod told;
 /// The top call.
 mod top;
 /// Workers.

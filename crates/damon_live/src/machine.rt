@@ -32,8 +32,8 @@ use std::marker::{Model, PhantomData};
 /// The monitor of a live run with its journal and its seat. In contracts it is what the journal says: all
 /// else is what that replays to.
 #[derive(Drop)]
-pub struct Machine<N: Named> {
-    script: LiveScript,
+pub struct Machine<'a, N: Named> {
+    script: &'a LiveScript,
     monitor: Monitor,
     seat: MonitorSeat,
     journal: Journal,
@@ -45,7 +45,7 @@ pub struct Machine<N: Named> {
     of: PhantomData<N>,
 }
 
-impl<N: Named> Model for Machine<N> {
+impl<'a, N: Named> Model for Machine<'a, N> {
     ghost use Rattle.std.specs.Prelude.{vec_capacity};
     ghost use Rattle.damon_journal.specs.Replay.{JournalValue};
     ghost use Rattle.damon_live.specs.Machine.{IsMachine};
@@ -54,18 +54,18 @@ impl<N: Named> Model for Machine<N> {
 
     ghost view = { λ m. m.journal.value };
 
-    ghost invariant = { λ m. IsMachine N.script N.table N.seats m.script m.monitor m.seat
+    ghost invariant = { λ m. IsMachine N.script N.table N.seats m.script.now m.monitor m.seat
         m.journal m.words m.drawn m.passes (vec_capacity m.buffer) };
 }
 
-impl<N: Named> Machine<N> {
+impl<'a, N: Named> Machine<'a, N> {
     /// A machine before the first pass. Takes memory; no other call does.
     pub fn new(
         alloc: Global,
-        script: LiveScript,
+        script: &'a LiveScript,
         seat: MonitorSeat,
-    ) -> Result<Machine<N>, AllocError>
-        requires said { live_said script ≡ N.script }
+    ) -> Result<Machine<'a, N>, AllocError>
+        requires said { live_said script.now ≡ N.script }
         requires seat { seat ≡ record { table = N.table; entries = []; out = N.seats } }
         requires pages { N.table.words ≡ pages_of N.script.setup.space }
         requires limits { KeepsLimits N.script }
@@ -216,15 +216,14 @@ impl<N: Named> Machine<N> {
     }
 
     /// The script.
-    pub fn script(&self) -> &LiveScript
+    pub fn script(&self) -> &'a LiveScript
         ensures { live_said result.now ≡ N.script }
     {
-        &self.script
+        self.script
     }
 
     /// Takes the machine apart.
     pub fn into_parts(self) -> KeptParts
-        ensures script { live_said result.script ≡ N.script }
         ensures journal { result.journal.value ≡ self }
         ensures fits { IsJournalOf N.script self }
         ensures sizes { result.journal.checked ≡ check_sizes N.script self }
@@ -236,7 +235,7 @@ impl<N: Named> Machine<N> {
         ensures most { passes_made self ≤ N.script.passes }
     {
         let Machine {
-            script,
+            script: _,
             monitor,
             seat,
             journal,
@@ -247,7 +246,6 @@ impl<N: Named> Machine<N> {
             of: _,
         } = self;
         KeptParts {
-            script,
             monitor,
             seat,
             journal,

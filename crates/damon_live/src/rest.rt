@@ -13,7 +13,7 @@ use live_commit::Phase;
 use page_words::PageWords;
 
 /// Makes all passes that are left, and then all calls of each controller that are left.
-pub(crate) fn make_rest<N: Named>(kept: &mut Kept<N>, words: &PageWords)
+pub(crate) fn make_rest<N: Named>(kept: &mut Kept<'_, N>, words: &PageWords)
     requires { words.now ≡ N.table }
     ensures { AreAllMade N.script kept.new }
 {
@@ -22,7 +22,7 @@ pub(crate) fn make_rest<N: Named>(kept: &mut Kept<N>, words: &PageWords)
 }
 
 // Makes all passes that are left.
-fn make_passes<N: Named>(kept: &mut Kept<N>, words: &PageWords)
+fn make_passes<N: Named>(kept: &mut Kept<'_, N>, words: &PageWords)
     requires table { words.now ≡ N.table }
     ensures idle { (replay N.script kept.new).state.core.phase ≡ Idle }
     ensures all { N.script.passes ≤ passes_made kept.new }
@@ -35,7 +35,7 @@ fn make_passes<N: Named>(kept: &mut Kept<N>, words: &PageWords)
 }
 
 // Ends the pass that is begun, if there is one.
-fn end_begun<N: Named>(kept: &mut Kept<N>, words: &PageWords)
+fn end_begun<N: Named>(kept: &mut Kept<'_, N>, words: &PageWords)
     requires table { words.now ≡ N.table }
     ensures idle { (replay N.script kept.new).state.core.phase ≡ Idle }
 {
@@ -46,7 +46,7 @@ fn end_begun<N: Named>(kept: &mut Kept<N>, words: &PageWords)
 }
 
 // Makes all calls that are left, of one controller after another.
-fn make_calls<N: Named>(kept: &mut Kept<N>)
+fn make_calls<N: Named>(kept: &mut Kept<'_, N>)
     requires { (replay N.script kept.old).state.core.phase ≡ Idle }
     ensures idle { (replay N.script kept.new).state.core.phase ≡ Idle }
     ensures made { passes_made kept.new ≡ passes_made kept.old }
@@ -58,7 +58,7 @@ fn make_calls<N: Named>(kept: &mut Kept<N>)
 }
 
 // Makes all calls of a controller that are left.
-fn make_calls_of<N: Named>(kept: &mut Kept<N>, controller: u32)
+fn make_calls_of<N: Named>(kept: &mut Kept<'_, N>, controller: u32)
     requires { (replay N.script kept.old).state.core.phase ≡ Idle }
     ensures idle { (replay N.script kept.new).state.core.phase ≡ Idle }
     ensures made { passes_made kept.new ≡ passes_made kept.old }
@@ -71,7 +71,7 @@ fn make_calls_of<N: Named>(kept: &mut Kept<N>, controller: u32)
 }
 
 // Makes the next call of a controller, between two passes.
-fn call_idle<N: Named>(kept: &mut Kept<N>, controller: u32)
+fn call_idle<N: Named>(kept: &mut Kept<'_, N>, controller: u32)
     requires idle { (replay N.script kept.old).state.core.phase ≡ Idle }
     requires left { calls_made controller kept.old < calls_asked controller N.script }
     ensures idle { (replay N.script kept.new).state.core.phase ≡ Idle }

@@ -3,7 +3,7 @@ ghost use Rattle.std.specs.Prelude.{◌≡◌, ◌*◌, ◌≤◌, [], IfOk, len
 ghost use Rattle.damon_types.specs.Space.{pages_of};
 ghost use Rattle.damon_core.specs.Stands.{Stands};
 ghost use Rattle.damon_control.specs.LiveText.{KeepsLimits};
-ghost use Rattle.damon_control.specs.LiveView.{live_said, traces_of};
+ghost use Rattle.damon_control.specs.LiveView.{live_said};
 ghost use Rattle.damon_journal.specs.Lawful.{receipts_said};
 ghost use Rattle.damon_journal.specs.Replay.{check_sizes, replay};
 ghost use Rattle.damon_live.specs.Whole.{AreInSpace, IsWholeRun, TracesAreInSpace};
@@ -11,12 +11,11 @@ ghost use Rattle.damon_live.specs.Work.{AreNumbered};
 
 use crate::begin::{Begun, begin_run};
 use crate::beside::run_beside;
-use crate::ends::{AloneRun, end_run};
+use crate::ends::{AloneRun, Ended, end_run, with_script};
 use crate::jobs::make_words;
 use crate::named::Named;
 use crate::pace::Pace;
 use crate::rest::make_rest;
-use crate::told::{Told, tell};
 use damon_control::LiveScript;
 use page_words::{MonitorSeat, PageWords, WordsAndSeat};
 use std::alloc::{AllocError, Global};
@@ -28,9 +27,9 @@ use std::thread::Threads;
 /// in this one, all beside each other. Where a thread cannot be made, its work is done by a thread that
 /// goes on. What is left of passes and calls after the threads have ended is made by this one.
 ///
-/// The script lies behind the lock, so the workers read a copy of their traces. It is within its limits, at
-/// most 4,194,304 results of loads fit in its passes, and each page of its traces is a page of its space.
-/// Takes memory; on an error the script is dropped. May wait.
+/// The script is within its limits, at most 4,194,304 results of loads fit in its passes, and each page of
+/// its traces is a page of its space. All threads read it where it stands. Takes memory; on an error the
+/// script is dropped. May wait.
 pub fn run_threads<R: Threads + Wait + Sync, P: Pace + Sync>(
     rt: &R,
     alloc: Global,
@@ -49,8 +48,8 @@ pub fn run_threads<R: Threads + Wait + Sync, P: Pace + Sync>(
         r.journal.checked ≡ check_sizes (live_said script) r.journal.value) }
 {
     let WordsAndSeat { words, seat } = make_words(alloc, &script)?;
-    let told = tell(alloc, &script)?;
-    run_named::<Brand, R, P>(rt, alloc, words, seat, script, told, pace)
+    let ended = run_named::<Brand, R, P>(rt, alloc, words, seat, &script, pace)?;
+    Ok(with_script(script, ended))
 }
 
 // The same on the named table.
@@ -59,20 +58,17 @@ fn run_named<N: Named + Send + Sync, R: Threads + Wait + Sync, P: Pace + Sync>(
     alloc: Global,
     words: PageWords,
     seat: MonitorSeat,
-    script: LiveScript,
-    told: Told,
+    script: &LiveScript,
     pace: &P,
-) -> Result<AloneRun, AllocError>
+) -> Result<Ended, AllocError>
     requires table { words ≡ N.table }
     requires seat { seat ≡ record { table = N.table; entries = []; out = 0 } }
-    requires said { live_said script ≡ N.script }
-    requires told { traces_of told.traces.list ≡ N.script.workers }
+    requires said { live_said script.now ≡ N.script }
     requires seats { length N.script.workers ≡ N.seats }
     requires space { N.table.words ≡ pages_of N.script.setup.space }
     requires limits { KeepsLimits N.script }
     requires product { N.script.passes * N.script.setup.cap ≤ 4194304 }
     requires pages { AreInSpace N.script }
-    ensures script { IfOk result (λ r. live_said r.script ≡ N.script) }
     ensures run { IfOk result (λ r.
         IsWholeRun N.script r.journal.value (receipts_said r.receipts)) }
     ensures stands { IfOk result (λ r. Stands r.monitor (replay N.script r.journal.value).state) }
@@ -83,7 +79,7 @@ fn run_named<N: Named + Send + Sync, R: Threads + Wait + Sync, P: Pace + Sync>(
         jobs,
         receipts,
     } = begin_run::<N>(alloc, &words, seat, script)?;
-    let (mut kept, made) = run_beside(rt, alloc, &words, kept, &told, jobs, pace)?;
+    let (mut kept, made) = run_beside(rt, alloc, &words, kept, script, jobs, pace)?;
     make_rest(&mut kept, &words);
     Ok(end_run(words, kept, made, receipts))
 }

@@ -9,8 +9,7 @@ ghost use Rattle.damon_live.specs.Work.{trace_of};
 use crate::named::Named;
 use crate::pace::{Pace, Spot};
 use damon_control::{Trace, Traces};
-use damon_journal::Receipt;
-use damon_types::PlainList;
+use damon_journal::{Receipt, ReceiptList};
 use page_words::{PageWords, TouchSeat};
 use std::marker::PhantomData;
 
@@ -19,7 +18,7 @@ use std::marker::PhantomData;
 pub(crate) struct Job<N: Named> {
     pub worker: u32,
     pub seat: TouchSeat,
-    pub receipts: PlainList<Receipt>,
+    pub receipts: ReceiptList,
     pub of: PhantomData<N>,
     ghost place: { seat.table ≡ N.table },
     ghost number: { seat.worker ≡ worker },
@@ -34,7 +33,7 @@ pub(crate) struct Job<N: Named> {
 pub(crate) struct Done<N: Named> {
     pub worker: u32,
     pub seat: TouchSeat,
-    pub receipts: PlainList<Receipt>,
+    pub receipts: ReceiptList,
     pub of: PhantomData<N>,
     ghost place: { seat.table ≡ N.table },
     ghost number: { seat.worker ≡ worker },
@@ -72,7 +71,7 @@ fn touch_all<P: Pace>(
     trace: &Trace,
     worker: u32,
     seat: &mut TouchSeat,
-    receipts: &mut PlainList<Receipt>,
+    receipts: &mut ReceiptList,
     pace: &P,
 )
     requires table { seat.old.table ≡ words.now }
@@ -93,7 +92,7 @@ fn touch_all<P: Pace>(
 }
 
 // Touches a page, and keeps the receipt.
-fn touch_page(words: &PageWords, seat: &mut TouchSeat, page: u32, receipts: &mut PlainList<Receipt>)
+fn touch_page(words: &PageWords, seat: &mut TouchSeat, page: u32, receipts: &mut ReceiptList)
     requires table { seat.old.table ≡ words.now }
     requires page { page < words.now.words }
     requires room { 1 ≤ receipts.old.spare }
@@ -108,7 +107,7 @@ fn touch_page(words: &PageWords, seat: &mut TouchSeat, page: u32, receipts: &mut
     receipts.put(Receipt { page, tag });
 }
 
-fn make_done<N: Named>(worker: u32, seat: TouchSeat, receipts: PlainList<Receipt>) -> Done<N>
+fn make_done<N: Named>(worker: u32, seat: TouchSeat, receipts: ReceiptList) -> Done<N>
     requires place { seat.table ≡ N.table }
     requires number { seat.worker ≡ worker }
     requires touches { seat.touches ≡ touches_of receipts.list }

@@ -1,7 +1,7 @@
-// A journal in its room, and the text of one without entries.
+// A journal in its room, the text of one without entries, and receipts that grow.
 use damon_control::LiveScript;
 use damon_core::Monitor;
-use damon_journal::{Entry, Journal, journal_text};
+use damon_journal::{Entry, Journal, Receipt, ReceiptList, journal_text};
 use damon_types::{Attrs, PlainList, RangeSpec, Space, Target, Version};
 use live_commit::Setup;
 use std::alloc::Global;
@@ -66,5 +66,26 @@ row 0 0x0-0x1000 count=0 last=0 age=0
 end ticks=0 rows=1 checks=0 hits=0
 ";
     assert_eq!(rt; out.as_slice(), text.as_bytes());
+    Ok(())
+}
+
+#[test]
+fn receipts_grow(rt: HostRuntime) -> Result<(), Fail> {
+    let mut receipts = ReceiptList::new(rt.alloc());
+    assert_eq!(rt; receipts.spare(), 0);
+    receipts.push(Receipt { page: 7, tag: 3 })?;
+    receipts.reserve(2)?;
+    receipts.put(Receipt {
+        page: 0,
+        tag: 1 << 40,
+    });
+    receipts.put(Receipt { page: 7, tag: 5 });
+    assert_eq!(rt; receipts.len(), 3);
+    let tags = (
+        receipts.get(0).tag,
+        receipts.get(1).tag,
+        receipts.get(2).tag,
+    );
+    assert_eq!(rt; tags, (3, 1 << 40, 5));
     Ok(())
 }

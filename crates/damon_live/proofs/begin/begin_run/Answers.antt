@@ -6,4 +6,4 @@ use Rattle.damon_live.proofs.begin.begin_run.Goals as goal
 
 pub returns-clause-room : goal.returns-clause-room
 returns-clause-room g c =
-    omega (arith, c.in_ok-receipts.ensures.room, c.len.ensures, length-map c.args.script.workers.list (λ (t : Listed ℕ). t.list), ap (λ (x : LiveValue). length x.workers) c.requires.said, c.requires.seats)
+    omega (arith, c.in_ok-receipts.ensures.room, c.len.ensures, length-map c.args.script.now.workers.list (λ (t : Listed ℕ). t.list), ap (λ (x : LiveValue). length x.workers) c.requires.said, c.requires.seats)

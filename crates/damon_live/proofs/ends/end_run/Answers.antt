@@ -9,15 +9,15 @@ use Rattle.damon_live.proofs.Wholes.{whole_run}
 use Rattle.damon_live.proofs.ends.end_run.Goals as goal
 
 pub gather_all-requires-clause-seat : goal.gather_all-requires-clause-seat
-gather_all-requires-clause-seat g c = ap (λ (s : MonitorSeatView). s.table) c.into_parts-script.ensures.seat
+gather_all-requires-clause-seat g c = ap (λ (s : MonitorSeatView). s.table) c.into_parts-monitor.ensures.seat
 
 pub gather_all-requires-clause-out : goal.gather_all-requires-clause-out
-gather_all-requires-clause-out g c = ap (λ (s : MonitorSeatView). s.out) c.into_parts-script.ensures.seat ∙ sym c.requires.each
+gather_all-requires-clause-out g c = ap (λ (s : MonitorSeatView). s.out) c.into_parts-monitor.ensures.seat ∙ sym c.requires.each
 
 pub returns-clause-run : goal.returns-clause-run
 returns-clause-run g c =
     let v = g.N.Named.script in
-    let parts = c.into_parts-script.ensures in
+    let parts = c.into_parts-monitor.ensures in
     let got = c.gather_all.ensures in
     let settled = c.settle.ensures in
     let all = receipts_said c.gather_all.new.all in
@@ -26,7 +26,7 @@ returns-clause-run g c =
     subst (λ (j : JournalValue). IsWholeRun v j all) (sym parts.journal) run
 
 pub returns-clause-stands : goal.returns-clause-stands
-returns-clause-stands g c = subst (λ (j : JournalValue). Stands c.into_parts-script.result.monitor (replay g.N.Named.script j).state) (sym c.into_parts-script.ensures.journal) c.into_parts-script.ensures.stands
+returns-clause-stands g c = subst (λ (j : JournalValue). Stands c.into_parts-monitor.result.monitor (replay g.N.Named.script j).state) (sym c.into_parts-monitor.ensures.journal) c.into_parts-monitor.ensures.stands
 
 pub returns-clause-sizes : goal.returns-clause-sizes
-returns-clause-sizes g c = c.into_parts-script.ensures.sizes ∙ ap (check_sizes g.N.Named.script) (sym c.into_parts-script.ensures.journal)
+returns-clause-sizes g c = c.into_parts-monitor.ensures.sizes ∙ ap (check_sizes g.N.Named.script) (sym c.into_parts-monitor.ensures.journal)

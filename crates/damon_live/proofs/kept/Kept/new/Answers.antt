@@ -16,7 +16,7 @@ invariant_of-result g c =
     let v = g.N.Named.script in
     let empty = c.in_ok-machine.ensures in
     let n : ℕ = c.len-controllers.result in
-    let size : n ≡ length v.controllers = c.len-controllers.ensures ∙ (sym (length-map c.args.script.controllers.list (λ (l : Listed Call). map call_value l.list)) ∙ ap (λ (x : LiveValue). length x.controllers) c.requires.said) in
+    let size : n ≡ length v.controllers = c.len-controllers.ensures ∙ (sym (length-map c.args.script.now.controllers.list (λ (l : Listed Call). map call_value l.list)) ∙ ap (λ (x : LiveValue). length x.controllers) c.requires.said) in
     let counts : c.in_ok-counts.counts.items ≡ replicate n 0 = search rules in
     record {
       free = subst (λ (j : JournalValue). IsFree (replay v j).state.core.phase) (sym empty) tt;

@@ -14,7 +14,7 @@ use Rattle.damon_live.proofs.machine.Machine.new.Goals as goal
 pub invariant_of-result : goal.invariant_of-result
 invariant_of-result g c =
     let v = g.N.Named.script in
-    let s = c.args.script in
+    let s = c.args.script.now in
     let m = c.in_ok-monitor.monitor in
     let j = c.in_ok-journal.journal in
     let said = c.requires.said in
