@@ -164,17 +164,17 @@ impl<'a, N: Named> Kept<'a, N> {
 
     /// Takes what is kept apart, once no lock holds it.
     pub fn into_parts(self) -> KeptParts
-        ensures journal { result.journal.value ≡ self }
-        ensures fits { IsJournalOf N.script self }
-        ensures sizes { result.journal.checked ≡ check_sizes N.script self }
-        ensures stands { Stands result.monitor (replay N.script self).state }
-        ensures free { IsFree (replay N.script self).state.core.phase }
+        ensures journal { result.journal.value ≡ self.entry }
+        ensures fits { IsJournalOf N.script self.entry }
+        ensures sizes { result.journal.checked ≡ check_sizes N.script self.entry }
+        ensures stands { Stands result.monitor (replay N.script self.entry).state }
+        ensures free { IsFree (replay N.script self.entry).state.core.phase }
         ensures seat { result.seat
-            ≡ record { table = N.table; entries = steps N.script self; out = N.seats } }
+            ≡ record { table = N.table; entries = steps N.script self.entry; out = N.seats } }
         ensures can { CanOpen N.script.setup }
         ensures pages { N.table.words ≡ pages_of N.script.setup.space }
-        ensures most { passes_made self ≤ N.script.passes }
-        ensures calls { CallsAreInOrder N.script self }
+        ensures most { passes_made self.entry ≤ N.script.passes }
+        ensures calls { CallsAreInOrder N.script self.entry }
     {
         let Kept { machine, counts: _ } = self;
         machine.into_parts()

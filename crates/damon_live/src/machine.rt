@@ -224,15 +224,15 @@ impl<'a, N: Named> Machine<'a, N> {
 
     /// Takes the machine apart.
     pub fn into_parts(self) -> KeptParts
-        ensures journal { result.journal.value ≡ self }
-        ensures fits { IsJournalOf N.script self }
-        ensures sizes { result.journal.checked ≡ check_sizes N.script self }
-        ensures stands { Stands result.monitor (replay N.script self).state }
+        ensures journal { result.journal.value ≡ self.entry }
+        ensures fits { IsJournalOf N.script self.entry }
+        ensures sizes { result.journal.checked ≡ check_sizes N.script self.entry }
+        ensures stands { Stands result.monitor (replay N.script self.entry).state }
         ensures seat { result.seat
-            ≡ record { table = N.table; entries = steps N.script self; out = N.seats } }
+            ≡ record { table = N.table; entries = steps N.script self.entry; out = N.seats } }
         ensures can { CanOpen N.script.setup }
         ensures pages { N.table.words ≡ pages_of N.script.setup.space }
-        ensures most { passes_made self ≤ N.script.passes }
+        ensures most { passes_made self.entry ≤ N.script.passes }
     {
         let Machine {
             script: _,
