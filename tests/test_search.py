@@ -23,10 +23,10 @@ from comparing.counts import applied_of, counts_of
 from comparing.paging import Moment, Paging
 from reports.events import Memory, Report
 from searching.measures import RECLAIM, REPLAY, measured, measures_by, ratio
-from searching.plan import Plan, plan_of
-from searching.points import Points
-from searching.remaining import Remaining, in_words
-from searching.runs import script_of as script_of_run
+from searching.plan import Plan, Value, plan_of
+from searching.points import Point, Points
+from searching.runs import script_of as script_of_point
+from searching.runs import seed_of
 from searching.workloads import Workload, script_workload, trace_workloads
 
 TOOL = "search.py"
@@ -129,6 +129,10 @@ class Scripts(Searches):
                          [("100", "20", "", "1")] * 2 + [("400", "400", "", "1")] * 2)
 
 
+def script_of_run(plan: Plan, workload: Workload, point: Point, seed: Value | None) -> bytes:
+    return script_of_point(plan, workload, point).with_seed(seed_of(seed, workload))
+
+
 def workloads(plan: Plan, points: Points) -> dict[object, Workload]:
     return {key: made for name, keys in points.keys(True).items() for key, made in trace_workloads(plan, name, keys)}
 
@@ -170,8 +174,8 @@ class Measures(Searches):
             accuracy.add(truth, counts_of(other, share, None))
             paging.add(Moment(number, one.tick), truth.accessed, runs)
             applied += sum(end - start for same in runs.values() for start, end in same)
-        given = measured(report, workload.truths, share, command)
-        self.assertEqual(tuple(given), measures_by(command))
+        given = measured(report, workload.truths, share, measures_by(command))
+        self.assertEqual({*given}, {*measures_by(command)})
         end = [event for event in Report(report.splitlines(keepends=True)).events() if isinstance(event, Memory)][-1:]
         self.assertEqual(len(end), command == RECLAIM)
         self.assertEqual(given, {
@@ -387,21 +391,6 @@ class Errors(Searches, Refusals):
             self.refused(TOOL, ["--points needs a file of its own"], b"", plan, path, "--points", same)
         ran = run(TOOL, plan, path, program=self.folder / "nothing")
         self.assertEqual((ran.returncode, b"there is no program" in ran.stderr), (2, True))
-
-
-class Progress(unittest.TestCase):
-    def test_the_time_left(self) -> None:
-        seconds = iter([0.0, 0.0, 10.0, 10.0, 40.0, 40.0])
-        stream = io.StringIO()
-        remaining = Remaining(stream, 1000, 200, lambda: next(seconds))
-        remaining(220)
-        remaining(300)
-        remaining.end()
-        self.assertEqual(stream.getvalue(), "note: 300 of 1000 runs, 30 %; 5 min left\n")
-
-    def test_words(self) -> None:
-        self.assertEqual([in_words(seconds) for seconds in (0.0, 89.0, 120.0, 5399.0, 7200.0)],
-                         ["0 s", "89 s", "2 min", "90 min", "2.0 h"])
 
 
 if __name__ == "__main__":

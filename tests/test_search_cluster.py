@@ -8,6 +8,7 @@ from __future__ import annotations
 
 import json
 import os
+import pickle
 import signal
 import subprocess
 import sys
@@ -20,7 +21,11 @@ from typing import Callable
 
 from tool_runs import PROGRAM, SECONDS, TOOLS, Refusals, need_program, random_trace, run
 
-from searching.cluster import archive, has_package
+from searching.cluster import Sent, archive, has_package
+from searching.plan import plan_of
+from searching.points import Points
+from searching.runs import Inputs, rows_of
+from searching.workloads import trace_workloads
 
 TOOL = "search.py"
 DEBIANS_PYTHON = "/usr/bin/python3"
@@ -151,6 +156,24 @@ class Cluster(unittest.TestCase):
                              capture_output=True, timeout=SECONDS, env={**os.environ, "DAMON": str(PROGRAM)})
         self.assertEqual((ran.returncode, ran.stderr.decode()),
                          (2, f"search.py: --cluster {address}: the scheduler has no worker\n"))
+
+
+class Sending(unittest.TestCase):
+    def test_what_workers_are_sent_makes_the_same_rows(self) -> None:
+        with tempfile.TemporaryDirectory() as folder:
+            path = Path(folder) / "plan.toml"
+            path.write_text(PLAN)
+            (Path(folder) / "a.trace").write_bytes(random_trace(1, 1500))
+            plan = plan_of(str(path))
+            points = Points(plan, None, 1)
+            workloads = dict(trace_workloads(plan, "a.trace", points.keys(True)["a.trace"]))
+        sent = Sent(Inputs(plan, workloads, SECONDS), points, b"")
+        for _ in range(2):
+            # The second time what runs left behind is sent too.
+            copy = pickle.loads(pickle.dumps(sent))
+            rows = [rows_of(one.inputs, str(PROGRAM.resolve()), one.points, range(27, 33)) for one in (sent, copy)]
+            self.assertEqual(rows[0], rows[1])
+            self.assertEqual((rows[0].runs, rows[0].failed), (6, 0))
 
 
 class Archive(unittest.TestCase):

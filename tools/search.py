@@ -17,14 +17,11 @@ from typing import Iterator
 from common import UsageError, parser, run
 from scripts.judge import VARIABLE, is_there, program
 from scripts.wording import counted
-from searching.cluster import cluster_rows, distributed
-from searching.handing import Rows
-from searching.local import local_rows
 from searching.plan import Plan, plan_of
 from searching.points import Points
 from searching.remaining import Remaining
 from searching.runs import Inputs, first_cells
-from searching.table import STATUS, append_rows, kept_rows, write_points
+from searching.table import STATUS, Rows, kept_rows, write_points
 from searching.workloads import Key, Workload, script_workload, trace_workloads
 
 TOOL = "search.py"
@@ -66,6 +63,8 @@ def options_of() -> argparse.Namespace:
     if not is_there():
         raise UsageError(f"there is no program {program()}: ./damon builds it, or {VARIABLE} in the environment names another")
     if options.cluster:
+        from searching.cluster import distributed
+
         # Said before the traces are read, which takes some time.
         distributed()
     return options
@@ -85,8 +84,13 @@ def workloads_of(plan: Plan, points: Points) -> dict[Key, Workload]:
 def rows_from(options: argparse.Namespace, inputs: Inputs, points: Points, start: int) -> AbstractContextManager[Iterator[Rows]]:
     """What makes the rows of all runs from `start` on."""
     path = str(program().resolve())
+    # Only one of the two is loaded: to load the other would take as long as many runs of a small script.
     if options.cluster:
+        from searching.cluster import cluster_rows
+
         return cluster_rows(inputs, points, path, start, options.cluster)
+    from searching.local import local_rows
+
     return local_rows(inputs, points, path, start, options.jobs)
 
 
@@ -108,8 +112,10 @@ def search(options: argparse.Namespace) -> str:
         with open(path, "a", encoding="utf-8") as stream, rows_from(options, inputs, points, before) as made:
             try:
                 for some in made:
-                    failed += append_rows(stream, some)
-                    rows += len(some)
+                    stream.write(some.text)
+                    stream.flush()
+                    failed += some.failed
+                    rows += some.runs
                     remaining(rows)
             except KeyboardInterrupt:
                 remaining.end()

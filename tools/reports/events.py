@@ -12,6 +12,8 @@ from itertools import chain
 from operator import attrgetter
 from typing import Any, Iterable, Iterator, NamedTuple, Union
 
+from .memory import MEMORY, Memory
+
 EXACT_HEADER = "exact counts 1"
 """The first line of exact counts."""
 
@@ -23,7 +25,6 @@ SLOT = re.compile(r"slot (\d+) (?:left=(\d+|none) taken=\d+ lowest=(?:\d+|none)|
 SCHEME = re.compile(r"scheme (\d+) \w+ active=(yes|no) .*")
 COMMIT = re.compile(r"commit tick=(\d+) ((?:ok|refused) .*)")
 END = re.compile(r"end ticks=\d+ rows=\d+ checks=\d+ hits=\d+")
-MEMORY = re.compile(r"reclaim tick=(\d+) resident=(\d+) out=(\d+) pageouts=(\d+) refaults=(\d+) prefetches=(\d+)")
 TUNED = re.compile(r"tuned (\d+) bytes=(\d+|none)")
 MOST_KEPT = 1 << 16
 """The most regions that are kept while a text is read."""
@@ -103,17 +104,6 @@ class Commit:
     @property
     def accepted(self) -> bool:
         return self.answer.startswith("ok")
-
-
-class Memory(NamedTuple):
-    """What `damon reclaim` says after an aggregation, and at the end: numbers of pages, the last three of them since the start."""
-
-    tick: int
-    resident: int
-    out: int
-    pageouts: int
-    refaults: int
-    prefetches: int
 
 
 class Tuned(NamedTuple):

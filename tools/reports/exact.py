@@ -8,33 +8,13 @@ with the same count are one row. So the size grows with the runs of pages, and n
 from __future__ import annotations
 
 from bisect import bisect_right
-from collections import Counter
 from typing import Iterable, Iterator, Sequence
 
 from tracing.accesses import PAGE_BITS
 from tracing.areas import Area
-from tracing.intervals import Runs, pairs
+from tracing.intervals import PageCount, Runs, touch_counts
 
 from .events import EXACT_HEADER
-
-PageCount = tuple[int, int, int]
-"""First page, page after the last one, and the intervals in which each of them was touched."""
-
-
-def touch_counts(intervals: Iterable[Runs]) -> list[PageCount]:
-    """The pages that were touched in these intervals, as runs with one count."""
-    change: Counter[int] = Counter()
-    for runs in intervals:
-        for first, after in pairs(runs):
-            change[first] += 1
-            change[after] -= 1
-    result: list[PageCount] = []
-    start = count = 0
-    for page in sorted(page for page, by in change.items() if by):
-        if count:
-            result.append((start, page, count))
-        start, count = page, count + change[page]
-    return result
 
 
 def counts_in(area: Area, counts: Sequence[PageCount]) -> list[PageCount]:

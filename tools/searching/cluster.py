@@ -17,9 +17,10 @@ from typing import Any, Iterator
 
 from common import UsageError
 
-from .handing import Answer, Chunk, Rows, in_order, timed
+from .handing import Answer, in_order, timed
 from .points import Points
 from .runs import Inputs, rows_of
+from .table import Rows
 
 PACKAGES = ("common.py", "reports", "scripts", "searching", "tracing")
 """What workers need of the tools."""
@@ -40,10 +41,10 @@ class Sent:
         self.hash = hashlib.sha256(program).hexdigest()
 
 
-def make(sent: Sent, chunk: Chunk) -> tuple[Rows, float]:
+def make(sent: Sent, chunk: range) -> tuple[Rows, float]:
     """The rows of a chunk, on a worker."""
     program = placed(sent)
-    return timed(lambda: rows_of(sent.inputs, program, [sent.points.run(number) for number in chunk]))
+    return timed(lambda: rows_of(sent.inputs, program, sent.points, chunk))
 
 
 def placed(sent: Sent) -> str:
@@ -104,7 +105,7 @@ def cluster_rows(inputs: Inputs, points: Points, program: str, start: int, addre
         client.upload_file(str(archive(Path(folder))))
         sent = client.scatter(Sent(inputs, points, Path(program).read_bytes()), broadcast=True, hash=True)
 
-        def submit(chunk: Chunk) -> Answer:
+        def submit(chunk: range) -> Answer:
             answer: Answer = client.submit(make, sent, chunk, retries=RETRIES, pure=False)
             return answer
 

@@ -5,11 +5,12 @@ import time
 from collections import deque
 from typing import Callable, Iterator, Protocol
 
-Rows = list[list[str]]
-Chunk = list[int]
-"""The numbers of runs that one process makes one after another."""
+from .table import Rows
+
 SECONDS_OF_CHUNK = 0.2
 MOST_OF_CHUNK = 256
+PARTS_OF_REST = 2
+"""Of the runs that are left a chunk has at most this part of what one process would get."""
 AHEAD = 4
 """How many chunks are handed out for each process, so that none of them waits."""
 
@@ -22,7 +23,10 @@ class Answer(Protocol):
 
 
 class Pace:
-    """Makes chunks as long as a fraction of a second, so that handing them out costs little and stopping loses little."""
+    """Makes chunks of runs that follow each other, each as long as a fraction of a second.
+
+    So handing them out costs little, and stopping loses little.
+    """
 
     def __init__(self, start: int, end: int) -> None:
         self.next = start
@@ -34,26 +38,28 @@ class Pace:
         self.runs += runs
         self.seconds += seconds
 
-    def chunk(self) -> Chunk:
-        """The next runs; none at the end."""
+    def chunk(self, processes: int) -> range:
+        """The next runs; none at the end. The last chunks are short, so that all processes end at about the same time."""
         size = 1
         if self.seconds > 0:
-            size = max(1, min(MOST_OF_CHUNK, int(SECONDS_OF_CHUNK * self.runs / self.seconds)))
+            share = (self.end - self.next) // (PARTS_OF_REST * processes)
+            size = max(1, min(MOST_OF_CHUNK, int(SECONDS_OF_CHUNK * self.runs / self.seconds), share))
         first, self.next = self.next, min(self.end, self.next + size)
-        return list(range(first, self.next))
+        return range(first, self.next)
 
 
-def in_order(submit: Callable[[Chunk], Answer], start: int, end: int, processes: Callable[[], int]) -> Iterator[Rows]:
+def in_order(submit: Callable[[range], Answer], start: int, end: int, processes: Callable[[], int]) -> Iterator[Rows]:
     """The rows of the runs from `start` to before `end`, in their order."""
     pace = Pace(start, end)
     waiting: deque[Answer] = deque()
     while True:
-        while len(waiting) < AHEAD * processes() and (chunk := pace.chunk()):
+        count = processes()
+        while len(waiting) < AHEAD * count and (chunk := pace.chunk(count)):
             waiting.append(submit(chunk))
         if not waiting:
             return
         rows, seconds = waiting.popleft().result()
-        pace.learn(len(rows), seconds)
+        pace.learn(rows.runs, seconds)
         yield rows
 
 

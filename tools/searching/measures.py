@@ -4,12 +4,11 @@ from __future__ import annotations
 
 import re
 from dataclasses import dataclass
-from typing import Iterator
+from typing import Collection, Iterator
 
-from reports.events import MEMORY, Memory
-from reports.pages import size
+from reports.memory import MEMORY, Memory
 
-from .truth import Truths
+from .truth import HOT, UNTOUCHED, Truths
 
 REPLAY, RECLAIM = COMMANDS = ("replay", "reclaim")
 """The commands of damon that run scripts."""
@@ -19,13 +18,16 @@ MEASURES = {
     "applied": MORE, "pageouts": LESS, "refaults": LESS, "out": MORE,
 }
 """Each measure, and whether less or more of it is better. Of an error it is the distance from 0."""
-OF_MEMORY = ("pageouts", "refaults", "out")
+OF_AGGREGATIONS = {"hot_found", "hot_false", "cold_false", "working_set_error", "applied"}
+"""Those for which all aggregations are read."""
+OF_MEMORY = {"pageouts", "refaults", "out"}
 """Those that `damon reclaim` alone has."""
 
 AGGREGATE = "\naggregate tick="
 SHOW = "\nshow tick="
-ROW = re.compile(r"\nrow ([^ ]+ [^ ]+) count=([1-9][0-9]*)")
-"""A row that was found accessed, its place and its count. As rows tile the ranges, all other pages were not."""
+ROW = re.compile(r"\nrow ([^ ]++ [^ ]++) count=([1-9][0-9]*+)")
+"""A row that was found accessed, its place and its count. As rows tile the ranges, all other pages were not. The possessive
+`++` leaves a row with the count 0 at once, and tries no shorter places, which took most of the time."""
 FIRST_ROW, FIRST_APPLY = "\nrow ", "\napply "
 APPLY = re.compile(r"\napply [0-9]+ [a-z_]+ ([^ ]+ [^ ]+) score=")
 """The place of a run; those of one slot do not overlap."""
@@ -57,26 +59,25 @@ class Sums:
     accessed: int = 0
     found_accessed: int = 0
     applied: int = 0
-    aggregations: int = 0
 
     def add(self, since: int, tick: int, block: str) -> None:
         """Adds the aggregation at a tick; the block has its lines. Raises ValueError or LookupError if it is none."""
         truth = self.truths.between(since, tick)
         least = self.share * (tick - since)
         rows = ROW.findall(block)
-        found = self.truths.pages_at([place for place, _ in rows])
-        called_hot = self.truths.pages_at([place for place, count in rows if int(count) >= least])
-        self.hot += truth.hot.bit_count()
-        self.called_hot += called_hot.bit_count()
-        self.hot_found += (called_hot & truth.hot).bit_count()
-        self.called_cold += self.truths.pages - found.bit_count()
-        self.cold_wrong += (truth.accessed & ~found).bit_count()
-        self.accessed += truth.accessed.bit_count()
-        self.found_accessed += found.bit_count()
+        kinds = self.truths.kinds_at(truth, [place for place, _ in rows])
+        found = b"".join(kinds)
+        called_hot = b"".join([some for some, (_, count) in zip(kinds, rows) if int(count) >= least])
+        self.hot += truth.hot
+        self.called_hot += len(called_hot)
+        self.hot_found += called_hot.count(HOT)
+        self.called_cold += self.truths.pages - len(found)
+        self.cold_wrong += truth.accessed - len(found) + found.count(UNTOUCHED)
+        self.accessed += truth.accessed
+        self.found_accessed += len(found)
         if FIRST_APPLY in block:
-            runs = map(self.truths.places.__getitem__, APPLY.findall(block[: block.find(FIRST_ROW)]))
-            self.applied += size(runs)
-        self.aggregations += 1
+            runs = APPLY.findall(block[: block.find(FIRST_ROW)])
+            self.applied += sum(map(len, self.truths.kinds_at(truth, runs)))
 
 
 def sums_of(report: str, truths: Truths, share: float) -> Sums:
@@ -100,26 +101,34 @@ def blocks_of(report: str) -> Iterator[tuple[int, str]]:
         yield tick, block.partition(SHOW)[0]
 
 
-def measured(report: str, truths: Truths, share: float, command: str) -> dict[str, str]:
-    """Each measure as the text of its column; nothing where it is not defined. Raises ReportError."""
-    sums = sums_of(report, truths, share)
+def measured(report: str, truths: Truths, share: float, names: Collection[str]) -> dict[str, str]:
+    """The measures with these names as the texts of their columns; nothing where one is not defined. Raises ReportError.
+
+    It may give others too. What only others need is not read.
+    """
+    found = {} if OF_AGGREGATIONS.isdisjoint(names) else measures_of(sums_of(report, truths, share))
     last = LAST.fullmatch(report, report.rfind("\nend ") + 1)
     if not last:
         raise ReportError("the report has no last line")
-    found = {
-        "checks": last[1],
+    found["checks"] = last[1]
+    return found if OF_MEMORY.isdisjoint(names) else {**found, **memory_measures(report)}
+
+
+def measures_of(sums: Sums) -> dict[str, str]:
+    """The measures that all aggregations make up."""
+    return {
         "hot_found": ratio(sums.hot_found, sums.hot),
         "hot_false": ratio(sums.called_hot - sums.hot_found, sums.called_hot),
         "cold_false": ratio(sums.cold_wrong, sums.called_cold),
         "working_set_error": ratio(sums.found_accessed - sums.accessed, sums.accessed),
         "applied": str(sums.applied),
     }
-    return {**found, **memory_measures(report, sums.aggregations)} if command == RECLAIM else found
 
 
-def memory_measures(report: str, aggregations: int) -> dict[str, str]:
+def memory_measures(report: str) -> dict[str, str]:
     """The measures that `damon reclaim` alone has, from what it says after each aggregation and at the end. Raises ReportError."""
-    found = [Memory(*map(int, match.groups())) for match in MEMORY.finditer(report)]
+    found = [Memory._make(map(int, numbers)) for numbers in MEMORY.findall(report)]
+    aggregations = f"\n{report}".count(AGGREGATE)
     if len(found) != aggregations + 1:
         raise ReportError("the report does not say after each aggregation how many pages are out")
     *each, end = found

@@ -4,7 +4,7 @@ from __future__ import annotations
 import random
 from dataclasses import dataclass
 from itertools import product
-from typing import Mapping, Sequence
+from typing import Iterator, Mapping, Sequence
 
 from common import UsageError
 
@@ -89,3 +89,10 @@ class Points:
         """A run, by its number: its point and its seed. Those of a point come one after another."""
         point, seed = divmod(number, len(self.seeds))
         return self.point(point), self.seeds[seed]
+
+    def parts(self, runs: range) -> Iterator[tuple[Point, Sequence[Value | None]]]:
+        """The points of runs that follow each other, each with those of its seeds that are among them."""
+        seeds = len(self.seeds)
+        for number in range(runs.start // seeds, -(-runs.stop // seeds)):
+            first = number * seeds
+            yield self.point(number), self.seeds[max(0, runs.start - first) : runs.stop - first]

@@ -7,25 +7,42 @@ from __future__ import annotations
 
 import csv
 import os
+import re
 from pathlib import Path
-from statistics import mean, stdev
-from typing import Callable, Iterable, Iterator, Sequence, TextIO
+from typing import Callable, Iterable, Iterator, NamedTuple, Sequence
 
 from common import UsageError
 
 from .plan import SEED
-from .runs import DONE
 
-STATUS = "status"
+STATUS, DONE = "status", "ok"
 RUNS, DONE_RUNS = "runs", "done"
 MEAN, SPREAD = " mean", " spread"
 """What stands behind the name of a measure in a row of a point."""
 
 
+QUOTED = re.compile('[,"\r\n]')
+"""Cells that have one of these stand between quotes."""
+
+
+class Rows(NamedTuple):
+    """Rows of runs that follow each other."""
+
+    text: str
+    """Their lines."""
+    runs: int
+    failed: int
+    """How many of them are not DONE."""
+
+
+def cell_of(text: str) -> str:
+    """A text as it stands in a line."""
+    return '"' + text.replace('"', '""') + '"' if QUOTED.search(text) else text
+
+
 def line_of(cells: Iterable[str]) -> str:
     """The line of a row."""
-    words = [f'"{cell.replace(chr(34), chr(34) * 2)}"' if any(one in cell for one in ',"\r\n') else cell for cell in cells]
-    return ",".join(words) + "\n"
+    return ",".join(map(cell_of, cells)) + "\n"
 
 
 def rows_in(text: str) -> list[list[str]]:
@@ -67,16 +84,6 @@ def check_row(path: Path, number: int, line: str, wanted: list[str], columns: in
         raise UsageError(f"{path}: line {number + 2} is not of this plan: name another file, or remove this one")
 
 
-def append_rows(stream: TextIO, rows: Iterable[list[str]]) -> int:
-    """Writes rows, and gives how many of them are not DONE."""
-    failed = 0
-    for row in rows:
-        failed += row[-1] != DONE
-        stream.write(line_of(row))
-    stream.flush()
-    return failed
-
-
 def points_header(columns: Sequence[str], measures: Sequence[str]) -> list[str]:
     settings = [name for name in columns if name != SEED]
     return [*settings, RUNS, DONE_RUNS, *(name + part for name in measures for part in (MEAN, SPREAD))]
@@ -110,6 +117,9 @@ def grouped(path: Path, seeds: int) -> Iterator[list[list[str]]]:
 
 def point_cells(rows: list[list[str]], settings: int, measures: int) -> list[str]:
     """The settings of a point, and of each measure the mean over its runs and how far these are spread."""
+    # Most searches write no points, and this takes long to load.
+    from statistics import mean, stdev
+
     done = [row for row in rows if row[-1] == DONE]
     result = [*rows[0][:settings], str(len(rows)), str(len(done))]
     for column in range(settings + 1, settings + 1 + measures):

@@ -7,16 +7,15 @@ from __future__ import annotations
 from dataclasses import dataclass
 from typing import Iterable, Sequence
 
-from reports.exact import touch_counts
-from reports.pages import Run
 from tracing.accesses import PAGE_BITS
-from tracing.intervals import Runs
+from tracing.intervals import Runs, touch_counts
 
-
-PageSet = int
-"""A set of pages: a number with a bit for each. So sets are counted and compared at the speed of memory."""
+UNTOUCHED, ACCESSED, HOT = b"\0", b"\1", b"\2"
+"""What a page was in an aggregation. A hot one was accessed too."""
 MOST_KEPT = 1 << 16
 """The most places whose pages are kept."""
+MOST_BYTES = 1 << 28
+"""The most bytes of aggregations that are kept."""
 
 
 @dataclass(frozen=True)
@@ -32,49 +31,46 @@ class Range:
         return self.after - self.first
 
 
-def set_of(pages: int, runs: Iterable[Run]) -> PageSet:
-    """The pages of these runs, of so many pages in all."""
-    digits = bytearray(b"0") * pages
-    for first, after in runs:
-        digits[first:after] = b"1" * (after - first)
-    return int(digits, 2)
-
-
-class Places(dict[str, Run]):
+class Places(dict[str, slice]):
     """The numbers of the pages of `TARGET START-END`, as a report has it. It keeps the answers: the places of rows come again."""
 
     def __init__(self, ranges: Sequence[Range]) -> None:
         super().__init__()
         self.ranges = list(ranges)
 
-    def __missing__(self, text: str) -> Run:
+    def __missing__(self, text: str) -> slice:
         """Raises LookupError if these pages are not watched, and ValueError if it is no such text."""
         target, addresses = text.split(" ")
         start, end = (int(address, 16) >> PAGE_BITS for address in addresses.split("-"))
         base = 0
         for one in self.ranges:
             if one.target == int(target) and one.first <= start < end <= one.after:
-                return self.kept(text, (base + start - one.first, base + end - one.first))
+                return self.kept(text, slice(base + start - one.first, base + end - one.first))
             base += one.pages
         raise LookupError(f"pages that are not watched: {text}")
 
-    def kept(self, text: str, run: Run) -> Run:
+    def kept(self, text: str, pages: slice) -> slice:
         """Keeps an answer, and forgets all others where they are many."""
         if len(self) >= MOST_KEPT:
             self.clear()
-        self[text] = run
-        return run
+        self[text] = pages
+        return pages
 
     def __reduce__(self) -> tuple[type[Places], tuple[list[Range]]]:
         return (Places, (self.ranges,))
 
 
-@dataclass(frozen=True)
 class Truth:
-    """What was true in an aggregation."""
+    """What was true in an aggregation: a byte for each page. Those of a row are a slice, and are counted without a loop."""
 
-    accessed: PageSet
-    hot: PageSet
+    def __init__(self, pages: int, runs: Iterable[tuple[int, int, bool]]) -> None:
+        """Runs of accessed pages, each with whether they were hot; of so many pages in all."""
+        kinds = bytearray(UNTOUCHED) * pages
+        for first, after, is_hot in runs:
+            kinds[first:after] = (HOT if is_hot else ACCESSED) * (after - first)
+        self.kinds = bytes(kinds)
+        self.hot = kinds.count(HOT)
+        self.accessed = self.hot + kinds.count(ACCESSED)
 
 
 class Truths:
@@ -90,18 +86,17 @@ class Truths:
 
     def between(self, since: int, tick: int) -> Truth:
         """What was true of the intervals from one tick to another."""
-        found = self.known.get((since, tick))
-        if found is None:
-            found = self.known[since, tick] = self.counted(since, tick)
-        return found
+        return self.known.get((since, tick)) or self.found(since, tick)
 
-    def counted(self, since: int, tick: int) -> Truth:
+    def found(self, since: int, tick: int) -> Truth:
+        """The same, which is kept from now on; all others are forgotten where they are large together."""
+        if (len(self.known) + 1) * self.pages > MOST_BYTES:
+            self.known.clear()
         least = self.share * (tick - since)
-        counts = touch_counts(self.intervals[since:tick])
-        accessed = ((first, after) for first, after, _ in counts)
-        hot = ((first, after) for first, after, count in counts if count >= least)
-        return Truth(set_of(self.pages, accessed), set_of(self.pages, hot))
+        runs = ((first, after, count >= least) for first, after, count in touch_counts(self.intervals[since:tick]))
+        result = self.known[since, tick] = Truth(self.pages, runs)
+        return result
 
-    def pages_at(self, places: list[str]) -> PageSet:
-        """The pages at these places, as a report has them. Raises LookupError."""
-        return set_of(self.pages, map(self.places.__getitem__, places))
+    def kinds_at(self, truth: Truth, places: Iterable[str]) -> list[bytes]:
+        """What the pages at each of these places were. Raises LookupError and ValueError, as `Places` does."""
+        return [truth.kinds[self.places[place]] for place in places]

@@ -28,9 +28,8 @@ from .plan import OF_TRACES, SEED, Plan, Value
 from .truth import Range, Truths
 
 ARM, FINISH = "arm", "finish"
-ARMED = b"arm\n"
 ENDING = b"show\nend\n"
-FIRST_PASS = re.compile(rb"^arm\n", re.MULTILINE)
+ARMED = re.compile(rb"^arm\n", re.MULTILINE)
 
 
 @dataclass(frozen=True)
@@ -44,19 +43,23 @@ class Workload:
     defaults: dict[str, Value]
     """The settings that hold where the plan has no others."""
     schemes: tuple[str, ...]
-    parts: list[bytes]
-    """The body, cut at its lines `arm`: what comes before the first one, and what follows each."""
+    whole: bytes
+    """The body."""
+    passes: list[int]
+    """Where the line `arm` of each interval begins in it."""
     truths: Truths
 
     def body(self, commits: Commits) -> bytes:
-        """The body, with these commits before their intervals."""
-        if not commits:
-            return ARMED.join(self.parts)
-        pieces = [self.parts[0]]
-        for number, part in enumerate(self.parts[1:]):
-            lines = [line for commit in commits.get(number, ()) for line in commit_lines(commit)]
-            pieces += ["".join(f"{line}\n" for line in lines).encode("latin-1"), ARMED, part]
-        return b"".join(pieces)
+        """The body, with these commits before their intervals, which rise."""
+        pieces: list[bytes] = []
+        before = 0
+        for interval, some in commits.items():
+            if interval < len(self.passes):
+                place = self.passes[interval]
+                lines = [line for commit in some for line in commit_lines(commit)]
+                pieces += [self.whole[before:place], "".join(f"{line}\n" for line in lines).encode("latin-1")]
+                before = place
+        return b"".join([*pieces, self.whole[before:]])
 
 
 @dataclass(frozen=True)
@@ -98,16 +101,16 @@ def of_recording(plan: Plan, key: Key, recording: Recording) -> Workload:
         raise UsageError(f"{key.name} has no access that is taken, or no target that fits the limits of a script")
     ranges = [Range(target, area.first, area.after) for target, area in enumerate(areas)]
     lookup = Lookup(areas)
-    parts = [b"", *(passed(runs, lookup) for runs in recording.intervals)]
-    parts[-1] += ENDING
+    passes = [pass_of(runs, lookup) for runs in recording.intervals]
     numbered = Numbers(ranges)
     intervals = [numbered.of_areas(runs, lookup) for runs in recording.intervals]
-    return Workload(key.name, HEADER, tuple(places(areas)), dict(OF_TRACES), (), parts, Truths(ranges, intervals, plan.hot))
+    return Workload(key.name, HEADER, tuple(places(areas)), dict(OF_TRACES), (), b"".join([*passes, ENDING]),
+                    list(accumulate(map(len, passes[:-1]), initial=0)), Truths(ranges, intervals, plan.hot))
 
 
-def passed(runs: Runs, lookup: Lookup) -> bytes:
-    """What follows the line `arm` of an interval."""
-    return "".join(f"{line}\n" for line in (*touches(runs, lookup), FINISH)).encode("ascii")
+def pass_of(runs: Runs, lookup: Lookup) -> bytes:
+    """The lines of an interval."""
+    return "".join(f"{line}\n" for line in (ARM, *touches(runs, lookup), FINISH)).encode("ascii")
 
 
 class Numbers:
@@ -158,8 +161,8 @@ def script_workload(plan: Plan, name: str) -> Workload:
     except UsageError as error:
         raise UsageError(f"{path}: {error}") from None
     kept = tuple(line for line in script.lines if first_word(line) in ("target", "range"))
-    return Workload(name, script.lines[0], kept, defaults, tuple(script.schemes()), FIRST_PASS.split(script.body),
-                    Truths(ranges, intervals, plan.hot))
+    return Workload(name, script.lines[0], kept, defaults, tuple(script.schemes()), script.body,
+                    [match.start() for match in ARMED.finditer(script.body)], Truths(ranges, intervals, plan.hot))
 
 
 def ranges_of(script: Script) -> list[Range]:

@@ -19,6 +19,8 @@ if TYPE_CHECKING:
 else:
     Runs = array
 """The touched pages of an interval, ascending: first page, page after the last one, and so on."""
+PageCount = tuple[int, int, int]
+"""First page, page after the last one, and the intervals in which each of them was touched."""
 
 
 @dataclass
@@ -113,3 +115,19 @@ def runs_of(pages: list[int]) -> Runs:
         else:
             result += (page, page + 1)
     return array("Q", result)
+
+
+def touch_counts(intervals: Iterable[Runs]) -> list[PageCount]:
+    """The pages that were touched in these intervals, as runs with one count."""
+    change: Counter[int] = Counter()
+    for runs in intervals:
+        for first, after in pairs(runs):
+            change[first] += 1
+            change[after] -= 1
+    result: list[PageCount] = []
+    start = count = 0
+    for page in sorted(page for page, by in change.items() if by):
+        if count:
+            result.append((start, page, count))
+        start, count = page, count + change[page]
+    return result
