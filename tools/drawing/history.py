@@ -4,7 +4,8 @@ from __future__ import annotations
 from dataclasses import dataclass
 from typing import Iterable, Sequence
 
-from reports.events import Aggregation, Commit, Event, Memory, Show, Snapshot, Tuned
+from reports.events import Aggregation, Commit, Event, Show, Snapshot, Tuned
+from reports.memory import Memory
 from reports.pages import Runs, key, size, union
 
 
