@@ -44,13 +44,12 @@ impl Model for Admin {
 }
 
 impl Admin {
-    /// The contexts of an input of at most [`MAX_BYTES`] bytes, of which no line is done. Takes memory.
+    /// The contexts of an input of at most [`MAX_BYTES`] bytes, of which no line is done. Takes memory, for a
+    /// copy of the input too.
     ///
     /// # Errors
     ///
-    /// `Script` with the first line of the input that is refused: the input ends before its LF (`Cut`), it
-    /// is line 1 and not the header (`Header`), or it is a later line and does not begin with the digit of a
-    /// context and a space (`Form`). What is wrong within a context is no error. `Memory` if memory runs out.
+    /// As those of [`Admin::of`].
     pub fn new(alloc: Global, bytes: &[u8]) -> Result<Admin, AdminFail>
         requires { length bytes.now ≤ MAX_BYTES }
         ensures lines { IfOk result (λ a. lines_said bytes.now ≡ Ok a.left) }
@@ -58,12 +57,29 @@ impl Admin {
         ensures ready { IfOk result (λ a. a.failed ≡ false) }
         ensures fault { FaultOf result (lines_said bytes.now) }
     {
+        Admin::of(alloc, Vec::from_slice(alloc, bytes)?)
+    }
+
+    /// The contexts of an input of at most [`MAX_BYTES`] bytes, which is kept as it is, and of which no line is
+    /// done. Takes memory.
+    ///
+    /// # Errors
+    ///
+    /// `Script` with the first line of the input that is refused: the input ends before its LF (`Cut`), it
+    /// is line 1 and not the header (`Header`), or it is a later line and does not begin with the digit of a
+    /// context and a space (`Form`). What is wrong within a context is no error. `Memory` if memory runs out.
+    pub fn of(alloc: Global, input: Vec<u8>) -> Result<Admin, AdminFail>
+        requires { length input.items ≤ MAX_BYTES }
+        ensures lines { IfOk result (λ a. lines_said input.items ≡ Ok a.left) }
+        ensures first { IfOk result (λ a. a.done ≡ []) }
+        ensures ready { IfOk result (λ a. a.failed ≡ false) }
+        ensures fault { FaultOf result (lines_said input.items) }
+    {
         // For its clause alone: no line has an LF.
         parts_are_pieces();
-        let gathered = gather(alloc, bytes)?;
-        let at = read_header(bytes)?;
+        let gathered = gather(alloc, &input)?;
+        let at = read_header(&input)?;
         let contexts = open_contexts(alloc, gathered)?;
-        let input = Vec::from_slice(alloc, bytes)?;
         Ok(Admin {
             input,
             at,

@@ -45,7 +45,7 @@ fn take_contexts<S: Source>(alloc: Global, source: &mut S) -> Result<Admin, Stat
         (record { bytes = S.left source.new; calls = S.calls source.new })) }
 {
     let bytes = read_all(alloc, source)?;
-    let contexts = Admin::new(alloc, &bytes)?;
+    let contexts = Admin::of(alloc, bytes)?;
     Ok(contexts)
 }
 

@@ -1,8 +1,8 @@
-use Rattle.std.proofs.Common.{◌≡◌, Err, Ok, List, ap, sym, ◌∙◌, subst}
+use Rattle.std.proofs.Common.{Err, List, ap, sym}
 use Rattle.std.specs.Prelude.{◌++◌}
 use Rattle.std.proofs.lemmas.Result.{err_from_is_err_and}
 use Rattle.text_io.specs.declared.input.TheConstants.{INPUT_LIMIT}
-use Rattle.damon_admin.specs.Lines.{ContextLine, lines_said}
+use Rattle.damon_admin.specs.Lines.{ContextLine}
 use Rattle.damon_admin.specs.Written.{texts_from}
 use Rattle.damon_app.specs.declared.request.Request.TheVariants.{Admin}
 use Rattle.damon_app.specs.StatusOf.{status_of_spelled}
@@ -28,13 +28,13 @@ returns-in_err-contexts-clause-refused g c =
     (record { bytes = g.S.Source.left c.args.source.now; calls = g.S.Source.calls c.args.source.now })
     (record { bytes = g.S.Source.left c.read_all.new.source; calls = g.S.Source.calls c.read_all.new.source })
     sink sink (Unit {0}) c.in_ok-bytes.bytes.items read.all read.end read.limit c.in_err-contexts.field-0.0 (EndsAtFault-not (λ e. cc e) (λ no. no) read.reads, read.calls) (EndsAtFault-none sink.calls (λ no. no)) tt
-    (λ f e. ap status_of_spelled (subst (λ bs. lines_said bs ≡ Err f) c.deref.ensures.value (rw e at c.in_err-contexts.ensures.fault))))
+    (λ f e. ap status_of_spelled (rw e at c.in_err-contexts.ensures.fault)))
 
 pub returns-clause-taken : goal.returns-clause-taken
 returns-clause-taken g c =
     let read = c.in_ok-bytes.ensures in
     let new = c.in_ok-contexts.contexts in
-    let said : lines_said c.in_ok-bytes.bytes.items ≡ Ok new.left = ap lines_said (sym c.deref.ensures.value) ∙ c.in_ok-contexts.ensures.lines in
+    let said = c.in_ok-contexts.ensures.lines in
     record {
       bytes = c.in_ok-bytes.bytes.items;
       all = read.all;
