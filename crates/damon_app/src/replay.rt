@@ -168,21 +168,11 @@ fn fulfil<S: Source, K: Sink>(
         (source.new ≡ source.old) (sink.new ≡ sink.old) result }
 {
     match request {
-        Request::Report { run } => status_of(replay(alloc, run, source, sink)),
-        Request::Verify => status_of(check_journal(alloc, source, sink)),
-        Request::Heat { columns } => status_of(show_heat(alloc, columns, source, sink)),
-        Request::Admin => status_of(run_contexts(alloc, source, sink)),
-        Request::Generate { number } => status_of(summarize(alloc, number, sink)),
-    }
-}
-
-// The status with which the program ends.
-fn status_of(done: Result<(), Status>) -> Status
-    ensures { result ≡ status_of done }
-{
-    match done {
-        Ok(()) => Status::Ok,
-        Err(status) => status,
+        Request::Report { run } => Status::from(replay(alloc, run, source, sink)),
+        Request::Verify => Status::from(check_journal(alloc, source, sink)),
+        Request::Heat { columns } => Status::from(show_heat(alloc, columns, source, sink)),
+        Request::Admin => Status::from(run_contexts(alloc, source, sink)),
+        Request::Generate { number } => Status::from(summarize(alloc, number, sink)),
     }
 }
 

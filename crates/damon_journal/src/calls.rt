@@ -3,12 +3,11 @@ ghost use Rattle.std.specs.Prelude.{◌≡◌, [], ◌∷◌};
 ghost use Rattle.damon_control.specs.LiveView.{call_value};
 ghost use Rattle.damon_core.specs.Makes.{Makes};
 ghost use Rattle.damon_core.specs.Stands.{Stands, last_pass};
-ghost use Rattle.damon_journal.specs.Replay.{answer_of, call_answer, call_event};
+ghost use Rattle.damon_journal.specs.Replay.{call_answer, call_event};
 
 use crate::entry::CallAnswer;
 use damon_control::Call;
-use damon_core::{Changed, Monitor};
-use live_commit::CommitFault;
+use damon_core::Monitor;
 
 // Makes a call, and returns its answer.
 pub(crate) fn make_call(monitor: &mut Monitor, call: &Call) -> CallAnswer
@@ -25,19 +24,6 @@ pub(crate) fn make_call(monitor: &mut Monitor, call: &Call) -> CallAnswer
             tick: monitor.ticks(),
             rows: monitor.rows().len(),
         },
-        Call::Commit { commit } => answer_of(monitor.commit(commit)),
-    }
-}
-
-// The answer of a commit.
-fn answer_of(answer: Result<Changed, CommitFault>) -> CallAnswer
-    ensures { result ≡ answer_of answer }
-{
-    match answer {
-        Ok(changed) => CallAnswer::Changed {
-            rows: changed.rows,
-            void: changed.void,
-        },
-        Err(fault) => CallAnswer::Refused { fault },
+        Call::Commit { commit } => CallAnswer::from(monitor.commit(commit)),
     }
 }

@@ -1,4 +1,5 @@
 use crate::receipt_list::ReceiptList;
+use damon_core::Changed;
 use damon_types::PlainList;
 use live_commit::CommitFault;
 
@@ -12,6 +13,24 @@ pub enum CallAnswer {
     Changed { rows: u32, void: bool },
     /// A commit that was refused, by the first check that failed.
     Refused { fault: CommitFault },
+}
+
+/// The answer of a commit.
+impl From<Result<Changed, CommitFault>> for CallAnswer {
+    ghost use Rattle.std.specs.Prelude.{◌≡◌};
+    ghost use Rattle.damon_journal.specs.Replay.{answer_of};
+
+    ghost from_gives = { λ done answer. answer ≡ answer_of done };
+
+    fn from(done: Result<Changed, CommitFault>) -> CallAnswer {
+        match done {
+            Ok(changed) => CallAnswer::Changed {
+                rows: changed.rows,
+                void: changed.void,
+            },
+            Err(fault) => CallAnswer::Refused { fault },
+        }
+    }
 }
 
 /// One entry of a journal. A pass has its number, from 1 on, and `at` is the number of random words that

@@ -68,6 +68,21 @@ impl fmt::Display for Status {
     }
 }
 
+/// How a run ended that has nothing to give but its failure.
+impl From<Result<(), Status>> for Status {
+    ghost use Rattle.std.specs.Prelude.{◌≡◌};
+    ghost use Rattle.damon_journal.specs.Status.{status_of};
+
+    ghost from_gives = { λ done status. status ≡ status_of done };
+
+    fn from(done: Result<(), Status>) -> Status {
+        match done {
+            Ok(()) => Status::Ok,
+            Err(status) => status,
+        }
+    }
+}
+
 impl From<InputFault> for Status {
     ghost use Rattle.std.specs.Prelude.{◌≡◌};
     ghost use Rattle.damon_journal.specs.Status.{input_status};

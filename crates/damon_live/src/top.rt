@@ -13,7 +13,7 @@ ghost use Rattle.text_io.specs.Taken.{WritesPart};
 ghost use Rattle.damon_journal.specs.Lawful.{all_of, receipts_said};
 ghost use Rattle.damon_journal.specs.Replay.{check_sizes, replay};
 ghost use Rattle.damon_journal.specs.Rules.{IsReadBack};
-ghost use Rattle.damon_journal.specs.Status.{EndsRun, IsRead, IsUnwritten, status_of};
+ghost use Rattle.damon_journal.specs.Status.{EndsRun, IsRead, IsUnwritten};
 ghost use Rattle.damon_journal.specs.Text.{journal_text};
 ghost use Rattle.damon_live.specs.Answers.{IsEnding, IsRefused, IsTaken};
 ghost use Rattle.damon_live.specs.Ending.{HasRun, IsExpected, NothingRan, TellsFault, TellsPasses, asks_run, ended_early, ending, most_results};
@@ -132,7 +132,7 @@ fn serve<R: Threads + Wait + Sync, S: Source, K: Sink, P: Pace + Sync>(
     }
     match carry_out(rt, alloc, source, pace) {
         Ok(run) => {
-            let status = status_of(hand_over(alloc, &run, sink));
+            let status = Status::from(hand_over(alloc, &run, sink));
             end_run(status, run)
         }
         Err(status) => end_early(alloc, status),
@@ -181,16 +181,6 @@ fn end_run(status: Status, run: AloneRun) -> LiveEnd
         script: Some(script),
         journal,
         receipts,
-    }
-}
-
-// The status with which the program ends.
-fn status_of(done: Result<(), Status>) -> Status
-    ensures { result ≡ status_of done }
-{
-    match done {
-        Ok(()) => Status::Ok,
-        Err(status) => status,
     }
 }
 

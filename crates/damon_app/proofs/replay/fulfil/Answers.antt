@@ -5,7 +5,7 @@ use Rattle.damon_app.proofs.replay.fulfil.Goals as goal
 
 pub returns-in-Report : goal.returns-in-Report
 returns-in-Report g c =
-    rw (c.in-Report.is, c.status_of.ensures)
+    rw (c.in-Report.is, c.from.ensures)
     (reported INPUT_LIMIT c.in-Report.run'
     (record { bytes = g.S.Source.left c.args.source.now; calls = g.S.Source.calls c.args.source.now })
     (record { bytes = g.S.Source.left c.replay.new.source; calls = g.S.Source.calls c.replay.new.source })
@@ -15,7 +15,7 @@ returns-in-Report g c =
 
 pub returns-in-Verify : goal.returns-in-Verify
 returns-in-Verify g c =
-    rw (c.in-Verify.is, c.status_of-in-Verify.ensures)
+    rw (c.in-Verify.is, c.from-in-Verify.ensures)
     (checked INPUT_LIMIT
     (record { bytes = g.S.Source.left c.args.source.now; calls = g.S.Source.calls c.args.source.now })
     (record { bytes = g.S.Source.left c.check_journal.new.source; calls = g.S.Source.calls c.check_journal.new.source })
@@ -25,7 +25,7 @@ returns-in-Verify g c =
 
 pub returns-in-Heat : goal.returns-in-Heat
 returns-in-Heat g c =
-    rw (c.in-Heat.is, c.status_of-in-Heat.ensures)
+    rw (c.in-Heat.is, c.from-in-Heat.ensures)
     (heated INPUT_LIMIT c.in-Heat.columns
     (record { bytes = g.S.Source.left c.args.source.now; calls = g.S.Source.calls c.args.source.now })
     (record { bytes = g.S.Source.left c.show_heat.new.source; calls = g.S.Source.calls c.show_heat.new.source })
@@ -35,7 +35,7 @@ returns-in-Heat g c =
 
 pub returns-in-Admin : goal.returns-in-Admin
 returns-in-Admin g c =
-    rw (c.in-Admin.is, c.status_of-in-Admin.ensures)
+    rw (c.in-Admin.is, c.from-in-Admin.ensures)
     (administered INPUT_LIMIT
     (record { bytes = g.S.Source.left c.args.source.now; calls = g.S.Source.calls c.args.source.now })
     (record { bytes = g.S.Source.left c.run_contexts.new.source; calls = g.S.Source.calls c.run_contexts.new.source })
@@ -46,7 +46,7 @@ returns-in-Admin g c =
 pub returns-in-Generate : goal.returns-in-Generate
 returns-in-Generate g c =
     let run = c.summarize.ensures in
-    rw (c.in-Generate.is, c.status_of-in-Generate.ensures)
+    rw (c.in-Generate.is, c.from-in-Generate.ensures)
     (summarized INPUT_LIMIT c.in-Generate.number
     (record { bytes = g.S.Source.left c.args.source.now; calls = g.S.Source.calls c.args.source.now })
     (record { bytes = g.K.Sink.taken c.args.sink.now; calls = g.K.Sink.calls c.args.sink.now })

@@ -35,7 +35,7 @@ returns-in-Ok g c =
     let handed = c.hand_over.ensures in
     let ended : Status → Ending = λ status. record { status = status; script = Some (live_said run.script); journal = run.journal.value; receipts = receipts_said run.receipts } in
     same_ending INPUT_LIMIT _ true source source' sink sink' (c.carry_out.new.source ≡ c.args.source.now) (c.hand_over.new.sink ≡ c.args.sink.now) _ _
-    (sym c.asks_run.ensures ∙ c.if-not-asks_run.false) (c.end_run.ensures ∙ ap ended c.status_of-status.ensures)
+    (sym c.asks_run.ensures ∙ c.if-not-asks_run.false) (c.end_run.ensures ∙ ap ended c.from-status.ensures)
     (handed_over INPUT_LIMIT source source' sink sink' (c.carry_out.new.source ≡ c.args.source.now) (c.hand_over.new.sink ≡ c.args.sink.now)
     ran.taken.bytes ran.taken.all ran.taken.end ran.taken.few (live_said run.script) run.journal.value (receipts_said run.receipts) ran.taken.spells ran.few ran.run
     (c.whole_runs_are_read_back.ensures.back ran.taken.bytes (live_said run.script) run.journal.value (receipts_said run.receipts) ran.taken.spells ran.run)
