@@ -76,7 +76,7 @@ fn write_tables_in<K: Sink>(
     }
 }
 
-// The same for a number of columns that is known when the program is compiled.
+// The same with the number of columns as a constant parameter.
 fn write_tables<const N: usize, K: Sink>(
     alloc: Global,
     replayer: &mut Replayer,

@@ -5,12 +5,9 @@ ghost use Rattle.text_io.specs.Taken.{WritesPart};
 ghost use Rattle.damon_app.specs.Pieces.{HandsOver};
 
 use damon_types::{Failed, Sink};
-use text_io::write_all;
+use text_io::{PIECE, write_all};
 
-// A piece is handed over once it has this many bytes.
-const PIECE: usize = 65_536;
-
-// Hands a piece over once it is large enough.
+// Hands a piece over once it has [`PIECE`] bytes.
 pub(crate) fn hand_over<K: Sink>(sink: &mut K, piece: &mut Vec<u8>) -> Result<(), Failed>
     ensures all { OnOk result
         (HandsOver (K.taken sink.old) (K.taken sink.new) piece.old.items piece.new.items) }

@@ -78,6 +78,7 @@ impl LastSeen {
         let page = receipt.page as usize;
         let last = last_in(self.pages[page]);
         let come = may_come(self.workers, last, worker, receipt.tag);
+        // Without a branch that depends on the input.
         let may = named & come;
         if may {
             let number = u32::from(worker);
@@ -110,5 +111,6 @@ fn may_come(workers: u32, last: Last, worker: u8, tag: u64) -> bool
     ensures { result ≡ may_come workers last worker tag }
 {
     let number = u32::from(worker);
+    // Each test is cheaper than a branch that is predicted wrongly.
     (workers <= number + 1) & (number < MAX_WORKERS) & ((last.0 != worker) | (last.1 <= tag))
 }

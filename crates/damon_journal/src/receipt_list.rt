@@ -5,14 +5,14 @@ use crate::entry::Receipt;
 use std::alloc::{AllocError, Global};
 use std::marker::Model;
 
-// The numbers of half a tag.
+// 2^32: a tag is `HALF` times its high half, and its low half.
 const HALF: u64 = 1 << 32;
 
 /// The receipts of a worker, in the order of its touches: a list of fewer than 2^32 receipts, which grows.
 /// It keeps the allocator that it was made with.
 ///
 /// The parts of a receipt lie in lists of their own, and the high half of a tag is written only where some
-/// tag up to now was 2^32 or more. So a receipt takes 8 bytes in most runs, where it has 12 to write.
+/// tag up to now was 2^32 or more. So a receipt takes 8 bytes in most runs, and 12 from such a tag on.
 #[derive(Drop)]
 pub struct ReceiptList {
     pages: Vec<u32>,

@@ -1,4 +1,4 @@
-// Lines of receipts, which most journal texts have the most of, read in one pass over their bytes.
+// A quick way for lines of receipts, which most journals have the most of: one pass over their bytes.
 ghost use Rattle.std.specs.Prelude.{◌≡◌, ◌≤◌, ◌<◌, ◌++◌, codes, IfSome};
 ghost use Rattle.std.specs.Fmt.{decimal};
 ghost use Rattle.damon_types.specs.Space.{pages_of, place_of};

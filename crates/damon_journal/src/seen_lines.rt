@@ -21,7 +21,7 @@ const LINE_ROOM: usize = 88;
 const GROUP: u32 = 16;
 
 // Bytes enough for the lines of a group.
-const GROUP_ROOM: usize = 1_408;
+const GROUP_ROOM: usize = LINE_ROOM * GROUP as usize;
 
 // Appends the lines of the receipts of a worker from the one with index `next` on, until `out` has `limit`
 // bytes or none is left, and returns the index after them.

@@ -1,6 +1,6 @@
 use std::marker::Brand;
 
-/// Names the goals of a run.
+/// A name in types for the goals of a run, so that contracts of a type can speak of them.
 pub trait Named {
     ghost use Rattle.std.specs.Prelude.{List};
     ghost use Rattle.quota_goal.specs.declared.goals.Goal.{Goal};
@@ -8,7 +8,7 @@ pub trait Named {
     ghost goals: { List Goal };
 }
 
-// A call names `Brand`, and its proof picks the goals.
+// The name that callers give. The proof of each call says whose goals it stands for.
 impl Named for Brand {
     ghost use Rattle.std.specs.Prelude.{[]};
 
