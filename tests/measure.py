@@ -1,18 +1,22 @@
 #!/usr/bin/env python3
 """Measures programs side by side: their best wall times, their peaks of memory, and the ratios of both.
 
-    tests/measure.py TURNS PROGRAM [PROGRAM ...] [--only NAME] [--growth FILE.svg]
+    tests/measure.py TURNS PROGRAM [PROGRAM ...] [--only NAME] [--instructions | --growth FILE.svg]
 
 Each PROGRAM is run on each workload (`speed_workloads.py`), TURNS times, in turn with the others. A line has the
 name of the workload and, for each program, its best time in milliseconds and its greatest resident set in
 MiB; for each program but the last also its time divided by that of the last one. `--only` takes the
 workloads whose names begin with NAME. The workloads are those of the program by its name, `damon` or `damond`.
 
+With `--instructions` each program is run once on each workload by valgrind's callgrind, and a line has the millions
+of instructions of each and their ratios. Other work on the machine does not change these numbers.
+
 With `--growth` each workload that has several sizes is run at all of them by the first PROGRAM alone. A
 table of times by size is printed, and a plot of them is written to FILE.svg.
 """
 import argparse
 import functools
+import shutil
 import subprocess
 import sys
 import tempfile
@@ -25,6 +29,8 @@ from typing import IO, Dict, Iterator, List, Sequence, Tuple
 from speed_workloads import WORKLOADS, Workload
 
 TIMER = "/usr/bin/time"
+COUNTER = "valgrind"
+COUNTED = "Collected :"
 COLOURS = ("#1b6ca8", "#c1440e", "#2e7d32", "#6a1b9a", "#b8860b", "#00838f", "#ad1457", "#5d4037", "#455a64", "#7cb342", "#000000")
 
 
@@ -59,6 +65,22 @@ def memory(program: str, workload: Workload, size: int) -> float:
         command = [TIMER, "-f", "%M", program, *workload.words]
         run = subprocess.run(command, stdin=source, stdout=subprocess.DEVNULL, stderr=subprocess.PIPE, check=True)
     return int(run.stderr.split()[-1]) / 1024
+
+
+def instructions(program: str, workload: Workload) -> float:
+    """The millions of instructions of a run at the greatest size."""
+    command = [COUNTER, "--tool=callgrind", "--callgrind-out-file=/dev/null", program, *workload.words]
+    with source_of(workload, workload.sizes[0]) as source:
+        run = subprocess.run(command, stdin=source, stdout=subprocess.DEVNULL, stderr=subprocess.PIPE, text=True, check=True)
+    return int(run.stderr.rpartition(COUNTED)[2].split()[0]) / 1e6
+
+
+def count(programs: List[str], workloads: Sequence[Workload]) -> None:
+    for workload in workloads:
+        counts = [instructions(program, workload) for program in programs]
+        line = "".join(f"{it:10.1f} million" for it in counts)
+        ratios = "".join(f"{it / counts[-1]:8.2f}" for it in counts[:-1])
+        print(f"{workload.name:14}{line}{ratios}", flush=True)
 
 
 def compare(turns: int, programs: List[str], workloads: Sequence[Workload]) -> None:
@@ -119,7 +141,9 @@ def main() -> None:
     parser.add_argument("turns", type=int, help="how often each program is run on each workload")
     parser.add_argument("programs", nargs="+", metavar="PROGRAM", help="the last one is what the others are compared with")
     parser.add_argument("--only", default="", metavar="NAME", help="the workloads whose names begin with NAME")
-    parser.add_argument("--growth", metavar="FILE.svg", help="times of the first program by size, and a plot of them")
+    kinds = parser.add_mutually_exclusive_group()
+    kinds.add_argument("--instructions", action="store_true", help="the instructions of each program, in place of times")
+    kinds.add_argument("--growth", metavar="FILE.svg", help="times of the first program by size, and a plot of them")
     words = parser.parse_args()
     named = [it for it in WORKLOADS if it.program == Path(words.programs[0]).name]
     workloads = [it for it in named if it.name.startswith(words.only)]
@@ -127,7 +151,11 @@ def main() -> None:
         parser.error(f"no workload begins with {words.only}: there are {', '.join(it.name for it in named)}")
     if not Path(TIMER).exists():
         parser.error(f"there is no {TIMER}, which measures memory")
-    if words.growth:
+    if words.instructions:
+        if shutil.which(COUNTER) is None:
+            parser.error(f"there is no {COUNTER}, which counts instructions")
+        count(words.programs, workloads)
+    elif words.growth:
         grow(words.turns, words.programs[0], workloads, words.growth)
     else:
         compare(words.turns, words.programs, workloads)
