@@ -90,18 +90,13 @@ def constants(repository: Repository) -> List[str]:
 
 
 def tried(repository: Repository) -> List[str]:
-    """Where the definitions of each crate are tried on worked values: its examples, and its own tests."""
-    rows = ["| crate | examples | tests of its own |", "|---|---|---|"]
+    """Where the definitions of each crate are tried on worked values: its examples."""
+    rows = ["| crate | examples |", "|---|---|"]
     for crate in dict.fromkeys(it.crate for it in repository.definitions):
         folder = repository.top / "crates" / crate
         examples = [f"`proofs/{file.name}`" for file in sorted((folder / "proofs").glob("*Examples.antt"))]
-        tests = [f"`{file.relative_to(folder)}`" for file in sorted((folder / "src").rglob("*.rt")) if has_test(file)]
-        rows.append(f"| `{crate}` | {', '.join(examples) or '-'} | {', '.join(tests) or '-'} |")
+        rows.append(f"| `{crate}` | {', '.join(examples) or '-'} |")
     return rows
-
-
-def has_test(file: Path) -> bool:
-    return "#[test]" in file.read_text()
 
 
 def table(definitions: Iterable[Definition]) -> List[str]:

@@ -15,6 +15,3 @@ pub use ages::age_all;
 pub use clearing::clear_counts;
 pub use laws::{aged_rows_are_kept, cleared_rows_are_kept};
 pub use thresholds::threshold;
-
-#[cfg(test)]
-mod tests;

@@ -60,7 +60,7 @@ impl Admin {
         Admin::of(alloc, Vec::from_slice(alloc, bytes)?)
     }
 
-    /// The contexts of an input of at most [`MAX_BYTES`] bytes, which is kept as it is, and of which no line is
+    /// The contexts of an input of at most [`MAX_BYTES`] bytes, which is kept as it is. None of its lines is
     /// done. Takes memory.
     ///
     /// # Errors

@@ -1,13 +1,16 @@
 ghost use Rattle.std.specs.Prelude.{◌≡◌, ℕ, All, IfSome, ◌≤◌, ◌<◌, ◌+◌, ◌-◌, ◌^◌, IfOk, OnOk, Ok, Err, Some, None, [], length, nat_le};
 ghost use Rattle.std.specs.Option.{ok_or};
 ghost use Rattle.damon_types.specs.Space.{pages_of};
+ghost use Rattle.live_commit.specs.Commit.{commit_value};
 ghost use Rattle.live_commit.specs.SetupView.{value_of};
+ghost use Rattle.script_lines.specs.Body.{no_commit};
 ghost use Rattle.damon_control.specs.BodyLine.{LineIsWithin, body_at, body_said, script_at};
 ghost use Rattle.script_lines.specs.Command.{command_value, weight, work_of};
-ghost use Rattle.damon_control.specs.Left.{FaultOf, IsShort, MovesTo, reads_command, reads_left};
+ghost use Rattle.damon_control.specs.Left.{FaultOf, IsShort, MovesTo, reads_command, reads_commit, reads_left};
 ghost use Rattle.script_lines.specs.Limits.{AreCommandsWithin, IsCommandWithin};
 ghost use Rattle.script_lines.specs.Refusal.{only_if};
-ghost use Rattle.damon_control.specs.Script.{AtEnd, Body, InBody, after_body, begun};
+ghost use Rattle.damon_control.specs.Script.{AtEnd, Body, InBody, InCommit, Within, after_body, begun, version_in};
+ghost use Rattle.damon_control.specs.declared.grammar.Grammar.{Grammar as grammar};
 ghost use Rattle.damon_control.specs.declared.grammar.Grammar.TheVariants.{OfScript as of_script};
 ghost use Rattle.script_lines.specs.declared.kind.ScriptKind.TheVariants.{TooMuch};
 
@@ -16,8 +19,9 @@ use crate::commands::Commands;
 use crate::commit::read_commit;
 use crate::lines::Lines;
 use crate::script::MAX_WORK;
-use damon_types::Space;
-use live_commit::Setup;
+use damon_types::{Space, Version};
+use line_text::same_text;
+use live_commit::{Commit, Setup};
 use script_lines::{Command, ScriptKind, alone, first_word, read_command, same_word};
 use std::alloc::Global;
 
@@ -122,8 +126,8 @@ fn next_command(
     next_other(alloc, lines, setup)
 }
 
-// The same, where the next line is read as any other. It is kept apart: a commit has room for a scheme, which
-// would be cleared for each touch.
+// The same, where the next line is read as any other. It is kept apart: its locals would be cleared for each
+// touch.
 #[inline(never)]
 fn next_other(alloc: Global, lines: &mut Lines, setup: &Setup) -> Result<Option<Command>, ReadFail>
     requires { IsShort lines.old }
@@ -146,13 +150,29 @@ fn next_other(alloc: Global, lines: &mut Lines, setup: &Setup) -> Result<Option<
     match lines.refuse(read_body_line(&setup.space, line))? {
         BodyLine::End => Ok(None),
         BodyLine::Commit => {
-            let commit = read_commit(alloc, lines, setup.version)?;
-            Ok(Some(Command::Commit {
-                commit: Box::new(alloc, commit)?,
-            }))
+            let commit = next_commit(alloc, lines, setup.version)?;
+            Ok(Some(Command::Commit { commit }))
         }
         BodyLine::Say(command) => Ok(Some(command)),
     }
+}
+
+// Reads the lines of a commit after its first. It is kept apart: a commit has room for a scheme, which would be
+// cleared for each line of a body.
+#[inline(never)]
+fn next_commit(alloc: Global, lines: &mut Lines, version: Version) -> Result<Box<Commit>, ReadFail>
+    requires { IsShort lines.old }
+    ensures ok { IfOk result (λ c. (g : grammar) (b : Within g) → version_in g b ≡ version →
+        reads_left g (InCommit b no_commit) lines.old ≡ reads_commit g b (commit_value c.value) lines.new) }
+    ensures fault { (g : grammar) (b : Within g) → version_in g b ≡ version →
+        FaultOf result (reads_left g (InCommit b no_commit) lines.old) }
+    ensures later { OnOk result (lines.old.taken ≤ lines.new.taken) }
+    ensures shorter { OnOk result (length lines.new.rest.now < length lines.old.rest.now) }
+    ensures small { IsShort lines.new }
+{
+    let commit = read_commit(alloc, lines, version)?;
+    let boxed = Box::new(alloc, commit)?;
+    Ok(boxed)
 }
 
 // Reads a line of a body.
@@ -161,6 +181,13 @@ fn read_body_line(space: &Space, line: &[u8]) -> Result<BodyLine, ScriptKind>
         → body_said b result ≡ after_body b line.now }
     ensures within { IfOk result (λ line. LineIsWithin (pages_of space.now) line) }
 {
+    // Most lines that are no touches are one of these two.
+    if same_text(line, b"arm") {
+        return Ok(BodyLine::Say(Command::Arm));
+    }
+    if same_text(line, b"finish") {
+        return Ok(BodyLine::Say(Command::Finish));
+    }
     let word = first_word(line);
     if same_word(word, b"end") {
         alone(b"end", line)?;

@@ -2,6 +2,7 @@
 use Rattle.std.proofs.Common.{◌≡◌, ℕ, zero, suc, ◌+◌, ◌≤◌, ◌<◌, ◌==◌, ◌&&◌, ◌||◌, Bool, true, false, List, [], ◌∷◌, length, drop, map, get_or, refl, sym, ap, subst, ◌∙◌, arith}
 use Rattle.std.proofs.lemmas.Bool.Decides.{nat_tests}
 use Rattle.std.proofs.lemmas.List.{drop-map, drop_all, drop_more, get_or-map, get_or-set_other, length-map, length-replicate, length-set}
+use Rattle.std.proofs.lemmas.List.FromFn.{fill_by_all}
 use Rattle.std.proofs.lemmas.Grind.{get_or-set_at}
 use Rattle.std.specs.Prelude.{◌≢◌, All, if◌then◌else◌, slice_get, slice_set, Some, replicate}
 use Rattle.std.specs.List.{list_any}
@@ -129,6 +130,38 @@ names_all pass xs picked before now indexes k i d are over inside left =
 pub not_named : (pass : ℕ) (picks : List ℕ) (xs : List (ℕ × Receipt)) (indexes : List ℕ) (i : ℕ) (d : ℕ × Receipt) (was : Bool) → length indexes ≡ 0 → i < length xs → AreOfTag pass xs indexes → was ≡ (was || is_named pass picks (get_or xs i d).1)
 not_named pass picks xs indexes i d was none below are =
     sym (ap (λ b. was || (b && is_picked picks (get_or xs i d).1.page)) (none_with_tag pass i d xs indexes none below are) ∙ or_false was)
+
+-- ---- which receipts name no pass
+
+-- What a loop over receipts keeps of those before an index: whether each names no pass.
+pub record NamesBefore (xs : List (ℕ × Receipt)) (named : List Bool) (index : ℕ) : Type 0 where
+  pub each : (i : ℕ) (d : ℕ × Receipt) → i < index → get_or named i false ≡ ((get_or xs i d).1.tag == 0)
+  pub len : length named ≡ length xs
+
+-- one more is told
+pub told_next : (xs : List (ℕ × Receipt)) (named : List Bool) (index : ℕ) (told : Bool) → index < length xs → ((d : ℕ × Receipt) → told ≡ ((get_or xs index d).1.tag == 0))
+    → NamesBefore xs named index → NamesBefore xs (slice_set named index told) (index + 1)
+told_next xs named index told below is before = record {
+  each = λ i d early. set_at named index i told (omega (arith, below, before.len)) ∙ by i d early (index == i) refl;
+  len = length-set named index told ∙ before.len;
+}
+  where
+    by : (i : ℕ) (d : ℕ × Receipt) → i < index + 1 → (same : Bool) → (index == i) ≡ same → (if same then told else get_or named i false) ≡ ((get_or xs i d).1.tag == 0)
+    by i d early true same =
+        let here : index ≡ i = grind (arith, nat_tests, same) in
+        is d ∙ ap (λ j. (get_or xs j d).1.tag == 0) here
+    by i d early false same =
+        let apart : i ≢ index = λ here. absurd (grind (arith, nat_tests, same, here)) in
+        before.each i d (omega (arith, early, apart))
+
+-- all are told
+pub told_all : (xs : List (ℕ × Receipt)) (named : List Bool) (index : ℕ) → length xs ≤ index → NamesBefore xs named index → named ≡ named_by_none xs
+told_all xs named index over before =
+    let told : ℕ → Bool = λ i. get_or named i false in
+    let first : ℕ × Receipt = (0, record { page = 0; tag = 0 }) in
+    fill_by_all told named (length xs) false before.len (λ i below. refl)
+    ∙ sym (fill_by_all told (named_by_none xs) (length xs) false (length-map xs (λ (x : ℕ × Receipt). x.1.tag == 0)) (λ i below.
+    get_or-map (λ (x : ℕ × Receipt). x.1.tag == 0) xs i first false below ∙ sym (before.each i first (omega (arith, below, over)))))
 
 -- ---- receipts ahead
 

@@ -2,6 +2,11 @@
 use Rattle.std.specs.Prelude.{ℕ, Bool, List, [], ◌∷◌, drop, take}
 use Rattle.damon_journal.specs.declared.entry.Entry.{Entry}
 use Rattle.damon_journal.specs.declared.entry.Entry.TheVariants.{Check}
+use Rattle.damon_journal.specs.declared.load_run.LoadRun.{LoadRun}
+
+-- the results of some loads, one after another
+abbrev pub loads_in : LoadRun → List Bool
+loads_in run = take run.count (drop run.start run.set.now)
 
 -- the results of an entry, given the sizes and the results of the checks from it on
 abbrev pub results_of : Entry → List ℕ → List Bool → List Bool

@@ -30,13 +30,12 @@ with_results bits j = record j {
 }
 
 -- what a journal keeps at all times: it is within its room, the memory for which is taken, and its results are those of its checks
-pub record IsJournal (entries : List Entry) (bits : List Bool) (checked : List ℕ) (room bit_room entries_reserved bits_reserved checked_reserved : ℕ) : Type 0 where
+pub record IsJournal (entries : List Entry) (loads : List Bool) (loaded : ℕ) (checked : List ℕ) (room entries_reserved checked_reserved : ℕ) : Type 0 where
   pub few : length entries ≤ room
-  pub few_bits : length bits ≤ bit_room
+  pub few_loads : loaded ≤ length loads
+  pub small_loads : length loads < 2 ^ 32
   pub few_checks : length checked ≤ length entries
-  pub all_bits : sum checked ≡ length bits
+  pub all_loads : sum checked ≡ loaded
   pub reserved : room ≤ entries_reserved
-  pub reserved_bits : bit_room ≤ bits_reserved
   pub reserved_checks : room ≤ checked_reserved
   pub small : room < 2 ^ 32
-  pub small_bits : bit_room < 2 ^ 32

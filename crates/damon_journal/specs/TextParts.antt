@@ -14,6 +14,7 @@ use Rattle.damon_journal.specs.declared.text_parts.Part.TheVariants.{Head, Entri
 use Rattle.damon_journal.specs.declared.text_parts.Recorded.{Recorded}
 use Rattle.damon_journal.specs.Lawful.{all_of, receipts_said}
 use Rattle.damon_journal.specs.Replay.{JournalValue, Replayed, begun, check_sizes, check_sizes_from, replay, replay_from}
+use Rattle.damon_journal.specs.Results.{loads_in}
 use Rattle.damon_journal.specs.Text.{entries_lines, last_text, seen_lines, settled_lines}
 
 -- the replay before the entry with this index
@@ -57,8 +58,8 @@ pub record IsRecorded (run : Recorded) : Type 0 where
 -- the results that stand beside a place are those of the entries from this index on
 pub record AreResultsOf (v : LiveValue) (j : JournalValue) (next : ℕ) (results : Results) : Type 0 where
   pub sizes : results.sizes.now ≡ check_sizes_from v (replay_to v j next) (drop next j.entries)
-  pub bits : results.bits.now ≡ (replay_to v j next).bits
-  pub all : sum results.sizes.now ≡ length results.bits.now
+  pub bits : loads_in results.loads ≡ (replay_to v j next).bits
+  pub all : sum results.sizes.now ≡ length (loads_in results.loads)
 
 -- what is kept at a place fits the run
 abbrev pub IsPlaceOf : Recorded → Part → Type 0

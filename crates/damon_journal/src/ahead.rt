@@ -12,8 +12,9 @@ use crate::by_tag::SeenByTag;
 use crate::last_seen::first_wrong;
 use crate::seen_list::SeenList;
 use crate::seen_words::read_receipts;
-use crate::tables::{name_due, named_by_none, received_at_first, show_pass, unset_table};
+use crate::tables::{name_due, named_by_none, received_at_first, show_pass};
 use damon_types::Space;
+use page_bits::BitSet;
 use sampler::Picks;
 use std::alloc::{AllocError, Global};
 use std::marker::Model;
@@ -24,11 +25,12 @@ use std::marker::Model;
 #[derive(Drop)]
 pub(crate) struct Ahead {
     seen: SeenByTag,
-    named: Vec<bool>,
-    // For each page, whether it is a pick of the pass in preparation; between calls none is.
-    picked: Vec<bool>,
-    // For each page, whether a receipt has it with the number of the pass as its tag.
-    received: Vec<bool>,
+    // The receipts that a pass has named, by their index.
+    named: BitSet,
+    // The picks of the pass in preparation; between calls there are none.
+    picked: BitSet,
+    // The pages that receipts have with the number of the pass as their tag.
+    received: BitSet,
     pass: u64,
     pages: u32,
 }
@@ -40,12 +42,12 @@ impl Model for Ahead {
 
     ghost view = { λ a. record {
       receipts = a.seen;
-      named = a.named.items;
+      named = a.named;
       pass = a.pass;
       pages = a.pages;
     } };
 
-    ghost invariant = { λ a. IsAhead a.seen a.named.items a.picked.items a.received.items
+    ghost invariant = { λ a. IsAhead a.seen a.named a.picked a.received
         a.pass a.pages };
 }
 
@@ -78,7 +80,7 @@ impl Ahead {
     {
         let named = named_by_none(alloc, &receipts)?;
         let seen = SeenByTag::of(alloc, receipts)?;
-        let picked = unset_table(alloc, pages)?;
+        let picked = BitSet::none(alloc, pages)?;
         let received = received_at_first(alloc, &seen, pages)?;
         Ok(Ahead {
             seen,
@@ -114,7 +116,7 @@ impl Ahead {
         ensures { result ≡ list_any (is_receipt page self.now.pass)
             (receipts_of self.now.receipts) }
     {
-        self.received[page as usize]
+        self.received.has(page)
     }
 
     // The index of the first receipt that may not be seen after those before it. Takes memory by

@@ -7,10 +7,12 @@ ghost use Rattle.damon_control.specs.LiveView.{call_value, calls_of, live_said};
 ghost use Rattle.damon_journal.specs.Replay.{call_at};
 ghost use Rattle.damon_journal.specs.Spelled.{answer_said, answered_lines, bit_digit, call_front, call_lines, spelled_answer, spelled_check};
 ghost use Rattle.damon_control.specs.Sound.{IsSpelledCall, SpellsCalls};
+ghost use Rattle.damon_journal.specs.Results.{loads_in};
 ghost use Rattle.damon_journal.specs.Text.{entry_lines};
 
 use crate::entry::{CallAnswer, Entry};
 use crate::line_parts::{end_line, write_field, write_line, write_pair, write_pair_line};
+use crate::load_run::LoadRun;
 use damon_control::{Call, CallLists, LiveScript, write_commit};
 use damon_core::Changed;
 use damon_types::Space;
@@ -24,11 +26,11 @@ pub(crate) fn write_entry(
     out: &mut Vec<u8>,
     script: &LiveScript,
     entry: &Entry,
-    loaded: &[bool],
+    loaded: LoadRun<'_>,
 ) -> Result<(), AllocError>
     requires { SpellsCalls (live_said script.now) }
     ensures ok { OnOk result (out.new.items ≡ out.old.items
-        ++ lines_text (entry_lines (live_said script.now) loaded.now entry.now)) }
+        ++ lines_text (entry_lines (live_said script.now) (loads_in loaded.entry) entry.now)) }
     ensures kept { KeepsFront out.old.items out.new.items }
 {
     match *entry {
@@ -46,25 +48,26 @@ pub(crate) fn write_entry(
 
 // Appends `check PASS BITS`.
 #[tactic(auto, using(crate::proofs::Appending::appends))]
-fn write_check(out: &mut Vec<u8>, pass: u64, bits: &[bool]) -> Result<(), AllocError>
+fn write_check(out: &mut Vec<u8>, pass: u64, loaded: LoadRun<'_>) -> Result<(), AllocError>
     ensures ok { OnOk result (out.new.items
-        ≡ out.old.items ++ lines_text (spelled_check pass bits.now ∷ [])) }
+        ≡ out.old.items ++ lines_text (spelled_check pass (loads_in loaded.entry) ∷ [])) }
     ensures kept { KeepsFront out.old.items out.new.items }
 {
     write_field(out, b"check ", pass)?;
     out.extend_from_slice(b" ")?;
-    write_bits(out, bits)?;
+    write_bits(out, loaded)?;
     end_line(out)
 }
 
 // Appends a digit for each result.
-fn write_bits(out: &mut Vec<u8>, bits: &[bool]) -> Result<(), AllocError>
-    ensures ok { OnOk result (out.new.items ≡ out.old.items ++ map bit_digit bits.now) }
+fn write_bits(out: &mut Vec<u8>, loaded: LoadRun<'_>) -> Result<(), AllocError>
+    ensures ok { OnOk result (out.new.items ≡ out.old.items ++ map bit_digit (loads_in loaded.entry)) }
     ensures kept { KeepsFront out.old.items out.new.items }
 {
-    out.reserve(bits.len())?;
-    for bit in bits {
-        out.push_reserved(bit_digit(*bit));
+    let count = loaded.len();
+    out.reserve(count as usize)?;
+    for index in 0..count {
+        out.push_reserved(bit_digit(loaded.get(index)));
     }
     Ok(())
 }

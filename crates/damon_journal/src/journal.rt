@@ -1,6 +1,9 @@
 ghost use Rattle.std.specs.Prelude.{◌≡◌, ◌+◌, ◌-◌, ◌*◌, ◌≤◌, ◌<◌, ◌^◌, IfOk, Some, length, slice_get, sum};
+ghost use Rattle.damon_journal.specs.Results.{loads_in};
 
 use crate::entry::{CallAnswer, Entry};
+use crate::load_run::LoadRun;
+use page_bits::BitSet;
 use sampler::Picks;
 use std::alloc::{AllocError, Global};
 use std::marker::Model;
@@ -10,28 +13,30 @@ use std::marker::Model;
 #[derive(Drop)]
 pub struct Journal {
     entries: Vec<Entry>,
-    bits: Vec<bool>,
-    // How many of the results each check has.
+    // The hits among all loads, by their index.
+    loads: BitSet,
+    // How many loads were made.
+    loaded: u32,
+    // How many of the loads each check has.
     checked: Vec<u32>,
     room: u32,
-    bit_room: u32,
 }
 
 impl Model for Journal {
-    ghost use Rattle.std.specs.Prelude.{vec_capacity};
+    ghost use Rattle.std.specs.Prelude.{length, take, vec_capacity};
     ghost use Rattle.damon_journal.specs.Room.{IsJournal, JournalView};
 
     ghost Value = { JournalView };
 
     ghost view = { λ j. record {
-      value = record { entries = j.entries.items; bits = j.bits.items };
+      value = record { entries = j.entries.items; bits = take j.loaded j.loads };
       checked = j.checked.items;
       room = j.room;
-      bit_room = j.bit_room;
+      bit_room = length j.loads;
     } };
 
-    ghost invariant = { λ j. IsJournal j.entries.items j.bits.items j.checked.items j.room j.bit_room
-        (vec_capacity j.entries) (vec_capacity j.bits) (vec_capacity j.checked) };
+    ghost invariant = { λ j. IsJournal j.entries.items j.loads j.loaded j.checked.items j.room
+        (vec_capacity j.entries) (vec_capacity j.checked) };
 }
 
 impl Journal {
@@ -44,10 +49,10 @@ impl Journal {
     {
         Journal {
             entries: Vec::new(alloc),
-            bits: Vec::new(alloc),
+            loads: BitSet::empty(alloc),
+            loaded: 0,
             checked: Vec::new(alloc),
             room: 0,
-            bit_room: 0,
         }
     }
 
@@ -59,16 +64,15 @@ impl Journal {
         ensures { IfOk result (λ j. j ≡ empty_journal (3 * passes + calls) (passes * cap)) }
     {
         let room = 3 * passes + calls;
-        let bit_room = passes * cap;
         let entries = Vec::with_capacity(alloc, room as usize)?;
-        let bits = Vec::with_capacity(alloc, bit_room as usize)?;
+        let loads = BitSet::none(alloc, passes * cap)?;
         let checked = Vec::with_capacity(alloc, room as usize)?;
         Ok(Journal {
             entries,
-            bits,
+            loads,
+            loaded: 0,
             checked,
             room,
-            bit_room,
         })
     }
 
@@ -98,7 +102,7 @@ impl Journal {
     pub fn spare_bits(&self) -> u32
         ensures { result ≡ self.now.bit_room - length self.now.value.bits }
     {
-        self.bit_room - self.bits.len() as u32
+        self.loads.len() - self.loaded
     }
 
     /// Appends that a pass is prepared, before which `at` random words were drawn. An entry must still
@@ -119,8 +123,9 @@ impl Journal {
     {
         let count = picks.len();
         for k in 0..count {
-            self.bits.push_reserved(picks.hit(k));
+            self.loads.put(self.loaded + k, picks.hit(k));
         }
+        self.loaded += count;
         self.checked.push_reserved(count);
         self.entries.push_reserved(Entry::Check { pass });
     }
@@ -165,11 +170,11 @@ impl Journal {
     }
 
     // The results of all loads in order.
-    pub(crate) fn bits(&self) -> &[bool]
-        ensures bits { result.now ≡ self.now.value.bits }
+    pub(crate) fn loads(&self) -> LoadRun<'_>
+        ensures bits { loads_in result ≡ self.now.value.bits }
         ensures all { sum self.now.checked ≡ length self.now.value.bits }
     {
-        &self.bits
+        LoadRun::first(&self.loads, self.loaded)
     }
 
     // How many results each check has.

@@ -8,6 +8,7 @@ ghost use Rattle.damon_journal.specs.SeenLine.{with_receipt};
 use crate::entry::Receipt;
 use crate::seen_list::SeenList;
 use damon_control::MAX_WORKERS;
+use page_bits::BitSet;
 use std::alloc::{AllocError, Global};
 
 // More than the number of any pass of a text, which is at most the number of its bytes.
@@ -32,7 +33,7 @@ struct LastSeen {
 pub(crate) fn first_wrong(
     alloc: Global,
     receipts: &SeenList,
-    named: &[bool],
+    named: &BitSet,
     pages: u32,
 ) -> Result<Option<usize>, AllocError>
     requires within { All (λ x. x.1.page < pages) receipts.now }
@@ -41,9 +42,12 @@ pub(crate) fn first_wrong(
     ensures { IfOk result (λ index. index ≡ first_wrong named.now [] receipts.now) }
 {
     let mut last = LastSeen::new(alloc, pages)?;
+    // For its clause alone: the receipts are fewer than 2^32.
+    let _named = named.len();
     for index in 0..receipts.len() {
         let (worker, receipt) = receipts.get(index);
-        let admitted = last.admit(named[index], worker, &receipt);
+        let is_named = named.has(index as u32);
+        let admitted = last.admit(is_named, worker, &receipt);
         if !admitted {
             return Ok(Some(index));
         }
@@ -78,7 +82,7 @@ impl LastSeen {
         let page = receipt.page as usize;
         let last = last_in(self.pages[page]);
         let come = may_come(self.workers, last, worker, receipt.tag);
-        // Without a branch that depends on the input.
+        // One branch for both, which goes the same way for nearly all receipts.
         let may = named & come;
         if may {
             let number = u32::from(worker);
@@ -111,6 +115,6 @@ fn may_come(workers: u32, last: Last, worker: u8, tag: u64) -> bool
     ensures { result ≡ may_come workers last worker tag }
 {
     let number = u32::from(worker);
-    // Each test is cheaper than a branch that is predicted wrongly.
+    // Without branches: each test is cheaper than a branch that is predicted wrongly.
     (workers <= number + 1) & (number < MAX_WORKERS) & ((last.0 != worker) | (last.1 <= tag))
 }

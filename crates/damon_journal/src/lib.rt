@@ -34,6 +34,8 @@ mod lawful;
 mod laws;
 /// Parts of lines.
 mod line_parts;
+/// Results of loads.
+mod load_run;
 /// The receipts of a worker, in columns.
 mod receipt_list;
 /// A journal that is carried out from one aggregation to the next.
@@ -58,7 +60,7 @@ mod seen_words;
 mod split_line;
 /// How a run of a program ended.
 mod status;
-/// Tables of pages and of receipts, which passes set.
+/// Sets of pages and names of receipts, which passes change.
 mod tables;
 /// The text of a journal.
 mod text;

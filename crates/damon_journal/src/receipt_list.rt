@@ -12,7 +12,7 @@ const HALF: u64 = 1 << 32;
 /// It keeps the allocator that it was made with.
 ///
 /// The parts of a receipt lie in lists of their own, and the high half of a tag is written only where some
-/// tag up to now was 2^32 or more. So a receipt takes 8 bytes in most runs, and 12 from such a tag on.
+/// tag up to now was 2^32 or more. So a receipt takes 8 bytes in most runs, and 12 up to the last such tag.
 #[derive(Drop)]
 pub struct ReceiptList {
     pages: Vec<u32>,

@@ -1,32 +1,85 @@
 // The results of the checks of a journal, one check after another.
-ghost use Rattle.std.specs.Prelude.{◌≡◌, length, sum};
-ghost use Rattle.damon_journal.specs.Results.{bits_left, results_of, sizes_left};
+ghost use Rattle.std.specs.Prelude.{◌≡◌, ◌+◌, ◌≤◌, ◌<◌, Bool, drop, length, slice_index_or, sum, take};
+ghost use Rattle.damon_journal.specs.Results.{bits_left, loads_in, results_of, sizes_left};
 
 use crate::entry::Entry;
+use crate::load_run::LoadRun;
+use page_bits::BitSet;
+
+impl<'a> LoadRun<'a> {
+    // The first `count` results of a set.
+    pub(crate) fn first(set: &'a BitSet, count: u32) -> LoadRun<'a>
+        requires { count ≤ length set.now }
+        ensures { loads_in result ≡ take count set.now }
+    {
+        // For its clause alone: the loads are fewer than 2^32.
+        let _loads = set.len();
+        LoadRun {
+            set,
+            start: 0,
+            count,
+        }
+    }
+
+    // The number of results.
+    pub(crate) fn len(&self) -> u32
+        ensures { result ≡ length (loads_in self.now) }
+    {
+        self.count
+    }
+
+    // The result with this index.
+    pub(crate) fn get(&self, index: u32) -> bool
+        requires { index < length (loads_in self.now) }
+        ensures { (none : Bool) → result ≡ slice_index_or (loads_in self.now) index none }
+    {
+        self.set.has(self.start + index)
+    }
+
+    // The first `count` results, and those after them.
+    fn split_at(self, count: u32) -> (LoadRun<'a>, LoadRun<'a>)
+        requires { count ≤ length (loads_in self) }
+        ensures first { loads_in result.0 ≡ take count (loads_in self.entry) }
+        ensures rest { loads_in result.1 ≡ drop count (loads_in self.entry) }
+    {
+        let first = LoadRun {
+            set: self.set,
+            start: self.start,
+            count,
+        };
+        let rest = LoadRun {
+            set: self.set,
+            start: self.start + count,
+            count: self.count - count,
+        };
+        (first, rest)
+    }
+}
 
 // The results of the checks that are still to come: how many each has, and all of them.
 #[derive(Clone, Copy)]
 pub(crate) struct Results<'a> {
     pub(crate) sizes: &'a [u32],
-    pub(crate) bits: &'a [bool],
+    pub(crate) loads: LoadRun<'a>,
 }
 
 impl<'a> Results<'a> {
     // The results of an entry (only a check has some), and those of the checks after it.
-    pub(crate) fn split(self, entry: &Entry) -> (&'a [bool], Results<'a>)
-        requires { sum self.sizes.now ≡ length self.bits.now }
-        ensures results { result.0.now ≡ results_of entry.now self.entry.sizes.now self.entry.bits.now }
+    pub(crate) fn split(self, entry: &Entry) -> (LoadRun<'a>, Results<'a>)
+        requires { sum self.sizes.now ≡ length (loads_in self.loads) }
+        ensures results { loads_in result.0
+            ≡ results_of entry.now self.entry.sizes.now (loads_in self.entry.loads) }
         ensures sizes { result.1.sizes.now ≡ sizes_left entry.now self.entry.sizes.now }
-        ensures bits { result.1.bits.now
-            ≡ bits_left entry.now self.entry.sizes.now self.entry.bits.now }
-        ensures all { sum result.1.sizes.now ≡ length result.1.bits.now }
+        ensures bits { loads_in result.1.loads
+            ≡ bits_left entry.now self.entry.sizes.now (loads_in self.entry.loads) }
+        ensures all { sum result.1.sizes.now ≡ length (loads_in result.1.loads) }
     {
         match (entry, self.sizes) {
             (Entry::Check { .. }, [size, sizes @ ..]) => {
-                let (results, bits) = self.bits.split_at(*size as usize);
-                (results, Results { sizes, bits })
+                let (results, loads) = self.loads.split_at(*size);
+                (results, Results { sizes, loads })
             }
-            _ => (&[], self),
+            _ => (self.loads.split_at(0).0, self),
         }
     }
 }

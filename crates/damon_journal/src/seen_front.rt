@@ -39,7 +39,7 @@ fn leading_page<'a>(space: &Space, text: &'a [u8]) -> Option<(u32, &'a [u8])>
     let (target, words) = leading_field(text, b" ", u64::from(u32::MAX))?;
     let (addr, rest) = leading_address(strip(words, b" ")?)?;
     let page = space.page_of(target as u32, addr)?;
-    let place = space.addr_of(page);
+    let place = space.addr_near(target as u32, page);
     if u64::from(place.target) == target && place.addr == addr {
         Some((page, rest))
     } else {

@@ -209,7 +209,7 @@ fn write_head<'a>(
         next: 0,
         results: Results {
             sizes: run.journal.checked(),
-            bits: run.journal.bits(),
+            loads: run.journal.loads(),
         },
     })
 }

@@ -8,6 +8,7 @@ ghost use Rattle.damon_journal.specs.Lawful.{receipts_said};
 ghost use Rattle.damon_journal.specs.Replay.{check_sizes, replay};
 ghost use Rattle.damon_live.specs.Whole.{AreInSpace, IsWholeRun, TracesAreInSpace};
 ghost use Rattle.damon_live.specs.Work.{AreNumbered};
+ghost use Rattle.damon_live.specs.declared.top.TheConstants.{MAX_RESULTS};
 
 use crate::begin::{Begun, begin_run};
 use crate::ends::{AloneRun, Ended, end_run, with_script};
@@ -28,7 +29,7 @@ use std::marker::Brand;
 /// of its traces is a page of its space.
 pub fn run_alone(alloc: Global, script: LiveScript) -> Result<AloneRun, AllocError>
     requires limits { KeepsLimits (live_said script) }
-    requires product { script.passes * script.setup.cap ≤ 4194304 }
+    requires product { script.passes * script.setup.cap ≤ MAX_RESULTS }
     requires pages { TracesAreInSpace script }
     ensures script { IfOk result (λ r. live_said r.script ≡ live_said script) }
     ensures run { IfOk result (λ r.
@@ -56,7 +57,7 @@ fn run_named<N: Named>(
     requires seats { length N.script.workers ≡ N.seats }
     requires space { N.table.words ≡ pages_of N.script.setup.space }
     requires limits { KeepsLimits N.script }
-    requires product { N.script.passes * N.script.setup.cap ≤ 4194304 }
+    requires product { N.script.passes * N.script.setup.cap ≤ MAX_RESULTS }
     requires pages { AreInSpace N.script }
     ensures run { IfOk result (λ r.
         IsWholeRun N.script r.journal.value (receipts_said r.receipts)) }

@@ -4,6 +4,7 @@ ghost use Rattle.damon_types.specs.Space.{pages_of};
 ghost use Rattle.damon_control.specs.LiveText.{KeepsLimits};
 ghost use Rattle.damon_control.specs.LiveView.{live_said};
 ghost use Rattle.damon_live.specs.Work.{AreNumbered};
+ghost use Rattle.damon_live.specs.declared.top.TheConstants.{MAX_RESULTS};
 
 use crate::jobs::{room_for, split_all};
 use crate::kept::Kept;
@@ -36,7 +37,7 @@ pub(crate) fn begin_run<'a, N: Named>(
     requires seats { length N.script.workers ≡ N.seats }
     requires space { N.table.words ≡ pages_of N.script.setup.space }
     requires limits { KeepsLimits N.script }
-    requires product { N.script.passes * N.script.setup.cap ≤ 4194304 }
+    requires product { N.script.passes * N.script.setup.cap ≤ MAX_RESULTS }
     ensures jobs { IfOk result (λ r. vec_len r.jobs ≡ N.seats) }
     ensures numbered { IfOk result (λ r. AreNumbered (λ j. j.worker) r.jobs.items) }
     ensures empty { IfOk result (λ r. r.receipts.list ≡ []) }

@@ -13,6 +13,7 @@ ghost use Rattle.damon_journal.specs.Steps.{steps};
 ghost use Rattle.damon_live.specs.Kept.{CallsAreInOrder, HasEnded, calls_asked, calls_made};
 ghost use Rattle.damon_live.specs.Machine.{passes_made, prepare_after, with_one};
 ghost use Rattle.damon_live.specs.Plain.{AddsPlain};
+ghost use Rattle.damon_live.specs.declared.top.TheConstants.{MAX_RESULTS};
 
 use crate::machine::Machine;
 use crate::named::Named;
@@ -71,7 +72,7 @@ impl<'a, N: Named> Kept<'a, N> {
         requires seat { seat ≡ record { table = N.table; entries = []; out = N.seats } }
         requires pages { N.table.words ≡ pages_of N.script.setup.space }
         requires limits { KeepsLimits N.script }
-        requires product { N.script.passes * N.script.setup.cap ≤ 4194304 }
+        requires product { N.script.passes * N.script.setup.cap ≤ MAX_RESULTS }
         ensures { IfOk result (λ k. k ≡ nothing_said) }
     {
         let controllers = script.controllers.len();

@@ -14,6 +14,7 @@ ghost use Rattle.damon_journal.specs.Replay.{IsJournalOf, call_answer, call_at, 
 ghost use Rattle.damon_journal.specs.Steps.{steps};
 ghost use Rattle.damon_live.specs.Kept.{HasEnded};
 ghost use Rattle.damon_live.specs.Machine.{aggregate_after, calls_left, passes_made, prepare_after, with_one};
+ghost use Rattle.damon_live.specs.declared.top.TheConstants.{MAX_RESULTS};
 
 use crate::calls::make_call;
 use crate::kept::{Kept1, KeptParts};
@@ -69,7 +70,7 @@ impl<'a, N: Named> Machine<'a, N> {
         requires seat { seat ≡ record { table = N.table; entries = []; out = N.seats } }
         requires pages { N.table.words ≡ pages_of N.script.setup.space }
         requires limits { KeepsLimits N.script }
-        requires product { N.script.passes * N.script.setup.cap ≤ 4194304 }
+        requires product { N.script.passes * N.script.setup.cap ≤ MAX_RESULTS }
         ensures { IfOk result (λ m. m ≡ nothing_said) }
     {
         // For their clauses alone: the space and the ranges are within their limits.

@@ -8,6 +8,7 @@ ghost use Rattle.damon_journal.specs.Lawful.{receipts_said};
 ghost use Rattle.damon_journal.specs.Replay.{check_sizes, replay};
 ghost use Rattle.damon_live.specs.Whole.{AreInSpace, IsWholeRun, TracesAreInSpace};
 ghost use Rattle.damon_live.specs.Work.{AreNumbered};
+ghost use Rattle.damon_live.specs.declared.top.TheConstants.{MAX_RESULTS};
 
 use crate::begin::{Begun, begin_run};
 use crate::beside::run_beside;
@@ -37,7 +38,7 @@ pub fn run_threads<R: Threads + Wait + Sync, P: Pace + Sync>(
     pace: &P,
 ) -> Result<AloneRun, AllocError>
     requires limits { KeepsLimits (live_said script) }
-    requires product { script.passes * script.setup.cap ≤ 4194304 }
+    requires product { script.passes * script.setup.cap ≤ MAX_RESULTS }
     requires pages { TracesAreInSpace script }
     ensures script { IfOk result (λ r. live_said r.script ≡ live_said script) }
     ensures run { IfOk result (λ r.
@@ -67,7 +68,7 @@ fn run_named<N: Named + Send + Sync, R: Threads + Wait + Sync, P: Pace + Sync>(
     requires seats { length N.script.workers ≡ N.seats }
     requires space { N.table.words ≡ pages_of N.script.setup.space }
     requires limits { KeepsLimits N.script }
-    requires product { N.script.passes * N.script.setup.cap ≤ 4194304 }
+    requires product { N.script.passes * N.script.setup.cap ≤ MAX_RESULTS }
     requires pages { AreInSpace N.script }
     ensures run { IfOk result (λ r.
         IsWholeRun N.script r.journal.value (receipts_said r.receipts)) }

@@ -1,4 +1,4 @@
-ghost use Rattle.std.specs.Prelude.{◌≡◌, ℕ, ◌+◌, ◌^◌, ◌≤◌, ◌<◌, length, slice_get, slice_index, IfOk};
+ghost use Rattle.std.specs.Prelude.{◌≡◌, ℕ, ◌+◌, ◌^◌, ◌≤◌, ◌<◌, true, length, slice_get, slice_index, IfOk};
 ghost use Rattle.damon_types.specs.Space.{checked, pages_of, offset, page_of, place_of, IsSpace, ChecksTo, MadeOf};
 
 use std::alloc::{AllocError, Global};
@@ -170,13 +170,53 @@ impl Space {
         ensures inverse { page_of self.now result.target result.addr ≡ Some page }
         ensures below { result.addr < ADDRESS_END }
     {
-        let index = self.target_of(page);
+        self.place_in(self.target_of(page), page)
+    }
+
+    /// The same, found without a search if the page belongs to the target with this number, as the pages of a
+    /// row belong to the row's target.
+    pub fn addr_near(&self, target: u32, page: u32) -> Place
+        requires { page < pages_of self.now }
+        ensures place { result ≡ place_of self.now page }
+        ensures inverse { page_of self.now result.target result.addr ≡ Some page }
+        ensures below { result.addr < ADDRESS_END }
+    {
+        if self.has_page(target, page) {
+            self.place_in(target as usize, page)
+        } else {
+            self.addr_of(page)
+        }
+    }
+
+    // The place of a page of the target with this index.
+    fn place_in(&self, index: usize, page: u32) -> Place
+        requires within { index < length self.now }
+        requires from { offset self.now index ≤ page }
+        requires to { page < offset self.now (index + 1) }
+        ensures place { result ≡ place_of self.now page }
+        ensures inverse { page_of self.now result.target result.addr ≡ Some page }
+        ensures below { result.addr < ADDRESS_END }
+    {
         let first = self.offsets[index];
         let target = self.targets[index];
         Place {
             target: index as u32,
             addr: target.base + PAGE_SIZE * u64::from(page - first),
         }
+    }
+
+    // Whether there is a target with this number, and a page belongs to it.
+    fn has_page(&self, target: u32, page: u32) -> bool
+        ensures within { result ≡ true → target < length self.now }
+        ensures from { result ≡ true → offset self.now target ≤ page }
+        ensures to { result ≡ true → page < offset self.now (target + 1) }
+    {
+        let index = target as usize;
+        if index >= self.targets.len() {
+            return false;
+        }
+        let first = self.offsets[index];
+        first <= page && page - first < self.targets[index].pages
     }
 
     // The index of the target that a page belongs to: the last one that begins at or before it.

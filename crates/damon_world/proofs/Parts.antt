@@ -9,7 +9,8 @@ use Rattle.std.proofs.lemmas.Nat.Bits.{bit_at-zero}
 use Rattle.sampler.specs.Loaded.{mark_of}
 use Rattle.page_bits.specs.Bits.{bit_in, is_set}
 use Rattle.page_bits.specs.Runs.{in_run}
-use Rattle.damon_world.specs.Pages.{AreCleared, AreTouched, PagesView, bits_of, is_picked}
+use Rattle.page_bits.specs.Sets.{bits_of}
+use Rattle.damon_world.specs.Pages.{AreCleared, AreTouched, PagesView, is_picked}
 
 pub length_bits : (n : ℕ) (words : List ℕ) → length (bits_of n words) ≡ n
 length_bits n words = length-map-range_with_len (bit_in words) 0 n

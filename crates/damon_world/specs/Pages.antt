@@ -1,8 +1,6 @@
 -- The pages of one thread.
-use Rattle.std.specs.Prelude.{◌≡◌, ℕ, zero, suc, ◌+◌, ◌*◌, ◌≤◌, ◌<◌, Bool, true, false, ◌==◌, ◌||◌, List, length, map, slice_index, if◌then◌else◌}
-use Rattle.std.specs.List.{range_with_len}
+use Rattle.std.specs.Prelude.{◌≡◌, ℕ, zero, suc, ◌+◌, ◌*◌, ◌≤◌, ◌<◌, Bool, true, false, ◌==◌, ◌||◌, List, length, slice_index, if◌then◌else◌}
 use Rattle.sampler.specs.Loaded.{mark_of}
-use Rattle.page_bits.specs.Bits.{bit_in}
 use Rattle.page_bits.specs.Runs.{in_run}
 use Rattle.damon_core.specs.Note.{Note, is_touched, last_clear}
 
@@ -35,10 +33,6 @@ pub record AreCleared (picks : List ℕ) (from n pass : ℕ) (old new : PagesVie
   pub tags : (p : ℕ) → p < length old.tags → slice_index new.tags p ≡ (if is_picked picks from n p then pass else slice_index old.tags p)
 
 -- How they are stored. Only proofs need what follows.
-
--- the bits of this many pages
-abbrev pub bits_of : ℕ → List ℕ → List Bool
-bits_of pages words = map (bit_in words) (range_with_len 0 pages)
 
 -- there is a bit for each page, and a tag for each or for none
 pub record IsStored (pages : ℕ) (words tags : List ℕ) : Type 0 where

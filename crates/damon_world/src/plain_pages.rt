@@ -1,6 +1,7 @@
 ghost use Rattle.std.specs.Prelude.{◌≡◌, ◌+◌, ◌-◌, ◌*◌, ◌/◌, ◌≤◌, ◌<◌, [], ℕ, false, if◌then◌else◌, length, replicate, slice_index, IfOk};
 ghost use Rattle.page_bits.specs.Bits.{bit_in};
-ghost use Rattle.damon_world.specs.Pages.{AreCleared, AreTouched, bits_of, is_picked};
+ghost use Rattle.page_bits.specs.Sets.{bits_of};
+ghost use Rattle.damon_world.specs.Pages.{AreCleared, AreTouched, is_picked};
 
 use page_bits::{WORD, clear_bit, is_bit_set, put_bits_of_run, set_bit};
 use sampler::{Marks, Picks};
@@ -22,7 +23,8 @@ pub struct PlainPages {
 }
 
 impl Model for PlainPages {
-    ghost use Rattle.damon_world.specs.Pages.{IsStored, PagesView, bits_of};
+    ghost use Rattle.page_bits.specs.Sets.{bits_of};
+    ghost use Rattle.damon_world.specs.Pages.{IsStored, PagesView};
 
     ghost Value = { PagesView };
 
@@ -112,7 +114,7 @@ pub struct PlainMarks<'a> {
 }
 
 impl Marks for PlainMarks<'_> {
-    ghost use Rattle.damon_world.specs.Pages.{bits_of};
+    ghost use Rattle.page_bits.specs.Sets.{bits_of};
 
     ghost marks_of = { λ m. bits_of m.pages m.words.now };
 

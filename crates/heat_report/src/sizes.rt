@@ -74,6 +74,3 @@ impl Sizes {
         })
     }
 }
-
-#[cfg(test)]
-mod tests;

@@ -222,6 +222,3 @@ fn whole_or_nothing(
     }
     written
 }
-
-#[cfg(test)]
-mod tests;

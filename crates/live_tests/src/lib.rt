@@ -1,5 +1,5 @@
-//! Tests of live runs whose order is given. They stand in a crate of their own, since a crate with tests is
-//! proved twice.
+//! Tests of live runs whose order is given, and of the page words that their threads share. They stand in a
+//! crate of their own, since a crate with tests is proved twice.
 #![tactic(auto)]
 
 /// Runs under gates.
@@ -8,3 +8,9 @@ mod gated_runs;
 /// Runs of one thread.
 #[cfg(test)]
 mod lone_runs;
+/// Page words, step by step.
+#[cfg(test)]
+mod page_steps;
+/// Page words that eight threads touch.
+#[cfg(test)]
+mod page_threads;

@@ -3,7 +3,7 @@ ghost use Rattle.std.specs.Prelude.{◌≤◌, length};
 
 use damon_control::{MAX_BYTES, live_scripts_are_sound, read_live};
 use damon_journal::journal_text;
-use damon_live::{AloneRun, run_alone};
+use damon_live::{AloneRun, MAX_RESULTS, run_alone};
 use std::alloc::{AllocError, Global};
 use std::process::Abort;
 use std::test::Fail;
@@ -59,7 +59,7 @@ fn text_of_run(alloc: Global, script: &[u8]) -> Result<Option<Vec<u8>>, AllocErr
     let Ok(script) = read_live(alloc, script) else {
         return Ok(None);
     };
-    if u64::from(script.passes) * u64::from(script.setup.cap) > 4_194_304 {
+    if u64::from(script.passes) * u64::from(script.setup.cap) > u64::from(MAX_RESULTS) {
         return Ok(None);
     }
     let AloneRun {

@@ -3,4 +3,5 @@ pub mod Ones
 pub mod One
 pub mod Digits
 pub mod Masking
+pub mod Setting
 mod Examples

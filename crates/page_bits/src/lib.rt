@@ -5,10 +5,13 @@
 mod bit;
 /// The bits of a word that lie next to each other.
 mod mask;
+/// Sets of pages, or of other numbers.
+mod bit_set;
 /// The bits of a run of pages.
 mod run;
 
 pub use bit::{clear_bit, is_bit_set, set_bit};
+pub use bit_set::BitSet;
 pub use mask::ones_between;
 pub use run::put_bits_of_run;
 

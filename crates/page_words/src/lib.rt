@@ -26,10 +26,6 @@ mod seats;
 mod settled;
 /// The atomic steps.
 mod steps;
-#[cfg(test)]
-mod tests;
-#[cfg(test)]
-mod thread_tests;
 /// The views of seats, which exist in contracts alone.
 mod view;
 /// The shared table of page words.

@@ -1,17 +1,24 @@
-//! Tests of the crates of types, texts, rows and setups: their public calls on the usual path, and what no
-//! clause says. They stand in a crate of their own, since a crate with tests is proved twice.
+//! Tests of the crates of types, bits, texts, rows, setups and heat tables: their public calls on the usual
+//! path, and what no clause says. They stand in a crate of their own, since a crate with tests is proved
+//! twice.
 #![tactic(auto)]
 
+/// The text of heat tables.
+#[cfg(test)]
+mod heat_texts;
 /// Rows that tile their ranges.
 #[cfg(test)]
 mod rows;
+/// Sets of bits.
+#[cfg(test)]
+mod sets;
 /// Setups.
 #[cfg(test)]
 mod setups;
 /// Streams over readers and writers of std.
 #[cfg(test)]
 mod streams;
-/// Words, numbers and addresses.
+/// Numbers.
 #[cfg(test)]
 mod texts;
 /// Spaces, ranges and lists.

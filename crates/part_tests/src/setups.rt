@@ -103,17 +103,9 @@ fn messages_are_names(rt: HostRuntime) -> Result<(), Fail> {
 #[test]
 fn a_setup_is_made(rt: HostRuntime) -> Result<(), Fail> {
     let space = Space::new(rt.alloc(), &[TARGET])?;
-    let slots = [set(3, span(1, 2)), emptied(4), set(5, span(1, 2))];
-    let setup = Setup::new(
-        rt.alloc(),
-        Version::One,
-        space,
-        2,
-        8,
-        THREE,
-        &[spec(0x12000, 0x14000)],
-        &slots,
-    )?;
+    let slots = [set(3, span(1, 2)), emptied(4)];
+    let specs = [spec(0x12000, 0x14000)];
+    let setup = Setup::new(rt.alloc(), Version::One, space, 2, 8, THREE, &specs, &slots)?;
     let range = Range {
         target: 0,
         first: 2,
@@ -122,8 +114,6 @@ fn a_setup_is_made(rt: HostRuntime) -> Result<(), Fail> {
     };
     assert_eq!(rt; setup.ranges.len(), 1);
     assert_eq!(rt; setup.ranges.get(0), range);
-    assert_eq!(rt; setup.version, Version::One);
-    assert_eq!(rt; setup.slots.as_slice(), [slots[0], slots[2]].as_slice());
-    assert_eq!(rt; (setup.space.pages(), setup.unit, setup.cap), (16, 2, 8));
+    assert_eq!(rt; setup.slots.as_slice(), [slots[0]].as_slice());
     Ok(())
 }

@@ -155,6 +155,3 @@ impl Candidates {
         choose_among(&mut self.items, left)
     }
 }
-
-#[cfg(test)]
-mod tests;

@@ -101,6 +101,3 @@ fn cut_of(sums: &[u64], left: u64) -> Option<u32>
     }
     None
 }
-
-#[cfg(test)]
-mod tests;

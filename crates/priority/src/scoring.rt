@@ -207,6 +207,3 @@ pub(crate) fn weighted_mean(
     let [by_size, by_count, by_age] = [weights.size, weights.count, weights.age].map(u32::from);
     by_sum.quotient(by_size * size + by_count * count + by_age * age)
 }
-
-#[cfg(test)]
-mod tests;

@@ -32,6 +32,10 @@ some_left = refl
 nothing_left : left_of (Some (quota 8192 40)) (cost 0 0) 3 ≡ Some 0
 nothing_left = refl
 
+-- the same quota in the next window
+whole_quota_left : left_of (Some (quota 8192 40)) (cost 0 0) 0 ≡ Some 2
+whole_quota_left = refl
+
 no_quota : left_of None (cost 0 0) 3 ≡ None
 no_quota = refl
 

@@ -91,6 +91,3 @@ impl Window {
         self.charged += pages;
     }
 }
-
-#[cfg(test)]
-mod tests;

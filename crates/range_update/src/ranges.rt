@@ -56,6 +56,3 @@ fn cut_ranges(rows: &RowBuf, ranges: &Ranges, unit: u32, made: &mut RowBuf)
         from = cut_range(rows, ranges.get(index), unit, from, made);
     }
 }
-
-#[cfg(test)]
-mod tests;

@@ -70,6 +70,3 @@ impl Reciprocal {
         number - self.quotient(number) * self.divisor
     }
 }
-
-#[cfg(test)]
-mod tests;

@@ -6,7 +6,8 @@ use Rattle.std.proofs.lemmas.Bool.Decides.{nat_tests}
 use Rattle.std.proofs.lemmas.List.Sums.{sum_by_push}
 use Rattle.std.proofs.lemmas.List.FromFn.{get_or-map-range_with_len, length-map-range_with_len}
 use Rattle.page_bits.specs.Runs.{count_pages, in_run}
-use Rattle.reclaim_module.specs.Pages.{each_page, is_out_in}
+use Rattle.page_bits.specs.Sets.{each_page}
+use Rattle.reclaim_module.specs.Pages.{is_out_in}
 
 range_more : (a n : ℕ) → range_with_len a (suc n) ≡ range_with_len a n ++ (a + n) ∷ []
 range_more a zero = ap (λ x. x ∷ []) (omega arith)

@@ -4,15 +4,11 @@ use Rattle.std.specs.Prelude.{◌==◌, count_by, slice_index, slice_set, if◌t
 use Rattle.std.specs.List.{range_with_len}
 use Rattle.std.proofs.lemmas.Bool.{cases_eq}
 use Rattle.std.proofs.lemmas.Bool.Decides.{nat_tests}
-use Rattle.std.proofs.lemmas.List.{length-replicate}
 use Rattle.std.proofs.lemmas.List.FromFn.{fill_by_all}
-use Rattle.std.proofs.lemmas.Nat.Bits.{bit_at-zero}
 use Rattle.std.proofs.lemmas.List.Sums.{sum_by-cons, sum_by-set}
-use Rattle.reclaim_module.specs.Calls.{with_run}
-use Rattle.page_bits.specs.Bits.{bit_in, is_set}
-use Rattle.page_bits.specs.Runs.{count_pages, differs, in_run}
-use Rattle.reclaim_module.specs.Kept.{bits_in}
-use Rattle.reclaim_module.specs.Pages.{each_page, is_out_in, out_count}
+use Rattle.page_bits.specs.Runs.{count_pages, in_run}
+use Rattle.page_bits.specs.Sets.{each_page, with_run}
+use Rattle.reclaim_module.specs.Pages.{is_out_in, out_count}
 use Rattle.reclaim_module.proofs.Counting.{at_page, count_adds, count_more, count_none, count_same, length_pages}
 use Rattle.reclaim_module.proofs.Runs.{before_run, behind_run}
 
@@ -65,10 +61,6 @@ out_count_le xs = omega (arith, out_count_again xs, count_le (length xs) (is_out
 -- the length stays
 pub length_with_run : (start pages : ℕ) (now : Bool) (xs : List Bool) → length (with_run start pages now xs) ≡ length xs
 length_with_run start pages now xs = length_pages (length xs) (λ p. if in_run start pages p then now else is_out_in xs p)
-
--- and the pages that are out are no more than all
-pub out_count_with_run_le : (start pages : ℕ) (now : Bool) (xs : List Bool) → out_count (with_run start pages now xs) ≤ length xs
-out_count_with_run_le start pages now xs = omega (arith, out_count_le (with_run start pages now xs), length_with_run start pages now xs)
 
 -- the pages that go out are so many more
 pub out_gain : (start pages : ℕ) (xs : List Bool) → out_count (with_run start pages true xs) ≡ out_count xs + count_pages (length xs) (λ p. in_run start pages p && not (is_out_in xs p))
@@ -157,33 +149,3 @@ pub resident_stays : (page : ℕ) (xs : List Bool) → is_out_in xs page ≡ fal
 resident_stays page [] is = refl
 resident_stays zero (x ∷ xs) is = ap (λ b. b ∷ xs) (sym is)
 resident_stays (suc page) (x ∷ xs) is = ap (λ ys. x ∷ ys) (resident_stays page xs is)
-
--- no bit of words that are 0 is set
-no_bits : (k p : ℕ) → bit_in (replicate k 0) p ≡ false
-no_bits k p = ap (λ w. is_set w (p % 64)) (zeros k (p / 64)) ∙ ap (λ n. n == 1) (bit_at-zero (p % 64)) where
-  zeros : (k q : ℕ) → slice_index (replicate k 0) q ≡ 0
-  zeros zero q = refl
-  zeros (suc k) zero = refl
-  zeros (suc k) (suc q) = zeros k q
-
-pub bits_of_none : (n k : ℕ) → bits_in n (replicate k 0) ≡ replicate n false
-bits_of_none n k = sym (each_page_is (bit_in (replicate k 0)) (replicate n false) n (length-replicate {A = Bool} n false) (λ p below. falses n p ∙ sym (no_bits k p))) where
-  falses : (n p : ℕ) → is_out_in (replicate n false) p ≡ false
-  falses zero p = refl
-  falses (suc n) zero = refl
-  falses (suc n) (suc p) = falses n p
-
--- What the bits of a run say of the set.
-module _ (n start pages : ℕ) (old new : List ℕ) (now : Bool) where
-  pub set_is : ((p : ℕ) → bit_in new p ≡ (if in_run start pages p then now else bit_in old p)) → bits_in n new ≡ with_run start pages now (bits_in n old)
-  set_is bits =
-      let g : ℕ → Bool = λ p. if in_run start pages p then now else is_out_in (bits_in n old) p in
-      each_page_same n (bit_in new) g (λ p below. bits p ∙ ap (λ b. if in_run start pages p then now else b) (sym (at_page n (bit_in old) p below)))
-      ∙ ap (λ k. each_page k g) (sym (length_pages n (bit_in old)))
-
-  pub count_is : (count : ℕ) → start + pages ≤ n → ((m : ℕ) → start + pages ≤ m → count ≡ count_pages m (λ p. in_run start pages p && differs now (bit_in old p))) → count ≡ count_pages (length (bits_in n old)) (λ p. in_run start pages p && differs now (is_out_in (bits_in n old) p))
-  count_is count within is =
-      let g : ℕ → Bool = λ p. in_run start pages p && differs now (is_out_in (bits_in n old) p) in
-      is n within
-      ∙ count_same n (λ p. in_run start pages p && differs now (bit_in old p)) g (λ p below. ap (λ b. in_run start pages p && differs now b) (sym (at_page n (bit_in old) p below)))
-      ∙ ap (λ k. count_pages k g) (sym (length_pages n (bit_in old)))

@@ -1,9 +1,10 @@
 -- What a touch and the actions of schemes make of the pages.
-use Rattle.std.specs.Prelude.{ℕ, ◌+◌, Bool, true, false, not, ◌&&◌, List, length, replicate, slice_set, if◌then◌else◌, cond}
+use Rattle.std.specs.Prelude.{ℕ, ◌+◌, Bool, true, false, not, ◌&&◌, List, length, replicate, slice_set, cond}
 use Rattle.damon_types.specs.declared.scheme.Action.{Action}
 use Rattle.damon_types.specs.declared.scheme.Action.TheVariants.{Pageout, Willneed}
 use Rattle.page_bits.specs.Runs.{count_pages, in_run}
-use Rattle.reclaim_module.specs.Pages.{ReclaimView, each_page, is_out_in}
+use Rattle.page_bits.specs.Sets.{with_run}
+use Rattle.reclaim_module.specs.Pages.{ReclaimView, is_out_in}
 
 -- all pages of a space are resident, and nothing was counted
 abbrev pub all_resident : ℕ → ReclaimView
@@ -18,10 +19,6 @@ after_touch page r = record {
   out = slice_set r.out page false;
   counts = record r.counts { refaults = r.counts.refaults + cond (is_out_in r.out page) 1 0 };
 }
-
--- the pages once those of a run are all out, or all resident
-abbrev pub with_run : ℕ → ℕ → Bool → List Bool → List Bool
-with_run start pages now out = each_page (length out) (λ page. if in_run start pages page then now else is_out_in out page)
 
 -- the pages of a run go out, and those that were not out are counted
 abbrev pub paged_out : ℕ → ℕ → ReclaimView → ReclaimView

@@ -1,6 +1,5 @@
--- Sets of pages of a space.
-use Rattle.std.specs.Prelude.{ℕ, Bool, false, List, map, count_by, slice_index_or}
-use Rattle.std.specs.List.{range_with_len}
+-- The pages of a space that are out.
+use Rattle.std.specs.Prelude.{ℕ, Bool, false, List, count_by, slice_index_or}
 use Rattle.reclaim_module.specs.declared.reclaim.Counts.{Counts}
 
 -- A model of resident pages: whether each page of the space is out, and what was counted.
@@ -15,7 +14,3 @@ is_out_in out page = slice_index_or out page false
 -- how many pages are out
 abbrev pub out_count : List Bool → ℕ
 out_count out = count_by (λ is_out. is_out) out
-
--- for each page of a space of this many pages, whether the test holds
-abbrev pub each_page : ℕ → (ℕ → Bool) → List Bool
-each_page pages test = map test (range_with_len 0 pages)

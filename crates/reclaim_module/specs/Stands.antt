@@ -2,6 +2,7 @@
 use Rattle.std.specs.Prelude.{◌≡◌, ℕ, ◌<◌, List, [], ◌∷◌, length}
 use Rattle.std.specs.List.{AllByRecursion}
 use Rattle.std.specs.Option.{option_map_or}
+use Rattle.page_bits.specs.Sets.{each_page}
 use Rattle.damon_types.specs.declared.scheme.Action.{Action}
 use Rattle.damon_types.specs.declared.scheme.Action.TheVariants.{Stat}
 use Rattle.scheme_engine.specs.declared.applied.AppliedRun.{AppliedRun}
@@ -14,7 +15,7 @@ use Rattle.damon_core.specs.State.{State}
 use Rattle.reclaim_module.specs.Calls.{after_action, after_touch}
 use Rattle.reclaim_module.specs.Counts.{pageouts_of, prefetches_of, refaults_of}
 use Rattle.reclaim_module.specs.Out.{is_out}
-use Rattle.reclaim_module.specs.Pages.{ReclaimView, each_page}
+use Rattle.reclaim_module.specs.Pages.{ReclaimView}
 
 -- The pages that are out are those by the notes, and so are the numbers.
 pub record ReclaimStands (r : ReclaimView) (notes : List Note) : Type 0 where

@@ -4,8 +4,6 @@
 
 /// What the calls make of a monitor's notes.
 mod laws;
-/// A set of pages.
-mod page_set;
 /// The pages that are out, and what is counted.
 mod reclaim;
 

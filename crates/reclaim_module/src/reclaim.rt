@@ -2,8 +2,8 @@ ghost use Rattle.std.specs.Prelude.{◌≡◌, ◌+◌, ◌^◌, ◌≤◌, ◌<
 ghost use Rattle.reclaim_module.specs.Calls.{after_action, after_touch, all_resident, touched_run};
 ghost use Rattle.reclaim_module.specs.Pages.{is_out_in, out_count};
 
-use crate::page_set::PageSet;
 use damon_types::Action;
+use page_bits::BitSet;
 use std::alloc::{AllocError, Global};
 use std::marker::Model;
 
@@ -22,7 +22,7 @@ pub struct Counts {
 /// bit for each page.
 #[derive(Drop)]
 pub struct Reclaim {
-    set: PageSet,
+    set: BitSet,
     // How many pages are in the set.
     out: u32,
     counts: Counts,
@@ -45,7 +45,7 @@ impl Reclaim {
     pub fn new(alloc: Global, pages: u32) -> Result<Reclaim, AllocError>
         ensures { IfOk result (λ r. r ≡ all_resident pages) }
     {
-        let set = PageSet::none(alloc, pages)?;
+        let set = BitSet::none(alloc, pages)?;
         Ok(Reclaim {
             set,
             out: 0,
@@ -111,7 +111,7 @@ impl Reclaim {
     pub fn pages(&self) -> u32
         ensures { result ≡ length self.now.out }
     {
-        self.set.pages()
+        self.set.len()
     }
 
     /// Whether a page of the space is out.
@@ -128,7 +128,7 @@ impl Reclaim {
         ensures exact { result ≡ count_by not self.now.out }
         ensures sum { result + out_count self.now.out ≡ length self.now.out }
     {
-        self.set.pages() - self.out
+        self.set.len() - self.out
     }
 
     /// The number of pages that are out.

@@ -8,6 +8,9 @@ use damon_types::{Row, append_reserved};
 use std::alloc::{AllocError, Global};
 use std::marker::Model;
 
+// The most rows that are appended one after another: for so few, six copies of stretches take longer.
+const FEW_ROWS: usize = 4;
+
 /// A list of rows with a fixed capacity. The rows need not tile anything. Each field of the rows has a
 /// list of its own.
 #[derive(Drop)]
@@ -277,6 +280,37 @@ impl RowBuf {
 
     /// Appends the rows of another list from index `from` to before `to`, for which there is room.
     pub fn append_rows(&mut self, rows: &RowBuf, from: usize, to: usize)
+        requires order { from ≤ to }
+        requires within { to ≤ length rows.now.rows }
+        requires room { length self.old.rows + (to - from) ≤ self.old.cap }
+        ensures { self.new ≡ record self.old {
+          rows = self.old.rows ++ take (to - from) (drop from rows.now.rows);
+        } }
+    {
+        if to - from <= FEW_ROWS {
+            self.append_each(rows, from, to - from);
+        } else {
+            self.append_columns(rows, from, to);
+        }
+    }
+
+    // Appends `count` rows of another list from index `from` on, one after another.
+    fn append_each(&mut self, rows: &RowBuf, from: usize, count: usize)
+        requires within { from + count ≤ length rows.now.rows }
+        requires room { length self.old.rows + count ≤ self.old.cap }
+        ensures { self.new ≡ record self.old {
+          rows = self.old.rows ++ take count (drop from rows.now.rows);
+        } }
+    {
+        // For its clauses alone: the number of rows is a u32.
+        let _count = rows.len();
+        for place in 0..count {
+            self.push(rows.at(from + place));
+        }
+    }
+
+    // Appends the rows of another list from index `from` to before `to`, column by column.
+    fn append_columns(&mut self, rows: &RowBuf, from: usize, to: usize)
         requires order { from ≤ to }
         requires within { to ≤ length rows.now.rows }
         requires room { length self.old.rows + (to - from) ≤ self.old.cap }

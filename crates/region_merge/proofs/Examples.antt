@@ -35,3 +35,11 @@ border_parts = refl
 -- what was merged so far is compared, and not the row before: 0 and 2 become 1, to which 3 is joined, and 5 is too far from it
 so_far_counts : merged (range 0 5 ∷ []) 2 9 (row 0 1 0 ∷ row 1 1 2 ∷ row 2 1 3 ∷ row 3 1 5 ∷ row 4 1 5 ∷ []) ≡ row 0 3 1 ∷ row 3 2 5 ∷ []
 so_far_counts = refl
+
+-- a row of the first target with all of its values
+abbrev valued : ℕ → ℕ → ℕ → ℕ → ℕ → Row
+valued start pages count last age = record { target = 0; start = start; pages = pages; count = count; last = last; age = age }
+
+-- last counts and ages are such averages too: of the first three rows (2 × 7 + 0) / 3 is 4 and (2 × 1 + 6) / 3 is 2
+all_values_are_averages : merged (range 3 5 ∷ []) 2 3 (valued 3 1 0 7 1 ∷ valued 4 1 2 8 2 ∷ valued 5 1 3 0 6 ∷ valued 6 1 5 1 0 ∷ valued 7 1 5 1 3 ∷ []) ≡ valued 3 3 1 4 2 ∷ valued 6 2 5 1 1 ∷ []
+all_values_are_averages = refl

@@ -216,6 +216,3 @@ impl OpenGroup {
         }
     }
 }
-
-#[cfg(test)]
-mod tests;

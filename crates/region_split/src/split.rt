@@ -134,6 +134,3 @@ fn push_three_parts(
         count
     }
 }
-
-#[cfg(test)]
-mod tests;

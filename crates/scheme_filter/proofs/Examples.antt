@@ -62,3 +62,23 @@ first_byte = refl
 -- of the six pages from page 4 on, pages 6 and 9 do not pass
 longest : runs_of (λ p. not (p % 3 == 0)) 4 6 ≡ run 4 2 ∷ run 7 2 ∷ []
 longest = refl
+
+-- the runs of three pages at address 0, in a range of this class
+abbrev runs_of_three : List Filter → ℕ → List Run
+runs_of_three fs class = runs_of (passes fs space ranges) 0 3
+  where
+    space : List target.Target
+    space = record { base = 0; pages = 3 } ∷ []
+
+    ranges : List Range
+    ranges = record { target = 0; first = 0; pages = 3; class = class } ∷ []
+
+-- page 1 is rejected by its address, which parts the two other pages
+two_runs : runs_of_three (matching false (Addr 4096 8192) ∷ matching true (Class 1) ∷ []) 1 ≡ run 0 1 ∷ run 2 1 ∷ []
+two_runs = refl
+
+no_run : runs_of_three (matching false (Addr 4096 8192) ∷ matching true (Class 1) ∷ []) 0 ≡ []
+no_run = refl
+
+one_run : runs_of_three [] 1 ≡ run 0 3 ∷ []
+one_run = refl

@@ -27,7 +27,12 @@ pub fn passing(filters: &Filters, space: &Space, ranges: &Ranges, row: &Row, run
 {
     // For its clauses alone: the ranges are in order.
     let _count = ranges.len();
-    let Row { start, pages, .. } = *row;
+    let Row {
+        target,
+        start,
+        pages,
+        ..
+    } = *row;
     // A row without pages has no first page to look at.
     if pages == 0 {
         runs.clear();
@@ -36,7 +41,7 @@ pub fn passing(filters: &Filters, space: &Space, ranges: &Ranges, row: &Row, run
     let row = RowPages {
         start,
         end: start + pages,
-        first: space.addr_of(start),
+        first: space.addr_near(target, start),
         class: ranges.class_of(start),
     };
     find_runs(filters.as_slice(), &row, runs);
@@ -84,6 +89,3 @@ fn find_runs(filters: &[Filter], row: &RowPages, runs: &mut PassRuns)
         from = row.first_with(filters, true, to);
     }
 }
-
-#[cfg(test)]
-mod tests;

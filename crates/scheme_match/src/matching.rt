@@ -27,6 +27,3 @@ fn contains(span: Span, number: u32) -> bool
 {
     (span.low <= number) & (number <= span.high)
 }
-
-#[cfg(test)]
-mod tests;

@@ -8,6 +8,7 @@ ghost use Rattle.snapshot_print.specs.Kept.{KeepsFront};
 
 use crate::fields::{field_before, text_before, word_before};
 use crate::line_groups::{LineOf, print_lines};
+use crate::page_run::PageRun;
 use crate::row_text::pages_before;
 use crate::slot_text::action_word;
 use damon_types::{Action, MAX_SLOT, Space};
@@ -141,7 +142,7 @@ fn run_before(bytes: &mut [u8], end: usize, run: &AppliedRun, space: &Space) -> 
 {
     let line_end = text_before(bytes, end, b"\n");
     let score = field_before(bytes, line_end, b" score=", u64::from(run.score));
-    let pages = pages_before(bytes, score, run.start, run.pages, space);
+    let pages = pages_before(bytes, score, PageRun::of_applied(run), space);
     number_before(bytes, pages, u64::from(run.target))
 }
 

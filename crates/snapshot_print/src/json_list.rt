@@ -1,15 +1,12 @@
 // Parts of the lists of a report in JSON whose length grows: rows and runs. Their items are written from
 // the end to the start, like lines.
-ghost use Rattle.std.specs.Prelude.{◌≡◌, ◌+◌, ◌*◌, ◌≤◌, ◌++◌, length, take, drop, codes, OnOk};
+ghost use Rattle.std.specs.Prelude.{◌≡◌, ◌+◌, ◌≤◌, ◌++◌, length, take, drop, codes, OnOk};
 ghost use Rattle.std.specs.Fmt.{decimal};
-ghost use Rattle.damon_types.specs.Space.{pages_of};
 ghost use Rattle.line_text.specs.Address.{spelled_address};
-ghost use Rattle.snapshot_print.specs.Fields.{page_address};
 ghost use Rattle.snapshot_print.specs.Kept.{KeepsFront};
 
 use crate::fields::{short_field_before, text_before};
 use crate::row_text::address_field_before;
-use damon_types::{PAGE_SIZE, Space};
 use std::alloc::AllocError;
 
 // Makes a list of the items from index `start` on, which each begin with a comma: the first comma becomes
@@ -38,18 +35,6 @@ fn open_list(out: &mut Vec<u8>, start: usize) -> Result<(), AllocError>
     }
     out[start] = b'[';
     Ok(())
-}
-
-// The address of the first byte of consecutive pages, and the address after them.
-#[inline(always)]
-pub(crate) fn addresses(start: u32, pages: u32, space: &Space) -> (u64, u64)
-    requires some { 1 ≤ pages }
-    requires inside { start + pages ≤ pages_of space.now }
-    ensures first { result.0 ≡ page_address space.now start }
-    ensures after { result.1 ≡ page_address space.now start + 4096 * pages }
-{
-    let from = space.addr_of(start).addr;
-    (from, from + PAGE_SIZE * u64::from(pages))
 }
 
 // Writes the members `start` and `target` and the end of their object, at most 50 bytes, so that they end

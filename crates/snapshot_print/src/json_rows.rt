@@ -8,8 +8,9 @@ ghost use Rattle.snapshot_print.specs.Kept.{KeepsFront};
 ghost use Rattle.snapshot_print.specs.Pieces.{piece};
 
 use crate::fields::short_field_before;
-use crate::json_list::{addresses, close_list, start_before};
+use crate::json_list::{close_list, start_before};
 use crate::line_groups::LineOf;
+use crate::page_run::PageRun;
 use crate::row_blocks::print_blocks;
 use crate::row_text::address_field_before;
 use damon_types::{Row, Space};
@@ -62,7 +63,7 @@ fn row_before(bytes: &mut [u8], end: usize, row: &Row, space: &Space) -> usize
     ensures written { drop result bytes.new
         ≡ piece (row_json space.now row.now) ++ drop end bytes.old }
 {
-    let (from, to) = addresses(row.start, row.pages, space);
+    let (from, to) = PageRun::of_row(row).addresses(space);
     let first = start_before(bytes, end, from, row.target);
     let last = short_field_before(bytes, first, b"\",\"last\":", row.last);
     let after = address_field_before(bytes, last, b",\"end\":\"", to);

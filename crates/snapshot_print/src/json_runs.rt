@@ -9,8 +9,9 @@ ghost use Rattle.snapshot_print.specs.Pieces.{piece, run_prefix, run_parts, run_
 
 use crate::choice_text::{action_in, count_runs};
 use crate::fields::{short_field_before, text_before, word_before};
-use crate::json_list::{addresses, close_list, start_before};
+use crate::json_list::{close_list, start_before};
 use crate::line_groups::{LineOf, print_lines};
+use crate::page_run::PageRun;
 use crate::slot_text::action_word;
 use damon_types::{Action, Space};
 use line_text::address_before;
@@ -129,7 +130,7 @@ fn rest_before(bytes: &mut [u8], end: usize, run: &AppliedRun, space: &Space) ->
     ensures most { end ≤ result + 106 }
     ensures written { drop result bytes.new ≡ run_rest space.now run.now ++ drop end bytes.old }
 {
-    let (from, to) = addresses(run.start, run.pages, space);
+    let (from, to) = PageRun::of_applied(run).addresses(space);
     let first = start_before(bytes, end, from, run.target);
     let slot = short_field_before(bytes, first, b",\"slot\":", u32::from(run.slot));
     let score = short_field_before(bytes, slot, b"\",\"score\":", run.score);

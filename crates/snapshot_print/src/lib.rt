@@ -30,6 +30,8 @@ mod json_slots;
 mod laws;
 /// Lines that are appended in groups.
 mod line_groups;
+/// Consecutive pages, and their addresses.
+mod page_run;
 /// Rows that are written a block at a time.
 mod row_blocks;
 /// The lines of rows.

@@ -8,8 +8,9 @@ ghost use Rattle.snapshot_print.specs.Kept.{KeepsFront};
 
 use crate::fields::{field_before, text_before};
 use crate::line_groups::LineOf;
+use crate::page_run::PageRun;
 use crate::row_blocks::print_blocks;
-use damon_types::{PAGE_SIZE, Row, Space};
+use damon_types::{Row, Space};
 use line_text::address_before;
 use region_list::RowBuf;
 use std::alloc::AllocError;
@@ -61,29 +62,23 @@ fn place_before(bytes: &mut [u8], end: usize, row: &Row, space: &Space) -> usize
     ensures most { end ≤ result + 62 }
     ensures written { drop result bytes.new ≡ place_part space.now row.now ++ drop end bytes.old }
 {
-    let first = pages_before(bytes, end, row.start, row.pages, space);
+    let first = pages_before(bytes, end, PageRun::of_row(row), space);
     field_before(bytes, first, b"row ", u64::from(row.target))
 }
 
 // Writes ` START-END` of consecutive pages: at most 38 bytes.
 #[inline(always)]
-pub(crate) fn pages_before(
-    bytes: &mut [u8],
-    end: usize,
-    start: u32,
-    pages: u32,
-    space: &Space,
-) -> usize
-    requires some { 1 ≤ pages }
-    requires inside { start + pages ≤ pages_of space.now }
+pub(crate) fn pages_before(bytes: &mut [u8], end: usize, run: PageRun, space: &Space) -> usize
+    requires some { 1 ≤ run.pages }
+    requires inside { run.start + run.pages ≤ pages_of space.now }
     requires room { 38 ≤ end }
     requires within { end ≤ length bytes.old }
     ensures start { result ≤ end }
     ensures most { end ≤ result + 38 }
-    ensures written { drop result bytes.new ≡ pages_part space.now start pages ++ drop end bytes.old }
+    ensures written { drop result bytes.new ≡ pages_part space.now run.start run.pages
+        ++ drop end bytes.old }
 {
-    let from = space.addr_of(start).addr;
-    let to = from + PAGE_SIZE * u64::from(pages);
+    let (from, to) = run.addresses(space);
     let last = address_field_before(bytes, end, b"-", to);
     address_field_before(bytes, last, b" ", from)
 }

@@ -62,6 +62,3 @@ impl Gauge {
         self.active
     }
 }
-
-#[cfg(test)]
-mod tests;

@@ -1,4 +1,4 @@
-use Rattle.std.proofs.Common.{◌≡◌, ◌<◌, ◌&&◌, ◌∙◌, ℕ, true, false, length, get_or, rules, sym, ap, subst, map, arith}
+use Rattle.std.proofs.Common.{◌≡◌, ◌<◌, ◌&&◌, ◌∙◌, ℕ, Bool, true, false, length, get_or, rules, sym, ap, subst, map, arith}
 use Rattle.damon_journal.specs.declared.entry.Receipt.{Receipt}
 use Rattle.damon_journal.specs.Ahead.{KeepsLast, last_in, may_follow}
 use Rattle.damon_journal.specs.SeenLine.{with_receipt}
@@ -23,7 +23,7 @@ admit-admitted-requires-clause-early c = λ named.
     let x = c.get-worker.result in
     let below : c.loop-index.index < length c.args.receipts.now = search rules in
     let tag : x.1.tag ≡ (get_or c.args.receipts.now c.loop-index.index x).1.tag = ap (λ (y : ℕ × Receipt). y.1.tag) (c.get-worker.ensures x) in
-    omega (arith, tag, c.requires.early c.loop-index.index x below named)
+    omega (arith, tag, c.requires.early c.loop-index.index x below (sym c.has-is_named.ensures ∙ named))
 
 pub returns-then-not-admitted : goal.returns-then-not-admitted
 returns-then-not-admitted c =
@@ -35,7 +35,7 @@ returns-then-not-admitted c =
     let within : k < length named = omega (arith, below, c.requires.count) in
     let is : c.admit-admitted.result ≡ false = search rules in
     wrong_here named c.args.receipts.now _ _ k x left below within
-    (subst (λ (y : ℕ × Receipt). (get_or named k false && may_follow left.all y.0 y.1) ≡ false) (c.get-worker.ensures x) (sym (c.admit-admitted.ensures.may left.all left.keeps) ∙ is))
+    (subst (λ (y : ℕ × Receipt). (get_or named k false && may_follow left.all y.0 y.1) ≡ false) (c.get-worker.ensures x) (ap (λ (b : Bool). b && may_follow left.all x.0 x.1) (sym c.has-is_named.ensures) ∙ (sym (c.admit-admitted.ensures.may left.all left.keeps) ∙ is)))
 
 pub loop-index-preserved : goal.loop-index-preserved
 loop-index-preserved c =
@@ -48,7 +48,7 @@ loop-index-preserved c =
     let is : c.admit-admitted.result ≡ true = search rules in
     record {
       left = left_more named c.args.receipts.now _ _ _ _ k x left below within
-          (subst (λ (y : ℕ × Receipt). (get_or named k false && may_follow left.all y.0 y.1) ≡ true) (c.get-worker.ensures x) (sym (c.admit-admitted.ensures.may left.all left.keeps) ∙ is))
+          (subst (λ (y : ℕ × Receipt). (get_or named k false && may_follow left.all y.0 y.1) ≡ true) (c.get-worker.ensures x) (ap (λ (b : Bool). b && may_follow left.all x.0 x.1) (sym c.has-is_named.ensures) ∙ (sym (c.admit-admitted.ensures.may left.all left.keeps) ∙ is)))
           (subst (λ (y : ℕ × Receipt). KeepsLast (with_receipt left.all y.0 y.1) c.admit-admitted.new.self.workers (map last_in c.admit-admitted.new.self.pages.items)) (c.get-worker.ensures x) (c.admit-admitted.ensures.next left.all left.keeps is));
       len = c.admit-admitted.ensures.len ∙ c.loop-index.invariant.len;
     }

@@ -3,6 +3,7 @@ use Rattle.std.specs.Prelude.{sum}
 use Rattle.script_lines.specs.Kept.{KeepsFront}
 use Rattle.script_lines.specs.Lines.{lines_text}
 use Rattle.damon_control.specs.LiveView.{live_said}
+use Rattle.damon_journal.specs.Results.{loads_in}
 use Rattle.damon_journal.specs.TextParts.{entries_left, replay_to}
 use Rattle.damon_journal.proofs.EntriesText.{IsLeft}
 use Rattle.damon_journal.proofs.text_parts.write_entries.Given as goal
@@ -12,8 +13,8 @@ invariant-entries l =
     let v = live_said l.run.script.now in
     let j = l.run.journal.now.value in
     record {
-      left : IsLeft v (replay_to v j l.at) (drop l.at j.entries) l.left.sizes.now l.left.bits.now l.out.items (l.fn.out.items ++ lines_text (entries_left v j l.next));
-      all : sum l.left.sizes.now ≡ length l.left.bits.now;
+      left : IsLeft v (replay_to v j l.at) (drop l.at j.entries) l.left.sizes.now (loads_in l.left.loads) l.out.items (l.fn.out.items ++ lines_text (entries_left v j l.next));
+      all : sum l.left.sizes.now ≡ length (loads_in l.left.loads);
       kept : KeepsFront l.fn.out.items l.out.items;
     }
 

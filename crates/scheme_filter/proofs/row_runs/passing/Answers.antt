@@ -12,8 +12,8 @@ use Rattle.scheme_filter.proofs.row_runs.passing.Goals as goal
 pub overflow_add-row : goal.overflow_add-row
 overflow_add-row c = omega (arith, row_fits c.args.ranges.now.list c.args.row.now c.len-count.ensures.order c.requires.held)
 
-pub addr_of-requires : goal.addr_of-requires
-addr_of-requires c = omega (arith, row_within c.args.space.now c.args.ranges.now.list c.args.row.now c.requires.within c.requires.held)
+pub addr_near-requires : goal.addr_near-requires
+addr_near-requires c = omega (arith, row_within c.args.space.now c.args.ranges.now.list c.args.row.now c.requires.within c.requires.held)
 
 pub returns-clause-longest : goal.returns-clause-longest
 returns-clause-longest c =
@@ -21,10 +21,10 @@ returns-clause-longest c =
     let space = c.args.space.now in
     let ranges = c.args.ranges.now.list in
     let row = c.args.row.now in
-    let pages : RowPages = record { start = row.start; end = row.start + row.pages; first = c.addr_of.result; class = c.class_of.result } in
+    let pages : RowPages = record { start = row.start; end = row.start + row.pages; first = c.addr_near.result; class = c.class_of.result } in
     longest_same (passes fs space ranges) (answer_at c.as_slice.result.now pages) pages.start pages.end c.find_runs.new.runs
     (λ p low high. ap (λ fs. passes fs space ranges p) (sym c.as_slice.ensures.items)
-    ∙ row_answer c.as_slice.result.now space ranges row pages p c.len-count.ensures.order c.requires.within c.requires.held refl c.addr_of.ensures.place c.class_of.ensures low high)
+    ∙ row_answer c.as_slice.result.now space ranges row pages p c.len-count.ensures.order c.requires.within c.requires.held refl c.addr_near.ensures.place c.class_of.ensures low high)
     c.find_runs.ensures
 
 pub returns-clause-exact : goal.returns-clause-exact

@@ -11,7 +11,7 @@ returns c = λ done is.
     subst (λ (a : AheadView). c.in_ok-index.index ≡ first_refused done [] a.receipts) c.self.view_is
     (
     c.in_ok-index.ensures
-    ∙ ap (λ (l : List Bool). first_wrong l [] c.into_list.result) (c.deref.ensures.value ∙ names)
+    ∙ ap (λ (l : List Bool). first_wrong l [] c.into_list.result) names
     ∙ ap (λ (l : List (ℕ × Receipt)). first_wrong (named_by done w.seen) [] l) c.into_list.ensures
     ∙ wrong_is_refused done [] w.seen
     )

@@ -1,5 +1,0 @@
-use Rattle.std.proofs.Common.{◌≡◌}
-use Rattle.page_words.proofs.thread_tests.touch_pages.Given as goal
-
-abbrev pub invariant-touching : goal.invariant-touching
-invariant-touching l = (l.seat.table ≡ l.initial.seat.table) × (l.touches.items ≡ l.seat.touches)
