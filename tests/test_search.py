@@ -27,7 +27,8 @@ from searching.plan import Plan, Value, plan_of
 from searching.points import Point, Points
 from searching.runs import script_of as script_of_point
 from searching.runs import seed_of
-from searching.workloads import Workload, script_workload, trace_workloads
+from searching.traces import trace_workloads
+from searching.workloads import Workload, script_workload
 
 TOOL = "search.py"
 SCHEME = "scheme 0 pageout count=0,{most} age={age},4294967295 prefer=cold"

@@ -25,7 +25,7 @@ from searching.cluster import Sent, archive, has_package
 from searching.plan import plan_of
 from searching.points import Points
 from searching.runs import Inputs, rows_of
-from searching.workloads import trace_workloads
+from searching.traces import trace_workloads
 
 TOOL = "search.py"
 DEBIANS_PYTHON = "/usr/bin/python3"

@@ -142,7 +142,7 @@ class Batches(unittest.TestCase):
 
     def sizes(self, reports: list[str | None]) -> list[int]:
         """How many outcomes each batch has. All of them come, in their order."""
-        outcomes = [Outcome(str(number), self.workload, DONE, report) for number, report in enumerate(reports)]
+        outcomes = [Outcome("a", number, self.workload, DONE, report) for number, report in enumerate(reports)]
         found = list(batches(iter(outcomes)))
         self.assertEqual([outcome for batch in found for outcome in batch], outcomes)
         return list(map(len, found))

@@ -6,6 +6,7 @@ docs/SEARCH.md shows its use.
 from __future__ import annotations
 
 import argparse
+import gc
 import os
 import signal
 import sys
@@ -22,7 +23,7 @@ from searching.points import Points
 from searching.remaining import Remaining
 from searching.runs import Inputs, first_cells
 from searching.table import STATUS, Rows, kept_rows, write_points
-from searching.workloads import Key, Workload, script_workload, trace_workloads
+from searching.workloads import Key, Workload, script_workload
 
 TOOL = "search.py"
 EXAMPLE = """\
@@ -73,10 +74,15 @@ def options_of() -> argparse.Namespace:
 def workloads_of(plan: Plan, points: Points) -> dict[Key, Workload]:
     """The workloads of all points, each made once. Raises UsageError."""
     found: dict[Key, Workload] = {}
-    for name, keys in points.keys(plan.are_traces).items():
-        if plan.are_traces:
+    names = points.keys(plan.are_traces)
+    if plan.are_traces:
+        # Scripts do not need it, and to load it takes as long as many runs of a small one.
+        from searching.traces import trace_workloads
+
+        for name, keys in names.items():
             found.update(trace_workloads(plan, name, keys))
-        else:
+    else:
+        for name, keys in names.items():
             found.update(dict.fromkeys(keys, script_workload(plan, name)))
     return found
 
@@ -144,6 +150,8 @@ def interrupt_once() -> None:
 def work() -> None:
     interrupt_once()
     print(f"note: {search(options_of())}", file=sys.stderr)
+    # The interpreter ends without looking for garbage, which would take as long as many runs.
+    gc.freeze()
 
 
 if __name__ == "__main__":

@@ -5,7 +5,7 @@ serves to say in words why damon rejected a line.
 """
 from __future__ import annotations
 
-from dataclasses import dataclass
+from typing import NamedTuple
 
 HEADERS = {1: "damon script 1", 2: "damon script 2"}
 """The first line of each version."""
@@ -28,8 +28,7 @@ LEAST_REGIONS = 3
 MOST_AGGR = 1000
 
 
-@dataclass(frozen=True)
-class Piece:
+class Piece(NamedTuple):
     """A part of a line, and the column at which it begins."""
 
     text: str
@@ -48,8 +47,7 @@ class Piece:
         return int(self.text, 16 if self.text.startswith("0x") else 10)
 
 
-@dataclass(frozen=True)
-class Field:
+class Field(NamedTuple):
     """A number or an address of a line."""
 
     name: str

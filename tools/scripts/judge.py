@@ -3,11 +3,13 @@ from __future__ import annotations
 
 import os
 import re
-import subprocess
-from dataclasses import dataclass
 from pathlib import Path
+from typing import TYPE_CHECKING, NamedTuple
 
 from common import UsageError
+
+if TYPE_CHECKING:
+    from subprocess import CompletedProcess
 
 TOP = Path(__file__).resolve().parent.parent.parent
 BUILT = TOP / "crates/damon/out/damon"
@@ -18,8 +20,7 @@ OK, SCRIPT_FAULT, TOO_LONG = 0, 3, 4
 FAULT = re.compile(r"line ([0-9]+): (.+)\n")
 
 
-@dataclass(frozen=True)
-class Fault:
+class Fault(NamedTuple):
     """Why damon rejects a script."""
 
     line: int
@@ -37,8 +38,11 @@ def is_there() -> bool:
     return program().is_file()
 
 
-def replay(script: bytes, keep_report: bool) -> subprocess.CompletedProcess[bytes]:
+def replay(script: bytes, keep_report: bool) -> CompletedProcess[bytes]:
     """Runs a script. Raises UsageError if the program cannot be run."""
+    # Some tools only ask where the program is, and this takes long to load.
+    import subprocess
+
     output = subprocess.PIPE if keep_report else subprocess.DEVNULL
     try:
         return subprocess.run([program(), "replay"], input=script, stdout=output, stderr=subprocess.PIPE)

@@ -2,7 +2,6 @@
 from __future__ import annotations
 
 import re
-from dataclasses import dataclass
 
 from common import UsageError
 
@@ -13,14 +12,13 @@ METRIC = re.compile(rb"^metric ([0-9]{1,10})$", re.MULTILINE)
 ATTRS = re.compile(rb"^attrs [0-9]+ [0-9]+ ([0-9]{1,10})$", re.MULTILINE)
 
 
-@dataclass
 class Script:
     """A script as the lines of its setup, and its body as it stands."""
 
-    lines: list[str]
-    """The lines before `begin`."""
-    body: bytes
-    """What follows the line `begin`."""
+    def __init__(self, lines: list[str], body: bytes) -> None:
+        """The lines before `begin`, and what follows it."""
+        self.lines = lines
+        self.body = body
 
     @staticmethod
     def of(text: bytes) -> Script:

@@ -3,7 +3,6 @@
 from __future__ import annotations
 
 import re
-from dataclasses import dataclass
 from typing import Collection, Iterator
 
 from reports.memory import MEMORY, Memory
@@ -44,21 +43,17 @@ def measures_by(command: str) -> tuple[str, ...]:
     return tuple(name for name in MEASURES if command == RECLAIM or name not in OF_MEMORY)
 
 
-@dataclass
 class Sums:
     """Sums over all aggregations, in page-aggregations: one page in one aggregation."""
 
-    truths: Truths
-    share: float
-    """The least share of the passes of a hot page."""
-    hot: int = 0
-    called_hot: int = 0
-    hot_found: int = 0
-    called_cold: int = 0
-    cold_wrong: int = 0
-    accessed: int = 0
-    found_accessed: int = 0
-    applied: int = 0
+    def __init__(self, truths: Truths, share: float) -> None:
+        """The share is the least one of the passes of a hot page."""
+        self.truths = truths
+        self.share = share
+        self.hot = self.called_hot = self.hot_found = 0
+        self.called_cold = self.cold_wrong = 0
+        self.accessed = self.found_accessed = 0
+        self.applied = 0
 
     def add(self, since: int, tick: int, block: str) -> None:
         """Adds the aggregation at a tick; the block has its lines. Raises ValueError or LookupError if it is none."""

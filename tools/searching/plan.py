@@ -3,10 +3,9 @@ from __future__ import annotations
 
 import re
 import tomllib
-from dataclasses import dataclass, field
 from pathlib import Path
 from string import Formatter
-from typing import Any, Mapping
+from typing import Any, Mapping, NamedTuple
 
 from common import UsageError
 from scripts.grammar import first_word
@@ -30,8 +29,7 @@ MOST_VALUES = 1_000_000
 Value = int | str
 
 
-@dataclass(frozen=True)
-class Source:
+class Source(NamedTuple):
     """How traces are read."""
 
     clock: str
@@ -40,8 +38,7 @@ class Source:
     gap: int
 
 
-@dataclass(frozen=True)
-class Plan:
+class Plan(NamedTuple):
     """What is run, and what is measured."""
 
     command: str
@@ -60,7 +57,7 @@ class Plan:
     """Each an interval and a line of a commit; both may have placeholders."""
     hot: float
     measures: tuple[str, ...]
-    folder: Path = field(default=Path())
+    folder: Path = Path()
     """Where the paths of workloads begin."""
 
     @property

@@ -1,10 +1,8 @@
 """The runs of a plan, by number: all combinations of its values, or some that are drawn at random."""
 from __future__ import annotations
 
-import random
-from dataclasses import dataclass
 from itertools import product
-from typing import Iterator, Mapping, Sequence
+from typing import Iterator, Mapping, NamedTuple, Sequence
 
 from common import UsageError
 
@@ -17,8 +15,7 @@ OWN = (None,)
 """In place of the values of a setting that the plan does not name: that of the workload."""
 
 
-@dataclass(frozen=True)
-class Point:
+class Point(NamedTuple):
     """The settings of some runs that differ in their seeds."""
 
     workload: str
@@ -52,6 +49,9 @@ class Points:
         if self.all > MOST_POINTS:
             raise UsageError(f"the plan has more than {MOST_POINTS} points")
         if draws is not None and draws < self.all:
+            # Most searches draw none, and this takes long to load.
+            import random
+
             self.drawn = sorted(random.Random(draw).sample(range(self.all), draws))
 
     def __len__(self) -> int:

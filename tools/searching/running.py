@@ -1,18 +1,18 @@
 """Runs damon on one script after another at little cost.
 
-It is started by `posix_spawn`, its streams are files in memory that are used again, and its end is waited for without
-looking again and again.
+It is started by `posix_spawn`, its streams are files in memory that are used again, and to wait for its end is one call of
+the system: that no run takes too long is seen to by a thread.
 """
 from __future__ import annotations
 
 import os
-import select
 import signal
+import threading
+import time
 from typing import NamedTuple
 
-MILLISECONDS = 1000
-LONGEST_WAIT = (1 << 31) - 1
-"""In milliseconds: some weeks."""
+ENDED_BUT_THERE = os.WEXITED | os.WNOWAIT
+"""Waits for the end of a process whose number nobody else gets before it is asked for its status."""
 IGNORED_BY_PYTHON = (signal.SIGPIPE, signal.SIGXFSZ)
 """Signals that a program gets as it would without Python."""
 
@@ -26,6 +26,50 @@ class Ended(NamedTuple):
     errors: str
 
 
+class Limit:
+    """Ends a process that takes too long, from a thread: to wait with a limit takes more calls of the system for each process."""
+
+    def __init__(self, seconds: float) -> None:
+        self.seconds = min(seconds, threading.TIMEOUT_MAX)
+        self.process: int | None = None
+        self.began = 0.0
+        self.was_reached = False
+        self.lock = threading.Lock()
+        self.is_over = threading.Event()
+        self.thread = threading.Thread(target=self.watch, daemon=True)
+        self.thread.start()
+
+    def begin(self, process: int) -> None:
+        self.was_reached = False
+        self.began = time.monotonic()
+        self.process = process
+
+    def end(self) -> None:
+        """The process is left alone from now on: its number may become that of another one."""
+        with self.lock:
+            self.process = None
+
+    def watch(self) -> None:
+        """Looks as often as a process can take too long, and not more often."""
+        wait = self.seconds
+        while not self.is_over.wait(wait):
+            with self.lock:
+                wait = self.seconds
+                if self.process is None:
+                    continue
+                left = self.began + self.seconds - time.monotonic()
+                if left > 0:
+                    wait = left
+                else:
+                    self.was_reached = True
+                    os.kill(self.process, signal.SIGKILL)
+                    self.process = None
+
+    def close(self) -> None:
+        self.is_over.set()
+        self.thread.join()
+
+
 class Runner:
     """Runs a command of a program on scripts, one after another."""
 
@@ -33,15 +77,16 @@ class Runner:
         """The seconds are the most that a run may take."""
         self.program = program
         self.words = (program, command)
-        self.seconds = seconds
         # `os.environ` itself would be encoded for each run, which takes longer than to start one.
         self.environment = dict(os.environb)
+        self.limit = Limit(seconds)
         self.open_files()
 
     def open_files(self) -> None:
         """Makes the files that are standard input, output and errors of the runs."""
         self.files = [os.memfd_create(name) for name in ("script", "report", "errors")]
         self.actions = [(os.POSIX_SPAWN_DUP2, file, number) for number, file in enumerate(self.files)]
+        self.length = 0
 
     def close_files(self) -> None:
         for file in self.files:
@@ -51,46 +96,49 @@ class Runner:
         return self
 
     def __exit__(self, *error: object) -> None:
+        self.limit.close()
         self.close_files()
 
     def ran(self, script: bytes) -> Ended | None:
         """Runs a script; None if it takes too long. Raises OSError if there is no such program."""
         source, report, errors = self.files
         os.pwrite(source, script, 0)
-        os.ftruncate(source, len(script))
-        for file in self.files:
-            os.lseek(file, 0, os.SEEK_SET)
+        # Scripts that differ in their seeds are mostly as long as the one before.
+        if len(script) != self.length:
+            os.ftruncate(source, len(script))
+            self.length = len(script)
+        os.lseek(source, 0, os.SEEK_SET)
         process = os.posix_spawn(self.program, self.words, self.environment, file_actions=self.actions,
                                  setsigdef=IGNORED_BY_PYTHON)
-        in_time = False
-        try:
-            in_time = ends_within(process, self.seconds)
-        finally:
-            if not in_time:
-                os.kill(process, signal.SIGKILL)
-            _, status = os.waitpid(process, 0)
-        if not in_time:
+        status = self.status_of(process)
+        if self.limit.was_reached:
             # What the program started may still write, and not to the files of the next run.
             self.close_files()
             self.open_files()
             return None
         return Ended(os.waitstatus_to_exitcode(status), written(report), written(errors))
 
-
-def ends_within(process: int, seconds: float) -> bool:
-    """Waits for the end of a child process, but not longer than that."""
-    handle = os.pidfd_open(process)
-    try:
-        poll = select.poll()
-        poll.register(handle, select.POLLIN)
-        return bool(poll.poll(min(seconds * MILLISECONDS, LONGEST_WAIT)))
-    finally:
-        os.close(handle)
+    def status_of(self, process: int) -> int:
+        """Waits for the end of a process, within the limit."""
+        self.limit.begin(process)
+        try:
+            os.waitid(os.P_PID, process, ENDED_BUT_THERE)
+        except BaseException:
+            os.kill(process, signal.SIGKILL)
+            raise
+        finally:
+            self.limit.end()
+            _, status = os.waitpid(process, 0)
+        return status
 
 
 def written(file: int) -> str:
-    """What the last run wrote: all before the position, which the process shares.
+    """What the last run wrote: all before the position, which the process shares, and which goes back to the start.
 
     What stands behind it is of a longer run before. To cut it off would take memory away that the next run needs again.
     """
-    return os.pread(file, os.lseek(file, 0, os.SEEK_CUR), 0).decode("latin-1")
+    size = os.lseek(file, 0, os.SEEK_CUR)
+    if not size:
+        return ""
+    os.lseek(file, 0, os.SEEK_SET)
+    return os.pread(file, size, 0).decode("latin-1")

@@ -1,7 +1,6 @@
 """Runs: the script of a point and a seed, damon's answer, and what is measured of it."""
 from __future__ import annotations
 
-from dataclasses import dataclass
 from typing import Iterable, Iterator, Mapping, NamedTuple
 
 from scripts.judge import OK
@@ -16,7 +15,7 @@ from .table import DONE, Rows, cell_of
 from .workloads import Key, Workload
 
 LONGEST_STATUS = 200
-MOST_OF_BATCH = 16
+MOST_OF_BATCH = 256
 MOST_CHARACTERS = 1 << 20
 """A batch takes no further report once it has more than this."""
 
@@ -25,8 +24,7 @@ class PointError(Exception):
     """Values of placeholders that make no script."""
 
 
-@dataclass(frozen=True)
-class Inputs:
+class Inputs(NamedTuple):
     """What all runs of a search share."""
 
     plan: Plan
@@ -48,8 +46,9 @@ class PointScript(NamedTuple):
 class Outcome(NamedTuple):
     """What came of a run."""
 
-    begin: str
-    """The cells of its line that say which run it is."""
+    first: str
+    """The cells of its line that say which point it is of."""
+    seed: Value
     workload: Workload
     status: str
     report: str | None
@@ -65,7 +64,7 @@ def rows_of(inputs: Inputs, program: str, points: Points, runs: range) -> Rows:
             for outcome in batch:
                 status, found = measured_of(inputs.plan, outcome)
                 # Measures are numbers, which need no quotes.
-                cells = [outcome.begin, *[found.get(name, "") for name in inputs.plan.measures], cell_of(status)]
+                cells = [outcome.first, str(outcome.seed), *[found.get(name, "") for name in inputs.plan.measures], cell_of(status)]
                 lines.append(",".join(cells) + "\n")
                 failed += status != DONE
     return Rows("".join(lines), len(lines), failed)
@@ -95,10 +94,9 @@ def outcomes_of(inputs: Inputs, runner: Runner, points: Points, runs: range) -> 
             script = script_of(inputs.plan, workload, point)
         except PointError as error:
             fault = one_line(str(error))
-        for seed in seeds:
-            number = seed_of(seed, workload)
+        for number in [seed_of(seed, workload) for seed in seeds]:
             status, report = reported(inputs, runner, script.with_seed(number)) if script else (fault, None)
-            yield Outcome(f"{first},{number}", workload, status, report)
+            yield Outcome(first, number, workload, status, report)
 
 
 def reported(inputs: Inputs, runner: Runner, script: bytes) -> tuple[str, str | None]:

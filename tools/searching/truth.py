@@ -4,8 +4,7 @@ The watched pages of a workload are numbered from 0: range by range, each by add
 """
 from __future__ import annotations
 
-from dataclasses import dataclass
-from typing import Iterable, Sequence
+from typing import Iterable, NamedTuple, Sequence
 
 from tracing.accesses import PAGE_BITS
 from tracing.intervals import Runs, touch_counts
@@ -18,8 +17,7 @@ MOST_BYTES = 1 << 28
 """The most bytes of aggregations that are kept."""
 
 
-@dataclass(frozen=True)
-class Range:
+class Range(NamedTuple):
     """Watched pages of a target, by their numbers in the address space."""
 
     target: int

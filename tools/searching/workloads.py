@@ -1,39 +1,30 @@
 """Workloads: the parts of a script that settings do not change, and the touched pages of each of its intervals.
 
-They are made of traces, as tools/trace_to_script.py makes scripts, or of scripts whose passes are `arm`,
-touches and `finish`.
+They are made of scripts whose passes are `arm`, touches and `finish`, or, in `traces`, of traces.
 """
 from __future__ import annotations
 
-import argparse
 import re
-from array import array
 from bisect import bisect_right
-from dataclasses import dataclass
 from itertools import accumulate
-from typing import Iterable, Iterator
+from typing import Iterator, NamedTuple
 
 from common import UsageError, opened
-from scripts.grammar import HEADER, first_word, words_of
+from scripts.grammar import first_word, words_of
 from scripts.setup import Script
-from tracing.accesses import PAGE_BITS, TraceError
-from tracing.areas import Lookup, chosen, grouped
+from tracing.accesses import PAGE_BITS
 from tracing.commits import Commits
 from tracing.commits import written as commit_lines
-from tracing.intervals import Recording, Runs, pairs, runs_of
-from tracing.reading import no_limit, read_trace, touched
-from tracing.script import places, touches
+from tracing.intervals import Runs, runs_of
 
-from .plan import OF_TRACES, SEED, Plan, Value
+from .plan import SEED, Plan, Value
 from .truth import Range, Truths
 
 ARM, FINISH = "arm", "finish"
-ENDING = b"show\nend\n"
 ARMED = re.compile(rb"^arm\n", re.MULTILINE)
 
 
-@dataclass(frozen=True)
-class Workload:
+class Workload(NamedTuple):
     """What is touched, and where."""
 
     name: str
@@ -62,55 +53,12 @@ class Workload:
         return b"".join([*pieces, self.whole[before:]])
 
 
-@dataclass(frozen=True)
-class Key:
+class Key(NamedTuple):
     """What a workload depends on: all scripts with this are the same but for settings."""
 
     name: str
     interval: int
     unit: int
-
-
-def trace_workloads(plan: Plan, name: str, keys: Iterable[Key]) -> Iterator[tuple[Key, Workload]]:
-    """The workloads of a trace. Raises UsageError."""
-    by_interval: dict[int, list[Key]] = {}
-    for key in keys:
-        by_interval.setdefault(key.interval, []).append(key)
-    for interval, same in by_interval.items():
-        recording = recorded(plan, name, interval)
-        for key in same:
-            yield key, of_recording(plan, key, recording)
-
-
-def recorded(plan: Plan, name: str, interval: int) -> Recording:
-    """A trace, cut into intervals. Raises UsageError."""
-    if interval < 1:
-        raise UsageError("interval must be at least 1")
-    source = plan.source
-    options = argparse.Namespace(trace=str(plan.folder / name), form=source.form, clock=source.clock, interval=interval,
-                                 loads="loads" in source.kinds, stores="stores" in source.kinds, fetches="fetches" in source.kinds)
-    try:
-        return read_trace(options, no_limit(options))[1]
-    except TraceError as error:
-        raise UsageError(f"{options.trace}: {error}") from None
-
-
-def of_recording(plan: Plan, key: Key, recording: Recording) -> Workload:
-    areas = chosen(grouped(touched(recording), plan.source.gap, max(key.unit, 1))).kept
-    if not areas:
-        raise UsageError(f"{key.name} has no access that is taken, or no target that fits the limits of a script")
-    ranges = [Range(target, area.first, area.after) for target, area in enumerate(areas)]
-    lookup = Lookup(areas)
-    passes = [pass_of(runs, lookup) for runs in recording.intervals]
-    numbered = Numbers(ranges)
-    intervals = [numbered.of_areas(runs, lookup) for runs in recording.intervals]
-    return Workload(key.name, HEADER, tuple(places(areas)), dict(OF_TRACES), (), b"".join([*passes, ENDING]),
-                    list(accumulate(map(len, passes[:-1]), initial=0)), Truths(ranges, intervals, plan.hot))
-
-
-def pass_of(runs: Runs, lookup: Lookup) -> bytes:
-    """The lines of an interval."""
-    return "".join(f"{line}\n" for line in (ARM, *touches(runs, lookup), FINISH)).encode("ascii")
 
 
 class Numbers:
@@ -120,16 +68,6 @@ class Numbers:
         self.ranges = ranges
         self.bases = list(accumulate((one.pages for one in ranges), initial=0))
         self.starts = [(one.target, one.first) for one in ranges]
-
-    def of_areas(self, runs: Runs, lookup: Lookup) -> Runs:
-        """Those of runs, each of which lies in one target that is watched as a whole, or in none."""
-        result: list[int] = []
-        for first, after in pairs(runs):
-            target = lookup.target_of(first)
-            if target is not None:
-                shift = self.bases[target] - self.ranges[target].first
-                result += (first + shift, after + shift)
-        return array("Q", result)
 
     def of_touches(self, pages: set[tuple[int, int]]) -> Runs:
         """Those of the watched ones among these pages, each with its target. The ranges of a script rise."""

@@ -7,7 +7,6 @@ from __future__ import annotations
 
 from array import array
 from collections import Counter
-from dataclasses import dataclass, field
 from itertools import chain
 from typing import TYPE_CHECKING, Callable, Iterable, Iterator
 
@@ -23,22 +22,22 @@ PageCount = tuple[int, int, int]
 """First page, page after the last one, and the intervals in which each of them was touched."""
 
 
-@dataclass
 class Recording:
     """What is kept of a trace."""
 
-    length: int
-    """What the clock counts of each interval; of the last one it may be less."""
-    intervals: list[Runs] = field(default_factory=list)
-    uses: Counter[int] = field(default_factory=Counter)
-    """The accesses of each page; one across a border counts for its first page alone."""
-    more_pages: set[int] = field(default_factory=set)
-    """Pages behind a border that an access crossed."""
-    accesses: int = 0
-    duration: int = 0
-    """What the clock counts of all intervals together."""
-    runs: int = 0
-    """The runs of all intervals together."""
+    def __init__(self, length: int) -> None:
+        self.length = length
+        """What the clock counts of each interval; of the last one it may be less."""
+        self.intervals: list[Runs] = []
+        self.uses: Counter[int] = Counter()
+        """The accesses of each page; one across a border counts for its first page alone."""
+        self.more_pages: set[int] = set()
+        """Pages behind a border that an access crossed."""
+        self.accesses = 0
+        self.duration = 0
+        """What the clock counts of all intervals together."""
+        self.runs = 0
+        """The runs of all intervals together."""
 
 
 def record(
