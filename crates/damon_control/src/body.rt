@@ -157,8 +157,8 @@ fn next_other(alloc: Global, lines: &mut Lines, setup: &Setup) -> Result<Option<
     }
 }
 
-// Reads the lines of a commit after its first. It is kept apart: a commit has room for a scheme, which would be
-// cleared for each line of a body.
+// Reads the lines of a commit after its first. It is kept apart: a commit has room for a scheme, which would
+// be cleared for each line of a body.
 #[inline(never)]
 fn next_commit(alloc: Global, lines: &mut Lines, version: Version) -> Result<Box<Commit>, ReadFail>
     requires { IsShort lines.old }

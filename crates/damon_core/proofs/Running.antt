@@ -14,7 +14,7 @@ use Rattle.damon_core.specs.Pass.{IsPickWithin}
 use Rattle.damon_core.specs.Makes.{Makes, Makes-append}
 use Rattle.damon_core.specs.Stands.{MonitorView, Stands}
 use Rattle.damon_core.specs.Kept.{HasPicks, SinceFew}
-use Rattle.damon_core.proofs.Shown.{after_clears, after_load, after_loads}
+use Rattle.damon_core.proofs.Shown.{after_all_loads, after_clears, after_load, after_loads}
 use Rattle.damon_core.proofs.Standing.{clear_stands, load_fits, load_stands}
 
 -- no event
@@ -127,6 +127,52 @@ loads_make m marks (suc n) loading within picks bits =
     (subst (λ bs. Makes Stands m (record m { core = loaded_core (suc (suc n)) m.core; bits = bs }) (load h ∷ loads marks (next_picks m.core.picks (from + 1) (suc n)))) (loaded_bits_first marks m.core.picks from (suc n) m.bits below each)
     (subst (λ i. Makes Stands m (record m { core = record m.core { phase = Checking i }; bits = loaded_bits marks m.core.picks (from + 1) (suc n) (set m.bits from h) }) (load h ∷ loads marks (next_picks m.core.picks (from + 1) (suc n)))) last
     (Makes-append Stands m next (after_loads marks (suc n) next) (load h ∷ []) (loads marks (next_picks m.core.picks (from + 1) (suc n))) (one_load m h loading (omega arith)) more)))
+
+-- the bits after the last load
+set_last : (bits : List Bool) (k : ℕ) (h : Bool) → suc k ≡ length bits → set bits k h ≡ take k bits ++ h ∷ []
+set_last [] k h last = absurd (omega (arith, last))
+set_last (b ∷ []) zero h last = refl
+set_last (b ∷ c ∷ bits) zero h last = absurd (omega (arith, last))
+set_last (b ∷ bits) (suc k) h last = ap (λ bs. b ∷ bs) (set_last bits k h (omega (arith, last)))
+
+-- the bits up to one that was set, with others after it
+front_then_set : (bits rest : List Bool) (k : ℕ) (h : Bool) → k < length bits → take (suc k) (set bits k h) ++ rest ≡ take k bits ++ h ∷ rest
+front_then_set [] rest k h below = absurd (omega arith)
+front_then_set (b ∷ bits) rest zero h below = refl
+front_then_set (b ∷ bits) rest (suc k) h below = ap (λ bs. b ∷ bs) (front_then_set bits rest k h (omega (arith, below)))
+
+-- loads of all picks that are left, with these results, are events
+left_loads_make : (m : MonitorView) (h : Bool) (hs : List Bool) → IsLoading m.core.phase (row_count m.core) → load_index m.core.phase + suc (length hs) ≡ length m.bits → length m.bits ≡ row_count m.core
+    → Makes Stands m (record m { core = loaded_core (suc (length hs)) m.core; bits = take (load_index m.core.phase) m.bits ++ h ∷ hs }) (map (λ x. load x) (h ∷ hs))
+left_loads_make m h [] loading all each =
+    let from = load_index m.core.phase in
+    let last : suc from ≡ length m.bits = omega (arith, all) in
+    subst (λ bs. Makes Stands m (record m { core = loaded_core 1 m.core; bits = bs }) (load h ∷ [])) (set_last m.bits from h last) (one_load m h loading (omega (arith, last)))
+left_loads_make m h (i ∷ hs) loading all each =
+    let from = load_index m.core.phase in
+    let next = after_load h m in
+    let below : from < length m.bits = omega (arith, all) in
+    let still : IsLoading next.core.phase (row_count next.core) = (omega (arith, all, each)) in
+    let count : from + 1 + suc (length hs) ≡ length next.bits = omega (arith, all, length-set m.bits from h) in
+    let more = left_loads_make next i hs still count (length-set m.bits from h ∙ each) in
+    let more_from : from + 1 ≡ suc from = omega arith in
+    let last : from + 1 + suc (length hs) ≡ from + suc (suc (length hs)) = omega arith in
+    let bits : take (from + 1) next.bits ++ i ∷ hs ≡ take from m.bits ++ h ∷ i ∷ hs = ap (λ n. take n next.bits ++ i ∷ hs) more_from ∙ front_then_set m.bits (i ∷ hs) from h below in
+    subst (λ bs. Makes Stands m (record m { core = loaded_core (suc (suc (length hs))) m.core; bits = bs }) (map (λ x. load x) (h ∷ i ∷ hs))) bits
+    (subst (λ n. Makes Stands m (record m { core = record m.core { phase = Checking n }; bits = take (from + 1) next.bits ++ i ∷ hs }) (map (λ x. load x) (h ∷ i ∷ hs))) last
+    (Makes-append Stands m next (record next { core = loaded_core (suc (length hs)) next.core; bits = take (from + 1) next.bits ++ i ∷ hs }) (load h ∷ []) (map (λ x. load x) (i ∷ hs)) (one_load m h loading below) more))
+
+-- loads of all picks, with these results, are events
+pub all_loads_make : (m : MonitorView) (hits : List Bool) → m.core.phase ≡ Armed → 0 < row_count m.core → length hits ≡ row_count m.core → length m.bits ≡ row_count m.core → Makes Stands m (after_all_loads hits m) (map (λ x. load x) hits)
+all_loads_make m [] armed some count each = absurd (omega (arith, some, count))
+all_loads_make m (h ∷ hs) armed some count each =
+    let rows = row_count m.core in
+    let none : load_index m.core.phase ≡ 0 = ap load_index armed in
+    let loading : IsLoading m.core.phase rows = subst (λ ph. IsLoading ph rows) (sym armed) tt in
+    let made = left_loads_make m h hs loading (omega (arith, none, count, each)) each in
+    let last : load_index m.core.phase + suc (length hs) ≡ rows = omega (arith, none, count) in
+    subst (λ n. Makes Stands m (record m { core = record m.core { phase = Checking n }; bits = h ∷ hs }) (map (λ x. load x) (h ∷ hs))) last
+    (subst (λ k. Makes Stands m (record m { core = loaded_core (suc (length hs)) m.core; bits = take k m.bits ++ h ∷ hs }) (map (λ x. load x) (h ∷ hs))) none made)
 
 -- where a load comes next each row has a pick
 pub bits_of_rows : (ph : Phase) (rows n : ℕ) → HasPicks ph rows n → IsLoading ph rows → n ≡ rows

@@ -10,7 +10,7 @@ use Rattle.aggregator.specs.Threshold.{threshold}
 use Rattle.region_split.specs.Split.{split_rows}
 use Rattle.live_commit.specs.Commit.{CommitValue}
 use Rattle.live_commit.specs.declared.phase.Phase.{Phase}
-use Rattle.live_commit.specs.declared.phase.Phase.TheVariants.{Idle, Void}
+use Rattle.live_commit.specs.declared.phase.Phase.TheVariants.{Checking, Idle, Void}
 use Rattle.sampler.specs.Counted.{raised}
 use Rattle.sampler.specs.Loaded.{loaded_bits}
 use Rattle.scheme_engine.specs.Served.{Served, slots_served}
@@ -61,6 +61,10 @@ after_load hit m = record m {
   core = loaded_core 1 m.core;
   bits = slice_set m.bits (load_index m.core.phase) hit;
 }
+
+-- all picks are loaded, with these results
+abbrev pub after_all_loads : List Bool → MonitorView → MonitorView
+after_all_loads hits m = record m { core = record m.core { phase = Checking (row_count m.core) }; bits = hits }
 
 -- n picks more are loaded, each with the mark of its page as its result
 abbrev pub after_loads : List Bool → ℕ → MonitorView → MonitorView

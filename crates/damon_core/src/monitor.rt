@@ -1,5 +1,5 @@
 ghost use Rattle.std.specs.List.{AllByRecursion};
-ghost use Rattle.std.specs.Prelude.{◌≡◌, ◌+◌, ◌*◌, ◌^◌, ◌≤◌, ◌<◌, ℕ, true, max, ◌/◌, [], ◌∷◌, length, slice_get, slice_index, slice_set, IfOk, OnErr, Some, Ok};
+ghost use Rattle.std.specs.Prelude.{◌≡◌, ◌+◌, ◌*◌, ◌^◌, ◌≤◌, ◌<◌, ℕ, true, max, ◌/◌, [], ◌∷◌, length, map, slice_get, slice_index, slice_set, IfOk, OnErr, Some, Ok};
 ghost use Rattle.damon_types.specs.declared.scheme.CostPart.{CostPart as cost_part};
 ghost use Rattle.damon_types.specs.declared.scheme.SlotChange.{SlotChange as slot_change};
 ghost use Rattle.damon_types.specs.declared.scheme.TheConstants.{MAX_SLOT};
@@ -48,11 +48,12 @@ pub struct Monitor {
     version: Version,
     space: Space,
     attrs: Attrs,
-    sampling: Sampling,
+    // The large parts are in boxes, so that a monitor is cheap to move, and to hand on in a `Result`.
+    sampling: Box<Sampling>,
     clock: Clock,
     totals: Totals,
-    report: Report,
-    engine: Engine,
+    report: Box<Report>,
+    engine: Box<Engine>,
 }
 
 impl Model for Monitor {
@@ -68,21 +69,22 @@ impl Model for Monitor {
         version = m.version;
         space = m.space;
         attrs = m.attrs;
-        regions = m.sampling.regions;
-        phase = m.sampling.phase;
-        picks = m.sampling.picks;
+        regions = m.sampling.value.regions;
+        phase = m.sampling.value.phase;
+        picks = m.sampling.value.picks;
         ticks = m.clock.ticks;
         since = m.clock.since;
-        before = m.sampling.before;
-        report = report_value m.report;
+        before = m.sampling.value.before;
+        report = report_value m.report.value;
       };
-      bits = m.sampling.bits;
+      bits = m.sampling.value.bits;
       checks = m.totals.checks;
       hits = m.totals.hits;
-      slots = m.engine.slots;
+      slots = m.engine.value.slots;
     } };
 
-    ghost invariant = { λ m. IsMonitor m.space m.attrs m.sampling m.clock m.totals m.report m.engine };
+    ghost invariant = { λ m. IsMonitor m.space m.attrs m.sampling.value m.clock m.totals m.report.value
+        m.engine.value };
 }
 
 impl Monitor {
@@ -227,9 +229,10 @@ impl Monitor {
         ensures core { self.new.core ≡ prepared_core words.now self.old.core }
         ensures event { Makes Stands self.old self.new (prepare_event words.now ∷ []) }
     {
+        let sampling = &mut *self.sampling;
         // For its clauses alone: the rows tile their ranges and are within their limits.
-        let _rows = self.sampling.regions().len();
-        self.sampling.prepare(words);
+        let _rows = sampling.regions().len();
+        sampling.prepare(words);
     }
 
     /// Prepares a pass as [`Monitor::prepare`] does, by the next random words of a source. They are drawn as
@@ -245,9 +248,10 @@ impl Monitor {
         ensures each { length (drawn (row_count self.old.core) (R.stream source.old))
             ≡ row_count self.old.core }
     {
+        let sampling = &mut *self.sampling;
         // For its clauses alone: the rows tile their ranges and are within their limits.
-        let _rows = self.sampling.regions().len();
-        self.sampling.prepare_from(source);
+        let _rows = sampling.regions().len();
+        sampling.prepare_from(source);
     }
 
     /// The page of pick `k`, one for each row, of the pass under way.
@@ -297,6 +301,18 @@ impl Monitor {
         self.sampling.load(hit);
     }
 
+    /// Records that the pages of all picks were loaded, with these results, one for each. The phase is
+    /// Armed.
+    pub fn loaded_all(&mut self, hits: &[bool])
+        requires armed { self.old.core.phase ≡ Phase.Armed }
+        requires each { length hits.now ≡ row_count self.old.core }
+        ensures core { self.new.core ≡ loaded_core (row_count self.old.core) self.old.core }
+        ensures bits { self.new.bits ≡ hits.now }
+        ensures events { Makes Stands self.old self.new (map (λ hit. load_event hit) hits.now) }
+    {
+        self.sampling.load_all(hits);
+    }
+
     /// Records that the pages of the next `count` picks (at least 1) were loaded, each with the mark
     /// of its page as its result. At least `count` picks are left to load, and there is a mark for each
     /// page of the space.
@@ -342,18 +358,20 @@ impl Monitor {
         scheme_engine::outcome_rows_are_kept();
         scheme_engine::outcome_runs_are_taken();
         scheme_engine::served_slots_are_kept();
-        let limit = merge_limit(self.sampling.regions(), self.attrs.min);
-        let threshold = self.sampling.merge(limit, self.version);
+        let sampling = &mut *self.sampling;
+        let limit = merge_limit(sampling.regions(), self.attrs.min);
+        let threshold = sampling.merge(limit, self.version);
         // For their clauses alone: the rows are tiled, and the space is within its limits.
-        let (_merged, _targets) = (self.sampling.regions().len(), self.space.targets());
+        let (_merged, _targets) = (sampling.regions().len(), self.space.targets());
         let (aggr, tick) = (self.attrs.aggr, self.clock.ticks);
-        let (engine, report) = (&mut self.engine, &mut self.report);
-        self.sampling.serve(engine, report, &self.space, aggr, tick);
-        let rows = self.sampling.regions();
+        let engine = &mut *self.engine;
+        let report = &mut *self.report;
+        sampling.serve(engine, report, &self.space, aggr, tick);
+        let rows = sampling.regions();
         // For its clauses alone: the rows tile their ranges and are within their limits.
         let _rows = rows.len();
-        self.report.set(self.clock.ticks, threshold, rows.rows());
-        self.sampling.split(words);
+        report.set(tick, threshold, rows.rows());
+        sampling.split(words);
         self.clock.since = 0;
     }
 
@@ -417,10 +435,11 @@ impl Monitor {
         range_update::updated_rows_are_kept();
         region_list::shrunk_rows_are_kept();
         let attrs = commit.attrs.unwrap_or(self.attrs());
-        let void = self.sampling.commit(&self.space, &commit.ranges, attrs.max);
+        let sampling = &mut *self.sampling;
+        let void = sampling.commit(&self.space, &commit.ranges, attrs.max);
+        let rows = sampling.regions().len();
         self.attrs = attrs;
-        change_slots(&mut self.engine, commit);
-        let rows = self.sampling.regions().len();
+        change_slots(&mut *self.engine, commit);
         Changed { rows, void }
     }
 
@@ -435,8 +454,9 @@ impl Monitor {
     {
         self.clock.tick();
         let next = self.clock.next_phase(self.attrs.aggr);
-        let hits = self.sampling.finish(next);
-        self.totals.add(self.sampling.regions().len(), hits);
+        let sampling = &mut *self.sampling;
+        let hits = sampling.finish(next);
+        self.totals.add(sampling.regions().len(), hits);
     }
 
     // Ends a void pass.
@@ -460,17 +480,17 @@ fn opening_is_reached(setup: &Setup)
 }
 
 // The slots of a monitor before its first pass: those of the setup are set.
-fn first_engine(alloc: Global, setup: &Setup) -> Result<Engine, AllocError>
-    ensures slots { IfOk result (λ e. e.slots ≡ slots_of (opening_notes (value_of setup.now))) }
-    ensures cap { IfOk result (λ e. e.cap ≡ setup.now.cap) }
-    ensures new { IfOk result (λ e. AllByRecursion IsUnused e.slots) }
+fn first_engine(alloc: Global, setup: &Setup) -> Result<Box<Engine>, AllocError>
+    ensures slots { IfOk result (λ e. e.value.slots ≡ slots_of (opening_notes (value_of setup.now))) }
+    ensures cap { IfOk result (λ e. e.value.cap ≡ setup.now.cap) }
+    ensures new { IfOk result (λ e. AllByRecursion IsUnused e.value.slots) }
 {
     live_commit::accepted_commits_are_within();
     let mut engine = Engine::new(alloc, setup.cap)?;
     for change in setup.slots.as_slice() {
         engine.change(change);
     }
-    Ok(engine)
+    Ok(Box::new(alloc, engine)?)
 }
 
 // Makes the slot change of a commit, and hands on its metric and its cost, if it has them. The slots are ones

@@ -26,8 +26,8 @@ pub struct Report {
 
 impl Report {
     // The report before the first aggregation, with room for `cap` rows, or an error when out of memory.
-    pub(crate) fn new(alloc: Global, cap: u32) -> Result<Report, AllocError>
-        ensures { IfOk result (λ r. r ≡ record {
+    pub(crate) fn new(alloc: Global, cap: u32) -> Result<Box<Report>, AllocError>
+        ensures { IfOk result (λ r. r.value ≡ record {
           tick = 0;
           threshold = 0;
           rows = record { rows = []; cap = cap };
@@ -36,12 +36,13 @@ impl Report {
     {
         let rows = RowBuf::new(alloc, cap)?;
         let applied = Applied::new(alloc, cap)?;
-        Ok(Report {
+        let report = Report {
             tick: 0,
             threshold: 0,
             rows,
             applied,
-        })
+        };
+        Ok(Box::new(alloc, report)?)
     }
 
     // Serves the slots of an engine over the rows of these regions, and keeps what they were applied to.

@@ -69,10 +69,10 @@ impl Model for Sampling {
 
 impl Sampling {
     // No pass is under way. There is a row.
-    pub(crate) fn new(alloc: Global, regions: Regions) -> Result<Sampling, AllocError>
+    pub(crate) fn new(alloc: Global, regions: Regions) -> Result<Box<Sampling>, AllocError>
         requires some { 0 < length regions.rows }
         requires cap { regions.cap ≤ 4096 }
-        ensures { IfOk result (λ s. s ≡ record {
+        ensures { IfOk result (λ s. s.value ≡ record {
           regions = regions;
           phase = variant.Idle;
           picks = [];
@@ -84,7 +84,7 @@ impl Sampling {
         let picks = Picks::new(alloc, cap)?;
         let earlier = RowBuf::new(alloc, cap)?;
         let room = Room::new(alloc, cap)?;
-        Ok(Sampling {
+        let sampling = Sampling {
             regions,
             phase: Phase::Idle,
             picks,
@@ -92,7 +92,8 @@ impl Sampling {
             before: 0,
             earlier,
             room,
-        })
+        };
+        Ok(Box::new(alloc, sampling)?)
     }
 
     // Where the pass under way is. The pick that the phase names is one of the rows.
@@ -190,6 +191,22 @@ impl Sampling {
         self.picks.set(index, hit);
         self.hits_so_far += u32::from(hit);
         self.phase = Phase::Checking { next: index + 1 };
+    }
+
+    // All picks are loaded, with these results. They are cleared, and none was loaded yet.
+    pub(crate) fn load_all(&mut self, hits: &[bool])
+        requires armed { self.old.phase ≡ variant.Armed }
+        requires each { length hits.now ≡ length self.old.regions.rows }
+        ensures loaded { self.new ≡ record self.old {
+          phase = variant.Checking (length self.old.regions.rows);
+          bits = hits.now;
+        } }
+        ensures each { length self.old.bits ≡ length self.old.regions.rows }
+        ensures some { 0 < length self.old.regions.rows }
+    {
+        let rows = self.regions.len();
+        self.hits_so_far = self.picks.set_all(hits);
+        self.phase = Phase::Checking { next: rows };
     }
 
     // The next `count` picks are loaded, each with the mark of its page as its result.

@@ -2,7 +2,7 @@
 use Rattle.std.proofs.Common.{◌≡◌, ℕ, zero, suc, ◌+◌, ◌<◌, Bool, List, [], ◌∷◌, ◌++◌, Some, take, map, refl, sym, ap, ◌∙◌, subst, arith}
 use Rattle.std.specs.Prelude.{slice_get}
 use mathlib.Core.List.{map-append}
-use Rattle.live_commit.specs.declared.phase.Phase.TheVariants.{Checking}
+use Rattle.live_commit.specs.declared.phase.Phase.TheVariants.{Armed, Checking}
 use Rattle.damon_core.specs.After.{loaded_core}
 use Rattle.damon_core.specs.Event.{load, IsLoading, IsObserving, load_index}
 use Rattle.damon_core.specs.Makes.{Makes, Makes-append}
@@ -31,6 +31,14 @@ next_phase k = let e : k + 1 ≡ suc k = omega arith in ap (λ n. Checking n) e 
 pub all_observed : (n : ℕ) → 0 < n → IsObserving (phase_loaded n) n
 all_observed zero some = absurd (omega (arith, some))
 all_observed (suc n) some = refl
+
+-- all are loaded at once
+pub core_all_loaded : (rows : ℕ) (c : Core) → c.phase ≡ Armed → 0 < rows → loaded_core rows c ≡ record c { phase = phase_loaded rows }
+core_all_loaded zero c armed some = absurd (omega (arith, some))
+core_all_loaded (suc n) c armed some =
+    let none : load_index c.phase ≡ 0 = ap load_index armed in
+    let all : load_index c.phase + suc n ≡ suc n = omega (arith, none) in
+    ap (λ i. record c { phase = Checking i }) all
 
 pub core_loaded : (k : ℕ) (before mid now : Core) → mid ≡ record before { phase = phase_loaded k } → now ≡ loaded_core 1 mid → now ≡ record before { phase = phase_loaded (k + 1) }
 core_loaded k before mid now was is =

@@ -1,5 +1,5 @@
 -- Internal to the proofs: results that are kept as bits, 64 in each word.
-use Rattle.std.specs.Prelude.{◌≡◌, ◌==◌, ℕ, ◌+◌, ◌-◌, ◌*◌, ◌/◌, ◌%◌, ◌≤◌, Bool, false, List, length, map, slice_index}
+use Rattle.std.specs.Prelude.{◌≡◌, ◌==◌, ℕ, ◌+◌, ◌-◌, ◌*◌, ◌/◌, ◌%◌, ◌≤◌, Bool, false, List, drop, length, map, slice_index, take}
 use Rattle.std.specs.Int.{bit_at}
 use Rattle.std.specs.List.{range_with_len}
 use Rattle.damon_journal.specs.declared.bits.BitPlace.{BitPlace}
@@ -29,3 +29,7 @@ pub record ArePacked (words : List ℕ) (free : ℕ) : Type 0 where
 -- the index of a place
 abbrev pub place_of : BitPlace → ℕ
 place_of p = 64 * p.word + p.bit
+
+-- this many results from a place on
+abbrev pub run_of : List Bool → BitPlace → ℕ → List Bool
+run_of results start count = take count (drop (place_of start) results)

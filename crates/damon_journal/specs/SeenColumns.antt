@@ -1,14 +1,14 @@
--- Receipts with their workers in columns: one list of numbers for each part.
-use Rattle.std.specs.Prelude.{◌≡◌, ℕ, List, [], ◌∷◌, map, drop, slice_index}
+-- Receipts with their workers in two lists.
+use Rattle.std.specs.Prelude.{◌≡◌, ℕ, List, [], ◌∷◌, map}
 use Rattle.damon_journal.specs.declared.entry.Receipt.{Receipt}
 
--- the receipts of three columns: receipt i has the numbers with index i, and there are as many receipts as workers
-abbrev pub zipped : List ℕ → List ℕ → List ℕ → List (ℕ × Receipt)
-zipped [] pages tags = []
-zipped (w ∷ ws) pages tags = (w, record { page = slice_index pages 0; tag = slice_index tags 0 }) ∷ zipped ws (drop 1 pages) (drop 1 tags)
+-- each worker with its receipt
+abbrev pub zipped : List ℕ → List Receipt → List (ℕ × Receipt)
+zipped [] receipts = []
+zipped (w ∷ ws) [] = []
+zipped (w ∷ ws) (r ∷ rs) = (w, r) ∷ zipped ws rs
 
--- each column has the numbers of its part
-pub record AreColumns (xs : List (ℕ × Receipt)) (workers pages tags : List ℕ) : Type 0 where
+-- each list has its part
+pub record AreColumns (xs : List (ℕ × Receipt)) (workers : List ℕ) (receipts : List Receipt) : Type 0 where
   pub worker : workers ≡ map (λ x. x.0) xs
-  pub page : pages ≡ map (λ x. x.1.page) xs
-  pub tag : tags ≡ map (λ x. x.1.tag) xs
+  pub receipt : receipts ≡ map (λ x. x.1) xs

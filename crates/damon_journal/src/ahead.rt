@@ -27,7 +27,7 @@ pub(crate) struct Ahead {
     seen: SeenByTag,
     // The receipts that a pass has named, by their index.
     named: BitSet,
-    // The picks of the pass in preparation; between calls there are none.
+    // Scratch space of `prepare`: empty before and after each call.
     picked: BitSet,
     // The pages that receipts have with the number of the pass as their tag.
     received: BitSet,

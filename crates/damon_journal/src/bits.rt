@@ -1,29 +1,39 @@
 // Results of checks that are kept as bits.
-ghost use Rattle.std.specs.Prelude.{◌≡◌, ◌+◌, ◌≤◌, ◌<◌, [], ◌∷◌, ◌++◌, Bool, List, drop, length, slice_index_or, take, OnOk};
-ghost use Rattle.damon_journal.specs.Bits.{place_of};
+ghost use Rattle.std.specs.Prelude.{◌≡◌, ◌+◌, ◌≤◌, ◌<◌, [], ◌∷◌, ◌++◌, Bool, List, length, map, slice_index_or, OnOk};
+ghost use Rattle.live_commit.specs.declared.phase.Phase.TheVariants.{Armed};
+ghost use Rattle.damon_core.specs.Event.{load};
+ghost use Rattle.damon_core.specs.Makes.{Makes};
+ghost use Rattle.damon_core.specs.Stands.{Stands};
+ghost use Rattle.damon_core.specs.State.{row_count};
+ghost use Rattle.damon_journal.specs.Bits.{place_of, run_of};
+ghost use Rattle.damon_journal.specs.Phases.{phase_loaded};
 
+use damon_core::Monitor;
 use std::alloc::{AllocError, Global};
 use std::marker::Model;
 
 // How many bits a word has.
 const WORD: u32 = 64;
 
-// The results of one check, by their index.
+// The results of one check.
 pub(crate) trait CheckResults {
     // The results.
     ghost results: { Self → List Bool };
 
-    // The result with this index.
-    fn get(&self, index: u32) -> bool
-        requires { index < length (results self.now) }
-        ensures { (none : Bool) → result ≡ slice_index_or (results self.now) index none };
+    // Hands the results of all picks to a monitor.
+    fn load_into(&self, monitor: &mut Monitor)
+        requires armed { monitor.old.core.phase ≡ Armed }
+        requires each { length (results self.now) ≡ row_count monitor.old.core }
+        ensures core { monitor.new.core
+            ≡ record monitor.old.core { phase = phase_loaded (row_count monitor.old.core) } }
+        ensures events { Makes Stands monitor.old monitor.new (map (λ bit. load bit) (results self.now)) };
 }
 
 impl CheckResults for Vec<bool> {
     ghost results = { λ v. v.items };
 
-    fn get(&self, index: u32) -> bool {
-        self[index as usize]
+    fn load_into(&self, monitor: &mut Monitor) {
+        load_at_once(monitor, self);
     }
 }
 
@@ -123,10 +133,49 @@ pub(crate) struct BitRun<'a> {
     pub count: u32,
 }
 
-impl<'a> CheckResults for BitRun<'a> {
-    ghost results = { λ r. take r.count (drop (place_of r.start) r.list.now) };
-
-    fn get(&self, index: u32) -> bool {
+impl<'a> BitRun<'a> {
+    // The result with this index.
+    fn get(&self, index: u32) -> bool
+        requires { index < length (run_of self.now.list.now self.now.start self.now.count) }
+        ensures { (none : Bool) → result
+            ≡ slice_index_or (run_of self.now.list.now self.now.start self.now.count) index none }
+    {
         self.list.get(self.start, index)
+    }
+}
+
+impl<'a> CheckResults for BitRun<'a> {
+    ghost results = { λ r. run_of r.list.now r.start r.count };
+
+    fn load_into(&self, monitor: &mut Monitor) {
+        load_each(monitor, self);
+    }
+}
+
+// Hands the results of all picks to a monitor at once.
+fn load_at_once(monitor: &mut Monitor, bits: &[bool])
+    requires armed { monitor.old.core.phase ≡ Armed }
+    requires each { length bits.now ≡ row_count monitor.old.core }
+    ensures core { monitor.new.core
+        ≡ record monitor.old.core { phase = phase_loaded (row_count monitor.old.core) } }
+    ensures events { Makes Stands monitor.old monitor.new (map (λ bit. load bit) bits.now) }
+{
+    // For its clause alone: there is a row.
+    let _rows = monitor.rows();
+    monitor.loaded_all(bits);
+}
+
+// Hands the results of all picks to a monitor, one after another.
+fn load_each(monitor: &mut Monitor, bits: &BitRun<'_>)
+    requires armed { monitor.old.core.phase ≡ Armed }
+    requires each { length (run_of bits.now.list.now bits.now.start bits.now.count)
+        ≡ row_count monitor.old.core }
+    ensures core { monitor.new.core
+        ≡ record monitor.old.core { phase = phase_loaded (row_count monitor.old.core) } }
+    ensures events { Makes Stands monitor.old monitor.new
+        (map (λ bit. load bit) (run_of bits.now.list.now bits.now.start bits.now.count)) }
+{
+    for k in 0..monitor.rows().len() {
+        monitor.loaded(bits.get(k));
     }
 }

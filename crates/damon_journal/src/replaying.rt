@@ -1,15 +1,13 @@
-ghost use Rattle.std.specs.Prelude.{◌≡◌, ◌+◌, ◌*◌, ◌≤◌, ◌<◌, ◌^◌, [], IfOk, length, map};
+ghost use Rattle.std.specs.Prelude.{◌≡◌, ◌+◌, ◌*◌, ◌≤◌, ◌<◌, ◌^◌, [], IfOk, length};
 ghost use Rattle.live_commit.specs.declared.phase.Phase.TheVariants.{Idle, Armed, Due, Void as VoidPhase};
 ghost use Rattle.live_commit.specs.SetupView.{value_of};
-ghost use Rattle.damon_core.specs.Event.{load};
-ghost use Rattle.damon_core.specs.Makes.{Makes};
 ghost use Rattle.damon_core.specs.Reached.{CanOpen};
-ghost use Rattle.damon_core.specs.Stands.{Stands, last_pass};
+ghost use Rattle.damon_core.specs.Stands.{last_pass};
 ghost use Rattle.damon_core.specs.State.{opening_core, row_count};
 ghost use Rattle.damon_control.specs.Live.{LiveValue};
 ghost use Rattle.damon_control.specs.LiveView.{call_value};
 ghost use Rattle.damon_journal.specs.declared.entry.Entry.TheVariants.{Prepare, Check, Void, Aggregate};
-ghost use Rattle.damon_journal.specs.Phases.{IsFree, phase_loaded};
+ghost use Rattle.damon_journal.specs.Phases.{IsFree};
 ghost use Rattle.damon_journal.specs.Replay.{call_answer};
 ghost use Rattle.damon_journal.specs.Replaying.{Carries, CarriesCall, CarriesKnown, IsReplayOf};
 ghost use Rattle.damon_journal.specs.Room.{nothing_said};
@@ -115,7 +113,7 @@ impl Replaying {
         journals_grow();
         // For its clause alone: there is a row.
         let _rows = self.monitor.rows();
-        load_all(&mut self.monitor, bits);
+        bits.load_into(&mut self.monitor);
         self.monitor.observe();
     }
 
@@ -167,19 +165,6 @@ impl Replaying {
     {
         journals_grow();
         make_call(&mut self.monitor, call)
-    }
-}
-
-// Hands the results of all picks to the monitor, one after another.
-fn load_all<B: CheckResults>(monitor: &mut Monitor, bits: &B)
-    requires armed { monitor.old.core.phase ≡ Armed }
-    requires each { length (B.results bits.now) ≡ row_count monitor.old.core }
-    ensures core { monitor.new.core
-        ≡ record monitor.old.core { phase = phase_loaded (row_count monitor.old.core) } }
-    ensures events { Makes Stands monitor.old monitor.new (map (λ bit. load bit) (B.results bits.now)) }
-{
-    for k in 0..monitor.rows().len() {
-        monitor.loaded(bits.get(k));
     }
 }
 

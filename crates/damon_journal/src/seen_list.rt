@@ -1,20 +1,20 @@
-// Receipts with their workers, in columns.
-ghost use Rattle.std.specs.Prelude.{◌≡◌, ℕ, ◌<◌, [], ◌∷◌, ◌++◌, length, slice_index_or, OnErr, OnOk};
+// Receipts with their workers.
+ghost use Rattle.std.specs.Prelude.{◌≡◌, ℕ, ◌-◌, ◌^◌, ◌<◌, [], ◌∷◌, ◌++◌, length, slice_index_or, OnErr, OnOk};
 ghost use Rattle.damon_journal.specs.declared.entry.Receipt.{Receipt as receipt};
 
 use crate::entry::Receipt;
+use crate::receipt_list::ReceiptList;
 use std::alloc::{AllocError, Global};
 use std::marker::Model;
 
 // A receipt with its worker.
 pub(crate) type Seen = (u8, Receipt);
 
-// Receipts with their workers. Each of their parts has a list of its own, so that one takes 13 bytes.
+// Receipts with their workers, in two lists, of which one worker takes a byte.
 #[derive(Drop)]
 pub(crate) struct SeenList {
     workers: Vec<u8>,
-    pages: Vec<u32>,
-    tags: Vec<u64>,
+    receipts: ReceiptList,
 }
 
 impl Model for SeenList {
@@ -24,10 +24,10 @@ impl Model for SeenList {
 
     ghost Value = { List (ℕ × receipt) };
 
-    ghost view = { λ s. zipped s.workers.items s.pages.items s.tags.items };
+    ghost view = { λ s. zipped s.workers.items s.receipts.list };
 
-    ghost invariant = { λ s. AreColumns (zipped s.workers.items s.pages.items s.tags.items)
-        s.workers.items s.pages.items s.tags.items };
+    ghost invariant = { λ s. AreColumns (zipped s.workers.items s.receipts.list)
+        s.workers.items s.receipts.list };
 }
 
 impl SeenList {
@@ -37,23 +37,20 @@ impl SeenList {
     {
         SeenList {
             workers: Vec::new(alloc),
-            pages: Vec::new(alloc),
-            tags: Vec::new(alloc),
+            receipts: ReceiptList::new(alloc),
         }
     }
 
-    // Appends a receipt. Allocates; on an error the list is as it was.
+    // Appends a receipt to fewer than 2^32 - 1. Allocates; on an error the list is as it was.
     pub fn push(&mut self, seen: Seen) -> Result<(), AllocError>
+        requires { length self.old < 2 ^ 32 - 1 }
         ensures ok { OnOk result (self.new ≡ self.old ++ seen ∷ []) }
         ensures err { OnErr result (self.new ≡ self.old) }
     {
         self.workers.reserve(1)?;
-        self.pages.reserve(1)?;
-        self.tags.reserve(1)?;
         let (worker, receipt) = seen;
+        self.receipts.push(receipt)?;
         self.workers.push_reserved(worker);
-        self.pages.push_reserved(receipt.page);
-        self.tags.push_reserved(receipt.tag);
         Ok(())
     }
 
@@ -69,8 +66,8 @@ impl SeenList {
         requires { index < length self.now }
         ensures { (d : ℕ × receipt) → result ≡ slice_index_or self.now index d }
     {
-        let page = self.pages[index];
-        let tag = self.tags[index];
-        (self.workers[index], Receipt { page, tag })
+        // For its clause alone: an index fits in 32 bits.
+        let _receipts = self.receipts.len();
+        (self.workers[index], self.receipts.get(index as u32))
     }
 }

@@ -3,6 +3,7 @@ ghost use Rattle.std.specs.Prelude.{◌≡◌, ◌≤◌, ◌<◌, length, All, 
 ghost use Rattle.std.specs.Option.{option_copied};
 ghost use Rattle.damon_types.specs.Space.{pages_of};
 ghost use Rattle.line_text.specs.Parts.{parts, parts_left};
+ghost use Rattle.damon_control.specs.declared.reader.TheConstants.{MAX_BYTES};
 ghost use Rattle.damon_journal.specs.Ahead.{after_receipts, seen_ahead, seen_next, seen_numbers, seen_said};
 ghost use Rattle.damon_journal.specs.SeenLine.{seen_line, seen_of};
 
@@ -21,12 +22,14 @@ use std::alloc::{AllocError, Global};
 // The numbers of a `seen` line: its worker, target, address and tag.
 type SeenNumbers = (u8, (u32, (u64, u64)));
 
-// The receipts of a text, which is what follows the head of a journal. Allocates.
+// The receipts of a text of at most `MAX_BYTES` bytes, which is what follows the head of a journal.
+// Allocates.
 pub(crate) fn read_receipts(
     alloc: Global,
     space: &Space,
     text: &[u8],
 ) -> Result<SeenList, AllocError>
+    requires { length text.now ≤ MAX_BYTES }
     ensures exact { IfOk result (λ seen. seen
         ≡ seen_ahead space.now (after_receipts (parts 10 text.now))) }
     ensures within { IfOk result (λ seen. All (λ x. x.1.page < pages_of space.now) seen) }
@@ -56,6 +59,7 @@ fn after_receipts(text: &[u8]) -> Option<&[u8]>
 
 // The receipts of the lines of a text, up to the first line that says none.
 fn read_seen_lines(alloc: Global, space: &Space, lines: &[u8]) -> Result<SeenList, AllocError>
+    requires { length lines.now ≤ MAX_BYTES }
     ensures exact { IfOk result (λ seen. seen ≡ seen_ahead space.now (parts 10 lines.now)) }
     ensures within { IfOk result (λ seen. All (λ x. x.1.page < pages_of space.now) seen) }
     ensures few { IfOk result (λ seen. length seen ≤ length lines.now) }

@@ -39,18 +39,19 @@ fn entries_take_their_room(rt: HostRuntime) -> Result<(), Fail> {
 #[test]
 fn a_journal_without_entries_has_a_text(rt: HostRuntime) -> Result<(), Fail> {
     let alloc = rt.alloc();
-    let setup = one_page(alloc)?;
-    let monitor = Monitor::new(alloc, &setup)?;
     let script = LiveScript {
         seed: 42,
-        setup,
+        setup: one_page(alloc)?,
         passes: 1,
         workers: PlainList::new(alloc),
         controllers: PlainList::new(alloc),
     };
+    // In a box, so that the prover has few parts of it to look at.
+    let script = Box::new(alloc, script)?;
+    let monitor = Monitor::new(alloc, &script.setup)?;
     let (journal, receipts) = (Journal::empty(alloc), PlainList::new(alloc));
     let mut out = Vec::new(alloc);
-    journal_text(alloc, &mut out, &script, &journal, &receipts, &monitor)?;
+    journal_text(alloc, &mut out, &*script, &journal, &receipts, &monitor)?;
     let text = "damon journal 2
 seed 42
 unit 1

@@ -104,6 +104,15 @@ impl PageWords {
         steps::touch(&self.table, &mut seat.seat, page)
     }
 
+    /// Reads the word of a page and tells nothing of it, which is no step of a seat. A processor waits for
+    /// the words of many reads at once, but for those of clears one by one: so a pass whose pages lie far
+    /// apart takes half the time where their words are read first.
+    pub fn peek(&self, page: u32)
+        requires { page < self.now.words }
+    {
+        let _word = self.table.shared.peek(page as usize);
+    }
+
     /// Clears a page in a pass, and returns its old word, which tells the same as a word returned by
     /// [`PageWords::load`]. The pass is 1 to 2^62 and at least that of each earlier clear.
     pub fn clear(&self, seat: &mut MonitorSeat, page: u32, pass: u64) -> u64

@@ -1,5 +1,5 @@
 ghost use Rattle.std.specs.Prelude.{◌≡◌, ◌+◌, ◌%◌, ◌^◌, ◌≤◌, ◌<◌, ◌++◌, ◌∷◌, [], ℕ, List, Some, suc, false, length, take, slice_get, slice_set, replicate, IfOk, vec_len, vec_capacity};
-ghost use Rattle.std.specs.List.{AllByRecursion, list_any};
+ghost use Rattle.std.specs.List.{AllByRecursion, count_by, list_any};
 ghost use Rattle.rand_core.specs.Stream.{Stream};
 ghost use Rattle.sampler.specs.Draws.{drawn, drawn_rest};
 ghost use Rattle.sampler.specs.Pick.{ArePlacesOf, PickList, picks_of};
@@ -112,6 +112,16 @@ impl Picks {
         ensures { self.new ≡ record self.old { bits = slice_set self.old.bits k hit } }
     {
         self.bits[k as usize] = hit;
+    }
+
+    /// Records the checks of all picks, with a result for each, and returns how many are hits.
+    pub fn set_all(&mut self, hits: &[bool]) -> u32
+        requires { length hits.now ≡ length self.old.pages }
+        ensures bits { self.new ≡ record self.old { bits = hits.now } }
+        ensures hits { result ≡ count_by (λ hit. hit) hits.now }
+    {
+        self.bits.copy_from_slice(hits);
+        hits_in(hits)
     }
 
     /// Records the checks of the `count` picks that begin with pick `from`, each with the mark of its page
@@ -377,6 +387,18 @@ fn clear_bits(bits: &mut Vec<bool>, count: u32)
     for _ in bits.len()..count as usize {
         bits.push_reserved(false);
     }
+}
+
+// How many of these are hits.
+fn hits_in(bits: &[bool]) -> u32
+    requires { length bits.now < 2 ^ 32 }
+    ensures { result ≡ count_by (λ hit. hit) bits.now }
+{
+    let mut hits = 0;
+    for bit in bits {
+        hits += u32::from(*bit);
+    }
+    hits
 }
 
 // Whether one of these is true. All are looked at, so that it takes a few instructions for many of them.

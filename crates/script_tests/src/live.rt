@@ -19,7 +19,10 @@ fn live_scripts_are_read(rt: HostRuntime) -> Result<(), Fail> {
     let more = b"passes 1\nworker\ntouch 0 0x10000\ntouch 0 0x10000\ncontroller\nshow\nend\n";
     let text = live_text(rt.alloc(), more)?;
     assert!(rt; text.len() <= MAX_BYTES);
-    let script = read_live(rt.alloc(), &text).ok().ok_or("no live script")?;
+    let script = Box::new(
+        rt.alloc(),
+        read_live(rt.alloc(), &text).ok().ok_or("no live script")?,
+    )?;
     assert_eq!(rt; (script.seed, script.setup.unit, script.passes), (42, 1, 1));
     assert_eq!(rt; script.workers.len(), 1);
     assert_eq!(rt; script.workers.get(0).as_slice(), [0, 0].as_slice());

@@ -36,13 +36,14 @@ fn text_of(alloc: Global, lines: &[&[u8]]) -> Result<Vec<u8>, Fail> {
     Ok(text)
 }
 
-// The script of version Two with the setup above and no command.
-fn script(rt: &(impl Abort + AllocGlobal)) -> Result<Script, Fail> {
+// The script of version Two with the setup above and no command, in a box for the prover's sake.
+fn script(rt: &(impl Abort + AllocGlobal)) -> Result<Box<Script>, Fail> {
     let mut text = text_of(rt.alloc(), &[b"damon script 2\n"])?;
     text.extend_from_slice(&text_of(rt.alloc(), &SETUP)?)?;
     text.extend_from_slice(b"begin\nend\n")?;
     assert!(rt; text.len() <= MAX_BYTES);
-    Ok(read_script(rt.alloc(), &text).ok().ok_or("no script")?)
+    let script = read_script(rt.alloc(), &text).ok().ok_or("no script")?;
+    Ok(Box::new(rt.alloc(), script)?)
 }
 
 #[test]

@@ -1,4 +1,4 @@
-use Rattle.std.proofs.Common.{◌≡◌, ℕ, ◌-◌, ◌<◌, ◌≤◌, vec_len}
+use Rattle.std.proofs.Common.{◌≡◌, ℕ, ◌-◌, ◌≤◌, vec_len}
 use Rattle.std.specs.Prelude.{slice_index, vec_capacity}
 use Rattle.damon_journal.proofs.receipt_list.keep_high.Given as goal
 

@@ -33,39 +33,55 @@ use Rattle.damon_core.proofs.monitor.Monitor.aggregate.Goals as goal
 pub serve-requires : goal.serve-requires
 serve-requires c =
     let i = c.self.inside in
-    let v = c.self.invariant in
+    let s = c.deref_mut-sampling.result.now in
+    let at = c.deref_mut-sampling.ensures.value in
+    let e = c.deref_mut-engine.result.now in
+    let e_at = c.deref_mut-engine.ensures.value in
+    let b = c.deref_mut-report.result.now in
+    let b_at = c.deref_mut-report.ensures.value in
+    let view = ap (λ x. shown i.version i.space i.attrs x i.clock i.totals (report_value b) e.slots) at ∙ ap (λ x. shown i.version i.space i.attrs i.sampling.value i.clock i.totals (report_value x) e.slots) b_at ∙ ap (λ x. shown i.version i.space i.attrs i.sampling.value i.clock i.totals (report_value i.report.value) x.slots) e_at ∙ c.self.view_is in
+    let kept = subst (λ x. IsMonitor i.space i.attrs s i.clock i.totals b x) (sym e_at) (subst (λ x. IsMonitor i.space i.attrs s i.clock i.totals x i.engine.value) (sym b_at) (subst (λ x. IsMonitor i.space i.attrs x i.clock i.totals i.report.value i.engine.value) (sym at) c.self.invariant)) in
+    let v = kept in
     let now = c.merge-threshold.ensures.merged in
     let r = c.merge-threshold.new.self.regions in
     let len = c.len-merged.ensures in
-    let same_cap : r.cap ≡ i.sampling.regions.cap = ap (λ (s : SamplingView). s.regions.cap) now in
+    let same_cap : r.cap ≡ s.regions.cap = ap (λ (s : SamplingView). s.regions.cap) now in
     let within = subst (AreWithin i.space) (sym (ap (λ (s : SamplingView). s.regions.ranges) now)) v.ranges_in in
     let tiled = subst AreTiled c.regions-2.ensures.regions (tiled_by_len _ c.len-merged.result len.len len.few len.unit len.order len.tiling) in
-    let due : i.sampling.phase ≡ Due = ap (λ (m : MonitorView). m.core.phase) c.self.view_is ∙ c.requires.due in
+    let due : s.phase ≡ Due = ap (λ (m : MonitorView). m.core.phase) view ∙ c.requires.due in
     let t : ℕ = i.clock.ticks - i.clock.since in
-    let bounded = c.served_slots_are_kept.ensures.bounded 0 i.attrs.aggr i.clock.ticks t i.space r i.engine.slots tiled within c.targets-targets.ensures.sound v.serving.served in
+    let bounded = c.served_slots_are_kept.ensures.bounded 0 i.attrs.aggr i.clock.ticks t i.space r e.slots tiled within c.targets-targets.ensures.sound v.serving.served in
     record {
       phase = subst IsBetween (sym (ap (λ (s : SamplingView). s.phase) now ∙ due)) tt;
       within = within;
       aggr = v.attrs_sound.aggr_some;
       engine = same_cap ∙ v.engine_room;
       room = same_cap ∙ v.applied_room;
-      windows = (c.served_slots_are_kept.ensures.begun i.clock.ticks i.clock.ticks i.engine.slots (omega arith) v.serving.windows).1;
-      fits = c.served_slots_are_kept.ensures.fits (t + 1) (slots_served 0 i.space i.attrs.aggr i.clock.ticks r i.engine.slots).slots (omega (arith, v.serving.ticks_few)) bounded;
+      windows = (c.served_slots_are_kept.ensures.begun i.clock.ticks i.clock.ticks e.slots (omega arith) v.serving.windows).1;
+      fits = c.served_slots_are_kept.ensures.fits (t + 1) (slots_served 0 i.space i.attrs.aggr i.clock.ticks r e.slots).slots (omega (arith, v.serving.ticks_few)) bounded;
     }
 
 pub invariant_of-self : goal.invariant_of-self
 invariant_of-self c =
-    let v = c.self.invariant in
     let i = c.self.inside in
+    let s = c.deref_mut-sampling.result.now in
+    let at = c.deref_mut-sampling.ensures.value in
+    let e = c.deref_mut-engine.result.now in
+    let e_at = c.deref_mut-engine.ensures.value in
+    let b = c.deref_mut-report.result.now in
+    let b_at = c.deref_mut-report.ensures.value in
+    let view = ap (λ x. shown i.version i.space i.attrs x i.clock i.totals (report_value b) e.slots) at ∙ ap (λ x. shown i.version i.space i.attrs i.sampling.value i.clock i.totals (report_value x) e.slots) b_at ∙ ap (λ x. shown i.version i.space i.attrs i.sampling.value i.clock i.totals (report_value i.report.value) x.slots) e_at ∙ c.self.view_is in
+    let kept = subst (λ x. IsMonitor i.space i.attrs s i.clock i.totals b x) (sym e_at) (subst (λ x. IsMonitor i.space i.attrs s i.clock i.totals x i.engine.value) (sym b_at) (subst (λ x. IsMonitor i.space i.attrs x i.clock i.totals i.report.value i.engine.value) (sym at) c.self.invariant)) in
+    let v = kept in
     let old = c.merge-threshold.new.self in
     let now = c.merge-threshold.ensures.merged in
     let r = old.regions in
     let len = c.len-merged.ensures in
-    let o : Served = slots_served 0 i.space i.attrs.aggr i.clock.ticks r i.engine.slots in
+    let o : Served = slots_served 0 i.space i.attrs.aggr i.clock.ticks r e.slots in
     let next = c.serve.new.self.regions in
     let served = ap (λ (s : SamplingView). s.regions) c.serve.ensures.rows in
     let seen = c.regions-rows.ensures.regions in
-    let same_cap : next.cap ≡ i.sampling.regions.cap = ap (λ (x : RegionList). x.cap) served ∙ ap (λ (s : SamplingView). s.regions.cap) now in
+    let same_cap : next.cap ≡ s.regions.cap = ap (λ (x : RegionList). x.cap) served ∙ ap (λ (s : SamplingView). s.regions.cap) now in
     let within = subst (AreWithin i.space) (sym (ap (λ (s : SamplingView). s.regions.ranges) now)) v.ranges_in in
     let ranges_in = subst (AreWithin i.space) (sym (ap (λ (x : RegionList). x.ranges) served)) within in
     let tiled = subst AreTiled c.regions-2.ensures.regions (tiled_by_len _ c.len-merged.result len.len len.few len.unit len.order len.tiling) in
@@ -74,11 +90,11 @@ invariant_of-self c =
     let rows = rows_in i.space next.ranges next.unit next.rows unit ranges_in tiles in
     let told = c.rows.ensures.rows ∙ ap (λ (x : RegionList). x.rows) seen in
     let t : ℕ = i.clock.ticks - i.clock.since in
-    let bounded = c.served_slots_are_kept.ensures.bounded 0 i.attrs.aggr i.clock.ticks t i.space r i.engine.slots tiled within c.targets-targets.ensures.sound v.serving.served in
-    let windows = c.served_slots_are_kept.ensures.windows 0 i.attrs.aggr i.clock.ticks i.space r i.engine.slots v.serving.windows in
-    let due : i.sampling.phase ≡ Due = ap (λ (m : MonitorView). m.core.phase) c.self.view_is ∙ c.requires.due in
+    let bounded = c.served_slots_are_kept.ensures.bounded 0 i.attrs.aggr i.clock.ticks t i.space r e.slots tiled within c.targets-targets.ensures.sound v.serving.served in
+    let windows = c.served_slots_are_kept.ensures.windows 0 i.attrs.aggr i.clock.ticks i.space r e.slots v.serving.windows in
+    let due : s.phase ≡ Due = ap (λ (m : MonitorView). m.core.phase) view ∙ c.requires.due in
     let since = subst (λ (ph : Phase). SinceFew ph i.clock.since) due v.since_few in
-    let runs = recursion_from_All (IsRunIn i.space) o.runs (c.served_slots_are_kept.ensures.space 0 i.attrs.aggr i.clock.ticks i.space r i.engine.slots tiled within) in
+    let runs = recursion_from_All (IsRunIn i.space) o.runs (c.served_slots_are_kept.ensures.space 0 i.attrs.aggr i.clock.ticks i.space r e.slots tiled within) in
     let report : c.set.new.self ≡ record c.serve.new.report { tick = i.clock.ticks; threshold = c.merge-threshold.result; rows = record c.serve.new.report.rows { rows = c.rows.result.now.rows } } = c.set.ensures in
     subst (λ x. IsMonitor i.space i.attrs x (record { ticks = i.clock.ticks; since = 0 }) i.totals c.set.new.self c.serve.new.engine) (sym c.split.ensures.split) (record {
       attrs_sound = v.attrs_sound;
@@ -100,24 +116,31 @@ invariant_of-self c =
 
 pub returns-clause-event : goal.returns-clause-event
 returns-clause-event c =
-    let m = c.args.self.now in
     let i = c.self.inside in
+    let s = c.deref_mut-sampling.result.now in
+    let at = c.deref_mut-sampling.ensures.value in
+    let e = c.deref_mut-engine.result.now in
+    let e_at = c.deref_mut-engine.ensures.value in
+    let b = c.deref_mut-report.result.now in
+    let b_at = c.deref_mut-report.ensures.value in
+    let view = ap (λ x. shown i.version i.space i.attrs x i.clock i.totals (report_value b) e.slots) at ∙ ap (λ x. shown i.version i.space i.attrs i.sampling.value i.clock i.totals (report_value x) e.slots) b_at ∙ ap (λ x. shown i.version i.space i.attrs i.sampling.value i.clock i.totals (report_value i.report.value) x.slots) e_at ∙ c.self.view_is in
+    let m = c.args.self.now in
     let ws = c.args.words.now in
-    let core : Core = (shown i.version i.space i.attrs i.sampling i.clock i.totals (report_value i.report) i.engine.slots).core in
+    let core : Core = (shown i.version i.space i.attrs s i.clock i.totals (report_value b) e.slots).core in
     let len = c.len-merged.ensures in
     let limit : c.merge_limit-limit.result ≡ merge_limit core = c.merge_limit-limit.ensures ∙ ap (λ (x : RegionList). max x.unit (page_total x.ranges / i.attrs.min)) c.regions.ensures.regions in
     let merged = merged_is core c.merge-threshold.new.self.regions c.merge-threshold.result c.merge_limit-limit.result (ap (λ (s : SamplingView). s.regions) c.merge-threshold.ensures.merged) c.merge-threshold.ensures.threshold limit in
     let tiled = subst AreTiled (c.regions-2.ensures.regions ∙ merged) (tiled_by_len _ c.len-merged.result len.len len.few len.unit len.order len.tiling) in
-    let here = subst (λ (x : MonitorView). AreTiled (merged_regions x.core)) c.self.view_is tiled in
+    let here = subst (λ (x : MonitorView). AreTiled (merged_regions x.core)) view tiled in
     let laws : OutcomeLaws = record { tiled = c.outcome_rows_are_kept.ensures.tiled; sum = c.outcome_runs_are_taken.ensures.sum } in
     let told = c.rows.ensures.rows ∙ ap (λ (x : RegionList). x.rows) c.regions-rows.ensures.regions in
-    let after = aggregated_view i.version i.space i.attrs i.clock i.totals ws i.sampling c.merge-threshold.new.self c.serve.new.self c.split.new.self (report_value i.report) (report_value c.serve.new.report) (report_value c.set.new.self) i.engine.slots c.serve.new.engine.slots c.merge-threshold.result
-    (c.merge-threshold.ensures.merged ∙ ap (λ (r : RegionList). record i.sampling { regions = r }) (sym (ap (λ (s : SamplingView). s.regions) c.merge-threshold.ensures.merged) ∙ merged))
+    let after = aggregated_view i.version i.space i.attrs i.clock i.totals ws s c.merge-threshold.new.self c.serve.new.self c.split.new.self (report_value b) (report_value c.serve.new.report) (report_value c.set.new.self) e.slots c.serve.new.engine.slots c.merge-threshold.result
+    (c.merge-threshold.ensures.merged ∙ ap (λ (r : RegionList). record s { regions = r }) (sym (ap (λ (s : SamplingView). s.regions) c.merge-threshold.ensures.merged) ∙ merged))
     c.serve.ensures.rows
     (ap (λ (e : EngineValue). e.slots) c.serve.ensures.slots)
     (ap report_value c.serve.ensures.applied)
     c.merge-threshold.ensures.threshold
     (ap report_value c.set.ensures ∙ ap (λ (rows : List Row). with_kept i.clock.ticks c.merge-threshold.result rows (report_value c.serve.new.report)) told)
     c.split.ensures.split in
-    subst (λ (x : MonitorView). Makes Stands m x (aggregate ws ∷ [])) (sym (after ∙ ap (after_aggregate ws) c.self.view_is))
+    subst (λ (x : MonitorView). Makes Stands m x (aggregate ws ∷ [])) (sym (after ∙ ap (after_aggregate ws) view))
     (aggregate_makes laws m ws here c.requires.due c.requires.words)

@@ -12,9 +12,12 @@ use Rattle.damon_core.proofs.monitor.Monitor.cleared_next.Goals as goal
 pub returns-clause-events : goal.returns-clause-events
 returns-clause-events c =
     let i = c.self.inside in
+    let s = c.deref_mut.result.now in
+    let at = c.deref_mut.ensures.value in
+    let view = ap (λ x. shown i.version i.space i.attrs x i.clock i.totals (report_value i.report.value) i.engine.value.slots) at ∙ c.self.view_is in
     let m = c.args.self.now in
     let n = c.args.count in
-    let is : shown i.version i.space i.attrs c.clear.new.self i.clock i.totals (report_value i.report) i.engine.slots ≡ after_clears n m =
-    ap (λ x. shown i.version i.space i.attrs x i.clock i.totals (report_value i.report) i.engine.slots) c.clear.ensures.cleared ∙ ap (after_clears n) c.self.view_is in
-    let some = subst (λ (x : MonitorView). clear_index x.core.phase < row_count x.core) c.self.view_is c.clear.ensures.some in
+    let is : shown i.version i.space i.attrs c.clear.new.self i.clock i.totals (report_value i.report.value) i.engine.value.slots ≡ after_clears n m =
+    ap (λ x. shown i.version i.space i.attrs x i.clock i.totals (report_value i.report.value) i.engine.value.slots) c.clear.ensures.cleared ∙ ap (after_clears n) view in
+    let some = subst (λ (x : MonitorView). clear_index x.core.phase < row_count x.core) view c.clear.ensures.some in
     subst (λ x. Makes Stands m x (clears n)) (sym is) (clears_make m n c.requires.phase some c.requires.within)

@@ -44,7 +44,7 @@ invariant_of-result c =
     let v = value_of c.args.setup.now in
     let sound = c.args.setup.now.sound in
     let made : c.in_ok-regions.regions ≡ (opening_core v).regions = c.in_ok-regions.ensures in
-    subst (λ x. IsMonitor c.in_ok-space.space v.attrs x (record { ticks = 0; since = 0 }) (record { checks = 0; hits = 0 }) c.in_ok-report.report c.in_ok-engine.engine) (sym c.in_ok-sampling.ensures) (record {
+    subst (λ x. IsMonitor c.in_ok-space.space v.attrs x (record { ticks = 0; since = 0 }) (record { checks = 0; hits = 0 }) c.in_ok-report.report.value c.in_ok-engine.engine.value) (sym c.in_ok-sampling.ensures) (record {
       attrs_sound = sound.attrs;
       max = ap (λ (x : RegionList). x.max) made;
       cap_few = omega (arith, sound.cap_most, ap (λ (x : RegionList). x.cap) made);
@@ -59,7 +59,7 @@ invariant_of-result c =
       report_in = subst (λ (r : Report). RowsLieIn c.in_ok-space.space r.rows.rows) (sym c.in_ok-report.ensures) (tt {0});
       runs_in = subst (λ (r : Report). AllByRecursion (IsRunIn c.in_ok-space.space) r.applied.runs) (sym c.in_ok-report.ensures) (tt {0});
       engine_room = omega (arith, ap (λ (x : RegionList). x.cap) made, c.in_ok-engine.ensures.cap);
-      serving = serving_opens c.in_ok-engine.engine.slots c.in_ok-engine.ensures.new;
+      serving = serving_opens c.in_ok-engine.engine.value.slots c.in_ok-engine.ensures.new;
     })
 
 pub returns-clause-opening : goal.returns-clause-opening
@@ -69,12 +69,12 @@ returns-clause-opening c =
     let made : c.in_ok-regions.regions ≡ (opening_core v).regions = c.in_ok-regions.ensures in
     let report = ap report_value c.in_ok-report.ensures in
     let bits = ap (λ (s : SamplingView). s.bits) c.in_ok-sampling.ensures in
-    let core : List Target → SamplingView → ReportValue → Core = λ ts s r. (shown v.version ts v.attrs s (record { ticks = 0; since = 0 }) (record { checks = 0; hits = 0 }) r c.in_ok-engine.engine.slots).core in
+    let core : List Target → SamplingView → ReportValue → Core = λ ts s r. (shown v.version ts v.attrs s (record { ticks = 0; since = 0 }) (record { checks = 0; hits = 0 }) r c.in_ok-engine.engine.value.slots).core in
     let start : RegionList → SamplingView = λ rs. record { regions = rs; phase = Idle; picks = []; bits = []; before = 0 } in
     record {
-      same = ap (λ (ts : List Target). core ts c.in_ok-sampling.sampling (report_value c.in_ok-report.report)) space ∙ ap (λ (s : SamplingView). core v.space s (report_value c.in_ok-report.report)) (c.in_ok-sampling.ensures ∙ ap start made) ∙ ap (λ (r : ReportValue). core v.space (start (opening_core v).regions) r) report;
+      same = ap (λ (ts : List Target). core ts c.in_ok-sampling.sampling.value (report_value c.in_ok-report.report.value)) space ∙ ap (λ (s : SamplingView). core v.space s (report_value c.in_ok-report.report.value)) (c.in_ok-sampling.ensures ∙ ap start made) ∙ ap (λ (r : ReportValue). core v.space (start (opening_core v).regions) r) report;
       each = ap (λ (s : SamplingView). length s.bits) c.in_ok-sampling.ensures ∙ sym (ap (λ (s : SamplingView). length s.picks) c.in_ok-sampling.ensures);
-      results = λ k. (ap (λ bs. bit_at bs k) bits ∙ opening_holds (λ ns. false ≡ was_hit ns (last_pass c.in_ok-sampling.sampling.phase 0) k) refl (λ slot scheme ns none. none) v);
+      results = λ k. (ap (λ bs. bit_at bs k) bits ∙ opening_holds (λ ns. false ≡ was_hit ns (last_pass c.in_ok-sampling.sampling.value.phase 0) k) refl (λ slot scheme ns none. none) v);
       checks = opening_holds (λ ns. 0 ≡ checks_made ns) refl (λ slot scheme ns none. none) v;
       hits = opening_holds (λ ns. 0 ≡ hits_made ns) refl (λ slot scheme ns none. none) v;
       slots = c.in_ok-engine.ensures.slots;

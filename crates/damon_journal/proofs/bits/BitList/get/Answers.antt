@@ -1,6 +1,6 @@
-use Rattle.std.proofs.Common.{◌≡◌, ◌+◌, ◌<◌, ◌≤◌, Bool, length, List, rules, sym, ap, ◌∙◌, subst, arith}
+use Rattle.std.proofs.Common.{◌≡◌, ◌+◌, ◌<◌, Bool, length, List, rules, sym, ap, ◌∙◌, arith}
 use Rattle.std.specs.Prelude.{slice_index_or, vec_len}
-use Rattle.damon_journal.specs.Bits.{bits_in, place_of, used_bits}
+use Rattle.damon_journal.specs.Bits.{place_of, used_bits}
 use Rattle.damon_journal.proofs.Packing.{length_bits, read_at}
 use Rattle.damon_journal.proofs.bits.BitList.get.Goals as goal
 

@@ -1,7 +1,6 @@
-use Rattle.std.proofs.Common.{◌≡◌, ◌∙◌, ◌-◌, List, [], ◌∷◌, ◌++◌, ap}
+use Rattle.std.proofs.Common.{◌∙◌, ◌-◌, List, [], ◌∷◌, ◌++◌, ap}
 use Rattle.damon_types.specs.Listed.{Listed}
 use Rattle.damon_journal.specs.declared.entry.Receipt.{Receipt}
-use Rattle.damon_journal.specs.ReceiptColumns.{receipts_in}
 use Rattle.damon_journal.proofs.ReceiptColumns.{receipt_put}
 use Rattle.damon_journal.proofs.receipt_list.ReceiptList.put.Goals as goal
 

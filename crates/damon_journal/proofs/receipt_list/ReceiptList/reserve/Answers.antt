@@ -1,4 +1,4 @@
-use Rattle.std.proofs.Common.{◌≡◌, ◌∙◌, ◌+◌, ◌-◌, ℕ, ◌<◌, ◌≤◌, List, Some, length, sym, ap, arith}
+use Rattle.std.proofs.Common.{length, ap, arith}
 use Rattle.damon_types.specs.Listed.{Listed}
 use Rattle.damon_journal.specs.declared.entry.Receipt.{Receipt}
 use Rattle.damon_journal.proofs.ReceiptColumns.{receipts_count}

@@ -5,11 +5,12 @@ use Rattle.damon_core.specs.Event.{IsLoading, load}
 use Rattle.damon_core.specs.Makes.{Makes}
 use Rattle.damon_core.specs.Stands.{Stands}
 use Rattle.damon_core.specs.State.{Core, row_count}
+use Rattle.damon_journal.specs.Bits.{run_of}
 use Rattle.damon_journal.proofs.Loading.{core_loaded, events_loaded, loading_phase}
-use Rattle.damon_journal.proofs.replaying.load_all.Goals as goal
+use Rattle.damon_journal.proofs.bits.load_each.Goals as goal
 
 pub loaded-requires : goal.loaded-requires
-loaded-requires g c =
+loaded-requires c =
     let k : ℕ = c.loop-k.k in
     let rows = row_count c.args.monitor.now.core in
     let all : c.len-k-end.result ≡ rows = c.len-k-end.ensures.len ∙ ap (λ (r : RegionList). length r.rows) c.rows.ensures.rows in
@@ -17,10 +18,10 @@ loaded-requires g c =
     subst (λ (d : Core). IsLoading d.phase (row_count d)) (sym c.loop-k.invariant.0) (loading_phase k rows below)
 
 pub loop-k-preserved : goal.loop-k-preserved
-loop-k-preserved g c =
+loop-k-preserved c =
     let k : ℕ = c.loop-k.k in
     let m = c.args.monitor.now in
-    let bits : List Bool = g.B.CheckResults.results c.args.bits.now in
+    let bits : List Bool = run_of c.args.bits.now.list.now c.args.bits.now.start c.args.bits.now.count in
     let all : c.len-k-end.result ≡ row_count m.core = c.len-k-end.ensures.len ∙ ap (λ (r : RegionList). length r.rows) c.rows.ensures.rows in
     let here : k < length bits = omega (arith, all, c.loop-k-test.true, c.requires.each) in
     let bit = get_or bits k false in
