@@ -43,7 +43,8 @@ Table = Dict[str, Dict[str, float]]
 
 def gate() -> List[str]:
     """The command that proves everything from nothing, as this version of the toolchain spells it."""
-    said = subprocess.run(["rt", "help"], capture_output=True, text=True).stdout
+    # Some versions print their help as an error.
+    said = subprocess.run(["rt", "help"], stdout=subprocess.PIPE, stderr=subprocess.STDOUT, text=True).stdout
     return ["rt", "ci", "--anew"] if "--anew" in said else ["rt", "ci"]
 
 

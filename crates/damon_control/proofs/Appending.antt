@@ -32,5 +32,9 @@ without_end n text line count is =
     let size : n - 1 ≡ length line = omega (arith, count, ap length is, length-append line (10 ∷ [])) in
     (λ i. take (size i) (is i)) ∙ take-append_seam line (10 ∷ [])
 
+-- the same, by the last step first, of which the new text leaves the search no choice
+pub keeps_before : (a b c : List ℕ) → KeepsFront b c → KeepsFront a b → KeepsFront a c
+keeps_before a b c second first = keeps_through a b c first second
+
 -- what several appends keep and what they append
-pub ruleset appends = (keeps_self, keeps-append, keeps_through, IfOk-equal, append_assoc)
+pub ruleset appends = (keeps_self, keeps-append, keeps_before, IfOk-equal, append_assoc)

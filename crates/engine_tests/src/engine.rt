@@ -174,39 +174,37 @@ fn the_oldest_pages_are_taken_first(rt: HostRuntime) -> Result<(), Fail> {
     let mut scene = new_scene(&rt, rt.alloc())?;
     scene.set(oldest_first());
     scene.run();
-    assert_eq!(rt;
-        scene.applied.runs(),
-        [run(4, 2, 90), run(0, 1, 50)].as_slice()
-    );
-    assert_eq!(rt;
-        scene.applied.choices(),
-        [SlotChoice {
-            slot: 3,
-            active: true,
-            left: Some(3),
-            taken: 3,
-            lowest: Some(50),
-        }]
-        .as_slice()
-    );
+    let choice = SlotChoice {
+        slot: 3,
+        active: true,
+        left: Some(3),
+        taken: 3,
+        lowest: Some(50),
+    };
+    let view = SlotView {
+        action: Action::Pageout,
+        active: true,
+        window: Window {
+            start: 0,
+            charged: 3,
+        },
+        tried: 3,
+        applied: 3,
+        exceeds: 1,
+    };
     assert_eq!(rt; scene.regions.len(), 4);
-    assert_eq!(rt; scene.regions.row(0), row(0, 1, 0));
-    assert_eq!(rt; scene.regions.row(1), row(1, 1, 50));
-    assert_eq!(rt; scene.regions.row(2), row(2, 2, 50));
-    assert_eq!(rt; scene.regions.row(3), row(4, 2, 0));
+    let (applied, rows) = (&scene.applied, &scene.regions);
     assert_eq!(rt;
-        scene.engine.slot(3),
-        Some(SlotView {
-            action: Action::Pageout,
-            active: true,
-            window: Window {
-                start: 0,
-                charged: 3,
-            },
-            tried: 3,
-            applied: 3,
-            exceeds: 1,
-        })
+        (applied.runs(), applied.choices(), scene.engine.slot(3)),
+        (
+            [run(4, 2, 90), run(0, 1, 50)].as_slice(),
+            [choice].as_slice(),
+            Some(view)
+        )
+    );
+    assert_eq!(rt;
+        [rows.row(0), rows.row(1), rows.row(2), rows.row(3)],
+        [row(0, 1, 0), row(1, 1, 50), row(2, 2, 50), row(4, 2, 0)]
     );
     Ok(())
 }

@@ -52,7 +52,7 @@ pub(crate) fn hex_value(byte: u8) -> Option<u8>
 /// Writes the spelling of an address so that it ends before index `end`, and returns the index of
 /// its first byte, at least `end - 18`. The bytes before that index and from `end` on are
 /// unchanged.
-#[inline]
+#[inline(always)]
 #[tactic(auto, using(crate::proofs::Hex::length_hex_le))]
 pub fn address_before(bytes: &mut [u8], end: usize, value: u64) -> usize
     requires room { 18 ≤ end }

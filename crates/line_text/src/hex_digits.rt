@@ -7,7 +7,7 @@ static PAIRS: [u8; 512] =
 
 // Writes the hexadecimal digits of a number so that they end before index `end`, and returns the
 // index of the first.
-#[inline]
+#[inline(always)]
 #[tactic(auto, using(crate::proofs::HexPairs::length_hex_four))]
 pub(crate) fn write_hex(value: u64, bytes: &mut [u8], end: usize) -> usize
     requires room { length (digits 16 false value) ≤ end }

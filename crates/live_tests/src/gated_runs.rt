@@ -111,8 +111,7 @@ fn expect_journal<R: Threads + Wait + Sync + Abort + AllocGlobal, P: Pace + Sync
     let mut source = MemSource::new(script);
     let mut sink = MemSink::new(alloc, 4_096)?;
     let LiveEnd { status, .. } = live_main(rt, alloc, &words, &mut source, &mut sink, pace);
-    assert_eq!(rt; status, Status::Ok);
-    assert_eq!(rt; sink.bytes(), journal);
+    assert_eq!(rt; (status, sink.bytes()), (Status::Ok, journal));
     Ok(())
 }
 

@@ -6,12 +6,15 @@ use std::test::Fail;
 fn a_word_by_hand(rt: HostRuntime) -> Result<(), Fail> {
     let WordsAndSeat { words, mut seat } = PageWords::new(rt.alloc(), 1)?;
     let mut touch = words.split(&mut seat, 0);
-    assert_eq!(rt; words.touch(&mut touch, 0), 0);
-    assert_eq!(rt; words.clear(&mut seat, 0, 3), 1);
-    assert_eq!(rt; words.touch(&mut touch, 0), 3);
-    assert_eq!(rt; words.load(&mut seat, 0), 7);
+    let seen = [
+        words.touch(&mut touch, 0),
+        words.clear(&mut seat, 0, 3),
+        words.touch(&mut touch, 0),
+        words.load(&mut seat, 0),
+    ];
     words.gather(&mut seat, touch);
-    assert_eq!(rt; words.settle(seat).word(0), 7);
+    let left = words.settle(seat).word(0);
+    assert_eq!(rt; (seen, left), ([0, 1, 3, 7], 7));
     Ok(())
 }
 
@@ -21,10 +24,13 @@ fn a_gathered_touch_shows(rt: HostRuntime) -> Result<(), Fail> {
     let WordsAndSeat { words, mut seat } = PageWords::new(rt.alloc(), 3)?;
     let mut one = words.split(&mut seat, 1);
     let mut two = words.split(&mut seat, 2);
-    assert_eq!(rt; words.clear(&mut seat, 2, 1), 0);
-    assert_eq!(rt; words.touch(&mut one, 2), 1);
-    assert_eq!(rt; words.touch(&mut two, 2), 1);
+    let seen = [
+        words.clear(&mut seat, 2, 1),
+        words.touch(&mut one, 2),
+        words.touch(&mut two, 2),
+    ];
     words.gather(&mut seat, one);
-    assert_eq!(rt; words.load(&mut seat, 2), 3);
+    let loaded = words.load(&mut seat, 2);
+    assert_eq!(rt; (seen, loaded), ([0, 1, 1], 3));
     Ok(())
 }

@@ -6,6 +6,7 @@ use crate::{WORD, ones_between};
 
 /// Sets the bits of the pages of a run, which have words, or clears them: each becomes `now`. Returns how
 /// many of them were not so.
+#[inline]
 pub fn put_bits_of_run(words: &mut [u64], start: u32, pages: u32, now: bool) -> u32
     requires sum { start + pages < 2 ^ 32 }
     requires within { start + pages ≤ 64 * length words.old }
@@ -24,7 +25,8 @@ pub fn put_bits_of_run(words: &mut [u64], start: u32, pages: u32, now: bool) -> 
     head + whole + tail
 }
 
-// The same for the words from `from` to before `to`.
+// The same for the words from `from` to before `to`. Where nobody asks for the count, the loop is a plain fill.
+#[inline]
 fn put_words(words: &mut [u64], from: u32, to: u32, now: bool) -> u32
     requires order { from ≤ to }
     requires sum { 64 * to < 2 ^ 32 }
@@ -66,6 +68,7 @@ fn put_bits(word: &mut u64, mask: u64, now: bool) -> u32
 }
 
 // The word in which each bit is `now`.
+#[inline(always)]
 fn all_bits(now: bool) -> u64
     ensures { result ≡ (if now then 2 ^ 64 - 1 else 0) }
 {

@@ -1,4 +1,4 @@
-//! Tests of the crates of types, bits, texts, rows, setups and heat tables: their public calls on the usual
+//! Tests of the crates of types, bits, texts, setups and heat tables: their public calls on the usual
 //! path, and what no clause says. They stand in a crate of their own, since a crate with tests is proved
 //! twice.
 #![tactic(auto)]
@@ -6,9 +6,6 @@
 /// The text of heat tables.
 #[cfg(test)]
 mod heat_texts;
-/// Rows that tile their ranges.
-#[cfg(test)]
-mod rows;
 /// Sets of bits.
 #[cfg(test)]
 mod sets;

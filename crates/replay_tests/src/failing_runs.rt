@@ -1,7 +1,7 @@
 // Runs whose input or output fails in the middle. Other whole runs are cases of tests/cases.
 use damon_app::replay_main;
 use damon_journal::Status;
-use damon_types::{FaultSink, FaultSource, MemSource};
+use damon_types::{FaultSink, FaultSource};
 use std::alloc::{AllocError, Global};
 use std::test::Fail;
 
@@ -22,45 +22,49 @@ show
 end
 ";
 
-// The words of a command line that runs a script.
-fn replay_word(alloc: Global) -> Result<Vec<String>, AllocError> {
-    let mut list = Vec::new(alloc);
-    list.push(String::from_str(alloc, "replay")?)?;
-    Ok(list)
+// The status of a run of a script that comes from this source.
+fn replay(
+    alloc: Global,
+    source: &mut FaultSource<'_>,
+    sink: &mut FaultSink<'_>,
+) -> Result<Status, AllocError> {
+    let mut words = Vec::new(alloc);
+    words.push(String::from_str(alloc, "replay")?)?;
+    Ok(replay_main(alloc, &words, source, sink))
 }
 
 #[test]
 fn a_read_of_the_script_fails(rt: HostRuntime) -> Result<(), Fail> {
-    let words = replay_word(rt.alloc())?;
     let mut source = FaultSource::new(SCRIPT, 100, &[2]);
     let mut sink = FaultSink::new(rt.alloc(), 1000, 100, &[])?;
-    let answer = replay_main(rt.alloc(), &words, &mut source, &mut sink);
-    assert_eq!(rt; answer, Status::ReadFault);
-    assert_eq!(rt; (source.calls(), sink.calls()), (2, 0));
+    let answer = replay(rt.alloc(), &mut source, &mut sink)?;
+    assert_eq!(rt;
+        (answer, source.calls(), sink.calls()),
+        (Status::ReadFault, 2, 0)
+    );
     Ok(())
 }
 
 #[test]
 fn a_write_of_the_report_fails(rt: HostRuntime) -> Result<(), Fail> {
-    let words = replay_word(rt.alloc())?;
+    let mut source = FaultSource::new(SCRIPT, 1000, &[]);
     let mut sink = FaultSink::new(rt.alloc(), 1000, 10, &[3])?;
-    let answer = replay_main(rt.alloc(), &words, &mut MemSource::new(SCRIPT), &mut sink);
-    assert_eq!(rt; answer, Status::WriteFault);
-    assert_eq!(rt; sink.bytes(), b"show tick=1 phase=id".as_slice());
+    let answer = replay(rt.alloc(), &mut source, &mut sink)?;
+    let taken = b"show tick=1 phase=id".as_slice();
+    assert_eq!(rt; (answer, sink.bytes()), (Status::WriteFault, taken));
     Ok(())
 }
 
 // The script has 136 bytes. A source of one byte a call gives them in as many calls, and ends in one more.
 #[test]
 fn each_read_that_fails_ends_the_run(rt: HostRuntime) -> Result<(), Fail> {
-    let words = replay_word(rt.alloc())?;
     for failing in 1..138u32 {
         let fails = [failing];
         let mut source = FaultSource::new(SCRIPT, 1, &fails);
         let mut sink = FaultSink::new(rt.alloc(), 1000, 1000, &[])?;
-        let answer = replay_main(rt.alloc(), &words, &mut source, &mut sink);
-        assert_eq!(rt; answer, Status::ReadFault);
-        assert_eq!(rt; (source.calls(), sink.calls()), (failing as u64, 0));
+        let answer = replay(rt.alloc(), &mut source, &mut sink)?;
+        let ended = (Status::ReadFault, failing as u64, 0);
+        assert_eq!(rt; (answer, source.calls(), sink.calls()), ended);
     }
     Ok(())
 }
@@ -68,25 +72,25 @@ fn each_read_that_fails_ends_the_run(rt: HostRuntime) -> Result<(), Fail> {
 // The report has 194 bytes, and a sink of one byte a call takes them in as many calls.
 #[test]
 fn each_write_that_fails_ends_the_run(rt: HostRuntime) -> Result<(), Fail> {
-    let words = replay_word(rt.alloc())?;
     for failing in 1..195u32 {
         let fails = [failing];
+        let mut source = FaultSource::new(SCRIPT, 1000, &[]);
         let mut sink = FaultSink::new(rt.alloc(), 1000, 1, &fails)?;
-        let answer = replay_main(rt.alloc(), &words, &mut MemSource::new(SCRIPT), &mut sink);
-        assert_eq!(rt; answer, Status::WriteFault);
-        assert_eq!(rt; sink.calls(), failing as u64);
-        assert_eq!(rt; sink.bytes().len(), failing as usize - 1);
+        let answer = replay(rt.alloc(), &mut source, &mut sink)?;
+        let ended = (Status::WriteFault, failing as u64, failing as usize - 1);
+        assert_eq!(rt; (answer, sink.calls(), sink.bytes().len()), ended);
     }
     Ok(())
 }
 
 #[test]
 fn calls_beyond_those_do_not_come(rt: HostRuntime) -> Result<(), Fail> {
-    let words = replay_word(rt.alloc())?;
     let mut source = FaultSource::new(SCRIPT, 1, &[138]);
     let mut sink = FaultSink::new(rt.alloc(), 1000, 1, &[195])?;
-    let answer = replay_main(rt.alloc(), &words, &mut source, &mut sink);
-    assert_eq!(rt; answer, Status::Ok);
-    assert_eq!(rt; (source.calls(), sink.calls()), (137, 194));
+    let answer = replay(rt.alloc(), &mut source, &mut sink)?;
+    assert_eq!(rt;
+        (answer, source.calls(), sink.calls()),
+        (Status::Ok, 137, 194)
+    );
     Ok(())
 }

@@ -26,5 +26,9 @@ keeps_through a b c first second =
           ∙ first.front;
     }
 
+-- the same, by the last step first, of which the new text leaves the search no choice
+pub keeps_before : (a b c : List ℕ) → KeepsFront b c → KeepsFront a b → KeepsFront a c
+keeps_before a b c second first = keeps_through a b c first second
+
 -- what several appends keep and what they append
-pub ruleset appends = (keeps_self, keeps-append, keeps_through, IfOk-equal, append_assoc)
+pub ruleset appends = (keeps_self, keeps-append, keeps_before, IfOk-equal, append_assoc)

@@ -1,13 +1,10 @@
-//! Tests of the readers of scripts. They stand in a crate of their own, since a crate with tests is proved
-//! twice.
+//! Tests of what is written of scripts and of their faults. They stand in a crate of their own, since a crate with
+//! tests is proved twice.
 #![tactic(auto)]
 
-/// Live scripts.
+/// How faults are printed.
 #[cfg(test)]
-mod live;
-/// Scripts.
-#[cfg(test)]
-mod scripts;
+mod faults;
 /// What is written of setups and commits.
 #[cfg(test)]
 mod written;

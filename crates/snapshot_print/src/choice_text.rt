@@ -122,6 +122,7 @@ impl LineOf<AppliedRun> for RunLines<'_> {
 
     ghost can_write = { λ lines r. (1 ≤ r.pages) × (r.start + r.pages ≤ pages_of lines.space.now) };
 
+    #[inline(always)]
     fn line_before(&self, bytes: &mut [u8], end: usize, run: &AppliedRun) -> usize {
         let pages = run_before(bytes, end, run, self.space);
         text_before(bytes, pages, self.apply)
@@ -131,6 +132,7 @@ impl LineOf<AppliedRun> for RunLines<'_> {
 // Writes `TARGET START-END score=..` and the line's end, at most 86 bytes, so that they end right before
 // index `end`, and returns the index where they begin. The functions below do the same for other parts of
 // lines.
+#[inline(always)]
 fn run_before(bytes: &mut [u8], end: usize, run: &AppliedRun, space: &Space) -> usize
     requires some { 1 ≤ run.now.pages }
     requires inside { run.now.start + run.now.pages ≤ pages_of space.now }

@@ -46,6 +46,7 @@ impl LineOf<Row> for RowItems<'_> {
 
     ghost can_write = { λ items r. (1 ≤ r.pages) × (r.start + r.pages ≤ pages_of items.space.now) };
 
+    #[inline(always)]
     fn line_before(&self, bytes: &mut [u8], end: usize, row: &Row) -> usize {
         row_before(bytes, end, row, self.space)
     }
@@ -53,6 +54,7 @@ impl LineOf<Row> for RowItems<'_> {
 
 // Writes a comma and the object of a row, at most 132 bytes, so that they end right before index `end`,
 // and returns the index where they begin. A number wants room for 20 digits, though it has fewer here.
+#[inline(always)]
 fn row_before(bytes: &mut [u8], end: usize, row: &Row, space: &Space) -> usize
     requires some { 1 ≤ row.now.pages }
     requires inside { row.now.start + row.now.pages ≤ pages_of space.now }

@@ -113,6 +113,7 @@ impl LineOf<AppliedRun> for RunItems<'_> {
 
     ghost can_write = { λ items r. (1 ≤ r.pages) × (r.start + r.pages ≤ pages_of items.space.now) };
 
+    #[inline(always)]
     fn line_before(&self, bytes: &mut [u8], end: usize, run: &AppliedRun) -> usize {
         let rest = rest_before(bytes, end, run, self.space);
         text_before(bytes, rest, self.prefix)
@@ -121,6 +122,7 @@ impl LineOf<AppliedRun> for RunItems<'_> {
 
 // Writes the item of a run from the address after its pages on, at most 106 bytes, so that it ends right
 // before index `end`, and returns the index where it begins.
+#[inline(always)]
 fn rest_before(bytes: &mut [u8], end: usize, run: &AppliedRun, space: &Space) -> usize
     requires some { 1 ≤ run.now.pages }
     requires inside { run.now.start + run.now.pages ≤ pages_of space.now }

@@ -14,7 +14,8 @@ pub(crate) const LINES_AT_ONCE: usize = 16;
 // Bytes enough for a group of lines.
 pub(crate) const GROUP_ROOM: usize = LINE_ROOM * LINES_AT_ONCE;
 
-// What writes for each item a line, or its text in a list in JSON, of at most 141 bytes.
+// What writes for each item a line, or its text in a list in JSON, of at most 141 bytes. The writers are
+// inlined into the loop over the items, which has their only call.
 pub(crate) trait LineOf<T> {
     // The line of an item.
     ghost line: { Self → T → List ℕ };

@@ -30,6 +30,7 @@ impl LineOf<Row> for Space {
 
     ghost can_write = { λ space r. (1 ≤ r.pages) × (r.start + r.pages ≤ pages_of space) };
 
+    #[inline(always)]
     fn line_before(&self, bytes: &mut [u8], end: usize, row: &Row) -> usize {
         let counts = counts_before(bytes, end, row);
         place_before(bytes, counts, row, self)
@@ -39,6 +40,7 @@ impl LineOf<Row> for Space {
 // Writes ` count=.. last=.. age=..` and the line's end, at most 79 bytes, so that they end right before
 // index `end`, and returns the index where they begin. The functions below do the same for other parts
 // of a line: written from its end to its start, no length has to be known in advance.
+#[inline(always)]
 fn counts_before(bytes: &mut [u8], end: usize, row: &Row) -> usize
     requires room { 79 ≤ end }
     requires within { end ≤ length bytes.old }
@@ -53,6 +55,7 @@ fn counts_before(bytes: &mut [u8], end: usize, row: &Row) -> usize
 }
 
 // Writes `row TARGET START-END`: at most 62 bytes.
+#[inline(always)]
 fn place_before(bytes: &mut [u8], end: usize, row: &Row, space: &Space) -> usize
     requires some { 1 ≤ row.now.pages }
     requires inside { row.now.start + row.now.pages ≤ pages_of space.now }
