@@ -1,5 +1,5 @@
-// How a fault of a script is printed. Which fault a text has is a clause of the reader, with examples beside its
-// definitions; the faults that a program prints are cases of tests/cases.
+// How a fault of a script is printed. Which fault a text has is a clause of the reader, with examples beside
+// its definitions; the faults that a program prints are cases of tests/cases.
 use damon_control::{ScriptFault, ScriptKind};
 use damon_types::AttrsFault;
 use std::test::Fail;
