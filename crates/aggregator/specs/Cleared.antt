@@ -2,10 +2,6 @@
 use Rattle.std.specs.Prelude.{List, map}
 use Rattle.damon_types.specs.declared.row.Row.{Row}
 
--- the count of a row becomes its last count, and its count 0
-abbrev pub cleared_row : Row → Row
-cleared_row r = record r { last = r.count; count = 0 }
-
--- each row is cleared
+-- the count of each row becomes its last count, and its count 0
 abbrev pub cleared : List Row → List Row
-cleared rows = map cleared_row rows
+cleared rows = map (λ (r : Row). record r { last = r.count; count = 0 }) rows

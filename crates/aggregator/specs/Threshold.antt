@@ -2,10 +2,6 @@
 use Rattle.std.specs.Prelude.{ℕ, ◌/◌, max, fold, List}
 use Rattle.damon_types.specs.declared.row.Row.{Row}
 
--- the highest count of any row, 0 where there are no rows
-abbrev pub highest : List Row → ℕ
-highest rows = fold (λ most r. max most r.count) 0 rows
-
--- a tenth of the highest count, rounded down
+-- a tenth of the highest count of any row, rounded down; 0 where there are no rows
 abbrev pub threshold : List Row → ℕ
-threshold rows = highest rows / 10
+threshold rows = fold (λ most r. max most r.count) 0 rows / 10

@@ -18,11 +18,10 @@ use Rattle.damon_core.specs.Stands.{MonitorView}
 use Rattle.damon_control.specs.Script.{AtEnd, AtHeader, ScriptValue}
 use Rattle.damon_control.specs.Sound.{IsSound, ScriptsAreSound}
 use Rattle.script_run.specs.BoundAlong.{EachScriptIsBound}
-use Rattle.script_run.specs.Callbacks.{no_callbacks}
 use Rattle.script_run.specs.Played.{played-state, up_to}
 use Rattle.script_run.specs.Player.{PlayerView}
 use Rattle.script_run.specs.Report.{last_state}
-use Rattle.script_run.specs.Unfold.{unfold_with}
+use Rattle.script_run.specs.Unfold.{unfold_script}
 use Rattle.damon_admin.specs.declared.context.Context.{Context}
 use Rattle.damon_admin.specs.declared.context.Context.TheVariants.{Faulty, Running}
 use Rattle.damon_admin.specs.declared.stage.Stage.{Stage}
@@ -53,7 +52,7 @@ sound_first s cs rest sound is = record {
 bound_first : EachScriptIsBound → (s : ScriptValue) (cs rest : List CommandValue) → IsSound s → s.commands ≡ cs ++ rest → Bound (last_state (up_to s cs))
 bound_first each s cs rest sound is =
     let t = up_to s cs in
-    let events = unfold_with no_callbacks t in
+    let events = unfold_script t in
     (each t (sound_first s cs rest sound is)).bound events [] (sym (append-nil events))
 
 -- so it is after the first lines of each script

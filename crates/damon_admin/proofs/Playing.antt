@@ -11,6 +11,7 @@ use Rattle.rand_pcg.specs.Pcg.{pcg32}
 use Rattle.script_lines.specs.Command.{CommandValue}
 use Rattle.script_lines.specs.Lines.{lines_text}
 use Rattle.snapshot_print.specs.declared.form.Form.TheVariants.{Text}
+use Rattle.snapshot_print.specs.Lines.{as_text}
 use Rattle.damon_control.specs.declared.fault.ScriptFault.{ScriptFault}
 use Rattle.damon_control.specs.declared.grammar.Grammar.TheVariants.{OfScript}
 use Rattle.damon_control.specs.Script.{AtAttrs, AtCap, AtEnd, AtHeader, AtRanges, AtSchemes, AtSeed, AtTargets, AtUnit, InBody, InCommit, Place, ScriptValue, place_after, script_of}
@@ -31,7 +32,7 @@ use Rattle.damon_admin.proofs.Steps.{IsSaid}
 
 -- the text of the commands so far, at each place where a line is accepted
 pub text_before : (s : ScriptValue) (place next : Place OfScript) (line : List ℕ) → place_after OfScript place line ≡ Ok next
-    → written_at s place ≡ commands_text Text (up_to s (commands_at place))
+    → written_at s place ≡ commands_text as_text (up_to s (commands_at place))
 text_before s AtHeader next line e = refl
 text_before s (AtSeed version) next line e = refl
 text_before s (AtUnit version seed) next line e = refl
@@ -45,7 +46,7 @@ text_before s (InCommit b commit) next line e = refl
 text_before s (AtEnd t) next line e = absurd cc
 
 -- the same at each place but the end
-pub text_amid : (s : ScriptValue) (place : Place OfScript) → stage_of place ≢ stage.End → written_at s place ≡ commands_text Text (up_to s (commands_at place))
+pub text_amid : (s : ScriptValue) (place : Place OfScript) → stage_of place ≢ stage.End → written_at s place ≡ commands_text as_text (up_to s (commands_at place))
 text_amid s AtHeader e = refl
 text_amid s (AtSeed version) e = refl
 text_amid s (AtUnit version seed) e = refl

@@ -18,15 +18,12 @@ use Rattle.damon_core.specs.Event.{Event, aggregate, clear, commit, load, observ
 use Rattle.damon_core.specs.Commit.{commit_answer}
 use Rattle.damon_core.specs.Report.{ReportValue}
 use Rattle.damon_core.specs.State.{Core, State, row_count}
-use Rattle.snapshot_print.specs.Commit.{answer_text, commit_text}
-use Rattle.snapshot_print.specs.declared.form.Form.TheVariants.{Text}
+use Rattle.snapshot_print.specs.Commit.{answer_text}
 use Rattle.snapshot_print.specs.Fields.{pages_part, phase_name}
-use Rattle.snapshot_print.specs.Lines.{aggregate_line, aggregate_text, end_text, place_part, row_line, row_lines, served_text, show_line, show_text}
+use Rattle.snapshot_print.specs.Lines.{aggregate_line, as_text, place_part, row_line, row_lines, show_line}
 use Rattle.snapshot_print.specs.Printed.{Printed, printed_state}
 use Rattle.snapshot_print.specs.Schemes.{action_in, apply_line, apply_part, choice_lines, choice_part, choices_text, runs_of_slot, scheme_line, scheme_part, shown_slot, shown_slots, slot_line}
-use Rattle.script_run.specs.Callbacks.{no_callbacks}
-use Rattle.script_run.specs.Course.{Course, course_after}
-use Rattle.script_run.specs.Report.{event_text, text_from}
+use Rattle.script_run.specs.Report.{event_text, events_text}
 use Rattle.damon_admin.proofs.Ended.{IsEnded, both_ended, flat_ended, line_ended, none_ended}
 
 row_ended : (space : List Target) (r : Row) → IsEnded (row_line space r)
@@ -54,7 +51,7 @@ show_line_ended : (c : Core) → IsEnded (show_line c)
 show_line_ended c =
     line_ended (codes "show tick=" ∷ decimal c.ticks ∷ codes " phase=" ∷ phase_name c.phase ∷ codes " rows=" ∷ decimal (row_count c) ∷ [])
 
-show_ended : (p : Printed) → IsEnded (show_text Text p)
+show_ended : (p : Printed) → IsEnded (as_text.show p)
 show_ended p =
     both_ended (show_line p.core) (row_lines p.core.space p.core.regions.rows ++ shown_slots 0 p.slots) (show_line_ended p.core)
     (both_ended (row_lines p.core.space p.core.regions.rows) (shown_slots 0 p.slots) (rows_ended p.core.space p.core.regions.rows) (slots_ended 0 p.slots))
@@ -83,22 +80,23 @@ aggregate_line_ended : (r : ReportValue) → IsEnded (aggregate_line r)
 aggregate_line_ended r =
     line_ended (codes "aggregate tick=" ∷ decimal r.tick ∷ codes " threshold=" ∷ decimal r.threshold ∷ codes " rows=" ∷ decimal (length r.rows) ∷ [])
 
-aggregate_ended : (p : Printed) → IsEnded (aggregate_text Text p)
+aggregate_ended : (p : Printed) → IsEnded (as_text.aggregate p)
 aggregate_ended p =
-    both_ended (aggregate_line p.core.report) (served_text p ++ row_lines p.core.space p.core.report.rows) (aggregate_line_ended p.core.report)
-    (both_ended (served_text p) (row_lines p.core.space p.core.report.rows)
+    let served = choices_text p.core.space p.slots p.core.report.runs p.core.report.choices in
+    both_ended (aggregate_line p.core.report) (served ++ row_lines p.core.space p.core.report.rows) (aggregate_line_ended p.core.report)
+    (both_ended served (row_lines p.core.space p.core.report.rows)
     (choices_ended p.core.space p.slots p.core.report.runs p.core.report.choices) (rows_ended p.core.space p.core.report.rows))
 
-commit_ended : (tick : ℕ) (answer : Result Changed CommitFault) → IsEnded (commit_text Text tick answer)
+commit_ended : (tick : ℕ) (answer : Result Changed CommitFault) → IsEnded (as_text.commit tick answer)
 commit_ended tick answer = line_ended (codes "commit tick=" ∷ decimal tick ∷ codes " " ∷ answer_text answer ∷ [])
 
-pub end_ended : (p : Printed) → IsEnded (end_text Text p)
+pub end_ended : (p : Printed) → IsEnded (as_text.end p)
 end_ended p =
     line_ended
     (codes "end ticks=" ∷ decimal p.core.ticks ∷ codes " rows=" ∷ decimal (row_count p.core) ∷ codes " checks=" ∷ decimal p.checks ∷ codes " hits="
     ∷ decimal p.hits ∷ [])
 
-event_ended : (s : State) (e : Event) → IsEnded (event_text Text s e)
+event_ended : (s : State) (e : Event) → IsEnded (event_text as_text s e)
 event_ended s show = show_ended (printed_state s)
 event_ended s (aggregate words) = aggregate_ended (printed_state (after s (aggregate words)))
 event_ended s (commit parts) = commit_ended s.core.ticks (commit_answer parts s.core)
@@ -109,8 +107,7 @@ event_ended s (load hit) = none_ended
 event_ended s observe = none_ended
 
 -- what events write is whole lines
-pub events_ended : (r : Course) (es : List Event) → IsEnded (text_from no_callbacks Text r es)
-events_ended r [] = none_ended
-events_ended r (e ∷ es) =
-    both_ended (event_text Text r.moment.state e) (text_from no_callbacks Text (course_after no_callbacks r e) es)
-    (event_ended r.moment.state e) (events_ended (course_after no_callbacks r e) es)
+pub events_ended : (s : State) (es : List Event) → IsEnded (events_text as_text s es)
+events_ended s [] = none_ended
+events_ended s (e ∷ es) =
+    both_ended (event_text as_text s e) (events_text as_text (after s e) es) (event_ended s e) (events_ended (after s e) es)

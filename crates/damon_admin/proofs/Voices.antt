@@ -9,20 +9,19 @@ use Rattle.std.proofs.lemmas.List.Elements.{All-cons, filter-append, recursion_f
 use Rattle.std.proofs.Math.Seq.{drop-append_seam}
 use Rattle.line_text.specs.Laws.{PutsPartsTogether}
 use Rattle.line_text.specs.Parts.{IsPiece, parts}
+use Rattle.damon_core.specs.Reached.{run}
+use Rattle.damon_core.specs.State.{opening}
 use Rattle.script_lines.specs.Command.{CommandValue}
 use Rattle.script_lines.specs.KindText.{kind_text}
 use Rattle.script_lines.specs.Lines.{lines_text}
-use Rattle.snapshot_print.specs.declared.form.Form.TheVariants.{Text}
+use Rattle.snapshot_print.specs.Lines.{as_text}
 use Rattle.damon_control.specs.declared.fault.ScriptFault.{ScriptFault}
 use Rattle.damon_control.specs.declared.grammar.Grammar.TheVariants.{OfScript}
 use Rattle.damon_control.specs.Script.{AtEnd, AtHeader, Place, ScriptValue, script_of}
-use Rattle.script_run.specs.Callbacks.{no_callbacks}
-use Rattle.script_run.specs.Course.{onward}
-use Rattle.script_run.specs.Parts.{part_of}
-use Rattle.script_run.specs.Played.{commands_text, own_events-more, up_to}
-use Rattle.script_run.specs.Report.{last_state, last_text, report, text_from, text_from-append}
-use Rattle.script_run.specs.Unfold.{own_events, parts_events, start_with}
-use Rattle.snapshot_print.specs.Lines.{end_text}
+use Rattle.script_run.specs.Going.{onward, plain}
+use Rattle.script_run.specs.Report.{events_text, events_text-append, last_state, report}
+use Rattle.script_run.specs.Unfold.{command_events, commands_events-more, start, unfold_script}
+use Rattle.script_run.specs.Played.{commands_text, up_to}
 use Rattle.snapshot_print.specs.Printed.{printed_state}
 use Rattle.damon_admin.specs.Kept.{IsNext, gained}
 use Rattle.damon_admin.specs.Laws.{ContextsAreApart, VoicesAreReports}
@@ -33,7 +32,7 @@ use Rattle.damon_admin.specs.Stage.{completes, stage_of}
 use Rattle.damon_admin.specs.Voice.{all_but_last, is_of, lines_in, spoken, spoken_line, voice}
 use Rattle.damon_admin.specs.Written.{all_written, commands_at, fault_line, line_text, output_of, place_from, place_of, texts_from, told, written, written_as, written_at, written_where}
 use Rattle.damon_admin.proofs.Contexts.{lines_of-append, lines_of-own, lines_text-append, other_more, own_more, pieces_of}
-use Rattle.damon_admin.proofs.Ended.{IsEnded, both_ended, line_ended, lines_text-lines_in, none_ended, some_parts}
+use Rattle.damon_admin.proofs.Ended.{IsEnded, line_ended, lines_text-lines_in, none_ended, some_parts}
 use Rattle.damon_admin.proofs.Places.{NextPlace, end_is_last, next_place, parts_first, place_from-append, script_leads}
 use Rattle.damon_admin.proofs.Playing.{at_end, text_amid, text_before, written_is}
 use Rattle.damon_admin.proofs.Reports.{end_ended, events_ended}
@@ -130,34 +129,33 @@ pub record Adds (before after : List ℕ) : Type 0 where
   pub whole : IsEnded added
 
 -- one command more
-command_adds : (s : ScriptValue) (cs : List CommandValue) (d : CommandValue) → Adds (commands_text Text (up_to s cs)) (commands_text Text (up_to s (cs ++ d ∷ [])))
+command_adds : (s : ScriptValue) (cs : List CommandValue) (d : CommandValue) → Adds (commands_text as_text (up_to s cs)) (commands_text as_text (up_to s (cs ++ d ∷ [])))
 command_adds s cs d =
-    let first = start_with no_callbacks s in
-    let es = own_events no_callbacks (up_to s cs) in
-    let there = onward no_callbacks first es in
-    let more = parts_events no_callbacks there (part_of s.setup.cap d ∷ []) in
+    let first = opening s.setup in
+    let es = unfold_script (up_to s cs) in
+    let more = command_events plain s.setup.cap (onward plain (start s) es) d in
     record {
-      added = text_from no_callbacks Text there more;
-      is = ap (text_from no_callbacks Text first) (own_events-more s cs d) ∙ text_from-append no_callbacks Text first es more;
-      whole = events_ended there more;
+      added = events_text as_text (run first es) more;
+      is = ap (events_text as_text first) (commands_events-more plain s.setup.cap (start s) cs d) ∙ events_text-append as_text first es more;
+      whole = events_ended (run first es) more;
     }
 
 none_added : (text : List ℕ) → Adds text text
 none_added text = record { added = []; is = sym (append-nil text); whole = none_ended }
 
 -- the last line
-last_adds : (s : ScriptValue) → Adds (commands_text Text s) (report Text s)
+last_adds : (s : ScriptValue) → Adds (commands_text as_text s) (report as_text s)
 last_adds s = record {
-  added = last_text Text (last_state s);
+  added = as_text.end (printed_state (last_state s));
   is = refl;
-  whole = both_ended (end_text Text (printed_state (last_state s))) [] (end_ended (printed_state (last_state s))) none_ended;
+  whole = end_ended (printed_state (last_state s));
 }
 
-said_adds : (s : ScriptValue) (b : Bool) (old new : List CommandValue) → IsSaid b old new → Adds (commands_text Text (up_to s old)) (commands_text Text (up_to s new))
+said_adds : (s : ScriptValue) (b : Bool) (old new : List CommandValue) → IsSaid b old new → Adds (commands_text as_text (up_to s old)) (commands_text as_text (up_to s new))
 said_adds s true old new said =
-    subst (λ cs. Adds (commands_text Text (up_to s old)) (commands_text Text (up_to s cs))) (sym said.1) (command_adds s old said.0)
+    subst (λ cs. Adds (commands_text as_text (up_to s old)) (commands_text as_text (up_to s cs))) (sym said.1) (command_adds s old said.0)
 said_adds s false old new said =
-    subst (λ cs. Adds (commands_text Text (up_to s old)) (commands_text Text (up_to s cs))) (sym said) (none_added (commands_text Text (up_to s old)))
+    subst (λ cs. Adds (commands_text as_text (up_to s old)) (commands_text as_text (up_to s cs))) (sym said) (none_added (commands_text as_text (up_to s old)))
 
 end_said : (a b : Stage) (old new : List CommandValue) → b ≡ stage.End → IsSaid (completes a b) old new → new ≡ old
 end_said a b old new ends said = by a (subst (λ x. IsSaid (completes a x) old new) ends said)
@@ -191,17 +189,17 @@ script_adds own done line s next said =
     subst2 {a} {b} {x} {y} p q adds = subst (λ t. Adds t y) p (subst (λ t. Adds a t) q adds)
 
     by : (place : Place OfScript) (step : NextPlace s place done line) → (stage_of step.next ≡ stage.End) ⊎ (stage_of step.next ≢ stage.End)
-        → Adds (commands_text Text (up_to s (commands_at place))) (written_at s step.next)
+        → Adds (commands_text as_text (up_to s (commands_at place))) (written_at s step.next)
     by place step (inl ends) =
         let it = at_end step.next ends in
         let all : it.said ≡ s = end_is_last it.said step.later s (subst (λ q. place_from q step.later ≡ Ok (AtEnd s)) it.is step.end) in
         let every : commands_at step.next ≡ s.commands = ap commands_at it.is ∙ ap (λ (t : ScriptValue). t.commands) all in
         let same : commands_at step.next ≡ commands_at place = end_said (stage_of place) (stage_of step.next) (commands_at place) (commands_at step.next) ends step.steps.said in
         let cs : s.commands ≡ commands_at place = sym every ∙ same in
-        subst (λ xs. Adds (commands_text Text (up_to s xs)) (written_at s step.next)) cs
-        (subst (λ t. Adds (commands_text Text s) t) (sym (ap (written_at s) it.is)) (last_adds s))
+        subst (λ xs. Adds (commands_text as_text (up_to s xs)) (written_at s step.next)) cs
+        (subst (λ t. Adds (commands_text as_text s) t) (sym (ap (written_at s) it.is)) (last_adds s))
     by place step (inr amid) =
-        subst (λ t. Adds (commands_text Text (up_to s (commands_at place))) t) (sym (text_amid s step.next amid))
+        subst (λ t. Adds (commands_text as_text (up_to s (commands_at place))) t) (sym (text_amid s step.next amid))
         (said_adds s (completes (stage_of place) (stage_of step.next)) (commands_at place) (commands_at step.next) step.steps.said)
 
 fault_whole : (fault : ScriptFault) → IsEnded (fault_line fault)

@@ -7,7 +7,7 @@ use Rattle.script_lines.specs.KindText.{kind_text}
 use Rattle.script_lines.specs.Lines.{lines_text}
 use Rattle.script_lines.specs.Refusal.{◌>>=◌}
 use Rattle.snapshot_print.specs.Fields.{◌then◌}
-use Rattle.snapshot_print.specs.declared.form.Form.TheVariants.{Text}
+use Rattle.snapshot_print.specs.Lines.{as_text}
 use Rattle.damon_control.specs.declared.fault.ScriptFault.{ScriptFault}
 use Rattle.damon_control.specs.declared.grammar.Grammar.TheVariants.{OfScript}
 use Rattle.damon_control.specs.Script.{AtEnd, AtHeader, InBody, InCommit, Place, ScriptValue, place_after, script_of}
@@ -22,7 +22,7 @@ fault_line fault = codes "fault line=" then decimal fault.line then codes " " th
 
 -- what is written where lines say a script, or have a fault: its report, or the line of the fault
 abbrev pub told : Result ScriptValue ScriptFault → List ℕ
-told (Ok s) = report Text s
+told (Ok s) = report as_text s
 told (Err fault) = fault_line fault
 
 -- All that a context writes whose lines are this text: the report of the script that it spells, or the line of its fault; and
@@ -49,8 +49,8 @@ commands_at _ = []
 
 -- what a script has written at a place: the text of the commands so far, and at its end the whole report
 abbrev pub written_at : ScriptValue → Place OfScript → List ℕ
-written_at s (AtEnd said) = report Text s
-written_at s place = commands_text Text (up_to s (commands_at place))
+written_at s (AtEnd said) = report as_text s
+written_at s place = commands_text as_text (up_to s (commands_at place))
 
 -- the same where the lines so far lead to a place
 abbrev pub written_where : ScriptValue → Result (Place OfScript) ScriptKind → List ℕ

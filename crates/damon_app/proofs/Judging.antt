@@ -2,7 +2,7 @@
 use Rattle.std.proofs.Common.{◌≡◌, ℕ, List, Option, Some, None, Err, ap, sym, subst}
 use Rattle.std.specs.Prelude.{IfSome, String}
 use Rattle.std.specs.declared.alloc.Global.{Global}
-use Rattle.snapshot_print.specs.declared.form.Form.TheVariants.{Text}
+use Rattle.snapshot_print.specs.Lines.{as_text}
 use Rattle.script_run.specs.Report.{report}
 use Rattle.damon_journal.specs.Reading.{read_journal}
 use Rattle.damon_journal.specs.Status.{IsRead}
@@ -15,7 +15,7 @@ use Rattle.damon_app.specs.Replay.{MayCome, Reports, TellsFault, TellsReport}
 use Rattle.damon_app.specs.Request.{AskToReplay, ReadsInput, asked, request_of}
 
 -- the report that `replay` asks for is the one in text
-pub plain_report : (words : List (String Global)) (told old new : Option (List ℕ)) → AskToReplay words → IfSome told (λ bytes. TellsReport (asked words) bytes old new) → IfSome told (λ bytes. Reports (report Text) bytes old new)
+pub plain_report : (words : List (String Global)) (told old new : Option (List ℕ)) → AskToReplay words → IfSome told (λ bytes. TellsReport (asked words) bytes old new) → IfSome told (λ bytes. Reports (report as_text) bytes old new)
 plain_report words told old new asks tells = subst (λ (request : Option Request). IfSome told (λ bytes. TellsReport request bytes old new)) (ap request_of asks) tells
 
 -- a text that is told has a rejected line, and so is that of no lawful run

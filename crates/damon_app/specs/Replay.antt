@@ -3,6 +3,7 @@ use Rattle.std.specs.Prelude.{◌≡◌, ◌⊎◌, ◌↔◌, ℕ, List, Option
 use Rattle.std.specs.Io.KnownBytes.{Appends}
 use Rattle.damon_control.specs.Script.{ScriptValue, script_of}
 use Rattle.damon_control.specs.declared.fault.ScriptFault.{ScriptFault}
+use Rattle.snapshot_print.specs.Forms.{writing_of}
 use Rattle.script_run.specs.Report.{report}
 use Rattle.reclaim_run.specs.Reclaimed.{reclaimed_report}
 use Rattle.tune_run.specs.Report.{tuned_report}
@@ -27,7 +28,7 @@ use Rattle.damon_journal.specs.declared.status.Status.TheVariants as statuses
 
 -- the report of a script that is run like this: as it stands, over a model of resident pages, or with quotas that follow goals
 abbrev pub report_of : Run → ScriptValue → List ℕ
-report_of (Plain form) s = report form s
+report_of (Plain form) s = report (writing_of form) s
 report_of Reclaim s = reclaimed_report s
 report_of (Tune goals) s = tuned_report goals s
 

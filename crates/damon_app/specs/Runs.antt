@@ -10,17 +10,22 @@ use Rattle.tune_run.specs.Along.{AreBelowTops, AreTunedWithin, AtEachEvent, Foll
 use Rattle.tune_run.specs.Callbacks.{tune_callbacks}
 use Rattle.damon_app.specs.GoalWords.{goals_of}
 
+-- the events of each script that a text spells fit, and the states along them are bound
+abbrev pub EachRunIsBound : Type 0
+EachRunIsBound = (text : List ℕ) (s : ScriptValue) → script_of text ≡ Ok s → IsBoundAlong s
+
+-- each aggregation along such a script applies each active scheme to the best choice within what is left of its quota
+abbrev pub EachRunChoosesBest : Type 0
+EachRunChoosesBest = (text : List ℕ) (s : ScriptValue) → script_of text ≡ Ok s → ChoosesBestAlong s
+
+-- the same of the generated script of each number
+pub record GeneratedRunsAreBound : Type 0 where
+  pub bound : (n : ℕ) → IsBoundAlong (gen n)
+  pub choices : (n : ℕ) → ChoosesBestAlong (gen n)
+
 -- a script that the program can be asked to run: the one that a text spells, or the generated one of a number
 abbrev pub CanRun : ScriptValue → Type 0
 CanRun s = ((text : List ℕ) × (script_of text ≡ Ok s)) ⊎ ((n : ℕ) × (s ≡ gen n))
-
--- the events of each such script fit, and the states along them are bound
-abbrev pub EachRunIsBound : Type 0
-EachRunIsBound = (s : ScriptValue) → CanRun s → IsBoundAlong s
-
--- each aggregation along each such script applies each active scheme to the best choice within what is left of its quota
-abbrev pub EachRunChoosesBest : Type 0
-EachRunChoosesBest = (s : ScriptValue) → CanRun s → ChoosesBestAlong s
 
 -- Each such script that is run over a model of resident pages: each state along its run is bound, and its pages are accounted for; each
 -- aggregation makes the best choices, and pages out, slot by slot, what is resident of the pages that a `pageout` scheme is applied to.

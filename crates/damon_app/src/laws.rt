@@ -1,12 +1,12 @@
 // What holds of all runs of the program. The functions do nothing.
 ghost use Rattle.damon_app.specs.Runs.{EachRunChoosesBest, EachRunFollowsGoals, EachRunIsAccounted, EachRunIsBound};
+ghost use Rattle.damon_app.specs.Runs.{GeneratedRunsAreBound};
 
 // The states along each run are bound.
 pub(crate) fn each_run_is_bound()
     ensures { EachRunIsBound }
 {
     damon_control::scripts_are_sound();
-    trace_gen::generated_scripts_are_sound();
     script_run::each_script_is_bound();
 }
 
@@ -15,7 +15,15 @@ pub(crate) fn each_run_chooses_best()
     ensures { EachRunChoosesBest }
 {
     damon_control::scripts_are_sound();
+    script_run::each_choice_is_best();
+}
+
+// Both hold of generated scripts too.
+pub(crate) fn generated_runs_are_bound()
+    ensures { GeneratedRunsAreBound }
+{
     trace_gen::generated_scripts_are_sound();
+    script_run::each_script_is_bound();
     script_run::each_choice_is_best();
 }
 

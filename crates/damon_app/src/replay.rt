@@ -7,13 +7,14 @@ ghost use Rattle.script_lines.specs.Limits.{AreCommandsWithin};
 ghost use Rattle.damon_control.specs.ScriptView.{said_by};
 ghost use Rattle.text_io.specs.Given.{GaveOver};
 ghost use Rattle.text_io.specs.Taken.{WritesPart};
-ghost use Rattle.snapshot_print.specs.declared.form.Form.TheVariants.{Text as text};
+ghost use Rattle.snapshot_print.specs.Lines.{as_text};
 ghost use Rattle.script_run.specs.Report.{report};
 ghost use Rattle.damon_admin.specs.Laws.{ContextsAreApart, ContextsAreBound, VoicesAreReports};
 ghost use Rattle.damon_app.specs.Request.{AskToReplay, ReadsInput, ReadsJournal, asked};
 ghost use Rattle.damon_app.specs.Contexts.{Administers};
 ghost use Rattle.damon_app.specs.Generated.{gen_text};
 ghost use Rattle.damon_app.specs.Runs.{EachRunChoosesBest, EachRunFollowsGoals, EachRunIsAccounted, EachRunIsBound};
+ghost use Rattle.damon_app.specs.Runs.{GeneratedRunsAreBound};
 ghost use Rattle.damon_journal.specs.Status.{EndsRun, IsRead, IsUnwritten, status_of};
 ghost use Rattle.damon_journal.specs.Verified.{IsOfNoLawfulRun};
 ghost use Rattle.damon_app.specs.Replay.{IsBegun, IsExpected, MayCome, Reports, TellsFault, TellsJournal, TellsReport};
@@ -26,6 +27,7 @@ use crate::counts::make_line;
 use crate::heat::show_heat;
 use crate::laws::{
     each_run_chooses_best, each_run_follows_goals, each_run_is_accounted, each_run_is_bound,
+    generated_runs_are_bound,
 };
 use crate::request::read_request;
 use crate::run::write_report;
@@ -54,7 +56,7 @@ pub fn replay_main<S: Source, K: Sink>(
 ) -> Status
     // With `replay`, what was written is the report of the script that was read.
     ensures ok { result ≡ Status.Ok → AskToReplay words.now → IfSome (S.left source.old)
-        (λ bytes. Reports (report text) bytes (K.taken sink.old) (K.taken sink.new)) }
+        (λ bytes. Reports (report as_text) bytes (K.taken sink.old) (K.taken sink.new)) }
 
     // It is what the words ask for, whatever they are: the report of a script in its form, over a model of
     // resident pages or with quotas that follow goals, the line of the lawful journal whose text was read,
@@ -69,11 +71,12 @@ pub fn replay_main<S: Source, K: Sink>(
         Appends (K.taken sink.old) (K.taken sink.new) (gen_text n) }
     ensures end { ReadsInput (asked words.now) → IsRead result → IsAtEnd (S.left source.new) }
 
-    // Whatever the status, the states along the run of every script that can be run are bound; and each
+    // Whatever the status, the states along the run of every script that a text spells are bound; and each
     // aggregation along it applies each active scheme to the first passing pages of its priority order
-    // within what is left of its quota, which is the best choice.
+    // within what is left of its quota, which is the best choice. Both hold of generated scripts too.
     ensures bound { EachRunIsBound }
     ensures choices { EachRunChoosesBest }
+    ensures generated { GeneratedRunsAreBound }
 
     // The same holds of every script under `reclaim` and under `tune`. Under `reclaim` each page is resident
     // or out, and out exactly since a `pageout` scheme was last applied to it; and an aggregation pages out
@@ -123,6 +126,7 @@ pub fn replay_main<S: Source, K: Sink>(
     // For their clauses alone: what holds of every script, and that no lawful journal is rejected.
     each_run_is_bound();
     each_run_chooses_best();
+    generated_runs_are_bound();
     each_run_is_accounted();
     each_run_follows_goals();
     voices_are_reports();

@@ -8,7 +8,8 @@ ghost use Rattle.script_lines.specs.Command.{work_of};
 ghost use Rattle.script_lines.specs.Limits.{AreCommandsWithin};
 ghost use Rattle.damon_control.specs.ScriptView.{said_by};
 ghost use Rattle.damon_journal.specs.Status.{EndsRun};
-ghost use Rattle.script_run.specs.Report.{report_with};
+ghost use Rattle.snapshot_print.specs.Forms.{writing_of};
+ghost use Rattle.script_run.specs.RunWith.{report_with};
 ghost use Rattle.reclaim_run.specs.Reclaimed.{reclaimed_report};
 ghost use Rattle.tune_run.specs.Report.{tuned_report};
 ghost use Rattle.text_io.specs.Taken.{WritesPart};
@@ -103,14 +104,14 @@ fn write_played<C: Callbacks + Drop, K: Sink>(
 
     // The sink gained the report of the script.
     ensures all { OnOk result (Appends (K.taken sink.old) (K.taken sink.new)
-        (report_with C.callbacks form (said_by script))) }
+        (report_with C.callbacks (writing_of form) (said_by script))) }
 
     // Each failure.
     ensures answers { IfErr result EndsRun }
     ensures writes { EndsAtFault (IsErrOf result Status.WriteFault)
         (K.calls sink.old) (K.calls sink.new) }
     ensures part { WritesPart (K.taken sink.old) (K.taken sink.new)
-        (report_with C.callbacks form (said_by script)) }
+        (report_with C.callbacks (writing_of form) (said_by script)) }
 {
     let mut player = open_player_with(alloc, script, form, callbacks)?;
     let mut piece = Vec::new(alloc);

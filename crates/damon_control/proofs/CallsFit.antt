@@ -1,7 +1,7 @@
 -- What a live text says can be spelled: its setup, and each of its calls.
 use Rattle.std.proofs.Common.{◌≡◌, ⊎_elim, ◌∷◌, [], ℕ, List, Option, Some, None, true, false, refl, subst}
 use Rattle.std.specs.Prelude.{◌&&◌, All, Bool, IfSome}
-use Rattle.std.specs.List.{AllByRecursion}
+use Rattle.std.specs.List.{fold, AllByRecursion}
 use Rattle.std.proofs.lemmas.List.Elements.{All-append, All-from_recursion}
 use Rattle.damon_types.specs.declared.range.RangeSpec.{RangeSpec}
 use Rattle.damon_types.specs.declared.scheme.SlotChange.{SlotChange}
@@ -17,7 +17,7 @@ use Rattle.script_lines.specs.Laws.{EmptiesSlot, GivesScheme, IsPart, may_come}
 use Rattle.damon_control.specs.Live.{CallValue, CommitCall, LiveValue, ShowCall}
 use Rattle.damon_control.specs.LiveText.{IsLiveText, SayCall, SayController}
 use Rattle.damon_control.specs.Spellable.{FitsCall, IsLiveSpellable}
-use Rattle.damon_control.specs.Text.{EachSays, come_in_order, with_parts}
+use Rattle.damon_control.specs.Text.{EachSays, come_in_order}
 use Rattle.damon_control.specs.WriteBack.{FitsCommit, IsSpelledIn, SpellsRanges}
 use Rattle.damon_control.proofs.LiveLimits.{IsLiveText-IsLiveSound, part_spelled}
 use Rattle.damon_control.proofs.SchemesFit.{ChangeFits, empties_fits, gives_fits}
@@ -61,7 +61,7 @@ part_in One line c (Cost cost) may is spelled = absurd cc
 abbrev Spells : Version → CommitValue → Type 0
 Spells version c = FitsCommit c × SpellsRanges c × IsSpelledIn version c
 
-parts_fit : (version : Version) (c : CommitValue) (lines : List (List ℕ)) (parts : List Part) → EachSays (IsPart version) lines parts → come_in_order version c parts ≡ true → Spells version c → Spells version (with_parts c parts)
+parts_fit : (version : Version) (c : CommitValue) (lines : List (List ℕ)) (parts : List Part) → EachSays (IsPart version) lines parts → come_in_order version c parts ≡ true → Spells version c → Spells version (fold with_part c parts)
 parts_fit version c [] [] each order fits = fits
 parts_fit version c [] (part ∷ parts) each order fits = absurd each
 parts_fit version c (line ∷ lines) [] each order fits = absurd each

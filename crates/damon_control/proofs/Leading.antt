@@ -1,10 +1,11 @@
 -- Lines that say a setup lead from the first line of a text to its body or its end, and those of a commit to its last line.
-use Rattle.std.proofs.Common.{◌≡◌, ◌∷◌, [], ◌==◌, ◌||◌, ◌^◌, ◌<◌, ◌≤◌, ℕ, Bool, true, false, List, ◌++◌, length, map, codes, Some, Ok, Err, refl, sym, ap, subst, ◌∙◌, append_assoc, arith}
+use Rattle.std.proofs.Common.{◌≡◌, ◌∷◌, [], ◌==◌, ◌||◌, ◌^◌, ◌<◌, ◌≤◌, ℕ, Bool, true, false, List, ◌++◌, length, map, codes, Some, Ok, Err, refl, sym, ap, subst, ◌∙◌, append_assoc, arith, decimal}
 use Rattle.std.proofs.lemmas.Bool.Decides.{nat_tests}
 use Rattle.std.proofs.lemmas.List.{append-nil, length-append}
 use Rattle.std.specs.Prelude.{Result, if◌then◌else◌}
-use Rattle.std.specs.List.{AllByRecursion, list_any}
+use Rattle.std.specs.List.{fold, AllByRecursion, list_any}
 use Rattle.std.specs.Result.{result_and}
+use Rattle.damon_types.specs.Faults.{fault_as}
 use Rattle.damon_types.specs.declared.range.RangeSpec.{RangeSpec}
 use Rattle.damon_types.specs.declared.scheme.Scheme.{Scheme}
 use Rattle.damon_types.specs.declared.scheme.SchemeFault.{SchemeFault}
@@ -16,11 +17,12 @@ use Rattle.damon_types.specs.Scheme.{checked_in}
 use Rattle.damon_types.specs.Space.{checked}
 use Rattle.line_text.specs.Laws.{TakesApartPieces}
 use Rattle.line_text.specs.Parts.{parts}
+use Rattle.live_commit.specs.declared.fault.SetupFault.TheVariants.{BadScheme, RepeatedSlot}
 use Rattle.live_commit.specs.declared.fault.SetupFault.{SetupFault}
 use Rattle.live_commit.specs.Checked.{checked_limits}
 use Rattle.live_commit.specs.Commit.{CommitValue}
 use Rattle.live_commit.specs.Setup.{SetupValue}
-use Rattle.live_commit.specs.Slots.{checked_after, checked_free, checked_slot, checked_slots, has_scheme, scheme_fault, sets}
+use Rattle.live_commit.specs.Slots.{checked_after, checked_slot, checked_slots, has_scheme, is_set}
 use Rattle.target_ranges.specs.declared.fault.RangeFault.{RangeFault}
 use Rattle.target_ranges.specs.declared.fault.RangeWhy.{RangeWhy}
 use Rattle.target_ranges.specs.Checked.{checked_next, checked_ranges, fault_at}
@@ -38,8 +40,8 @@ use Rattle.script_lines.specs.Laws.{GivesScheme, IsPart, may_come}
 use Rattle.script_lines.specs.ReadBack.{LinesReadBack}
 use Rattle.script_lines.specs.Refusal.{◌>>=◌}
 use Rattle.damon_control.specs.Script.{AtAttrs, AtCap, AtEnd, AtHeader, AtRanges, AtSchemes, AtSeed, AtTargets, AtUnit, InCommit, Place, Said, Within, after_setup, header_of, place_after, reads, scheme_line_in, version_in}
-use Rattle.script_lines.specs.Spelling.{spelled_attrs, spelled_cap, spelled_range, spelled_seed, spelled_target, spelled_unit}
-use Rattle.damon_control.specs.Text.{EachSays, SaySetup, come_in_order, with_parts}
+use Rattle.script_lines.specs.Spelling.{spelled_attrs, spelled_range, spelled_target}
+use Rattle.damon_control.specs.Text.{EachSays, SaySetup, come_in_order}
 use Rattle.script_lines.specs.Lines.{lines_text}
 use Rattle.script_lines.specs.Words.{begins_with}
 use Rattle.damon_control.proofs.Leads.{leads, leads-line, leads-read, lines_apart}
@@ -81,21 +83,21 @@ header_read OfJournal One = refl
 header_read OfJournal Two = refl
 
 frame_leads : LinesReadBack → (g : Grammar) (f : Frame) (lines : List (List ℕ)) → f.seed < 2 ^ 64 → checked_limits f.unit f.cap f.attrs ≡ Ok tt
-    → leads g AtHeader (header_of g f.version ∷ spelled_seed f.seed ∷ spelled_unit f.unit ∷ spelled_cap f.cap ∷ spelled_attrs f.attrs ∷ lines) ≡ leads g (AtTargets f []) lines
+    → leads g AtHeader (header_of g f.version ∷ (codes "seed " ++ decimal f.seed) ∷ (codes "unit " ++ decimal f.unit) ∷ (codes "cap " ++ decimal f.cap) ∷ spelled_attrs f.attrs ∷ lines) ≡ leads g (AtTargets f []) lines
 frame_leads back g f lines small sound =
     let limits = checked-Limits f.unit f.cap f.attrs sound in
     let most : f.attrs.max ≤ 4096 = omega (arith, limits.max_cap, limits.cap_most) in
     let least : f.attrs.min ≤ 4096 = omega (arith, limits.attrs.max, most) in
     let fits : FitsAttrs f.attrs = (omega (arith, least), omega (arith, most), omega (arith, limits.attrs.aggr_most)) in
     let after_cap = spelled_attrs f.attrs ∷ lines in
-    let after_unit = spelled_cap f.cap ∷ after_cap in
-    let after_seed = spelled_unit f.unit ∷ after_unit in
-    leads-line g AtHeader (AtSeed f.version) (header_of g f.version) (spelled_seed f.seed ∷ after_seed) (header_read g f.version)
-    ∙ leads-line g (AtSeed f.version) (AtUnit f.version f.seed) (spelled_seed f.seed) after_seed (lead_to g (seed_line (spelled_seed f.seed)) f.seed (λ n. AtUnit f.version n) (back.seed f.seed small))
-    ∙ leads-line g (AtUnit f.version f.seed) (AtCap f.version f.seed f.unit) (spelled_unit f.unit) after_unit
-    (lead_to g (unit_line (spelled_unit f.unit)) f.unit (λ n. AtCap f.version f.seed n) (back.unit f.unit limits.unit_some limits.unit_most))
-    ∙ leads-line g (AtCap f.version f.seed f.unit) (AtAttrs f.version f.seed f.unit f.cap) (spelled_cap f.cap) after_cap
-    (lead_to g (cap_line (spelled_cap f.cap)) f.cap (λ n. AtAttrs f.version f.seed f.unit n) (back.cap f.cap limits.cap_some limits.cap_most))
+    let after_unit = (codes "cap " ++ decimal f.cap) ∷ after_cap in
+    let after_seed = (codes "unit " ++ decimal f.unit) ∷ after_unit in
+    leads-line g AtHeader (AtSeed f.version) (header_of g f.version) ((codes "seed " ++ decimal f.seed) ∷ after_seed) (header_read g f.version)
+    ∙ leads-line g (AtSeed f.version) (AtUnit f.version f.seed) (codes "seed " ++ decimal f.seed) after_seed (lead_to g (seed_line (codes "seed " ++ decimal f.seed)) f.seed (λ n. AtUnit f.version n) (back.seed f.seed small))
+    ∙ leads-line g (AtUnit f.version f.seed) (AtCap f.version f.seed f.unit) (codes "unit " ++ decimal f.unit) after_unit
+    (lead_to g (unit_line (codes "unit " ++ decimal f.unit)) f.unit (λ n. AtCap f.version f.seed n) (back.unit f.unit limits.unit_some limits.unit_most))
+    ∙ leads-line g (AtCap f.version f.seed f.unit) (AtAttrs f.version f.seed f.unit f.cap) (codes "cap " ++ decimal f.cap) after_cap
+    (lead_to g (cap_line (codes "cap " ++ decimal f.cap)) f.cap (λ n. AtAttrs f.version f.seed f.unit n) (back.cap f.cap limits.cap_some limits.cap_most))
     ∙ leads-line g (AtAttrs f.version f.seed f.unit f.cap) (AtTargets f []) (spelled_attrs f.attrs) lines
     (lead_to g (attrs_line f.cap (spelled_attrs f.attrs)) f.attrs (λ a. AtTargets (record { version = f.version; seed = f.seed; unit = f.unit; cap = f.cap; attrs = a }) [])
     (back.attrs f.cap f.attrs fits limits.checked limits.max_cap))
@@ -204,20 +206,20 @@ pub both_ok : (r s : Result (Unit {0}) SetupFault) → result_and r s ≡ Ok tt 
 both_ok (Ok t) s ok = (refl, ok)
 both_ok (Err e) s ok = absurd cc
 
-scheme_accepted : (index : ℕ) (r : Result (Unit {0}) SchemeFault) → scheme_fault index r ≡ Ok tt → r ≡ Ok tt
+scheme_accepted : (index : ℕ) (r : Result (Unit {0}) SchemeFault) → (fault_as (BadScheme index) r) ≡ Ok tt → r ≡ Ok tt
 scheme_accepted index (Ok t) ok = refl
 scheme_accepted index (Err why) ok = absurd cc
 
-free_accepted : (index : ℕ) (set : Bool) → checked_free index set ≡ Ok tt → set ≡ false
+free_accepted : (index : ℕ) (set : Bool) → (if set then Err (RepeatedSlot index) else Ok (tt {0})) ≡ Ok tt → set ≡ false
 free_accepted index true ok = absurd cc
 free_accepted index false ok = refl
 
 -- where each change has a scheme, a slot that none sets is a slot that none is of
-none_sets : (slot : ℕ) (changes : List SlotChange) → AllByRecursion (λ c. has_scheme c ≡ true) changes → list_any (sets slot) changes ≡ false → is_changed slot changes ≡ false
+none_sets : (slot : ℕ) (changes : List SlotChange) → AllByRecursion (λ c. has_scheme c ≡ true) changes → is_set slot changes ≡ false → is_changed slot changes ≡ false
 none_sets slot [] each free = refl
 none_sets slot (c ∷ changes) each free =
     let here = rw each.0 at free in
-    let both = both_false (c.slot == slot) (list_any (sets slot) changes) here in
+    let both = both_false (c.slot == slot) (is_set slot changes) here in
     rw both.0 (none_sets slot changes each.1 both.1)
   where
     both_false : (first second : Bool) → (first || second) ≡ false → (first ≡ false) × (second ≡ false)
@@ -232,17 +234,17 @@ each_set-more (d ∷ changes) c each here = (each.0, each_set-more changes c eac
 pub set_sound : (version : Version) (before : List SlotChange) (c : SlotChange) (s : Scheme) → c.scheme ≡ Some s → checked_slot version (length before) before c ≡ Ok tt
     → checked_in version c.slot s ≡ Ok tt
 set_sound version before c s is ok =
-    let set : result_and (scheme_fault (length before) (checked_in version c.slot s)) (checked_free (length before) (list_any (sets c.slot) before)) ≡ Ok tt = rw is at ok in
-    scheme_accepted (length before) (checked_in version c.slot s) (both_ok (scheme_fault (length before) (checked_in version c.slot s)) (checked_free (length before) (list_any (sets c.slot) before)) set).0
+    let set : result_and (fault_as (BadScheme (length before)) (checked_in version c.slot s)) (if is_set c.slot before then Err (RepeatedSlot (length before)) else Ok (tt {0})) ≡ Ok tt = rw is at ok in
+    scheme_accepted (length before) (checked_in version c.slot s) (both_ok (fault_as (BadScheme (length before)) (checked_in version c.slot s)) (if is_set c.slot before then Err (RepeatedSlot (length before)) else Ok (tt {0})) set).0
 
 scheme_read : LinesReadBack → (version : Version) (before : List SlotChange) (line : List ℕ) (c : SlotChange) → AllByRecursion (λ d. has_scheme d ≡ true) before → GivesScheme version line c → checked_slot version (length before) before c ≡ Ok tt
     → scheme_line version before line ≡ Ok c
 scheme_read back version before line c each gives ok =
-    let set : result_and (scheme_fault (length before) (checked_in version c.slot gives.0)) (checked_free (length before) (list_any (sets c.slot) before)) ≡ Ok tt = rw gives.1 at ok in
-    let both = both_ok (scheme_fault (length before) (checked_in version c.slot gives.0)) (checked_free (length before) (list_any (sets c.slot) before)) set in
+    let set : result_and (fault_as (BadScheme (length before)) (checked_in version c.slot gives.0)) (if is_set c.slot before then Err (RepeatedSlot (length before)) else Ok (tt {0})) ≡ Ok tt = rw gives.1 at ok in
+    let both = both_ok (fault_as (BadScheme (length before)) (checked_in version c.slot gives.0)) (if is_set c.slot before then Err (RepeatedSlot (length before)) else Ok (tt {0})) set in
     back.scheme version before line c gives.0 gives gives.1
     (scheme_accepted (length before) (checked_in version c.slot gives.0) both.0)
-    (none_sets c.slot before each (free_accepted (length before) (list_any (sets c.slot) before) both.1))
+    (none_sets c.slot before each (free_accepted (length before) (is_set c.slot before) both.1))
 
 schemes_lead : LinesReadBack → (g : Grammar) (f : Frame) (targets : List Target) (specs : List RangeSpec) (before : List SlotChange) (schemes : List (List ℕ)) (more : List SlotChange) (lines : List (List ℕ))
     → AllByRecursion (λ c. has_scheme c ≡ true) before → EachSays (GivesScheme f.version) schemes more → EachSays (IsSpelledFor g) schemes more → checked_after f.version before more ≡ Ok tt
@@ -268,7 +270,7 @@ part_leads back g b commit line part may is =
     ∙ lead_to g (part_line (version_in g b) commit line) part (λ p. InCommit b (with_part commit p)) read
 
 pub parts_lead : LinesReadBack → (g : Grammar) (b : Within g) (commit : CommitValue) (between : List (List ℕ)) (parts : List Part) (lines : List (List ℕ)) → EachSays (IsPart (version_in g b)) between parts → come_in_order (version_in g b) commit parts ≡ true
-    → leads g (InCommit b commit) (between ++ lines) ≡ leads g (InCommit b (with_parts commit parts)) lines
+    → leads g (InCommit b commit) (between ++ lines) ≡ leads g (InCommit b (fold with_part commit parts)) lines
 parts_lead back g b commit [] [] lines each order = refl
 parts_lead back g b commit (line ∷ between) (part ∷ parts) lines each order =
     let both = both_true (may_come (version_in g b) commit part) (come_in_order (version_in g b) (with_part commit part) parts) order in
@@ -320,7 +322,7 @@ setup_leads laws g seed setup lines opening next back says spelled opens =
     let space = setup.space in
     let after_ranges = says.schemes ++ opening ∷ back in
     let after_targets = map spelled_range says.specs ++ after_ranges in
-    let frame_lines = λ (ls : List (List ℕ)). header_of g setup.version ∷ spelled_seed seed ∷ spelled_unit setup.unit ∷ spelled_cap setup.cap ∷ spelled_attrs setup.attrs ∷ ls in
+    let frame_lines = λ (ls : List (List ℕ)). header_of g setup.version ∷ (codes "seed " ++ decimal seed) ∷ (codes "unit " ++ decimal setup.unit) ∷ (codes "cap " ++ decimal setup.cap) ∷ spelled_attrs setup.attrs ∷ ls in
     let lines_are : header_of g setup.version ∷ (lines ++ opening ∷ back) ≡ frame_lines (map spelled_target space ++ after_targets) =
     ap (λ ls. header_of g setup.version ∷ (ls ++ opening ∷ back)) says.spelled
     ∙ ap frame_lines (regroup (map spelled_target space) (map spelled_range says.specs) says.schemes (opening ∷ back))

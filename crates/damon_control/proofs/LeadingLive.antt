@@ -1,5 +1,5 @@
 -- Lines that say a live script lead from its header to its end.
-use Rattle.std.proofs.Common.{◌≡◌, inl, inr, ◌∷◌, [], ◌+◌, ◌≤◌, ◌<◌, ◌||◌, ℕ, Bool, true, false, nat_le, nat_lt, List, ◌++◌, length, codes, Ok, refl, sym, ap, subst, ◌∙◌, append_assoc, arith}
+use Rattle.std.proofs.Common.{◌≡◌, inl, inr, ◌∷◌, [], ◌+◌, ◌≤◌, ◌<◌, ◌||◌, ℕ, Bool, true, false, nat_le, nat_lt, List, ◌++◌, length, codes, Ok, refl, sym, ap, subst, ◌∙◌, append_assoc, arith, decimal}
 use Rattle.std.proofs.lemmas.Bool.Decides.{nat_tests}
 use Rattle.std.proofs.lemmas.List.{append-nil, length-append}
 use Rattle.std.proofs.lemmas.List.Sums.{sum_by-append, sum_by-cons}
@@ -23,7 +23,6 @@ use Rattle.damon_control.specs.LiveView.{with_controllers, with_workers}
 use Rattle.script_lines.specs.ReadBack.{LinesReadBack}
 use Rattle.script_lines.specs.Refusal.{◌>>=◌, only_if}
 use Rattle.damon_control.specs.Script.{AtEnd, AtHeader, InBody, InCommit, header_of, live_of, live_within, place_after}
-use Rattle.script_lines.specs.Spelling.{spelled_passes}
 use Rattle.damon_control.specs.Text.{AreCommit, EachSays, all_lines}
 use Rattle.script_lines.specs.Words.{alone, arguments, begins_with, number_32, one_word}
 use Rattle.damon_control.proofs.Leading.{LeadLaws, Opens, either_true, else_way, led_read, parts_lead, setup_leads, then_way}
@@ -232,13 +231,13 @@ controllers_lead back v cs (group ∷ groups) [] lines each few sum = absurd eac
 -- ---- a whole text
 
 -- `passes N` opens the blocks of a live script
-pub passes_opens : LinesReadBack → (seed : ℕ) (setup : SetupValue) (n : ℕ) → 1 ≤ n → n ≤ MAX_PASSES → Opens OfLive seed setup (spelled_passes n) (InBody (live_begun seed setup n))
+pub passes_opens : LinesReadBack → (seed : ℕ) (setup : SetupValue) (n : ℕ) → 1 ≤ n → n ≤ MAX_PASSES → Opens OfLive seed setup (codes "passes " ++ decimal n) (InBody (live_begun seed setup n))
 passes_opens back seed setup n some few =
     let read = back.passes n some few in
-    let begins = passes_begins (spelled_passes n) n read in
+    let begins = passes_begins (codes "passes " ++ decimal n) n read in
     record {
-      no_range = begins_other (codes "passes") (codes "range") (spelled_passes n) begins.begins refl;
-      no_scheme = begins_other (codes "passes") (codes "scheme") (spelled_passes n) begins.begins refl;
+      no_range = begins_other (codes "passes") (codes "range") (codes "passes " ++ decimal n) begins.begins refl;
+      no_scheme = begins_other (codes "passes") (codes "scheme") (codes "passes " ++ decimal n) begins.begins refl;
       opens = λ specs watched.
           ap (λ r. r >>= λ passes. Ok (InBody (live_begun seed (record setup { ranges = ranges_of setup.space specs }) passes))) read
           ∙ ap (λ (gs : List Range). Ok (InBody (live_begun seed (record setup { ranges = gs }) n))) watched;
@@ -247,13 +246,13 @@ passes_opens back seed setup n some few =
 -- the lines of a text that says a live script
 abbrev live_lines : (text : List ℕ) (v : LiveValue) → IsLiveText text v → List (List ℕ)
 live_lines text v says =
-    header_of OfLive v.setup.version ∷ (says.setup ++ spelled_passes v.passes ∷ (all_lines says.workers ++ (all_lines says.controllers ++ codes "end" ∷ [])))
+    header_of OfLive v.setup.version ∷ (says.setup ++ (codes "passes " ++ decimal v.passes) ∷ (all_lines says.workers ++ (all_lines says.controllers ++ codes "end" ∷ [])))
 
 -- lines that say a live script lead to its end
 lines_lead : LeadLaws → (text : List ℕ) (v : LiveValue) (says : IsLiveText text v) → leads OfLive AtHeader (live_lines text v says) ≡ Ok (AtEnd v)
 lines_lead laws text v says =
     let ends = codes "end" ∷ [] in
-    setup_leads laws OfLive v.seed v.setup says.setup (spelled_passes v.passes) (InBody (live_begun v.seed v.setup v.passes)) (all_lines says.workers ++ (all_lines says.controllers ++ ends)) says.says_setup
+    setup_leads laws OfLive v.seed v.setup says.setup (codes "passes " ++ decimal v.passes) (InBody (live_begun v.seed v.setup v.passes)) (all_lines says.workers ++ (all_lines says.controllers ++ ends)) says.says_setup
     (each_in_any OfLive (λ line c. tt) v.setup.version says.says_setup.schemes v.setup.slots says.says_setup.give)
     (passes_opens laws.lines v.seed v.setup v.passes says.limits.some_pass says.limits.passes)
     ∙ workers_lead laws.lines v [] says.workers v.workers (all_lines says.controllers ++ ends) says.say_workers says.limits.workers says.limits.touches

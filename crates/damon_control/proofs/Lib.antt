@@ -30,5 +30,6 @@ pub mod ReadWritten
 pub mod HeadWritten
 pub mod CommitParts
 pub mod CommitLemmas
+pub mod RangeLines
 mod WrittenExamples
 mod HeadExamples

@@ -1,7 +1,7 @@
 -- What a live text says keeps the limits of a live script, and a text can spell it.
 use Rattle.std.proofs.Common.{◌≤◌, ◌∷◌, [], ℕ, List, Option, Some, None, length, subst, arith, length-append}
 use Rattle.std.specs.Prelude.{IfSome}
-use Rattle.std.specs.List.{AllByRecursion}
+use Rattle.std.specs.List.{fold, AllByRecursion}
 use Rattle.damon_types.specs.declared.range.RangeSpec.{RangeSpec}
 use Rattle.damon_types.specs.declared.scheme.Version.{Version}
 use Rattle.live_commit.specs.Commit.{CommitValue}
@@ -12,7 +12,7 @@ use Rattle.script_lines.specs.Body.{no_commit, with_part, with_range}
 use Rattle.damon_control.specs.Live.{CallValue, CommitCall, LiveValue, ShowCall}
 use Rattle.damon_control.specs.LiveText.{IsLiveText, SayCall, SayController}
 use Rattle.damon_control.specs.Sound.{IsLiveSound, IsSpelledCall}
-use Rattle.damon_control.specs.Text.{EachSays, with_parts}
+use Rattle.damon_control.specs.Text.{EachSays}
 use Rattle.damon_control.specs.WriteBack.{SpellsRanges}
 use Rattle.damon_control.proofs.SetupLimits.{SaySetup-InOrder, SaySetup-IsSetup}
 use Rattle.damon_control.proofs.SpaceLimits.{checked-IsSpace}
@@ -29,7 +29,7 @@ part_spelled c (Slot change) fine = fine
 part_spelled c (Metric value) fine = fine
 part_spelled c (Cost cost) fine = fine
 
-parts_spelled : (c : CommitValue) (parts : List Part) → SpellsRanges c → SpellsRanges (with_parts c parts)
+parts_spelled : (c : CommitValue) (parts : List Part) → SpellsRanges c → SpellsRanges (fold with_part c parts)
 parts_spelled c [] fine = fine
 parts_spelled c (part ∷ parts) fine = parts_spelled (with_part c part) parts (part_spelled c part fine)
 

@@ -1,8 +1,8 @@
 -- What is written of a setup and of a commit is read back as the same.
-use Rattle.std.proofs.Common.{◌≡◌, ◌∷◌, [], ◌&&◌, ◌+◌, ◌*◌, ◌%◌, ◌^◌, ◌<◌, ◌≤◌, ◌==◌, inl, inr, ℕ, true, false, nat_le, nat_lt, List, ◌++◌, length, map, codes, Ok, Err, Some, None, refl, sym, ap, subst, ◌∙◌, append_assoc, arith}
+use Rattle.std.proofs.Common.{◌≡◌, ◌∷◌, [], ◌&&◌, ◌+◌, ◌*◌, ◌%◌, ◌^◌, ◌<◌, ◌≤◌, ◌==◌, inl, inr, ℕ, true, false, nat_le, nat_lt, List, ◌++◌, length, map, codes, Ok, Err, Some, None, refl, sym, ap, subst, ◌∙◌, append_assoc, arith, decimal}
 use Rattle.std.specs.Prelude.{All, IfSome, IsSome, Option, Result}
 use Rattle.std.specs.Result.{result_and}
-use Rattle.std.specs.List.{AllByRecursion}
+use Rattle.std.specs.List.{fold, AllByRecursion}
 use Rattle.std.proofs.lemmas.Bool.Decides.{nat_tests}
 use Rattle.std.proofs.lemmas.List.{append-nil, length-append, length-map}
 use Rattle.std.proofs.lemmas.List.Elements.{All-append, All-cons, All-head, All-nil, All-tail}
@@ -27,14 +27,14 @@ use Rattle.damon_control.specs.declared.grammar.Grammar.{Grammar}
 use Rattle.damon_control.specs.declared.grammar.Grammar.TheVariants.{OfScript, OfLive, OfJournal}
 use Rattle.script_lines.specs.declared.part.Part.{Part}
 use Rattle.script_lines.specs.declared.part.Part.TheVariants.{Attrs as AttrsPart, Range as RangePart, Slot, Metric, Cost}
-use Rattle.script_lines.specs.Body.{no_commit}
+use Rattle.script_lines.specs.Body.{with_part, no_commit}
 use Rattle.script_lines.specs.Fits.{FitsAttrs, FitsCost, FitsRange, FitsChange}
 use Rattle.script_lines.specs.Laws.{GivesScheme, IsPart}
 use Rattle.script_lines.specs.Refusal.{◌>>=◌}
 use Rattle.damon_control.specs.Live.{live_begun}
 use Rattle.damon_control.specs.Script.{AtHeader, InBody, InCommit, Place, Within, at, begun, header_of, place_after, reads, version_in}
-use Rattle.script_lines.specs.Spelling.{spelled_passes, spelled_range, spelled_target}
-use Rattle.damon_control.specs.Text.{EachSays, SaySetup, come_in_order, number_lines, with_parts}
+use Rattle.script_lines.specs.Spelling.{spelled_range, spelled_target}
+use Rattle.damon_control.specs.Text.{EachSays, SaySetup, come_in_order, number_lines}
 use Rattle.script_lines.specs.Lines.{lines_text}
 use Rattle.script_lines.specs.WriteBack.{ChangesAreReadBack}
 use Rattle.damon_control.specs.WriteBack.{CommitsAreReadBack, FitsCommit, IsSpelledIn, IsWritable, LiveSetupsAreReadBack, MayCommit, SetupsAreReadBack}
@@ -200,7 +200,7 @@ setup_read_back laws back together seed s body is = opening_read_back laws back 
 -- the lines of a setup up to `passes` lead to its blocks
 pub live_setup_read_back : LeadLaws → ChangesAreReadBack → PutsPartsTogether → LiveSetupsAreReadBack
 live_setup_read_back laws back together seed s passes blocks is some few =
-    opening_read_back laws back together OfLive seed s (spelled_passes passes) (InBody (live_begun seed s passes)) blocks is (passes_opens laws.lines seed s passes some few)
+    opening_read_back laws back together OfLive seed s (codes "passes " ++ decimal passes) (InBody (live_begun seed s passes)) blocks is (passes_opens laws.lines seed s passes some few)
 
 -- ---- a commit
 
@@ -302,7 +302,7 @@ commit_of attrs ranges r = record { attrs = attrs; ranges = ranges; slot = r.slo
 -- the parts are in order, and make a commit
 pub record AreIn (version : Version) (before : CommitValue) (parts : List Part) (c : CommitValue) : Type 0 where
   pub in_order : come_in_order version before parts ≡ true
-  pub made : with_parts before parts ≡ c
+  pub made : fold with_part before parts ≡ c
 
 -- a cost comes in version Two alone
 abbrev pub CostIsIn : Version → Option CostPart → Type 0

@@ -1,5 +1,5 @@
 -- What a line adds to what the lines of a live script before it say.
-use Rattle.std.proofs.Common.{◌≡◌, ◌∷◌, [], ◌+◌, ◌<◌, ◌≤◌, ◌==◌, inl, inr, ℕ, true, false, nat_le, nat_lt, List, ◌++◌, length, codes, Ok, refl, sym, ap, subst, ◌∙◌, append_assoc, arith}
+use Rattle.std.proofs.Common.{◌≡◌, ◌∷◌, [], ◌+◌, ◌<◌, ◌≤◌, ◌==◌, inl, inr, ℕ, true, false, nat_le, nat_lt, List, ◌++◌, length, codes, Ok, refl, sym, ap, subst, ◌∙◌, append_assoc, arith, decimal}
 use Rattle.std.proofs.lemmas.Bool.Decides.{nat_tests}
 use Rattle.std.proofs.lemmas.List.{append-nil, length-append}
 use Rattle.std.proofs.lemmas.List.Folds.{concat-append}
@@ -18,7 +18,6 @@ use Rattle.script_lines.specs.Blocks.{block_line, touched, touches_within, touch
 use Rattle.damon_control.specs.LiveText.{SayCall, SayController, SayWorker, SaysPages}
 use Rattle.script_lines.specs.Refusal.{◌>>=◌}
 use Rattle.damon_control.specs.Script.{AtEnd, InBody, InCommit, Place, after_live, header_of, live_within}
-use Rattle.script_lines.specs.Spelling.{spelled_passes}
 use Rattle.damon_control.specs.Text.{EachSays, all_lines}
 use Rattle.script_lines.specs.Lines.{lines_text}
 use Rattle.script_lines.specs.Words.{alone, begins_with}
@@ -74,13 +73,13 @@ none_is (x ∷ xs) is = absurd (omega (arith, is))
 
 -- the lines up to the blocks, and those of the blocks
 abbrev live_lines : Version → List (List ℕ) → ℕ → List (List ℕ) → List (List ℕ)
-live_lines version setup passes blocks = header_of OfLive version ∷ (setup ++ spelled_passes passes ∷ blocks)
+live_lines version setup passes blocks = header_of OfLive version ∷ (setup ++ (codes "passes " ++ decimal passes) ∷ blocks)
 
 more_lines : (version : Version) (lines setup : List (List ℕ)) (passes : ℕ) (blocks more : List (List ℕ)) → lines ≡ live_lines version setup passes blocks
     → lines ++ more ≡ live_lines version setup passes (blocks ++ more)
 more_lines version lines setup passes blocks more is =
     ap (λ ls. ls ++ more) is
-    ∙ ap (λ ls. header_of OfLive version ∷ ls) (append_assoc setup (spelled_passes passes ∷ blocks) more)
+    ∙ ap (λ ls. header_of OfLive version ∷ ls) (append_assoc setup ((codes "passes " ++ decimal passes) ∷ blocks) more)
 
 -- ---- workers
 

@@ -1,8 +1,9 @@
 -- What lines say that lead from the header of a text to a place.
-use Rattle.std.proofs.Common.{◌≡◌, ◌∷◌, [], ◌&&◌, ◌+◌, ◌^◌, ◌<◌, ◌≤◌, ℕ, Bool, true, false, List, ◌++◌, length, map, codes, Ok, refl, sym, ap, subst, ◌∙◌, append_assoc, arith}
+use Rattle.std.proofs.Common.{◌≡◌, ◌∷◌, [], ◌&&◌, ◌+◌, ◌^◌, ◌<◌, ◌≤◌, ℕ, Bool, true, false, List, ◌++◌, length, map, codes, Ok, refl, sym, ap, subst, ◌∙◌, append_assoc, arith, decimal}
 use Rattle.std.proofs.lemmas.List.{append-nil}
 use Rattle.std.proofs.lemmas.List.Sums.{sum_by-cons}
 use Rattle.std.specs.Prelude.{Result, if◌then◌else◌}
+use Rattle.std.specs.List.{fold}
 use Rattle.damon_types.specs.declared.range.RangeSpec.{RangeSpec}
 use Rattle.damon_types.specs.declared.scheme.Version.{Version}
 use Rattle.damon_types.specs.declared.space.Target.{Target}
@@ -28,8 +29,8 @@ use Rattle.damon_control.specs.Live.{LiveValue}
 use Rattle.damon_control.specs.LiveText.{IsLiveText, KeepsLimits, SayController, SayWorker}
 use Rattle.script_lines.specs.Refusal.{◌>>=◌}
 use Rattle.damon_control.specs.Script.{AtAttrs, AtCap, AtEnd, AtHeader, AtRanges, AtSchemes, AtSeed, AtTargets, AtUnit, Body, HeadValue, InBody, InCommit, Place, Said, Within, header_of, version_in}
-use Rattle.script_lines.specs.Spelling.{spelled_attrs, spelled_cap, spelled_passes, spelled_range, spelled_seed, spelled_target, spelled_unit}
-use Rattle.damon_control.specs.Text.{EachSays, IsText, SayCommand, SaySetup, all_lines, come_in_order, with_parts}
+use Rattle.script_lines.specs.Spelling.{spelled_attrs, spelled_range, spelled_target}
+use Rattle.damon_control.specs.Text.{EachSays, IsText, SayCommand, SaySetup, all_lines, come_in_order}
 use Rattle.script_lines.specs.Lines.{lines_text}
 use Rattle.damon_control.specs.WriteBack.{MayCommit}
 use Rattle.damon_control.proofs.OneSpelling.{IsSpelledFor}
@@ -44,7 +45,7 @@ pub record TextLaws : Type 0 where
 -- the first line, those of a frame, and others after them
 abbrev pub frame_lines : Grammar → Frame → List (List ℕ) → List (List ℕ)
 frame_lines g f lines =
-    header_of g f.version ∷ spelled_seed f.seed ∷ spelled_unit f.unit ∷ spelled_cap f.cap ∷ spelled_attrs f.attrs ∷ lines
+    header_of g f.version ∷ (codes "seed " ++ decimal f.seed) ∷ (codes "unit " ++ decimal f.unit) ∷ (codes "cap " ++ decimal f.cap) ∷ spelled_attrs f.attrs ∷ lines
 
 -- a frame within its limits
 pub record IsFrame (f : Frame) : Type 0 where
@@ -87,7 +88,7 @@ pub record SayBlocks (lines : List (List ℕ)) (v : LiveValue) : Type 0 where
   pub setup : List (List ℕ)
   pub workers : List (List (List ℕ))
   pub controllers : List (List (List ℕ))
-  pub spelled : lines ≡ header_of OfLive v.setup.version ∷ (setup ++ spelled_passes v.passes ∷ (all_lines workers ++ all_lines controllers))
+  pub spelled : lines ≡ header_of OfLive v.setup.version ∷ (setup ++ (codes "passes " ++ decimal v.passes) ∷ (all_lines workers ++ all_lines controllers))
   pub says_setup : SaySetup setup v.seed v.setup
   pub say_workers : EachSays (SayWorker v.setup.space) workers v.workers
   pub say_controllers : EachSays (SayController v.setup.version) controllers v.controllers
@@ -109,7 +110,7 @@ pub record SayCommit (g : Grammar) (lines : List (List ℕ)) (b : Within g) (com
   pub begins : MayCommit g b
   pub each : EachSays (IsPart (version_in g b)) between parts
   pub in_order : come_in_order (version_in g b) no_commit parts ≡ true
-  pub made : with_parts no_commit parts ≡ commit
+  pub made : fold with_part no_commit parts ≡ commit
 
 -- a text says the head of a journal: its first line with the version, the lines of its setup, the schemes in their one spelling, and `begin`
 pub record SaysHead (text : List ℕ) (h : HeadValue) : Type 0 where
@@ -128,11 +129,11 @@ IsTextOf OfJournal text h = SaysHead text h
 abbrev pub Says : (g : Grammar) → List (List ℕ) → Place g → Type 0
 Says g lines AtHeader = lines ≡ []
 Says g lines (AtSeed version) = lines ≡ header_of g version ∷ []
-Says g lines (AtUnit version seed) = (lines ≡ header_of g version ∷ spelled_seed seed ∷ []) × (seed < 2 ^ 64)
+Says g lines (AtUnit version seed) = (lines ≡ header_of g version ∷ (codes "seed " ++ decimal seed) ∷ []) × (seed < 2 ^ 64)
 Says g lines (AtCap version seed unit) =
-    (lines ≡ header_of g version ∷ spelled_seed seed ∷ spelled_unit unit ∷ []) × (seed < 2 ^ 64) × (checked_unit unit ≡ Ok tt)
+    (lines ≡ header_of g version ∷ (codes "seed " ++ decimal seed) ∷ (codes "unit " ++ decimal unit) ∷ []) × (seed < 2 ^ 64) × (checked_unit unit ≡ Ok tt)
 Says g lines (AtAttrs version seed unit cap) =
-    (lines ≡ header_of g version ∷ spelled_seed seed ∷ spelled_unit unit ∷ spelled_cap cap ∷ [])
+    (lines ≡ header_of g version ∷ (codes "seed " ++ decimal seed) ∷ (codes "unit " ++ decimal unit) ∷ (codes "cap " ++ decimal cap) ∷ [])
     × (seed < 2 ^ 64)
     × (checked_unit unit ≡ Ok tt)
     × (checked_cap cap ≡ Ok tt)
@@ -165,7 +166,7 @@ pub all_lines-more : (groups : List (List (List ℕ))) (group : List (List ℕ))
 all_lines-more [] group = append-nil group
 all_lines-more (g ∷ groups) group = ap (λ ls. g ++ ls) (all_lines-more groups group) ∙ sym (append_assoc g (all_lines groups) group)
 
-pub with_parts-more : (commit : CommitValue) (parts : List Part) (part : Part) → with_parts commit (parts ++ part ∷ []) ≡ with_part (with_parts commit parts) part
+pub with_parts-more : (commit : CommitValue) (parts : List Part) (part : Part) → fold with_part commit (parts ++ part ∷ []) ≡ with_part (fold with_part commit parts) part
 with_parts-more commit [] part = refl
 with_parts-more commit (p ∷ parts) part = with_parts-more (with_part commit p) parts part
 
@@ -173,7 +174,7 @@ both_true : (first second : Bool) → (first && second) ≡ true → (first ≡ 
 both_true true second both = (refl, both)
 both_true false second both = absurd cc
 
-pub order-more : (version : Version) (commit : CommitValue) (parts : List Part) (part : Part) → come_in_order version commit parts ≡ true → may_come version (with_parts commit parts) part ≡ true → come_in_order version commit (parts ++ part ∷ []) ≡ true
+pub order-more : (version : Version) (commit : CommitValue) (parts : List Part) (part : Part) → come_in_order version commit parts ≡ true → may_come version (fold with_part commit parts) part ≡ true → come_in_order version commit (parts ++ part ∷ []) ≡ true
 order-more version commit [] part before here = rw here refl
 order-more version commit (p ∷ parts) part before here =
     let both = both_true (may_come version commit p) (come_in_order version (with_part commit p) parts) before in

@@ -7,6 +7,7 @@ use Rattle.damon_types.specs.declared.scheme.SlotChange.{SlotChange}
 use Rattle.damon_types.specs.declared.space.Target.{Target}
 use Rattle.line_text.specs.Parts.{parts}
 use Rattle.live_commit.specs.Commit.{CommitValue}
+use Rattle.live_commit.specs.Setup.{SetupValue}
 use Rattle.target_ranges.specs.Checked.{fault_at}
 use Rattle.damon_control.specs.declared.grammar.Grammar.{Grammar}
 use Rattle.damon_control.specs.declared.grammar.Grammar.TheVariants.{OfScript, OfLive, OfJournal}
@@ -22,7 +23,7 @@ use Rattle.script_lines.specs.Refusal.{◌>>=◌}
 use Rattle.damon_control.specs.Script.{AtAttrs, AtCap, AtEnd, AtHeader, AtRanges, AtSchemes, AtSeed, AtTargets, AtUnit, HeadValue, InBody, InCommit, Place, Said, ScriptValue, Within, after_commit, after_ranges, after_schemes, after_setup, after_targets, after_within, head_of, live_of, opened, place_after, reads, scheme_line_in, script_of, version_in, version_said, with_commit}
 use Rattle.script_lines.specs.Lines.{lines_text}
 use Rattle.script_lines.specs.Spelling.{spelled_range, spelled_target}
-use Rattle.damon_control.specs.Text.{AreCommit, IsText, setup_lines}
+use Rattle.damon_control.specs.Text.{AreCommit, IsText, number_lines}
 use Rattle.script_lines.specs.Words.{alone, begins_with}
 use Rattle.damon_control.proofs.Leads.{leads, read-Lead}
 use Rattle.damon_control.proofs.LineWords.{version_said-Ok}
@@ -31,6 +32,11 @@ use Rattle.damon_control.proofs.SayBlocks.{in_blocks, more_call}
 use Rattle.damon_control.proofs.SayCommands.{in_body, more_command}
 use Rattle.damon_control.proofs.SayPlaces.{IsTextOf, SayCommit, SayRanges, SaySchemes, SayTargets, SayWithin, Says, SaysHead, TextLaws, both_ways, each_more, frame_lines, order-more, read_to, with_parts-more}
 use Rattle.damon_control.proofs.Steps.{bind-Ok, either_way}
+
+-- the lines of a setup up to its schemes, from `seed` on
+abbrev setup_lines : ℕ → SetupValue → List RangeSpec → List (List ℕ)
+setup_lines seed setup specs =
+    number_lines seed setup.unit setup.cap setup.attrs ++ (map spelled_target setup.space ++ map spelled_range specs)
 
 -- the lines of a commit, when its last line is there
 abbrev group_of : List (List ℕ) → List (List ℕ)

@@ -1,6 +1,7 @@
 -- What a line of a scheme says is a scheme whose numbers are within their fields, and whose quota has a time in version Two alone.
 use Rattle.std.proofs.Common.{◌≡◌, ◌∷◌, [], ℕ, ◌^◌, ◌<◌, List, ◌++◌, length, Option, Some, None, Ok, refl, sym, subst, arith, length-append}
-use Rattle.std.specs.Prelude.{All, IfSome, nat_lt}
+use Rattle.std.specs.List.{AllByRecursion}
+use Rattle.std.specs.Prelude.{All, IfSome, nat_lt, option_map}
 use Rattle.std.proofs.lemmas.Bool.Decides.{nat_tests}
 use Rattle.std.proofs.lemmas.List.Elements.{All-append, All-from_recursion}
 use Rattle.damon_types.specs.declared.filter.Filter.{Filter}
@@ -10,13 +11,13 @@ use Rattle.damon_types.specs.declared.scheme.Scheme.{Scheme}
 use Rattle.damon_types.specs.declared.scheme.SlotChange.{SlotChange}
 use Rattle.damon_types.specs.declared.scheme.Version.{Version}
 use Rattle.damon_types.specs.declared.scheme.Version.TheVariants.{One, Two}
-use Rattle.damon_types.specs.Scheme.{checked_time, timed_in}
+use Rattle.damon_types.specs.Scheme.{checked_time}
 use Rattle.script_lines.specs.declared.kind.ScriptKind.TheVariants.{Limit}
 use Rattle.script_lines.specs.declared.keys.Setting.{Setting}
 use Rattle.script_lines.specs.declared.keys.Setting.TheVariants.{Size, Count, Age, Quota as QuotaOf, Time, Weights, Prefer, Marks, Filter as FilterOf}
-use Rattle.script_lines.specs.Fits.{FitSettings, FitsChange, FitsKind, FitsQuota, FitsScheme}
+use Rattle.script_lines.specs.Fits.{FitsChange, FitsKind, FitsQuota, FitsScheme, FitsSetting}
 use Rattle.script_lines.specs.Laws.{EmptiesSlot, GivesScheme, IsScheme}
-use Rattle.script_lines.specs.Settings.{AreAfter, default_scheme, settled, with_setting, with_time}
+use Rattle.script_lines.specs.Settings.{AreAfter, default_scheme, settled, with_setting}
 use Rattle.damon_control.proofs.Steps.{bind-Ok, only_if-Ok}
 
 -- its numbers are within their fields, and its quota has no time in version One
@@ -29,10 +30,18 @@ any_in_two : (q : Option Quota) → checked_time Two q ≡ Ok tt
 any_in_two None = refl
 any_in_two (Some q) = refl
 
-no_time : (version : Version) (time : Option ℕ) → time ≡ None → timed_in version time ≡ Ok tt
-no_time One None none = refl
-no_time One (Some t) none = absurd cc
-no_time Two time none = refl
+no_time : (version : Version) (bytes reset : ℕ) (time : Option ℕ) → time ≡ None → checked_time version (Some (record { bytes = bytes; reset = reset; time = time })) ≡ Ok tt
+no_time One bytes reset None none = refl
+no_time One bytes reset (Some t) none = absurd cc
+no_time Two bytes reset time none = refl
+
+no_time-fits : (time : Option ℕ) → time ≡ None → IfSome time (λ t. t < 2 ^ 64)
+no_time-fits None none = tt
+no_time-fits (Some t) none = absurd cc
+
+-- a quota, if there is one, with this time
+abbrev with_time : Option Quota → ℕ → Option Quota
+with_time quota time = option_map (λ (q : Quota). record q { time = Some time }) quota
 
 with_time-fits : (q : Option Quota) (time : ℕ) → IfSome q FitsQuota → time < 2 ^ 64 → IfSome (with_time q time) FitsQuota
 with_time-fits None time fits below = tt
@@ -54,7 +63,7 @@ default_fits action = record {
 }
 
 settled_fits : (version : Version) (s : Scheme) (last : Option Setting) (settings : List Setting) (scheme : Scheme) → FitsScheme s → checked_time version s.quota ≡ Ok tt
-    → FitSettings settings → AreAfter version last settings → settled s settings ≡ Ok scheme → FitsIn version scheme
+    → AllByRecursion FitsSetting settings → AreAfter version last settings → settled s settings ≡ Ok scheme → FitsIn version scheme
 settled_fits version s last [] scheme fits timed each order e =
     let same : s ≡ scheme = cc in
     subst (FitsIn version) same (fits, timed)
@@ -69,8 +78,8 @@ settled_fits version s last (Age x ∷ more) scheme fits timed each order e =
     (record { size = fits.size; count = fits.count; age = each.0; quota = fits.quota; weights = fits.weights; marks = fits.marks; filters = fits.filters; few = fits.few }) timed each.1 order.1 e
 settled_fits version s last (QuotaOf q ∷ more) scheme fits timed each order e =
     settled_fits version (record s { quota = Some q }) (Some (QuotaOf q)) more scheme
-    (record { size = fits.size; count = fits.count; age = fits.age; quota = each.0.0; weights = fits.weights; marks = fits.marks; filters = fits.filters; few = fits.few })
-    (no_time version q.time each.0.1) each.1 order.1 e
+    (record { size = fits.size; count = fits.count; age = fits.age; quota = (each.0.0, each.0.1, no_time-fits q.time each.0.2); weights = fits.weights; marks = fits.marks; filters = fits.filters; few = fits.few })
+    (no_time version q.bytes q.reset q.time each.0.2) each.1 order.1 e
 settled_fits version s last (Time t ∷ more) scheme fits timed each order e =
     let two : version ≡ Two = (order.0.timed refl).0 in
     settled_fits version (record s { quota = with_time s.quota t }) (Some (Time t)) more scheme

@@ -1,10 +1,11 @@
 -- What lines say is a setup within its limits.
 use Rattle.std.proofs.Common.{◌≡◌, ℕ, ◌≤◌, List, [], ◌∷◌, length, Ok, Err, refl, ap, subst, ◌∙◌, sym, arith}
-use Rattle.std.specs.Prelude.{IsSome, Result}
+use Rattle.std.specs.Prelude.{nat_lt, if◌then◌else◌, IsSome, Result}
 use Rattle.std.specs.List.{AllByRecursion}
 use Rattle.std.specs.Result.{result_and}
 use Rattle.std.proofs.lemmas.Bool.Decides.{nat_tests}
 use Rattle.std.proofs.lemmas.List.Elements.{All-from_recursion}
+use Rattle.damon_types.specs.Faults.{fault_as}
 use Rattle.damon_types.specs.declared.attrs.Attrs.{Attrs}
 use Rattle.damon_types.specs.declared.attrs.AttrsFault.{AttrsFault}
 use Rattle.damon_types.specs.declared.range.Range.{Range}
@@ -12,8 +13,9 @@ use Rattle.damon_types.specs.declared.scheme.SlotChange.{SlotChange}
 use Rattle.damon_types.specs.declared.scheme.Version.{Version}
 use Rattle.damon_types.specs.Attrs.{IsAttrs, checked_attrs}
 use Rattle.damon_types.specs.Ranges.{InOrder}
+use Rattle.live_commit.specs.declared.fault.SetupFault.TheVariants.{BadAttrs, OverCap}
 use Rattle.live_commit.specs.declared.fault.SetupFault.{SetupFault}
-use Rattle.live_commit.specs.Checked.{attrs_fault, checked_cap, checked_limits, checked_max, checked_unit}
+use Rattle.live_commit.specs.Checked.{checked_cap, checked_limits, checked_unit}
 use Rattle.live_commit.specs.Setup.{IsSetup, SetupValue}
 use Rattle.target_ranges.specs.Laws.{MakesEach, MakesInOrder}
 use Rattle.script_lines.specs.Laws.{GivesScheme}
@@ -25,7 +27,7 @@ both_ok : (r s : Result (Unit {0}) SetupFault) → result_and r s ≡ Ok tt → 
 both_ok (Ok t) s ok = (refl, ok)
 both_ok (Err e) s ok = absurd cc
 
-attrs_accepted : (r : Result (Unit {0}) AttrsFault) → attrs_fault r ≡ Ok tt → r ≡ Ok tt
+attrs_accepted : (r : Result (Unit {0}) AttrsFault) → (fault_as BadAttrs r) ≡ Ok tt → r ≡ Ok tt
 attrs_accepted (Ok t) ok = refl
 attrs_accepted (Err why) ok = absurd cc
 
@@ -35,7 +37,7 @@ unit_kept unit ok = (grind (arith, nat_tests), grind (arith, nat_tests))
 cap_kept : (cap : ℕ) → checked_cap cap ≡ Ok tt → (3 ≤ cap) × (cap ≤ 4096)
 cap_kept cap ok = (grind (arith, nat_tests), grind (arith, nat_tests))
 
-max_kept : (max cap : ℕ) → checked_max max cap ≡ Ok tt → max ≤ cap
+max_kept : (max cap : ℕ) → (if nat_lt cap max then Err (OverCap max cap) else Ok (tt {0})) ≡ Ok tt → max ≤ cap
 max_kept max cap ok = grind (arith, nat_tests)
 
 attrs_kept : (a : Attrs) → checked_attrs a ≡ Ok tt → IsAttrs a
@@ -60,7 +62,7 @@ pub checked-Limits : (unit cap : ℕ) (a : Attrs) → checked_limits unit cap a 
 checked-Limits unit cap a ok =
     let first = both_ok (checked_unit unit) _ ok in
     let second = both_ok (checked_cap cap) _ first.1 in
-    let third = both_ok (attrs_fault (checked_attrs a)) (checked_max a.max cap) second.1 in
+    let third = both_ok (fault_as BadAttrs (checked_attrs a)) (if nat_lt cap a.max then Err (OverCap a.max cap) else Ok tt) second.1 in
     let attrs = attrs_accepted (checked_attrs a) third.0 in
     record {
       unit_some = (unit_kept unit first.0).0;

@@ -1,6 +1,6 @@
 -- Targets that are accepted, and ranges that are accepted in them, keep the limits of a space and of a setup.
 use Rattle.std.proofs.Common.{◌≡◌, ℕ, zero, suc, ◌+◌, ◌-◌, ◌/◌, ◌%◌, ◌^◌, ◌≤◌, ◌<◌, ◌==◌, Bool, true, false, not, nat_le, nat_lt, List, [], ◌∷◌, ◌++◌, length, take, Ok, Err, Some, None, refl, ap, subst, arith, add-one}
-use Rattle.std.specs.Prelude.{All, Option, Result, slice_get, if◌then◌else◌}
+use Rattle.std.specs.Prelude.{All, Option, Result, slice_get, if◌then◌else◌, ◌&&◌, ◌*◌, slice_index, map}
 use Rattle.std.specs.List.{AllByRecursion}
 use Rattle.std.specs.Result.{result_and}
 use Rattle.std.proofs.lemmas.Bool.Decides.{nat_tests}
@@ -18,8 +18,8 @@ use Rattle.damon_types.specs.Within.{LiesInTarget}
 use Rattle.target_ranges.specs.declared.fault.RangeFault.{RangeFault}
 use Rattle.target_ranges.specs.declared.fault.RangeWhy.{RangeWhy}
 use Rattle.target_ranges.specs.declared.fault.RangeWhy.TheVariants.{TooMany, Unaligned, Reversed, OutsideSpan, TooSmall, BadClass}
-use Rattle.target_ranges.specs.Checked.{checked_from as checked_ranges_from, checked_range, checked_ranges, checked_within, fault_at, is_aligned, lies_in}
-use Rattle.target_ranges.specs.Made.{IsPlaced, base_of, page_count, range_of, ranges_of}
+use Rattle.target_ranges.specs.Checked.{checked_from as checked_ranges_from, checked_range, checked_ranges, checked_within, fault_at}
+use Rattle.target_ranges.specs.Made.{IsPlaced, page_count, range_of, ranges_of}
 use Rattle.script_lines.specs.Fits.{FitsRange}
 
 -- a test that refuses did not hold
@@ -124,9 +124,9 @@ pub record IsAccepted (ts : List Target) (unit : ℕ) (s : RangeSpec) : Type 0 w
 accepted_in : (ts : List Target) (unit : ℕ) (before : Option RangeSpec) (s : RangeSpec) (found : Option Target) → slice_get ts s.target ≡ found → checked_within unit before s found ≡ Ok tt → IsAccepted ts unit s
 accepted_in ts unit before s None is ok = absurd cc
 accepted_in ts unit before s (Some t) is ok =
-    let aligned = passed (not (is_aligned s)) Unaligned _ ok in
+    let aligned = passed (not ((s.from % 4096 == 0) && (s.to % 4096 == 0))) Unaligned _ ok in
     let some = passed (nat_le s.to s.from) Reversed _ aligned.1 in
-    let inside = passed (not (lies_in t s)) OutsideSpan _ some.1 in
+    let inside = passed (not (nat_le t.base s.from && nat_le s.to (t.base + 4096 * t.pages))) OutsideSpan _ some.1 in
     let wide = passed (nat_lt (page_count s) unit) TooSmall _ inside.1 in
     let class = passed (nat_lt 15 s.class) BadClass _ wide.1 in
     record {
@@ -178,7 +178,7 @@ offset-next (u ∷ us) zero t is = let same : u ≡ t = cc in omega (arith, ap (
 offset-next (u ∷ us) (suc i) t is = omega (arith, offset-suc u us i, offset-suc u us (suc i), offset-next us i t is)
 
 -- the base of a target that is there
-pub base_of_there : (ts : List Target) (i : ℕ) (t : Target) → slice_get ts i ≡ Some t → base_of ts i ≡ t.base
+pub base_of_there : (ts : List Target) (i : ℕ) (t : Target) → slice_get ts i ≡ Some t → (slice_index (map (λ (t : Target). t.base) ts) i) ≡ t.base
 base_of_there [] i t is = absurd cc
 base_of_there (u ∷ us) zero t is = let same : u ≡ t = cc in ap (λ (t : Target). t.base) same
 base_of_there (u ∷ us) (suc i) t is = base_of_there us i t is
@@ -192,8 +192,8 @@ accepted-LiesInTarget : (ts : List Target) (s : RangeSpec) → IsPlaced ts s →
 accepted-LiesInTarget ts s placed =
     let next = offset-next ts s.target placed.place placed.there in
     let base = base_of_there ts s.target placed.place placed.there in
-    let pages = pages_add (base_of ts s.target) s.from s.to placed.begins placed.ends (omega (arith, base, placed.low)) placed.some in
-    let most : (s.to - base_of ts s.target) / 4096 ≤ placed.place.pages = omega (arith, base, placed.high) in
+    let pages = pages_add (slice_index (map (λ (t : Target). t.base) ts) s.target) s.from s.to placed.begins placed.ends (omega (arith, base, placed.low)) placed.some in
+    let most : (s.to - (slice_index (map (λ (t : Target). t.base) ts) s.target)) / 4096 ≤ placed.place.pages = omega (arith, base, placed.high) in
     record {
       target = slice_get_within ts s.target placed.place placed.there;
       from = omega arith;

@@ -11,7 +11,7 @@ use Rattle.damon_types.specs.declared.space.Target.{Target}
 use Rattle.damon_types.specs.Ranges.{OrderedFrom, end_of}
 use Rattle.damon_types.specs.Space.{IsSpace, IsTarget, offset, place_from}
 use Rattle.damon_types.specs.Within.{LiesInTarget}
-use Rattle.target_ranges.specs.Checked.{checked_from, checked_within, is_aligned, lies_in, overlaps}
+use Rattle.target_ranges.specs.Checked.{checked_from, checked_within, overlaps}
 use Rattle.target_ranges.specs.Made.{page_count, range_of, ranges_of}
 use Rattle.damon_control.specs.Written.{spec_of}
 use Rattle.damon_control.proofs.SpaceLimits.{base_of_there, offset-next, offset-suc}
@@ -70,9 +70,9 @@ range_there ts g space lies some =
 accepted : (unit : ℕ) (before : Option RangeSpec) (s : RangeSpec) (t : Target) → s.from % 4096 ≡ 0 → s.to % 4096 ≡ 0 → s.from < s.to → t.base ≤ s.from → s.to ≤ t.base + 4096 * t.pages
     → unit ≤ page_count s → s.class ≤ 15 → overlaps before s ≡ false → checked_within unit before s (Some t) ≡ Ok tt
 accepted unit before s t begins ends some low high wide class apart =
-    let aligned : not (is_aligned s) ≡ false = grind (arith, nat_tests) in
+    let aligned : not ((s.from % 4096 == 0) && (s.to % 4096 == 0)) ≡ false = grind (arith, nat_tests) in
     let rises : nat_le s.to s.from ≡ false = grind (arith, nat_tests) in
-    let inside : not (lies_in t s) ≡ false = grind (arith, nat_tests) in
+    let inside : not (nat_le t.base s.from && nat_le s.to (t.base + 4096 * t.pages)) ≡ false = grind (arith, nat_tests) in
     let enough : nat_lt (page_count s) unit ≡ false = grind (arith, nat_tests) in
     let known : nat_lt 15 s.class ≡ false = grind (arith, nat_tests) in
     rw (aligned, rises, inside, enough, known, apart) refl

@@ -1,11 +1,12 @@
 -- The lines of a commit, one by one: each part is a line, and a part more is a line more.
 use Rattle.std.specs.Prelude.{◌≡◌, true, List, [], ◌∷◌, ◌++◌, Ok}
+use Rattle.std.specs.List.{fold}
 use Rattle.damon_types.specs.declared.scheme.Version.{Version}
 use Rattle.live_commit.specs.Commit.{CommitValue}
 use Rattle.script_lines.specs.declared.part.Part.{Part}
 use Rattle.script_lines.specs.Body.{no_commit, part_line, with_part}
 use Rattle.script_lines.specs.Laws.{may_come}
-use Rattle.damon_control.specs.Text.{come_in_order, with_parts}
+use Rattle.damon_control.specs.Text.{come_in_order}
 use Rattle.damon_control.specs.WriteBack.{FitsCommit, IsSpelledIn, SpellsRanges}
 use Rattle.damon_control.specs.Written.{part_text, parts_of, written_commit}
 
@@ -24,7 +25,7 @@ AreReadAfter version before (part ∷ parts) =
 -- the parts of a commit come in order, make it, and their lines are read as them
 pub record IsReadInParts (version : Version) (commit : CommitValue) : Type 0 where
   pub in_order : come_in_order version no_commit (parts_of commit) ≡ true
-  pub made : with_parts no_commit (parts_of commit) ≡ commit
+  pub made : fold with_part no_commit (parts_of commit) ≡ commit
   pub each : AreReadAfter version no_commit (parts_of commit)
 
 -- so it is with each commit that a text of the version can spell

@@ -1,5 +1,6 @@
 -- What the laws of the crates below say of lines, in one record.
-use Rattle.std.specs.Prelude.{ℕ, List}
+use Rattle.std.specs.Prelude.{ℕ, List, ◌++◌, codes}
+use Rattle.std.specs.Fmt.{decimal}
 use Rattle.damon_types.specs.declared.range.RangeSpec.{RangeSpec}
 use Rattle.damon_types.specs.declared.space.Target.{Target}
 use Rattle.line_text.specs.Laws.{PutsPartsTogether, TakesApartPieces}
@@ -8,7 +9,7 @@ use Rattle.script_lines.specs.Blocks.{passes_line}
 use Rattle.script_lines.specs.Head.{attrs_line, cap_line, range_line, seed_line, target_line, unit_line}
 use Rattle.script_lines.specs.Laws.{ReadsOnly, ReadsOnlyCommands, ReadsOnlyParts, ReadsOnlySchemes, ReadsOnlySweeps, ReadsOnlyTouches, ReadsOnlyWords}
 use Rattle.script_lines.specs.ReadBack.{LinesReadBack}
-use Rattle.script_lines.specs.Spelling.{spelled_attrs, spelled_cap, spelled_passes, spelled_range, spelled_seed, spelled_target, spelled_unit}
+use Rattle.script_lines.specs.Spelling.{spelled_attrs, spelled_range, spelled_target}
 use Rattle.script_lines.specs.Within.{LinesAreWithin}
 
 -- how a text is taken apart into lines, what a line that is read says, and what a line that says something is read as
@@ -16,16 +17,16 @@ pub record LineLaws : Type 0 where
   pub together : PutsPartsTogether
   pub apart : TakesApartPieces
   pub word : ReadsOnlyWords
-  pub seed : ReadsOnly seed_line spelled_seed
-  pub unit : ReadsOnly unit_line spelled_unit
-  pub cap : ReadsOnly cap_line spelled_cap
+  pub seed : ReadsOnly seed_line (λ n. codes "seed " ++ decimal n)
+  pub unit : ReadsOnly unit_line (λ n. codes "unit " ++ decimal n)
+  pub cap : ReadsOnly cap_line (λ n. codes "cap " ++ decimal n)
   pub attrs : (cap : ℕ) → ReadsOnly (attrs_line cap) spelled_attrs
   pub target : (before : List Target) → ReadsOnly (target_line before) spelled_target
   pub range :
       (f : Frame) (targets : List Target) (before : List RangeSpec)
       → ReadsOnly (range_line f targets before) spelled_range
   pub scheme : ReadsOnlySchemes
-  pub passes : ReadsOnly passes_line spelled_passes
+  pub passes : ReadsOnly passes_line (λ n. codes "passes " ++ decimal n)
   pub command : ReadsOnlyCommands
   pub touch : ReadsOnlyTouches
   pub sweep : ReadsOnlySweeps

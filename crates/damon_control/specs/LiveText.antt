@@ -1,5 +1,6 @@
 -- A live script as a text: its lines, what they say, and the limits of what they say.
 use Rattle.std.specs.Prelude.{◌≡◌, ◌⊎◌, ℕ, ◌-◌, ◌≤◌, List, [], ◌∷◌, ◌++◌, length, codes, Ok, ◌↔◌}
+use Rattle.std.specs.Fmt.{decimal}
 use Rattle.std.specs.List.{concat, range_with_len}
 use Rattle.damon_types.specs.declared.scheme.Version.{Version}
 use Rattle.damon_types.specs.declared.space.Target.{Target}
@@ -9,7 +10,6 @@ use Rattle.script_lines.specs.declared.blocks.TheConstants.{MAX_PASSES, MAX_TOUC
 use Rattle.script_lines.specs.Laws.{IsSweep, IsTouch}
 use Rattle.damon_control.specs.Live.{CallValue, CommitCall, LiveValue, ShowCall, count_all}
 use Rattle.damon_control.specs.Script.{header_of, live_of}
-use Rattle.script_lines.specs.Spelling.{spelled_passes}
 use Rattle.damon_control.specs.Text.{AreCommit, EachSays, SaySetup, all_lines}
 use Rattle.script_lines.specs.Lines.{lines_text}
 
@@ -55,7 +55,9 @@ pub record IsLiveText (text : List ℕ) (v : LiveValue) : Type 0 where
   pub controllers : List (List (List ℕ))
   pub spelled :
       text
-      ≡ lines_text (header_of OfLive v.setup.version ∷ (setup ++ spelled_passes v.passes ∷ (all_lines workers ++ (all_lines controllers ++ codes "end" ∷ []))))
+      ≡ lines_text
+      (header_of OfLive v.setup.version
+      ∷ (setup ++ (codes "passes " ++ decimal v.passes) ∷ (all_lines workers ++ (all_lines controllers ++ codes "end" ∷ []))))
   pub says_setup : SaySetup setup v.seed v.setup
   pub say_workers : EachSays (SayWorker v.setup.space) workers v.workers
   pub say_controllers : EachSays (SayController v.setup.version) controllers v.controllers

@@ -1,5 +1,7 @@
 -- A script as a text: its lines, what they say, and the limits of what they say.
 use Rattle.std.specs.Prelude.{◌≡◌, ◌⊎◌, ℕ, ◌^◌, ◌<◌, ◌≤◌, Bool, true, ◌&&◌, List, [], ◌∷◌, ◌++◌, length, map, codes, Ok, ◌↔◌}
+use Rattle.std.specs.Fmt.{decimal}
+use Rattle.std.specs.List.{fold}
 use Rattle.damon_types.specs.declared.attrs.Attrs.{Attrs}
 use Rattle.damon_types.specs.declared.range.RangeSpec.{RangeSpec}
 use Rattle.damon_types.specs.declared.scheme.Version.{Version}
@@ -18,7 +20,7 @@ use Rattle.script_lines.specs.Command.{CommandValue, Commit, work_of}
 use Rattle.script_lines.specs.Lines.{lines_text}
 use Rattle.script_lines.specs.Laws.{GivesScheme, IsCommand, IsPart, may_come}
 use Rattle.damon_control.specs.Script.{ScriptValue, header_of, script_of}
-use Rattle.script_lines.specs.Spelling.{spelled_attrs, spelled_cap, spelled_range, spelled_seed, spelled_target, spelled_unit}
+use Rattle.script_lines.specs.Spelling.{spelled_attrs, spelled_range, spelled_target}
 
 -- the lines of groups, one group after another
 abbrev pub all_lines : List (List (List ℕ)) → List (List ℕ)
@@ -34,18 +36,15 @@ EachSays says _ _ = ⊥
 -- the lines of the numbers of a setup
 abbrev pub number_lines : ℕ → ℕ → ℕ → Attrs → List (List ℕ)
 number_lines seed unit cap attrs =
-    spelled_seed seed ∷ spelled_unit unit ∷ spelled_cap cap ∷ spelled_attrs attrs ∷ []
-
--- the lines of a setup up to its schemes, from `seed` on
-abbrev pub setup_lines : ℕ → SetupValue → List RangeSpec → List (List ℕ)
-setup_lines seed setup specs =
-    number_lines seed setup.unit setup.cap setup.attrs ++ (map spelled_target setup.space ++ map spelled_range specs)
+    (codes "seed " ++ decimal seed) ∷ (codes "unit " ++ decimal unit) ∷ (codes "cap " ++ decimal cap) ∷ spelled_attrs attrs ∷ []
 
 -- lines say a seed and a setup: a line for each number, target, range and scheme, in this order and each within its limits
 pub record SaySetup (lines : List (List ℕ)) (seed : ℕ) (setup : SetupValue) : Type 0 where
   pub specs : List RangeSpec
   pub schemes : List (List ℕ)
-  pub spelled : lines ≡ setup_lines seed setup specs ++ schemes
+  pub spelled :
+      lines
+      ≡ (number_lines seed setup.unit setup.cap setup.attrs ++ (map spelled_target setup.space ++ map spelled_range specs)) ++ schemes
   pub seed_fits : seed < 2 ^ 64
   pub limits : checked_limits setup.unit setup.cap setup.attrs ≡ Ok tt
   pub targets : checked setup.space ≡ Ok tt
@@ -55,11 +54,6 @@ pub record SaySetup (lines : List (List ℕ)) (seed : ℕ) (setup : SetupValue) 
   pub watched : ranges_of setup.space specs ≡ setup.ranges
   pub slots : checked_slots setup.version setup.slots ≡ Ok tt
   pub give : EachSays (GivesScheme setup.version) schemes setup.slots
-
--- a commit with more parts, one after another
-abbrev pub with_parts : CommitValue → List Part → CommitValue
-with_parts commit [] = commit
-with_parts commit (part ∷ parts) = with_parts (with_part commit part) parts
 
 -- whether parts may follow those of a commit, one after another
 abbrev pub come_in_order : Version → CommitValue → List Part → Bool
@@ -74,7 +68,7 @@ pub record AreCommit (version : Version) (lines : List (List ℕ)) (commit : Com
   pub spelled : lines ≡ codes "commit" ∷ (between ++ codes "apply" ∷ [])
   pub each : EachSays (IsPart version) between parts
   pub in_order : come_in_order version no_commit parts ≡ true
-  pub made : with_parts no_commit parts ≡ commit
+  pub made : fold with_part no_commit parts ≡ commit
 
 -- lines after a setup say a command: one line, or those of a commit
 abbrev pub SayCommand : SetupValue → List (List ℕ) → CommandValue → Type 0

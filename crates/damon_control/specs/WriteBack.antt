@@ -1,5 +1,6 @@
 -- A setup and a commit that are written are read back as the same, in their places in a script and in a live script.
 use Rattle.std.specs.Prelude.{◌≡◌, ℕ, ◌+◌, ◌^◌, ◌<◌, ◌≤◌, true, List, ◌++◌, length, None, Ok, All, IfSome, codes}
+use Rattle.std.specs.Fmt.{decimal}
 use Rattle.damon_types.specs.declared.scheme.Version.{Version}
 use Rattle.damon_types.specs.declared.scheme.Version.TheVariants.{One, Two}
 use Rattle.damon_types.specs.Ranges.{InOrder}
@@ -13,7 +14,6 @@ use Rattle.damon_control.specs.declared.grammar.Grammar.TheVariants.{OfScript, O
 use Rattle.script_lines.specs.declared.blocks.TheConstants.{MAX_PASSES}
 use Rattle.script_lines.specs.Fits.{FitsAttrs, FitsChange, FitsCost, FitsRange}
 use Rattle.script_lines.specs.Refusal.{◌>>=◌}
-use Rattle.script_lines.specs.Spelling.{spelled_passes}
 use Rattle.damon_control.specs.Live.{has_controller, live_begun}
 use Rattle.damon_control.specs.Script.{InBody, Within, at, begun, header_of, live_of, reads, script_of, version_in, with_commit}
 use Rattle.damon_control.specs.Written.{commit_text, setup_text, written_commit, written_setup}
@@ -55,7 +55,7 @@ SetupsAreReadBack =
 abbrev pub LiveSetupsAreReadBack : Type 0
 LiveSetupsAreReadBack =
     (seed : ℕ) (setup : SetupValue) (passes : ℕ) (blocks : List ℕ) → IsWritable seed setup → 1 ≤ passes → passes ≤ MAX_PASSES
-    → live_of (header_of OfLive setup.version ++ (codes "\n" ++ (setup_text seed setup ++ (spelled_passes passes ++ (codes "\n" ++ blocks)))))
+    → live_of (header_of OfLive setup.version ++ (codes "\n" ++ (setup_text seed setup ++ ((codes "passes " ++ decimal passes) ++ (codes "\n" ++ blocks)))))
     ≡ reads OfLive (3 + length (written_setup seed setup)) (InBody (live_begun seed setup passes)) (parts 10 blocks)
 
 -- a commit may begin: in a live script there is a controller

@@ -1,5 +1,6 @@
 -- The one spelling of a setup and of a commit: the lines that are written of them.
-use Rattle.std.specs.Prelude.{ℕ, ◌+◌, ◌*◌, List, [], ◌∷◌, ◌++◌, map, Option, Some, None}
+use Rattle.std.specs.Prelude.{ℕ, ◌+◌, ◌*◌, List, [], ◌∷◌, ◌++◌, map, Option, Some, None, codes}
+use Rattle.std.specs.Fmt.{decimal}
 use Rattle.damon_types.specs.declared.range.Range.{Range}
 use Rattle.damon_types.specs.declared.range.RangeSpec.{RangeSpec}
 use Rattle.damon_types.specs.declared.space.TheConstants.{PAGE_SIZE}
@@ -9,7 +10,7 @@ use Rattle.live_commit.specs.Commit.{CommitValue}
 use Rattle.live_commit.specs.Setup.{SetupValue}
 use Rattle.script_lines.specs.declared.part.Part.{Part}
 use Rattle.script_lines.specs.declared.part.Part.TheVariants.{Attrs as AttrsPart, Range as RangePart, Slot, Metric, Cost}
-use Rattle.script_lines.specs.Spelling.{spelled_attrs, spelled_cost, spelled_metric, spelled_range, spelled_target}
+use Rattle.script_lines.specs.Spelling.{spelled_attrs, spelled_cost, spelled_range, spelled_target}
 use Rattle.script_lines.specs.Lines.{lines_text}
 use Rattle.script_lines.specs.WrittenLine.{change_text}
 use Rattle.damon_control.specs.Text.{number_lines}
@@ -53,7 +54,7 @@ abbrev pub part_text : Part → List ℕ
 part_text (AttrsPart attrs) = spelled_attrs attrs
 part_text (RangePart range) = spelled_range range
 part_text (Slot change) = change_text change
-part_text (Metric value) = spelled_metric value
+part_text (Metric value) = codes "metric " ++ decimal value
 part_text (Cost cost) = spelled_cost cost
 
 -- the lines of a commit between `commit` and `apply`

@@ -9,7 +9,7 @@ use crate::ReadFail;
 use crate::lines::Lines;
 use damon_types::{RangeSpec, RangeSpecs, Version};
 use live_commit::Commit;
-use script_lines::{Part, alone, first_word, read_part, same_word};
+use script_lines::{Part, alone, first_word, read_part, same_word, wants_slot};
 use std::alloc::{AllocError, Global};
 
 // Reads the lines of a commit after its first, up to the line `apply`, in a text of this version.
@@ -32,6 +32,7 @@ pub fn read_commit(alloc: Global, lines: &mut Lines, version: Version) -> Result
         cost: None,
     };
     'lines: loop {
+        read_ranges(alloc, lines, &mut commit)?;
         let line = lines.take_line()?;
         if same_word(first_word(line), b"apply") {
             lines.refuse(alone(b"apply", line))?;
@@ -40,6 +41,28 @@ pub fn read_commit(alloc: Global, lines: &mut Lines, version: Version) -> Result
         let part = lines.refuse(read_part(version, &commit, line))?;
         add_part(alloc, &mut commit, part)?;
     }
+}
+
+// Takes the range lines that come next, where ranges may come. Read as any other line, each would have
+// room for a scheme cleared and copied.
+fn read_ranges(alloc: Global, lines: &mut Lines, commit: &mut Commit) -> Result<(), AllocError>
+    requires small { IsShort lines.old }
+    requires few { IfSome commit.old.ranges (λ l. length l.list ≤ lines.old.taken) }
+    ensures said { OnOk result ((g : grammar) (b : Within g) →
+        reads_left g (InCommit b (commit_value commit.old)) lines.old
+        ≡ reads_left g (InCommit b (commit_value commit.new)) lines.new) }
+    ensures few { OnOk result (IfSome commit.new.ranges (λ l. length l.list ≤ lines.new.taken)) }
+    ensures later { OnOk result (lines.old.taken ≤ lines.new.taken) }
+    ensures shorter { OnOk result (length lines.new.rest.now ≤ length lines.old.rest.now) }
+    ensures small { IsShort lines.new }
+{
+    if !wants_slot(commit) {
+        return Ok(());
+    }
+    'lines: while let Some(range) = lines.take_range() {
+        add_range(alloc, &mut commit.ranges, range)?;
+    }
+    Ok(())
 }
 
 /// Adds a part to those of a commit: new ranges come after those that are there, and any other part

@@ -1,4 +1,5 @@
 -- A monitor that stands for a state stands for the one after a commit.
+use Rattle.std.specs.Option.{option_map_or}
 use Rattle.std.proofs.Common.{◌≡◌, ℕ, ◌≤◌, ◌<◌, List, [], ◌∷◌, get_or, length, set as put, Option, Some, None, Ok, Err, refl, sym, ap, ◌∙◌}
 use Rattle.std.specs.Prelude.{Result}
 use Rattle.damon_types.specs.declared.row.Row.{Row}
@@ -14,10 +15,10 @@ use Rattle.live_commit.specs.Accepted.{AllowsCommit, IsAccepted}
 use Rattle.live_commit.specs.Accepts.{checked_commit}
 use Rattle.live_commit.specs.Commit.{CommitValue}
 use Rattle.scheme_engine.specs.Slots.{changed, empty_slot}
-use Rattle.damon_core.specs.Note.{Note, was_hit}
+use Rattle.damon_core.specs.Note.{Note, was_hit, set, dropped}
 use Rattle.damon_core.specs.Totals.{checks_made, hits_made}
 use Rattle.damon_core.specs.State.{Core, State}
-use Rattle.damon_core.specs.Commit.{check_of, committed, committed_core, committed_notes, committed_slots, core_after_commit, if_accepted, phase_after_commit, slot_note, slots_after_commit, slots_changed, slots_costed, slots_metered, view_of, with_cost, with_metric, with_slot}
+use Rattle.damon_core.specs.Commit.{check_of, committed, committed_core, committed_notes, committed_slots, core_after_commit, if_accepted, phase_after_commit, slots_after_commit, slots_changed, slots_costed, slots_metered, view_of, with_cost, with_metric, with_slot}
 use Rattle.damon_core.specs.Event.{commit}
 use Rattle.damon_core.specs.Slots.{slot_count, slots_of}
 use Rattle.damon_core.specs.Makes.{Makes}
@@ -46,7 +47,7 @@ pub record SlotLaws : Type 0 where
   pub in_turn : DecidesInTurn
 
 slots_scheme : (slot : ℕ) (scheme : Option Scheme) (notes : List Note) → slot < slot_count
-    → put (slots_of notes) slot (changed scheme (get_or (slots_of notes) slot empty_slot)) ≡ slots_of (slot_note slot scheme ∷ notes)
+    → put (slots_of notes) slot (changed scheme (get_or (slots_of notes) slot empty_slot)) ≡ slots_of (option_map_or (set slot) scheme (dropped slot) ∷ notes)
 slots_scheme slot None notes below = sym (slots_of-dropped slot notes below)
 slots_scheme slot (Some scheme) notes below = sym (slots_of-set slot scheme notes below)
 

@@ -2,13 +2,13 @@
 use Rattle.std.proofs.Common.{◌≡◌, ℕ, ◌≤◌, ◌<◌, true, false, not, cond, List, ◌∷◌, length, Option, Some, None, Ok, refl, sym, ap, ◌∙◌, subst, arith}
 use Rattle.std.specs.List.{AllByRecursion}
 use Rattle.std.specs.Bool.{Decides}
-use Rattle.std.specs.Prelude.{Result}
+use Rattle.std.specs.Prelude.{Result, ◌&&◌, ◌==◌}
 use Rattle.std.specs.Result.{result_and}
 use Rattle.std.proofs.lemmas.Bool.Decides.{nat_tests}
 use Rattle.std.proofs.lemmas.List.{length-map}
 use Rattle.std.proofs.lemmas.List.Elements.{recursion_from_All}
 use Rattle.std.proofs.lemmas.Slice.Eq.{slice_eq-Decides}
-use Rattle.std.specs.Option.{unwrap_or}
+use Rattle.std.specs.Option.{unwrap_or, option_map_or}
 use Rattle.damon_types.specs.declared.attrs.Attrs.{Attrs}
 use Rattle.damon_types.specs.declared.range.Range.{Range}
 use Rattle.damon_types.specs.declared.range.RangeSpec.{RangeSpec}
@@ -24,7 +24,7 @@ use Rattle.damon_types.specs.Span.{Span, span_of, spans}
 use Rattle.target_ranges.specs.Laws.{MakesEach, MakesInOrder, MakesWide}
 use Rattle.target_ranges.specs.Made.{ranges_of}
 use Rattle.region_list.specs.Regions.{RegionList}
-use Rattle.region_list.specs.Same.{same_span, same_spans}
+use Rattle.region_list.specs.Same.{same_spans}
 use Rattle.region_list.specs.Shrink.{shrunk}
 use Rattle.region_list.specs.Tiling.{Tiling}
 use Rattle.range_update.specs.Updated.{updated}
@@ -40,7 +40,7 @@ use Rattle.damon_core.specs.Note.{Note, set, dropped, metric, cost}
 use Rattle.damon_core.specs.State.{Core}
 use Rattle.damon_core.specs.Kept.{CanCommit, CountsHits, HasPicks, IsSampling, SinceFew, loaded_so_far}
 use Rattle.damon_core.specs.Pass.{IsPickWithin}
-use Rattle.damon_core.specs.Commit.{check_of, view_of, committed_notes, phase_after_commit, regions_after, slot_note, with_cost, with_metric, with_slot}
+use Rattle.damon_core.specs.Commit.{check_of, view_of, committed_notes, phase_after_commit, regions_after, with_cost, with_metric, with_slot}
 use Rattle.damon_core.proofs.RowFacts.{tiling_of_pages}
 
 -- what the laws of the crates below say of commits, and of the rows after them
@@ -65,7 +65,7 @@ pub committed_notes_hold : (P : List Note → Type 0)
     → (c : CommitValue) (notes : List Note) → P notes → P (committed_notes c notes)
 committed_notes_hold P setting dropping measuring costing c notes holds = by_cost c.cost (with_metric c.metric (with_slot c.slot notes)) (by_metric c.metric (with_slot c.slot notes) (by_slot c.slot))
   where
-    by_scheme : (slot : ℕ) (scheme : Option Scheme) → P (slot_note slot scheme ∷ notes)
+    by_scheme : (slot : ℕ) (scheme : Option Scheme) → P (option_map_or (set slot) scheme (dropped slot) ∷ notes)
     by_scheme slot None = dropping slot notes holds
     by_scheme slot (Some scheme) = setting slot scheme notes holds
 
@@ -81,7 +81,7 @@ committed_notes_hold P setting dropping measuring costing c notes holds = by_cos
     by_cost None after holds = holds
     by_cost (Some part) after holds = costing part.slot part.nanos after holds
 
-span_decides : (s t : Span) → Decides (same_span s t) (s ≡ t)
+span_decides : (s t : Span) → Decides ((s.target == t.target) && ((s.start == t.start) && (s.pages == t.pages))) (s ≡ t)
 span_decides s t = (λ same. grind (arith, nat_tests), λ is. rw is (grind (arith, nat_tests)))
 
 -- spans that are compared as the same are equal

@@ -10,7 +10,7 @@ use Rattle.live_commit.specs.Commit.{CommitValue}
 use Rattle.damon_core.specs.Note.{Note, touched, cleared, checked, finished, voided, set, dropped, metric, turned, ran, cost, is_cleared, is_touched, has_clear, touched_after_clear, hit}
 use Rattle.damon_core.specs.State.{State, row_count}
 use Rattle.damon_core.specs.Event.{IsLoading, load_index, next_hit}
-use Rattle.damon_core.specs.After.{phase_cleared, phase_after_pass, cleared_at, loaded_at}
+use Rattle.damon_core.specs.After.{phase_cleared, phase_after_pass, loaded_at, by_clear}
 use Rattle.damon_core.specs.Commit.{check_of, committed, committed_core, committed_notes}
 use Rattle.damon_core.specs.Reached.{Reached}
 use Rattle.damon_core.specs.Pass.{cleared_so_far}
@@ -45,10 +45,10 @@ cleared_so_far-loading (Clearing i) k rows fits = absurd fits
 cleared_so_far-loading Void k rows fits = absurd fits
 cleared_so_far-loading Due k rows fits = absurd fits
 
-clears_after_clear : (s : State) (i : ℕ) → s.core.phase ≡ Clearing i → HasClears s → HasClears (cleared_at i s)
+clears_after_clear : (s : State) (i : ℕ) → s.core.phase ≡ Clearing i → HasClears s → HasClears (by_clear (Clearing i) s)
 clears_after_clear s i is h = record { each = λ k below. later k (cleared_so_far-after_clear i k (row_count s.core) below) }
   where
-    later : (k : ℕ) → k ≤ i → has_clear (cleared_at i s).notes (s.core.ticks + 1) k (slice_index s.core.picks k) ≡ true
+    later : (k : ℕ) → k ≤ i → has_clear (by_clear (Clearing i) s).notes (s.core.ticks + 1) k (slice_index s.core.picks k) ≡ true
     later k below = elim (cases_eq i k) [
       | inl same ↦ (
           let here : (s.core.ticks + 1 == s.core.ticks + 1) ≡ true = grind (arith, nat_tests) in

@@ -11,7 +11,7 @@ use Rattle.damon_core.specs.State.{State, row_count, opening}
 use Rattle.damon_core.specs.Event.{Event, touch, prepare, clear, load, observe, aggregate, commit, show, Fits, ByHit, IsClearing, IsLoading, IsObserving, load_index, next_hit}
 use Rattle.damon_core.specs.Aggregate.{aggregated}
 use Rattle.damon_core.specs.Commit.{check_of, committed, if_accepted}
-use Rattle.damon_core.specs.After.{after, prepared_core, cleared_at, loaded_at, finished_pass, voided_pass, by_clear, by_load, by_observe}
+use Rattle.damon_core.specs.After.{after, prepared_core, loaded_at, finished_pass, by_clear, by_load, by_observe}
 use Rattle.damon_core.specs.Reached.{run, AllFit, AllByHit, CanOpen, Reached, ReachedByHit}
 
 -- A fact that holds at the opening and is kept by each change. Of the result of a load no more is known than Q.
@@ -19,10 +19,10 @@ pub record Keeps (Q : State → Bool → Type 0) (P : State → Type 0) : Type 0
   pub opens : (v : SetupValue) → CanOpen v → P (opening v)
   pub touching : (s : State) (p : ℕ) → P s → P (record s { notes = touched p ∷ s.notes })
   pub preparing : (s : State) (ws : List ℕ) → s.core.phase ≡ Idle → length ws ≡ row_count s.core → P s → P (record s { core = prepared_core ws s.core })
-  pub clearing : (s : State) (k : ℕ) → s.core.phase ≡ Clearing k → P s → P (cleared_at k s)
+  pub clearing : (s : State) (k : ℕ) → s.core.phase ≡ Clearing k → P s → P (by_clear (Clearing k) s)
   pub loading : (s : State) (k : ℕ) (hit : Bool) → IsLoading s.core.phase (row_count s.core) → load_index s.core.phase ≡ k → Q s hit → P s → P (loaded_at k hit s)
   pub finishing : (s : State) → s.core.phase ≡ Checking (row_count s.core) → P s → P (finished_pass s)
-  pub voiding : (s : State) → s.core.phase ≡ Void → P s → P (voided_pass s)
+  pub voiding : (s : State) → s.core.phase ≡ Void → P s → P (by_observe Void s)
   pub aggregating : (s : State) (ws : List ℕ) → s.core.phase ≡ Due → P s → P (aggregated ws s)
   pub committing : (s : State) (c : CommitValue) → check_of c s.core ≡ Ok tt → P s → P (committed c s)
 

@@ -1,7 +1,7 @@
 -- The passes of each state that is reached check one page of each row.
 use Rattle.std.proofs.Common.{◌≡◌, ℕ, zero, suc, ◌+◌, ◌≤◌, ◌<◌, Bool, true, false, List, [], ◌∷◌, ◌++◌, length, take, Ok, refl, sym, ap, ◌∙◌, subst, add-one, arith}
 use Rattle.std.specs.Prelude.{◌==◌, nat_le, slice_index}
-use Rattle.std.specs.List.{enumerate_from, AllByRecursion}
+use Rattle.std.specs.List.{enumerate_from, AllByRecursion, AllZip}
 use Rattle.std.proofs.lemmas.Bool.Decides.{nat_tests}
 use Rattle.std.proofs.lemmas.List.{take_all, length-map}
 use Rattle.damon_types.specs.declared.row.Row.{Row}
@@ -16,10 +16,10 @@ use Rattle.damon_core.specs.State.{State, row_count, opening, opening_notes}
 use Rattle.damon_core.specs.Event.{IsLoading, load_index}
 use Rattle.damon_core.specs.Aggregate.{aggregated, served}
 use Rattle.damon_core.specs.Commit.{check_of, committed, committed_core, committed_notes}
-use Rattle.damon_core.specs.After.{phase_cleared, phase_after_pass, prepared_core, cleared_at, loaded_at, finished_pass, voided_pass}
+use Rattle.damon_core.specs.After.{phase_cleared, phase_after_pass, prepared_core, loaded_at, finished_pass, by_clear, by_observe}
 use Rattle.damon_core.specs.Kept.{loaded_so_far}
 use Rattle.damon_core.specs.Pass.{IsPickWithin}
-use Rattle.damon_core.specs.Bound.{OneInEach, EachPassChecks}
+use Rattle.damon_core.specs.Bound.{EachPassChecks}
 use Rattle.damon_core.proofs.Committing.{allows_commit, by_phase_after, committed_notes_hold, none_loaded, none_loaded_after}
 use Rattle.damon_core.proofs.Keeping.{Keeps}
 use Rattle.damon_core.proofs.Opening.{opening_holds}
@@ -35,9 +35,13 @@ enumerate_from-take-suc n (suc k) j (p ∷ ps) here is = ap (λ (xs : List (ℕ 
 enumerate_from-take_more : (k : ℕ) (ps : List ℕ) → k < length ps → enumerate_from 0 (take (k + 1) ps) ≡ enumerate_from 0 (take k ps) ++ (k, slice_index ps k) ∷ []
 enumerate_from-take_more k ps here = rw add-one (enumerate_from-take-suc 0 k k ps here (omega arith))
 
+-- page k lies in row k, for each row
+abbrev pub OneInEach : List ℕ → List Span → Type 0
+OneInEach pages rows = AllZip (λ p s. (s.start ≤ p) × (p < s.start + s.pages)) pages rows
+
 pub length-from_OneInEach : (ps : List ℕ) (ss : List Span) → OneInEach ps ss → length ps ≡ length ss
 length-from_OneInEach [] [] one = refl
-length-from_OneInEach (p ∷ ps) (s ∷ ss) one = ap suc (length-from_OneInEach ps ss one.2)
+length-from_OneInEach (p ∷ ps) (s ∷ ss) one = ap suc (length-from_OneInEach ps ss one.1)
 length-from_OneInEach [] (s ∷ ss) one = absurd one
 length-from_OneInEach (p ∷ ps) [] one = absurd one
 
@@ -45,7 +49,7 @@ length-from_OneInEach (p ∷ ps) [] one = absurd one
 OneInEach-picks_of : (unit : ℕ) (rows : List Row) (ws : List ℕ) → 1 ≤ unit → AllByRecursion (λ s. unit ≤ s.pages) (spans rows) → length ws ≡ length rows → OneInEach (picks_of rows ws) (spans rows)
 OneInEach-picks_of unit [] ws some wide count = tt
 OneInEach-picks_of unit (r ∷ rows) [] some wide count = absurd (omega arith)
-OneInEach-picks_of unit (r ∷ rows) (w ∷ ws) some wide count = (omega arith, omega (arith, wide.0), OneInEach-picks_of unit rows ws some wide.1 (omega arith))
+OneInEach-picks_of unit (r ∷ rows) (w ∷ ws) some wide count = ((omega arith, omega (arith, wide.0)), OneInEach-picks_of unit rows ws some wide.1 (omega arith))
 
 -- the clears of the pass that is under way; of a void one nothing is said
 abbrev pub ClearsAre : Phase → List ℕ → List (ℕ × ℕ) → Type 0
@@ -217,7 +221,7 @@ passes_prepare s ws idle count rows h = record {
   passes = h.passes;
 }
 
-passes_clear : (s : State) (k : ℕ) → s.core.phase ≡ Clearing k → HasRows (cleared_at k s) → HasPasses s → HasPasses (cleared_at k s)
+passes_clear : (s : State) (k : ℕ) → s.core.phase ≡ Clearing k → HasRows (by_clear (Clearing k) s) → HasPasses s → HasPasses (by_clear (Clearing k) s)
 passes_clear s k is rows h =
     let pass : ℕ = s.core.ticks + 1 in
     let page : ℕ = slice_index s.core.picks k in
@@ -286,7 +290,7 @@ passes_finish s is rows h =
       );
     }
 
-passes_void : (s : State) → s.core.phase ≡ Void → HasRows (voided_pass s) → HasPasses s → HasPasses (voided_pass s)
+passes_void : (s : State) → s.core.phase ≡ Void → HasRows (by_observe Void s) → HasPasses s → HasPasses (by_observe Void s)
 passes_void s is rows h =
     let pass : ℕ = s.core.ticks + 1 in
     let since : ℕ = s.core.since + 1 in

@@ -7,10 +7,9 @@ use Rattle.damon_types.specs.Span.{Span, span_of, spans}
 use Rattle.region_list.specs.Tiling.{Chain, Tiling}
 use Rattle.live_commit.specs.declared.phase.Phase.{Phase}
 use Rattle.live_commit.specs.declared.phase.Phase.TheVariants.{Idle, Clearing, Armed, Checking, Void, Due}
-use Rattle.damon_core.specs.Bound.{OneInEach}
 use Rattle.damon_core.specs.Pass.{IsInPass, PagesRiseFrom}
 use Rattle.damon_core.specs.State.{State, row_count}
-use Rattle.damon_core.proofs.Passes.{HasPasses, PicksLie, length-from_OneInEach}
+use Rattle.damon_core.proofs.Passes.{HasPasses, OneInEach, PicksLie, length-from_OneInEach}
 
 -- rows that lie one after another
 abbrev pub LieApart : ℕ → List Span → Type 0
@@ -37,7 +36,7 @@ PagesRise-later low from (p ∷ ps) h rise = (omega (arith, rise.0), rise.1)
 rise_in_rows : (from : ℕ) (ps : List ℕ) (ss : List Span) → LieApart from ss → OneInEach ps ss → PagesRiseFrom from ps
 rise_in_rows from [] ss apart one = tt
 rise_in_rows from (p ∷ ps) [] apart one = absurd one
-rise_in_rows from (p ∷ ps) (s ∷ ss) apart one = (omega (arith, apart.0, one.0), PagesRise-later (p + 1) (s.start + s.pages) ps (omega (arith, one.1)) (rise_in_rows (s.start + s.pages) ps ss apart.1 one.2))
+rise_in_rows from (p ∷ ps) (s ∷ ss) apart one = (omega (arith, apart.0, one.0.0), PagesRise-later (p + 1) (s.start + s.pages) ps (omega (arith, one.0.1)) (rise_in_rows (s.start + s.pages) ps ss apart.1 one.1))
 
 lie_in_pass : (ph : Phase) (ps : List ℕ) (ss : List Span) → IsInPass ph → PicksLie ph ps ss → OneInEach ps ss
 lie_in_pass (Clearing k) ps ss under lie = lie

@@ -13,13 +13,13 @@ use Rattle.scheme_engine.specs.Kept.{AreTiled}
 use Rattle.scheme_engine.specs.Served.{Served}
 use Rattle.scheme_engine.specs.Slots.{SlotValue}
 use Rattle.damon_core.specs.Note.{Note, was_hit}
-use Rattle.damon_core.specs.Totals.{checks_made, hits_made, pass_checks, pass_hits}
+use Rattle.damon_core.specs.Totals.{checks_made, hits_made, pass_hits}
 use Rattle.damon_core.specs.State.{State, Core, row_count}
 use Rattle.damon_core.specs.Event.{IsClearing, IsLoading, IsObserving, clear_index, load_index, prepare, clear, load, observe, aggregate}
 use Rattle.damon_core.specs.Aggregate.{aggregated, aggregated_core, core_after_aggregation, engine_served, merged_regions, served}
 use Rattle.damon_core.specs.Serve.{Serving}
 use Rattle.damon_core.specs.Slots.{slot_count, slots_of}
-use Rattle.damon_core.specs.After.{after, prepared_core, passed_core, phase_cleared, phase_after_pass, by_clear, by_load, by_observe, loaded_at, counted, counted_from}
+use Rattle.damon_core.specs.After.{after, prepared_core, passed_core, phase_cleared, phase_after_pass, by_clear, by_load, by_observe, loaded_at, counted_from}
 use Rattle.damon_core.specs.Reached.{Reached}
 use Rattle.damon_core.specs.Makes.{Makes}
 use Rattle.damon_core.specs.Stands.{MonitorView, Stands, bit_at, last_pass}
@@ -28,7 +28,7 @@ use Rattle.damon_core.proofs.RowFacts.{length-picks_of}
 use Rattle.damon_core.proofs.Served.{notes_hold}
 use Rattle.damon_core.proofs.Serving.{AreServed, OutcomeLaws, slots_alike}
 use Rattle.damon_core.proofs.Shown.{after_prepare, after_clears, after_load, after_observe, ended, after_aggregate}
-use Rattle.damon_core.proofs.Tallying.{hits_below, reached_counted, reached_early, loading_pass, last_pass-phase_after_clear, last_pass-phase_after_pass, was_hit-served}
+use Rattle.damon_core.proofs.Tallying.{checks_counted, hits_below, pass_checks, reached_counted, reached_early, loading_pass, last_pass-phase_after_clear, last_pass-phase_after_pass, was_hit-served}
 
 bit_at-replicate : (n k : ℕ) → bit_at (replicate n false) k ≡ false
 bit_at-replicate zero k = refl
@@ -163,7 +163,7 @@ observe_at (Checking k) m s is reached stands fits (inr len) =
     let pass : last_pass m.core.phase m.core.ticks ≡ m.core.ticks + 1 = ap (λ ph. last_pass ph m.core.ticks) is in
     let now = at_pass m s n stands (pass ∙ ap (λ t. t + 1) ticks) in
     let later = at_pass m s _ stands (after_pass m pass) in
-    let rows : raised m.bits s.core.regions.rows ≡ counted s.notes n s.core.regions.rows = raised_is s.notes n 0 m.bits s.core.regions.rows (len ∙ ap row_count stands.same) (λ k. (let e : k ≡ 0 + k = omega arith in now k ∙ ap (λ j. was_hit s.notes n j) e)) in
+    let rows : raised m.bits s.core.regions.rows ≡ counted_from 0 s.notes n s.core.regions.rows = raised_is s.notes n 0 m.bits s.core.regions.rows (len ∙ ap row_count stands.same) (λ k. (let e : k ≡ 0 + k = omega arith in now k ∙ ap (λ j. was_hit s.notes n j) e)) in
     let counted = reached_counted s reached in
     let all : loaded_so_far s.core.phase ≤ length m.bits = omega (arith, ap (λ (c : Core). loaded_so_far c.phase) stands.same, ap loaded_so_far is, fits, len) in
     let found : count_by (λ hit. hit) m.bits ≡ pass_hits s.notes n = true_bits s.notes n m.bits now ∙ counted.hits (length m.bits) all in
@@ -174,7 +174,7 @@ observe_at (Checking k) m s is reached stands fits (inr len) =
           ∙ ap (λ rs. passed_core (record s.core { regions = record s.core.regions { rows = rs } })) rows;
       each = stands.each;
       results = later;
-      checks = omega (arith, stands.checks, made);
+      checks = omega (arith, stands.checks, made, checks_counted s.notes n);
       hits = omega (arith, stands.hits, found);
       slots = stands.slots;
     }

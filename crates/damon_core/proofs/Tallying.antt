@@ -1,16 +1,16 @@
 -- What the notes say of the checks of the pass under way.
-use Rattle.std.proofs.Common.{◌≡◌, inl, inr, ℕ, zero, suc, subst, ◌+◌, ◌≤◌, ◌<◌, Bool, true, false, cond, List, [], ◌∷◌, Ok, refl, sym, ap, ◌∙◌, arith}
+use Rattle.std.proofs.Common.{◌≡◌, inl, inr, ℕ, zero, suc, subst, ◌+◌, ◌≤◌, ◌<◌, Bool, true, false, cond, List, [], ◌∷◌, Ok, refl, sym, ap, ◌∙◌, arith, ◌++◌, length, length-append}
 use Rattle.std.specs.Prelude.{◌==◌, ◌&&◌, ◌||◌, nat_le, slice_index}
 use Rattle.std.proofs.lemmas.Bool.{cases_eq}
 use Rattle.std.proofs.lemmas.Bool.Decides.{nat_tests}
 use Rattle.live_commit.specs.declared.phase.Phase.{Phase}
 use Rattle.live_commit.specs.declared.phase.Phase.TheVariants.{Idle, Clearing, Armed, Checking, Void, Due}
 use Rattle.live_commit.specs.Commit.{CommitValue}
-use Rattle.damon_core.specs.Note.{Note, touched, cleared, checked, finished, voided, set, dropped, metric, turned, ran, cost, was_hit}
-use Rattle.damon_core.specs.Totals.{pass_checks, pass_hits}
+use Rattle.damon_core.specs.Note.{Note, touched, cleared, checked, finished, voided, set, dropped, metric, turned, ran, cost, was_hit, checks_of}
+use Rattle.damon_core.specs.Totals.{pass_hits}
 use Rattle.damon_core.specs.State.{State, row_count, opening_notes}
 use Rattle.damon_core.specs.Event.{IsLoading, load_index}
-use Rattle.damon_core.specs.After.{phase_cleared, phase_after_pass, cleared_at, loaded_at, finished_pass, voided_pass}
+use Rattle.damon_core.specs.After.{phase_cleared, phase_after_pass, loaded_at, finished_pass, by_clear, by_observe}
 use Rattle.damon_core.specs.Aggregate.{served}
 use Rattle.damon_core.specs.Commit.{check_of, committed, committed_core, committed_notes}
 use Rattle.damon_core.specs.Reached.{Reached}
@@ -20,6 +20,30 @@ use Rattle.damon_core.proofs.Committing.{allows_commit, committed_notes_hold, no
 use Rattle.damon_core.proofs.Keeping.{Keeps, any_result, reached_keeps}
 use Rattle.damon_core.proofs.Opening.{opening_holds}
 use Rattle.damon_core.proofs.Served.{notes_hold}
+
+-- how many checks a pass made
+abbrev pub pass_checks : List Note → ℕ → ℕ
+pass_checks [] pass = 0
+pass_checks (checked n k p hit ∷ earlier) pass = cond (n == pass) 1 0 + pass_checks earlier pass
+pass_checks (_ ∷ earlier) pass = pass_checks earlier pass
+
+pub checks_counted : (notes : List Note) (n : ℕ) → length (checks_of notes n) ≡ pass_checks notes n
+checks_counted [] n = refl
+checks_counted (checked m k p hit ∷ notes) n = by (m == n) (checks_of notes n) (checks_counted notes n)
+  where
+    by : (b : Bool) (earlier : List (ℕ × ℕ)) → length earlier ≡ pass_checks notes n → length (cond b (earlier ++ (k, p) ∷ []) earlier) ≡ cond b 1 0 + pass_checks notes n
+    by true earlier same = omega (arith, length-append earlier ((k, p) ∷ []), same)
+    by false earlier same = omega (arith, same)
+checks_counted (touched p ∷ notes) n = checks_counted notes n
+checks_counted (cleared m k p ∷ notes) n = checks_counted notes n
+checks_counted (finished m rows ∷ notes) n = checks_counted notes n
+checks_counted (voided m ∷ notes) n = checks_counted notes n
+checks_counted (set slot x ∷ notes) n = checks_counted notes n
+checks_counted (dropped slot ∷ notes) n = checks_counted notes n
+checks_counted (metric v ∷ notes) n = checks_counted notes n
+checks_counted (turned slot tick ∷ notes) n = checks_counted notes n
+checks_counted (ran slot tick tried runs exceeds ∷ notes) n = checks_counted notes n
+checks_counted (cost slot nanos ∷ notes) n = checks_counted notes n
 
 -- a phase after a clear or after a pass has no load before it
 pub loaded_so_far-phase_after_clear : (k rows : ℕ) → loaded_so_far (phase_cleared (k + 1) rows) ≡ 0
@@ -239,12 +263,12 @@ keeps_count = record {
       record { early = early; tallied = tallied; hits = λ k beyond. no_hits_below (opening_notes v) 1 k (λ j. early.this_pass j (omega arith)) ∙ sym (no_pass_hits (opening_notes v) 1 tallied.this_pass) });
   touching = λ s p c. record { early = keeps_early.touching s p c.early; tallied = keeps_tally.touching s p c.tallied; hits = λ k beyond. same_hits (touched p ∷ s.notes) s.notes (s.core.ticks + 1) k (λ j. refl) ∙ c.hits k beyond };
   preparing = λ s ws idle len c. record { early = keeps_early.preparing s ws idle len c.early; tallied = keeps_tally.preparing s ws idle len c.tallied; hits = λ k beyond. c.hits k (let none : loaded_so_far s.core.phase ≡ 0 = ap loaded_so_far idle in omega arith) };
-  clearing = λ s k is c. record { early = keeps_early.clearing s k is c.early; tallied = keeps_tally.clearing s k is c.tallied; hits = λ j beyond. same_hits (cleared_at k s).notes s.notes (s.core.ticks + 1) j (λ i. refl) ∙ c.hits j (let none : loaded_so_far s.core.phase ≡ 0 = ap loaded_so_far is in omega arith) };
+  clearing = λ s k is c. record { early = keeps_early.clearing s k is c.early; tallied = keeps_tally.clearing s k is c.tallied; hits = λ j beyond. same_hits (by_clear (Clearing k) s).notes s.notes (s.core.ticks + 1) j (λ i. refl) ∙ c.hits j (let none : loaded_so_far s.core.phase ≡ 0 = ap loaded_so_far is in omega arith) };
   loading = λ s k hit fits index known c.
       (let is = (loading_pass s.core.phase (row_count s.core) s.core.ticks fits).1 ∙ index in
       record { early = early_load s k hit is c.early; tallied = tallied_load s k hit is c.tallied; hits = counted_load s k hit is c });
   finishing = λ s is c. record { early = keeps_early.finishing s is c.early; tallied = keeps_tally.finishing s is c.tallied; hits = λ k beyond. same_hits (finished_pass s).notes s.notes (s.core.ticks + 1 + 1) k (λ j. refl) ∙ ended_hits s c k };
-  voiding = λ s is c. record { early = keeps_early.voiding s is c.early; tallied = keeps_tally.voiding s is c.tallied; hits = λ k beyond. same_hits (voided_pass s).notes s.notes (s.core.ticks + 1 + 1) k (λ j. refl) ∙ ended_hits s c k };
+  voiding = λ s is c. record { early = keeps_early.voiding s is c.early; tallied = keeps_tally.voiding s is c.tallied; hits = λ k beyond. same_hits (by_observe Void s).notes s.notes (s.core.ticks + 1 + 1) k (λ j. refl) ∙ ended_hits s c k };
   aggregating = λ s ws is c. record { early = keeps_early.aggregating s ws is c.early; tallied = keeps_tally.aggregating s ws is c.tallied; hits = λ k beyond. same_hits (served s).notes s.notes (s.core.ticks + 1) k (λ j. was_hit-served s (s.core.ticks + 1) j) ∙ c.hits k (let none : loaded_so_far s.core.phase ≡ 0 = ap loaded_so_far is in omega arith) ∙ sym (pass_hits-served s (s.core.ticks + 1)) };
   committing = counted_commit;
 }

@@ -1,10 +1,11 @@
 -- In version One no cost is handed in, and no scheme is set whose quota has a time.
 use Rattle.std.proofs.Common.{◌≡◌, ℕ, Bool, List, [], ◌∷◌, ◌++◌, length, Option, Some, None, Ok, Err, refl, subst}
-use Rattle.std.specs.Prelude.{IfSome, Result, filter_map}
+use Rattle.std.specs.Prelude.{if◌then◌else◌, IfSome, Result, filter_map}
 use Rattle.std.specs.List.{AllByRecursion, cons_option}
-use Rattle.std.specs.Option.{option_map}
+use Rattle.std.specs.Option.{option_map, option_map_or}
 use Rattle.std.specs.Result.{result_and}
 use mathlib.Core.List.{reverse_aux}
+use Rattle.damon_types.specs.Faults.{fault_as}
 use Rattle.damon_types.specs.declared.scheme.CostPart.{CostPart}
 use Rattle.damon_types.specs.declared.scheme.Quota.{Quota}
 use Rattle.damon_types.specs.declared.scheme.Scheme.{Scheme}
@@ -12,16 +13,17 @@ use Rattle.damon_types.specs.declared.scheme.SchemeFault.{SchemeFault}
 use Rattle.damon_types.specs.declared.scheme.SlotChange.{SlotChange}
 use Rattle.damon_types.specs.declared.scheme.Version.{Version}
 use Rattle.damon_types.specs.declared.scheme.Version.TheVariants.{One}
-use Rattle.damon_types.specs.Scheme.{checked_in, checked_scheme, checked_time, timed_in}
+use Rattle.damon_types.specs.Scheme.{checked_in, checked_scheme, checked_time}
+use Rattle.live_commit.specs.declared.fault.SetupFault.TheVariants.{BadScheme as BadSlot, RepeatedSlot}
 use Rattle.live_commit.specs.declared.fault.CommitFault.{CommitFault}
 use Rattle.live_commit.specs.declared.fault.CommitFault.TheVariants.{BadScheme}
-use Rattle.live_commit.specs.Accepts.{checked_cost, checked_for_slot, checked_new_attrs, checked_new_ranges, checked_new_slot, checked_number, checked_phase, fault_as, max_after, ranges_after}
+use Rattle.live_commit.specs.Accepts.{checked_cost, checked_for_slot, checked_new_attrs, checked_new_ranges, checked_new_slot, checked_number, checked_phase, max_after, ranges_after}
 use Rattle.live_commit.specs.Commit.{CommitValue}
 use Rattle.live_commit.specs.Setup.{SetupValue}
-use Rattle.live_commit.specs.Slots.{checked_after, checked_free, checked_set, checked_slot, checked_slots, is_set, scheme_fault}
-use Rattle.damon_core.specs.Note.{Note, set}
+use Rattle.live_commit.specs.Slots.{checked_after, checked_set, checked_slot, checked_slots, is_set}
+use Rattle.damon_core.specs.Note.{Note, set, dropped}
 use Rattle.damon_core.specs.State.{Core, State, opening_notes, set_note}
-use Rattle.damon_core.specs.Commit.{check_of, committed_notes, slot_note, view_of, with_cost, with_metric, with_slot}
+use Rattle.damon_core.specs.Commit.{check_of, committed_notes, view_of, with_cost, with_metric, with_slot}
 use Rattle.damon_core.specs.Reached.{Reached}
 use Rattle.damon_core.specs.VersionOne.{AreOfVersionOne, IsOfVersionOne}
 use Rattle.damon_core.proofs.Keeping.{Keeps, any_result, reached_keeps}
@@ -34,27 +36,27 @@ both_ok (Err e) s ok = absurd (cc)
 
 -- ---- the quota of a scheme that is accepted
 
-untimed : (time : Option ℕ) → timed_in One time ≡ Ok tt → time ≡ None
-untimed None ok = refl
-untimed (Some t) ok = absurd (cc)
+untimed : (bytes reset : ℕ) (time : Option ℕ) → checked_time One (Some (record { bytes = bytes; reset = reset; time = time })) ≡ Ok tt → time ≡ None
+untimed bytes reset None ok = refl
+untimed bytes reset (Some t) ok = absurd (cc)
 
 no_time : (quota : Option Quota) → checked_time One quota ≡ Ok tt → IfSome quota (λ q. q.time ≡ None)
 no_time None ok = tt
-no_time (Some q) ok = untimed q.time ok
+no_time (Some q) ok = untimed q.bytes q.reset q.time ok
 
 scheme_of_one : (slot : ℕ) (s : Scheme) → checked_in One slot s ≡ Ok tt → IfSome s.quota (λ q. q.time ≡ None)
 scheme_of_one slot s ok = no_time s.quota (both_ok (checked_scheme slot s) (checked_time One s.quota) ok).1
 
 -- ---- the notes of an opening
 
-setup_ok : (index : ℕ) (r : Result (Unit {0}) SchemeFault) → scheme_fault index r ≡ Ok tt → r ≡ Ok tt
+setup_ok : (index : ℕ) (r : Result (Unit {0}) SchemeFault) → (fault_as (BadSlot index) r) ≡ Ok tt → r ≡ Ok tt
 setup_ok index (Ok t) ok = refl
 setup_ok index (Err why) ok = absurd (cc)
 
 one_set : (index : ℕ) (taken : Bool) (slot : ℕ) (o : Option Scheme) (notes : List Note) → checked_set One index taken slot o ≡ Ok tt → AreOfVersionOne notes → AreOfVersionOne (cons_option (option_map (set slot) o) notes)
 one_set index taken slot None notes ok all = all
 one_set index taken slot (Some s) notes ok all =
-    (scheme_of_one slot s (setup_ok index (checked_in One slot s) (both_ok (scheme_fault index (checked_in One slot s)) (checked_free index taken) ok).0), all)
+    (scheme_of_one slot s (setup_ok index (checked_in One slot s) (both_ok (fault_as (BadSlot index) (checked_in One slot s)) (if taken then Err (RepeatedSlot index) else Ok tt) ok).0), all)
 
 all_set : (before changes : List SlotChange) → checked_after One before changes ≡ Ok tt → AreOfVersionOne (filter_map set_note changes)
 all_set before [] ok = tt
@@ -76,7 +78,7 @@ commit_ok : {E : Type 0} (fault : E → CommitFault) (r : Result (Unit {0}) E) �
 commit_ok fault (Ok t) ok = refl
 commit_ok fault (Err why) ok = absurd (cc)
 
-note_of_one : (slot : ℕ) (o : Option Scheme) → checked_for_slot One slot o ≡ Ok tt → IsOfVersionOne (slot_note slot o)
+note_of_one : (slot : ℕ) (o : Option Scheme) → checked_for_slot One slot o ≡ Ok tt → IsOfVersionOne (option_map_or (set slot) o (dropped slot))
 note_of_one slot None ok = tt
 note_of_one slot (Some s) ok = scheme_of_one slot s ok
 

@@ -8,7 +8,7 @@ use Rattle.sampler.specs.Pick.{picks_of}
 use Rattle.damon_core.specs.Note.{Note, touched, cleared, checked, finished, voided, was_hit}
 use Rattle.damon_core.specs.State.{Core, State, row_count}
 use Rattle.damon_core.specs.Aggregate.{aggregated}
-use Rattle.damon_core.specs.Commit.{after_commit}
+use Rattle.damon_core.specs.Commit.{check_of, committed, if_accepted}
 use Rattle.damon_core.specs.Event.{Event, touch, prepare, clear, load, observe, aggregate, commit, show, clear_index, load_index}
 
 -- the phase once k picks are cleared
@@ -31,13 +31,6 @@ cleared_core n c = record c { phase = phase_cleared (clear_index c.phase + n) (r
 abbrev pub loaded_core : ℕ → Core → Core
 loaded_core n c = record c { phase = Checking (load_index c.phase + n) }
 
--- the state after pick k is cleared
-abbrev pub cleared_at : ℕ → State → State
-cleared_at k s = record {
-  core = record s.core { phase = phase_cleared (k + 1) (row_count s.core) };
-  notes = cleared (s.core.ticks + 1) k (slice_index s.core.picks k) ∷ s.notes;
-}
-
 -- the state after pick k is loaded, with this result
 abbrev pub loaded_at : ℕ → Bool → State → State
 loaded_at k hit s = record {
@@ -51,10 +44,6 @@ counted_from k notes pass [] = []
 counted_from k notes pass (r ∷ rows) =
     record r { count = r.count + cond (was_hit notes pass k) 1 0 } ∷ counted_from (k + 1) notes pass rows
 
--- the rows after a pass
-abbrev pub counted : List Note → ℕ → List Row → List Row
-counted notes pass rows = counted_from 0 notes pass rows
-
 -- what a monitor shows when a pass has ended
 abbrev pub passed_core : Core → Core
 passed_core c = record c { phase = phase_after_pass (c.since + 1) c.attrs.aggr; ticks = c.ticks + 1; since = c.since + 1 }
@@ -62,17 +51,16 @@ passed_core c = record c { phase = phase_after_pass (c.since + 1) c.attrs.aggr; 
 -- the state after a pass that counts
 abbrev pub finished_pass : State → State
 finished_pass s = record {
-  core = passed_core (record s.core { regions = record s.core.regions { rows = counted s.notes (s.core.ticks + 1) s.core.regions.rows } });
+  core = passed_core (record s.core { regions = record s.core.regions { rows = counted_from 0 s.notes (s.core.ticks + 1) s.core.regions.rows } });
   notes = finished (s.core.ticks + 1) (spans s.core.regions.rows) ∷ s.notes;
 }
 
--- the state after a void pass
-abbrev pub voided_pass : State → State
-voided_pass s = record { core = passed_core s.core; notes = voided (s.core.ticks + 1) ∷ s.notes }
-
--- what a clear does in each phase where it fits
+-- what a clear does in the phase where it fits: pick k is cleared
 abbrev pub by_clear : Phase → State → State
-by_clear (Clearing k) s = cleared_at k s
+by_clear (Clearing k) s = record {
+  core = record s.core { phase = phase_cleared (k + 1) (row_count s.core) };
+  notes = cleared (s.core.ticks + 1) k (slice_index s.core.picks k) ∷ s.notes;
+}
 by_clear _ s = s
 
 -- what a load with this result does in each phase where it fits
@@ -81,13 +69,13 @@ by_load Armed hit s = loaded_at 0 hit s
 by_load (Checking k) hit s = loaded_at k hit s
 by_load _ hit s = s
 
--- what the end of a pass does in each phase where it fits
+-- what the end of a pass does in each phase where it fits: a pass that counts, and a void one
 abbrev pub by_observe : Phase → State → State
 by_observe (Checking k) s = finished_pass s
-by_observe Void s = voided_pass s
+by_observe Void s = record { core = passed_core s.core; notes = voided (s.core.ticks + 1) ∷ s.notes }
 by_observe _ s = s
 
--- what an event that fits makes of a state
+-- what an event that fits makes of a state; a commit that is refused changes nothing
 abbrev pub after : State → Event → State
 after s (touch page) = record s { notes = touched page ∷ s.notes }
 after s (prepare words) = record s { core = prepared_core words s.core }
@@ -95,5 +83,5 @@ after s clear = by_clear s.core.phase s
 after s (load hit) = by_load s.core.phase hit s
 after s observe = by_observe s.core.phase s
 after s (aggregate words) = aggregated words s
-after s (commit parts) = after_commit parts s
+after s (commit parts) = if_accepted (check_of parts s.core) (committed parts s) s
 after s show = s

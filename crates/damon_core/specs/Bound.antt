@@ -1,6 +1,6 @@
 -- What holds of each state that is reached.
 use Rattle.std.specs.Prelude.{◌≡◌, ℕ, ◌+◌, ◌≤◌, ◌<◌, true, List, [], ◌∷◌, Some, IfSome}
-use Rattle.std.specs.List.{enumerate_from}
+use Rattle.std.specs.List.{AllZip, enumerate_from}
 use Rattle.damon_types.specs.Span.{Span, spans}
 use Rattle.region_list.specs.Tiles.{Tiles}
 use Rattle.damon_types.specs.declared.scheme.Scheme.{Scheme}
@@ -10,17 +10,10 @@ use Rattle.damon_core.specs.Note.{Note, checked, finished, voided, ran, clears_o
 use Rattle.damon_core.specs.Slots.{charged_of, cost_of, is_active_in, pages_in, scheme_of}
 use Rattle.damon_core.specs.State.{State, row_count}
 
--- page k lies in row k, for each row
-abbrev pub OneInEach : List ℕ → List Span → Type 0
-OneInEach [] [] = Unit {0}
-OneInEach (p ∷ ps) (s ∷ ss) = (s.start ≤ p) × (p < s.start + s.pages) × OneInEach ps ss
-OneInEach [] (s ∷ ss) = ⊥
-OneInEach (p ∷ ps) [] = ⊥
-
--- The pass cleared one page of each row and checked the same page of each row, in order and once each.
+-- The pass cleared one page of each row, which lies in it, and checked the same page of each row, in order and once each.
 pub record ChecksEachRow (notes : List Note) (pass : ℕ) (rows : List Span) : Type 0 where
   pub pages : List ℕ
-  pub one_in_each : OneInEach pages rows
+  pub one_in_each : AllZip (λ p s. (s.start ≤ p) × (p < s.start + s.pages)) pages rows
   pub cleared : clears_of notes pass ≡ enumerate_from 0 pages
   pub checked : checks_of notes pass ≡ enumerate_from 0 pages
 

@@ -1,11 +1,10 @@
 -- What a commit makes of a state, and its answer.
 use Rattle.std.specs.Prelude.{ℕ, Bool, false, not, List, ◌∷◌, length, map, slice_index_or, slice_set, Option, Some, None, Result, Ok, Err, if◌then◌else◌}
-use Rattle.std.specs.Option.{unwrap_or}
+use Rattle.std.specs.Option.{option_map_or, unwrap_or}
 use Rattle.std.specs.Result.{result_and}
 use Rattle.damon_types.specs.declared.range.RangeSpec.{RangeSpec}
 use Rattle.damon_types.specs.declared.row.Row.{Row}
 use Rattle.damon_types.specs.declared.scheme.CostPart.{CostPart}
-use Rattle.damon_types.specs.declared.scheme.Scheme.{Scheme}
 use Rattle.damon_types.specs.declared.scheme.SlotChange.{SlotChange}
 use Rattle.damon_types.specs.declared.space.Target.{Target}
 use Rattle.damon_types.specs.Span.{spans}
@@ -65,15 +64,10 @@ committed_core parts c =
     let regions = regions_after c.space parts.ranges attrs.max c.regions in
     record c { attrs = attrs; regions = regions; phase = phase_after_commit c.phase c.regions.rows regions.rows }
 
--- the note of a slot change
-abbrev pub slot_note : ℕ → Option Scheme → Note
-slot_note slot None = dropped slot
-slot_note slot (Some scheme) = set slot scheme
-
--- notes with that of a slot change
+-- notes with that of a slot change: its slot is set, or dropped where the change has no scheme
 abbrev pub with_slot : Option SlotChange → List Note → List Note
 with_slot None notes = notes
-with_slot (Some change) notes = slot_note change.slot change.scheme ∷ notes
+with_slot (Some change) notes = option_map_or (set change.slot) change.scheme (dropped change.slot) ∷ notes
 
 -- notes with that of a metric
 abbrev pub with_metric : Option ℕ → List Note → List Note
@@ -101,10 +95,6 @@ if_accepted (Err fault) new old = old
 -- what a monitor shows after a commit; one that is refused changes nothing
 abbrev pub core_after_commit : CommitValue → Core → Core
 core_after_commit parts c = if_accepted (check_of parts c) (committed_core parts c) c
-
--- the state after a commit; one that is refused changes nothing
-abbrev pub after_commit : CommitValue → State → State
-after_commit parts s = if_accepted (check_of parts s.core) (committed parts s) s
 
 -- what a commit that is accepted did
 abbrev pub changed_by : CommitValue → Core → Changed

@@ -1,5 +1,5 @@
 -- What an aggregation reports.
-use Rattle.std.specs.Prelude.{ℕ, List, []}
+use Rattle.std.specs.Prelude.{ℕ, List}
 use Rattle.damon_types.specs.declared.row.Row.{Row}
 use Rattle.scheme_engine.specs.declared.applied.AppliedRun.{AppliedRun}
 use Rattle.scheme_engine.specs.declared.applied.SlotChoice.{SlotChoice}
@@ -13,10 +13,6 @@ pub record ReportValue : Type 0 where
   pub rows : List Row
   pub runs : List AppliedRun
   pub choices : List SlotChoice
-
--- before the first aggregation
-abbrev pub no_report : ReportValue
-no_report = record { tick = 0; threshold = 0; rows = []; runs = []; choices = [] }
 
 -- what a report says
 abbrev pub report_value : Report → ReportValue

@@ -1,5 +1,5 @@
 -- What an aggregation does for the slots: their schemes are applied to the rows, one slot after another.
-use Rattle.std.specs.Prelude.{ℕ, zero, suc, ◌+◌, Bool, false, List, [], ◌∷◌, ◌++◌, Option, Some, None, if◌then◌else◌}
+use Rattle.std.specs.Prelude.{ℕ, zero, suc, ◌+◌, false, List, [], ◌∷◌, ◌++◌, Option, if◌then◌else◌}
 use Rattle.std.specs.Option.{option_map_or}
 use Rattle.damon_types.specs.declared.row.Row.{Row}
 use Rattle.damon_types.specs.declared.scheme.Quota.{Quota}
@@ -25,14 +25,10 @@ pub record Serving : Type 0 where
 abbrev pub nothing_served : RegionList → List Note → Serving
 nothing_served regions notes = record { rows = regions.rows; notes = notes; runs = []; choices = [] }
 
--- whether the window of a slot ends at a tick: never without a quota
-abbrev pub window_ends : List Note → ℕ → ℕ → Option Quota → Bool
-window_ends notes slot tick None = false
-window_ends notes slot tick (Some quota) = has_ended quota (start_of notes slot) tick
-
--- notes with that of a window that begins, where the one before ends
+-- notes with that of a window that begins, where the one before has ended at a tick: never without a quota
 abbrev pub with_turn : ℕ → ℕ → Option Quota → List Note → List Note
-with_turn slot tick quota notes = if window_ends notes slot tick quota then turned slot tick ∷ notes else notes
+with_turn slot tick quota notes =
+    if option_map_or (λ q. has_ended q (start_of notes slot) tick) quota false then turned slot tick ∷ notes else notes
 
 -- the scheme of a slot was run, with what was left of its quota
 abbrev pub run_served : ℕ → ℕ → Option ℕ → List Note → Outcome → Serving

@@ -13,7 +13,7 @@ use Rattle.live_commit.specs.declared.phase.Phase.{Phase}
 use Rattle.live_commit.specs.declared.phase.Phase.TheVariants.{Idle}
 use Rattle.live_commit.specs.Setup.{SetupValue}
 use Rattle.damon_core.specs.Note.{Note, set}
-use Rattle.damon_core.specs.Report.{ReportValue, no_report}
+use Rattle.damon_core.specs.Report.{ReportValue}
 
 -- What a monitor shows of itself: the version of its rules, its targets, attributes, regions and phase, the picks of the pass that
 -- was prepared last, the passes in all, those since the last aggregation, the number of rows at the start of
@@ -55,7 +55,7 @@ opening_core v = record {
   ticks = 0;
   since = 0;
   before = 0;
-  report = no_report;
+  report = record { tick = 0; threshold = 0; rows = []; runs = []; choices = [] };
 }
 
 -- the note that a change sets its slot, where the change has a scheme

@@ -1,14 +1,8 @@
 -- How many checks and hits a monitor has counted.
-use Rattle.std.specs.Prelude.{ℕ, ◌+◌, ◌&&◌, ◌==◌, List, [], ◌∷◌, cond}
-use Rattle.damon_core.specs.Note.{Note, checked, finished}
+use Rattle.std.specs.Prelude.{ℕ, ◌+◌, ◌&&◌, ◌==◌, List, [], ◌∷◌, length, cond}
+use Rattle.damon_core.specs.Note.{Note, checked, checks_of, finished}
 
--- how many checks a pass made
-abbrev pub pass_checks : List Note → ℕ → ℕ
-pass_checks [] pass = 0
-pass_checks (checked n k p hit ∷ earlier) pass = cond (n == pass) 1 0 + pass_checks earlier pass
-pass_checks (_ ∷ earlier) pass = pass_checks earlier pass
-
--- how many of them were hits
+-- how many checks of a pass were hits
 abbrev pub pass_hits : List Note → ℕ → ℕ
 pass_hits [] pass = 0
 pass_hits (checked n k p hit ∷ earlier) pass = cond ((n == pass) && hit) 1 0 + pass_hits earlier pass
@@ -17,7 +11,7 @@ pass_hits (_ ∷ earlier) pass = pass_hits earlier pass
 -- the checks of all finished passes
 abbrev pub checks_made : List Note → ℕ
 checks_made [] = 0
-checks_made (finished n rows ∷ earlier) = pass_checks earlier n + checks_made earlier
+checks_made (finished n rows ∷ earlier) = length (checks_of earlier n) + checks_made earlier
 checks_made (_ ∷ earlier) = checks_made earlier
 
 -- the hits among them

@@ -3,6 +3,7 @@ use Rattle.std.proofs.Common.{◌≡◌, ◌⊎◌, inl, inr, ⊎_elim, ℕ, ◌
 use Rattle.std.specs.Prelude.{◌==◌, nat_le, nat_lt, if◌then◌else◌, slice_get, IfSome, Result}
 use Rattle.std.specs.Result.{result_and}
 use Rattle.std.proofs.lemmas.Bool.Decides.{nat_tests}
+use Rattle.damon_types.specs.Faults.{fault_as}
 use Rattle.damon_types.specs.declared.attrs.Attrs.{Attrs}
 use Rattle.damon_types.specs.declared.attrs.AttrsFault.{AttrsFault}
 use Rattle.damon_types.specs.declared.range.RangeSpec.{RangeSpec}
@@ -22,7 +23,7 @@ use Rattle.live_commit.specs.declared.fault.CommitFault.{CommitFault}
 use Rattle.live_commit.specs.declared.fault.CommitFault.TheVariants.{BadAttrs, BadCost, BadRange, BadScheme, NoRange, OverCap, RangesOverMax}
 use Rattle.live_commit.specs.declared.phase.Phase.{Phase}
 use Rattle.live_commit.specs.declared.phase.Phase.TheVariants.{Idle, Clearing, Armed, Checking, Void, Due}
-use Rattle.live_commit.specs.Accepts.{checked_cost, checked_for_slot, checked_new_attrs, checked_new_max, checked_new_ranges, checked_new_slot, checked_number, checked_phase, fault_as, max_after, ranges_after}
+use Rattle.live_commit.specs.Accepts.{checked_cost, checked_for_slot, checked_new_attrs, checked_new_ranges, checked_new_slot, checked_number, checked_phase, max_after, ranges_after}
 use Rattle.live_commit.specs.Commit.{CommitValue}
 use Rattle.damon_core.specs.Commit.{changed_by, check_of, committed, committed_core, if_accepted}
 use Rattle.damon_core.specs.Reached.{run}
@@ -121,8 +122,8 @@ attrs_refused : (cap : ℕ) (attrs : Option Attrs) (fault : CommitFault) → cap
 attrs_refused cap None fault small fits is = absurd cc
 attrs_refused cap (Some a) fault small fits is = ⊎_elim
     (λ (first : fault_as BadAttrs (checked_attrs a) ≡ Err fault). by_attrs (checked_attrs a) first)
-    (λ (later : (fault_as BadAttrs (checked_attrs a) ≡ Ok tt) × (checked_new_max a.max cap ≡ Err fault)). by_max (nat_lt cap a.max) later.1)
-    (first_or_second (fault_as BadAttrs (checked_attrs a)) (checked_new_max a.max cap) fault is)
+    (λ (later : (fault_as BadAttrs (checked_attrs a) ≡ Ok tt) × ((if nat_lt cap a.max then Err (OverCap a.max cap) else Ok (tt {0})) ≡ Err fault)). by_max (nat_lt cap a.max) later.1)
+    (first_or_second (fault_as BadAttrs (checked_attrs a)) (if nat_lt cap a.max then Err (OverCap a.max cap) else Ok tt) fault is)
   where
     by_attrs : (r : Result (Unit {0}) AttrsFault) → fault_as BadAttrs r ≡ Err fault → FaultFits fault
     by_attrs (Ok t) is = absurd cc

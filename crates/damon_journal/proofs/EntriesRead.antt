@@ -4,6 +4,7 @@ use Rattle.std.proofs.lemmas.Bool.Decides.{nat_tests}
 use Rattle.std.specs.Prelude.{◌==◌, Option, option_and_then, option_map, slice_index_or, if◌then◌else◌}
 use Rattle.std.specs.Option.{option_map_or, option_or}
 use Rattle.std.specs.Fmt.{digits}
+use Rattle.std.specs.List.{fold}
 use Rattle.damon_types.specs.declared.scheme.Scheme.{Scheme}
 use Rattle.line_text.specs.Laws.{StripsFront}
 use Rattle.live_commit.specs.declared.phase.Phase.{Phase}
@@ -19,7 +20,6 @@ use Rattle.damon_core.specs.Reached.{run}
 use Rattle.damon_core.specs.State.{row_count}
 use Rattle.damon_control.specs.CommitLines.{AreReadAfter, ReadsPartsBack}
 use Rattle.damon_control.specs.Live.{CallValue, CommitCall, LiveValue, ShowCall}
-use Rattle.damon_control.specs.Text.{with_parts}
 use Rattle.damon_control.specs.Written.{part_text, parts_of, written_commit}
 use Rattle.damon_control.specs.Spellable.{FitsCall}
 use Rattle.damon_journal.specs.declared.entry.CallAnswer.{CallAnswer}
@@ -195,7 +195,7 @@ part_leads v j c commit p read =
 
 -- and so do those of several
 parts_lead : (v : LiveValue) (j : JournalValue) (c : ℕ) (before : CommitValue) (parts : List Part) (lines : List (List ℕ)) → AreReadAfter v.setup.version before parts
-    → leads_to (InBlock v j c before) (map part_text parts ++ lines) ≡ leads_to (InBlock v j c (with_parts before parts)) lines
+    → leads_to (InBlock v j c before) (map part_text parts ++ lines) ≡ leads_to (InBlock v j c (fold with_part before parts)) lines
 parts_lead v j c before [] lines are = refl
 parts_lead v j c before (p ∷ parts) lines are =
     leads_by (InBlock v j c before) (InBlock v j c (with_part before p)) (part_text p) (map part_text parts ++ lines) (part_leads v j c before p are.0)

@@ -2,11 +2,11 @@
 use Rattle.std.proofs.Common.{◌≡◌, ℕ, ◌+◌, ◌*◌, ◌^◌, ◌<◌, List, [], ◌∷◌, nat_le, nat_lt, Some, None, refl, subst, arith}
 use Rattle.std.proofs.lemmas.Bool.Decides.{nat_tests}
 use Rattle.std.proofs.lemmas.Option.{get_or_from_slice_get, slice_get_within}
-use Rattle.std.specs.Prelude.{Option, slice_get}
+use Rattle.std.specs.Prelude.{Option, slice_get, ◌&&◌}
 use Rattle.std.specs.List.{AllByRecursion}
 use Rattle.damon_types.specs.declared.space.TheConstants.{PAGE_SIZE}
 use Rattle.damon_types.specs.declared.space.Target.{Target}
-use Rattle.damon_types.specs.Space.{IsSpace, IsTarget, holds_byte, offset, page_in, page_of, pages_of, place_of}
+use Rattle.damon_types.specs.Space.{IsSpace, IsTarget, offset, page_in, page_of, pages_of, place_of}
 use Rattle.damon_journal.specs.declared.entry.Receipt.{Receipt}
 use Rattle.damon_journal.specs.Lawful.{all_of}
 use Rattle.damon_journal.specs.Rules.{ReadsLawfulBack, TagsFit}
@@ -32,7 +32,7 @@ byte_fits ts is target addr page e = by (slice_get ts target) refl e
     by : (o : Option Target) → slice_get ts target ≡ o → page_in (offset ts target) addr o ≡ Some page → ByteFits target addr
     by None there e = absurd cc
     by (Some t) there e =
-        let held = if_some (holds_byte t addr) _ page e in
+        let held = if_some (nat_le t.base addr && nat_lt addr (t.base + 4096 * t.pages)) _ page e in
         let ends = both_are (nat_le t.base addr) (nat_lt addr (t.base + PAGE_SIZE * t.pages)) held.0 in
         let below : addr < t.base + PAGE_SIZE * t.pages = grind (arith, nat_tests, ends.1) in
         let own : IsTarget t = subst IsTarget (get_or_from_slice_get ts target t t there) (is.each target t (slice_get_within ts target t there)) in

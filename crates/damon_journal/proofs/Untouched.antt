@@ -23,7 +23,7 @@ use Rattle.damon_core.specs.Note.{Note, touched, cleared, checked, finished, voi
 use Rattle.damon_core.specs.Slots.{charged_of, cost_of, is_active_in, metrics_of, nanos_measured, pages_in, pages_of_runs, scheme_of, slot_count, start_of}
 use Rattle.damon_core.specs.Serve.{Serving, nothing_served, run_served, serve_now, serve_scheme, serve_slot, serve_slots, with_turn}
 use Rattle.damon_core.specs.Aggregate.{aggregated, aggregated_core, merged_regions}
-use Rattle.damon_core.specs.Commit.{check_of, committed, committed_core, committed_notes, if_accepted, slot_note, with_cost, with_metric, with_slot}
+use Rattle.damon_core.specs.Commit.{check_of, committed, committed_core, committed_notes, if_accepted, with_cost, with_metric, with_slot}
 use Rattle.damon_core.specs.State.{State}
 use Rattle.damon_core.specs.After.{after, by_clear, by_load, by_observe, counted_from, finished_pass, passed_core}
 use Rattle.damon_core.specs.Event.{Event, touch, prepare, clear, load, observe, aggregate, commit, show, Fits}
@@ -223,7 +223,7 @@ with_slot-untouched : (o : Option SlotChange) (notes : List Note) → filter is_
 with_slot-untouched None notes = refl
 with_slot-untouched (Some change) notes = by_scheme change.scheme
   where
-    by_scheme : (o : Option Scheme) → filter is_no_touch (slot_note change.slot o ∷ notes) ≡ slot_note change.slot o ∷ filter is_no_touch notes
+    by_scheme : (o : Option Scheme) → filter is_no_touch (option_map_or (set change.slot) o (dropped change.slot) ∷ notes) ≡ option_map_or (set change.slot) o (dropped change.slot) ∷ filter is_no_touch notes
     by_scheme None = refl
     by_scheme (Some scheme) = refl
 

@@ -19,8 +19,8 @@ use Rattle.live_commit.specs.Commit.{CommitValue}
 use Rattle.live_commit.specs.Setup.{SetupValue}
 use Rattle.page_words.specs.declared.view.Entry.TheVariants.{Load}
 use Rattle.damon_core.specs.Bound.{Bound}
-use Rattle.damon_core.specs.Note.{Note, set}
-use Rattle.damon_core.specs.Commit.{becomes_void, check_of, committed, committed_core, if_accepted, slot_note, with_cost, with_metric, with_slot}
+use Rattle.damon_core.specs.Note.{Note, set, dropped}
+use Rattle.damon_core.specs.Commit.{becomes_void, check_of, committed, committed_core, if_accepted, with_cost, with_metric, with_slot}
 use Rattle.damon_core.specs.State.{Core, State, opening, row_count, set_note}
 use Rattle.damon_core.specs.After.{after, phase_after_pass}
 use Rattle.damon_core.specs.Event.{Event, touch, prepare, clear, load, observe, aggregate, commit, show, ByHit}
@@ -166,7 +166,7 @@ quiet_with_slot : (o : Option SlotChange) (ns : List Note) (ps : List ℕ) → A
 quiet_with_slot None ns ps quiet = quiet
 quiet_with_slot (Some change) ns ps quiet = by_scheme change.scheme ps quiet
   where
-    by_scheme : (o : Option Scheme) (qs : List ℕ) → AllByRecursion (Quiet ns) qs → AllByRecursion (Quiet (slot_note change.slot o ∷ ns)) qs
+    by_scheme : (o : Option Scheme) (qs : List ℕ) → AllByRecursion (Quiet ns) qs → AllByRecursion (Quiet (option_map_or (set change.slot) o (dropped change.slot) ∷ ns)) qs
     by_scheme o [] quiet = tt
     by_scheme None (q ∷ qs) quiet = (quiet.0, by_scheme None qs quiet.1)
     by_scheme (Some scheme) (q ∷ qs) quiet = (quiet.0, by_scheme (Some scheme) qs quiet.1)

@@ -5,8 +5,7 @@ use Rattle.script_lines.specs.Lines.{lines_text}
 use Rattle.damon_core.specs.State.{State}
 use Rattle.damon_control.specs.JournalHead.{head_lines}
 use Rattle.damon_control.specs.Live.{LiveValue}
-use Rattle.snapshot_print.specs.declared.form.Form.TheVariants.{Text}
-use Rattle.snapshot_print.specs.Lines.{end_text, show_text}
+use Rattle.snapshot_print.specs.Lines.{as_text}
 use Rattle.snapshot_print.specs.Printed.{printed_state}
 use Rattle.damon_journal.specs.declared.entry.Entry.{Entry}
 use Rattle.damon_journal.specs.declared.entry.Entry.TheVariants.{Prepare, Check, Void, Aggregate, Call}
@@ -43,7 +42,7 @@ settled_lines v j all =
 
 -- what is printed of the last state: its show lines and the end line
 abbrev pub last_text : State → List ℕ
-last_text s = show_text Text (printed_state s) ++ end_text Text (printed_state s)
+last_text s = as_text.show (printed_state s) ++ as_text.end (printed_state s)
 
 -- the text of a journal with receipts
 abbrev pub journal_text : LiveValue → JournalValue → List (List Receipt) → List ℕ

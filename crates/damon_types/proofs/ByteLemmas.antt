@@ -1,11 +1,11 @@
 -- The pages of bytes.
-use Rattle.std.proofs.Common.{◌≡◌, ℕ, zero, suc, ◌+◌, ◌-◌, ◌*◌, ◌/◌, ◌<◌, ◌≤◌, List, [], ◌∷◌, take, Some, None, refl, ap, arith}
-use Rattle.std.specs.Prelude.{Option, slice_get}
+use Rattle.std.proofs.Common.{◌≡◌, ℕ, zero, suc, ◌+◌, ◌-◌, ◌*◌, ◌/◌, ◌<◌, ◌≤◌, List, [], ◌∷◌, take, Some, None, refl, ap, arith, nat_le}
+use Rattle.std.specs.Prelude.{Option, slice_get, ◌&&◌, nat_lt}
 use Rattle.std.proofs.lemmas.Bool.Decides.{nat_tests}
 use Rattle.std.proofs.lemmas.List.Sums.{sum_by-cons}
 use Rattle.std.proofs.lemmas.Option.{cond_some}
 use Rattle.damon_types.specs.declared.space.Target.{Target}
-use Rattle.damon_types.specs.Space.{pages_of, offset, page_of, page_in, holds_byte}
+use Rattle.damon_types.specs.Space.{pages_of, offset, page_of, page_in}
 
 -- the pages of a target are among those of all targets
 offset-end : (ts : List Target) (i : ℕ) (t : Target) → slice_get ts i ≡ Some t → offset ts i + t.pages ≤ pages_of ts
@@ -29,7 +29,7 @@ page_of-below ts i addr page e = by (slice_get ts i) refl e
     by None is found = absurd cc
     by (Some t) is found =
         let most = offset-end ts i t is in
-        let held = cond_some (holds_byte t addr) (offset ts i + (addr - t.base) / 4096) page found in
+        let held = cond_some (nat_le t.base addr && nat_lt addr (t.base + 4096 * t.pages)) (offset ts i + (addr - t.base) / 4096) page found in
         let inside : (t.base ≤ addr) × (addr < t.base + 4096 * t.pages) = grind (arith, nat_tests) in
         omega arith
 
@@ -40,7 +40,7 @@ page_of-rises ts i a b p q first second le = by (slice_get ts i) first second
     by : (o : Option Target) → page_in (offset ts i) a o ≡ Some p → page_in (offset ts i) b o ≡ Some q → p ≤ q
     by None f s = absurd cc
     by (Some t) f s =
-        let held_a = cond_some (holds_byte t a) (offset ts i + (a - t.base) / 4096) p f in
-        let held_b = cond_some (holds_byte t b) (offset ts i + (b - t.base) / 4096) q s in
+        let held_a = cond_some (nat_le t.base a && nat_lt a (t.base + 4096 * t.pages)) (offset ts i + (a - t.base) / 4096) p f in
+        let held_b = cond_some (nat_le t.base b && nat_lt b (t.base + 4096 * t.pages)) (offset ts i + (b - t.base) / 4096) q s in
         let inside : (t.base ≤ a) × (t.base ≤ b) = grind (arith, nat_tests) in
         omega arith

@@ -2,6 +2,7 @@ pub mod Memory
 pub mod Calls
 pub mod Faulty
 pub mod Standard
+pub mod Faults
 pub mod Attrs
 pub mod Ranges
 pub mod Span
@@ -9,5 +10,6 @@ pub mod Space
 pub mod Layout
 pub mod Within
 pub mod Filters
+pub mod Actions
 pub mod Scheme
 pub mod Listed

@@ -1,5 +1,6 @@
 -- The limits of schemes.
 use Rattle.std.specs.Prelude.{ℕ, ◌%◌, Bool, ◌&&◌, ◌==◌, true, not, nat_lt, nat_le, List, position, Option, Some, None, Result, Ok, Err, if◌then◌else◌}
+use Rattle.std.specs.Option.{is_some}
 use Rattle.std.specs.Result.{result_and}
 use Rattle.damon_types.specs.declared.range.TheConstants.{MAX_CLASS}
 use Rattle.damon_types.specs.declared.scheme.TheConstants.{MAX_SLOT}
@@ -56,16 +57,11 @@ checked_scheme slot s =
     else result_and (checked_pattern s.pattern)
     (result_and (checked_quota s.quota) (result_and (checked_marks s.marks) (filter_fault (bad_filter s.filters))))
 
--- a quota has no time in version One
-abbrev pub timed_in : Version → Option ℕ → Result (Unit {0}) SchemeFault
-timed_in Two time = Ok tt
-timed_in One None = Ok tt
-timed_in One (Some time) = Err TimeInOne
-
 -- a quota has a time in version Two alone
 abbrev pub checked_time : Version → Option Quota → Result (Unit {0}) SchemeFault
 checked_time version None = Ok tt
-checked_time version (Some q) = timed_in version q.time
+checked_time Two (Some q) = Ok tt
+checked_time One (Some q) = if is_some q.time then Err TimeInOne else Ok tt
 
 -- the first limit that a scheme for a slot breaks in a version: its time comes last
 abbrev pub checked_in : Version → ℕ → Scheme → Result (Unit {0}) SchemeFault

@@ -1,5 +1,5 @@
 -- A space as its list of targets.
-use Rattle.std.specs.Prelude.{◌≡◌, ◌⊎◌, ℕ, ◌+◌, ◌-◌, ◌*◌, ◌/◌, ◌%◌, ◌<◌, ◌≤◌, Bool, ◌&&◌, All, ◌==◌, nat_lt, nat_le, List, [], ◌∷◌, length, take, sum_by, slice_get, Option, Some, None, Result, Ok, Err, if◌then◌else◌}
+use Rattle.std.specs.Prelude.{◌≡◌, ◌⊎◌, ℕ, ◌+◌, ◌-◌, ◌*◌, ◌/◌, ◌%◌, ◌<◌, ◌≤◌, ◌&&◌, All, ◌==◌, nat_lt, nat_le, List, [], ◌∷◌, length, take, sum_by, slice_get, Option, Some, None, Result, Ok, Err, if◌then◌else◌}
 use Rattle.std.specs.Result.{result_and}
 use Rattle.damon_types.specs.declared.space.TheConstants.{ADDRESS_END, MAX_PAGES, MAX_TARGETS, PAGE_SIZE}
 use Rattle.damon_types.specs.declared.space.Target.{Target}
@@ -15,14 +15,11 @@ pages_of ts = sum_by (λ t. t.pages) ts
 abbrev pub offset : List Target → ℕ → ℕ
 offset ts i = pages_of (take i ts)
 
--- whether the byte at an address lies in the target
-abbrev pub holds_byte : Target → ℕ → Bool
-holds_byte t addr = nat_le t.base addr && nat_lt addr (t.base + PAGE_SIZE * t.pages)
-
--- the page of the byte at an address, in the target if there is one, whose first page has this number
+-- the page of the byte at an address, if there is a target and the byte lies in it; the target's first page has this number
 abbrev pub page_in : ℕ → ℕ → Option Target → Option ℕ
 page_in first addr None = None
-page_in first addr (Some t) = if holds_byte t addr then Some (first + (addr - t.base) / PAGE_SIZE) else None
+page_in first addr (Some t) =
+    if nat_le t.base addr && nat_lt addr (t.base + PAGE_SIZE * t.pages) then Some (first + (addr - t.base) / PAGE_SIZE) else None
 
 -- the page that holds the byte at an address of target i, if there is one
 abbrev pub page_of : List Target → ℕ → ℕ → Option ℕ

@@ -1,4 +1,5 @@
-ghost use Rattle.std.specs.Prelude.{◌≡◌, ◌<◌, IfSome, length};
+ghost use Rattle.std.specs.Prelude.{◌≡◌, ◌<◌, ◌≤◌, IfSome, length};
+ghost use Rattle.damon_types.specs.Actions.{action_name};
 ghost use Rattle.damon_types.specs.Scheme.{is_filter, bad_filter, filter_fault, checked_marks, checked_pattern, checked_in, checked_quota, checked_scheme, checked_time};
 
 use crate::{Filter, FilterKind, Filters, MAX_CLASS, PAGE_SIZE};
@@ -25,6 +26,26 @@ pub enum Action {
     LruPrio,
     /// Move the pages to the tail of the LRU list.
     LruDeprio,
+}
+
+impl Action {
+    /// The name of the action, in scripts and reports: a word of at most 10 bytes.
+    #[inline]
+    pub fn name(self) -> &'static str
+        ensures named { result.now ≡ action_name self }
+        ensures short { length result.now ≤ 10 }
+    {
+        match self {
+            Self::Stat => "stat",
+            Self::Willneed => "willneed",
+            Self::Cold => "cold",
+            Self::Pageout => "pageout",
+            Self::Hugepage => "hugepage",
+            Self::Nohugepage => "nohugepage",
+            Self::LruPrio => "lru_prio",
+            Self::LruDeprio => "lru_deprio",
+        }
+    }
 }
 
 /// The numbers from `low` to `high`, both included.

@@ -1,4 +1,5 @@
 -- The words of pages in the notes before and after a commit.
+use Rattle.std.specs.Option.{option_map_or}
 use Rattle.std.proofs.Common.{◌≡◌, ℕ, List, ◌∷◌, Option, Some, None, Ok, Err, refl, ◌∙◌}
 use Rattle.std.specs.Prelude.{Result}
 use Rattle.damon_types.specs.declared.scheme.CostPart.{CostPart}
@@ -6,13 +7,13 @@ use Rattle.damon_types.specs.declared.scheme.Scheme.{Scheme}
 use Rattle.damon_types.specs.declared.scheme.SlotChange.{SlotChange}
 use Rattle.live_commit.specs.declared.fault.CommitFault.{CommitFault}
 use Rattle.live_commit.specs.Commit.{CommitValue}
-use Rattle.damon_core.specs.Note.{Note, word_of}
-use Rattle.damon_core.specs.Commit.{check_of, committed, if_accepted, slot_note, with_cost, with_metric, with_slot}
+use Rattle.damon_core.specs.Note.{Note, word_of, set, dropped}
+use Rattle.damon_core.specs.Commit.{check_of, committed, if_accepted, with_cost, with_metric, with_slot}
 use Rattle.damon_core.specs.Event.{commit}
 use Rattle.damon_core.specs.After.{after}
 use Rattle.damon_core.specs.State.{State}
 
-word_of-note : (slot : ℕ) (scheme : Option Scheme) (notes : List Note) (p : ℕ) → word_of (slot_note slot scheme ∷ notes) p ≡ word_of notes p
+word_of-note : (slot : ℕ) (scheme : Option Scheme) (notes : List Note) (p : ℕ) → word_of (option_map_or (set slot) scheme (dropped slot) ∷ notes) p ≡ word_of notes p
 word_of-note slot None notes p = refl
 word_of-note slot (Some scheme) notes p = refl
 

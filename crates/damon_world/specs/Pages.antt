@@ -1,6 +1,7 @@
 -- The pages of one thread.
-use Rattle.std.specs.Prelude.{◌≡◌, ℕ, zero, suc, ◌+◌, ◌*◌, ◌≤◌, ◌<◌, Bool, true, false, ◌==◌, ◌||◌, List, length, slice_index, if◌then◌else◌}
+use Rattle.std.specs.Prelude.{◌≡◌, ℕ, zero, suc, ◌+◌, ◌*◌, ◌/◌, ◌≤◌, ◌<◌, Bool, true, false, ◌==◌, ◌||◌, List, length, slice_index, if◌then◌else◌}
 use Rattle.sampler.specs.Loaded.{mark_of}
+use Rattle.page_bits.specs.Bits.{bit_in}
 use Rattle.page_bits.specs.Runs.{in_run}
 use Rattle.damon_core.specs.Note.{Note, is_touched, last_clear}
 
@@ -33,6 +34,17 @@ pub record AreCleared (picks : List ℕ) (from n pass : ℕ) (old new : PagesVie
   pub tags : (p : ℕ) → p < length old.tags → slice_index new.tags p ≡ (if is_picked picks from n p then pass else slice_index old.tags p)
 
 -- How they are stored. Only proofs need what follows.
+
+-- the pages of the picks from `from` to before `to` have a bit each in this many words
+pub record HaveBits (picks : List ℕ) (from to words : ℕ) : Type 0 where
+  pub order : from ≤ to
+  pub within : to ≤ length picks
+  pub pages : (k : ℕ) → k < to → slice_index picks k / 64 < words
+
+-- the bits of the pages of the n picks that begin with pick `from` are cleared, and all else is as before
+pub record AreBitsCleared (picks : List ℕ) (from n : ℕ) (old new : List ℕ) : Type 0 where
+  pub len : length new ≡ length old
+  pub bits : (p : ℕ) → bit_in new p ≡ (if is_picked picks from n p then false else bit_in old p)
 
 -- there is a bit for each page, and a tag for each or for none
 pub record IsStored (pages : ℕ) (words tags : List ℕ) : Type 0 where

@@ -1,7 +1,6 @@
-ghost use Rattle.std.specs.Prelude.{◌≡◌, ◌+◌, ◌-◌, ◌*◌, ◌/◌, ◌≤◌, ◌<◌, [], ℕ, false, if◌then◌else◌, length, replicate, slice_index, IfOk};
-ghost use Rattle.page_bits.specs.Bits.{bit_in};
+ghost use Rattle.std.specs.Prelude.{◌≡◌, ◌+◌, ◌-◌, ◌*◌, ◌≤◌, ◌<◌, [], ℕ, false, if◌then◌else◌, length, replicate, slice_index, IfOk};
 ghost use Rattle.page_bits.specs.Sets.{bits_of};
-ghost use Rattle.damon_world.specs.Pages.{AreCleared, AreTouched, is_picked};
+ghost use Rattle.damon_world.specs.Pages.{AreBitsCleared, AreCleared, AreTouched, HaveBits, is_picked};
 
 use page_bits::{LastWord, WORD, clear_bit, is_bit_set, put_bits_of_run, set_bit};
 use sampler::{Marks, Picks};
@@ -132,17 +131,13 @@ fn no_marks(alloc: Global, pages: u32) -> Result<Vec<u64>, AllocError>
     vec![in alloc; 0; pages.div_ceil(WORD) as usize]
 }
 
-// How many picks a word has on average where the next pick mostly has the word of the last one.
+// From this many picks a word on, the next pick mostly has the word of the last one.
 const PICKS_SIDE_BY_SIDE: usize = 8;
 
 // Clears the bits of the pages of the picks from `from` to before `to`.
 fn clear_marks(marks: &mut [u64], picks: &Picks, from: u32, to: u32)
-    requires order { from ≤ to }
-    requires within { to ≤ length picks.now.pages }
-    requires pages { (k : ℕ) → k < to → slice_index picks.now.pages k / 64 < length marks.old }
-    ensures len { length marks.new ≡ length marks.old }
-    ensures bits { (p : ℕ) → bit_in marks.new p
-        ≡ (if is_picked picks.now.pages from (to - from) p then false else bit_in marks.old p) }
+    requires { HaveBits picks.now.pages from to (length marks.old) }
+    ensures { AreBitsCleared picks.now.pages from (to - from) marks.old marks.new }
 {
     if (to - from) as usize / PICKS_SIDE_BY_SIDE >= marks.len() {
         clear_side_by_side(marks, picks, from, to);
@@ -155,12 +150,8 @@ fn clear_marks(marks: &mut [u64], picks: &Picks, from: u32, to: u32)
 // has the registers.
 #[inline(never)]
 fn clear_side_by_side(marks: &mut [u64], picks: &Picks, from: u32, to: u32)
-    requires order { from ≤ to }
-    requires within { to ≤ length picks.now.pages }
-    requires pages { (k : ℕ) → k < to → slice_index picks.now.pages k / 64 < length marks.old }
-    ensures len { length marks.new ≡ length marks.old }
-    ensures bits { (p : ℕ) → bit_in marks.new p
-        ≡ (if is_picked picks.now.pages from (to - from) p then false else bit_in marks.old p) }
+    requires { HaveBits picks.now.pages from to (length marks.old) }
+    ensures { AreBitsCleared picks.now.pages from (to - from) marks.old marks.new }
 {
     if from == to {
         return;
@@ -174,12 +165,8 @@ fn clear_side_by_side(marks: &mut [u64], picks: &Picks, from: u32, to: u32)
 // The same for picks of which nobody can foretell whether they have the word of the pick before them.
 #[inline(never)]
 fn clear_one_by_one(marks: &mut [u64], picks: &Picks, from: u32, to: u32)
-    requires order { from ≤ to }
-    requires within { to ≤ length picks.now.pages }
-    requires pages { (k : ℕ) → k < to → slice_index picks.now.pages k / 64 < length marks.old }
-    ensures len { length marks.new ≡ length marks.old }
-    ensures bits { (p : ℕ) → bit_in marks.new p
-        ≡ (if is_picked picks.now.pages from (to - from) p then false else bit_in marks.old p) }
+    requires { HaveBits picks.now.pages from to (length marks.old) }
+    ensures { AreBitsCleared picks.now.pages from (to - from) marks.old marks.new }
 {
     for next in from..to {
         clear_bit(marks, picks.page(next));

@@ -1,9 +1,10 @@
 -- What the checks of a commit say of its parts, and those of a setup of its slots.
 use Rattle.std.proofs.Common.{◌≡◌, ℕ, ◌<◌, ◌≤◌, Bool, List, [], ◌∷◌, ◌++◌, length, Ok, Err, Some, None, refl, subst, arith}
 use Rattle.std.specs.List.{AllByRecursion}
-use Rattle.std.specs.Prelude.{IsSome, Option, Result}
+use Rattle.std.specs.Prelude.{nat_lt, if◌then◌else◌, IsSome, Option, Result}
 use Rattle.std.proofs.lemmas.List.Elements.{recursion_from_All}
 use Rattle.std.proofs.lemmas.Bool.Decides.{nat_tests}
+use Rattle.damon_types.specs.Faults.{fault_as}
 use Rattle.damon_types.specs.declared.attrs.Attrs.{Attrs}
 use Rattle.damon_types.specs.declared.range.RangeSpec.{RangeSpec}
 use Rattle.damon_types.specs.declared.scheme.Scheme.{Scheme}
@@ -18,16 +19,17 @@ use Rattle.damon_types.specs.Attrs.{IsAttrs, checked_attrs}
 use Rattle.damon_types.specs.Scheme.{checked_in, checked_scheme, checked_time}
 use Rattle.target_ranges.specs.declared.fault.RangeFault.{RangeFault}
 use Rattle.target_ranges.specs.Checked.{checked_ranges}
+use Rattle.live_commit.specs.declared.fault.SetupFault.TheVariants.{BadScheme as BadSlot, RepeatedSlot}
 use Rattle.live_commit.specs.declared.fault.CommitFault.{CommitFault}
-use Rattle.live_commit.specs.declared.fault.CommitFault.TheVariants.{BadAttrs, BadRange, BadScheme}
+use Rattle.live_commit.specs.declared.fault.CommitFault.TheVariants.{BadAttrs, BadRange, BadScheme, OverCap}
 use Rattle.live_commit.specs.declared.phase.Phase.{Phase}
 use Rattle.live_commit.specs.declared.phase.Phase.TheVariants.{Idle, Clearing, Armed, Checking, Void, Due}
 use Rattle.live_commit.specs.declared.view.View.{View}
 use Rattle.live_commit.specs.Accepted.{AllowsCommit, IsAccepted}
-use Rattle.live_commit.specs.Accepts.{checked_commit, checked_cost, checked_new_attrs, checked_new_max, checked_new_ranges, checked_for_slot, checked_new_slot, checked_number, checked_phase, fault_as, max_after, ranges_after}
+use Rattle.live_commit.specs.Accepts.{checked_commit, checked_cost, checked_new_attrs, checked_new_ranges, checked_for_slot, checked_new_slot, checked_number, checked_phase, max_after, ranges_after}
 use Rattle.live_commit.specs.Commit.{CommitValue}
 use Rattle.live_commit.specs.Setup.{SetupValue, IsSetup}
-use Rattle.live_commit.specs.Slots.{checked_after, checked_free, checked_set, checked_slot, is_set, scheme_fault}
+use Rattle.live_commit.specs.Slots.{checked_after, checked_set, checked_slot, is_set}
 use Rattle.live_commit.proofs.Changes.{both_ok}
 use Rattle.live_commit.proofs.Limits.{attrs_kept}
 
@@ -56,12 +58,12 @@ ranges_accepted space unit cap specs ok =
 number_fits : (ranges max : ℕ) → checked_number ranges max ≡ Ok tt → ranges ≤ max
 number_fits ranges max ok = grind (arith, nat_tests)
 
-max_fits : (max cap : ℕ) → checked_new_max max cap ≡ Ok tt → max ≤ cap
+max_fits : (max cap : ℕ) → (if nat_lt cap max then Err (OverCap max cap) else Ok (tt {0})) ≡ Ok tt → max ≤ cap
 max_fits max cap ok = grind (arith, nat_tests)
 
 attrs_accepted : (cap : ℕ) (a : Attrs) → checked_new_attrs cap (Some a) ≡ Ok tt → IsAttrs a × (a.max ≤ cap)
 attrs_accepted cap a ok =
-    let both = both_ok (fault_as BadAttrs (checked_attrs a)) (checked_new_max a.max cap) ok in
+    let both = both_ok (fault_as BadAttrs (checked_attrs a)) (if nat_lt cap a.max then Err (OverCap a.max cap) else Ok tt) ok in
     (attrs_kept a (fault_as_ok BadAttrs (checked_attrs a) both.0), max_fits a.max cap both.1)
 
 -- a scheme that is accepted for a slot, and a slot change that is accepted, name a slot that exists
@@ -82,14 +84,14 @@ cost_accepted : (version : Version) (part : CostPart) → checked_cost version (
 cost_accepted One part ok = absurd (cc)
 cost_accepted Two part ok = (refl, grind (arith, nat_tests))
 
-scheme_fault_ok : (index : ℕ) (r : Result (Unit {0}) SchemeFault) → scheme_fault index r ≡ Ok tt → r ≡ Ok tt
+scheme_fault_ok : (index : ℕ) (r : Result (Unit {0}) SchemeFault) → (fault_as (BadSlot index) r) ≡ Ok tt → r ≡ Ok tt
 scheme_fault_ok index (Ok t) ok = refl
 scheme_fault_ok index (Err why) ok = absurd (cc)
 
 set_accepted : (version : Version) (index : ℕ) (set : Bool) (slot : ℕ) (scheme : Option Scheme) → IsSome scheme → checked_set version index set slot scheme ≡ Ok tt → slot ≤ MAX_SLOT
 set_accepted version index set slot None some ok = absurd (cc some)
 set_accepted version index set slot (Some s) some ok =
-    scheme_in_slot version slot s (scheme_fault_ok index (checked_in version slot s) (both_ok (scheme_fault index (checked_in version slot s)) (checked_free index set) ok).0)
+    scheme_in_slot version slot s (scheme_fault_ok index (checked_in version slot s) (both_ok (fault_as (BadSlot index) (checked_in version slot s)) (if set then Err (RepeatedSlot index) else Ok tt) ok).0)
 
 slots_accepted : (version : Version) (before changes : List SlotChange) → AllByRecursion (λ c. IsSome c.scheme) changes → checked_after version before changes ≡ Ok tt → AllByRecursion (λ c. c.slot ≤ MAX_SLOT) changes
 slots_accepted version before [] set ok = tt

@@ -1,16 +1,17 @@
 -- Slot changes that are checked and kept one after another.
 use Rattle.std.proofs.Common.{◌≡◌, ℕ, ◌||◌, true, false, List, [], ◌∷◌, ◌++◌, length, Ok, Err, Some, None, refl, ap, subst, ◌∙◌}
-use Rattle.std.specs.Prelude.{Bool, Option, Result}
-use Rattle.std.specs.List.{list_any}
+use Rattle.std.specs.Prelude.{if◌then◌else◌, Bool, Option, Result, ◌&&◌, ◌==◌}
 use Rattle.std.specs.Result.{result_and}
 use Rattle.std.proofs.lemmas.List.{append_assoc, append-nil}
 use Rattle.std.proofs.lemmas.List.Elements.{filter-append}
+use Rattle.damon_types.specs.Faults.{fault_as}
 use Rattle.damon_types.specs.declared.scheme.Scheme.{Scheme}
 use Rattle.damon_types.specs.declared.scheme.SchemeFault.{SchemeFault}
 use Rattle.damon_types.specs.declared.scheme.Version.{Version}
 use Rattle.damon_types.specs.declared.scheme.SlotChange.{SlotChange}
 use Rattle.damon_types.specs.Scheme.{checked_in}
-use Rattle.live_commit.specs.Slots.{checked_after, checked_free, checked_set, checked_slot, checked_slots, has_scheme, kept_slots, scheme_fault, sets}
+use Rattle.live_commit.specs.declared.fault.SetupFault.TheVariants.{BadScheme, RepeatedSlot}
+use Rattle.live_commit.specs.Slots.{checked_after, checked_set, checked_slot, checked_slots, has_scheme, kept_slots, is_set}
 
 -- two checks that succeed
 pub both_ok : {E : Type 0} (r s : Result (Unit {0}) E) → result_and r s ≡ Ok tt → (r ≡ Ok tt) × (s ≡ Ok tt)
@@ -22,7 +23,7 @@ and_ok (Ok t) = refl
 and_ok (Err e) = refl
 
 -- a change that is accepted is accepted at any index
-free_at : (i j : ℕ) (set : Bool) (checked : Result (Unit {0}) SchemeFault) → result_and (scheme_fault i checked) (checked_free i set) ≡ Ok tt → result_and (scheme_fault j checked) (checked_free j set) ≡ Ok tt
+free_at : (i j : ℕ) (set : Bool) (checked : Result (Unit {0}) SchemeFault) → result_and (fault_as (BadScheme i) checked) (if set then Err (RepeatedSlot i) else Ok (tt {0})) ≡ Ok tt → result_and (fault_as (BadScheme j) checked) (if set then Err (RepeatedSlot j) else Ok (tt {0})) ≡ Ok tt
 free_at i j false (Ok t) ok = refl
 free_at i j true (Ok t) ok = absurd (cc)
 free_at i j set (Err why) ok = absurd (cc)
@@ -39,17 +40,17 @@ dropped_first : (c : SlotChange) (changes : List SlotChange) → has_scheme c �
 dropped_first c changes is = rw is refl
 
 -- the changes that are kept set the same slots
-sets_kept_by : (slot : ℕ) (c : SlotChange) (changes : List SlotChange) (b : Bool) → has_scheme c ≡ b → list_any (sets slot) (kept_slots changes) ≡ list_any (sets slot) changes → list_any (sets slot) (kept_slots (c ∷ changes)) ≡ list_any (sets slot) (c ∷ changes)
-sets_kept_by slot c changes true is rest = rw (kept_first c changes is) (ap (λ b. sets slot c || b) rest)
+sets_kept_by : (slot : ℕ) (c : SlotChange) (changes : List SlotChange) (b : Bool) → has_scheme c ≡ b → is_set slot (kept_slots changes) ≡ is_set slot changes → is_set slot (kept_slots (c ∷ changes)) ≡ is_set slot (c ∷ changes)
+sets_kept_by slot c changes true is rest = rw (kept_first c changes is) (ap (λ b. (has_scheme c && (c.slot == slot)) || b) rest)
 sets_kept_by slot c changes false is rest = rw (dropped_first c changes is, is) rest
 
-sets_kept : (slot : ℕ) (changes : List SlotChange) → list_any (sets slot) (kept_slots changes) ≡ list_any (sets slot) changes
+sets_kept : (slot : ℕ) (changes : List SlotChange) → is_set slot (kept_slots changes) ≡ is_set slot changes
 sets_kept slot [] = refl
 sets_kept slot (c ∷ changes) = sets_kept_by slot c changes (has_scheme c) refl (sets_kept slot changes)
 
 -- a change that is accepted after some changes is accepted after those of them that are kept
 slot_kept : (version : Version) (before : List SlotChange) (c : SlotChange) → checked_slot version (length before) before c ≡ Ok tt → checked_slot version (length (kept_slots before)) (kept_slots before) c ≡ Ok tt
-slot_kept version before c ok = index_free version (length before) (length (kept_slots before)) (list_any (sets c.slot) (kept_slots before)) c.slot c.scheme (rw (sets_kept c.slot before) ok)
+slot_kept version before c ok = index_free version (length before) (length (kept_slots before)) (is_set c.slot (kept_slots before)) c.slot c.scheme (rw (sets_kept c.slot before) ok)
 
 -- of changes that are accepted, those that are kept are accepted
 behind_kept_by : (version : Version) (before : List SlotChange) (c : SlotChange) (changes : List SlotChange) (b : Bool) → has_scheme c ≡ b → checked_slot version (length before) before c ≡ Ok tt → checked_after version (kept_slots (before ++ c ∷ [])) (kept_slots changes) ≡ Ok tt → checked_after version (kept_slots before) (kept_slots (c ∷ changes)) ≡ Ok tt

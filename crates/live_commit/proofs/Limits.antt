@@ -1,8 +1,9 @@
 -- What the checks of a setup say of its parts.
 use Rattle.std.proofs.Common.{◌≡◌, ℕ, ◌≤◌, List, length, Ok, Err, refl, arith}
-use Rattle.std.specs.Prelude.{Result}
+use Rattle.std.specs.Prelude.{nat_lt, if◌then◌else◌, Result}
 use Rattle.std.proofs.lemmas.Bool.Decides.{nat_tests}
 use Rattle.std.specs.Result.{result_and}
+use Rattle.damon_types.specs.Faults.{fault_as}
 use Rattle.damon_types.specs.declared.attrs.Attrs.{Attrs}
 use Rattle.damon_types.specs.declared.range.RangeSpec.{RangeSpec}
 use Rattle.damon_types.specs.declared.space.Target.{Target}
@@ -11,9 +12,10 @@ use Rattle.damon_types.specs.declared.scheme.Version.{Version}
 use Rattle.damon_types.specs.declared.scheme.SlotChange.{SlotChange}
 use Rattle.damon_types.specs.Attrs.{IsAttrs, checked_attrs}
 use Rattle.target_ranges.specs.declared.fault.RangeFault.{RangeFault}
+use Rattle.live_commit.specs.declared.fault.SetupFault.TheVariants.{BadAttrs, BadRange, OverCap}
 use Rattle.live_commit.specs.Slots.{checked_slots}
 use Rattle.target_ranges.specs.Checked.{checked_ranges}
-use Rattle.live_commit.specs.Checked.{attrs_fault, checked_cap, checked_count, checked_limits, checked_max, checked_setup, checked_unit, checked_watched, range_fault}
+use Rattle.live_commit.specs.Checked.{checked_cap, checked_count, checked_limits, checked_setup, checked_unit, checked_watched}
 use Rattle.live_commit.proofs.Changes.{both_ok}
 
 unit_kept : (unit : ℕ) → checked_unit unit ≡ Ok tt → (1 ≤ unit) × (unit ≤ 1048576)
@@ -22,13 +24,13 @@ unit_kept unit ok = (grind (arith, nat_tests), grind (arith, nat_tests))
 cap_kept : (cap : ℕ) → checked_cap cap ≡ Ok tt → (3 ≤ cap) × (cap ≤ 4096)
 cap_kept cap ok = (grind (arith, nat_tests), grind (arith, nat_tests))
 
-max_kept : (max cap : ℕ) → checked_max max cap ≡ Ok tt → max ≤ cap
+max_kept : (max cap : ℕ) → (if nat_lt cap max then Err (OverCap max cap) else Ok (tt {0})) ≡ Ok tt → max ≤ cap
 max_kept max cap ok = grind (arith, nat_tests)
 
 count_kept : (ranges max : ℕ) → checked_count ranges max ≡ Ok tt → ranges ≤ max
 count_kept ranges max ok = grind (arith, nat_tests)
 
-attrs_checked : (r : Result (Unit {0}) AttrsFault) → attrs_fault r ≡ Ok tt → r ≡ Ok tt
+attrs_checked : (r : Result (Unit {0}) AttrsFault) → (fault_as BadAttrs r) ≡ Ok tt → r ≡ Ok tt
 attrs_checked (Ok t) ok = refl
 attrs_checked (Err why) ok = absurd (cc)
 
@@ -40,7 +42,7 @@ attrs_kept a ok = record {
   aggr_most = grind (arith, nat_tests);
 }
 
-ranges_checked : (r : Result (Unit {0}) RangeFault) → range_fault r ≡ Ok tt → r ≡ Ok tt
+ranges_checked : (r : Result (Unit {0}) RangeFault) → (fault_as (λ (f : RangeFault). BadRange f.index f.why) r) ≡ Ok tt → r ≡ Ok tt
 ranges_checked (Ok t) ok = refl
 ranges_checked (Err fault) ok = absurd (cc)
 
@@ -57,7 +59,7 @@ pub limits_kept : (unit cap : ℕ) (a : Attrs) → checked_limits unit cap a ≡
 limits_kept unit cap a ok =
     let first = both_ok (checked_unit unit) _ ok in
     let second = both_ok (checked_cap cap) _ first.1 in
-    let third = both_ok (attrs_fault (checked_attrs a)) (checked_max a.max cap) second.1 in
+    let third = both_ok (fault_as BadAttrs (checked_attrs a)) (if nat_lt cap a.max then Err (OverCap a.max cap) else Ok tt) second.1 in
     let units = unit_kept unit first.0 in
     let caps = cap_kept cap second.0 in
     record {
@@ -73,8 +75,8 @@ limits_kept unit cap a ok =
 pub watched_kept : (space : List Target) (unit cap max : ℕ) (specs : List RangeSpec) → checked_watched space unit cap max specs ≡ Ok tt → (1 ≤ length specs) × (length specs ≤ max) × (checked_ranges space unit cap specs ≡ Ok tt)
 watched_kept space unit cap max specs ok =
     let some : 1 ≤ length specs = grind (arith, nat_tests) in
-    let rest : result_and (range_fault (checked_ranges space unit cap specs)) (checked_count (length specs) max) ≡ Ok tt = grind (arith, nat_tests) in
-    let both = both_ok (range_fault (checked_ranges space unit cap specs)) (checked_count (length specs) max) rest in
+    let rest : result_and (fault_as (λ (f : RangeFault). BadRange f.index f.why) (checked_ranges space unit cap specs)) (checked_count (length specs) max) ≡ Ok tt = grind (arith, nat_tests) in
+    let both = both_ok (fault_as (λ (f : RangeFault). BadRange f.index f.why) (checked_ranges space unit cap specs)) (checked_count (length specs) max) rest in
     (some, count_kept (length specs) max both.1, ranges_checked (checked_ranges space unit cap specs) both.0)
 
 -- the three checks of a setup

@@ -13,6 +13,7 @@ use Rattle.damon_types.specs.declared.scheme.Version.TheVariants.{One, Two}
 use Rattle.damon_types.specs.declared.scheme.SlotChange.{SlotChange}
 use Rattle.damon_types.specs.declared.space.Target.{Target}
 use Rattle.damon_types.specs.Attrs.{checked_attrs}
+use Rattle.damon_types.specs.Faults.{fault_as}
 use Rattle.damon_types.specs.Scheme.{checked_in}
 use Rattle.target_ranges.specs.Checked.{checked_ranges}
 use Rattle.live_commit.specs.declared.phase.Phase.{Phase}
@@ -33,11 +34,6 @@ abbrev pub checked_phase : Phase → ℕ → Result (Unit {0}) CommitFault
 checked_phase (Clearing next) rows = Err (Busy next)
 checked_phase (Checking next) rows = Err (Busy (rows + next))
 checked_phase _ rows = Ok tt
-
--- the error of a check as a fault of the commit
-abbrev pub fault_as : {E : Type 0} → (E → CommitFault) → Result (Unit {0}) E → Result (Unit {0}) CommitFault
-fault_as fault (Ok t) = Ok t
-fault_as fault (Err why) = Err (fault why)
 
 -- new ranges are at least one, and each is accepted
 abbrev pub checked_new_ranges : List Target → ℕ → ℕ → Option (List RangeSpec) → Result (Unit {0}) CommitFault
@@ -60,14 +56,11 @@ max_after (Some a) now = a.max
 abbrev pub checked_number : ℕ → ℕ → Result (Unit {0}) CommitFault
 checked_number ranges max = if nat_lt max ranges then Err (RangesOverMax ranges max) else Ok tt
 
--- new attributes allow at most `cap` regions
-abbrev pub checked_new_max : ℕ → ℕ → Result (Unit {0}) CommitFault
-checked_new_max max cap = if nat_lt cap max then Err (OverCap max cap) else Ok tt
-
 -- new attributes are within their limits, and allow at most `cap` regions
 abbrev pub checked_new_attrs : ℕ → Option Attrs → Result (Unit {0}) CommitFault
 checked_new_attrs cap None = Ok tt
-checked_new_attrs cap (Some a) = result_and (fault_as BadAttrs (checked_attrs a)) (checked_new_max a.max cap)
+checked_new_attrs cap (Some a) =
+    result_and (fault_as BadAttrs (checked_attrs a)) (if nat_lt cap a.max then Err (OverCap a.max cap) else Ok tt)
 
 -- the slot exists, and its new scheme, if it gets one, is within its limits
 abbrev pub checked_for_slot : Version → ℕ → Option Scheme → Result (Unit {0}) SchemeFault

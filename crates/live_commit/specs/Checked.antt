@@ -2,13 +2,12 @@
 use Rattle.std.specs.Prelude.{◌≡◌, ◌⊎◌, ℕ, ◌&&◌, ◌==◌, nat_le, nat_lt, List, length, Result, Ok, Err, if◌then◌else◌}
 use Rattle.std.specs.Result.{result_and}
 use Rattle.damon_types.specs.declared.attrs.Attrs.{Attrs}
-use Rattle.damon_types.specs.declared.attrs.AttrsFault.{AttrsFault}
 use Rattle.damon_types.specs.declared.range.RangeSpec.{RangeSpec}
 use Rattle.damon_types.specs.declared.scheme.Version.{Version}
 use Rattle.damon_types.specs.declared.scheme.SlotChange.{SlotChange}
 use Rattle.damon_types.specs.declared.space.Target.{Target}
 use Rattle.damon_types.specs.Attrs.{checked_attrs}
-use Rattle.target_ranges.specs.declared.fault.RangeFault.{RangeFault}
+use Rattle.damon_types.specs.Faults.{fault_as}
 use Rattle.target_ranges.specs.Checked.{checked_ranges}
 use Rattle.live_commit.specs.declared.setup.TheConstants.{MAX_CAP, MAX_UNIT, MIN_CAP}
 use Rattle.live_commit.specs.declared.fault.SetupFault.{SetupFault}
@@ -23,25 +22,12 @@ checked_unit unit = if nat_le 1 unit && nat_le unit MAX_UNIT then Ok tt else Err
 abbrev pub checked_cap : ℕ → Result (Unit {0}) SetupFault
 checked_cap cap = if nat_le MIN_CAP cap && nat_le cap MAX_CAP then Ok tt else Err (BadCap cap)
 
--- what the attributes break, as a fault of the setup
-abbrev pub attrs_fault : Result (Unit {0}) AttrsFault → Result (Unit {0}) SetupFault
-attrs_fault (Ok t) = Ok t
-attrs_fault (Err why) = Err (BadAttrs why)
-
--- the attributes allow at most `cap` regions
-abbrev pub checked_max : ℕ → ℕ → Result (Unit {0}) SetupFault
-checked_max max cap = if nat_lt cap max then Err (OverCap max cap) else Ok tt
-
--- the first check of the numbers that fails
+-- the first check of the numbers that fails; the attributes are within their limits, and allow at most `cap` regions
 abbrev pub checked_limits : ℕ → ℕ → Attrs → Result (Unit {0}) SetupFault
 checked_limits unit cap a =
     result_and (checked_unit unit)
-    (result_and (checked_cap cap) (result_and (attrs_fault (checked_attrs a)) (checked_max a.max cap)))
-
--- why a range is rejected, as a fault of the setup
-abbrev pub range_fault : Result (Unit {0}) RangeFault → Result (Unit {0}) SetupFault
-range_fault (Ok t) = Ok t
-range_fault (Err f) = Err (BadRange f.index f.why)
+    (result_and (checked_cap cap)
+    (result_and (fault_as BadAttrs (checked_attrs a)) (if nat_lt cap a.max then Err (OverCap a.max cap) else Ok tt)))
 
 -- the ranges are at most `max`
 abbrev pub checked_count : ℕ → ℕ → Result (Unit {0}) SetupFault
@@ -51,7 +37,7 @@ checked_count ranges max = if nat_lt max ranges then Err (RangesOverMax ranges m
 abbrev pub checked_watched : List Target → ℕ → ℕ → ℕ → List RangeSpec → Result (Unit {0}) SetupFault
 checked_watched space unit cap max specs =
     if length specs == 0 then Err NoRange
-    else result_and (range_fault (checked_ranges space unit cap specs)) (checked_count (length specs) max)
+    else result_and (fault_as (λ f. BadRange f.index f.why) (checked_ranges space unit cap specs)) (checked_count (length specs) max)
 
 -- the first check of a setup that fails: of the numbers, then of the ranges, then of the slots
 abbrev pub checked_setup : Version → List Target → ℕ → ℕ → Attrs → List RangeSpec → List SlotChange → Result (Unit {0}) SetupFault

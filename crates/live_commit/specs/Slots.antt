@@ -4,9 +4,9 @@ use Rattle.std.specs.List.{filter, list_any}
 use Rattle.std.specs.Option.{is_some}
 use Rattle.std.specs.Result.{result_and}
 use Rattle.damon_types.specs.declared.scheme.Scheme.{Scheme}
-use Rattle.damon_types.specs.declared.scheme.SchemeFault.{SchemeFault}
 use Rattle.damon_types.specs.declared.scheme.Version.{Version}
 use Rattle.damon_types.specs.declared.scheme.SlotChange.{SlotChange}
+use Rattle.damon_types.specs.Faults.{fault_as}
 use Rattle.damon_types.specs.Scheme.{checked_in}
 use Rattle.live_commit.specs.declared.fault.SetupFault.{SetupFault}
 use Rattle.live_commit.specs.declared.fault.SetupFault.TheVariants.{BadScheme, RepeatedSlot}
@@ -15,32 +15,19 @@ use Rattle.live_commit.specs.declared.fault.SetupFault.TheVariants.{BadScheme, R
 abbrev pub has_scheme : SlotChange → Bool
 has_scheme c = is_some c.scheme
 
--- whether a change sets this slot
-abbrev pub sets : ℕ → SlotChange → Bool
-sets slot c = has_scheme c && (c.slot == slot)
-
--- whether one of these changes sets this slot
+-- whether one of these changes sets this slot: it is of the slot, and has a scheme
 abbrev pub is_set : ℕ → List SlotChange → Bool
-is_set slot changes = list_any (sets slot) changes
+is_set slot changes = list_any (λ c. has_scheme c && (c.slot == slot)) changes
 
 -- the changes that have a scheme
 abbrev pub kept_slots : List SlotChange → List SlotChange
 kept_slots changes = filter has_scheme changes
 
--- what a scheme breaks, as a fault of the change with this index
-abbrev pub scheme_fault : ℕ → Result (Unit {0}) SchemeFault → Result (Unit {0}) SetupFault
-scheme_fault index (Ok t) = Ok t
-scheme_fault index (Err why) = Err (BadScheme index why)
-
--- a slot that an earlier change sets may not be set again
-abbrev pub checked_free : ℕ → Bool → Result (Unit {0}) SetupFault
-checked_free index set = if set then Err (RepeatedSlot index) else Ok tt
-
--- a slot may get a scheme where the scheme is within the limits of the version, and the slot is not set yet
+-- a slot may get a scheme where the scheme is within the limits of the version, and no earlier change sets the slot
 abbrev pub checked_set : Version → ℕ → Bool → ℕ → Option Scheme → Result (Unit {0}) SetupFault
 checked_set version index set slot None = Ok tt
 checked_set version index set slot (Some s) =
-    result_and (scheme_fault index (checked_in version slot s)) (checked_free index set)
+    result_and (fault_as (BadScheme index) (checked_in version slot s)) (if set then Err (RepeatedSlot index) else Ok tt)
 
 -- the fault of a change with this index, after these changes
 abbrev pub checked_slot : Version → ℕ → List SlotChange → SlotChange → Result (Unit {0}) SetupFault

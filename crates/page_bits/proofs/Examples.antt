@@ -1,6 +1,6 @@
 -- The bits of pages on worked words.
 use Rattle.std.specs.Prelude.{◌≡◌, true, false, [], ◌∷◌, refl}
-use Rattle.page_bits.specs.Bits.{bit_in, is_set}
+use Rattle.page_bits.specs.Bits.{IsLast, bit_in, is_set}
 
 -- 5 has the bits 0 and 2
 first_bit : is_set 5 0 ≡ true
@@ -19,3 +19,7 @@ page_of_first_word = refl
 -- a page without a word has no bit
 page_beyond : bit_in (7 ∷ []) 64 ≡ false
 page_beyond = refl
+
+-- the second word was changed last, to 4
+second_word_is_last : IsLast (7 ∷ 4 ∷ []) (record { index = 1; word = 4 })
+second_word_is_last = refl

@@ -25,7 +25,7 @@ pub fn put_bits_of_run(words: &mut [u64], start: u32, pages: u32, now: bool) -> 
     head + whole + tail
 }
 
-// The same for the words from `from` to before `to`. Where nobody asks for the count, the loop is a plain fill.
+// The same for the words from `from` to before `to`. Where nobody asks for the count, the loop is a fill.
 #[inline]
 fn put_words(words: &mut [u64], from: u32, to: u32, now: bool) -> u32
     requires order { from ≤ to }

@@ -10,11 +10,11 @@ use Rattle.std.proofs.lemmas.List.Sums.{sum_by-cons, sum-map, sum_by-take-drop, 
 use Rattle.priority.specs.declared.candidates.Candidate.{Candidate}
 use Rattle.priority.specs.Candidates.{DistinctStarts}
 use Rattle.priority.specs.Order.{is_before}
-use Rattle.priority.specs.Share.{passing_before, with_share, with_shares}
+use Rattle.priority.specs.Share.{with_share, with_shares}
 use Rattle.priority.specs.Chosen.{taken_of, lowest_of}
-use Rattle.priority.specs.Best.{IsChoice, sum_of_scores, shares_of, IsBest, TakesAll, TakesHighest, IsCertified}
+use Rattle.priority.specs.Best.{IsChoice, sum_of_scores, shares_of, IsBest, TakesHighest, IsCertified}
 use Rattle.priority.proofs.OrderLemmas.{before_itself, before_third}
-use Rattle.priority.proofs.ShareLemmas.{counted, before_is, shares_fit}
+use Rattle.priority.proofs.ShareLemmas.{counted, before_is, passing_before, shares_fit}
 use Rattle.priority.proofs.LowestLemmas.{IsLowest, lowest_is, lowest_bound, taken_none}
 use Rattle.priority.proofs.TakenLemmas.{taken_is, taken_within}
 use Rattle.priority.proofs.WalkLemmas.{passing_of}
@@ -70,7 +70,7 @@ certified (Some n) cs distinct = by (cases_lt n (sum_by passing_of cs))
     low = All-map (λ (c : Candidate). c.share < c.passing → IfSome (lowest_of shares) (λ lowest. c.score ≤ lowest)) (with_share (Some n) cs) cs
         (λ k d within short. lowest_bound shares (slice_index_or cs k d).score (All-map (λ (c : Candidate). 0 < c.share → (slice_index_or cs k d).score ≤ c.score) (with_share (Some n) cs) cs (λ j e inside some. left_out_low n cs k j d e within inside short some)))
 
-    by : (n < sum_by passing_of cs) ⊎ (sum_by passing_of cs ≤ n) → TakesAll shares ⊎ TakesHighest n shares
+    by : (n < sum_by passing_of cs) ⊎ (sum_by passing_of cs ≤ n) → (All (λ (c : Candidate). c.share ≡ c.passing) shares) ⊎ TakesHighest n shares
     by (inl less) = inr (record { taken = omega (arith, less, taken_is n cs distinct); low = low })
     by (inr more) = inl (All-map (λ (c : Candidate). c.share ≡ c.passing) (with_share (Some n) cs) cs (λ k d within. omega (arith, more, all_before cs k d within)))
 
@@ -137,7 +137,7 @@ no_scores (c ∷ cs) (n ∷ numbers) none =
 pub best : (left : Option ℕ) (cs : List Candidate) → IsChoice left cs (shares_of cs) → IsCertified left cs → IsBest left cs
 best left cs choice certificate = record { choice = choice; most = most left certificate }
   where
-    all : TakesAll cs → (numbers : List ℕ) → AllZip (λ c n. n ≤ c.passing) cs numbers → sum_of_scores cs numbers ≤ sum_of_scores cs (shares_of cs)
+    all : (All (λ (c : Candidate). c.share ≡ c.passing) cs) → (numbers : List ℕ) → AllZip (λ c n. n ≤ c.passing) cs numbers → sum_of_scores cs numbers ≤ sum_of_scores cs (shares_of cs)
     all whole numbers each =
         let low = All-weaker (λ (c : Candidate). c.share ≡ c.passing) (λ (c : Candidate). c.share < c.passing → c.score ≤ 0) (λ c is less. absurd (omega (arith, is, less))) cs whole in
         omega (arith, all_weighed cs numbers 0 each low (λ k d within some. omega arith))

@@ -8,7 +8,7 @@ use Rattle.std.proofs.lemmas.List.Sums.{sum_by-cons}
 use Rattle.priority.specs.declared.candidates.Candidate.{Candidate}
 use Rattle.priority.specs.Candidates.{starts}
 use Rattle.priority.specs.Order.{is_before, InPriority}
-use Rattle.priority.specs.Share.{passing_before, share_after, share_of, with_share, with_shares}
+use Rattle.priority.specs.Share.{share_after, with_share, with_shares}
 use Rattle.priority.proofs.OrderLemmas.{before_once, before_itself}
 
 pub none_pass : {X : Type 0} (p : X → Bool) (xs : List X) → ((k : ℕ) (d : X) → k < length xs → p (slice_index_or xs k d) ≡ false) → filter p xs ≡ []
@@ -25,7 +25,7 @@ front_is (c ∷ cs) (suc i) d ordered within =
     rw first (ap (λ xs. c ∷ xs) (front_is cs i d (λ j k e before more. ordered (suc j) (suc k) e (omega (arith, before)) (omega (arith, more))) (omega (arith, within))))
 
 -- so its share is what they leave
-pub share_is : (left : Option ℕ) (cs : List Candidate) (i : ℕ) (d : Candidate) → InPriority cs → i < length cs → share_of left cs (slice_index_or cs i d) ≡ share_after left (sum_by (λ s. s.passing) (take i cs)) (slice_index_or cs i d).passing
+pub share_is : (left : Option ℕ) (cs : List Candidate) (i : ℕ) (d : Candidate) → InPriority cs → i < length cs → (share_after left (sum_by (λ (s : Candidate). s.passing) (filter (λ s. is_before s (slice_index_or cs i d)) cs)) (slice_index_or cs i d).passing) ≡ share_after left (sum_by (λ s. s.passing) (take i cs)) (slice_index_or cs i d).passing
 share_is left cs i d ordered within = ap (λ front. share_after left (sum_by (λ (s : Candidate). s.passing) front) (slice_index_or cs i d).passing) (front_is cs i d ordered within)
 
 -- a share is at most the passing pages
@@ -41,7 +41,11 @@ pub starts_same : (left : Option ℕ) (all cs : List Candidate) → starts (map 
 starts_same left all [] = refl
 starts_same left all (c ∷ cs) = ap (λ ns. c.start ∷ ns) (starts_same left all cs)
 
--- the passing pages that come before, as a sum over all candidates
+-- the passing pages of all candidates that come before one
+abbrev pub passing_before : List Candidate → Candidate → ℕ
+passing_before cs r = sum_by (λ s. s.passing) (filter (λ s. is_before s r) cs)
+
+-- the same, as a sum over all candidates
 abbrev pub counted : Candidate → Candidate → ℕ
 counted r s = cond (is_before s r) s.passing 0
 

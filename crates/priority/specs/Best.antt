@@ -22,10 +22,6 @@ pub record IsBest (left : Option ℕ) (cs : List Candidate) : Type 0 where
   pub choice : IsChoice left cs (shares_of cs)
   pub most : (numbers : List ℕ) → IsChoice left cs numbers → sum_of_scores cs numbers ≤ sum_of_scores cs (shares_of cs)
 
--- every passing page is taken
-abbrev pub TakesAll : List Candidate → Type 0
-TakesAll cs = All (λ c. c.share ≡ c.passing) cs
-
 -- exactly `left` pages are taken, and a candidate with a page that is not taken scores at most the lowest score of those taken
 pub record TakesHighest (left : ℕ) (cs : List Candidate) : Type 0 where
   pub taken : taken_of cs ≡ left
@@ -34,5 +30,5 @@ pub record TakesHighest (left : ℕ) (cs : List Candidate) : Type 0 where
 -- A certificate that the shares are the best choice. Without a quota every passing page is taken; with one, every passing page
 -- is, or the highest scores take all that is left.
 abbrev pub IsCertified : Option ℕ → List Candidate → Type 0
-IsCertified None cs = TakesAll cs
-IsCertified (Some left) cs = TakesAll cs ⊎ TakesHighest left cs
+IsCertified None cs = All (λ c. c.share ≡ c.passing) cs
+IsCertified (Some left) cs = All (λ c. c.share ≡ c.passing) cs ⊎ TakesHighest left cs

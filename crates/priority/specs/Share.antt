@@ -3,23 +3,15 @@ use Rattle.std.specs.Prelude.{ℕ, Bool, ◌-◌, min, nat_lt, List, map, filter
 use Rattle.priority.specs.declared.candidates.Candidate.{Candidate}
 use Rattle.priority.specs.Order.{is_before}
 
--- the passing pages of all candidates that come before one
-abbrev pub passing_before : List Candidate → Candidate → ℕ
-passing_before cs r = sum_by (λ s. s.passing) (filter (λ s. is_before s r) cs)
-
 -- How many of `passing` pages are taken where `before` others come first: as many as these others leave, or all where there is
 -- no quota.
 abbrev pub share_after : Option ℕ → ℕ → ℕ → ℕ
 share_after None before passing = passing
 share_after (Some left) before passing = min passing (left - before)
 
--- the share of a candidate in what is left of a quota
-abbrev pub share_of : Option ℕ → List Candidate → Candidate → ℕ
-share_of left cs r = share_after left (passing_before cs r) r.passing
-
--- one of the candidates with its share
+-- one of the candidates with its share of what is left of a quota, where the passing pages of all candidates before it come first
 abbrev pub with_share : Option ℕ → List Candidate → Candidate → Candidate
-with_share left cs r = record r { share = share_of left cs r }
+with_share left cs r = record r { share = share_after left (sum_by (λ s. s.passing) (filter (λ s. is_before s r) cs)) r.passing }
 
 -- the candidates, each with its share
 abbrev pub with_shares : Option ℕ → List Candidate → List Candidate

@@ -5,14 +5,12 @@ use Rattle.damon_types.specs.declared.space.TheConstants.{PAGE_SIZE}
 use Rattle.damon_types.specs.declared.scheme.Quota.{Quota}
 use Rattle.quota_charge.specs.declared.cost.Cost.{Cost}
 
--- whether a cost says how long a page takes: it has both pages and nanoseconds
-abbrev pub is_measured : Cost → Bool
-is_measured cost = nat_lt 0 cost.pages && nat_lt 0 cost.nanos
-
--- a number of pages, or as many as a time allows at this cost where these are fewer
+-- a number of pages, or as many as a time allows at this cost where these are fewer; a cost says how long a page takes where it has
+-- both pages and nanoseconds
 abbrev pub within_time : Option ℕ → Cost → ℕ → ℕ
 within_time None cost pages = pages
-within_time (Some time) cost pages = if is_measured cost then min pages (time * cost.pages / cost.nanos) else pages
+within_time (Some time) cost pages =
+    if nat_lt 0 cost.pages && nat_lt 0 cost.nanos then min pages (time * cost.pages / cost.nanos) else pages
 
 -- the effective quota: its whole pages, or those that its time allows where these are fewer
 abbrev pub effective_pages : Quota → Cost → ℕ

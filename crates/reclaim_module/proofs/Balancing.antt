@@ -10,14 +10,14 @@ use Rattle.damon_types.specs.declared.scheme.Quota.{Quota}
 use Rattle.damon_types.specs.declared.scheme.Scheme.{Scheme}
 use Rattle.damon_types.specs.declared.space.Target.{Target}
 use Rattle.region_list.specs.Regions.{RegionList}
-use Rattle.quota_charge.specs.Quota.{left_of}
+use Rattle.quota_charge.specs.Quota.{left_of, has_ended}
 use Rattle.scheme_engine.specs.declared.applied.AppliedRun.{AppliedRun}
 use Rattle.scheme_engine.specs.Outcome.{outcome_of}
 use Rattle.scheme_engine.specs.Served.{no_choice}
 use Rattle.damon_core.specs.Aggregate.{aggregated, merged_regions}
 use Rattle.damon_core.specs.Note.{Note, touched, cleared, checked, finished, voided, set as set_note, dropped, metric, turned, ran, cost}
-use Rattle.damon_core.specs.Serve.{Serving, nothing_served, run_served, serve_scheme, serve_slot, serve_slots, window_ends, with_turn}
-use Rattle.damon_core.specs.Slots.{charged_of, cost_of, is_active_in, scheme_of, slot_count}
+use Rattle.damon_core.specs.Serve.{Serving, nothing_served, run_served, serve_scheme, serve_slot, serve_slots, with_turn}
+use Rattle.damon_core.specs.Slots.{charged_of, cost_of, is_active_in, scheme_of, slot_count, start_of}
 use Rattle.damon_core.specs.State.{State}
 use Rattle.reclaim_module.specs.Calls.{after_action}
 use Rattle.reclaim_module.specs.Counts.{pageouts_of, prefetches_of, refaults_of}
@@ -158,7 +158,7 @@ served_more pages m n old between new first second = record {
 }
 
 turn_served : (pages slot tick : ℕ) (quota : Option Quota) (notes : List Note) → IsServed pages 0 notes (with_turn slot tick quota notes)
-turn_served pages slot tick quota notes = elim (window_ends notes slot tick quota) as (λ b. IsServed pages 0 notes (if b then turned slot tick ∷ notes else notes)) [
+turn_served pages slot tick quota notes = elim (option_map_or (λ (q : Quota). has_ended q (start_of notes slot) tick) quota false) as (λ b. IsServed pages 0 notes (if b then turned slot tick ∷ notes else notes)) [
   | true ↦
       let evens = note_evens pages (turned slot tick) notes (record { way = λ q. refl; touch = λ q. refl }) in
       let none = count_none pages (λ p. false) (λ p below. refl) in

@@ -10,14 +10,14 @@ use Rattle.damon_types.specs.declared.space.Target.{Target}
 use Rattle.damon_types.specs.Space.{pages_of}
 use Rattle.damon_types.specs.Span.{spans}
 use Rattle.region_list.specs.Regions.{RegionList}
-use Rattle.quota_charge.specs.Quota.{left_of}
+use Rattle.quota_charge.specs.Quota.{left_of, has_ended}
 use Rattle.scheme_engine.specs.declared.applied.AppliedRun.{AppliedRun}
 use Rattle.scheme_engine.specs.Outcome.{chosen_of, outcome_of}
 use Rattle.scheme_engine.specs.Served.{no_choice}
 use Rattle.damon_core.specs.Aggregate.{aggregated, merged_regions, served}
 use Rattle.damon_core.specs.Note.{Note, turned, ran}
-use Rattle.damon_core.specs.Serve.{Serving, nothing_served, run_served, serve_scheme, serve_slot, serve_slots, window_ends, with_turn}
-use Rattle.damon_core.specs.Slots.{charged_of, cost_of, is_active_in, scheme_of, slot_count}
+use Rattle.damon_core.specs.Serve.{Serving, nothing_served, run_served, serve_scheme, serve_slot, serve_slots, with_turn}
+use Rattle.damon_core.specs.Slots.{charged_of, cost_of, is_active_in, scheme_of, slot_count, start_of}
 use Rattle.damon_core.specs.State.{State}
 use Rattle.reclaim_module.specs.Counts.{pageouts_of}
 use Rattle.reclaim_module.specs.Out.{holds_pageout, holds_willneed, is_in, is_out}
@@ -38,7 +38,7 @@ record AreAlike (pages : ℕ) (now notes : List Note) : Type 0 where
   schemes : (slot : ℕ) → scheme_of now slot ≡ scheme_of notes slot
 
 turn_alike : (pages slot tick : ℕ) (quota : Option Quota) (notes : List Note) → AreAlike pages (with_turn slot tick quota notes) notes
-turn_alike pages slot tick quota notes = elim (window_ends notes slot tick quota) as (λ b. AreAlike pages (if b then turned slot tick ∷ notes else notes) notes) [
+turn_alike pages slot tick quota notes = elim (option_map_or (λ (q : Quota). has_ended q (start_of notes slot) tick) quota false) as (λ b. AreAlike pages (if b then turned slot tick ∷ notes else notes) notes) [
   | true ↦ record {
     out = λ page. still_out (turned slot tick) notes page (still_by (turned slot tick) notes tt);
     pageouts = still_pageouts pages (turned slot tick) notes (still_by (turned slot tick) notes tt);

@@ -13,7 +13,7 @@ use Rattle.live_commit.specs.declared.fault.CommitFault.{CommitFault}
 use Rattle.live_commit.specs.declared.phase.Phase.{Phase}
 use Rattle.live_commit.specs.declared.phase.Phase.TheVariants.{Idle, Clearing, Armed, Checking, Void, Due}
 use Rattle.live_commit.specs.Commit.{CommitValue}
-use Rattle.quota_charge.specs.Quota.{left_of}
+use Rattle.quota_charge.specs.Quota.{left_of, has_ended}
 use Rattle.scheme_engine.specs.Outcome.{outcome_of}
 use Rattle.scheme_engine.specs.Served.{no_choice}
 use Rattle.damon_core.specs.After.{after, by_clear, by_load, by_observe, phase_after_pass}
@@ -22,8 +22,8 @@ use Rattle.damon_core.specs.Commit.{becomes_void, check_of, committed, if_accept
 use Rattle.damon_core.specs.Event.{Event, Fits, touch, prepare, clear, load, observe, aggregate, commit, show}
 use Rattle.damon_core.specs.Note.{Note, touched, cleared, checked, finished, voided, set as set_note, dropped, metric, turned, ran, cost}
 use Rattle.damon_core.specs.Reached.{AllFit, Reached, run}
-use Rattle.damon_core.specs.Serve.{Serving, nothing_served, run_served, serve_scheme, serve_slot, serve_slots, window_ends, with_turn}
-use Rattle.damon_core.specs.Slots.{charged_of, cost_of, is_active_in, scheme_of, slot_count}
+use Rattle.damon_core.specs.Serve.{Serving, nothing_served, run_served, serve_scheme, serve_slot, serve_slots, with_turn}
+use Rattle.damon_core.specs.Slots.{charged_of, cost_of, is_active_in, scheme_of, slot_count, start_of}
 use Rattle.damon_core.specs.State.{Core, State, opening, opening_notes, row_count}
 use Rattle.reclaim_module.specs.Counts.{pageouts_of}
 use Rattle.reclaim_module.specs.Stands.{IsTouchWithin, LeavesPages, MovesNothing, TouchesWithin}
@@ -49,7 +49,7 @@ no_touch pages (cost i nanos) m = tt
 -- serving touches nothing
 module _ (pages : ℕ) where
   turn_within : (slot tick : ℕ) (quota : Option Quota) (notes : List Note) → TouchesWithin pages notes → TouchesWithin pages (with_turn slot tick quota notes)
-  turn_within slot tick quota notes all = elim (window_ends notes slot tick quota) as (λ b. TouchesWithin pages (if b then turned slot tick ∷ notes else notes)) [
+  turn_within slot tick quota notes all = elim (option_map_or (λ (q : Quota). has_ended q (start_of notes slot) tick) quota false) as (λ b. TouchesWithin pages (if b then turned slot tick ∷ notes else notes)) [
     | true ↦ (tt, all)
     | false ↦ all
   ]

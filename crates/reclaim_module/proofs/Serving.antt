@@ -16,7 +16,7 @@ use Rattle.damon_types.specs.Span.{Span, spans}
 use Rattle.region_list.specs.Regions.{RegionList}
 use Rattle.priority.specs.declared.candidates.Candidate.{Candidate}
 use Rattle.scheme_filter.specs.declared.runs.Run.{Run}
-use Rattle.quota_charge.specs.Quota.{left_of}
+use Rattle.quota_charge.specs.Quota.{left_of, has_ended}
 use Rattle.live_commit.specs.declared.fault.CommitFault.{CommitFault}
 use Rattle.live_commit.specs.declared.phase.Phase.{Phase}
 use Rattle.live_commit.specs.declared.phase.Phase.TheVariants.{Idle, Clearing, Armed, Checking, Void, Due}
@@ -28,11 +28,11 @@ use Rattle.scheme_engine.specs.Served.{no_choice}
 use Rattle.scheme_engine.specs.Taken.{applied_run, applied_runs, candidate_runs, span_at, taken_runs}
 use Rattle.damon_core.specs.After.{after, by_clear, by_load, by_observe}
 use Rattle.damon_core.specs.Aggregate.{aggregated, merged_regions, served}
-use Rattle.damon_core.specs.Commit.{check_of, committed, if_accepted, slot_note, with_cost, with_metric, with_slot}
+use Rattle.damon_core.specs.Commit.{check_of, committed, if_accepted, with_cost, with_metric, with_slot}
 use Rattle.damon_core.specs.Event.{Event, Fits, touch, prepare, clear, load, observe, aggregate, commit, show}
 use Rattle.damon_core.specs.Note.{Note, cleared, checked, finished, voided, set as set_note, dropped, metric, turned, ran, cost}
-use Rattle.damon_core.specs.Serve.{Serving, nothing_served, run_served, serve_scheme, serve_slot, serve_slots, window_ends, with_turn}
-use Rattle.damon_core.specs.Slots.{charged_of, cost_of, is_active_in, scheme_of, slot_count}
+use Rattle.damon_core.specs.Serve.{Serving, nothing_served, run_served, serve_scheme, serve_slot, serve_slots, with_turn}
+use Rattle.damon_core.specs.Slots.{charged_of, cost_of, is_active_in, scheme_of, slot_count, start_of}
 use Rattle.damon_core.specs.State.{State, opening_notes, set_note as note_of_change}
 use Rattle.reclaim_module.specs.Calls.{after_action}
 use Rattle.reclaim_module.specs.Pages.{ReclaimView}
@@ -101,13 +101,13 @@ applied_of_slot notes slot (run ∷ runs) r of =
 -- a window that begins
 module _ (slot tick : ℕ) (quota : Option Quota) (notes : List Note) where
   turn_stands : (r : ReclaimView) → ReclaimStands r notes → ReclaimStands r (with_turn slot tick quota notes)
-  turn_stands r s = elim (window_ends notes slot tick quota) as (λ b. ReclaimStands r (if b then turned slot tick ∷ notes else notes)) [
+  turn_stands r s = elim (option_map_or (λ (q : Quota). has_ended q (start_of notes slot) tick) quota false) as (λ b. ReclaimStands r (if b then turned slot tick ∷ notes else notes)) [
     | true ↦ still (turned slot tick) r notes tt s
     | false ↦ s
   ]
 
   turn_same : (i : ℕ) → scheme_of (with_turn slot tick quota notes) i ≡ scheme_of notes i
-  turn_same i = elim (window_ends notes slot tick quota) as (λ b. scheme_of (if b then turned slot tick ∷ notes else notes) i ≡ scheme_of notes i) [
+  turn_same i = elim (option_map_or (λ (q : Quota). has_ended q (start_of notes slot) tick) quota false) as (λ b. scheme_of (if b then turned slot tick ∷ notes else notes) i ≡ scheme_of notes i) [
     | true ↦ refl
     | false ↦ refl
   ]
@@ -175,7 +175,7 @@ aggregated_stands words s r here = slots_stand slot_count 0 s.core.space s.core.
 module _ (P : List Note → Type 0) (kept : (note : Note) (notes : List Note) → MovesNothing note → P notes → P (note ∷ notes)) where
   slot_keeps : (change : Option SlotChange) (notes : List Note) → P notes → P (with_slot change notes)
   slot_keeps None notes here = here
-  slot_keeps (Some change) notes here = elim change.scheme as (λ held. P (slot_note change.slot held ∷ notes)) [
+  slot_keeps (Some change) notes here = elim change.scheme as (λ held. P (option_map_or (set_note change.slot) held (dropped change.slot) ∷ notes)) [
     | None ↦ kept (dropped change.slot) notes tt here
     | Some scheme ↦ kept (set_note change.slot scheme) notes tt here
   ]

@@ -12,7 +12,7 @@ use Rattle.damon_types.specs.declared.scheme.TheConstants.{MAX_SLOT}
 use Rattle.damon_types.specs.declared.space.Target.{Target}
 use Rattle.damon_types.specs.Space.{IsSpace, pages_of}
 use Rattle.scheme_engine.specs.declared.slot.SlotView.{SlotView}
-use Rattle.scheme_engine.specs.Slots.{SlotValue, empty_slot, scheme_view, view_of}
+use Rattle.scheme_engine.specs.Slots.{SlotValue, empty_slot, view_of}
 use Rattle.damon_core.specs.Note.{Note}
 use Rattle.damon_core.specs.Slots.{scheme_of, set_scheme_of, slot_count, slot_of, slots_of}
 use Rattle.reclaim_module.specs.Stands.{action_in}
@@ -41,7 +41,7 @@ pub action_shown : (slots : List SlotValue) (notes : List Note) (slot : ℕ) (sh
 action_shown slots notes slot shown few is same =
     ap shown_action (is ∙ ap view_of (slot_at slots notes slot few same))
     ∙ by (scheme_of notes slot) where
-      by : (held : Option Scheme) → shown_action (option_map (scheme_view (slot_of notes slot).window) (option_map (λ scheme. set_scheme_of notes slot scheme) held)) ≡ option_map_or (λ (scheme : Scheme). scheme.action) held Stat
+      by : (held : Option Scheme) → shown_action (view_of (record (slot_of notes slot) { set = option_map (λ scheme. set_scheme_of notes slot scheme) held })) ≡ option_map_or (λ (scheme : Scheme). scheme.action) held Stat
       by None = refl
       by (Some scheme) = refl
 

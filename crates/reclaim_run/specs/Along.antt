@@ -7,7 +7,7 @@ use Rattle.damon_control.specs.Script.{ScriptValue}
 use Rattle.damon_control.specs.Sound.{IsSound}
 use Rattle.script_run.specs.BoundAlong.{IsBoundWith}
 use Rattle.script_run.specs.Choices.{ChoosesBestWith}
-use Rattle.script_run.specs.Unfold.{unfold_with}
+use Rattle.script_run.specs.RunWith.{unfold_with}
 use Rattle.reclaim_module.specs.Out.{IsOutSinceLast, is_out}
 use Rattle.reclaim_module.specs.SlotBySlot.{PagesOutSlotBySlot}
 use Rattle.reclaim_run.specs.Reclaimed.{figures_in, pages_in, reclaim_callbacks}

@@ -5,11 +5,11 @@ use Rattle.damon_types.specs.Space.{pages_of}
 use Rattle.live_commit.specs.Commit.{CommitValue}
 use Rattle.damon_core.specs.Event.{Event, aggregate, commit}
 use Rattle.damon_core.specs.State.{State}
-use Rattle.snapshot_print.specs.declared.form.Form.TheVariants.{Text}
+use Rattle.snapshot_print.specs.Lines.{as_text}
 use Rattle.snapshot_print.specs.Fields.{◌then◌}
 use Rattle.damon_control.specs.Script.{ScriptValue}
 use Rattle.script_run.specs.Callbacks.{Callbacks}
-use Rattle.script_run.specs.Report.{report_with}
+use Rattle.script_run.specs.RunWith.{report_with}
 use Rattle.reclaim_module.specs.declared.reclaim.Counts.{Counts}
 use Rattle.reclaim_module.specs.Counts.{pageouts_of, prefetches_of, refaults_of}
 use Rattle.reclaim_module.specs.Out.{is_out}
@@ -83,4 +83,4 @@ reclaim_callbacks = record {
 
 -- the report of a script under proactive reclaim
 abbrev pub reclaimed_report : ScriptValue → List ℕ
-reclaimed_report s = report_with reclaim_callbacks Text s
+reclaimed_report s = report_with reclaim_callbacks as_text s

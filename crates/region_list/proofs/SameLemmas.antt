@@ -1,13 +1,13 @@
 -- Comparing where rows lie.
-use Rattle.std.proofs.Common.{◌≡◌, Bool, true, false, List, [], ◌∷◌, length, map, refl, ap, ◌∙◌, arith}
-use Rattle.std.specs.Prelude.{◌&&◌, nat_eq}
+use Rattle.std.proofs.Common.{◌≡◌, Bool, true, false, List, [], ◌∷◌, map, refl, ap, ◌∙◌, arith}
+use Rattle.std.specs.Prelude.{◌&&◌, nat_eq, ◌==◌}
 use Rattle.std.specs.Cmp.Lexicographic.{pointwise}
 use Rattle.std.specs.Bool.{Decides}
 use Rattle.std.proofs.lemmas.Bool.Decides.{nat_tests}
 use Rattle.std.proofs.lemmas.Slice.Eq.{slice_eq-Decides}
 use Rattle.damon_types.specs.declared.row.Row.{Row}
 use Rattle.damon_types.specs.Span.{Span, span_of, spans}
-use Rattle.region_list.specs.Same.{same_span, same_spans}
+use Rattle.region_list.specs.Same.{same_spans}
 
 -- equal columns make equal spans
 pub same_columns : (a b : List Row) → (pointwise nat_eq (map (λ r. r.start) a) (map (λ r. r.start) b) && (pointwise nat_eq (map (λ r. r.pages) a) (map (λ r. r.pages) b) && pointwise nat_eq (map (λ r. r.target) a) (map (λ r. r.target) b))) ≡ same_spans (spans a) (spans b)
@@ -16,7 +16,7 @@ same_columns [] (y ∷ ys) = refl
 same_columns (x ∷ xs) [] = refl
 same_columns (x ∷ xs) (y ∷ ys) =
     regroup (nat_eq x.start y.start) _ (nat_eq x.pages y.pages) _ (nat_eq x.target y.target) _
-    ∙ ap (λ t. same_span (span_of x) (span_of y) && t) (same_columns xs ys)
+    ∙ ap (λ t. (((span_of x).target == (span_of y).target) && (((span_of x).start == (span_of y).start) && ((span_of x).pages == (span_of y).pages))) && t) (same_columns xs ys)
   where
     regroup : (s ss p ps t ts : Bool) → ((s && ss) && ((p && ps) && (t && ts))) ≡ ((t && (s && p)) && (ss && (ps && ts)))
     regroup true ss true ps true ts = refl
@@ -37,7 +37,7 @@ same_columns (x ∷ xs) (y ∷ ys) =
     regroup false ss p ps false ts = refl
 
 -- equal parts make equal spans
-span_decides : (s t : Span) → Decides (same_span s t) (s ≡ t)
+span_decides : (s t : Span) → Decides ((s.target == t.target) && ((s.start == t.start) && (s.pages == t.pages))) (s ≡ t)
 span_decides s t = (λ same. grind (arith, nat_tests), λ is. rw is (grind (arith, nat_tests)))
 
 pub spans_decide : (a b : List Span) → Decides (same_spans a b) (a ≡ b)

@@ -1,17 +1,9 @@
 -- Rows tile ranges, stated for each page: the promise.
-use Rattle.std.specs.Prelude.{◌≡◌, ℕ, ◌+◌, ◌≤◌, Bool, ◌&&◌, ◌==◌, nat_le, nat_lt, List, [], ◌∷◌, count_by, Any, if◌then◌else◌}
+use Rattle.std.specs.Prelude.{◌≡◌, ℕ, ◌+◌, ◌≤◌, ◌&&◌, ◌==◌, nat_le, nat_lt, List, [], ◌∷◌, count_by, Any, if◌then◌else◌}
 use Rattle.std.specs.List.{list_any, AllByRecursion}
 use Rattle.damon_types.specs.declared.range.Range.{Range}
-use Rattle.damon_types.specs.Ranges.{end_of}
+use Rattle.damon_types.specs.Ranges.{end_of, holds_page}
 use Rattle.damon_types.specs.Span.{Span}
-
--- whether the row is of the target and holds the page
-abbrev pub span_holds : ℕ → ℕ → Span → Bool
-span_holds t p s = (s.target == t) && (nat_le s.start p && nat_lt p (s.start + s.pages))
-
--- whether the range is of the target and holds the page
-abbrev pub range_holds : ℕ → ℕ → Range → Bool
-range_holds t p g = (g.target == t) && (nat_le g.first p && nat_lt p (end_of g))
 
 -- the row lies in the range
 pub record LiesIn (s : Span) (g : Range) : Type 0 where
@@ -27,7 +19,9 @@ RiseFrom p (s ∷ ss) = (p ≤ s.start) × RiseFrom (s.start + 1) ss
 -- Each page of a range is held by exactly one row of its target, and any other page by no row. Each row lies in one
 -- range and has at least `unit` pages. Starts rise.
 pub record Tiles (ranges : List Range) (rows : List Span) (unit : ℕ) : Type 0 where
-  pub once : (t p : ℕ) → count_by (span_holds t p) rows ≡ (if list_any (range_holds t p) ranges then 1 else 0)
+  pub once :
+      (t p : ℕ) → count_by (λ s. (s.target == t) && (nat_le s.start p && nat_lt p (s.start + s.pages))) rows
+      ≡ (if list_any (λ g. (g.target == t) && holds_page p g) ranges then 1 else 0)
   pub within : AllByRecursion (λ s. Any (LiesIn s) ranges) rows
   pub size : AllByRecursion (λ s. unit ≤ s.pages) rows
   pub rise : RiseFrom 0 rows

@@ -1,6 +1,6 @@
 -- The parts of a row, and of all rows: they cover the pages of the rows, they are few enough, and no count rises.
 use Rattle.std.proofs.Common.{◌≡◌, ℕ, ◌+◌, ◌-◌, ◌*◌, ◌≤◌, ◌<◌, Bool, true, false, List, [], ◌∷◌, ◌++◌, length, length-append, nat_lt, refl, ap, ◌∙◌, subst, arith}
-use Rattle.std.specs.Prelude.{slice_index}
+use Rattle.std.specs.Prelude.{slice_index, if◌then◌else◌}
 use Rattle.std.specs.List.{AllByRecursion}
 use Rattle.std.proofs.lemmas.Bool.Decides.{nat_tests}
 use Rattle.std.proofs.lemmas.List.{map-append}
@@ -10,7 +10,7 @@ use Rattle.damon_types.specs.Span.{span_of, spans}
 use Rattle.region_list.specs.Tiling.{Chain}
 use Rattle.region_list.specs.Refined.{IsRefined}
 use Rattle.region_split.specs.Cut.{SplitLimits, cut_place, may_cut, left_side, right_side}
-use Rattle.region_split.specs.Split.{two_parts, three_parts, parts, split_from}
+use Rattle.region_split.specs.Split.{two_parts, three_parts, split_from}
 
 -- a cut lies within the row
 cut_place_within : (pages word : ℕ) → cut_place pages word ≤ pages
@@ -47,6 +47,10 @@ three_parts_hold limits P holds count first second r = by (may_cut limits count 
     by : (v : Bool) → may_cut limits count r.pages (cut_place r.pages first) ≡ v → P count r (three_parts limits count first second r)
     by true may = let at = cut_place r.pages first in rw may (holds.cut count at r (two_parts limits (count + 1) second (right_side at r)) (is_cut limits count r.pages first may) (two_parts_hold limits P holds (count + 1) second (right_side at r)))
     by false may = rw may (holds.whole count r)
+
+-- the parts of a row, where three are wanted or two
+abbrev parts : SplitLimits → Bool → ℕ → ℕ → ℕ → Row → List Row
+parts limits three count first second r = if three then three_parts limits count first second r else two_parts limits count first r
 
 parts_hold : (limits : SplitLimits) (P : ℕ → Row → List Row → Type 0) → HoldsOfCuts limits P → (three : Bool) (count first second : ℕ) (r : Row) → P count r (parts limits three count first second r)
 parts_hold limits P holds true count first second r = three_parts_hold limits P holds count first second r

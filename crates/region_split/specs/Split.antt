@@ -15,15 +15,13 @@ three_parts limits count first second r =
     let at = cut_place r.pages first in
     if may_cut limits count r.pages at then left_side at r ∷ two_parts limits (count + 1) second (right_side at r) else r ∷ []
 
--- the parts of a row, where three are wanted or two
-abbrev pub parts : SplitLimits → Bool → ℕ → ℕ → ℕ → Row → List Row
-parts limits three count first second r = if three then three_parts limits count first second r else two_parts limits count first r
-
--- the parts of the rows from row i on, `count` being the number of rows now: these rows, and the parts of the rows before them
+-- the parts of the rows from row i on, three of each where three are wanted and else two, `count` being the number of rows now: these
+-- rows, and the parts of the rows before them
 abbrev pub split_from : SplitLimits → Bool → List ℕ → ℕ → ℕ → List Row → List Row
 split_from limits three words count i [] = []
 split_from limits three words count i (r ∷ rows) =
-    let new = parts limits three count (slice_index words (2 * i)) (slice_index words (2 * i + 1)) r in
+    let first = slice_index words (2 * i) in
+    let new = if three then three_parts limits count first (slice_index words (2 * i + 1)) r else two_parts limits count first r in
     new ++ split_from limits three words (count + length new - 1) (i + 1) rows
 
 -- whether three parts are wanted: the number of rows is that at the start of the previous split, and is below a third of the most

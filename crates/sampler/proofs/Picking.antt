@@ -1,16 +1,16 @@
 -- The picks of rows.
 use Rattle.std.proofs.Common.{◌≡◌, ℕ, zero, suc, ◌+◌, ◌<◌, List, [], ◌∷◌, ◌++◌, length, map, set, take, get_or, Some, refl, ap, sym, ◌∙◌, arith}
-use Rattle.std.specs.Prelude.{slice_get}
+use Rattle.std.specs.Prelude.{slice_get, ◌%◌}
 use Rattle.std.proofs.lemmas.Grind.{take-set_at}
 use Rattle.damon_types.specs.declared.row.Row.{Row}
-use Rattle.sampler.specs.Pick.{pick, picks_of}
+use Rattle.sampler.specs.Pick.{picks_of}
 
 -- the picks of one row more
-pub picks_of-more : (rows : List Row) (ws : List ℕ) (i : ℕ) (r : Row) (w : ℕ) → slice_get rows i ≡ Some r → slice_get ws i ≡ Some w → picks_of (take (suc i) rows) ws ≡ picks_of (take i rows) ws ++ pick r w ∷ []
+pub picks_of-more : (rows : List Row) (ws : List ℕ) (i : ℕ) (r : Row) (w : ℕ) → slice_get rows i ≡ Some r → slice_get ws i ≡ Some w → picks_of (take (suc i) rows) ws ≡ picks_of (take i rows) ws ++ (r.start + w % r.pages) ∷ []
 picks_of-more [] ws i r w is word = absurd (cc is)
 picks_of-more (q ∷ rows) [] i r w is word = absurd (cc word)
-picks_of-more (q ∷ rows) (v ∷ ws) zero r w is word = let e : q ≡ r = cc in let f : v ≡ w = cc in ap (λ (x : Row). pick x v ∷ []) e ∙ ap (λ x. pick r x ∷ []) f
-picks_of-more (q ∷ rows) (v ∷ ws) (suc i) r w is word = ap (λ ps. pick q v ∷ ps) (picks_of-more rows ws i r w is word)
+picks_of-more (q ∷ rows) (v ∷ ws) zero r w is word = let e : q ≡ r = cc in let f : v ≡ w = cc in ap (λ (x : Row). (x.start + v % x.pages) ∷ []) e ∙ ap (λ x. (r.start + x % r.pages) ∷ []) f
+picks_of-more (q ∷ rows) (v ∷ ws) (suc i) r w is word = ap (λ ps. (q.start + v % q.pages) ∷ ps) (picks_of-more rows ws i r w is word)
 
 -- a number of a column is that of its row
 in_column : (f : Row → ℕ) (rows : List Row) (i : ℕ) (r : Row) → slice_get rows i ≡ Some r → get_or (map f rows) i 0 ≡ f r

@@ -2,20 +2,16 @@
 use Rattle.std.specs.Prelude.{◌≡◌, ℕ, ◌+◌, ◌%◌, ◌≤◌, ◌<◌, ◌^◌, Bool, List, [], ◌∷◌, length, map}
 use Rattle.damon_types.specs.declared.row.Row.{Row}
 
--- the page of a row that a word picks
-abbrev pub pick : Row → ℕ → ℕ
-pick r w = r.start + w % r.pages
-
 -- these are the first pages and the numbers of pages of the rows
 pub record ArePlacesOf (rows : List Row) (starts sizes : List ℕ) : Type 0 where
   pub start : starts ≡ map (λ r. r.start) rows
   pub size : sizes ≡ map (λ r. r.pages) rows
 
--- one pick for each row and its word
+-- one pick for each row and its word: the page that comes as far after the row's first page as the word says modulo the row's pages
 abbrev pub picks_of : List Row → List ℕ → List ℕ
 picks_of [] ws = []
 picks_of (r ∷ rs) [] = []
-picks_of (r ∷ rs) (w ∷ ws) = pick r w ∷ picks_of rs ws
+picks_of (r ∷ rs) (w ∷ ws) = (r.start + w % r.pages) ∷ picks_of rs ws
 
 -- the pages of a pass, whether the check of each was a hit, and how many fit
 pub record PickList : Type 0 where

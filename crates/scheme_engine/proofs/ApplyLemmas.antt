@@ -19,10 +19,10 @@ use Rattle.priority.specs.declared.candidates.Candidate.{Candidate}
 use Rattle.scheme_engine.specs.declared.applied.AppliedRun.{AppliedRun}
 use Rattle.scheme_engine.specs.declared.cut.Part.{Part}
 use Rattle.scheme_engine.specs.Candidates.{passing_pages}
-use Rattle.scheme_engine.specs.Taken.{applied_runs, candidate_runs, span_at, taken_pages, taken_runs, applied_run, no_span}
+use Rattle.scheme_engine.specs.Taken.{applied_runs, candidate_runs, span_at, taken_pages, taken_runs, applied_run}
 use Rattle.scheme_engine.specs.Outcome.{changes_rows, cut_place, renewed}
 use Rattle.scheme_engine.specs.Applying.{IsCandidateOf, first_pages, end_of_runs, index_of, makes_new, part_of, row_renewed, rows_renewed}
-use Rattle.scheme_engine.proofs.PlaceLemmas.{Ascend, ends_before, found_by_start, has_pages, place_by_start, row_by_start, span_read}
+use Rattle.scheme_engine.proofs.PlaceLemmas.{Ascend, ends_before, found_by_start, has_pages, no_span, place_by_start, row_by_start, span_read}
 use Rattle.scheme_engine.proofs.TakenLemmas.{ends_agree, page_end_or, taken_are_first}
 
 -- where the row of a candidate is found

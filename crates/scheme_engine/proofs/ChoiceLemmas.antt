@@ -12,7 +12,7 @@ use Rattle.damon_types.specs.declared.row.Row.{Row}
 use Rattle.damon_types.specs.Span.{span_of, spans}
 use Rattle.priority.specs.declared.candidates.Candidate.{Candidate}
 use Rattle.priority.specs.Order.{is_before, InPriority}
-use Rattle.priority.specs.Share.{passing_before, share_after, with_share, with_shares}
+use Rattle.priority.specs.Share.{share_after, with_share, with_shares}
 use Rattle.scheme_engine.specs.Applying.{IsCandidateOf}
 use Rattle.scheme_engine.specs.Kept.{IsInPart, OneInPart}
 use Rattle.scheme_engine.proofs.GatherLemmas.{HasRow}
@@ -78,8 +78,8 @@ two_in_part left cs c d first second order one two =
     let y = first.candidate in
     let z = second.candidate in
     let ordered : is_before y z ≡ true = ap (λ (x : Candidate). is_before x z) (sym first.is) ∙ ap (λ (x : Candidate). is_before c x) (sym second.is) ∙ order in
-    let up = uses_up left (passing_before cs y) y.passing (subst (λ (x : Candidate). 0 < x.share) first.is one.0) (subst (λ (x : Candidate). x.share < x.passing) first.is one.1) in
-    let after = uses_up left (passing_before cs z) z.passing (subst (λ (x : Candidate). 0 < x.share) second.is two.0) (subst (λ (x : Candidate). x.share < x.passing) second.is two.1) in
+    let up = uses_up left (sum_by (λ (s : Candidate). s.passing) (filter (λ s. is_before s y) cs)) y.passing (subst (λ (x : Candidate). 0 < x.share) first.is one.0) (subst (λ (x : Candidate). x.share < x.passing) first.is one.1) in
+    let after = uses_up left (sum_by (λ (s : Candidate). s.passing) (filter (λ s. is_before s z) cs)) z.passing (subst (λ (x : Candidate). 0 < x.share) second.is two.0) (subst (λ (x : Candidate). x.share < x.passing) second.is two.1) in
     let sums = sum_with (λ s. is_before s y) (λ s. is_before s z) (before_rises y z ordered) cs y first.among (not_before_itself y) ordered in
     let same : up.0 ≡ after.0 = let e : Some up.0 ≡ Some after.0 = sym up.1 ∙ after.1 in cc in
     omega (arith, sums, up.3, after.2, same)

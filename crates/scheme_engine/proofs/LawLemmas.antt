@@ -27,11 +27,11 @@ use Rattle.scheme_engine.specs.declared.cut.Part.{Part}
 use Rattle.scheme_engine.specs.Applying.{cut_rows, next_part, row_renewed, rows_cut, rows_renewed}
 use Rattle.scheme_engine.specs.Candidates.{candidate_of, candidates_of}
 use Rattle.scheme_engine.specs.Kept.{AreTiled}
-use Rattle.scheme_engine.specs.Outcome.{candidate_at, changes_rows, chosen_of, cut_in_two, cut_place, may_cut, renewed, row_after, rows_after}
+use Rattle.scheme_engine.specs.Outcome.{changes_rows, chosen_of, cut_in_two, cut_place, may_cut, renewed, row_after, rows_after}
 use Rattle.scheme_engine.proofs.CutLemmas.{length-cut_rows}
 use Rattle.scheme_engine.proofs.GatherLemmas.{IsOfRow, candidate_is}
 use Rattle.scheme_engine.proofs.PlaceLemmas.{Ascend, rows_ascend}
-use Rattle.scheme_engine.proofs.RowsLemmas.{AreChosen, are_chosen, part_fits, rows_none, rows_some}
+use Rattle.scheme_engine.proofs.RowsLemmas.{AreChosen, are_chosen, candidate_at, part_fits, rows_none, rows_some}
 
 -- what the laws of choices say
 pub record ChoiceLaws : Type 0 where

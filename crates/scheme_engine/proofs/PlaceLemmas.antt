@@ -15,7 +15,10 @@ use Rattle.region_list.specs.Rows.{no_row, row_at}
 use Rattle.region_list.specs.Find.{holds_page, row_index}
 use Rattle.region_list.specs.Tiles.{LiesIn}
 use Rattle.region_list.specs.Tiling.{Chain, Tiling}
-use Rattle.scheme_engine.specs.Taken.{no_span}
+
+-- where a row lies that does not exist
+abbrev pub no_span : Span
+no_span = record { target = 0; start = 0; pages = 0 }
 
 -- each has a page and begins at or after the end of the one before it, the first at or after page p
 abbrev pub Ascend : ℕ → List Span → Type 0

@@ -1,6 +1,6 @@
 -- The rows after an action, as the code makes them: the rows taken whole are made new one after another, and then one is cut.
 use Rattle.std.proofs.Common.{◌≡◌, ◌≢◌, ℕ, zero, suc, ◌+◌, ◌-◌, ◌≤◌, ◌<◌, Bool, true, false, cond, List, [], ◌∷◌, ◌++◌, Option, Some, None, length, map, get_or, refl, sym, ap, ◌∙◌, subst, inl, inr, arith}
-use Rattle.std.specs.Prelude.{◌&&◌, ◌||◌, ◌==◌, ◌⊎◌, All, IsPermutation, fold, nat_lt, nat_le, nat_eq}
+use Rattle.std.specs.Prelude.{◌&&◌, ◌||◌, ◌==◌, ◌⊎◌, All, IsPermutation, fold, nat_lt, nat_le, nat_eq, find}
 use Rattle.std.specs.List.{AllByRecursion, flat_map, list_any}
 use Rattle.std.specs.Option.{option_map_or, option_or, unwrap_or}
 use Rattle.std.proofs.lemmas.Bool.{cases_eq, cases_order, eq-eqb, eqb-true, lt-ltb, ltb-true}
@@ -24,15 +24,19 @@ use Rattle.priority.specs.Candidates.{DistinctStarts, starts}
 use Rattle.priority.specs.Order.{InPriority}
 use Rattle.priority.specs.Share.{with_shares}
 use Rattle.scheme_engine.specs.declared.cut.Part.{Part}
-use Rattle.scheme_engine.specs.Outcome.{candidate_at, changed_rows, changes_rows, cut_in_two, cut_place, may_cut, renewed, row_after, rows_after}
+use Rattle.scheme_engine.specs.Outcome.{changes_rows, cut_in_two, cut_place, may_cut, renewed, row_after, rows_after}
 use Rattle.scheme_engine.specs.Applying.{IsCandidateOf, IsPartOf, cut_rows, index_of, next_part, part_of, row_renewed, rows_cut, rows_renewed}
 use Rattle.scheme_engine.specs.Kept.{IsInPart, OneInPart}
-use Rattle.scheme_engine.specs.Taken.{no_span, span_at}
+use Rattle.scheme_engine.specs.Taken.{span_at}
 use Rattle.scheme_engine.specs.Candidates.{candidates_of, passing_pages}
 use Rattle.scheme_engine.proofs.ApplyLemmas.{cut_within, no_candidate, none_new, not_changed, other_start}
 use Rattle.scheme_engine.proofs.ChoiceLemmas.{chosen_have_rows, one_in_part}
 use Rattle.scheme_engine.proofs.GatherLemmas.{HasRow, candidates_have_rows}
-use Rattle.scheme_engine.proofs.PlaceLemmas.{Ascend, found_by_start, place_by_start, rows_ascend, span_read}
+use Rattle.scheme_engine.proofs.PlaceLemmas.{Ascend, found_by_start, no_span, place_by_start, rows_ascend, span_read}
+
+-- the candidate that starts where a row does, if there is one
+abbrev pub candidate_at : List Candidate → Row → Option Candidate
+candidate_at cs r = find (λ c. c.start == r.start) cs
 
 -- whether all passing pages of a candidate that starts where a row does are taken
 abbrev whole_at : List Candidate → Row → Bool
@@ -393,7 +397,7 @@ rows_some action passes regions cs q are some =
     test : may_cut (record regions { rows = map (row_new cs) regions.rows }) q.pages (row_at (map (row_new cs) regions.rows) q.index) ≡ may_cut regions q.pages r
     test = ap (may_cut (record regions { rows = map (row_new cs) regions.rows }) q.pages) read ∙ ap (λ n. nat_lt n regions.max && (nat_le regions.unit q.pages && nat_le regions.unit (r.pages - q.pages))) (length-map regions.rows (row_new cs))
 
-    by : (v : Bool) → may_cut regions q.pages r ≡ v → rows_cut (record regions { rows = map (row_new cs) regions.rows }) q ≡ changed_rows regions passes cs
+    by : (v : Bool) → may_cut regions q.pages r ≡ v → rows_cut (record regions { rows = map (row_new cs) regions.rows }) q ≡ flat_map (row_defined regions passes cs) regions.rows
     by true is =
         let cut : row_defined regions passes cs r ≡ cut_in_two q.pages (row_new cs r) = defined ∙ rw is refl ∙ ap (cut_in_two q.pages) (sym here.1) in
         rw (test ∙ is) (sym (flat_map_cut (row_defined regions passes cs) (row_new cs) q.index q.pages regions.rows facts.within cut others))

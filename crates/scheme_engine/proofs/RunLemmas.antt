@@ -15,9 +15,9 @@ use Rattle.priority.specs.Chosen.{taken_of}
 use Rattle.scheme_engine.specs.declared.applied.AppliedRun.{AppliedRun}
 use Rattle.scheme_engine.specs.Applying.{IsCandidateOf}
 use Rattle.scheme_engine.specs.Kept.{LiesInRow}
-use Rattle.scheme_engine.specs.Taken.{applied_run, applied_runs, candidate_runs, is_among, no_span, span_at, taken_pages, taken_runs}
-use Rattle.scheme_engine.proofs.PlaceLemmas.{Ascend, found_by_start}
-use Rattle.scheme_engine.proofs.TakenLemmas.{first_pages_sum, taken_are_first}
+use Rattle.scheme_engine.specs.Taken.{applied_run, applied_runs, candidate_runs, span_at, taken_pages, taken_runs}
+use Rattle.scheme_engine.proofs.PlaceLemmas.{Ascend, found_by_start, no_span}
+use Rattle.scheme_engine.proofs.TakenLemmas.{first_pages_sum, is_among, taken_are_first}
 
 -- what the laws of runs say
 pub record RunLaws : Type 0 where

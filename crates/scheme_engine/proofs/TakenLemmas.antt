@@ -1,7 +1,7 @@
 -- The first pages of runs are the runs of the first passing pages.
 use Rattle.std.proofs.Common.{◌≡◌, ℕ, zero, suc, ◌+◌, ◌-◌, ◌≤◌, ◌<◌, min, None, Bool, true, false, List, [], ◌∷◌, take, ◌++◌, map, drop, length, get_or, append_assoc, refl, sym, ap, ◌∙◌, arith}
 use Rattle.std.specs.Prelude.{◌==◌, sum_by, filter}
-use Rattle.std.specs.List.{last_or, range_with_len}
+use Rattle.std.specs.List.{last_or, list_any, range_with_len}
 use Rattle.std.specs.Option.{option_map_or}
 use Rattle.std.proofs.lemmas.Bool.Decides.{nat_tests}
 use Rattle.std.proofs.lemmas.List.{drop_more}
@@ -9,8 +9,11 @@ use Rattle.std.proofs.lemmas.List.FromFn.{length-range_with_len}
 use Rattle.std.proofs.lemmas.List.Sums.{sum_by-cons, count_by-le-length, length-filter}
 use Rattle.scheme_filter.specs.declared.runs.Run.{Run}
 use Rattle.scheme_filter.specs.Runs.{run_end, runs_of, with_page}
-use Rattle.scheme_engine.specs.Taken.{is_among}
 use Rattle.scheme_engine.specs.Applying.{first_pages}
+
+-- whether a page is one of these
+abbrev pub is_among : List ℕ → ℕ → Bool
+is_among pages page = list_any (λ p. p == page) pages
 
 -- the runs of two tests that agree from a page on
 runs_agree : (p q : ℕ → Bool) (from k : ℕ) → ((n : ℕ) → from ≤ n → p n ≡ q n) → runs_of p from k ≡ runs_of q from k

@@ -28,13 +28,9 @@ abbrev pub changes_rows : Action → Bool
 changes_rows Stat = false
 changes_rows _ = true
 
--- the page after the last one of a list
-abbrev pub end_of_pages : List ℕ → ℕ
-end_of_pages pages = option_map_or (λ p. p + 1) (last_or None pages) 0
-
 -- after how many of its pages a row is cut, of which the first n passing pages are taken: after the last one taken
 abbrev pub cut_place : (ℕ → Bool) → ℕ → Span → ℕ
-cut_place passes n s = end_of_pages (taken_pages passes n s) - s.start
+cut_place passes n s = option_map_or (λ p. p + 1) (last_or None (taken_pages passes n s)) 0 - s.start
 
 -- Whether a row may be cut after `at` of its pages: there is room for one row more, and both sides have the minimum size.
 abbrev pub may_cut : RegionList → ℕ → Row → Bool
@@ -58,17 +54,12 @@ row_after regions passes r c =
     else if nat_lt 0 c.share && may_cut regions at r then cut_in_two at r
     else r ∷ []
 
--- the candidate that starts where a row does, if there is one
-abbrev pub candidate_at : List Candidate → Row → Option Candidate
-candidate_at cs r = find (λ c. c.start == r.start) cs
-
--- the rows after an action that changes them, each row by itself
-abbrev pub changed_rows : RegionList → (ℕ → Bool) → List Candidate → List Row
-changed_rows regions passes cs = flat_map (λ r. option_map_or (row_after regions passes r) (candidate_at cs r) (r ∷ [])) regions.rows
-
--- the rows after an action
+-- the rows after an action: where it changes rows, each row by itself by the candidate that starts where it does, if there is one
 abbrev pub rows_after : Action → RegionList → (ℕ → Bool) → List Candidate → List Row
-rows_after action regions passes cs = if changes_rows action then changed_rows regions passes cs else regions.rows
+rows_after action regions passes cs =
+    if changes_rows action
+    then flat_map (λ r. option_map_or (row_after regions passes r) (find (λ c. c.start == r.start) cs) (r ∷ [])) regions.rows
+    else regions.rows
 
 -- What a run of a scheme amounts to: the runs that it is applied to, the number of rows that match, the number of pages taken,
 -- the lowest score of a candidate of which a page is taken, whether a passing page is not taken, and the rows after it.

@@ -63,10 +63,9 @@ window_at tick (Some q) w = turned q tick w
 abbrev pub turned_slot : ℕ → SlotValue → SlotValue
 turned_slot tick s = record s { window = window_at tick (quota_of s) s.window }
 
--- what a set slot shows
-abbrev pub scheme_view : Window → SetScheme → SlotView
-scheme_view window h = record { action = h.scheme.action; active = h.gauge.active; window = window; tried = h.tried; applied = h.applied; exceeds = h.exceeds }
-
--- what a slot shows
+-- what a slot shows, if it is set
 abbrev pub view_of : SlotValue → Option SlotView
-view_of s = option_map (scheme_view s.window) s.set
+view_of s =
+    option_map
+    (λ h. record { action = h.scheme.action; active = h.gauge.active; window = s.window; tried = h.tried; applied = h.applied; exceeds = h.exceeds })
+    s.set

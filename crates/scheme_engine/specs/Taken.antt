@@ -13,21 +13,13 @@ use Rattle.scheme_engine.specs.Candidates.{passing_pages}
 abbrev pub taken_pages : (ℕ → Bool) → ℕ → Span → List ℕ
 taken_pages passes n s = take n (passing_pages passes s)
 
--- whether a page is one of these
-abbrev pub is_among : List ℕ → ℕ → Bool
-is_among pages p = list_any (λ q. q == p) pages
-
 -- their longest runs
 abbrev pub taken_runs : (ℕ → Bool) → ℕ → Span → List Run
-taken_runs passes n s = runs_of (is_among (taken_pages passes n s)) s.start s.pages
+taken_runs passes n s = runs_of (λ p. list_any (λ q. q == p) (taken_pages passes n s)) s.start s.pages
 
--- where a row lies that does not exist
-abbrev pub no_span : Span
-no_span = record { target = 0; start = 0; pages = 0 }
-
--- where the row of a candidate lies: it starts where the candidate does
+-- where the row of a candidate lies: it starts where the candidate does; nowhere if no row does
 abbrev pub span_at : List Span → Candidate → Span
-span_at ss c = unwrap_or (find (λ s. s.start == c.start) ss) no_span
+span_at ss c = unwrap_or (find (λ s. s.start == c.start) ss) (record { target = 0; start = 0; pages = 0 })
 
 -- a run of a candidate of the slot with this number
 abbrev pub applied_run : ℕ → Candidate → Run → AppliedRun

@@ -1,13 +1,13 @@
 -- The answer of filters stays the same up to the next change, and each change that is passed is one fewer.
-use Rattle.std.proofs.Common.{◌≡◌, ◌⊎◌, inl, inr, ℕ, ◌+◌, ◌-◌, ◌*◌, ◌<◌, ◌≤◌, Bool, not, List, [], ◌∷◌, ◌++◌, length, refl, sym, ap, ◌∙◌, subst, arith}
-use Rattle.std.specs.Prelude.{nat_lt, nat_le, ◌&&◌, find, unwrap_or, option_map, Some, if◌then◌else◌}
+use Rattle.std.proofs.Common.{◌≡◌, ◌⊎◌, inl, inr, ℕ, ◌+◌, ◌-◌, ◌*◌, ◌<◌, ◌≤◌, Bool, not, List, [], ◌∷◌, ◌++◌, length, refl, sym, ap, ◌∙◌, subst, arith, true}
+use Rattle.std.specs.Prelude.{nat_lt, nat_le, ◌&&◌, find, unwrap_or, option_map, Some, if◌then◌else◌, slice_get}
 use Rattle.std.proofs.lemmas.Bool.{cases_lt}
 use Rattle.std.proofs.lemmas.Bool.Decides.{nat_tests}
 use Rattle.damon_types.specs.declared.filter.Filter.{Filter}
 use Rattle.damon_types.specs.declared.filter.FilterKind.{FilterKind}
 use Rattle.damon_types.specs.declared.filter.FilterKind.TheVariants.{Addr, Target, Class}
 use Rattle.scheme_filter.specs.declared.row_pages.RowPages.{RowPages}
-use Rattle.scheme_filter.specs.Passes.{is_of, applies, default_answer}
+use Rattle.scheme_filter.specs.Passes.{is_of, applies}
 use Rattle.scheme_filter.specs.RowPages.{PassesChange, answer_at, place_at, page_from, kind_changes, changes, nearer, first_after, count_after}
 
 nearer_above : (at page next : ℕ) → at < next → at < nearer at page next
@@ -103,7 +103,7 @@ find_same row at page end (f ∷ fs) within after before bound =
 
 -- and so is the answer
 pub answer_same : (row : RowPages) (at page : ℕ) (fs : List Filter) → row.start ≤ at → at ≤ page → page < first_after at row.end (changes row fs) → answer_at fs row page ≡ answer_at fs row at
-answer_same row at page fs within after before = ap (λ found. unwrap_or (option_map (λ f. f.allow) found) (default_answer fs)) (find_same row at page row.end fs within after before (omega arith))
+answer_same row at page fs within after before = ap (λ found. unwrap_or (option_map (λ f. f.allow) found) (unwrap_or (option_map (λ f. not f.allow) (slice_get fs (length fs - 1))) true)) (find_same row at page row.end fs within after before (omega arith))
 
 one_falls : (at later p : ℕ) → at ≤ later → (if nat_lt later p then 1 else 0) ≤ (if nat_lt at p then 1 else 0)
 one_falls at later p more = grind (arith, nat_tests)

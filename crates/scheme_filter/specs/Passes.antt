@@ -20,17 +20,12 @@ is_of (Class of) place class = option_eq nat_eq class (Some of)
 abbrev pub applies : Filter → Place → Option ℕ → Bool
 applies f place class = if f.matching then is_of f.kind place class else not (is_of f.kind place class)
 
--- the answer of the first filter that applies to the page, if any does
-abbrev pub first_answer : List Filter → Place → Option ℕ → Option Bool
-first_answer fs place class = option_map (λ f. f.allow) (find (λ f. applies f place class) fs)
-
--- the answer where no filter applies: the opposite of the last filter's; without filters every page passes
-abbrev pub default_answer : List Filter → Bool
-default_answer fs = unwrap_or (option_map (λ f. not f.allow) (slice_get fs (length fs - 1))) true
-
--- whether filters let a page pass
+-- Whether filters let a page pass: the first filter that applies to it answers. Where none applies, the answer is the opposite of the
+-- last filter's; without filters every page passes.
 abbrev pub answer : List Filter → Place → Option ℕ → Bool
-answer fs place class = unwrap_or (first_answer fs place class) (default_answer fs)
+answer fs place class =
+    unwrap_or (option_map (λ f. f.allow) (find (λ f. applies f place class) fs))
+    (unwrap_or (option_map (λ f. not f.allow) (slice_get fs (length fs - 1))) true)
 
 -- whether a page of a space passes
 abbrev pub passes : List Filter → List target_of_space → List Range → ℕ → Bool

@@ -3,6 +3,8 @@ pub mod SlotLemmas
 pub mod SettingLemmas
 pub mod SpellSteps
 pub mod SpellWords
+pub mod SpelledParts
+pub mod RangeFront
 pub mod PlainWords
 pub mod SpellFits
 pub mod ReadFields

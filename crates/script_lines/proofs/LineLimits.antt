@@ -1,7 +1,7 @@
 -- What is within its limits once a line was read.
 use Rattle.std.proofs.Common.{◌≡◌, ◌∷◌, [], ◌&&◌, ◌-◌, ◌^◌, ◌<◌, ℕ, Bool, true, false, not, nat_le, nat_lt, List, ◌++◌, length, codes, Some, Ok, Err, refl, subst, arith}
 use Rattle.std.proofs.lemmas.Bool.Decides.{nat_tests}
-use Rattle.std.specs.Prelude.{Result, is_ok}
+use Rattle.std.specs.Prelude.{if◌then◌else◌, Result, is_ok}
 use Rattle.damon_types.specs.declared.attrs.Attrs.{Attrs}
 use Rattle.damon_types.specs.declared.range.RangeSpec.{RangeSpec}
 use Rattle.damon_types.specs.declared.scheme.SlotChange.{SlotChange}
@@ -11,7 +11,8 @@ use Rattle.damon_types.specs.declared.scheme.Version.{Version}
 use Rattle.damon_types.specs.Scheme.{checked_in}
 use Rattle.damon_types.specs.Space.{checked}
 use Rattle.line_text.specs.Number.{number}
-use Rattle.live_commit.specs.Checked.{checked_cap, checked_limits, checked_max, checked_unit}
+use Rattle.live_commit.specs.declared.fault.SetupFault.TheVariants.{OverCap as MaxOverCap}
+use Rattle.live_commit.specs.Checked.{checked_cap, checked_limits, checked_unit}
 use Rattle.live_commit.specs.Slots.{checked_slot}
 use Rattle.target_ranges.specs.Checked.{checked_next}
 use Rattle.script_lines.specs.declared.kind.ScriptKind.{ScriptKind}
@@ -49,7 +50,7 @@ accepted : {E : Type 0} (kind : E → ScriptKind) (r : Result (Unit {0}) E) (t :
 accepted kind (Ok u) t e = refl
 accepted kind (Err why) t e = absurd cc
 
-max_sound : (max cap : ℕ) → nat_le max cap ≡ true → checked_max max cap ≡ Ok tt
+max_sound : (max cap : ℕ) → nat_le max cap ≡ true → (if nat_lt cap max then Err (MaxOverCap max cap) else Ok (tt {0})) ≡ Ok tt
 max_sound max cap e = grind (arith, nat_tests)
 
 pub limits_sound : (line : List ℕ) (unit cap : ℕ) (a : Attrs) → checked_unit unit ≡ Ok tt → checked_cap cap ≡ Ok tt → attrs_line cap line ≡ Ok a → checked_limits unit cap a ≡ Ok tt

@@ -1,5 +1,5 @@
 -- A line of a body or a commit that says something is read as that.
-use Rattle.std.proofs.Common.{◌≡◌, inl, inr, ◌≤◌, ◌^◌, ◌-◌, ◌+◌, ◌<◌, ◌∷◌, [], ◌&&◌, ℕ, Bool, true, false, List, codes, Some, None, Ok, refl, sym, ap, ◌∙◌, decimal, arith}
+use Rattle.std.proofs.Common.{◌≡◌, inl, inr, ◌≤◌, ◌^◌, ◌-◌, ◌+◌, ◌<◌, ◌∷◌, [], ◌&&◌, ℕ, Bool, true, false, List, codes, Some, None, Ok, refl, sym, ap, ◌∙◌, decimal, arith, ◌++◌}
 use Rattle.std.specs.Prelude.{Option, option_map}
 use Rattle.std.specs.Cmp.Derive.{both_true}
 use Rattle.std.specs.List.{list_all}
@@ -25,7 +25,8 @@ use Rattle.script_lines.specs.Head.{limited}
 use Rattle.script_lines.specs.Keys.{scheme_in}
 use Rattle.script_lines.specs.Laws.{GivesScheme, IsCommand, IsPart, IsSweep, WordLaws, may_come}
 use Rattle.script_lines.specs.Refusal.{◌>>=◌, only_if}
-use Rattle.script_lines.specs.Spelling.{attrs_words, cost_words, range_words, scheme_words, spelled_attrs, spelled_cost, spelled_drop, spelled_metric, spelled_range, spelled_step, spelled_sweep, spelled_touch}
+use Rattle.script_lines.specs.Spelling.{spelled_attrs, spelled_cost, spelled_range}
+use Rattle.script_lines.proofs.SpelledParts.{attrs_words, cost_words, range_words, scheme_words, spelled_sweep, spelled_touch}
 use Rattle.script_lines.specs.Words.{arguments, begins_with, byte_address, number_8, number_32, one_word, same_word}
 use Rattle.script_lines.proofs.PlainWords.{address_field, begins_with-spaced, field_8, field_32, field_word, is_plain_word}
 use Rattle.script_lines.proofs.ReadFields.{attrs_in-words, byte_address-spelled, cost_in-words, number_8-decimal, number_32-decimal, range_in-words}
@@ -87,9 +88,9 @@ sweep_line-spelled laws space line first end is =
     (then-Ok (ok_or (page_of space target from) Outside) _ first _ (ap (λ o. ok_or o Outside) is.begins)
     (swept_end (page_of space target (to - 4096)) first end is.ends)))))))
 
-step_line-spelled : (laws : WordLaws) (space : List Target) (times : ℕ) → 1 ≤ times → times ≤ 1000000 → command_line space (spelled_step times) ≡ Ok (Step times)
+step_line-spelled : (laws : WordLaws) (space : List Target) (times : ℕ) → 1 ≤ times → times ≤ 1000000 → command_line space (codes "step " ++ decimal times) ≡ Ok (Step times)
 step_line-spelled laws space times low high =
-    let said = spelled_step times in
+    let said = (codes "step " ++ decimal times) in
     let words = decimal times ∷ [] in
     let plain : list_all is_plain_word words ≡ true = both_true (field_word (decimal times) (field_32 laws times (omega arith))) refl in
     step_way space said (Step times) (begins_with-spaced laws (codes "touch") (codes "step") words plain) (begins_with-spaced laws (codes "sweep") (codes "step") words plain)
@@ -197,15 +198,15 @@ scheme_part-said laws version before line change comes gives =
     (ap (λ l. begins_with (codes "scheme") l && wants_slot before) is.spelled ∙ this_word laws (codes "scheme") words (wants_slot before) plain refl comes)
     (then-Ok (change_line version line) _ change _ (change_line-said laws version line change gives) refl)
 
-drop_line-spelled : (laws : WordLaws) (slot : ℕ) → slot < 2 ^ 8 → drop_line (spelled_drop slot) ≡ Ok (record { slot = slot; scheme = None })
+drop_line-spelled : (laws : WordLaws) (slot : ℕ) → slot < 2 ^ 8 → drop_line (codes "drop " ++ decimal slot) ≡ Ok (record { slot = slot; scheme = None })
 drop_line-spelled laws slot small =
-    then-Ok (arguments (codes "drop") (spelled_drop slot) >>= one_word >>= number_8) _ slot _
+    then-Ok (arguments (codes "drop") (codes "drop " ++ decimal slot) >>= one_word >>= number_8) _ slot _
     (one_word-read laws (codes "drop") (decimal slot) number_8 (Ok slot) refl (both_true (field_word (decimal slot) (field_8 laws slot small)) refl) (number_8-decimal laws slot small)) refl
 
 drop_part-said : (laws : WordLaws) (version : Version) (before : CommitValue) (slot : ℕ) → wants_slot before ≡ true → slot < 2 ^ 8
-    → part_line version before (spelled_drop slot) ≡ Ok (Slot (record { slot = slot; scheme = None }))
+    → part_line version before (codes "drop " ++ decimal slot) ≡ Ok (Slot (record { slot = slot; scheme = None }))
 drop_part-said laws version before slot comes small =
-    let said = spelled_drop slot in
+    let said = (codes "drop " ++ decimal slot) in
     let words = decimal slot ∷ [] in
     let plain : list_all is_plain_word words ≡ true = both_true (field_word (decimal slot) (field_8 laws slot small)) refl in
     let change : SlotChange = record { slot = slot; scheme = None } in
@@ -213,9 +214,9 @@ drop_part-said laws version before slot comes small =
     (other_word laws (codes "range") (codes "drop") words (wants_slot before) plain refl) (other_word laws (codes "scheme") (codes "drop") words (wants_slot before) plain refl)
     (this_word laws (codes "drop") words (wants_slot before) plain refl comes) (then-Ok (drop_line said) _ change _ (drop_line-spelled laws slot small) refl)
 
-metric_part-said : (laws : WordLaws) (version : Version) (before : CommitValue) (value : ℕ) → wants_metric before ≡ true → value < 2 ^ 32 → part_line version before (spelled_metric value) ≡ Ok (Metric value)
+metric_part-said : (laws : WordLaws) (version : Version) (before : CommitValue) (value : ℕ) → wants_metric before ≡ true → value < 2 ^ 32 → part_line version before (codes "metric " ++ decimal value) ≡ Ok (Metric value)
 metric_part-said laws version before value comes small =
-    let said = spelled_metric value in
+    let said = (codes "metric " ++ decimal value) in
     let words = decimal value ∷ [] in
     let plain : list_all is_plain_word words ≡ true = both_true (field_word (decimal value) (field_32 laws value small)) refl in
     metric_way version before said (Metric value) (other_word laws (codes "attrs") (codes "metric") words (wants_attrs before) plain refl)

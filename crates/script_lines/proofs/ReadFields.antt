@@ -11,7 +11,7 @@ use Rattle.script_lines.specs.Fields.{attrs_in, cost_in, range_in}
 use Rattle.script_lines.specs.Fits.{FitsAttrs, FitsCost, FitsRange}
 use Rattle.script_lines.specs.Head.{target_in}
 use Rattle.script_lines.specs.Laws.{WordLaws}
-use Rattle.script_lines.specs.Spelling.{attrs_words, cost_words, range_words, target_words}
+use Rattle.script_lines.proofs.SpelledParts.{attrs_words, cost_words, range_words, target_words}
 use Rattle.script_lines.specs.Words.{byte_address, number_8, number_16, number_32, number_64}
 use Rattle.script_lines.proofs.SpellSteps.{then-Ok}
 

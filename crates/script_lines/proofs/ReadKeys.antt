@@ -1,7 +1,7 @@
 -- The spelling of a setting is read as it.
-use Rattle.std.proofs.Common.{◌≡◌, ◌^◌, ◌<◌, ◌+◌, ◌∷◌, [], ◌==◌, nat_lt, ℕ, Bool, true, false, not, ◌&&◌, List, ◌++◌, length, take, drop, map, None, Ok, refl, sym, ap, ◌∙◌, decimal, arith}
+use Rattle.std.proofs.Common.{◌≡◌, ◌^◌, ◌<◌, ◌+◌, ◌∷◌, [], ◌==◌, nat_lt, ℕ, Bool, true, false, not, ◌&&◌, List, ◌++◌, length, take, drop, map, Ok, refl, sym, ap, ◌∙◌, decimal, arith}
 use Rattle.std.specs.Prelude.{Result}
-use Rattle.std.specs.List.{list_all, position_or_len}
+use Rattle.std.specs.List.{AllByRecursion, list_all, position_or_len}
 use Rattle.std.specs.Option.{ok_or}
 use Rattle.std.proofs.lemmas.Bool.Decides.{nat_tests}
 use Rattle.std.proofs.lemmas.List.Elements.{All-from_recursion}
@@ -22,12 +22,13 @@ use Rattle.script_lines.specs.declared.kind.ScriptKind.TheVariants.{Form}
 use Rattle.script_lines.specs.declared.keys.Key.{Key}
 use Rattle.script_lines.specs.declared.keys.Setting.{Setting}
 use Rattle.script_lines.specs.declared.keys.Setting.TheVariants.{Size as SizeOf, Count as CountOf, Age as AgeOf, Quota as QuotaOf, Time as TimeOf, Weights as WeightsOf, Prefer as PreferOf, Marks as MarksOf, Filter as FilterOf}
-use Rattle.script_lines.specs.Fits.{FitSettings, FitsKind, FitsMarks, FitsQuota, FitsSetting, FitsSpan, FitsWeights}
+use Rattle.script_lines.specs.Fits.{FitsKind, FitsSetting, FitsSpan}
 use Rattle.script_lines.specs.Keys.{answer_of, filter_of, key_and_value, key_named, kind_of, marks_of, plain_name, prefer_of, quota_of, setting_for, setting_of, settings_of, span_in, time_of, weights_of}
 use Rattle.script_lines.specs.Laws.{WordLaws}
 use Rattle.script_lines.specs.Refusal.{◌>>=◌}
 use Rattle.script_lines.specs.Separators.{colon, comma, dash, equals_sign}
-use Rattle.script_lines.specs.Spelling.{kind_name, kind_value, spelled_answer, spelled_filter, spelled_marks, spelled_prefer, spelled_quota, spelled_setting, spelled_side, spelled_span, spelled_weights}
+use Rattle.script_lines.specs.Spelling.{kind_name, kind_value, spelled_answer, spelled_filter, spelled_prefer, spelled_setting, spelled_side, spelled_span}
+use Rattle.script_lines.proofs.SpelledParts.{spelled_marks, spelled_quota, spelled_weights}
 use Rattle.script_lines.specs.Words.{byte_address, number_8, number_16, number_32, number_64}
 use Rattle.script_lines.specs.Settings.{key_of}
 use Rattle.script_lines.proofs.PlainWords.{IsField, is_word_byte, address_field, decimal_field, field_8, field_16, field_32, field_piece, is_field_byte, lacks, list_all-both, list_all-weaker}
@@ -64,19 +65,19 @@ span_in-spelled laws s fits =
     (then-Ok (number_32 (decimal s.low)) _ s.low _ (number_32-decimal laws s.low fits.0)
     (then-Ok (number_32 (decimal s.high)) _ s.high _ (number_32-decimal laws s.high fits.1) refl))
 
-quota_of-spelled : (laws : WordLaws) (q : Quota) → FitsQuota q → q.time ≡ None → quota_of (spelled_quota q) ≡ Ok q
-quota_of-spelled laws q fits bare =
+quota_of-spelled : (laws : WordLaws) (q : Quota) → FitsSetting (QuotaOf q) → quota_of (spelled_quota q) ≡ Ok q
+quota_of-spelled laws q fits =
     then-Ok (ok_or (two_of (parts comma (spelled_quota q))) Form) _ (decimal q.bytes, decimal q.reset) _
     (two_parts-joined laws comma refl (decimal q.bytes) (decimal q.reset) (decimal_field laws q.bytes fits.0) (field_32 laws q.reset fits.1))
     (then-Ok (number_64 (decimal q.bytes)) _ q.bytes _ (number_64-decimal laws q.bytes fits.0)
-    (then-Ok (number_32 (decimal q.reset)) _ q.reset _ (number_32-decimal laws q.reset fits.1) (ap (λ t. Ok (record { bytes = q.bytes; reset = q.reset; time = t })) (sym bare))))
+    (then-Ok (number_32 (decimal q.reset)) _ q.reset _ (number_32-decimal laws q.reset fits.1) (ap (λ t. Ok (record { bytes = q.bytes; reset = q.reset; time = t })) (sym fits.2))))
 
 time_of-spelled : (laws : WordLaws) (time : ℕ) → time < 2 ^ 64 → time_of (decimal time) ≡ Ok time
 time_of-spelled laws time fits =
     then-Ok (ok_or (one_of (parts comma (decimal time))) Form) _ (decimal time) _ (one_part laws comma refl (decimal time) (decimal_field laws time fits))
     (number_64-decimal laws time fits)
 
-weights_of-spelled : (laws : WordLaws) (w : Weights) → FitsWeights w → weights_of (spelled_weights w) ≡ Ok w
+weights_of-spelled : (laws : WordLaws) (w : Weights) → FitsSetting (WeightsOf w) → weights_of (spelled_weights w) ≡ Ok w
 weights_of-spelled laws w fits =
     then-Ok (ok_or (three_of (parts comma (spelled_weights w))) Form) _ (decimal w.size, decimal w.count, decimal w.age) _
     (three_parts-joined laws comma refl (decimal w.size) (decimal w.count) (decimal w.age) (field_16 laws w.size fits.0) (field_16 laws w.count fits.1) (field_16 laws w.age fits.2))
@@ -88,7 +89,7 @@ prefer_of-spelled : (p : Prefer) → prefer_of (spelled_prefer p) ≡ Ok p
 prefer_of-spelled Hot = refl
 prefer_of-spelled Cold = refl
 
-marks_of-spelled : (laws : WordLaws) (m : Marks) → FitsMarks m → marks_of (spelled_marks m) ≡ Ok m
+marks_of-spelled : (laws : WordLaws) (m : Marks) → FitsSetting (MarksOf m) → marks_of (spelled_marks m) ≡ Ok m
 marks_of-spelled laws m fits =
     then-Ok (ok_or (three_of (parts comma (spelled_marks m))) Form) _ (decimal m.high, decimal m.mid, decimal m.low) _
     (three_parts-joined laws comma refl (decimal m.high) (decimal m.mid) (decimal m.low) (field_32 laws m.high fits.0) (field_32 laws m.mid fits.1) (field_32 laws m.low fits.2))
@@ -181,7 +182,7 @@ pub setting_for-spelled : (laws : WordLaws) (x : Setting) → FitsSetting x → 
 setting_for-spelled laws (SizeOf span) fits = then-Ok (span_in (spelled_span span)) _ span _ (span_in-spelled laws span fits) refl
 setting_for-spelled laws (CountOf span) fits = then-Ok (span_in (spelled_span span)) _ span _ (span_in-spelled laws span fits) refl
 setting_for-spelled laws (AgeOf span) fits = then-Ok (span_in (spelled_span span)) _ span _ (span_in-spelled laws span fits) refl
-setting_for-spelled laws (QuotaOf quota) fits = then-Ok (quota_of (spelled_quota quota)) _ quota _ (quota_of-spelled laws quota fits.0 fits.1) refl
+setting_for-spelled laws (QuotaOf quota) fits = then-Ok (quota_of (spelled_quota quota)) _ quota _ (quota_of-spelled laws quota fits) refl
 setting_for-spelled laws (TimeOf time) fits = then-Ok (time_of (decimal time)) _ time _ (time_of-spelled laws time fits) refl
 setting_for-spelled laws (WeightsOf weights) fits = then-Ok (weights_of (spelled_weights weights)) _ weights _ (weights_of-spelled laws weights fits) refl
 setting_for-spelled laws (PreferOf prefer) fits = then-Ok (prefer_of (spelled_prefer prefer)) _ prefer _ (prefer_of-spelled prefer) refl
@@ -210,7 +211,7 @@ key_and_value-spelled (FilterOf filter) = keyed (spelled_setting (FilterOf filte
 pub setting_of-spelled : (laws : WordLaws) (x : Setting) → FitsSetting x → setting_of (spelled_setting x) ≡ Ok x
 setting_of-spelled laws x fits = then-Ok (key_and_value (spelled_setting x)) _ (key_of x, setting_value x) _ (key_and_value-spelled x) (setting_for-spelled laws x fits)
 
-pub settings_of-spelled : (laws : WordLaws) (xs : List Setting) → FitSettings xs → settings_of (map spelled_setting xs) ≡ Ok xs
+pub settings_of-spelled : (laws : WordLaws) (xs : List Setting) → AllByRecursion FitsSetting xs → settings_of (map spelled_setting xs) ≡ Ok xs
 settings_of-spelled laws [] fit = refl
 settings_of-spelled laws (x ∷ xs) fit =
     then-Ok (setting_of (spelled_setting x)) _ x _ (setting_of-spelled laws x fit.0)

@@ -29,7 +29,8 @@ use Rattle.script_lines.specs.Keys.{scheme_in}
 use Rattle.script_lines.specs.Laws.{GivesScheme, IsScheme, WordLaws}
 use Rattle.script_lines.specs.Blocks.{passes_line}
 use Rattle.script_lines.specs.Refusal.{◌>>=◌, only_if, refused_as}
-use Rattle.script_lines.specs.Spelling.{attrs_words, cost_words, range_words, scheme_words, spelled_attrs, spelled_cap, spelled_passes, spelled_range, spelled_seed, spelled_target, spelled_unit, target_words}
+use Rattle.script_lines.specs.Spelling.{spelled_attrs, spelled_range, spelled_target}
+use Rattle.script_lines.proofs.SpelledParts.{attrs_words, cost_words, range_words, scheme_words, target_words}
 use Rattle.script_lines.specs.Words.{arguments, number_32, number_64, one_word, same_word}
 use Rattle.script_lines.proofs.PlainWords.{address_field, arguments-spaced, decimal_field, field_8, field_32, field_word, is_plain_word}
 use Rattle.script_lines.proofs.ReadFields.{attrs_in-words, number_32-decimal, number_64-decimal, range_in-words, target_in-words}
@@ -57,23 +58,23 @@ pub number_line : (laws : WordLaws) (word : List ℕ) (n : ℕ) → same_word wo
 number_line laws word n same plain small =
     one_word-read laws word (decimal n) number_32 (Ok n) same (both_true plain (both_true (field_word (decimal n) (field_32 laws n small)) refl)) (number_32-decimal laws n small)
 
-pub seed_line-spelled : (laws : WordLaws) (n : ℕ) → n < 2 ^ 64 → seed_line (spelled_seed n) ≡ Ok n
+pub seed_line-spelled : (laws : WordLaws) (n : ℕ) → n < 2 ^ 64 → seed_line (codes "seed " ++ decimal n) ≡ Ok n
 seed_line-spelled laws n small =
     one_word-read laws (codes "seed") (decimal n) number_64 (Ok n) refl (both_true (field_word (decimal n) (decimal_field laws n small)) refl) (number_64-decimal laws n small)
 
-pub unit_line-spelled : (laws : WordLaws) (n : ℕ) → 1 ≤ n → n ≤ 1048576 → unit_line (spelled_unit n) ≡ Ok n
+pub unit_line-spelled : (laws : WordLaws) (n : ℕ) → 1 ≤ n → n ≤ 1048576 → unit_line (codes "unit " ++ decimal n) ≡ Ok n
 unit_line-spelled laws n low high =
-    then-Ok (arguments (codes "unit") (spelled_unit n) >>= one_word >>= number_32) (limited 1 1048576) n (Ok n) (number_line laws (codes "unit") n refl refl (omega arith))
+    then-Ok (arguments (codes "unit") (codes "unit " ++ decimal n) >>= one_word >>= number_32) (limited 1 1048576) n (Ok n) (number_line laws (codes "unit") n refl refl (omega arith))
     (limited-within 1 1048576 n low high)
 
-pub cap_line-spelled : (laws : WordLaws) (n : ℕ) → 3 ≤ n → n ≤ 4096 → cap_line (spelled_cap n) ≡ Ok n
+pub cap_line-spelled : (laws : WordLaws) (n : ℕ) → 3 ≤ n → n ≤ 4096 → cap_line (codes "cap " ++ decimal n) ≡ Ok n
 cap_line-spelled laws n low high =
-    then-Ok (arguments (codes "cap") (spelled_cap n) >>= one_word >>= number_32) (limited 3 4096) n (Ok n) (number_line laws (codes "cap") n refl refl (omega arith))
+    then-Ok (arguments (codes "cap") (codes "cap " ++ decimal n) >>= one_word >>= number_32) (limited 3 4096) n (Ok n) (number_line laws (codes "cap") n refl refl (omega arith))
     (limited-within 3 4096 n low high)
 
-pub passes_line-spelled : (laws : WordLaws) (n : ℕ) → 1 ≤ n → n ≤ 1000000 → passes_line (spelled_passes n) ≡ Ok n
+pub passes_line-spelled : (laws : WordLaws) (n : ℕ) → 1 ≤ n → n ≤ 1000000 → passes_line (codes "passes " ++ decimal n) ≡ Ok n
 passes_line-spelled laws n low high =
-    then-Ok (arguments (codes "passes") (spelled_passes n) >>= one_word >>= number_32) (limited 1 1000000) n (Ok n) (number_line laws (codes "passes") n refl refl (omega arith))
+    then-Ok (arguments (codes "passes") (codes "passes " ++ decimal n) >>= one_word >>= number_32) (limited 1 1000000) n (Ok n) (number_line laws (codes "passes") n refl refl (omega arith))
     (limited-within 1 1000000 n low high)
 
 -- the words of attributes are plain

@@ -1,7 +1,7 @@
 -- The spelling of a scheme is read as it.
 use Rattle.std.proofs.Common.{◌≡◌, inl, inr, ◌^◌, ◌<◌, ◌∷◌, [], ◌==◌, ◌&&◌, ◌||◌, nat_lt, ℕ, Bool, true, false, not, List, ◌++◌, map, Option, Some, None, option_map, Ok, refl, sym, ap, ◌∙◌, decimal, arith}
 use Rattle.std.specs.Cmp.Derive.{both_true}
-use Rattle.std.specs.List.{list_all}
+use Rattle.std.specs.List.{AllByRecursion, list_all}
 use Rattle.std.specs.Option.{ok_or}
 use Rattle.std.proofs.lemmas.Bool.Decides.{nat_tests}
 use Rattle.damon_types.specs.declared.scheme.Action.{Action}
@@ -16,20 +16,22 @@ use Rattle.script_lines.specs.declared.keys.Key.{Key}
 use Rattle.script_lines.specs.declared.keys.Key.TheVariants.{Size, Count, Age, Quota as QuotaKey, Time as TimeKey, Weights as WeightsKey, Prefer as PreferKey, Marks as MarksKey, Filter as FilterKey}
 use Rattle.script_lines.specs.declared.keys.Setting.{Setting}
 use Rattle.script_lines.specs.declared.keys.Setting.TheVariants.{Size as SizeOf, Count as CountOf, Age as AgeOf, Quota as QuotaOf, Time as TimeOf, Weights as WeightsOf, Prefer as PreferOf, Marks as MarksOf, Filter as FilterOf}
-use Rattle.script_lines.specs.Fits.{FitSettings, FitsSetting}
+use Rattle.script_lines.specs.Fits.{FitsSetting}
 use Rattle.script_lines.specs.Keys.{action_of, are_formed, comes_later, is_formed, is_misformed, key_and_value, may_be_timed, may_follow, place_in, scheme_in, settings_of, with_settings}
 use Rattle.script_lines.specs.Laws.{WordLaws}
 use Rattle.script_lines.specs.Refusal.{only_if}
 use Rattle.script_lines.specs.Separators.{colon, comma}
-use Rattle.script_lines.specs.Spelling.{kind_name, kind_value, scheme_words, spelled_action, spelled_answer, spelled_prefer, spelled_setting, spelled_side}
+use Rattle.damon_types.specs.Actions.{action_name}
+use Rattle.script_lines.specs.Spelling.{kind_name, kind_value, spelled_answer, spelled_prefer, spelled_setting, spelled_side}
+use Rattle.script_lines.proofs.SpelledParts.{scheme_words}
 use Rattle.script_lines.specs.Words.{number_8}
-use Rattle.script_lines.specs.Settings.{AreAfter, AreInOrder, ComesLater, IsTimed, MayFollow, default_scheme, key_of, key_place, settled}
+use Rattle.script_lines.specs.Settings.{AreAfter, ComesLater, MayFollow, default_scheme, key_of, key_place, settled}
 use Rattle.script_lines.proofs.PlainWords.{IsField, decimal_field, field_8, field_16, field_32, field_bytes, field_word, is_plain_word, is_word_byte, list_all-both, list_all-weaker}
 use Rattle.script_lines.proofs.ReadFields.{number_8-decimal}
 use Rattle.script_lines.proofs.ReadKeys.{answer_part, is_part_byte, key_and_value-spelled, name_part, setting_for-spelled, setting_value, settings_of-spelled, value_part}
 use Rattle.script_lines.proofs.SpellSteps.{first_true, second_true, then-Ok}
 
-action_of-spelled : (action : Action) → action_of (spelled_action action) ≡ Some action
+action_of-spelled : (action : Action) → action_of (action_name action) ≡ Some action
 action_of-spelled Stat = refl
 action_of-spelled Willneed = refl
 action_of-spelled ColdAction = refl
@@ -86,6 +88,10 @@ after_comes_later (Some earlier) later e = by (nat_lt (key_place (key_of earlier
     by false is both =
         inr (last_place (key_of earlier) (first_true (key_place (key_of earlier) == 8) _ both), last_place (key_of later) (second_true (key_place (key_of earlier) == 8) _ both))
 
+-- a time may stand after this setting
+abbrev IsTimed : Version → Option Setting → Type 0
+IsTimed version earlier = (version ≡ Two) × (option_map key_of earlier ≡ Some QuotaKey)
+
 -- where a time may stand, its test is passed
 may_be_timed-after : (version : Version) (earlier : Option Setting) → IsTimed version earlier → may_be_timed version (place_of earlier) ≡ true
 may_be_timed-after One earlier (two, quota) = absurd cc
@@ -134,7 +140,7 @@ is_formed-spelled laws version last x fits follows =
     ap (is_formed version last) (key_and_value-spelled x) ∙ both_true follows (ap (λ r. not (is_misformed r)) (setting_for-spelled laws x fits))
 
 -- the spellings of settings in order have the right form
-are_formed-spelled : (laws : WordLaws) (version : Version) (last : Option Setting) (xs : List Setting) → AreAfter version last xs → FitSettings xs
+are_formed-spelled : (laws : WordLaws) (version : Version) (last : Option Setting) (xs : List Setting) → AreAfter version last xs → AllByRecursion FitsSetting xs
     → are_formed version (place_of last) (map spelled_setting xs) ≡ true
 are_formed-spelled laws version last [] order fit = refl
 are_formed-spelled laws version last (x ∷ xs) order fit =
@@ -155,17 +161,17 @@ in_order-formed version last (x ∷ xs) formed =
     )
 
 -- the words of a scheme are read as that scheme
-pub scheme_in-words : (laws : WordLaws) (version : Version) (slot : ℕ) (action : Action) (settings : List Setting) (scheme : Scheme) → slot < 2 ^ 8 → FitSettings settings → AreInOrder version settings
+pub scheme_in-words : (laws : WordLaws) (version : Version) (slot : ℕ) (action : Action) (settings : List Setting) (scheme : Scheme) → slot < 2 ^ 8 → AllByRecursion FitsSetting settings → AreAfter version None settings
     → settled (default_scheme action) settings ≡ Ok scheme → scheme_in version (scheme_words slot action settings) ≡ Ok (slot, scheme)
 scheme_in-words laws version slot action settings scheme small fit order made =
     let keys = map spelled_setting settings in
-    then-Ok (ok_or (action_of (spelled_action action)) Form) _ action _ (ap (λ o. ok_or o Form) (action_of-spelled action))
+    then-Ok (ok_or (action_of (action_name action)) Form) _ action _ (ap (λ o. ok_or o Form) (action_of-spelled action))
     (then-Ok (only_if (are_formed version None keys) Form (tt {0})) _ tt _ (ap (λ t. only_if t Form (tt {0})) (are_formed-spelled laws version None settings order fit))
     (then-Ok (number_8 (decimal slot)) _ slot _ (number_8-decimal laws slot small)
     (then-Ok (with_settings (default_scheme action) keys) _ scheme _
     (then-Ok (settings_of keys) (settled (default_scheme action)) settings _ (settings_of-spelled laws settings fit) made) refl)))
 
-action_word : (action : Action) → is_plain_word (spelled_action action) ≡ true
+action_word : (action : Action) → is_plain_word (action_name action) ≡ true
 action_word Stat = refl
 action_word Willneed = refl
 action_word ColdAction = refl
@@ -198,7 +204,7 @@ value_bytes : (laws : WordLaws) (x : Setting) → FitsSetting x → list_all is_
 value_bytes laws (SizeOf span) fits = two_bytes (decimal span.low) comma (decimal span.high) refl (field_32 laws span.low fits.0) (field_32 laws span.high fits.1)
 value_bytes laws (CountOf span) fits = two_bytes (decimal span.low) comma (decimal span.high) refl (field_32 laws span.low fits.0) (field_32 laws span.high fits.1)
 value_bytes laws (AgeOf span) fits = two_bytes (decimal span.low) comma (decimal span.high) refl (field_32 laws span.low fits.0) (field_32 laws span.high fits.1)
-value_bytes laws (QuotaOf q) fits = two_bytes (decimal q.bytes) comma (decimal q.reset) refl (decimal_field laws q.bytes fits.0.0) (field_32 laws q.reset fits.0.1)
+value_bytes laws (QuotaOf q) fits = two_bytes (decimal q.bytes) comma (decimal q.reset) refl (decimal_field laws q.bytes fits.0) (field_32 laws q.reset fits.1)
 value_bytes laws (TimeOf time) fits = field_bytes (decimal time) (decimal_field laws time fits)
 value_bytes laws (WeightsOf w) fits =
     three_bytes (decimal w.size) (decimal w.count) (decimal w.age) (field_16 laws w.size fits.0) (field_16 laws w.count fits.1) (field_16 laws w.age fits.2)
@@ -221,12 +227,12 @@ setting_word laws (PreferOf prefer) fits = value_bytes laws (PreferOf prefer) fi
 setting_word laws (MarksOf marks) fits = value_bytes laws (MarksOf marks) fits
 setting_word laws (FilterOf filter) fits = value_bytes laws (FilterOf filter) fits
 
-setting_words : (laws : WordLaws) (xs : List Setting) → FitSettings xs → list_all is_plain_word (map spelled_setting xs) ≡ true
+setting_words : (laws : WordLaws) (xs : List Setting) → AllByRecursion FitsSetting xs → list_all is_plain_word (map spelled_setting xs) ≡ true
 setting_words laws [] fit = refl
 setting_words laws (x ∷ xs) fit = both_true (setting_word laws x fit.0) (setting_words laws xs fit.1)
 
 -- the words of a scheme are plain
-pub scheme_words-plain : (laws : WordLaws) (slot : ℕ) (action : Action) (settings : List Setting) → slot < 2 ^ 8 → FitSettings settings
+pub scheme_words-plain : (laws : WordLaws) (slot : ℕ) (action : Action) (settings : List Setting) → slot < 2 ^ 8 → AllByRecursion FitsSetting settings
     → list_all is_plain_word (scheme_words slot action settings) ≡ true
 scheme_words-plain laws slot action settings small fit =
     both_true (field_word (decimal slot) (field_8 laws slot small)) (both_true (action_word action) (setting_words laws settings fit))

@@ -18,7 +18,7 @@ use Rattle.script_lines.specs.Fits.{FitsAttrs, FitsCost, FitsRange}
 use Rattle.script_lines.specs.Head.{limited}
 use Rattle.script_lines.specs.Laws.{EmptiesSlot, IsCommand, IsPart, IsSweep, IsTouch, ReadsOnlyCommands, ReadsOnlyParts, WordLaws, may_come}
 use Rattle.script_lines.specs.Refusal.{◌>>=◌, only_if}
-use Rattle.script_lines.specs.Spelling.{attrs_words, cost_words, range_words, spelled_sweep, spelled_touch}
+use Rattle.script_lines.proofs.SpelledParts.{attrs_words, cost_words, range_words, spelled_sweep, spelled_touch}
 use Rattle.script_lines.specs.Words.{alone, arguments, begins_with, byte_address, number_8, number_32, one_word}
 use Rattle.script_lines.proofs.SpellFits.{attrs_in-fits, cost_in-fits, range_in-fits}
 use Rattle.script_lines.proofs.SpellLines.{attrs_in-Ok, cost_in-Ok, limited-Ok, limited-bounds, range_in-Ok, words-Ok, words-have}

@@ -1,5 +1,5 @@
 -- Spellings, written out.
-use Rattle.std.proofs.Common.{◌≡◌, ◌≤◌, inl, inr, lit<, arith, ◌∷◌, [], true, false, codes, Some, None, Ok, Err, refl}
+use Rattle.std.proofs.Common.{◌≡◌, ◌≤◌, inl, inr, lit<, arith, ◌∷◌, [], true, false, codes, Some, None, Ok, Err, refl, ◌++◌, decimal}
 use Rattle.std.specs.Fmt.{digits}
 use Rattle.damon_types.specs.declared.filter.FilterKind.TheVariants.{Addr, Target, Class}
 use Rattle.damon_types.specs.declared.scheme.Action.TheVariants.{LruDeprio}
@@ -10,15 +10,16 @@ use Rattle.live_commit.specs.Commit.{CommitValue}
 use Rattle.script_lines.specs.declared.keys.Key.TheVariants.{Filter as FilterKey}
 use Rattle.script_lines.specs.declared.keys.Setting.{Setting}
 use Rattle.script_lines.specs.declared.keys.Setting.TheVariants.{Age, Prefer, Quota, Time, Marks, Filter}
-use Rattle.script_lines.specs.Spelling.{spelled_attrs, spelled_cost, spelled_range, spelled_scheme, spelled_seed, spelled_setting, spelled_sweep, spelled_target}
+use Rattle.script_lines.specs.Spelling.{spelled_attrs, spelled_cost, spelled_range, spelled_scheme, spelled_setting, spelled_target}
+use Rattle.script_lines.proofs.SpelledParts.{spelled_sweep}
 use Rattle.script_lines.specs.declared.kind.ScriptKind.TheVariants.{Form, Number, Word}
 use Rattle.script_lines.specs.declared.part.Part.TheVariants.{Cost}
 use Rattle.script_lines.specs.Body.{no_commit, part_line}
 use Rattle.script_lines.specs.Keys.{are_formed}
 use Rattle.script_lines.specs.Lines.{lines_text}
-use Rattle.script_lines.specs.Settings.{AreInOrder, ComesLater, MayFollow, key_of, key_place}
+use Rattle.script_lines.specs.Settings.{AreAfter, ComesLater, MayFollow, key_of, key_place}
 
-seed_is_decimal : spelled_seed 18446744073709551615 ≡ codes "seed 18446744073709551615"
+seed_is_decimal : (codes "seed " ++ decimal 18446744073709551615) ≡ codes "seed 18446744073709551615"
 unfolding digits
 seed_is_decimal = refl
 
@@ -65,7 +66,7 @@ scheme_has_settings = refl
 abbrev a_filter : Setting
 a_filter = Filter (record { allow = true; matching = true; kind = Class 1 })
 
-filters_may_repeat : AreInOrder One (Age (record { low = 2; high = 10 }) ∷ a_filter ∷ a_filter ∷ [])
+filters_may_repeat : AreAfter One None (Age (record { low = 2; high = 10 }) ∷ a_filter ∷ a_filter ∷ [])
 filters_may_repeat = (
   record { comes_later = tt; timed = λ is. absurd cc },
   (record { comes_later = inl (lit< tt); timed = λ is. absurd cc }, (record { comes_later = inr (refl, refl); timed = λ is. absurd cc }, tt)),
@@ -80,10 +81,10 @@ no_later version earlier later follows less other = by follows.comes_later
     by (inl rises) = omega (arith, rises, less)
     by (inr (filter, same)) = other same
 
-other_keys_stand_once : AreInOrder Two (Prefer Cold ∷ Prefer Hot ∷ []) → ⊥
+other_keys_stand_once : AreAfter Two None (Prefer Cold ∷ Prefer Hot ∷ []) → ⊥
 other_keys_stand_once (first, (follows, rest)) = no_later Two (Prefer Cold) (Prefer Hot) follows (omega arith) (λ is. cc)
 
-keys_stand_in_order : AreInOrder Two (Prefer Cold ∷ Age (record { low = 2; high = 10 }) ∷ []) → ⊥
+keys_stand_in_order : AreAfter Two None (Prefer Cold ∷ Age (record { low = 2; high = 10 }) ∷ []) → ⊥
 keys_stand_in_order (first, (follows, rest)) = no_later Two (Prefer Cold) (Age (record { low = 2; high = 10 })) follows (omega arith) (λ is. cc)
 
 abbrev a_quota : Setting
@@ -93,13 +94,13 @@ time_is_a_number : spelled_setting (Time 1000) ≡ codes "time=1000"
 unfolding digits
 time_is_a_number = refl
 
-time_follows_its_quota : AreInOrder Two (a_quota ∷ Time 1000 ∷ [])
+time_follows_its_quota : AreAfter Two None (a_quota ∷ Time 1000 ∷ [])
 time_follows_its_quota = (record { comes_later = tt; timed = λ is. absurd cc }, (record { comes_later = inl (lit< tt); timed = λ is. (refl, refl) }, tt))
 
-no_time_in_version_one : AreInOrder One (a_quota ∷ Time 1000 ∷ []) → ⊥
+no_time_in_version_one : AreAfter One None (a_quota ∷ Time 1000 ∷ []) → ⊥
 no_time_in_version_one (first, (follows, rest)) = let two = (follows.timed refl).0 in cc
 
-no_time_without_a_quota : AreInOrder Two (Time 1000 ∷ []) → ⊥
+no_time_without_a_quota : AreAfter Two None (Time 1000 ∷ []) → ⊥
 no_time_without_a_quota (first, rest) = let quota = (first.timed refl).1 in cc
 
 time_is_read_after_its_quota : are_formed Two None (codes "quota=4096,5" ∷ codes "time=9" ∷ []) ≡ true

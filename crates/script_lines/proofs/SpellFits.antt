@@ -1,5 +1,6 @@
 -- What is read is within its fields.
 use Rattle.std.proofs.Common.{◌≡◌, ◌∷◌, [], ◌^◌, ◌<◌, ℕ, List, codes, None, Ok, refl, subst}
+use Rattle.std.specs.List.{AllByRecursion}
 use Rattle.std.specs.Option.{ok_or}
 use Rattle.damon_types.specs.declared.attrs.Attrs.{Attrs}
 use Rattle.damon_types.specs.declared.filter.Filter.{Filter}
@@ -18,7 +19,7 @@ use Rattle.script_lines.specs.declared.keys.Key.TheVariants.{Size, Count, Age, Q
 use Rattle.script_lines.specs.declared.keys.Setting.{Setting}
 use Rattle.script_lines.specs.declared.keys.Setting.TheVariants.{Size as SizeOf, Count as CountOf, Age as AgeOf, Quota as QuotaOf, Time as TimeOf, Weights as WeightsOf, Prefer as PreferOf, Marks as MarksOf, Filter as FilterOf}
 use Rattle.script_lines.specs.Fields.{attrs_in, cost_in, range_in}
-use Rattle.script_lines.specs.Fits.{FitSettings, FitsAttrs, FitsCost, FitsKind, FitsMarks, FitsRange, FitsSetting, FitsSpan, FitsWeights}
+use Rattle.script_lines.specs.Fits.{FitsAttrs, FitsCost, FitsKind, FitsRange, FitsSetting, FitsSpan}
 use Rattle.script_lines.specs.Keys.{addr_of, answer_of, filter_of, key_and_value, kind_of, marks_of, plain_name, prefer_of, quota_of, setting_for, setting_of, settings_of, span_in, time_of, weights_of}
 use Rattle.script_lines.specs.Laws.{WordLaws}
 use Rattle.script_lines.specs.Refusal.{◌>>=◌}
@@ -74,30 +75,32 @@ quota_of-fits laws value quota e =
     let reset = bind-Ok (number_32 fields.0.1) _ quota bytes.2 in
     let is : record { bytes = bytes.0; reset = reset.0; time = None } ≡ quota = cc in
     let P : Quota → Type 0 = λ q. FitsSetting (QuotaOf q) in
-    subst P is ((number_64-small laws fields.0.0 bytes.0 bytes.1, number_32-small laws fields.0.1 reset.0 reset.1, tt), refl)
+    subst P is (number_64-small laws fields.0.0 bytes.0 bytes.1, number_32-small laws fields.0.1 reset.0 reset.1, refl)
 
 time_of-fits : (laws : WordLaws) (value : List ℕ) (time : ℕ) → time_of value ≡ Ok time → time < 2 ^ 64
 time_of-fits laws value time e =
     let word = bind-Ok (ok_or (one_of (parts comma value)) Form) _ time e in
     number_64-small laws word.0 time word.2
 
-weights_of-fits : (laws : WordLaws) (value : List ℕ) (weights : Weights) → weights_of value ≡ Ok weights → FitsWeights weights
+weights_of-fits : (laws : WordLaws) (value : List ℕ) (weights : Weights) → weights_of value ≡ Ok weights → FitsSetting (WeightsOf weights)
 weights_of-fits laws value weights e =
     let fields = bind-Ok (ok_or (three_of (parts comma value)) Form) _ weights e in
     let size = bind-Ok (number_16 fields.0.0) _ weights fields.2 in
     let count = bind-Ok (number_16 fields.0.1) _ weights size.2 in
     let age = bind-Ok (number_16 fields.0.2) _ weights count.2 in
     let is : record { size = size.0; count = count.0; age = age.0 } ≡ weights = cc in
-    subst FitsWeights is (number_16-small laws fields.0.0 size.0 size.1, number_16-small laws fields.0.1 count.0 count.1, number_16-small laws fields.0.2 age.0 age.1)
+    let P : Weights → Type 0 = λ w. FitsSetting (WeightsOf w) in
+    subst P is (number_16-small laws fields.0.0 size.0 size.1, number_16-small laws fields.0.1 count.0 count.1, number_16-small laws fields.0.2 age.0 age.1)
 
-marks_of-fits : (laws : WordLaws) (value : List ℕ) (marks : Marks) → marks_of value ≡ Ok marks → FitsMarks marks
+marks_of-fits : (laws : WordLaws) (value : List ℕ) (marks : Marks) → marks_of value ≡ Ok marks → FitsSetting (MarksOf marks)
 marks_of-fits laws value marks e =
     let fields = bind-Ok (ok_or (three_of (parts comma value)) Form) _ marks e in
     let high = bind-Ok (number_32 fields.0.0) _ marks fields.2 in
     let mid = bind-Ok (number_32 fields.0.1) _ marks high.2 in
     let low = bind-Ok (number_32 fields.0.2) _ marks mid.2 in
     let is : record { high = high.0; mid = mid.0; low = low.0 } ≡ marks = cc in
-    subst FitsMarks is (number_32-small laws fields.0.0 high.0 high.1, number_32-small laws fields.0.1 mid.0 mid.1, number_32-small laws fields.0.2 low.0 low.1)
+    let P : Marks → Type 0 = λ m. FitsSetting (MarksOf m) in
+    subst P is (number_32-small laws fields.0.0 high.0 high.1, number_32-small laws fields.0.1 mid.0 mid.1, number_32-small laws fields.0.2 low.0 low.1)
 
 addr_of-fits : (laws : WordLaws) (value : List ℕ) (kind : FilterKind) → addr_of value ≡ Ok kind → FitsKind kind
 addr_of-fits laws value kind e =
@@ -177,10 +180,10 @@ setting_of-fits laws word setting e =
     let both = bind-Ok (key_and_value word) _ setting e in
     setting_for-fits laws both.0.0 both.0.1 setting both.2
 
-pub settings_of-fit : (laws : WordLaws) (words : List (List ℕ)) (settings : List Setting) → settings_of words ≡ Ok settings → FitSettings settings
-settings_of-fit laws [] settings e = let none : [] ≡ settings = cc in subst FitSettings none tt
+pub settings_of-fit : (laws : WordLaws) (words : List (List ℕ)) (settings : List Setting) → settings_of words ≡ Ok settings → AllByRecursion FitsSetting settings
+settings_of-fit laws [] settings e = let none : [] ≡ settings = cc in subst (AllByRecursion FitsSetting) none tt
 settings_of-fit laws (word ∷ words) settings e =
     let first = bind-Ok (setting_of word) _ settings e in
     let others = bind-Ok (settings_of words) _ settings first.2 in
     let is : first.0 ∷ others.0 ≡ settings = cc in
-    subst FitSettings is (setting_of-fits laws word first.0 first.1, settings_of-fit laws words others.0 others.1)
+    subst (AllByRecursion FitsSetting) is (setting_of-fits laws word first.0 first.1, settings_of-fit laws words others.0 others.1)

@@ -17,7 +17,8 @@ use Rattle.script_lines.specs.Head.{attrs_line, cap_line, limited, one_target, r
 use Rattle.script_lines.specs.Laws.{ReadsOnly, WordLaws}
 use Rattle.script_lines.specs.Blocks.{passes_line}
 use Rattle.script_lines.specs.Refusal.{◌>>=◌, refused_as}
-use Rattle.script_lines.specs.Spelling.{attrs_words, cost_words, range_words, spelled_attrs, spelled_cap, spelled_passes, spelled_range, spelled_seed, spelled_target, spelled_unit, target_words}
+use Rattle.script_lines.specs.Spelling.{spelled_attrs, spelled_range, spelled_target}
+use Rattle.script_lines.proofs.SpelledParts.{attrs_words, cost_words, range_words, target_words}
 use Rattle.script_lines.specs.Words.{arguments, byte_address, number_8, number_32, number_64, one_word}
 use Rattle.script_lines.proofs.SpellSteps.{bind-Ok, first_true, ok_or-Ok, only_if-Ok, second_true, two_of-Some, three_of-Some, four_of-Some}
 use Rattle.script_lines.proofs.SpellWords.{arguments-Ok, byte_address-Ok, number_8-Ok, number_32-Ok, number_64-Ok, one_word-Ok}
@@ -38,20 +39,20 @@ limited-bounds r least most n e =
     let second = second_true (nat_le least within.0) (nat_le within.0 most) passed.0 in
     (grind (arith, nat_tests), grind (arith, nat_tests))
 
-pub seed_line-Ok : WordLaws → ReadsOnly seed_line spelled_seed
+pub seed_line-Ok : WordLaws → ReadsOnly seed_line (λ n. codes "seed " ++ decimal n)
 seed_line-Ok laws = one_word-Ok laws (codes "seed") number_64 decimal (number_64-Ok laws)
 
-pub unit_line-Ok : WordLaws → ReadsOnly unit_line spelled_unit
+pub unit_line-Ok : WordLaws → ReadsOnly unit_line (λ n. codes "unit " ++ decimal n)
 unit_line-Ok laws line n e =
     one_word-Ok laws (codes "unit") number_32 decimal (number_32-Ok laws) line n
     (limited-Ok (arguments (codes "unit") line >>= one_word >>= number_32) 1 1048576 n e)
 
-pub cap_line-Ok : WordLaws → ReadsOnly cap_line spelled_cap
+pub cap_line-Ok : WordLaws → ReadsOnly cap_line (λ n. codes "cap " ++ decimal n)
 cap_line-Ok laws line n e =
     one_word-Ok laws (codes "cap") number_32 decimal (number_32-Ok laws) line n
     (limited-Ok (arguments (codes "cap") line >>= one_word >>= number_32) 3 4096 n e)
 
-pub passes_line-Ok : WordLaws → ReadsOnly passes_line spelled_passes
+pub passes_line-Ok : WordLaws → ReadsOnly passes_line (λ n. codes "passes " ++ decimal n)
 passes_line-Ok laws line n e =
     one_word-Ok laws (codes "passes") number_32 decimal (number_32-Ok laws) line n
     (limited-Ok (arguments (codes "passes") line >>= one_word >>= number_32) 1 1000000 n e)

@@ -15,7 +15,8 @@ use Rattle.script_lines.specs.Head.{is_changed}
 use Rattle.script_lines.specs.Keys.{action_of, are_formed, scheme_in, setting_of, settings_of, with_settings}
 use Rattle.script_lines.specs.Laws.{GivesScheme, IsScheme, NamesActions, ReadsOnly, ReadsOnlySchemes, WordLaws}
 use Rattle.script_lines.specs.Refusal.{◌>>=◌, only_if, refused_as}
-use Rattle.script_lines.specs.Spelling.{spelled_action, spelled_setting}
+use Rattle.damon_types.specs.Actions.{action_name}
+use Rattle.script_lines.specs.Spelling.{spelled_setting}
 use Rattle.script_lines.specs.Words.{arguments, number_8}
 use Rattle.script_lines.specs.Settings.{default_scheme, settled}
 use Rattle.script_lines.proofs.ReadSchemes.{in_order-formed}
@@ -35,8 +36,8 @@ action_of-Some name action e =
     (same_or_other name (codes "lru_prio") _ _ _ (named LruPrio)
     (same_or_other name (codes "lru_deprio") _ _ _ (named LruDeprio) (λ no. absurd cc)))))))) e
   where
-    named : (here : Action) → name ≡ spelled_action here → ◌≡◌ {A = Option Action} (Some here) (Some action) → name ≡ spelled_action action
-    named here is e = let same : here ≡ action = cc in is ∙ ap spelled_action same
+    named : (here : Action) → name ≡ action_name here → ◌≡◌ {A = Option Action} (Some here) (Some action) → name ≡ action_name action
+    named here is e = let same : here ≡ action = cc in is ∙ ap action_name same
 
 -- words that are read as settings are the spellings of them
 settings_of-Ok : WordLaws → ReadsOnly settings_of (map spelled_setting)

@@ -1,7 +1,7 @@
 -- The words of a touch at the front of a text.
 use Rattle.std.proofs.Common.{◌≡◌, ℕ, List, ◌∷◌, ◌++◌, codes, decimal, append_assoc, sym, ap, ◌∙◌}
 use Rattle.line_text.specs.Address.{spelled_address}
-use Rattle.script_lines.specs.Spelling.{spelled_touch}
+use Rattle.script_lines.proofs.SpelledParts.{spelled_touch}
 
 -- the words of a touch, and then an LF, begin a text
 pub spelled_front : (target addr : ℕ) (text words end rest : List ℕ) → text ≡ codes "touch " ++ (decimal target ++ (codes " " ++ words)) → words ≡ spelled_address addr ++ end → end ≡ 10 ∷ rest

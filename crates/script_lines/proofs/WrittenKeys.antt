@@ -7,7 +7,8 @@ use Rattle.std.specs.Fmt.{decimal}
 use Rattle.damon_types.specs.declared.scheme.Action.{Action}
 use Rattle.script_lines.specs.declared.keys.Setting.{Setting}
 use Rattle.script_lines.specs.KeysText.{keys_text}
-use Rattle.script_lines.specs.Spelling.{spaced, spelled_action, spelled_scheme, spelled_setting}
+use Rattle.damon_types.specs.Actions.{action_name}
+use Rattle.script_lines.specs.Spelling.{spaced, spelled_scheme, spelled_setting}
 
 -- the keys of settings and others are the keys of both
 pub keys_text-append : (front back : List Setting) → keys_text (front ++ back) ≡ keys_text front ++ keys_text back
@@ -20,9 +21,9 @@ spaced-keys word (s ∷ settings) = ap (λ t. word ++ 32 ∷ t) (spaced-keys (sp
 
 -- the line of a scheme, word by word
 pub scheme_spelled : (slot : ℕ) (action : Action) (settings : List Setting)
-    → spelled_scheme slot action settings ≡ codes "scheme " ++ (decimal slot ++ (codes " " ++ (spelled_action action ++ keys_text settings)))
+    → spelled_scheme slot action settings ≡ codes "scheme " ++ (decimal slot ++ (codes " " ++ (action_name action ++ keys_text settings)))
 scheme_spelled slot action settings =
-    ap (λ t. codes "scheme " ++ (decimal slot ++ (codes " " ++ t))) (spaced-keys (spelled_action action) settings)
+    ap (λ t. codes "scheme " ++ (decimal slot ++ (codes " " ++ t))) (spaced-keys (action_name action) settings)
 
 -- keys were appended after others
 pub keys_added : (text before : List ℕ) (a b : List Setting) → text ≡ before ++ keys_text a → text ++ keys_text b ≡ before ++ keys_text (a ++ b)

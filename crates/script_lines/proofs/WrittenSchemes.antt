@@ -1,5 +1,6 @@
 -- The line that is written of a slot change says that change.
 use Rattle.std.proofs.Common.{◌≡◌, inl, inr, ℕ, ◌+◌, ◌-◌, ◌^◌, ◌<◌, ◌≤◌, Bool, true, false, nat_lt, List, [], ◌∷◌, ◌++◌, length, map, Some, None, Ok, refl, sym, ap, subst, ◌∙◌, append_assoc, arith}
+use Rattle.std.specs.List.{AllByRecursion}
 use Rattle.std.specs.Prelude.{All, IfSome, Option}
 use Rattle.std.proofs.lemmas.Bool.Decides.{nat_tests}
 use Rattle.std.proofs.lemmas.List.{append-nil, length-append}
@@ -15,47 +16,47 @@ use Rattle.damon_types.specs.declared.scheme.Span.{Span}
 use Rattle.damon_types.specs.declared.scheme.Version.{Version}
 use Rattle.damon_types.specs.declared.scheme.Version.TheVariants.{One, Two}
 use Rattle.damon_types.specs.declared.scheme.Weights.{Weights}
-use Rattle.damon_types.specs.Scheme.{checked_time, timed_in}
+use Rattle.damon_types.specs.Scheme.{checked_time}
 use Rattle.script_lines.specs.declared.keys.Key.{Key}
 use Rattle.script_lines.specs.declared.keys.Key.TheVariants.{Filter as FilterKey, Quota as QuotaKey, Time as TimeKey}
 use Rattle.script_lines.specs.declared.keys.Setting.{Setting}
 use Rattle.script_lines.specs.declared.keys.Setting.TheVariants.{Size as SizeOf, Count as CountOf, Age as AgeOf, Quota as QuotaOf, Time as TimeOf, Weights as WeightsOf, Prefer as PreferOf, Marks as MarksOf, Filter as FilterOf}
-use Rattle.script_lines.specs.Fits.{FitSettings, FitsKind, FitsMarks, FitsQuota, FitsSetting, FitsChange, FitsScheme}
+use Rattle.script_lines.specs.Fits.{FitsKind, FitsQuota, FitsSetting, FitsChange, FitsScheme}
 use Rattle.script_lines.specs.Laws.{EmptiesSlot, GivesScheme}
-use Rattle.script_lines.specs.Settings.{AreAfter, AreInOrder, ComesLater, default_scheme, key_of, key_place, settled}
+use Rattle.script_lines.specs.Settings.{AreAfter, ComesLater, default_scheme, key_of, key_place, settled}
 use Rattle.script_lines.specs.WrittenLine.{are_even, change_text, is_any, marks_given, prefer_given, quota_given, settings_given, slot_line, time_given, unless}
 
 -- ---- the settings fit
 
-fit-append : (a b : List Setting) → FitSettings a → FitSettings b → FitSettings (a ++ b)
+fit-append : (a b : List Setting) → AllByRecursion FitsSetting a → AllByRecursion FitsSetting b → AllByRecursion FitsSetting (a ++ b)
 fit-append [] b first second = second
 fit-append (s ∷ a) b first second = (first.0, fit-append a b first.1 second)
 
-unless-fit : (test : Bool) (s : Setting) → FitsSetting s → FitSettings (unless test s)
+unless-fit : (test : Bool) (s : Setting) → FitsSetting s → AllByRecursion FitsSetting (unless test s)
 unless-fit true s fits = tt
 unless-fit false s fits = (fits, tt)
 
-time-fit : (time : Option ℕ) → IfSome time (λ t. t < 2 ^ 64) → FitSettings (time_given time)
+time-fit : (time : Option ℕ) → IfSome time (λ t. t < 2 ^ 64) → AllByRecursion FitsSetting (time_given time)
 time-fit None fits = tt
 time-fit (Some time) fits = (fits, tt)
 
-quota-fit : (quota : Option Quota) → IfSome quota FitsQuota → FitSettings (quota_given quota)
+quota-fit : (quota : Option Quota) → IfSome quota FitsQuota → AllByRecursion FitsSetting (quota_given quota)
 quota-fit None fits = tt
-quota-fit (Some quota) fits = (((fits.0, fits.1, tt), refl), time-fit quota.time fits.2)
+quota-fit (Some quota) fits = ((fits.0, fits.1, refl), time-fit quota.time fits.2)
 
-prefer-fit : (prefer : Prefer) → FitSettings (prefer_given prefer)
+prefer-fit : (prefer : Prefer) → AllByRecursion FitsSetting (prefer_given prefer)
 prefer-fit Hot = tt
 prefer-fit Cold = (tt, tt)
 
-marks-fit : (marks : Option Marks) → IfSome marks FitsMarks → FitSettings (marks_given marks)
+marks-fit : (marks : Option Marks) → IfSome marks (λ m. FitsSetting (MarksOf m)) → AllByRecursion FitsSetting (marks_given marks)
 marks-fit None fits = tt
 marks-fit (Some marks) fits = (fits, tt)
 
-filters-fit : (filters : List Filter) → All (λ f. FitsKind f.kind) filters → FitSettings (map (λ f. FilterOf f) filters)
+filters-fit : (filters : List Filter) → All (λ f. FitsKind f.kind) filters → AllByRecursion FitsSetting (map (λ f. FilterOf f) filters)
 filters-fit [] each = tt
 filters-fit (f ∷ filters) each = (All-head (λ g. FitsKind g.kind) f filters each, filters-fit filters (All-tail (λ g. FitsKind g.kind) f filters each))
 
-scheme-fit : (s : Scheme) → FitsScheme s → FitSettings (settings_given s)
+scheme-fit : (s : Scheme) → FitsScheme s → AllByRecursion FitsSetting (settings_given s)
 scheme-fit s fits =
     let size = unless (is_any s.pattern.size) (SizeOf s.pattern.size) in
     let count = unless (is_any s.pattern.count) (CountOf s.pattern.count) in
@@ -104,14 +105,14 @@ from-unless : (version : Version) (place : ℕ) (test : Bool) (s : Setting) (res
 from-unless version place true s rest is after = from-earlier version place (next_place (key_of s)) rest is.less is.no_quota after
 from-unless version place false s rest is after = (is.here, (λ time. absurd (is.no_time time)), after)
 
-from-time : (version : Version) (time : Option ℕ) (rest : List Setting) → timed_in version time ≡ Ok tt → From version 5 rest → From version 4 (time_given time ++ rest)
-from-time version None rest sound after = from-earlier version 4 5 rest (omega arith) (λ e. omega (arith, e)) after
-from-time Two (Some time) rest sound after = (omega arith, (λ is. (refl, refl)), after)
-from-time One (Some time) rest sound after = absurd cc
+from-time : (version : Version) (bytes reset : ℕ) (time : Option ℕ) (rest : List Setting) → checked_time version (Some (record { bytes = bytes; reset = reset; time = time })) ≡ Ok tt → From version 5 rest → From version 4 (time_given time ++ rest)
+from-time version bytes reset None rest sound after = from-earlier version 4 5 rest (omega arith) (λ e. omega (arith, e)) after
+from-time Two bytes reset (Some time) rest sound after = (omega arith, (λ is. (refl, refl)), after)
+from-time One bytes reset (Some time) rest sound after = absurd cc
 
 from-quota : (version : Version) (quota : Option Quota) (rest : List Setting) → checked_time version quota ≡ Ok tt → From version 5 rest → From version 3 (quota_given quota ++ rest)
 from-quota version None rest sound after = from-earlier version 3 5 rest (omega arith) (λ e. omega (arith, e)) after
-from-quota version (Some quota) rest sound after = (omega arith, (λ is. absurd cc), from-time version quota.time rest sound after)
+from-quota version (Some quota) rest sound after = (omega arith, (λ is. absurd cc), from-time version quota.bytes quota.reset quota.time rest sound after)
 
 from-prefer : (version : Version) (prefer : Prefer) (rest : List Setting) → From version 7 rest → From version 6 (prefer_given prefer ++ rest)
 from-prefer version Hot rest after = from-earlier version 6 7 rest (omega arith) (λ e. omega (arith, e)) after
@@ -188,7 +189,7 @@ from-after version earlier (later ∷ more) all = (
   from-after version later more all.2,
 )
 
-from-in_order : (version : Version) (settings : List Setting) → From version 0 settings → AreInOrder version settings
+from-in_order : (version : Version) (settings : List Setting) → From version 0 settings → AreAfter version None settings
 from-in_order version [] all = tt
 from-in_order version (s ∷ more) all = (record { comes_later = tt; timed = λ is. absurd (omega (arith, (all.1 is).1)) }, from-after version s more all.2)
 

@@ -1,17 +1,15 @@
 -- The values that a line can spell: each number is within its field.
-use Rattle.std.specs.Prelude.{◌≡◌, ◌^◌, ◌<◌, ◌≤◌, List, [], ◌∷◌, length, None, All, IfSome}
+use Rattle.std.specs.Prelude.{◌≡◌, ◌^◌, ◌<◌, ◌≤◌, length, None, All, IfSome}
 use Rattle.damon_types.specs.declared.attrs.Attrs.{Attrs}
 use Rattle.damon_types.specs.declared.filter.TheConstants.{MAX_FILTERS}
 use Rattle.damon_types.specs.declared.filter.FilterKind.{FilterKind}
 use Rattle.damon_types.specs.declared.filter.FilterKind.TheVariants.{Addr, Target, Class}
 use Rattle.damon_types.specs.declared.range.RangeSpec.{RangeSpec}
 use Rattle.damon_types.specs.declared.scheme.CostPart.{CostPart}
-use Rattle.damon_types.specs.declared.scheme.Marks.{Marks}
 use Rattle.damon_types.specs.declared.scheme.Quota.{Quota}
 use Rattle.damon_types.specs.declared.scheme.Scheme.{Scheme}
 use Rattle.damon_types.specs.declared.scheme.SlotChange.{SlotChange}
 use Rattle.damon_types.specs.declared.scheme.Span.{Span}
-use Rattle.damon_types.specs.declared.scheme.Weights.{Weights}
 use Rattle.script_lines.specs.declared.keys.Setting.{Setting}
 use Rattle.script_lines.specs.declared.keys.Setting.TheVariants.{Size as SizeOf, Count as CountOf, Age as AgeOf, Quota as QuotaOf, Time as TimeOf, Weights as WeightsOf, Prefer as PreferOf, Marks as MarksOf, Filter as FilterOf}
 
@@ -31,18 +29,6 @@ FitsCost cost = (cost.slot < 2 ^ 8) × (cost.nanos < 2 ^ 64)
 abbrev pub FitsSpan : Span → Type 0
 FitsSpan s = (s.low < 2 ^ 32) × (s.high < 2 ^ 32)
 
--- bytes of 64 bits, a reset interval of 32, and a time of 64, if there is one
-abbrev pub FitsQuota : Quota → Type 0
-FitsQuota q = (q.bytes < 2 ^ 64) × (q.reset < 2 ^ 32) × IfSome q.time (λ time. time < 2 ^ 64)
-
--- three fields of 16 bits
-abbrev pub FitsWeights : Weights → Type 0
-FitsWeights w = (w.size < 2 ^ 16) × (w.count < 2 ^ 16) × (w.age < 2 ^ 16)
-
--- three fields of 32 bits
-abbrev pub FitsMarks : Marks → Type 0
-FitsMarks m = (m.high < 2 ^ 32) × (m.mid < 2 ^ 32) × (m.low < 2 ^ 32)
-
 -- two addresses, a target of 32 bits, or a class of 8 bits
 abbrev pub FitsKind : FilterKind → Type 0
 FitsKind (Addr from to) = (from < 2 ^ 64) × (to < 2 ^ 64)
@@ -54,17 +40,16 @@ abbrev pub FitsSetting : Setting → Type 0
 FitsSetting (SizeOf span) = FitsSpan span
 FitsSetting (CountOf span) = FitsSpan span
 FitsSetting (AgeOf span) = FitsSpan span
-FitsSetting (QuotaOf quota) = FitsQuota quota × (quota.time ≡ None)
+FitsSetting (QuotaOf q) = (q.bytes < 2 ^ 64) × (q.reset < 2 ^ 32) × (q.time ≡ None)
 FitsSetting (TimeOf time) = time < 2 ^ 64
-FitsSetting (WeightsOf weights) = FitsWeights weights
+FitsSetting (WeightsOf w) = (w.size < 2 ^ 16) × (w.count < 2 ^ 16) × (w.age < 2 ^ 16)
 FitsSetting (PreferOf prefer) = Unit {0}
-FitsSetting (MarksOf marks) = FitsMarks marks
+FitsSetting (MarksOf m) = (m.high < 2 ^ 32) × (m.mid < 2 ^ 32) × (m.low < 2 ^ 32)
 FitsSetting (FilterOf filter) = FitsKind filter.kind
 
--- the value of each setting is within its fields
-abbrev pub FitSettings : List Setting → Type 0
-FitSettings [] = Unit {0}
-FitSettings (setting ∷ settings) = FitsSetting setting × FitSettings settings
+-- bytes of 64 bits, a reset interval of 32, and a time of 64, if there is one
+abbrev pub FitsQuota : Quota → Type 0
+FitsQuota q = (q.bytes < 2 ^ 64) × (q.reset < 2 ^ 32) × IfSome q.time (λ time. time < 2 ^ 64)
 
 -- a scheme as its type has it: each number is within its field, and its filters within their list
 pub record FitsScheme (s : Scheme) : Type 0 where
@@ -72,8 +57,8 @@ pub record FitsScheme (s : Scheme) : Type 0 where
   pub count : FitsSpan s.pattern.count
   pub age : FitsSpan s.pattern.age
   pub quota : IfSome s.quota FitsQuota
-  pub weights : FitsWeights s.weights
-  pub marks : IfSome s.marks FitsMarks
+  pub weights : FitsSetting (WeightsOf s.weights)
+  pub marks : IfSome s.marks (λ m. FitsSetting (MarksOf m))
   pub filters : All (λ f. FitsKind f.kind) s.filters
   pub few : length s.filters ≤ MAX_FILTERS
 

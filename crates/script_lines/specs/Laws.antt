@@ -1,5 +1,7 @@
 -- What each line says, and that a line that is read says what was read.
-use Rattle.std.specs.Prelude.{◌≡◌, ◌⊎◌, ℕ, ◌+◌, ◌-◌, ◌^◌, ◌<◌, ◌≤◌, Bool, true, List, codes, Some, None, option_map, Result, Ok}
+use Rattle.std.specs.Prelude.{◌≡◌, ◌⊎◌, ℕ, ◌+◌, ◌-◌, ◌^◌, ◌<◌, ◌≤◌, Bool, true, List, [], ◌∷◌, ◌++◌, codes, Some, None, option_map, Result, Ok}
+use Rattle.std.specs.Fmt.{decimal}
+use Rattle.std.specs.List.{AllByRecursion}
 use Rattle.damon_types.specs.declared.scheme.Action.{Action}
 use Rattle.damon_types.specs.declared.scheme.Scheme.{Scheme}
 use Rattle.damon_types.specs.declared.scheme.SlotChange.{SlotChange}
@@ -7,6 +9,7 @@ use Rattle.damon_types.specs.declared.scheme.Version.{Version}
 use Rattle.damon_types.specs.declared.space.TheConstants.{PAGE_SIZE}
 use Rattle.damon_types.specs.declared.space.Target.{Target}
 use Rattle.damon_types.specs.Space.{page_of}
+use Rattle.line_text.specs.Address.{spelled_address}
 use Rattle.line_text.specs.Laws.{PutsPartsTogether, ReadsDecimal, ReadsOnlyDecimal, ReadsOnlySpelledAddress, ReadsSpelledAddress, SpellsDigits, SpellsHexDigits, StripsOnlyFront, TakesApartPieces}
 use Rattle.live_commit.specs.Commit.{CommitValue}
 use Rattle.script_lines.specs.declared.part.Part.{Part}
@@ -16,11 +19,12 @@ use Rattle.script_lines.specs.declared.keys.Setting.{Setting}
 use Rattle.script_lines.specs.Body.{are_swept, command_line, part_line, sweep_line, touch_line, wants_attrs, wants_cost, wants_metric, wants_slot}
 use Rattle.script_lines.specs.Command.{CommandValue, Touch, Sweep, Step, Arm, Finish, Show, Commit}
 use Rattle.script_lines.specs.Head.{scheme_line}
-use Rattle.script_lines.specs.Fits.{FitSettings, FitsAttrs, FitsCost, FitsRange}
+use Rattle.script_lines.specs.Fits.{FitsAttrs, FitsCost, FitsRange, FitsSetting}
 use Rattle.script_lines.specs.Keys.{action_of}
-use Rattle.script_lines.specs.Settings.{AreInOrder, default_scheme, settled}
+use Rattle.script_lines.specs.Settings.{AreAfter, default_scheme, settled}
 use Rattle.script_lines.specs.Words.{alone}
-use Rattle.script_lines.specs.Spelling.{spelled_action, spelled_attrs, spelled_cost, spelled_drop, spelled_metric, spelled_range, spelled_scheme, spelled_step, spelled_sweep, spelled_touch}
+use Rattle.damon_types.specs.Actions.{action_name}
+use Rattle.script_lines.specs.Spelling.{spaced, spelled_attrs, spelled_cost, spelled_range, spelled_scheme}
 
 -- what the laws of `line_text` say of words, numbers and addresses
 pub record WordLaws : Type 0 where
@@ -41,7 +45,7 @@ ReadsOnly {T} {A} read spelled = (text : T) (x : A) → read text ≡ Ok x → t
 -- a word that names an action is the name of it
 abbrev pub NamesActions : Type 0
 NamesActions =
-    (name : List ℕ) (action : Action) → action_of name ≡ Some action → name ≡ spelled_action action
+    (name : List ℕ) (action : Action) → action_of name ≡ Some action → name ≡ action_name action
 
 -- a line of a version spells a slot, an action and settings in order, which turn the action's default into this scheme
 pub record IsScheme (version : Version) (line : List ℕ) (slot : ℕ) (scheme : Scheme) : Type 0 where
@@ -49,8 +53,8 @@ pub record IsScheme (version : Version) (line : List ℕ) (slot : ℕ) (scheme :
   pub settings : List Setting
   pub spelled : line ≡ spelled_scheme slot action settings
   pub small : slot < 2 ^ 8
-  pub fit : FitSettings settings
-  pub in_order : AreInOrder version settings
+  pub fit : AllByRecursion FitsSetting settings
+  pub in_order : AreAfter version None settings
   pub made : settled (default_scheme action) settings ≡ Ok scheme
 
 -- a line gives a slot its scheme
@@ -61,14 +65,14 @@ GivesScheme version line change =
 -- a line empties a slot
 abbrev pub EmptiesSlot : List ℕ → SlotChange → Type 0
 EmptiesSlot line change =
-    (change.scheme ≡ None) × (line ≡ spelled_drop change.slot) × (change.slot < 2 ^ 8)
+    (change.scheme ≡ None) × (line ≡ codes "drop " ++ decimal change.slot) × (change.slot < 2 ^ 8)
 
 -- a line of a version says a part of a commit
 abbrev pub IsPart : Version → List ℕ → Part → Type 0
 IsPart version line (Attrs attrs) = (line ≡ spelled_attrs attrs) × FitsAttrs attrs
 IsPart version line (Range range) = (line ≡ spelled_range range) × FitsRange range
 IsPart version line (Slot change) = GivesScheme version line change ⊎ EmptiesSlot line change
-IsPart version line (Metric value) = (line ≡ spelled_metric value) × (value < 2 ^ 32)
+IsPart version line (Metric value) = (line ≡ codes "metric " ++ decimal value) × (value < 2 ^ 32)
 IsPart version line (Cost cost) = (line ≡ spelled_cost cost) × FitsCost cost
 
 -- whether a part may come next: attributes, ranges, a slot change, a metric, and in version Two a cost; only ranges repeat
@@ -83,7 +87,7 @@ may_come version before (Cost cost) = wants_cost version before
 pub record IsTouch (space : List Target) (line : List ℕ) (page : ℕ) : Type 0 where
   pub target : ℕ
   pub addr : ℕ
-  pub spelled : line ≡ spelled_touch target addr
+  pub spelled : line ≡ spaced (codes "touch" ∷ decimal target ∷ spelled_address addr ∷ [])
   pub target_fits : target < 2 ^ 32
   pub addr_fits : addr < 2 ^ 64
   pub holds : page_of space target addr ≡ Some page
@@ -93,7 +97,7 @@ pub record IsSweep (space : List Target) (line : List ℕ) (first end : ℕ) : T
   pub target : ℕ
   pub from : ℕ
   pub to : ℕ
-  pub spelled : line ≡ spelled_sweep target from to
+  pub spelled : line ≡ spaced (codes "sweep" ∷ decimal target ∷ spelled_address from ∷ spelled_address to ∷ [])
   pub target_fits : target < 2 ^ 32
   pub from_fits : from < 2 ^ 64
   pub to_fits : to < 2 ^ 64
@@ -105,7 +109,7 @@ pub record IsSweep (space : List Target) (line : List ℕ) (first end : ℕ) : T
 abbrev pub IsCommand : List Target → List ℕ → CommandValue → Type 0
 IsCommand space line (Touch page) = IsTouch space line page
 IsCommand space line (Sweep first end) = IsSweep space line first end
-IsCommand space line (Step times) = (line ≡ spelled_step times) × (1 ≤ times) × (times ≤ 1000000)
+IsCommand space line (Step times) = (line ≡ codes "step " ++ decimal times) × (1 ≤ times) × (times ≤ 1000000)
 IsCommand space line Arm = line ≡ codes "arm"
 IsCommand space line Finish = line ≡ codes "finish"
 IsCommand space line Show = line ≡ codes "show"

@@ -1,5 +1,6 @@
 -- A line that says something is read as what it says.
-use Rattle.std.specs.Prelude.{◌≡◌, ℕ, ◌^◌, ◌<◌, ◌≤◌, true, false, List, [], ◌∷◌, ◌++◌, length, Some, Ok}
+use Rattle.std.specs.Prelude.{◌≡◌, ℕ, ◌^◌, ◌<◌, ◌≤◌, true, false, List, [], ◌∷◌, ◌++◌, length, Some, Ok, codes}
+use Rattle.std.specs.Fmt.{decimal}
 use Rattle.damon_types.specs.declared.attrs.Attrs.{Attrs}
 use Rattle.damon_types.specs.declared.range.RangeSpec.{RangeSpec}
 use Rattle.damon_types.specs.declared.scheme.Scheme.{Scheme}
@@ -21,13 +22,13 @@ use Rattle.script_lines.specs.Command.{CommandValue}
 use Rattle.script_lines.specs.Fits.{FitsAttrs, FitsRange}
 use Rattle.script_lines.specs.Head.{attrs_line, cap_line, is_changed, range_line, scheme_line, seed_line, target_line, unit_line}
 use Rattle.script_lines.specs.Laws.{GivesScheme, IsCommand, IsPart, may_come}
-use Rattle.script_lines.specs.Spelling.{spelled_attrs, spelled_cap, spelled_passes, spelled_range, spelled_seed, spelled_target, spelled_unit}
+use Rattle.script_lines.specs.Spelling.{spelled_attrs, spelled_range, spelled_target}
 
 -- Each line of a script, where what it says is within its limits, is read as what it says.
 pub record LinesReadBack : Type 0 where
-  pub seed : (n : ℕ) → n < 2 ^ 64 → seed_line (spelled_seed n) ≡ Ok n
-  pub unit : (n : ℕ) → 1 ≤ n → n ≤ MAX_UNIT → unit_line (spelled_unit n) ≡ Ok n
-  pub cap : (n : ℕ) → MIN_CAP ≤ n → n ≤ MAX_CAP → cap_line (spelled_cap n) ≡ Ok n
+  pub seed : (n : ℕ) → n < 2 ^ 64 → seed_line (codes "seed " ++ decimal n) ≡ Ok n
+  pub unit : (n : ℕ) → 1 ≤ n → n ≤ MAX_UNIT → unit_line (codes "unit " ++ decimal n) ≡ Ok n
+  pub cap : (n : ℕ) → MIN_CAP ≤ n → n ≤ MAX_CAP → cap_line (codes "cap " ++ decimal n) ≡ Ok n
   pub attrs :
       (cap : ℕ) (a : Attrs) → FitsAttrs a → checked_attrs a ≡ Ok tt → a.max ≤ cap
       → attrs_line cap (spelled_attrs a) ≡ Ok a
@@ -43,7 +44,7 @@ pub record LinesReadBack : Type 0 where
       → GivesScheme version line change → change.scheme ≡ Some scheme
       → checked_in version change.slot scheme ≡ Ok tt → is_changed change.slot before ≡ false
       → scheme_line version before line ≡ Ok change
-  pub passes : (n : ℕ) → 1 ≤ n → n ≤ MAX_PASSES → passes_line (spelled_passes n) ≡ Ok n
+  pub passes : (n : ℕ) → 1 ≤ n → n ≤ MAX_PASSES → passes_line (codes "passes " ++ decimal n) ≡ Ok n
   pub command :
       (space : List Target) (line : List ℕ) (command : CommandValue)
       → IsCommand space line command → command_line space line ≡ Ok command

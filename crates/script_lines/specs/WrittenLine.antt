@@ -1,5 +1,6 @@
 -- The one spelling of a slot change: the settings of its scheme that are written.
-use Rattle.std.specs.Prelude.{ℕ, ◌-◌, ◌^◌, Bool, true, false, ◌&&◌, ◌==◌, List, [], ◌∷◌, ◌++◌, map, Option, Some, None}
+use Rattle.std.specs.Prelude.{ℕ, ◌-◌, ◌^◌, Bool, true, false, ◌&&◌, ◌==◌, List, [], ◌∷◌, ◌++◌, map, Option, Some, None, codes}
+use Rattle.std.specs.Fmt.{decimal}
 use Rattle.damon_types.specs.declared.scheme.Marks.{Marks}
 use Rattle.damon_types.specs.declared.scheme.Pattern.{Pattern}
 use Rattle.damon_types.specs.declared.scheme.Prefer.{Prefer}
@@ -11,7 +12,7 @@ use Rattle.damon_types.specs.declared.scheme.Span.{Span}
 use Rattle.damon_types.specs.declared.scheme.Weights.{Weights}
 use Rattle.script_lines.specs.declared.keys.Setting.{Setting}
 use Rattle.script_lines.specs.declared.keys.Setting.TheVariants.{Size as SizeOf, Count as CountOf, Age as AgeOf, Quota as QuotaOf, Time as TimeOf, Weights as WeightsOf, Prefer as PreferOf, Marks as MarksOf, Filter as FilterOf}
-use Rattle.script_lines.specs.Spelling.{spelled_drop, spelled_scheme}
+use Rattle.script_lines.specs.Spelling.{spelled_scheme}
 
 -- a setting, unless its value is the default of its key
 abbrev pub unless : Bool → Setting → List Setting
@@ -61,7 +62,7 @@ settings_given s =
 
 -- the line of a slot that gets this scheme, or is emptied
 abbrev pub slot_line : ℕ → Option Scheme → List ℕ
-slot_line slot None = spelled_drop slot
+slot_line slot None = codes "drop " ++ decimal slot
 slot_line slot (Some s) = spelled_scheme slot s.action (settings_given s)
 
 -- the line of a slot change

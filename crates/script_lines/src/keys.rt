@@ -1,8 +1,9 @@
-ghost use Rattle.std.specs.Prelude.{◌≡◌, None, option_map};
+ghost use Rattle.std.specs.Prelude.{◌≡◌, None, Some, option_map};
+ghost use Rattle.damon_types.specs.declared.scheme.Quota.{Quota as quota_parts};
 ghost use Rattle.script_lines.specs.Words.{words_in};
 ghost use Rattle.script_lines.specs.Keys.{action_of, are_formed, comes_later, is_misformed, key_and_value, key_named, may_be_timed, may_follow, scheme_in, setting_for, setting_of, with_settings};
 ghost use Rattle.script_lines.specs.KeyViews.{view_key};
-ghost use Rattle.script_lines.specs.Settings.{default_scheme, key_place, with_setting, with_time};
+ghost use Rattle.script_lines.specs.Settings.{default_scheme, key_place, with_setting};
 
 use crate::ScriptKind;
 use crate::values::{
@@ -277,7 +278,7 @@ fn with_setting(mut scheme: Scheme, setting: Setting) -> Result<Scheme, ScriptKi
 
 // A quota, if there is one, with this time.
 fn with_time(quota: Option<Quota>, time: u64) -> Option<Quota>
-    ensures { result ≡ with_time quota time }
+    ensures { result ≡ option_map (λ (q : quota_parts). record q { time = Some time }) quota }
 {
     match quota {
         Some(Quota { bytes, reset, .. }) => Some(Quota {

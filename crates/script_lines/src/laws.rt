@@ -1,8 +1,10 @@
 // Laws of the definitions that the contracts cite: a line that is read says what was read, and a line
 // that says something is read as that. These functions do nothing.
-ghost use Rattle.std.specs.Prelude.{ℕ, List};
+ghost use Rattle.std.specs.Prelude.{ℕ, List, [], ◌∷◌, ◌++◌, codes};
+ghost use Rattle.std.specs.Fmt.{decimal};
 ghost use Rattle.damon_types.specs.declared.range.RangeSpec.{RangeSpec};
 ghost use Rattle.damon_types.specs.declared.space.Target.{Target};
+ghost use Rattle.line_text.specs.Address.{spelled_address};
 ghost use Rattle.script_lines.specs.Blocks.{passes_line};
 ghost use Rattle.script_lines.specs.declared.setup.Frame.{Frame};
 ghost use Rattle.script_lines.specs.Fields.{attrs_in, range_in};
@@ -10,7 +12,7 @@ ghost use Rattle.script_lines.specs.Head.{attrs_line, cap_line, one_target, rang
 ghost use Rattle.script_lines.specs.Keys.{setting_of};
 ghost use Rattle.script_lines.specs.Laws.{NamesActions, ReadsOnly, ReadsOnlyCommands, ReadsOnlyParts, ReadsOnlySchemes, ReadsOnlySweeps, ReadsOnlyTouches, ReadsOnlyWords, WordLaws};
 ghost use Rattle.script_lines.specs.ReadBack.{LinesReadBack};
-ghost use Rattle.script_lines.specs.Spelling.{attrs_words, range_words, spelled_attrs, spelled_cap, spelled_passes, spelled_range, spelled_seed, spelled_setting, spelled_target, spelled_unit};
+ghost use Rattle.script_lines.specs.Spelling.{spelled_attrs, spelled_range, spelled_setting, spelled_target};
 ghost use Rattle.script_lines.specs.Within.{LinesAreWithin};
 ghost use Rattle.script_lines.specs.WriteBack.{ChangesAreReadBack};
 
@@ -38,23 +40,24 @@ pub(crate) fn words_have_laws()
 /// The words after `attrs` and `range` that are accepted, in a setup and in a commit, are the
 /// spelling of what is read from them.
 pub fn fields_are_spelled()
-    ensures attrs { ReadsOnly attrs_in attrs_words }
-    ensures range { ReadsOnly range_in range_words }
+    ensures attrs { ReadsOnly attrs_in (λ a. decimal a.min ∷ decimal a.max ∷ decimal a.aggr ∷ []) }
+    ensures range { ReadsOnly range_in (λ r.
+        decimal r.target ∷ spelled_address r.from ∷ spelled_address r.to ∷ decimal r.class ∷ []) }
 {
     words_have_laws();
 }
 
 /// A line of a setup that is accepted is the spelling of what it says, and so is that of the passes.
 pub fn setup_lines_are_spelled()
-    ensures seed { ReadsOnly seed_line spelled_seed }
-    ensures unit { ReadsOnly unit_line spelled_unit }
-    ensures cap { ReadsOnly cap_line spelled_cap }
+    ensures seed { ReadsOnly seed_line (λ n. codes "seed " ++ decimal n) }
+    ensures unit { ReadsOnly unit_line (λ n. codes "unit " ++ decimal n) }
+    ensures cap { ReadsOnly cap_line (λ n. codes "cap " ++ decimal n) }
     ensures attrs { (cap : ℕ) → ReadsOnly (attrs_line cap) spelled_attrs }
     ensures target { ReadsOnly one_target spelled_target }
     ensures targets { (before : List Target) → ReadsOnly (target_line before) spelled_target }
     ensures range { (f : Frame) (targets : List Target) (before : List RangeSpec)
         → ReadsOnly (range_line f targets before) spelled_range }
-    ensures passes { ReadsOnly passes_line spelled_passes }
+    ensures passes { ReadsOnly passes_line (λ n. codes "passes " ++ decimal n) }
 {
     words_have_laws();
 }

@@ -17,6 +17,8 @@ mod kind;
 mod laws;
 /// The lines of a commit.
 mod part;
+/// Range lines in one pass.
+mod ranges;
 /// The lines of a setup.
 mod setup;
 /// Touch lines in one pass.
@@ -38,7 +40,8 @@ pub use laws::{
     accepted_lines_are_within, body_lines_are_spelled, fields_are_spelled, schemes_are_spelled,
     setup_lines_are_spelled, spelled_lines_are_read, written_changes_are_read_back,
 };
-pub use part::{Part, read_part};
+pub use part::{Part, read_part, wants_slot};
+pub use ranges::leading_range;
 pub use setup::{
     Frame, read_attrs_line, read_cap, read_range_line, read_scheme_line, read_seed,
     read_target_line, read_unit,

@@ -63,8 +63,8 @@ fn wants_metric(commit: &Commit) -> bool
     commit.metric.is_none() && commit.cost.is_none()
 }
 
-// Whether a slot change may still come: before a slot change, a metric and a cost.
-fn wants_slot(commit: &Commit) -> bool
+/// Whether ranges and a slot change may still come in a commit: before a slot change, a metric and a cost.
+pub fn wants_slot(commit: &Commit) -> bool
     ensures { result ≡ wants_slot (commit_value commit.now) }
 {
     commit.slot.is_none() && wants_metric(commit)

@@ -5,7 +5,9 @@ ghost use Rattle.damon_types.specs.Space.{pages_of};
 ghost use Rattle.script_lines.specs.Touches.{BeginsWithTouch};
 
 use damon_types::{Space, pages_rise};
-use line_text::{leading_address, leading_number, leading_numbers_are_spelled, strip};
+use line_text::{
+    leading_address, leading_number, leading_numbers_are_spelled, strip, stripped_front_was_first,
+};
 
 /// The page of the touch line at the front of a text, and the text after that line. A shortcut before the
 /// reader of any line: `None` says nothing of the front, which is then read as any other line.
@@ -16,22 +18,24 @@ pub fn leading_touch<'a>(space: &Space, text: &'a [u8]) -> Option<(u32, &'a [u8]
     // For their clauses alone: what numbers are read from, and where pages end.
     leading_numbers_are_spelled();
     pages_rise();
-    let (target, words) = leading_target(text)?;
+    let (target, words) = leading_target(text, b"touch ")?;
     let (addr, words) = leading_address(words)?;
     let rest = strip(words, b"\n")?;
     let page = space.page_of(target, addr)?;
     Some((page, rest))
 }
 
-// The target of such a line, and the text from its address on.
-fn leading_target(text: &[u8]) -> Option<(u32, &[u8])>
+// The target of a line that begins with this word and a space, and the text from its address on.
+#[inline(always)]
+pub(crate) fn leading_target<'a>(text: &'a [u8], word: &[u8]) -> Option<(u32, &'a [u8])>
     ensures spelled { IfSome result (λ x.
-        text.now ≡ codes "touch " ++ (decimal x.0 ++ (codes " " ++ x.1.now))) }
+        text.now ≡ word.now ++ (decimal x.0 ++ (codes " " ++ x.1.now))) }
     ensures fits { IfSome result (λ x. x.0 < 2 ^ 32) }
 {
-    // For its clause alone: what numbers are read from.
+    // For their clauses alone: what numbers are read from, and what stands before what is left.
     leading_numbers_are_spelled();
-    let words = strip(text, b"touch ")?;
+    stripped_front_was_first();
+    let words = strip(text, word)?;
     let (target, words) = leading_number(words, u64::from(u32::MAX))?;
     let words = strip(words, b" ")?;
     Some((target as u32, words))

@@ -5,13 +5,13 @@ ghost use Rattle.line_text.specs.Address.{spelled_address};
 ghost use Rattle.script_lines.specs.Kept.{KeepsFront};
 ghost use Rattle.script_lines.specs.KeysText.{keys_text};
 ghost use Rattle.script_lines.specs.Separators.{colon};
-ghost use Rattle.script_lines.specs.Spelling.{kind_name, kind_value, listed, spelled_action, spelled_answer, spelled_filter, spelled_scheme, spelled_setting, spelled_side, spelled_span};
+ghost use Rattle.script_lines.specs.Spelling.{kind_name, kind_value, listed, spelled_answer, spelled_filter, spelled_scheme, spelled_setting, spelled_side, spelled_span};
 ghost use Rattle.script_lines.specs.WrittenLine.{are_even, change_text, is_any, marks_given, pattern_given, prefer_given, quota_given, settings_given, time_given, unless};
 ghost use Rattle.script_lines.specs.declared.keys.Setting.TheVariants.{Filter as filter_setting};
 
 use crate::keys::Setting;
 use damon_types::{
-    Action, Filter, FilterKind, Marks, Pattern, Prefer, Quota, Scheme, SlotChange, Span, Weights,
+    Filter, FilterKind, Marks, Pattern, Prefer, Quota, Scheme, SlotChange, Span, Weights,
 };
 use line_text::{address_before, write_number};
 use std::alloc::AllocError;
@@ -77,7 +77,7 @@ fn write_scheme(out: &mut Vec<u8>, slot: u8, scheme: &Scheme) -> Result<(), Allo
     ensures kept { KeepsFront out.old.items out.new.items }
 {
     write_field(out, b"scheme ", u64::from(slot))?;
-    write_word(out, b" ", action_name(scheme.action))?;
+    write_word(out, b" ", scheme.action.name().as_bytes())?;
     write_keys(out, scheme)
 }
 
@@ -311,20 +311,4 @@ fn side_name(matching: bool) -> &'static [u8]
     ensures { result.now ≡ spelled_side matching }
 {
     if matching { b"" } else { b"not-" }
-}
-
-// The name of an action.
-fn action_name(action: Action) -> &'static [u8]
-    ensures { result.now ≡ spelled_action action }
-{
-    match action {
-        Action::Stat => b"stat",
-        Action::Willneed => b"willneed",
-        Action::Cold => b"cold",
-        Action::Pageout => b"pageout",
-        Action::Hugepage => b"hugepage",
-        Action::Nohugepage => b"nohugepage",
-        Action::LruPrio => b"lru_prio",
-        Action::LruDeprio => b"lru_deprio",
-    }
 }

@@ -4,13 +4,14 @@ use Rattle.std.proofs.lemmas.List.{length-drop, length-map}
 use Rattle.rand_core.specs.Stream.{Stream}
 use Rattle.damon_core.specs.State.{State}
 use Rattle.script_lines.specs.Command.{CommandValue}
+use Rattle.snapshot_print.specs.Forms.{writing_of}
 use Rattle.script_run.specs.Callbacks.{Callbacks}
 use Rattle.script_run.specs.Kept.{KeepsFront, StandSomewhere}
 use Rattle.script_run.specs.Part.{Part}
 use Rattle.script_run.specs.Parts.{is_done, part_of, parts_of}
 use Rattle.script_run.specs.Played.{BeginsWith, PlaysNextWith, PlaysOnWith, with_later}
 use Rattle.script_run.specs.Player.{GoesOnWith, PlayerOf}
-use Rattle.script_run.specs.Report.{text_from}
+use Rattle.script_run.specs.RunWith.{text_from}
 use Rattle.script_run.proofs.Moves.{is_over, on-then}
 
 length_left : (cap i : ℕ) (cs : List CommandValue) (later : List Part) → later ≡ parts_of cap (drop i cs) → length later + i ≡ length cs + (i - length cs)
@@ -57,4 +58,4 @@ module _ {R C : Type 0} (stream : R → Stream) (c : Callbacks) (stands : C → 
       → KeepsFront x y
   begun_keeps a b x y there begins =
       let on = begins.on [] in
-      (text_from c a.form there.course (on.events there.course), on.text there.course there.reached there.here)
+      (text_from c (writing_of a.form) there.course (on.events there.course), on.text there.course there.reached there.here)

@@ -12,17 +12,19 @@ use Rattle.damon_core.specs.After.{after}
 use Rattle.damon_world.specs.Moment.{along, event_in, events_of_steps, Moment, moved, next_event, stepped_times}
 use Rattle.damon_world.specs.Advance.{IsAmid}
 use Rattle.damon_world.specs.Touches.{touches}
-use Rattle.snapshot_print.specs.declared.form.Form.{Form}
+use Rattle.snapshot_print.specs.Writing.{Writing}
 use Rattle.script_run.specs.Callbacks.{AddInPlace, Callbacks, IsAlone, IsQuiet, IsStep, put_after, remembered}
-use Rattle.script_run.specs.Course.{Course, course_after, onward, onward-append, with_puts}
+use Rattle.script_run.specs.Course.{Course, course_after, going_with, with_puts}
+use Rattle.script_run.specs.Going.{onward, onward-append}
+use Rattle.script_run.specs.Report.{event_text, events_text}
+use Rattle.script_run.specs.RunWith.{lines_after, text_from}
+use Rattle.script_run.specs.Unfold.{steps_until, stops_at}
 use Rattle.script_run.specs.Part.{Part}
 use Rattle.script_run.specs.Part as part
 use Rattle.script_run.specs.declared.part.Until.{Until}
 use Rattle.script_run.specs.declared.part.Until.TheVariants as until
 use Rattle.script_run.specs.Kept.{beyond}
-use Rattle.script_run.specs.Parts.{is_done, stops_at}
-use Rattle.script_run.specs.Report.{event_text, events_text, lines_after, text_from}
-use Rattle.script_run.specs.Unfold.{part_events, parts_events, steps_until}
+use Rattle.script_run.specs.Parts.{is_done, part_events, parts_events}
 
 -- ---- steps that are no aggregation
 
@@ -49,15 +51,15 @@ quiet_step (commit parts) step = tt
 quiet_step show step = tt
 
 -- a step writes nothing
-silent_step : (form : Form) (s : State) (e : Event) → IsStep e → event_text form s e ≡ []
-silent_step form s (touch page) step = absurd step
-silent_step form s (prepare words) step = refl
-silent_step form s clear step = refl
-silent_step form s (load h) step = refl
-silent_step form s observe step = refl
-silent_step form s (aggregate words) step = absurd step
-silent_step form s (commit parts) step = absurd step
-silent_step form s show step = absurd step
+silent_step : (writing : Writing) (s : State) (e : Event) → IsStep e → event_text writing s e ≡ []
+silent_step writing s (touch page) step = absurd step
+silent_step writing s (prepare words) step = refl
+silent_step writing s clear step = refl
+silent_step writing s (load h) step = refl
+silent_step writing s observe step = refl
+silent_step writing s (aggregate words) step = absurd step
+silent_step writing s (commit parts) step = absurd step
+silent_step writing s show step = absurd step
 
 step_choice : (b : Bool) (s : State) → IsStep (cond b observe (load (next_hit s)))
 step_choice true s = tt
@@ -112,10 +114,10 @@ steps_alone (e ∷ es) steps = (alone_step e steps.0, steps_alone es steps.1)
 
 -- the next step, which does not stop
 pub steps_until-due : (c : Callbacks) (u : Until) (n : ℕ) (r : Course) → stops_at u r.moment.state.core.phase ≡ false
-    → (let e = next_event r.moment.state r.moment.stream in steps_until c u (suc n) r ≡ e ∷ steps_until c u n (course_after c r e))
+    → (let e = next_event r.moment.state r.moment.stream in steps_until (going_with c) u (suc n) r ≡ e ∷ steps_until (going_with c) u n (course_after c r e))
 steps_until-due c u n r here =
     let e = next_event r.moment.state r.moment.stream in
-    ap (λ b. cond b [] (e ∷ steps_until c u n (course_after c r e))) here
+    ap (λ b. cond b [] (e ∷ steps_until (going_with c) u n (course_after c r e))) here
 
 -- ---- events after which callbacks remember and add nothing
 
@@ -132,9 +134,9 @@ module _ (c : Callbacks) (in_place : AddInPlace c) where
       ap (λ (ps : List Event). course_of (along r.moment (e ∷ ps)) (remembered c r.memory r.moment.state e)) (nothing_put r e alone)
       ∙ ap (λ (memory : List ℕ). course_of (along r.moment (e ∷ [])) memory) (in_place.keeps r.memory (after r.moment.state e) e alone)
 
-  pub alone_onward : (r : Course) (es : List Event) → AllByRecursion IsAlone es → onward c r es ≡ beyond r es
+  pub alone_onward : (r : Course) (es : List Event) → AllByRecursion IsAlone es → onward (going_with c) r es ≡ beyond r es
   alone_onward r [] alone = refl
-  alone_onward r (e ∷ es) alone = ap (λ q. onward c q es) (alone_after r e alone.0) ∙ alone_onward (beyond r (e ∷ [])) es alone.1
+  alone_onward r (e ∷ es) alone = ap (λ q. onward (going_with c) q es) (alone_after r e alone.0) ∙ alone_onward (beyond r (e ∷ [])) es alone.1
 
   pub alone_puts : (r : Course) (es : List Event) → AllByRecursion IsAlone es → with_puts c r es ≡ es
   alone_puts r [] alone = refl
@@ -143,45 +145,45 @@ module _ (c : Callbacks) (in_place : AddInPlace c) where
       ∙ ap (λ fs. e ∷ fs) (alone_puts (course_after c r e) es alone.1)
 
   -- nothing is written where neither the event nor callbacks write
-  silent : (form : Form) (r : Course) (e : Event) (rest : List ℕ) → event_text form r.moment.state e ≡ [] → IsQuiet e → IsAlone e
+  silent : (writing : Writing) (r : Course) (e : Event) (rest : List ℕ) → event_text writing r.moment.state e ≡ [] → IsQuiet e → IsAlone e
       → (let s = r.moment.state in
-      event_text form s e ++ (lines_after c r e ++ (events_text form (after s e) (put_after c r.memory s e) ++ rest)) ≡ rest)
-  silent form r e rest none quiet alone =
+      event_text writing s e ++ (lines_after c r e ++ (events_text writing (after s e) (put_after c r.memory s e) ++ rest)) ≡ rest)
+  silent writing r e rest none quiet alone =
       let s = r.moment.state in
-      let more = events_text form (after s e) (put_after c r.memory s e) ++ rest in
+      let more = events_text writing (after s e) (put_after c r.memory s e) ++ rest in
       ap (λ t. t ++ (lines_after c r e ++ more)) none
       ∙ ap (λ t. t ++ more) (in_place.writes (remembered c r.memory s e) (after s e) e quiet)
-      ∙ ap (λ ps. events_text form (after s e) ps ++ rest) (nothing_put r e alone)
+      ∙ ap (λ ps. events_text writing (after s e) ps ++ rest) (nothing_put r e alone)
 
   -- steps write nothing, where no aggregation is due
-  pub text_from-steps : (form : Form) (r : Course) (es : List Event) → AllByRecursion IsStep es → text_from c form r es ≡ []
-  text_from-steps form r [] steps = refl
-  text_from-steps form r (e ∷ es) steps =
-      silent form r e (text_from c form (course_after c r e) es) (silent_step form r.moment.state e steps.0) (quiet_step e steps.0) (alone_step e steps.0)
-      ∙ text_from-steps form (course_after c r e) es steps.1
+  pub text_from-steps : (writing : Writing) (r : Course) (es : List Event) → AllByRecursion IsStep es → text_from c writing r es ≡ []
+  text_from-steps writing r [] steps = refl
+  text_from-steps writing r (e ∷ es) steps =
+      silent writing r e (text_from c writing (course_after c r e) es) (silent_step writing r.moment.state e steps.0) (quiet_step e steps.0) (alone_step e steps.0)
+      ∙ text_from-steps writing (course_after c r e) es steps.1
 
   -- touches write nothing
-  pub text_from-touches : (form : Form) (r : Course) (page n : ℕ) → text_from c form r (touches page n) ≡ []
-  text_from-touches form r page zero = refl
-  text_from-touches form r page (suc n) =
+  pub text_from-touches : (writing : Writing) (r : Course) (page n : ℕ) → text_from c writing r (touches page n) ≡ []
+  text_from-touches writing r page zero = refl
+  text_from-touches writing r page (suc n) =
       let q = course_after c r (touch page) in
-      silent form r (touch page) (text_from c form q (touches (page + 1) n)) refl tt tt
-      ∙ text_from-touches form q (page + 1) n
+      silent writing r (touch page) (text_from c writing q (touches (page + 1) n)) refl tt tt
+      ∙ text_from-touches writing q (page + 1) n
 
   -- steps that do not stop and are no aggregation, and those after them
   pub steps_until-split : (u : Until) (n rest : ℕ) (r : Course) → NoneDue n r.moment
       → ((k : ℕ) → k < n → stops_at u (stepped_times k r.moment).state.core.phase ≡ false)
-      → (let es = events_of_steps n r.moment in steps_until c u (n + rest) r ≡ es ++ steps_until c u rest (beyond r es))
-  steps_until-split u zero rest r early going = let same : 0 + rest ≡ rest = omega arith in ap (λ i. steps_until c u i r) same
+      → (let es = events_of_steps n r.moment in steps_until (going_with c) u (n + rest) r ≡ es ++ steps_until (going_with c) u rest (beyond r es))
+  steps_until-split u zero rest r early going = let same : 0 + rest ≡ rest = omega arith in ap (λ i. steps_until (going_with c) u i r) same
   steps_until-split u (suc n) rest r early going =
       let m = r.moment in
       let e = next_event m.state m.stream in
       let index : suc n + rest ≡ suc (n + rest) = omega arith in
       let here : stops_at u m.state.core.phase ≡ false = going 0 (omega arith) in
       let step = step_in m.state.core.phase m.state m.stream (early 0 (omega arith)) in
-      ap (λ i. steps_until c u i r) index
+      ap (λ i. steps_until (going_with c) u i r) index
       ∙ steps_until-due c u (n + rest) r here
-      ∙ ap (λ q. e ∷ steps_until c u (n + rest) q) (alone_after r e (alone_step e step))
+      ∙ ap (λ q. e ∷ steps_until (going_with c) u (n + rest) q) (alone_after r e (alone_step e step))
       ∙ ap (λ es. e ∷ es) (steps_until-split u n rest (beyond r (e ∷ []))
       (λ k below. early (suc k) (omega (arith, below))) (λ k below. going (suc k) (omega (arith, below))))
 
@@ -219,31 +221,31 @@ none_touched : (page n : ℕ) → (n == 0) ≡ true → touches page n ≡ []
 none_touched page zero done = refl
 none_touched page (suc n) done = absurd (cc (done, suc_not_zero n))
 
-none_stepped : (c : Callbacks) (u : Until) (n : ℕ) (r : Course) → ((n == 0) || stops_at u r.moment.state.core.phase) ≡ true → steps_until c u n r ≡ []
+none_stepped : (c : Callbacks) (u : Until) (n : ℕ) (r : Course) → ((n == 0) || stops_at u r.moment.state.core.phase) ≡ true → steps_until (going_with c) u n r ≡ []
 none_stepped c u zero r done = refl
 none_stepped c u (suc n) r done =
     let ph = r.moment.state.core.phase in
     let here : stops_at u ph ≡ true = ap (λ b. b || stops_at u ph) (sym (suc_not_zero n)) ∙ done in
     let e = next_event r.moment.state r.moment.stream in
-    ap (λ b. cond b [] (e ∷ steps_until c u n (course_after c r e))) here
+    ap (λ b. cond b [] (e ∷ steps_until (going_with c) u n (course_after c r e))) here
 
 -- a part of which nothing is left has no event
-done_is_none : (c : Callbacks) (r : Course) (p : Part) → is_done p r.moment.state.core.phase ≡ true → part_events c r p ≡ []
+done_is_none : (c : Callbacks) (r : Course) (p : Part) → is_done p r.moment.state.core.phase ≡ true → part_events (going_with c) r p ≡ []
 done_is_none c r (part.Touches page count) done = none_touched page count done
 done_is_none c r (part.Steps until most) done = none_stepped c until most r done
 done_is_none c r part.Show done = absurd (cc done)
 done_is_none c r (part.Commit parts) done = absurd (cc done)
 
 -- a part of which nothing is left is left out
-pub parts_events-done : (c : Callbacks) (r : Course) (p : Part) (ps : List Part) → is_done p r.moment.state.core.phase ≡ true → parts_events c r (p ∷ ps) ≡ parts_events c r ps
-parts_events-done c r p ps done = ap (λ (es : List Event). es ++ parts_events c (onward c r es) ps) (done_is_none c r p done)
+pub parts_events-done : (c : Callbacks) (r : Course) (p : Part) (ps : List Part) → is_done p r.moment.state.core.phase ≡ true → parts_events (going_with c) r (p ∷ ps) ≡ parts_events (going_with c) r ps
+parts_events-done c r p ps done = ap (λ (es : List Event). es ++ parts_events (going_with c) (onward (going_with c) r es) ps) (done_is_none c r p done)
 
 -- after the first events of a part the rest of it is left
-pub parts_events-made : (c : Callbacks) (r : Course) (made : List Event) (p q : Part) (ps : List Part) → part_events c r p ≡ made ++ part_events c (onward c r made) q
-    → parts_events c r (p ∷ ps) ≡ made ++ parts_events c (onward c r made) (q ∷ ps)
+pub parts_events-made : (c : Callbacks) (r : Course) (made : List Event) (p q : Part) (ps : List Part) → part_events (going_with c) r p ≡ made ++ part_events (going_with c) (onward (going_with c) r made) q
+    → parts_events (going_with c) r (p ∷ ps) ≡ made ++ parts_events (going_with c) (onward (going_with c) r made) (q ∷ ps)
 parts_events-made c r made p q ps is =
-    let x = onward c r made in
-    let rest = part_events c x q in
-    ap (λ (es : List Event). es ++ parts_events c (onward c r es) ps) is
-    ∙ ap (λ (y : Course). (made ++ rest) ++ parts_events c y ps) (onward-append c r made rest)
-    ∙ append_assoc made rest (parts_events c (onward c x rest) ps)
+    let x = onward (going_with c) r made in
+    let rest = part_events (going_with c) x q in
+    ap (λ (es : List Event). es ++ parts_events (going_with c) (onward (going_with c) r es) ps) is
+    ∙ ap (λ (y : Course). (made ++ rest) ++ parts_events (going_with c) y ps) (onward-append (going_with c) r made rest)
+    ∙ append_assoc made rest (parts_events (going_with c) (onward (going_with c) x rest) ps)

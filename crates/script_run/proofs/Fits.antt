@@ -35,11 +35,13 @@ use Rattle.damon_control.specs.Sound.{IsSound}
 use Rattle.script_run.specs.BoundAlong.{EachRunIsBound}
 use Rattle.script_run.specs.Callbacks.{Callbacks, FitAlways, FitByHit, no_callbacks, put_after}
 use Rattle.script_run.specs.Choices.{EachRunChoosesBest}
-use Rattle.script_run.specs.Course.{Course, Reached-onward, course_after, onward, onward-moment, onward-state, with_puts, with_puts-append}
+use Rattle.script_run.specs.Course.{Course, course_after, going_with, onward-moment, onward-state, Reached-onward, with_puts, with_puts-append}
+use Rattle.script_run.specs.Going.{onward}
+use Rattle.script_run.specs.RunWith.{start_with, unfold_with}
+use Rattle.script_run.specs.Unfold.{steps_until, stops_at}
 use Rattle.script_run.specs.Kept.{ArePartsWithin, IsPartWithin}
-use Rattle.script_run.specs.Parts.{part_of, parts_of, stops_at}
+use Rattle.script_run.specs.Parts.{commands_are_parts, part_events, part_of, parts_events, parts_of}
 use Rattle.script_lines.specs.Limits.{AreCommandsWithin, IsCommandWithin}
-use Rattle.script_run.specs.Unfold.{part_events, parts_events, start_with, steps_until, unfold_with}
 use Rattle.script_run.specs.Way.{Reached-start}
 use Rattle.script_run.proofs.Hits.{AllByHit-append, AllByHit-prefix, by_hit-in}
 
@@ -155,9 +157,9 @@ module _ (c : Callbacks) (always : FitAlways c) where
 
   -- events of the script, and then those that fit where they lead
   events_fit : (r : Course) (es fs : List Event) → FitByHit r.moment.state (with_puts c r es)
-      → FitByHit (onward c r es).moment.state (with_puts c (onward c r es) fs) → FitByHit r.moment.state (with_puts c r (es ++ fs))
+      → FitByHit (onward (going_with c) r es).moment.state (with_puts c (onward (going_with c) r es) fs) → FitByHit r.moment.state (with_puts c r (es ++ fs))
   events_fit r es fs first rest =
-      let later = with_puts c (onward c r es) fs in
+      let later = with_puts c (onward (going_with c) r es) fs in
       subst (λ xs. FitByHit r.moment.state xs) (sym (with_puts-append c r es fs))
       (FitByHit-append r.moment.state (with_puts c r es) later first (subst (λ t. FitByHit t later) (onward-state c r es) rest))
 
@@ -177,32 +179,32 @@ module _ (c : Callbacks) (always : FitAlways c) where
       (touches_fit q (page + 1) n (Reached-after r e reached here) (omega (arith, within, same)))
 
   module _ (in_phase : (s : State) → Reached s → IsInPhase s) where
-    steps_fit : (u : Until) (n : ℕ) (r : Course) → Reached r.moment.state → FitByHit r.moment.state (with_puts c r (steps_until c u n r))
+    steps_fit : (u : Until) (n : ℕ) (r : Course) → Reached r.moment.state → FitByHit r.moment.state (with_puts c r (steps_until (going_with c) u n r))
     steps_fit u zero r reached = record { fit = tt; by_hit = tt }
     steps_fit u (suc n) r reached =
         let m = r.moment in
         let e = next_event m.state m.stream in
         let q = course_after c r e in
         let fits = next_fits m.state.core.phase m.state m.stream refl (in_phase m.state reached) in
-        fit_unless (stops_at u m.state.core.phase) r (e ∷ steps_until c u n q)
-        (event_fits r e (steps_until c u n q) reached fits (by_hit-in m.state.core.phase m.state m.stream)
+        fit_unless (stops_at u m.state.core.phase) r (e ∷ steps_until (going_with c) u n q)
+        (event_fits r e (steps_until (going_with c) u n q) reached fits (by_hit-in m.state.core.phase m.state m.stream)
         (steps_fit u n q (Reached-after r e reached fits)))
 
-    part_fits : (r : Course) (p : Part) → Reached r.moment.state → IsPartWithin (pages_of r.moment.state.core.space) p → FitByHit r.moment.state (with_puts c r (part_events c r p))
+    part_fits : (r : Course) (p : Part) → Reached r.moment.state → IsPartWithin (pages_of r.moment.state.core.space) p → FitByHit r.moment.state (with_puts c r (part_events (going_with c) r p))
     part_fits r (part.Touches page count) reached within = touches_fit r page count reached within
     part_fits r (part.Steps until most) reached within = steps_fit until most r reached
     part_fits r part.Show reached within = event_fits r show [] reached tt tt (record { fit = tt; by_hit = tt })
     part_fits r (part.Commit parts) reached within = event_fits r (commit parts) [] reached tt tt (record { fit = tt; by_hit = tt })
 
-    parts_fit : (r : Course) (ps : List Part) → Reached r.moment.state → ArePartsWithin (pages_of r.moment.state.core.space) ps → FitByHit r.moment.state (with_puts c r (parts_events c r ps))
+    parts_fit : (r : Course) (ps : List Part) → Reached r.moment.state → ArePartsWithin (pages_of r.moment.state.core.space) ps → FitByHit r.moment.state (with_puts c r (parts_events (going_with c) r ps))
     parts_fit r [] reached within = record { fit = tt; by_hit = tt }
     parts_fit r (p ∷ ps) reached within =
-        let es = part_events c r p in
-        let q = onward c r es in
+        let es = part_events (going_with c) r p in
+        let q = onward (going_with c) r es in
         let first = part_fits r p reached within.0 in
         let space : q.moment.state.core.space ≡ r.moment.state.core.space =
         ap (λ (m : Moment). m.state.core.space) (onward-moment c r es) ∙ along-space r.moment (with_puts c r es) in
-        events_fit r es (parts_events c q ps) first
+        events_fit r es (parts_events (going_with c) q ps) first
         (parts_fit q ps (Reached-onward c r es reached first.fit) (subst (λ sp. ArePartsWithin (pages_of sp) ps) (sym space) within.1))
 
 pub part_within : (cap pages : ℕ) (c : CommandValue) → IsCommandWithin pages c → IsPartWithin pages (part_of cap c)
@@ -230,8 +232,10 @@ can_open s sound = record { space = sound.space; sound = sound.setup; order = so
 -- the events of a script within its limits fit, with those that are put in, and their loads have the results of their pages
 script_fits : (c : Callbacks) → FitAlways c → ((s : State) → Reached s → IsInPhase s) → (s : ScriptValue) (sound : IsSound s) → FitByHit (opening s.setup) (unfold_with c s)
 script_fits c always in_phase s sound =
-    parts_fit c always in_phase (start_with c s) (parts_of s.setup.cap s.commands) (Reached-start s (can_open s sound))
-    (parts_within s.setup.cap (pages_of s.setup.space) s.commands sound.commands)
+    let first = start_with c s in
+    subst (λ es. FitByHit (opening s.setup) (with_puts c first es)) (sym (commands_are_parts (going_with c) s.setup.cap first s.commands))
+    (parts_fit c always in_phase first (parts_of s.setup.cap s.commands) (Reached-start s (can_open s sound))
+    (parts_within s.setup.cap (pages_of s.setup.space) s.commands sound.commands))
 
 -- each state to which a prefix of them leads is bound
 pub bound_along : ((s : State) → Reached s → IsInPhase s) → ((s : State) → ReachedByHit s → Bound s) → EachRunIsBound

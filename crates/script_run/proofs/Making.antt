@@ -17,16 +17,16 @@ use Rattle.damon_world.specs.Advance.{steps_of_kind}
 use Rattle.damon_world.specs.Moment.{Moment, along, event_in, events_of_steps, moved, next_event}
 use Rattle.damon_world.specs.Plays.{Plays, Reached-along, along-append, along-state}
 use Rattle.damon_world.specs.Stands.{StandsFor, WorldView}
-use Rattle.snapshot_print.specs.Commit.{commit_text}
-use Rattle.snapshot_print.specs.declared.form.Form.{Form}
-use Rattle.snapshot_print.specs.Lines.{aggregate_text}
+use Rattle.snapshot_print.specs.Writing.{Writing}
 use Rattle.snapshot_print.specs.Printed.{printed_monitor, printed_monitor-stands, printed_state}
 use Rattle.script_run.specs.Callbacks.{AddInPlace, Callbacks, IsAlone, put_after, remembered}
 use Rattle.script_run.specs.Calls.{Follows, IsAggregated}
-use Rattle.script_run.specs.Course.{Course, Reached-onward, onward, onward-append, onward-state, with_puts, with_puts-append}
+use Rattle.script_run.specs.Course.{Course, going_with, onward-state, Reached-onward, with_puts, with_puts-append}
+use Rattle.script_run.specs.Going.{onward, onward-append}
+use Rattle.script_run.specs.Report.{event_text, events_text, events_text-append}
+use Rattle.script_run.specs.RunWith.{lines_after}
 use Rattle.script_run.specs.Kept.{ArePutIn, IsMade, StandSomewhere, beyond}
 use Rattle.script_run.specs.Player.{PlayTogether, StandAt}
-use Rattle.script_run.specs.Report.{event_text, events_text, events_text-append, lines_after}
 use Rattle.script_run.proofs.Events.{alone_onward, alone_puts}
 
 -- the course directly after an event of the script, before those that are put in after it
@@ -37,15 +37,15 @@ module _ {R C : Type 0} (stream : R → Stream) (c : Callbacks) (stands : C → 
   -- what plays events, and then others from where these lead, plays them all
   pub plays-then : (w w' w'' : WorldView R) (k k' k'' : C) (es fs : Course → List Event)
       → PlayTogether stream c stands w w' k k' es → PlayTogether stream c stands w' w'' k' k'' fs
-      → PlayTogether stream c stands w w'' k k'' (λ r. es r ++ fs (onward c r (es r)))
+      → PlayTogether stream c stands w w'' k k'' (λ r. es r ++ fs (onward (going_with c) r (es r)))
   plays-then w w' w'' k k' k'' es fs first second r reached here =
       let made = first r reached here in
-      let q = onward c r (es r) in
+      let q = onward (going_with c) r (es r) in
       let more = second q (Reached-onward c r (es r) reached made.0) made.1 in
       let fit = AllFit-append r.moment.state (with_puts c r (es r)) (with_puts c q (fs q)) made.0
       (subst (λ s. AllFit s (with_puts c q (fs q))) (onward-state c r (es r)) more.0) in (
         subst (λ xs. AllFit r.moment.state xs) (sym (with_puts-append c r (es r) (fs q))) fit,
-        subst (λ x. StandAt stream stands w'' k'' x) (sym (onward-append c r (es r) (fs q))) more.1,
+        subst (λ x. StandAt stream stands w'' k'' x) (sym (onward-append (going_with c) r (es r) (fs q))) more.1,
       )
 
   -- a world and callbacks that stood somewhere still do
@@ -53,7 +53,7 @@ module _ {R C : Type 0} (stream : R → Stream) (c : Callbacks) (stands : C → 
       → StandSomewhere stream stands w k → StandSomewhere stream stands w' k'
   somewhere-then w w' k k' es plays there =
       let made = plays there.course there.reached there.here in
-      record { course = onward c there.course (es there.course); reached = Reached-onward c there.course (es there.course) there.reached made.0; here = made.1 }
+      record { course = onward (going_with c) there.course (es there.course); reached = Reached-onward c there.course (es there.course) there.reached made.0; here = made.1 }
 
   -- events that the world makes, that callbacks follow, and after which these remember and add nothing
   pub plays-follow : (in_place : AddInPlace c) (w w' : WorldView R) (k k' : C) (es : Moment → List Event) → Plays stream w w' es
@@ -79,9 +79,9 @@ module _ {R C : Type 0} (stream : R → Stream) (c : Callbacks) (stands : C → 
       → Fits r.moment.state (e r) × StandAt stream stands w' k' (told c r (e r))
 
   -- the text grew by that of the event and the lines of callbacks
-  abbrev pub WritesOne : (w : WorldView R) (k : C) (form : Form) (x y : List ℕ) (e : Course → Event) → Type 0
-  WritesOne w k form x y e = (r : Course) → Reached r.moment.state → StandAt stream stands w k r
-      → y ≡ x ++ (event_text form r.moment.state (e r) ++ lines_after c r (e r))
+  abbrev pub WritesOne : (w : WorldView R) (k : C) (writing : Writing) (x y : List ℕ) (e : Course → Event) → Type 0
+  WritesOne w k writing x y e = (r : Course) → Reached r.moment.state → StandAt stream stands w k r
+      → y ≡ x ++ (event_text writing r.moment.state (e r) ++ lines_after c r (e r))
 
   pub somewhere-one : (w w' : WorldView R) (k k' : C) (e : Course → Event) → PlaysOne w w' k k' e
       → StandSomewhere stream stands w k → StandSomewhere stream stands w' k'
@@ -91,11 +91,11 @@ module _ {R C : Type 0} (stream : R → Stream) (c : Callbacks) (stands : C → 
       record { course = told c r (e r); reached = Reached-run r.moment.state (e r ∷ []) there.reached (made.0, tt); here = made.1 }
 
   -- an event, and then those that callbacks put in after it
-  pub made-puts : (w w' w'' : WorldView R) (k k' k'' : C) (form : Form) (x y z : List ℕ) (e : Course → Event) (ps : List Event)
-      → PlaysOne w w' k k' e → WritesOne w k form x y e → ArePutIn stream stands w' w'' k' k'' form y z ps
+  pub made-puts : (w w' w'' : WorldView R) (k k' k'' : C) (writing : Writing) (x y z : List ℕ) (e : Course → Event) (ps : List Event)
+      → PlaysOne w w' k k' e → WritesOne w k writing x y e → ArePutIn stream stands w' w'' k' k'' writing y z ps
       → ((r : Course) → Reached r.moment.state → StandAt stream stands w k r → ps ≡ put_after c r.memory r.moment.state (e r))
-      → IsMade stream c stands w w'' k k'' form x z (λ r. e r ∷ [])
-  made-puts w w' w'' k k' k'' form x y z e ps plays writes more puts = record {
+      → IsMade stream c stands w w'' k k'' writing x z (λ r. e r ∷ [])
+  made-puts w w' w'' k k' k'' writing x y z e ps plays writes more puts = record {
     plays = λ r reached here. (
         let s = r.moment.state in
         let one = plays r reached here in
@@ -109,15 +109,15 @@ module _ {R C : Type 0} (stream : R → Stream) (c : Callbacks) (stands : C → 
         let s = r.moment.state in
         let one = plays r reached here in
         let q = told c r (e r) in
-        let own = event_text form s (e r) in
+        let own = event_text writing s (e r) in
         let lines = lines_after c r (e r) in
-        let text = events_text form (after s (e r)) ps in
+        let text = events_text writing (after s (e r)) ps in
         more.text q (Reached-run s (e r ∷ []) reached (one.0, tt)) one.1
         ∙ ap (λ t. t ++ text) (writes r reached here)
         ∙ append_assoc x (own ++ lines) text
         ∙ ap (λ t. x ++ t) (append_assoc own lines text)
         ∙ ap (λ t. x ++ (own ++ (lines ++ t))) (sym (append-nil text))
-        ∙ ap (λ qs. x ++ (own ++ (lines ++ (events_text form (after s (e r)) qs ++ [])))) (puts r reached here));
+        ∙ ap (λ qs. x ++ (own ++ (lines ++ (events_text writing (after s (e r)) qs ++ [])))) (puts r reached here));
   }
 
   -- ---- a commit of the script
@@ -135,15 +135,15 @@ module _ {R C : Type 0} (stream : R → Stream) (c : Callbacks) (stands : C → 
         },
       )
 
-  pub commit_writes : (in_place : AddInPlace c) (w : WorldView R) (k : C) (form : Form) (x y : List ℕ) (parts : CommitValue)
-      → y ≡ x ++ commit_text form w.monitor.core.ticks (commit_answer parts w.monitor.core)
-      → WritesOne w k form x y (λ r. commit parts)
-  commit_writes in_place w k form x y parts grew r reached here =
+  pub commit_writes : (in_place : AddInPlace c) (w : WorldView R) (k : C) (writing : Writing) (x y : List ℕ) (parts : CommitValue)
+      → y ≡ x ++ writing.commit w.monitor.core.ticks (commit_answer parts w.monitor.core)
+      → WritesOne w k writing x y (λ r. commit parts)
+  commit_writes in_place w k writing x y parts grew r reached here =
       let e = commit parts in
       let s = r.moment.state in
-      let own = event_text form s e in
+      let own = event_text writing s e in
       grew
-      ∙ ap (λ (q : Core). x ++ commit_text form q.ticks (commit_answer parts q)) here.world.state.monitor.same
+      ∙ ap (λ (q : Core). x ++ writing.commit q.ticks (commit_answer parts q)) here.world.state.monitor.same
       ∙ ap (λ t. x ++ t) (sym (append-nil own))
       ∙ ap (λ t. x ++ (own ++ t)) (sym (in_place.writes (remembered c r.memory s e) (after s e) e tt))
 
@@ -211,21 +211,21 @@ module _ {R C : Type 0} (stream : R → Stream) (c : Callbacks) (stands : C → 
       somewhere-one w w' k k' (λ r. next_event r.moment.state r.moment.stream) (aggregation_plays w w' k k' due plays follow) there
 
   -- the text of the aggregation that was due and the lines of callbacks
-  pub aggregation_writes : (w w' : WorldView R) (k k' : C) (form : Form) (x y z : List ℕ) → IsDue w → Plays stream w w' (λ m. events_of_steps 1 m)
+  pub aggregation_writes : (w w' : WorldView R) (k k' : C) (writing : Writing) (x y z : List ℕ) → IsDue w → Plays stream w w' (λ m. events_of_steps 1 m)
       → GoesAlong w'.monitor k k'
-      → y ≡ x ++ aggregate_text form (printed_monitor w'.monitor)
+      → y ≡ x ++ writing.aggregate (printed_monitor w'.monitor)
       → ((memory : List ℕ) (s : State) (words : List ℕ) → stands k' memory s → Stands w'.monitor s → z ≡ y ++ c.writes memory s (aggregate words))
-      → WritesOne w k form x z (λ r. next_event r.moment.state r.moment.stream)
-  aggregation_writes w w' k k' form x y z due plays follow grew lines r reached here =
+      → WritesOne w k writing x z (λ r. next_event r.moment.state r.moment.stream)
+  aggregation_writes w w' k k' writing x y z due plays follow grew lines r reached here =
       let is = due_is r.moment (due_at w k r due.0 here) in
       let words = words_at r in
       let shown = aggregated_at w w' k due plays r reached here in
       let s = after r.moment.state (aggregate words) in
-      let own = aggregate_text form (printed_state s) in
+      let own = writing.aggregate (printed_state s) in
       let added = lines_after c r (aggregate words) in
-      subst (λ e. z ≡ x ++ (event_text form r.moment.state e ++ lines_after c r e)) (sym is)
+      subst (λ e. z ≡ x ++ (event_text writing r.moment.state e ++ lines_after c r e)) (sym is)
       (lines (remembered c r.memory r.moment.state (aggregate words)) s words (follow r.memory r.moment.state words shown) shown.shows
-      ∙ ap (λ t. t ++ added) (grew ∙ ap (λ p. x ++ aggregate_text form p) (printed_monitor-stands w'.monitor s shown.shows))
+      ∙ ap (λ t. t ++ added) (grew ∙ ap (λ p. x ++ writing.aggregate p) (printed_monitor-stands w'.monitor s shown.shows))
       ∙ append_assoc x own added)
 
   -- what was still to be put in then is what callbacks put in after it
@@ -241,13 +241,13 @@ module _ {R C : Type 0} (stream : R → Stream) (c : Callbacks) (stands : C → 
 -- ---- commits that are put in one after another
 
 module _ {R C : Type 0} (stream : R → Stream) (stands : C → List ℕ → State → Type 0) where
-  put-none : (w : WorldView R) (k : C) (form : Form) (x : List ℕ) → ArePutIn stream stands w w k k form x x []
-  put-none w k form x = record { plays = λ r reached here. (tt, here); text = λ r reached here. sym (append-nil x) }
+  put-none : (w : WorldView R) (k : C) (writing : Writing) (x : List ℕ) → ArePutIn stream stands w w k k writing x x []
+  put-none w k writing x = record { plays = λ r reached here. (tt, here); text = λ r reached here. sym (append-nil x) }
 
-  put-then : (w w' w'' : WorldView R) (k k' k'' : C) (form : Form) (x y z : List ℕ) (es fs : List Event)
-      → ArePutIn stream stands w w' k k' form x y es → ArePutIn stream stands w' w'' k' k'' form y z fs
-      → ArePutIn stream stands w w'' k k'' form x z (es ++ fs)
-  put-then w w' w'' k k' k'' form x y z es fs first second = record {
+  put-then : (w w' w'' : WorldView R) (k k' k'' : C) (writing : Writing) (x y z : List ℕ) (es fs : List Event)
+      → ArePutIn stream stands w w' k k' writing x y es → ArePutIn stream stands w' w'' k' k'' writing y z fs
+      → ArePutIn stream stands w w'' k k'' writing x z (es ++ fs)
+  put-then w w' w'' k k' k'' writing x y z es fs first second = record {
     plays = λ r reached here. (
         let made = first.plays r reached here in
         let more = second.plays (beyond r es) (Reached-along r.moment es reached made.0) made.1 in (
@@ -257,12 +257,12 @@ module _ {R C : Type 0} (stream : R → Stream) (stands : C → List ℕ → Sta
     text = λ r reached here. (
         let made = first.plays r reached here in
         let s = r.moment.state in
-        let own = events_text form s es in
+        let own = events_text writing s es in
         second.text (beyond r es) (Reached-along r.moment es reached made.0) made.1
-        ∙ ap (λ t. t ++ events_text form (along r.moment es).state fs) (first.text r reached here)
-        ∙ append_assoc x own (events_text form (along r.moment es).state fs)
-        ∙ ap (λ (t : State). x ++ (own ++ events_text form t fs)) (along-state r.moment es)
-        ∙ ap (λ t. x ++ t) (sym (events_text-append form s es fs)));
+        ∙ ap (λ t. t ++ events_text writing (along r.moment es).state fs) (first.text r reached here)
+        ∙ append_assoc x own (events_text writing (along r.moment es).state fs)
+        ∙ ap (λ (t : State). x ++ (own ++ events_text writing t fs)) (along-state r.moment es)
+        ∙ ap (λ t. x ++ t) (sym (events_text-append writing s es fs)));
   }
 
   put-commit-plays : (w w' : WorldView R) (k k' : C) (parts : CommitValue) → w'.source ≡ w.source → Makes StandsFor w w' (commit parts ∷ [])
@@ -279,16 +279,16 @@ module _ {R C : Type 0} (stream : R → Stream) (stands : C → List ℕ → Sta
       )
 
   -- one commit with its line
-  pub put-commit : (w w' : WorldView R) (k k' : C) (form : Form) (x y : List ℕ) (parts : CommitValue) → w'.source ≡ w.source → Makes StandsFor w w' (commit parts ∷ [])
+  pub put-commit : (w w' : WorldView R) (k k' : C) (writing : Writing) (x y : List ℕ) (parts : CommitValue) → w'.source ≡ w.source → Makes StandsFor w w' (commit parts ∷ [])
       → Follows stands k k' (commit parts ∷ [])
-      → y ≡ x ++ commit_text form w.monitor.core.ticks (commit_answer parts w.monitor.core)
-      → ArePutIn stream stands w w' k k' form x y (commit parts ∷ [])
-  put-commit w w' k k' form x y parts source makes follow grew = record {
+      → y ≡ x ++ writing.commit w.monitor.core.ticks (commit_answer parts w.monitor.core)
+      → ArePutIn stream stands w w' k k' writing x y (commit parts ∷ [])
+  put-commit w w' k k' writing x y parts source makes follow grew = record {
     plays = put-commit-plays w w' k k' parts source makes follow;
     text = λ r reached here. (
         grew
-        ∙ ap (λ (q : Core). x ++ commit_text form q.ticks (commit_answer parts q)) here.world.state.monitor.same
-        ∙ ap (λ t. x ++ t) (sym (append-nil (event_text form r.moment.state (commit parts)))));
+        ∙ ap (λ (q : Core). x ++ writing.commit q.ticks (commit_answer parts q)) here.world.state.monitor.same
+        ∙ ap (λ t. x ++ t) (sym (append-nil (event_text writing r.moment.state (commit parts)))));
   }
 
   -- a world and callbacks that stood somewhere still do
@@ -302,39 +302,39 @@ module _ {R C : Type 0} (stream : R → Stream) (stands : C → List ℕ → Sta
 
 -- some of the commits that callbacks put in were made
 pub record PutsSoFar {R C : Type 0} (stream : R → Stream) (stands : C → List ℕ → State → Type 0) (pending : C → List Event)
-    (w w' : WorldView R) (k k' : C) (form : Form) (x y : List ℕ) : Type 0 where
+    (w w' : WorldView R) (k k' : C) (writing : Writing) (x y : List ℕ) : Type 0 where
   pub done : List Event
   pub split : pending k ≡ done ++ pending k'
-  pub made : ArePutIn stream stands w w' k k' form x y done
+  pub made : ArePutIn stream stands w w' k k' writing x y done
 
 module _ {R C : Type 0} (stream : R → Stream) (stands : C → List ℕ → State → Type 0) (pending : C → List Event) where
-  pub puts-none : (w : WorldView R) (k : C) (form : Form) (x : List ℕ) → PutsSoFar stream stands pending w w k k form x x
-  puts-none w k form x = record { done = []; split = refl; made = put-none stream stands w k form x }
+  pub puts-none : (w : WorldView R) (k : C) (writing : Writing) (x : List ℕ) → PutsSoFar stream stands pending w w k k writing x x
+  puts-none w k writing x = record { done = []; split = refl; made = put-none stream stands w k writing x }
 
-  pub puts-more : (w w' w'' : WorldView R) (k k' k'' : C) (form : Form) (x y z : List ℕ) (e : Event)
-      → PutsSoFar stream stands pending w w' k k' form x y → pending k' ≡ e ∷ pending k''
-      → ArePutIn stream stands w' w'' k' k'' form y z (e ∷ [])
-      → PutsSoFar stream stands pending w w'' k k'' form x z
-  puts-more w w' w'' k k' k'' form x y z e so_far next made = record {
+  pub puts-more : (w w' w'' : WorldView R) (k k' k'' : C) (writing : Writing) (x y z : List ℕ) (e : Event)
+      → PutsSoFar stream stands pending w w' k k' writing x y → pending k' ≡ e ∷ pending k''
+      → ArePutIn stream stands w' w'' k' k'' writing y z (e ∷ [])
+      → PutsSoFar stream stands pending w w'' k k'' writing x z
+  puts-more w w' w'' k k' k'' writing x y z e so_far next made = record {
     done = so_far.done ++ e ∷ [];
     split = so_far.split ∙ ap (λ es. so_far.done ++ es) next ∙ sym (append_assoc so_far.done (e ∷ []) (pending k''));
-    made = put-then stream stands w w' w'' k k' k'' form x y z so_far.done (e ∷ []) so_far.made made;
+    made = put-then stream stands w w' w'' k k' k'' writing x y z so_far.done (e ∷ []) so_far.made made;
   }
 
-  pub puts-all : (w w' : WorldView R) (k k' : C) (form : Form) (x y : List ℕ)
-      → PutsSoFar stream stands pending w w' k k' form x y → pending k' ≡ []
-      → ArePutIn stream stands w w' k k' form x y (pending k)
-  puts-all w w' k k' form x y so_far none =
+  pub puts-all : (w w' : WorldView R) (k k' : C) (writing : Writing) (x y : List ℕ)
+      → PutsSoFar stream stands pending w w' k k' writing x y → pending k' ≡ []
+      → ArePutIn stream stands w w' k k' writing x y (pending k)
+  puts-all w w' k k' writing x y so_far none =
       let all : so_far.done ≡ pending k = sym (so_far.split ∙ ap (λ es. so_far.done ++ es) none ∙ append-nil so_far.done) in
-      subst (λ es. ArePutIn stream stands w w' k k' form x y es) all so_far.made
+      subst (λ es. ArePutIn stream stands w w' k k' writing x y es) all so_far.made
 
   -- one commit more, with its line
-  pub puts-next : (w w' w'' : WorldView R) (k k' k'' : C) (form : Form) (x y z : List ℕ) (parts : CommitValue)
-      → PutsSoFar stream stands pending w w' k k' form x y → StandSomewhere stream stands w' k' → pending k' ≡ commit parts ∷ pending k''
+  pub puts-next : (w w' w'' : WorldView R) (k k' k'' : C) (writing : Writing) (x y z : List ℕ) (parts : CommitValue)
+      → PutsSoFar stream stands pending w w' k k' writing x y → StandSomewhere stream stands w' k' → pending k' ≡ commit parts ∷ pending k''
       → w''.source ≡ w'.source → Makes StandsFor w' w'' (commit parts ∷ []) → Follows stands k' k'' (commit parts ∷ [])
-      → z ≡ y ++ commit_text form w'.monitor.core.ticks (commit_answer parts w'.monitor.core)
-      → PutsSoFar stream stands pending w w'' k k'' form x z × StandSomewhere stream stands w'' k''
-  puts-next w w' w'' k k' k'' form x y z parts so_far there next source makes follow grew = (
-    puts-more w w' w'' k k' k'' form x y z (commit parts) so_far next (put-commit stream stands w' w'' k' k'' form y z parts source makes follow grew),
+      → z ≡ y ++ writing.commit w'.monitor.core.ticks (commit_answer parts w'.monitor.core)
+      → PutsSoFar stream stands pending w w'' k k'' writing x z × StandSomewhere stream stands w'' k''
+  puts-next w w' w'' k k' k'' writing x y z parts so_far there next source makes follow grew = (
+    puts-more w w' w'' k k' k'' writing x y z (commit parts) so_far next (put-commit stream stands w' w'' k' k'' writing y z parts source makes follow grew),
     somewhere-commit stream stands w' w'' k' k'' parts source makes follow there,
   )

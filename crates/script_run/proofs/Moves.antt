@@ -16,18 +16,20 @@ use Rattle.damon_world.specs.Moment.{Moment, events_of_steps, next_event}
 use Rattle.damon_world.specs.Plays.{Plays, along-state}
 use Rattle.damon_world.specs.Stands.{StandsAt, StandsFor, WorldView}
 use Rattle.damon_world.specs.Touches.{touches}
-use Rattle.snapshot_print.specs.Lines.{show_text}
+use Rattle.snapshot_print.specs.Forms.{writing_of}
 use Rattle.snapshot_print.specs.Printed.{printed_monitor, printed_monitor-stands, printed_state}
 use Rattle.script_run.specs.Callbacks.{AddInPlace, Callbacks, IsAlone, IsStep, remembered}
 use Rattle.script_run.specs.Calls.{Follows}
-use Rattle.script_run.specs.Course.{Course, Reached-onward, onward, onward-append}
+use Rattle.script_run.specs.Course.{Course, going_with, Reached-onward}
+use Rattle.script_run.specs.Going.{onward, onward-append}
+use Rattle.script_run.specs.Report.{events_text}
+use Rattle.script_run.specs.RunWith.{lines_after, text_from, text_from-append}
+use Rattle.script_run.specs.Unfold.{steps_until, stops_at}
 use Rattle.script_run.specs.Part as part
 use Rattle.script_run.specs.declared.part.Until.{Until}
 use Rattle.script_run.specs.Kept.{IsMade, KeepsFront, beyond}
-use Rattle.script_run.specs.Parts.{is_done, stops_at}
+use Rattle.script_run.specs.Parts.{is_done, part_events, parts_events}
 use Rattle.script_run.specs.Player.{GoesOnWith, IsAt, IsOverWith, PlayTogether, PlayerOf, WritesSomeWith, left_events}
-use Rattle.script_run.specs.Report.{events_text, lines_after, text_from, text_from-append}
-use Rattle.script_run.specs.Unfold.{part_events, parts_events, steps_until}
 use Rattle.script_run.proofs.Events.{NoneDue, all_steps, alone_onward, along-touches, none_due, none_stops, parts_events-done, parts_events-made, steps_alone, steps_until-due, steps_until-split, suc_not_zero, text_from-steps, text_from-touches, touches_alone}
 use Rattle.script_run.proofs.Making.{plays-follow, plays-then}
 
@@ -109,27 +111,27 @@ module _ {R C : Type 0} (stream : R → Stream) (c : Callbacks) (stands : C → 
   -- one part of the way and another
   pub on-then : (a b d : PlayerOf R C) (x y z : List ℕ) → GoesOnWith stream c stands a b x y → GoesOnWith stream c stands b d y z → GoesOnWith stream c stands a d x z
   on-then a b d x y z first second = record {
-    events = λ r. first.events r ++ second.events (onward c r (first.events r));
+    events = λ r. first.events r ++ second.events (onward (going_with c) r (first.events r));
     plays = plays-then stream c stands a.world b.world d.world a.callbacks b.callbacks d.callbacks first.events second.events first.plays second.plays;
     left = λ r reached here. (
         let es = first.events r in
-        let n = onward c r es in
+        let n = onward (going_with c) r es in
         let made = first.plays r reached here in
         let fs = second.events n in
         first.left r reached here
         ∙ ap (λ xs. es ++ xs) (second.left n (Reached-onward c r es reached made.0) made.1)
-        ∙ sym (append_assoc es fs (left_events c d (onward c n fs)))
-        ∙ ap (λ t. (es ++ fs) ++ left_events c d t) (sym (onward-append c r es fs)));
+        ∙ sym (append_assoc es fs (left_events c d (onward (going_with c) n fs)))
+        ∙ ap (λ t. (es ++ fs) ++ left_events c d t) (sym (onward-append (going_with c) r es fs)));
     text = λ r reached here. (
         let es = first.events r in
-        let n = onward c r es in
+        let n = onward (going_with c) r es in
         let made = first.plays r reached here in
         let fs = second.events n in
         second.text n (Reached-onward c r es reached made.0) made.1
-        ∙ ap (λ t. t ++ text_from c b.form n fs) (first.text r reached here)
-        ∙ append_assoc x (text_from c a.form r es) (text_from c b.form n fs)
-        ∙ ap (λ f. x ++ (text_from c a.form r es ++ text_from c f n fs)) first.form
-        ∙ ap (λ t. x ++ t) (sym (text_from-append c a.form r es fs)));
+        ∙ ap (λ t. t ++ text_from c (writing_of b.form) n fs) (first.text r reached here)
+        ∙ append_assoc x (text_from c (writing_of a.form) r es) (text_from c (writing_of b.form) n fs)
+        ∙ ap (λ f. x ++ (text_from c (writing_of a.form) r es ++ text_from c (writing_of f) n fs)) first.form
+        ∙ ap (λ t. x ++ t) (sym (text_from-append c (writing_of a.form) r es fs)));
     form = second.form ∙ first.form;
   }
 
@@ -137,13 +139,13 @@ module _ {R C : Type 0} (stream : R → Stream) (c : Callbacks) (stands : C → 
   pub on-writes : (a b : PlayerOf R C) (x y : List ℕ) → GoesOnWith stream c stands a b x y → WritesSomeWith stream c stands a x y
   on-writes a b x y on r reached here =
       let es = on.events r in
-      let n = onward c r es in
+      let n = onward (going_with c) r es in
       let rest = left_events c b n in
       record {
-        added = text_from c a.form r es;
-        unwritten = text_from c a.form n rest;
+        added = text_from c (writing_of a.form) r es;
+        unwritten = text_from c (writing_of a.form) n rest;
         gained = on.text r reached here;
-        parts = ap (text_from c a.form r) (on.left r reached here) ∙ text_from-append c a.form r es rest;
+        parts = ap (text_from c (writing_of a.form) r) (on.left r reached here) ∙ text_from-append c (writing_of a.form) r es rest;
       }
 
   -- nothing is left of a player's part where it stands
@@ -152,7 +154,7 @@ module _ {R C : Type 0} (stream : R → Stream) (c : Callbacks) (stands : C → 
 
   -- no command is left, and nothing of the one under way
   pub is_over : (p : PlayerOf R C) → p.later ≡ [] → is_done p.part p.world.monitor.core.phase ≡ true → IsOverWith stream c stands p
-  is_over p none done r here = parts_events-done c r p.part p.later (done_at p r here done) ∙ ap (parts_events c r) none
+  is_over p none done r here = parts_events-done c r p.part p.later (done_at p r here done) ∙ ap (parts_events (going_with c) r) none
 
   -- ---- what is made at once
 
@@ -167,21 +169,21 @@ module _ {R C : Type 0} (stream : R → Stream) (c : Callbacks) (stands : C → 
         callbacks = subst (λ k. stands k r.memory r.moment.state) (sym callbacks) here.callbacks;
       },
     );
-    left = λ r reached here. parts_events-done c r a.part a.later (done_at a r here done) ∙ ap (parts_events c r) later;
+    left = λ r reached here. parts_events-done c r a.part a.later (done_at a r here done) ∙ ap (parts_events (going_with c) r) later;
     text = λ r reached here. sym (append-nil text);
     form = form;
   }
 
   -- events of a part after which callbacks remember and add nothing, where a part is left after them
   alone_left : (in_place : AddInPlace c) (a b : PlayerOf R C) (r : Course) (es : List Event) → AllByRecursion IsAlone es → b.later ≡ a.later
-      → part_events c r a.part ≡ es ++ part_events c (beyond r es) b.part
-      → left_events c a r ≡ es ++ left_events c b (onward c r es)
+      → part_events (going_with c) r a.part ≡ es ++ part_events (going_with c) (beyond r es) b.part
+      → left_events c a r ≡ es ++ left_events c b (onward (going_with c) r es)
   alone_left in_place a b r es alone later is =
-      let all = is ∙ ap (λ q. es ++ part_events c q b.part) (sym (alone_onward c in_place r es alone)) in
-      parts_events-made c r es a.part b.part a.later all ∙ ap (λ ps. es ++ parts_events c (onward c r es) (b.part ∷ ps)) (sym later)
+      let all = is ∙ ap (λ q. es ++ part_events (going_with c) q b.part) (sym (alone_onward c in_place r es alone)) in
+      parts_events-made c r es a.part b.part a.later all ∙ ap (λ ps. es ++ parts_events (going_with c) (onward (going_with c) r es) (b.part ∷ ps)) (sym later)
 
   -- a show
-  pub show_made : (in_place : AddInPlace c) (a b : PlayerOf R C) (x y : List ℕ) → a.part ≡ part.Show → b.part ≡ part.Touches 0 0 → b.later ≡ a.later → b.form ≡ a.form → b.world ≡ a.world → b.callbacks ≡ a.callbacks → y ≡ x ++ show_text a.form (printed_monitor a.world.monitor) → GoesOnWith stream c stands a b x y
+  pub show_made : (in_place : AddInPlace c) (a b : PlayerOf R C) (x y : List ℕ) → a.part ≡ part.Show → b.part ≡ part.Touches 0 0 → b.later ≡ a.later → b.form ≡ a.form → b.world ≡ a.world → b.callbacks ≡ a.callbacks → y ≡ x ++ (writing_of a.form).show (printed_monitor a.world.monitor) → GoesOnWith stream c stands a b x y
   show_made in_place a b x y old new later form world callbacks grew = record {
     events = λ r. es;
     plays =
@@ -189,15 +191,15 @@ module _ {R C : Type 0} (stream : R → Stream) (c : Callbacks) (stands : C → 
         (λ m reached here. ((tt, tt), subst (λ w. StandsAt stream w m) (sym world) here))
         (λ r reached here. (tt, tt))
         (λ r reached here memory s there stood fit. subst (λ k. stands k memory s) (sym callbacks) stood);
-    left = λ r reached here. alone_left in_place a b r es (tt, tt) later (ap (part_events c r) old ∙ ap (λ q. es ++ part_events c (beyond r es) q) (sym new));
+    left = λ r reached here. alone_left in_place a b r es (tt, tt) later (ap (part_events (going_with c) r) old ∙ ap (λ q. es ++ part_events (going_with c) (beyond r es) q) (sym new));
     text = λ r reached here. (
         let s = r.moment.state in
-        let own = show_text a.form (printed_state s) in
+        let own = (writing_of a.form).show (printed_state s) in
         grew
-        ∙ ap (λ p. x ++ show_text a.form p) (printed_monitor-stands a.world.monitor s here.world.state.monitor)
+        ∙ ap (λ p. x ++ (writing_of a.form).show p) (printed_monitor-stands a.world.monitor s here.world.state.monitor)
         ∙ ap (λ t. x ++ t) (sym (append-nil own))
         ∙ ap (λ t. x ++ (own ++ (t ++ []))) (sym (in_place.writes (remembered c r.memory s show) s show tt))
-        ∙ ap (λ ps. x ++ (own ++ (lines_after c r show ++ (events_text a.form s ps ++ [])))) (sym (in_place.puts (remembered c r.memory s show) s show tt)));
+        ∙ ap (λ ps. x ++ (own ++ (lines_after c r show ++ (events_text (writing_of a.form) s ps ++ [])))) (sym (in_place.puts (remembered c r.memory s show) s show tt)));
     form = form;
   }
     where
@@ -210,9 +212,9 @@ module _ {R C : Type 0} (stream : R → Stream) (c : Callbacks) (stands : C → 
     events = λ r. es;
     plays = touches_play in_place a.world b.world a.callbacks b.callbacks page count source makes follow;
     left = λ r reached here. (
-        let none : part_events c (beyond r es) b.part ≡ [] = ap (part_events c (beyond r es)) new in
-        alone_left in_place a b r es (touches_alone page count) later (ap (part_events c r) old ∙ sym (append-nil es) ∙ ap (λ fs. es ++ fs) (sym none)));
-    text = λ r reached here. sym (ap (λ t. text ++ t) (text_from-touches c in_place a.form r page count) ∙ append-nil text);
+        let none : part_events (going_with c) (beyond r es) b.part ≡ [] = ap (part_events (going_with c) (beyond r es)) new in
+        alone_left in_place a b r es (touches_alone page count) later (ap (part_events (going_with c) r) old ∙ sym (append-nil es) ∙ ap (λ fs. es ++ fs) (sym none)));
+    text = λ r reached here. sym (ap (λ t. text ++ t) (text_from-touches c in_place (writing_of a.form) r page count) ∙ append-nil text);
     form = form;
   }
     where
@@ -227,7 +229,7 @@ module _ {R C : Type 0} (stream : R → Stream) (c : Callbacks) (stands : C → 
 
   -- the events that are left before steps of one kind and after them
   steps_left : (in_place : AddInPlace c) (a b : PlayerOf R C) (u : Until) (most n : ℕ) → a.part ≡ part.Steps u most → b.part ≡ part.Steps u (most - n) → b.later ≡ a.later → n ≤ most → is_done a.part a.world.monitor.core.phase ≡ false → (a.world.monitor.core.phase ≡ Due → ⊥) → ((m : Moment) → Reached m.state → StandsAt stream a.world m → AreAmid n m)
-      → (r : Course) → Reached r.moment.state → IsAt stream stands a r → (let es = events_of_steps n r.moment in left_events c a r ≡ es ++ left_events c b (onward c r es))
+      → (r : Course) → Reached r.moment.state → IsAt stream stands a r → (let es = events_of_steps n r.moment in left_events c a r ≡ es ++ left_events c b (onward (going_with c) r es))
   steps_left in_place a b u most n old new later within going early amid r reached here =
       let m = r.moment in
       let es = events_of_steps n m in
@@ -236,10 +238,10 @@ module _ {R C : Type 0} (stream : R → Stream) (c : Callbacks) (stands : C → 
       let index : most ≡ n + (most - n) = omega (arith, within) in
       let none = not_due a.world n early amid m reached here.world in
       alone_left in_place a b r es (steps_alone es (all_steps n m none)) later
-      (ap (part_events c r) old
-      ∙ ap (λ i. steps_until c u i r) index
+      (ap (part_events (going_with c) r) old
+      ∙ ap (λ i. steps_until (going_with c) u i r) index
       ∙ steps_until-split c in_place u n (most - n) r none (none_stops u n m now (amid m reached here.world))
-      ∙ ap (λ q. es ++ part_events c (beyond r es) q) (sym new))
+      ∙ ap (λ q. es ++ part_events (going_with c) (beyond r es) q) (sym new))
 
   -- steps of one kind
   pub steps_made : (in_place : AddInPlace c) (a b : PlayerOf R C) (text : List ℕ) (u : Until) (most n : ℕ) → a.part ≡ part.Steps u most → b.part ≡ part.Steps u (most - n) → b.later ≡ a.later → b.form ≡ a.form → n ≤ most → is_done a.part a.world.monitor.core.phase ≡ false → (a.world.monitor.core.phase ≡ Due → ⊥) → Plays stream a.world b.world (λ m. events_of_steps n m) → ((m : Moment) → Reached m.state → StandsAt stream a.world m → AreAmid n m)
@@ -250,26 +252,26 @@ module _ {R C : Type 0} (stream : R → Stream) (c : Callbacks) (stands : C → 
     left = steps_left in_place a b u most n old new later within going early amid;
     text = λ r reached here. (
         let steps = all_steps n r.moment (not_due a.world n early amid r.moment reached here.world) in
-        sym (ap (λ t. text ++ t) (text_from-steps c in_place a.form r (events_of_steps n r.moment) steps) ∙ append-nil text));
+        sym (ap (λ t. text ++ t) (text_from-steps c in_place (writing_of a.form) r (events_of_steps n r.moment) steps) ∙ append-nil text));
     form = form;
   }
 
   -- the next command is a commit
-  pub commit_made : (a b : PlayerOf R C) (x y : List ℕ) (parts : CommitValue) → is_done a.part a.world.monitor.core.phase ≡ true → a.later ≡ part.Commit parts ∷ b.later → b.part ≡ part.Touches 0 0 → b.form ≡ a.form → IsMade stream c stands a.world b.world a.callbacks b.callbacks a.form x y (λ r. commit parts ∷ []) → GoesOnWith stream c stands a b x y
+  pub commit_made : (a b : PlayerOf R C) (x y : List ℕ) (parts : CommitValue) → is_done a.part a.world.monitor.core.phase ≡ true → a.later ≡ part.Commit parts ∷ b.later → b.part ≡ part.Touches 0 0 → b.form ≡ a.form → IsMade stream c stands a.world b.world a.callbacks b.callbacks (writing_of a.form) x y (λ r. commit parts ∷ []) → GoesOnWith stream c stands a b x y
   commit_made a b x y parts done later new form made = record {
     events = λ r. commit parts ∷ [];
     plays = made.plays;
     left = λ r reached here. (
         let es : List Event = commit parts ∷ [] in
         parts_events-done c r a.part a.later (done_at a r here done)
-        ∙ ap (parts_events c r) later
-        ∙ ap (λ q. es ++ parts_events c (onward c r es) (q ∷ b.later)) (sym new));
+        ∙ ap (parts_events (going_with c) r) later
+        ∙ ap (λ q. es ++ parts_events (going_with c) (onward (going_with c) r es) (q ∷ b.later)) (sym new));
     text = made.text;
     form = form;
   }
 
   -- the aggregation that is due
-  pub aggregate_made : (a b : PlayerOf R C) (x y : List ℕ) (u : Until) (most : ℕ) → a.part ≡ part.Steps u most → b.part ≡ part.Steps u (most - 1) → b.later ≡ a.later → b.form ≡ a.form → 1 ≤ most → is_done a.part a.world.monitor.core.phase ≡ false → IsMade stream c stands a.world b.world a.callbacks b.callbacks a.form x y (λ r. next_event r.moment.state r.moment.stream ∷ []) → GoesOnWith stream c stands a b x y
+  pub aggregate_made : (a b : PlayerOf R C) (x y : List ℕ) (u : Until) (most : ℕ) → a.part ≡ part.Steps u most → b.part ≡ part.Steps u (most - 1) → b.later ≡ a.later → b.form ≡ a.form → 1 ≤ most → is_done a.part a.world.monitor.core.phase ≡ false → IsMade stream c stands a.world b.world a.callbacks b.callbacks (writing_of a.form) x y (λ r. next_event r.moment.state r.moment.stream ∷ []) → GoesOnWith stream c stands a b x y
   aggregate_made a b x y u most old new later form some going made = record {
     events = λ r. next_event r.moment.state r.moment.stream ∷ [];
     plays = made.plays;
@@ -278,12 +280,12 @@ module _ {R C : Type 0} (stream : R → Stream) (c : Callbacks) (stands : C → 
         let begun : stops_at u a.world.monitor.core.phase ≡ false = first_goes most (stops_at u a.world.monitor.core.phase) (ap (λ q. is_done q a.world.monitor.core.phase) (sym old) ∙ going) in
         let now : stops_at u r.moment.state.core.phase ≡ false = ap (λ (q : Core). stops_at u q.phase) (sym here.world.state.monitor.same) ∙ begun in
         let index : most ≡ suc (most - 1) = omega (arith, some) in
-        let all : part_events c r a.part ≡ es ++ part_events c (onward c r es) b.part =
-        ap (part_events c r) old
-        ∙ ap (λ i. steps_until c u i r) index
+        let all : part_events (going_with c) r a.part ≡ es ++ part_events (going_with c) (onward (going_with c) r es) b.part =
+        ap (part_events (going_with c) r) old
+        ∙ ap (λ i. steps_until (going_with c) u i r) index
         ∙ steps_until-due c u (most - 1) r now
-        ∙ ap (λ q. es ++ part_events c (onward c r es) q) (sym new) in
-        parts_events-made c r es a.part b.part a.later all ∙ ap (λ ps. es ++ parts_events c (onward c r es) (b.part ∷ ps)) (sym later));
+        ∙ ap (λ q. es ++ part_events (going_with c) (onward (going_with c) r es) q) (sym new) in
+        parts_events-made c r es a.part b.part a.later all ∙ ap (λ ps. es ++ parts_events (going_with c) (onward (going_with c) r es) (b.part ∷ ps)) (sym later));
     text = made.text;
     form = form;
   }

@@ -17,11 +17,9 @@ use Rattle.damon_core.specs.State.{State, row_count}
 use Rattle.damon_world.specs.Moment.{Moment, along, event_in, moved, next_event}
 use Rattle.script_run.specs.declared.part.Until.{Until}
 use Rattle.script_run.specs.declared.part.Until.TheVariants as until
-use Rattle.script_run.specs.Callbacks.{no_callbacks}
-use Rattle.script_run.specs.Course.{plain}
-use Rattle.script_run.specs.Parts.{stops_at}
+use Rattle.script_run.specs.Going.{plain}
+use Rattle.script_run.specs.Unfold.{steps_until, stops_at}
 use Rattle.script_run.specs.Reaching.{ReachTheirPhase}
-use Rattle.script_run.specs.Unfold.{steps_until}
 use Rattle.script_run.proofs.Fits.{after-cap, next_fits}
 
 -- steps that stop at a phase
@@ -206,7 +204,7 @@ lead_unless phase false m es here more = more refl
 
 module _ (in_phase : (s : State) → Reached s → IsInPhase s) where
   steps_lead : (u : Until) (n : ℕ) (m : Moment) (cap : ℕ) → Stops u → Reached m.state → m.state.core.regions.cap ≡ cap → distance u m.state.core.phase (row_count m.state.core) cap ≤ n
-      → (along m (steps_until no_callbacks u n (plain m))).state.core.phase ≡ target u
+      → (along m (steps_until plain u n m)).state.core.phase ≡ target u
   steps_lead u zero m cap stops reached same near = there u m.state.core.phase (row_count m.state.core) cap stops (in_phase m.state reached).pick near
   steps_lead u (suc n) m cap stops reached same near =
       let s = m.state in
@@ -216,7 +214,7 @@ module _ (in_phase : (s : State) → Reached s → IsInPhase s) where
       let fits = next_fits ph s m.stream refl within in
       let next : Reached (after s e) = Reached-run s (e ∷ []) reached (fits, tt) in
       let kept : (after s e).core.regions.cap ≡ cap = after-cap s e ∙ same in
-      lead_unless (target u) (stops_at u ph) m (e ∷ steps_until no_callbacks u n (plain (moved m e))) (stopped u ph) (λ goes.
+      lead_unless (target u) (stops_at u ph) m (e ∷ steps_until plain u n (moved m e)) (stopped u ph) (λ goes.
       let down = nearer u ph (row_count s.core) (row_count (after s e).core) cap s.core.since s.core.attrs.aggr stops within.some (omega (arith, within.few, same)) (omega (arith, (in_phase (after s e) next).few, kept)) within.pick goes (rows_stay ph s m.stream) in
       let less : distance u (after s e).core.phase (row_count (after s e).core) cap + 1 ≤ distance u ph (row_count s.core) cap =
       subst (λ p. distance u p (row_count (after s e).core) cap + 1 ≤ distance u ph (row_count s.core) cap) (sym (phase_is ph s m.stream refl)) down in
@@ -239,7 +237,7 @@ module _ (in_phase : (s : State) → Reached s → IsInPhase s) where
   far until.Idle Due rows cap stops few = omega (arith, few)
 
   -- the steps of arm and of finish lead to where they stop
-  ends_at : (u : Until) (m : Moment) → Stops u → Reached m.state → (along m (steps_until no_callbacks u (2 * m.state.core.regions.cap + 3) (plain m))).state.core.phase ≡ target u
+  ends_at : (u : Until) (m : Moment) → Stops u → Reached m.state → (along m (steps_until plain u (2 * m.state.core.regions.cap + 3) m)).state.core.phase ≡ target u
   ends_at u m stops reached =
       let cap = m.state.core.regions.cap in
       steps_lead u (2 * cap + 3) m cap stops reached refl (far u m.state.core.phase (row_count m.state.core) cap stops (in_phase m.state reached).few)

@@ -7,13 +7,14 @@ use Rattle.damon_core.specs.Reached.{AllFit, Reached}
 use Rattle.damon_core.specs.State.{State}
 use Rattle.damon_world.specs.Moment.{along}
 use Rattle.damon_world.specs.Stands.{WorldView}
-use Rattle.snapshot_print.specs.declared.form.Form.{Form}
+use Rattle.snapshot_print.specs.Writing.{Writing}
 use Rattle.script_run.specs.Callbacks.{Callbacks}
 use Rattle.script_run.specs.Course.{Course}
 use Rattle.script_run.specs.Part.{Part}
 use Rattle.script_run.specs.Part as part
 use Rattle.script_run.specs.Player.{PlayTogether, StandAt, left_in}
-use Rattle.script_run.specs.Report.{events_text, text_from}
+use Rattle.script_run.specs.Report.{events_text}
+use Rattle.script_run.specs.RunWith.{text_from}
 
 -- the pages of a part are below this number
 abbrev pub IsPartWithin : ℕ → Part → Type 0
@@ -40,10 +41,10 @@ pub record IsPlayer {R C : Type 0} (stream : R → Stream) (stands : C → List 
 
 -- a world and callbacks made these events of the script together, with those that are put in, and the text grew by theirs
 pub record IsMade {R C : Type 0} (stream : R → Stream) (c : Callbacks) (stands : C → List ℕ → State → Type 0) (w w' : WorldView R) (k k' : C)
-    (form : Form) (before after : List ℕ) (events : Course → List Event) : Type 0 where
+    (writing : Writing) (before after : List ℕ) (events : Course → List Event) : Type 0 where
   pub plays : PlayTogether stream c stands w w' k k' events
   pub text : (r : Course) → Reached r.moment.state → StandAt stream stands w k r
-      → after ≡ before ++ text_from c form r (events r)
+      → after ≡ before ++ text_from c writing r (events r)
 
 -- the course after events of which nothing is remembered
 abbrev pub beyond : Course → List Event → Course
@@ -51,11 +52,11 @@ beyond r es = record { moment = along r.moment es; memory = r.memory }
 
 -- a world and callbacks made these events together, which are put in, and the text grew by theirs
 pub record ArePutIn {R C : Type 0} (stream : R → Stream) (stands : C → List ℕ → State → Type 0) (w w' : WorldView R) (k k' : C)
-    (form : Form) (before after : List ℕ) (events : List Event) : Type 0 where
+    (writing : Writing) (before after : List ℕ) (events : List Event) : Type 0 where
   pub plays : (r : Course) → Reached r.moment.state → StandAt stream stands w k r
       → AllFit r.moment.state events × StandAt stream stands w' k' (beyond r events)
   pub text : (r : Course) → Reached r.moment.state → StandAt stream stands w k r
-      → after ≡ before ++ events_text form r.moment.state events
+      → after ≡ before ++ events_text writing r.moment.state events
 
 -- a text keeps what it began with
 abbrev pub KeepsFront : List ℕ → List ℕ → Type 0

@@ -1,10 +1,13 @@
 pub mod Part
+pub mod Going
+pub mod Unfold
 pub mod Parts
+pub mod Report
 pub mod Callbacks
 pub mod Calls
 pub mod Course
-pub mod Unfold
-pub mod Report
+pub mod RunWith
+pub mod Alone
 pub mod Player
 pub mod Kept
 pub mod Way

@@ -1,28 +1,16 @@
 -- Commands as parts: what is made of a command is its events, and what is left of it is again a part.
-use Rattle.std.specs.Prelude.{ℕ, ◌+◌, ◌-◌, ◌*◌, ◌||◌, ◌==◌, Bool, true, false, List, map}
+use Rattle.std.specs.Prelude.{◌≡◌, ℕ, ◌-◌, ◌||◌, ◌==◌, Bool, true, false, List, [], ◌∷◌, ◌++◌, map, refl}
+use Rattle.std.proofs.Common.{◌∙◌, ap}
 use Rattle.live_commit.specs.declared.phase.Phase.{Phase}
-use Rattle.live_commit.specs.declared.phase.Phase.TheVariants.{Idle, Armed}
+use Rattle.damon_core.specs.Event.{Event, commit, show}
+use Rattle.damon_world.specs.Touches.{touches}
 use Rattle.script_lines.specs.Command.{CommandValue, Touch, Sweep, Step, Arm, Finish, Show, Commit}
+use Rattle.script_run.specs.Going.{Going, onward}
 use Rattle.script_run.specs.Part.{Part}
 use Rattle.script_run.specs.Part as part
 use Rattle.script_run.specs.declared.part.Until.{Until}
 use Rattle.script_run.specs.declared.part.Until.TheVariants as until
-
--- whether each pick of a pass is cleared
-abbrev pub is_armed : Phase → Bool
-is_armed Armed = true
-is_armed _ = false
-
--- whether no pass is under way
-abbrev pub is_idle : Phase → Bool
-is_idle Idle = true
-is_idle _ = false
-
--- whether steps stop at a phase
-abbrev pub stops_at : Until → Phase → Bool
-stops_at until.Count phase = false
-stops_at until.Armed phase = is_armed phase
-stops_at until.Idle phase = is_idle phase
+use Rattle.script_run.specs.Unfold.{command_events, commands_events, pass_limit, steps_until, stops_at}
 
 -- whether no event of a part is left
 abbrev pub is_done : Part → Phase → Bool
@@ -30,10 +18,6 @@ is_done (part.Touches page count) phase = count == 0
 is_done (part.Steps until most) phase = (most == 0) || stops_at until phase
 is_done part.Show phase = false
 is_done (part.Commit parts) phase = false
-
--- the most steps that the arming or the finishing of a pass takes, under a cap
-abbrev pub pass_limit : ℕ → ℕ
-pass_limit cap = 2 * cap + 3
 
 -- a command before its first event, under a cap
 abbrev pub part_of : ℕ → CommandValue → Part
@@ -48,3 +32,34 @@ part_of cap (Commit parts) = part.Commit parts
 -- commands before their first event
 abbrev pub parts_of : ℕ → List CommandValue → List Part
 parts_of cap commands = map (part_of cap) commands
+
+-- the events of a part, from a place of a run
+abbrev pub part_events : {A : Type 0} → Going A → A → Part → List Event
+part_events g a (part.Touches page count) = touches page count
+part_events g a (part.Steps until most) = steps_until g until most a
+part_events g a part.Show = show ∷ []
+part_events g a (part.Commit parts) = commit parts ∷ []
+
+-- the same of parts one after another
+abbrev pub parts_events : {A : Type 0} → Going A → A → List Part → List Event
+parts_events g a [] = []
+parts_events g a (p ∷ ps) = let es = part_events g a p in es ++ parts_events g (onward g a es) ps
+
+-- the events of a command are those of its part
+command_is_part : {A : Type 0} (g : Going A) (cap : ℕ) (a : A) (c : CommandValue) → command_events g cap a c ≡ part_events g a (part_of cap c)
+command_is_part g cap a (Touch page) = refl
+command_is_part g cap a (Sweep from to) = refl
+command_is_part g cap a (Step times) = refl
+command_is_part g cap a Arm = refl
+command_is_part g cap a Finish = refl
+command_is_part g cap a Show = refl
+command_is_part g cap a (Commit parts) = refl
+
+-- the same of commands
+pub commands_are_parts : {A : Type 0} (g : Going A) (cap : ℕ) (a : A) (cs : List CommandValue)
+    → commands_events g cap a cs ≡ parts_events g a (parts_of cap cs)
+commands_are_parts g cap a [] = refl
+commands_are_parts g cap a (c ∷ cs) =
+    let es = command_events g cap a c in
+    ap (λ fs. es ++ fs) (commands_are_parts g cap (onward g a es) cs)
+    ∙ ap (λ (fs : List Event). fs ++ parts_events g (onward g a fs) (parts_of cap cs)) (command_is_part g cap a c)

@@ -3,18 +3,23 @@ use Rattle.std.specs.Prelude.{◌≡◌, ℕ, List, [], ◌∷◌, ◌++◌, ref
 use Rattle.std.proofs.Common.{◌∙◌, ap, sym, subst, append-nil, append_assoc}
 use Rattle.std.proofs.lemmas.List.{map-append}
 use Rattle.rand_core.specs.Stream.{Stream}
-use Rattle.damon_core.specs.State.{State}
+use Rattle.damon_core.specs.State.{State, opening}
 use Rattle.damon_world.specs.Stands.{StandsFor}
 use Rattle.script_lines.specs.Command.{CommandValue}
 use Rattle.damon_control.specs.Script.{ScriptValue}
 use Rattle.snapshot_print.specs.declared.form.Form.{Form}
+use Rattle.snapshot_print.specs.Forms.{writing_of}
+use Rattle.snapshot_print.specs.Writing.{Writing}
+use Rattle.script_run.specs.Alone.{own_events-alone, text_from-alone}
 use Rattle.script_run.specs.Callbacks.{Callbacks, no_callbacks}
-use Rattle.script_run.specs.Course.{Course, onward, onward-append}
+use Rattle.script_run.specs.Course.{going_with}
+use Rattle.script_run.specs.Going.{Going, onward, onward-append}
 use Rattle.script_run.specs.Part.{Part}
-use Rattle.script_run.specs.Parts.{is_done, part_of, parts_of}
+use Rattle.script_run.specs.Parts.{commands_are_parts, is_done, part_events, part_of, parts_events, parts_of}
 use Rattle.script_run.specs.Player.{AnyState, GoesOnWith, IsOver, IsOverWith, PlayerOf, PlayerView, WritesLast, left_events}
-use Rattle.script_run.specs.Report.{last_state, report, text_from}
-use Rattle.script_run.specs.Unfold.{own_events, part_events, parts_events, start_with}
+use Rattle.script_run.specs.Report.{events_text, last_state, report}
+use Rattle.script_run.specs.RunWith.{own_events, start_with, text_from}
+use Rattle.script_run.specs.Unfold.{unfold_script}
 use Rattle.script_run.specs.Way.{IsOnItsWay, way-finished, way-last, way-on}
 
 -- a player of which other commands follow the one under way
@@ -49,8 +54,8 @@ abbrev pub up_to : ScriptValue → List CommandValue → ScriptValue
 up_to s commands = record s { commands = commands }
 
 -- what the commands of a script write: its report without the last line
-abbrev pub commands_text : Form → ScriptValue → List ℕ
-commands_text f s = text_from no_callbacks f (start_with no_callbacks s) (own_events no_callbacks s)
+abbrev pub commands_text : Writing → ScriptValue → List ℕ
+commands_text w s = events_text w (opening s.setup) (unfold_script s)
 
 -- A player that carried out these commands of the script, the first ones, and nothing of another; this is their text, and the
 -- other commands are left.
@@ -64,37 +69,31 @@ pub record HasPlayed {R : Type 0} (stream : R → Stream) (s : ScriptValue) (f :
   pub later : p.later ≡ parts_of s.setup.cap rest
 
 -- the events of parts and then others
-pub parts_events-append : (c : Callbacks) (r : Course) (ps qs : List Part)
-    → parts_events c r (ps ++ qs) ≡ parts_events c r ps ++ parts_events c (onward c r (parts_events c r ps)) qs
-parts_events-append c r [] qs = refl
-parts_events-append c r (p ∷ ps) qs =
-    let es = part_events c r p in
-    let q = onward c r es in
-    let fs = parts_events c q ps in
-    ap (λ xs. es ++ xs) (parts_events-append c q ps qs)
-    ∙ sym (append_assoc es fs (parts_events c (onward c q fs) qs))
-    ∙ ap (λ x. (es ++ fs) ++ parts_events c x qs) (sym (onward-append c r es fs))
-
--- the events of one command more
-pub own_events-more : (s : ScriptValue) (cs : List CommandValue) (d : CommandValue)
-    → (let es = own_events no_callbacks (up_to s cs) in
-    own_events no_callbacks (up_to s (cs ++ d ∷ []))
-    ≡ es ++ parts_events no_callbacks (onward no_callbacks (start_with no_callbacks s) es) (part_of s.setup.cap d ∷ []))
-own_events-more s cs d =
-    let first = start_with no_callbacks s in
-    ap (parts_events no_callbacks first) (map-append (part_of s.setup.cap) cs (d ∷ []))
-    ∙ parts_events-append no_callbacks first (parts_of s.setup.cap cs) (part_of s.setup.cap d ∷ [])
+pub parts_events-append : {A : Type 0} (g : Going A) (a : A) (ps qs : List Part)
+    → parts_events g a (ps ++ qs) ≡ parts_events g a ps ++ parts_events g (onward g a (parts_events g a ps)) qs
+parts_events-append g a [] qs = refl
+parts_events-append g a (p ∷ ps) qs =
+    let es = part_events g a p in
+    let b = onward g a es in
+    let fs = parts_events g b ps in
+    ap (λ xs. es ++ xs) (parts_events-append g b ps qs)
+    ∙ sym (append_assoc es fs (parts_events g (onward g b fs) qs))
+    ∙ ap (λ x. (es ++ fs) ++ parts_events g x qs) (sym (onward-append g a es fs))
 
 module _ {R : Type 0} (stream : R → Stream) (s : ScriptValue) (f : Form) where
   -- all that was written is the text of the commands that were carried out
   pub played-text : (cs : List CommandValue) (p : PlayerView R) (text : List ℕ) → HasPlayed stream s f cs p text
-      → text ≡ commands_text f (up_to s cs)
+      → text ≡ commands_text (writing_of f) (up_to s cs)
   played-text cs p text played =
       let way = played.way in
+      let w = writing_of f in
       let first = start_with no_callbacks s in
       let all : own_events no_callbacks (up_to s cs) ≡ way.made =
-      way.left ∙ ap (λ es. way.made ++ es) (played.over (onward no_callbacks first way.made) way.stands) ∙ append-nil way.made in
-      way.written ∙ ap (text_from no_callbacks f first) (sym all)
+      way.left ∙ ap (λ es. way.made ++ es) (played.over (onward (going_with no_callbacks) first way.made) way.stands) ∙ append-nil way.made in
+      way.written
+      ∙ ap (text_from no_callbacks w first) (sym all)
+      ∙ text_from-alone w first (own_events no_callbacks (up_to s cs))
+      ∙ ap (events_text w (opening s.setup)) (own_events-alone (up_to s cs))
 
   -- the player stands for the state after these commands
   pub played-state : (cs : List CommandValue) (p : PlayerView R) (text : List ℕ) → HasPlayed stream s f cs p text
@@ -106,23 +105,27 @@ module _ {R : Type 0} (stream : R → Stream) (s : ScriptValue) (f : Form) where
       → IsOnItsWay stream (up_to s (cs ++ d ∷ [])) f (with_later p (part_of s.setup.cap d ∷ [])) text
   more_allowed cs d p text played =
       let c = no_callbacks in
+      let g = going_with c in
       let way = played.way in
       let first = start_with c s in
-      let r = onward c first way.made in
+      let r = onward g first way.made in
       let next : List Part = part_of s.setup.cap d ∷ [] in
       let none = left_events c (with_later p []) r in
-      let made_all : own_events c (up_to s cs) ≡ way.made ++ none = way.left in
+      let made_all : parts_events g first (parts_of s.setup.cap cs) ≡ way.made ++ none =
+      sym (commands_are_parts g s.setup.cap first cs) ∙ way.left in
       record {
         can_open = way.can_open;
         made = way.made;
         fit = way.fit;
         stands = way.stands;
         left =
-            own_events-more s cs d
-            ∙ ap (λ es. es ++ parts_events c (onward c first es) next) made_all
-            ∙ append_assoc way.made none (parts_events c (onward c first (way.made ++ none)) next)
-            ∙ ap (λ x. way.made ++ (none ++ parts_events c x next)) (onward-append c first way.made none)
-            ∙ ap (λ es. way.made ++ es) (sym (parts_events-append c r (p.part ∷ []) next));
+            commands_are_parts g s.setup.cap first (cs ++ d ∷ [])
+            ∙ ap (parts_events g first) (map-append (part_of s.setup.cap) cs (d ∷ []))
+            ∙ parts_events-append g first (parts_of s.setup.cap cs) next
+            ∙ ap (λ es. es ++ parts_events g (onward g first es) next) made_all
+            ∙ append_assoc way.made none (parts_events g (onward g first (way.made ++ none)) next)
+            ∙ ap (λ x. way.made ++ (none ++ parts_events g x next)) (onward-append g first way.made none)
+            ∙ ap (λ es. way.made ++ es) (sym (parts_events-append g r (p.part ∷ []) next));
         written = way.written;
         form = way.form;
       }
@@ -158,7 +161,7 @@ module _ {R : Type 0} (stream : R → Stream) (s : ScriptValue) (f : Form) where
 
   -- once all commands are played, the last line ends the report
   pub played-report : (p : PlayerView R) (text last : List ℕ) → HasPlayed stream s f s.commands p text → WritesLast stream p [] last
-      → text ++ last ≡ report f s
+      → text ++ last ≡ report (writing_of f) s
   played-report p text last played ends =
       let q = with_later p [] in
       way-finished stream s f q text [] last (subst (IsOnItsWay stream s f q) (sym (append-nil text)) played.way) played.over ends

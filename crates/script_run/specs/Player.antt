@@ -6,13 +6,15 @@ use Rattle.damon_core.specs.Reached.{AllFit, Reached}
 use Rattle.damon_core.specs.State.{State}
 use Rattle.damon_world.specs.Stands.{WorldView, StandsAt}
 use Rattle.snapshot_print.specs.declared.form.Form.{Form}
+use Rattle.snapshot_print.specs.Forms.{writing_of}
 use Rattle.script_run.specs.declared.callbacks.NoCallbacks.{NoCallbacks}
 use Rattle.script_run.specs.Callbacks.{Callbacks, no_callbacks}
-use Rattle.script_run.specs.Course.{Course, onward, with_puts}
+use Rattle.script_run.specs.Course.{Course, going_with, with_puts}
+use Rattle.script_run.specs.Going.{onward}
 use Rattle.script_run.specs.Part.{Part}
 use Rattle.script_run.specs.Part as part
-use Rattle.script_run.specs.Unfold.{parts_events}
-use Rattle.script_run.specs.Report.{last_text_with, text_from}
+use Rattle.script_run.specs.Parts.{parts_events}
+use Rattle.script_run.specs.RunWith.{last_text_with, text_from}
 
 -- A player: its world, the callbacks of its owner, the form of its text, what is left of the command under way, and the
 -- commands after it.
@@ -40,7 +42,7 @@ pub record StandAt {R C : Type 0} (stream : R → Stream) (stands : C → List �
 -- afterwards they stand at the course after them.
 abbrev pub PlayTogether : {R C : Type 0} → (R → Stream) → Callbacks → (C → List ℕ → State → Type 0) → WorldView R → WorldView R → C → C → (Course → List Event) → Type 0
 PlayTogether stream c stands w w' k k' events = (r : Course) → Reached r.moment.state → StandAt stream stands w k r
-    → AllFit r.moment.state (with_puts c r (events r)) × StandAt stream stands w' k' (onward c r (events r))
+    → AllFit r.moment.state (with_puts c r (events r)) × StandAt stream stands w' k' (onward (going_with c) r (events r))
 
 -- a player stands at a course with its callbacks
 abbrev pub IsAt : {R C : Type 0} → (R → Stream) → (C → List ℕ → State → Type 0) → PlayerOf R C → Course → Type 0
@@ -48,11 +50,11 @@ IsAt stream stands p r = StandAt stream stands p.world p.callbacks r
 
 -- the script's own events that are left, from the course at which the player stands
 abbrev pub left_events : {R C : Type 0} → Callbacks → PlayerOf R C → Course → List Event
-left_events c p r = parts_events c r (p.part ∷ p.later)
+left_events c p r = parts_events (going_with c) r (p.part ∷ p.later)
 
 -- the text of the events that are left
 abbrev pub left_text : {R C : Type 0} → Callbacks → PlayerOf R C → Course → List ℕ
-left_text c p r = text_from c p.form r (left_events c p r)
+left_text c p r = text_from c (writing_of p.form) r (left_events c p r)
 
 -- The player made the first of the events that were left, the others are left, and the text grew by what was made.
 pub record GoesOnWith {R C : Type 0} (stream : R → Stream) (c : Callbacks) (stands : C → List ℕ → State → Type 0)
@@ -60,9 +62,9 @@ pub record GoesOnWith {R C : Type 0} (stream : R → Stream) (c : Callbacks) (st
   pub events : Course → List Event
   pub plays : PlayTogether stream c stands old.world new.world old.callbacks new.callbacks events
   pub left : (r : Course) → Reached r.moment.state → IsAt stream stands old r
-      → left_events c old r ≡ events r ++ left_events c new (onward c r (events r))
+      → left_events c old r ≡ events r ++ left_events c new (onward (going_with c) r (events r))
   pub text : (r : Course) → Reached r.moment.state → IsAt stream stands old r
-      → after ≡ before ++ text_from c old.form r (events r)
+      → after ≡ before ++ text_from c (writing_of old.form) r (events r)
   pub form : new.form ≡ old.form
 
 -- the same without callbacks
@@ -92,7 +94,7 @@ WritesSomeWith stream c stands old before after = (r : Course) → Reached r.mom
 -- the text grew by the last line of the state at which the player stands, and what callbacks write after it
 abbrev pub WritesLastWith : {R C : Type 0} → (R → Stream) → Callbacks → (C → List ℕ → State → Type 0) → PlayerOf R C → List ℕ → List ℕ → Type 0
 WritesLastWith stream c stands p before after = (r : Course) → IsAt stream stands p r
-    → after ≡ before ++ last_text_with c p.form r.memory r.moment.state
+    → after ≡ before ++ last_text_with c (writing_of p.form) r.memory r.moment.state
 
 -- the same without callbacks
 abbrev pub WritesLast : {R : Type 0} → (R → Stream) → PlayerView R → List ℕ → List ℕ → Type 0

@@ -5,14 +5,12 @@ use Rattle.live_commit.specs.declared.phase.Phase.TheVariants.{Idle, Armed}
 use Rattle.damon_core.specs.Reached.{Reached}
 use Rattle.damon_world.specs.Moment.{Moment, along}
 use Rattle.script_lines.specs.Command.{CommandValue, Arm, Finish}
-use Rattle.script_run.specs.Callbacks.{no_callbacks}
-use Rattle.script_run.specs.Course.{plain}
-use Rattle.script_run.specs.Parts.{part_of}
-use Rattle.script_run.specs.Unfold.{part_events}
+use Rattle.script_run.specs.Going.{plain}
+use Rattle.script_run.specs.Unfold.{command_events}
 
 -- the events of a command lead from a moment to a phase
 abbrev pub LeadsTo : Moment → CommandValue → Phase → Type 0
-LeadsTo m command phase = (along m (part_events no_callbacks (plain m) (part_of m.state.core.regions.cap command))).state.core.phase ≡ phase
+LeadsTo m command phase = (along m (command_events plain m.state.core.regions.cap m command)).state.core.phase ≡ phase
 
 -- from each reached moment `arm` leads to where each pick is cleared, and `finish` to where no pass is under way and no
 -- aggregation is due

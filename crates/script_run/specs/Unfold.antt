@@ -1,40 +1,56 @@
 -- The events of a script.
-use Rattle.std.specs.Prelude.{ℕ, zero, suc, List, [], ◌∷◌, ◌++◌, if◌then◌else◌}
+use Rattle.std.specs.Prelude.{◌≡◌, ℕ, zero, suc, ◌+◌, ◌-◌, ◌*◌, Bool, true, false, List, [], ◌∷◌, ◌++◌, refl, if◌then◌else◌}
+use Rattle.std.proofs.Common.{◌∙◌, ap, sym, append-nil, append_assoc}
 use Rattle.rand_core.specs.Stream.{Stream}
 use Rattle.rand_core.specs.Steps.{stream_of, steps_u32}
 use Rattle.rand_pcg.specs.Lcg.{started, increment_of}
 use Rattle.rand_pcg.specs.Pcg.{multiplier_64, pcg32}
+use Rattle.live_commit.specs.declared.phase.Phase.{Phase}
+use Rattle.live_commit.specs.declared.phase.Phase.TheVariants.{Idle, Armed}
 use Rattle.damon_core.specs.State.{opening}
-use Rattle.damon_core.specs.Event.{Event, commit, show}
+use Rattle.damon_core.specs.Event.{Event, commit, show, touch}
 use Rattle.damon_world.specs.Moment.{Moment, next_event}
 use Rattle.damon_world.specs.Touches.{touches}
 use Rattle.damon_control.specs.Script.{ScriptValue}
-use Rattle.script_run.specs.Callbacks.{Callbacks, no_callbacks}
-use Rattle.script_run.specs.Course.{Course, course_after, onward, with_puts}
-use Rattle.script_run.specs.Part.{Part}
-use Rattle.script_run.specs.Part as part
+use Rattle.script_lines.specs.Command.{CommandValue, Touch, Sweep, Step, Arm, Finish, Show, Commit}
+use Rattle.script_run.specs.Going.{Going, onward, onward-append, plain}
 use Rattle.script_run.specs.declared.part.Until.{Until}
-use Rattle.script_run.specs.Parts.{parts_of, stops_at}
+use Rattle.script_run.specs.declared.part.Until.TheVariants as until
 
--- At most n steps that stop at a phase, each with the next random words. What callbacks put in is no step, and where it leads
--- counts for the phase.
-abbrev pub steps_until : Callbacks → Until → ℕ → Course → List Event
-steps_until c u zero r = []
-steps_until c u (suc n) r =
-    let e = next_event r.moment.state r.moment.stream in
-    if stops_at u r.moment.state.core.phase then [] else e ∷ steps_until c u n (course_after c r e)
+-- whether steps stop at a phase: those of `arm` where each pick of a pass is cleared, and those of `finish` where no pass is under way
+abbrev pub stops_at : Until → Phase → Bool
+stops_at until.Count phase = false
+stops_at until.Armed Armed = true
+stops_at until.Armed _ = false
+stops_at until.Idle Idle = true
+stops_at until.Idle _ = false
 
--- the script's own events of a part
-abbrev pub part_events : Callbacks → Course → Part → List Event
-part_events c r (part.Touches page count) = touches page count
-part_events c r (part.Steps until most) = steps_until c until most r
-part_events c r part.Show = show ∷ []
-part_events c r (part.Commit parts) = commit parts ∷ []
+-- at most n steps that stop at a phase, from a place of a run, each with the next random words
+abbrev pub steps_until : {A : Type 0} → Going A → Until → ℕ → A → List Event
+steps_until g u zero a = []
+steps_until g u (suc n) a =
+    let m = g.moment a in
+    let e = next_event m.state m.stream in
+    if stops_at u m.state.core.phase then [] else e ∷ steps_until g u n (g.next a e)
 
--- the same of parts one after another
-abbrev pub parts_events : Callbacks → Course → List Part → List Event
-parts_events c r [] = []
-parts_events c r (p ∷ ps) = let es = part_events c r p in es ++ parts_events c (onward c r es) ps
+-- the most steps that the arming or the finishing of a pass takes, under a cap
+abbrev pub pass_limit : ℕ → ℕ
+pass_limit cap = 2 * cap + 3
+
+-- the events of a command under a cap, from a place of a run: touches, steps up to a phase, a show or a commit
+abbrev pub command_events : {A : Type 0} → Going A → ℕ → A → CommandValue → List Event
+command_events g cap a (Touch page) = touch page ∷ []
+command_events g cap a (Sweep from to) = touches from (to - from)
+command_events g cap a (Step times) = steps_until g until.Count times a
+command_events g cap a Arm = steps_until g until.Armed (pass_limit cap) a
+command_events g cap a Finish = steps_until g until.Idle (pass_limit cap) a
+command_events g cap a Show = show ∷ []
+command_events g cap a (Commit parts) = commit parts ∷ []
+
+-- the same of commands one after another
+abbrev pub commands_events : {A : Type 0} → Going A → ℕ → A → List CommandValue → List Event
+commands_events g cap a [] = []
+commands_events g cap a (c ∷ cs) = let es = command_events g cap a c in es ++ commands_events g cap (onward g a es) cs
 
 -- the random words of a seed: those of the generator that starts from it on stream 54
 abbrev pub random_words : ℕ → Stream
@@ -44,18 +60,18 @@ random_words seed = stream_of (steps_u32 pcg32) (started 64 multiplier_64 seed (
 abbrev pub start : ScriptValue → Moment
 start s = record { state = opening s.setup; stream = random_words s.seed }
 
--- the course before the first event
-abbrev pub start_with : Callbacks → ScriptValue → Course
-start_with c s = record { moment = start s; memory = c.first (opening s.setup) }
-
--- the script's own events in a run with callbacks
-abbrev pub own_events : Callbacks → ScriptValue → List Event
-own_events c s = parts_events c (start_with c s) (parts_of s.setup.cap s.commands)
-
--- the events of a script with those that callbacks put in
-abbrev pub unfold_with : Callbacks → ScriptValue → List Event
-unfold_with c s = with_puts c (start_with c s) (own_events c s)
-
 -- the events of a script
 abbrev pub unfold_script : ScriptValue → List Event
-unfold_script s = unfold_with no_callbacks s
+unfold_script s = commands_events plain s.setup.cap (start s) s.commands
+
+-- the events of one command more
+pub commands_events-more : {A : Type 0} (g : Going A) (cap : ℕ) (a : A) (cs : List CommandValue) (d : CommandValue)
+    → (let es = commands_events g cap a cs in commands_events g cap a (cs ++ d ∷ []) ≡ es ++ command_events g cap (onward g a es) d)
+commands_events-more g cap a [] d = append-nil (command_events g cap a d)
+commands_events-more g cap a (c ∷ cs) d =
+    let es = command_events g cap a c in
+    let b = onward g a es in
+    let fs = commands_events g cap b cs in
+    ap (λ xs. es ++ xs) (commands_events-more g cap b cs d)
+    ∙ sym (append_assoc es fs (command_events g cap (onward g b fs) d))
+    ∙ ap (λ x. (es ++ fs) ++ command_events g cap x d) (sym (onward-append g a es fs))

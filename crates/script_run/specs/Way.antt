@@ -9,10 +9,13 @@ use Rattle.damon_core.specs.Makes.{AllFit-append}
 use Rattle.damon_world.specs.Stands.{StandsFor}
 use Rattle.damon_control.specs.Script.{ScriptValue}
 use Rattle.snapshot_print.specs.declared.form.Form.{Form}
+use Rattle.snapshot_print.specs.Forms.{writing_of}
+use Rattle.script_run.specs.Alone.{last_state-alone, report-alone}
 use Rattle.script_run.specs.Callbacks.{Callbacks, no_callbacks}
-use Rattle.script_run.specs.Course.{Reached-onward, onward, onward-append, onward-state, with_puts, with_puts-append}
-use Rattle.script_run.specs.Unfold.{own_events, start_with}
-use Rattle.script_run.specs.Report.{last_memory, last_state, last_state_with, last_text_with, report, report_with, text_from, text_from-append}
+use Rattle.script_run.specs.Course.{Reached-onward, going_with, onward-state, with_puts, with_puts-append}
+use Rattle.script_run.specs.Going.{onward, onward-append}
+use Rattle.script_run.specs.Report.{last_state, report}
+use Rattle.script_run.specs.RunWith.{last_memory, last_state_with, last_text_with, own_events, report_with, start_with, text_from, text_from-append}
 use Rattle.script_run.specs.Player.{AnyState, GoesOn, GoesOnWith, IsAt, IsOver, IsOverWith, PlayerOf, PlayerView, WritesLast, WritesLastWith, left_events}
 
 -- The player made the first of the script's own events, with those that its callbacks put in, and all these fit from its
@@ -22,9 +25,9 @@ pub record IsOnItsWayWith {R C : Type 0} (stream : R → Stream) (c : Callbacks)
   pub can_open : CanOpen s.setup
   pub made : List Event
   pub fit : AllFit (opening s.setup) (with_puts c (start_with c s) made)
-  pub stands : IsAt stream stands_for p (onward c (start_with c s) made)
-  pub left : own_events c s ≡ made ++ left_events c p (onward c (start_with c s) made)
-  pub written : text ≡ text_from c f (start_with c s) made
+  pub stands : IsAt stream stands_for p (onward (going_with c) (start_with c s) made)
+  pub left : own_events c s ≡ made ++ left_events c p (onward (going_with c) (start_with c s) made)
+  pub written : text ≡ text_from c (writing_of f) (start_with c s) made
   pub form : p.form ≡ f
 
 -- the same without callbacks
@@ -42,11 +45,11 @@ module _ {R C : Type 0} (stream : R → Stream) (c : Callbacks) (stands : C → 
   way-on-with a b text added way on =
       let first = start_with c s in
       let made = way.made in
-      let r = onward c first made in
+      let r = onward (going_with c) first made in
       let reached : Reached r.moment.state = Reached-onward c first made (Reached-start s way.can_open) way.fit in
       let more = on.events r in
       let plays = on.plays r reached way.stands in
-      let there : onward c first (made ++ more) ≡ onward c r more = onward-append c first made more in
+      let there : onward (going_with c) first (made ++ more) ≡ onward (going_with c) r more = onward-append (going_with c) first made more in
       record {
         can_open = way.can_open;
         made = made ++ more;
@@ -58,57 +61,57 @@ module _ {R C : Type 0} (stream : R → Stream) (c : Callbacks) (stands : C → 
         left =
             way.left
             ∙ ap (λ es. made ++ es) (on.left r reached way.stands)
-            ∙ sym (append_assoc made more (left_events c b (onward c r more)))
+            ∙ sym (append_assoc made more (left_events c b (onward (going_with c) r more)))
             ∙ ap (λ x. (made ++ more) ++ left_events c b x) (sym there);
         written =
             ap (λ t. t ++ added) way.written
-            ∙ ap (λ t. text_from c f first made ++ t) (on.text r reached way.stands)
-            ∙ ap (λ g. text_from c f first made ++ text_from c g r more) way.form
-            ∙ sym (text_from-append c f first made more);
+            ∙ ap (λ t. text_from c (writing_of f) first made ++ t) (on.text r reached way.stands)
+            ∙ ap (λ g. text_from c (writing_of f) first made ++ text_from c (writing_of g) r more) way.form
+            ∙ sym (text_from-append c (writing_of f) first made more);
         form = on.form ∙ way.form;
       }
 
   -- what was written is a prefix of the report
   pub way-prefix-with : (p : PlayerOf R C) (text : List ℕ) → IsOnItsWayWith stream c stands s f p text
-      → (rest : List ℕ) × (report_with c f s ≡ text ++ rest)
+      → (rest : List ℕ) × (report_with c (writing_of f) s ≡ text ++ rest)
   way-prefix-with p text way =
       let first = start_with c s in
-      let r = onward c first way.made in
+      let r = onward (going_with c) first way.made in
       let left = left_events c p r in
-      let last = last_text_with c f (last_memory c s) (last_state_with c s) in
-      let joined : text_from c f first (own_events c s) ≡ text ++ text_from c f r left =
-      ap (text_from c f first) way.left
-      ∙ text_from-append c f first way.made left
-      ∙ ap (λ t. t ++ text_from c f r left) (sym way.written) in
-      (text_from c f r left ++ last, ap (λ t. t ++ last) joined ∙ append_assoc text (text_from c f r left) last)
+      let last = last_text_with c (writing_of f) (last_memory c s) (last_state_with c s) in
+      let joined : text_from c (writing_of f) first (own_events c s) ≡ text ++ text_from c (writing_of f) r left =
+      ap (text_from c (writing_of f) first) way.left
+      ∙ text_from-append c (writing_of f) first way.made left
+      ∙ ap (λ t. t ++ text_from c (writing_of f) r left) (sym way.written) in
+      (text_from c (writing_of f) r left ++ last, ap (λ t. t ++ last) joined ∙ append_assoc text (text_from c (writing_of f) r left) last)
 
   -- where no event is left, all events were made
   way-all : (p : PlayerOf R C) (text : List ℕ) (way : IsOnItsWayWith stream c stands s f p text) → IsOverWith stream c stands p
       → own_events c s ≡ way.made
   way-all p text way over =
       way.left
-      ∙ ap (λ es. way.made ++ es) (over (onward c (start_with c s) way.made) way.stands)
+      ∙ ap (λ es. way.made ++ es) (over (onward (going_with c) (start_with c s) way.made) way.stands)
       ∙ append-nil way.made
 
   -- where no event is left, what was written is the report with its last line
   way-report : (p : PlayerOf R C) (text : List ℕ) (way : IsOnItsWayWith stream c stands s f p text) → IsOverWith stream c stands p
-      → (let r = onward c (start_with c s) way.made in text ++ last_text_with c p.form r.memory r.moment.state ≡ report_with c f s)
+      → (let r = onward (going_with c) (start_with c s) way.made in text ++ last_text_with c (writing_of p.form) r.memory r.moment.state ≡ report_with c (writing_of f) s)
   way-report p text way over =
       let first = start_with c s in
-      let r = onward c first way.made in
-      ap (λ t. t ++ last_text_with c p.form r.memory r.moment.state) way.written
-      ∙ ap (λ g. text_from c f first way.made ++ last_text_with c g r.memory r.moment.state) way.form
-      ∙ ap (λ t. text_from c f first way.made ++ last_text_with c f r.memory t) (onward-state c first way.made)
-      ∙ ap (λ es. text_from c f first es ++ last_text_with c f (onward c first es).memory (run (opening s.setup) (with_puts c first es)))
+      let r = onward (going_with c) first way.made in
+      ap (λ t. t ++ last_text_with c (writing_of p.form) r.memory r.moment.state) way.written
+      ∙ ap (λ g. text_from c (writing_of f) first way.made ++ last_text_with c (writing_of g) r.memory r.moment.state) way.form
+      ∙ ap (λ t. text_from c (writing_of f) first way.made ++ last_text_with c (writing_of f) r.memory t) (onward-state c first way.made)
+      ∙ ap (λ es. text_from c (writing_of f) first es ++ last_text_with c (writing_of f) (onward (going_with c) first es).memory (run (opening s.setup) (with_puts c first es)))
       (sym (way-all p text way over))
 
   -- what was written before, what was filled, and what ends it are the report
   pub way-finished-with : (p : PlayerOf R C) (written filled last : List ℕ) → IsOnItsWayWith stream c stands s f p (written ++ filled)
-      → IsOverWith stream c stands p → WritesLastWith stream c stands p filled last → written ++ last ≡ report_with c f s
+      → IsOverWith stream c stands p → WritesLastWith stream c stands p filled last → written ++ last ≡ report_with c (writing_of f) s
   way-finished-with p written filled last way over ends =
-      let r = onward c (start_with c s) way.made in
+      let r = onward (going_with c) (start_with c s) way.made in
       ap (λ t. written ++ t) (ends r way.stands)
-      ∙ sym (append_assoc written filled (last_text_with c p.form r.memory r.moment.state))
+      ∙ sym (append_assoc written filled (last_text_with c (writing_of p.form) r.memory r.moment.state))
       ∙ way-report p (written ++ filled) way over
 
   -- where no event is left, the player stands for the state at the end of the run
@@ -127,13 +130,16 @@ module _ {R : Type 0} (stream : R → Stream) (s : ScriptValue) (f : Form) where
   way-on = way-on-with stream no_callbacks AnyState s f
 
   pub way-prefix : (p : PlayerView R) (text : List ℕ) → IsOnItsWay stream s f p text
-      → (rest : List ℕ) × (report f s ≡ text ++ rest)
-  way-prefix = way-prefix-with stream no_callbacks AnyState s f
+      → (rest : List ℕ) × (report (writing_of f) s ≡ text ++ rest)
+  way-prefix p text way =
+      let more = way-prefix-with stream no_callbacks AnyState s f p text way in
+      (more.0, sym (report-alone (writing_of f) s) ∙ more.1)
 
   pub way-finished : (p : PlayerView R) (written filled last : List ℕ) → IsOnItsWay stream s f p (written ++ filled) → IsOver stream p
-      → WritesLast stream p filled last → written ++ last ≡ report f s
-  way-finished = way-finished-with stream no_callbacks AnyState s f
+      → WritesLast stream p filled last → written ++ last ≡ report (writing_of f) s
+  way-finished p written filled last way over ends =
+      way-finished-with stream no_callbacks AnyState s f p written filled last way over ends ∙ report-alone (writing_of f) s
 
   pub way-last : (p : PlayerView R) (text : List ℕ) (way : IsOnItsWay stream s f p text) → IsOver stream p
       → StandsFor p.world (last_state s)
-  way-last = way-last-with stream no_callbacks AnyState s f
+  way-last p text way over = subst (StandsFor p.world) (last_state-alone s) (way-last-with stream no_callbacks AnyState s f p text way over)

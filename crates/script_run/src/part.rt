@@ -1,7 +1,8 @@
 ghost use Rattle.std.specs.Prelude.{◌≡◌, IfSome};
 ghost use Rattle.script_lines.specs.Command.{Touch as TouchCommand, lent_value};
 ghost use Rattle.script_run.specs.Part.{part_value, start_value};
-ghost use Rattle.script_run.specs.Parts.{is_done, part_of, stops_at};
+ghost use Rattle.script_run.specs.Parts.{is_done, part_of};
+ghost use Rattle.script_run.specs.Unfold.{stops_at};
 
 use damon_control::Command;
 use live_commit::{Commit, Phase};

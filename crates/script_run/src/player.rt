@@ -11,7 +11,7 @@ ghost use Rattle.script_run.specs.Part as left;
 ghost use Rattle.script_run.specs.Parts.{is_done, parts_of};
 ghost use Rattle.script_run.specs.Played.{BeginsWith, PlaysOnWith};
 ghost use Rattle.script_run.specs.Player.{GoesOnWith, IsAt, IsOverWith, WritesSomeWith, left_moves};
-ghost use Rattle.script_run.specs.Unfold.{start_with};
+ghost use Rattle.script_run.specs.RunWith.{start_with};
 ghost use Rattle.script_run.specs.Way.{IsOnItsWay, IsOnItsWayWith};
 
 /// The last line of a report.

@@ -8,7 +8,7 @@ ghost use Rattle.damon_world.specs.Moment.{next_event};
 ghost use Rattle.damon_world.specs.Stands.{StandsFor};
 ghost use Rattle.damon_world.specs.Touches.{touches};
 ghost use Rattle.live_commit.specs.Commit.{commit_value};
-ghost use Rattle.snapshot_print.specs.Commit.{commit_text};
+ghost use Rattle.snapshot_print.specs.Forms.{writing_of};
 ghost use Rattle.script_run.specs.Kept.{ArePutIn, IsMade, KeepsFront, StandSomewhere};
 
 use crate::callbacks::Callbacks;
@@ -46,7 +46,7 @@ pub fn make_aggregation<R: Jump + Drop, C: Callbacks + Drop>(
     requires ticks { world.old.monitor.core.ticks < 2 ^ 40 }
     requires somewhere { StandSomewhere R.stream C.stands_for world.old callbacks.old }
     ensures made { OnOk result (IsMade R.stream C.callbacks C.stands_for world.old world.new
-        callbacks.old callbacks.new form out.old.items out.new.items
+        callbacks.old callbacks.new (writing_of form) out.old.items out.new.items
         (λ r. next_event r.moment.state r.moment.stream ∷ [])) }
     ensures err { OnErr result (KeepsFront out.old.items out.new.items) }
 
@@ -73,7 +73,7 @@ pub fn make_commit<R: Jump + Drop, C: Callbacks + Drop>(
 ) -> Result<(), AllocError>
     requires { StandSomewhere R.stream C.stands_for world.old callbacks.old }
     ensures made { OnOk result (IsMade R.stream C.callbacks C.stands_for world.old world.new
-        callbacks.old callbacks.new form out.old.items out.new.items
+        callbacks.old callbacks.new (writing_of form) out.old.items out.new.items
         (λ r. commit_event (commit_value commit.now) ∷ [])) }
     ensures err { OnErr result (KeepsFront out.old.items out.new.items) }
 
@@ -99,7 +99,8 @@ fn put_in<R: Jump + Drop, C: Callbacks + Drop>(
 ) -> Result<(), AllocError>
     requires { StandSomewhere R.stream C.stands_for world.old callbacks.old }
     ensures made { OnOk result (ArePutIn R.stream C.stands_for world.old world.new
-        callbacks.old callbacks.new form out.old.items out.new.items (C.pending callbacks.old)) }
+        callbacks.old callbacks.new (writing_of form) out.old.items out.new.items
+        (C.pending callbacks.old)) }
     ensures err { OnErr result (KeepsFront out.old.items out.new.items) }
 
     // What holds in any case.
@@ -122,7 +123,7 @@ fn put_commit<R: Jump + Drop>(
     commit: &Commit,
 ) -> Result<(), AllocError>
     ensures ok { OnOk result (out.new.items ≡ out.old.items
-        ++ commit_text form world.old.monitor.core.ticks
+        ++ (writing_of form).commit world.old.monitor.core.ticks
         (commit_answer (commit_value commit.now) world.old.monitor.core)) }
     ensures err { OnErr result (out.new.items ≡ out.old.items) }
     ensures event { Makes StandsFor world.old world.new (commit_event (commit_value commit.now) ∷ []) }

@@ -4,14 +4,14 @@ use Rattle.std.specs.Fmt.{digits}
 use Rattle.target_ranges.specs.declared.fault.RangeWhy.TheVariants.{Overlap}
 use Rattle.damon_types.specs.declared.scheme.SchemeFault.TheVariants.{PatternReversed, TimeInOne}
 use Rattle.live_commit.specs.declared.fault.CommitFault.TheVariants.{Busy, BadRange, RangesOverMax, OverCap, BadScheme, BadCost}
-use Rattle.snapshot_print.specs.declared.form.Form.TheVariants.{Text, Json}
 use Rattle.damon_types.specs.declared.scheme.Action.TheVariants.{Pageout}
 use Rattle.serde_json.specs.Written.{compact_text}
 use Rattle.serde_json.proofs.OnLiterals.{serde_json_on_literals}
-use Rattle.snapshot_print.specs.Commit.{answer_text, commit_text}
-use Rattle.snapshot_print.specs.Json.{choice_json, list_of, row_json, slot_json}
+use Rattle.snapshot_print.specs.Commit.{answer_text}
+use Rattle.snapshot_print.specs.Lines.{as_text}
+use Rattle.snapshot_print.specs.Json.{as_json, choice_json, list_of, row_json, slot_json}
 
-pass_becomes_void : commit_text Text 120 (Ok (record { rows = 34; void = true })) ≡ codes "commit tick=120 ok rows=34 void=yes\n"
+pass_becomes_void : as_text.commit 120 (Ok (record { rows = 34; void = true })) ≡ codes "commit tick=120 ok rows=34 void=yes\n"
 unfolding digits
 pass_becomes_void = refl
 
@@ -19,7 +19,7 @@ no_pass_is_under_way : answer_text (Ok (record { rows = 3; void = false })) ≡ 
 unfolding digits
 no_pass_is_under_way = refl
 
-a_pass_is_busy : commit_text Text 0 (Err (Busy 1)) ≡ codes "commit tick=0 refused busy next=1\n"
+a_pass_is_busy : as_text.commit 0 (Err (Busy 1)) ≡ codes "commit tick=0 refused busy next=1\n"
 unfolding digits
 a_pass_is_busy = refl
 
@@ -46,11 +46,11 @@ cost_of_slot_16 : answer_text (Err (BadCost 16)) ≡ codes "refused bad-cost slo
 unfolding digits
 cost_of_slot_16 = refl
 
-pass_becomes_void_in_json : commit_text Json 120 (Ok (record { rows = 34; void = true })) ≡ codes "{\"answer\":\"ok rows=34 void=yes\",\"kind\":\"commit\",\"tick\":120}\n"
+pass_becomes_void_in_json : as_json.commit 120 (Ok (record { rows = 34; void = true })) ≡ codes "{\"answer\":\"ok rows=34 void=yes\",\"kind\":\"commit\",\"tick\":120}\n"
 unfolding digits serde_json_on_literals
 pass_becomes_void_in_json = refl
 
-pass_is_busy_in_json : commit_text Json 0 (Err (Busy 1)) ≡ codes "{\"answer\":\"refused busy next=1\",\"kind\":\"commit\",\"tick\":0}\n"
+pass_is_busy_in_json : as_json.commit 0 (Err (Busy 1)) ≡ codes "{\"answer\":\"refused busy next=1\",\"kind\":\"commit\",\"tick\":0}\n"
 unfolding digits serde_json_on_literals
 pass_is_busy_in_json = refl
 

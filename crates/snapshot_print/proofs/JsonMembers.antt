@@ -13,7 +13,8 @@ use Rattle.serde_json.specs.Written.{comma_if, compact_text, members_text}
 use Rattle.snapshot_print.specs.Fields.{page_address}
 use Rattle.snapshot_print.specs.Json.{action_or_null, applied_json, count_of, row_json}
 use Rattle.snapshot_print.specs.Pieces.{piece, run_prefix, run_rest}
-use Rattle.snapshot_print.specs.Schemes.{action_in, action_word}
+use Rattle.damon_types.specs.Actions.{action_name}
+use Rattle.snapshot_print.specs.Schemes.{action_in}
 use Rattle.snapshot_print.proofs.Escaping.{address_is_plain}
 
 -- the text of members, and then another text
@@ -55,7 +56,7 @@ row_item space r rest =
     let count = some_member true (codes "count") (count_of r.count) after in
     ap (λ t. 44 ∷ 123 ∷ t) (some_member false (codes "age") (count_of r.age) count).written
 
-action_is_plain : (a : Action) → escape (action_word a) ≡ action_word a
+action_is_plain : (a : Action) → escape (action_name a) ≡ action_name a
 unfolding escape_byte
 action_is_plain Stat = refl
 action_is_plain Willneed = refl
@@ -67,11 +68,11 @@ action_is_plain LruPrio = refl
 action_is_plain LruDeprio = refl
 
 -- the prefix of the item of a run, where its slot is set
-pub set_prefix : (a : Action) (rest : List ℕ) → run_prefix (Some a) ++ rest ≡ codes ",{\"action\":\"" ++ (action_word a ++ (codes "\",\"end\":\"" ++ rest))
+pub set_prefix : (a : Action) (rest : List ℕ) → run_prefix (Some a) ++ rest ≡ codes ",{\"action\":\"" ++ (action_name a ++ (codes "\",\"end\":\"" ++ rest))
 set_prefix a rest =
     ap (λ t. codes ",{\"action\":\"" ++ t)
-    (append_assoc (escape (action_word a) ++ 34 ∷ []) (codes ",\"end\":\"") rest
-    ∙ append_assoc (escape (action_word a)) (34 ∷ []) (codes ",\"end\":\"" ++ rest)
+    (append_assoc (escape (action_name a) ++ 34 ∷ []) (codes ",\"end\":\"") rest
+    ∙ append_assoc (escape (action_name a)) (34 ∷ []) (codes ",\"end\":\"" ++ rest)
     ∙ ap (λ t. t ++ (codes "\",\"end\":\"" ++ rest)) (action_is_plain a))
 
 -- the item of a run in its two parts

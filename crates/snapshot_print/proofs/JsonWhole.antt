@@ -6,10 +6,8 @@ use Rattle.live_commit.specs.declared.phase.Phase.{Phase}
 use Rattle.live_commit.specs.declared.phase.Phase.TheVariants.{Idle, Clearing, Armed, Checking, Void, Due}
 use Rattle.serde_json.specs.Data.{string}
 use Rattle.serde_json.specs.Written.{compact_text}
-use Rattle.snapshot_print.specs.declared.form.Form.TheVariants.{Json}
 use Rattle.snapshot_print.specs.Fields.{phase_name}
-use Rattle.snapshot_print.specs.Json.{applied_json, choice_json, count_of, list_of, rows_json, set_slots_json}
-use Rattle.snapshot_print.specs.Lines.{aggregate_text, show_text}
+use Rattle.snapshot_print.specs.Json.{applied_json, as_json, choice_json, count_of, list_of, rows_json, set_slots_json}
 use Rattle.snapshot_print.specs.Pieces.{served_part}
 use Rattle.snapshot_print.specs.Printed.{Printed}
 use Rattle.snapshot_print.proofs.JsonMembers.{last_written, plain_member, some_member}
@@ -23,7 +21,7 @@ phase_is_plain (Checking k) = refl
 phase_is_plain Void = refl
 phase_is_plain Due = refl
 
-show_whole : (p : Printed) → show_text Json p
+show_whole : (p : Printed) → as_json.show p
     ≡ codes "{\"kind\":\"show\",\"phase\":\"" ++ (phase_name p.core.phase ++ (codes "\",\"rows\":" ++ (compact_text (rows_json p.core.space p.core.regions.rows)
     ++ (codes ",\"slots\":" ++ (compact_text (list_of (set_slots_json 0 p.slots)) ++ (codes ",\"tick\":" ++ (decimal p.core.ticks ++ codes "}\n")))))))
 unfolding escape_byte
@@ -42,12 +40,12 @@ show_assoc old a b c d e f g h i = simp append_assoc
 pub show_joined : (old : List ℕ) (p : Printed) →
     (((((old ++ (codes "{\"kind\":\"show\",\"phase\":\"" ++ phase_name p.core.phase)) ++ codes "\",\"rows\":") ++ compact_text (rows_json p.core.space p.core.regions.rows))
     ++ codes ",\"slots\":") ++ compact_text (list_of (set_slots_json 0 p.slots))) ++ (codes ",\"tick\":" ++ (decimal p.core.ticks ++ codes "}\n"))
-    ≡ old ++ show_text Json p
+    ≡ old ++ as_json.show p
 show_joined old p =
     show_assoc old (codes "{\"kind\":\"show\",\"phase\":\"") (phase_name p.core.phase) (codes "\",\"rows\":") (compact_text (rows_json p.core.space p.core.regions.rows)) (codes ",\"slots\":") (compact_text (list_of (set_slots_json 0 p.slots))) (codes ",\"tick\":") (decimal p.core.ticks) (codes "}\n")
     ∙ ap (λ t. old ++ t) (sym (show_whole p))
 
-aggregate_whole : (p : Printed) → aggregate_text Json p
+aggregate_whole : (p : Printed) → as_json.aggregate p
     ≡ codes "{\"applied\":" ++ (compact_text (list_of (map (applied_json p.core.space p.slots) p.core.report.runs))
     ++ (codes ",\"choices\":" ++ (compact_text (list_of (map choice_json p.core.report.choices))
     ++ (codes ",\"kind\":\"aggregate\",\"rows\":" ++ (compact_text (rows_json p.core.space p.core.report.rows)
@@ -69,7 +67,7 @@ aggregate_assoc old a b c d e f g h i j k = simp append_assoc
 pub aggregate_joined : (old : List ℕ) (p : Printed) →
     (((((old ++ served_part p) ++ codes ",\"kind\":\"aggregate\",\"rows\":") ++ compact_text (rows_json p.core.space p.core.report.rows))
     ++ codes ",\"threshold\":") ++ decimal p.core.report.threshold) ++ (codes ",\"tick\":" ++ (decimal p.core.report.tick ++ codes "}\n"))
-    ≡ old ++ aggregate_text Json p
+    ≡ old ++ as_json.aggregate p
 aggregate_joined old p =
     aggregate_assoc old (codes "{\"applied\":") (compact_text (list_of (map (applied_json p.core.space p.slots) p.core.report.runs))) (codes ",\"choices\":") (compact_text (list_of (map choice_json p.core.report.choices)))
     (codes ",\"kind\":\"aggregate\",\"rows\":") (compact_text (rows_json p.core.space p.core.report.rows)) (codes ",\"threshold\":") (decimal p.core.report.threshold) (codes ",\"tick\":") (decimal p.core.report.tick) (codes "}\n")

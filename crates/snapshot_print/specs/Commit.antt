@@ -1,4 +1,4 @@
--- The line of a commit.
+-- What the line of a commit says.
 use Rattle.std.specs.Prelude.{ℕ, List, Result, Ok, Err, codes}
 use Rattle.std.specs.Fmt.{decimal}
 use Rattle.damon_types.specs.declared.attrs.AttrsFault.{AttrsFault}
@@ -13,11 +13,7 @@ use Rattle.live_commit.specs.declared.fault.CommitFault.{CommitFault}
 use Rattle.live_commit.specs.declared.fault.CommitFault.TheVariants.{Busy, NoRange, BadRange, RangesOverMax}
 use Rattle.live_commit.specs.declared.fault.CommitFault.TheVariants.{BadAttrs, OverCap, BadScheme, BadCost}
 use Rattle.damon_core.specs.declared.changed.Changed.{Changed}
-use Rattle.snapshot_print.specs.declared.form.Form.{Form}
-use Rattle.snapshot_print.specs.declared.form.Form.TheVariants.{Text, Json}
-use Rattle.serde_json.specs.Data.{Data}
 use Rattle.snapshot_print.specs.Fields.{◌then◌, yes_or_no}
-use Rattle.snapshot_print.specs.Json.{answer_json, json_line}
 
 -- the word of the reason why a range is rejected
 abbrev pub range_why : RangeWhy → List ℕ
@@ -62,13 +58,3 @@ abbrev pub answer_text : Result Changed CommitFault → List ℕ
 answer_text (Ok changed) =
     codes "ok rows=" then decimal changed.rows then codes " void=" then yes_or_no changed.void
 answer_text (Err fault) = codes "refused " then refusal_text fault
-
--- the same as JSON, with the tick at which the commit was made
-abbrev pub commit_json : ℕ → Result Changed CommitFault → Data
-commit_json tick answer = answer_json tick (answer_text answer)
-
--- the line of a commit, in each form: the tick at which it was made, and its answer
-abbrev pub commit_text : Form → ℕ → Result Changed CommitFault → List ℕ
-commit_text Text tick answer =
-    codes "commit tick=" then decimal tick then codes " " then answer_text answer then codes "\n"
-commit_text Json tick answer = json_line (commit_json tick answer)

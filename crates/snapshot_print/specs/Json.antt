@@ -5,6 +5,7 @@ use Rattle.serde_json.specs.Data.{Data, null, boolean, number, unsigned, string,
 use Rattle.serde_json.specs.View.{items_of}
 use Rattle.serde_json.specs.Written.{compact_text}
 use Rattle.line_text.specs.Address.{spelled_address}
+use Rattle.damon_types.specs.Actions.{action_name}
 use Rattle.damon_types.specs.declared.row.Row.{Row}
 use Rattle.damon_types.specs.declared.scheme.Action.{Action}
 use Rattle.damon_types.specs.declared.space.Target.{Target}
@@ -13,9 +14,11 @@ use Rattle.scheme_engine.specs.declared.applied.SlotChoice.{SlotChoice}
 use Rattle.scheme_engine.specs.declared.slot.SlotView.{SlotView}
 use Rattle.scheme_engine.specs.Slots.{SlotValue, view_of}
 use Rattle.damon_core.specs.State.{row_count}
+use Rattle.snapshot_print.specs.Commit.{answer_text}
 use Rattle.snapshot_print.specs.Fields.{page_address, phase_name}
 use Rattle.snapshot_print.specs.Printed.{Printed}
-use Rattle.snapshot_print.specs.Schemes.{action_in, action_word}
+use Rattle.snapshot_print.specs.Schemes.{action_in}
+use Rattle.snapshot_print.specs.Writing.{Writing}
 
 -- the line of a value: its text without spaces, and the line's end
 abbrev pub json_line : Data → List ℕ
@@ -69,7 +72,7 @@ rows_json space rows = list_of (map (row_json space) rows)
 -- a set slot in a show
 abbrev pub slot_json : ℕ → SlotView → Data
 slot_json slot v = object_with (
-    (codes "action", string (action_word v.action))
+    (codes "action", string (action_name v.action))
     ∷ (codes "active", boolean v.active)
     ∷ (codes "applied", count_of v.applied)
     ∷ (codes "charged", count_of v.window.charged)
@@ -101,7 +104,7 @@ show_json p = object_with (
 -- the word of an action, or null for a slot that is not set
 abbrev pub action_or_null : Option Action → Data
 action_or_null None = null
-action_or_null (Some action) = string (action_word action)
+action_or_null (Some action) = string (action_name action)
 
 -- a run of pages that the scheme of its slot was applied to, with the score of its row
 abbrev pub applied_json : List Target → List SlotValue → AppliedRun → Data
@@ -154,3 +157,12 @@ answer_json tick answer = object_with (
     ∷ (codes "kind", string (codes "commit"))
     ∷ (codes "tick", count_of tick)
     ∷ [])
+
+-- a report as JSON, each line of which is one object
+abbrev pub as_json : Writing
+as_json = record {
+  show = λ p. json_line (show_json p);
+  aggregate = λ p. json_line (aggregate_json p);
+  commit = λ tick answer. json_line (answer_json tick (answer_text answer));
+  end = λ p. json_line (end_json p);
+}

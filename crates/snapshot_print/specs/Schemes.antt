@@ -3,8 +3,8 @@ use Rattle.std.specs.Prelude.{ℕ, ◌+◌, ◌==◌, List, [], ◌∷◌, ◌++
 use Rattle.std.specs.List.{filter, flat_map, prefix_len}
 use Rattle.std.specs.Option.{option_map, option_map_or}
 use Rattle.std.specs.Fmt.{decimal}
+use Rattle.damon_types.specs.Actions.{action_name}
 use Rattle.damon_types.specs.declared.scheme.Action.{Action}
-use Rattle.damon_types.specs.declared.scheme.Action.TheVariants.{Stat, Willneed, Cold, Pageout, Hugepage, Nohugepage, LruPrio, LruDeprio}
 use Rattle.damon_types.specs.declared.space.Target.{Target}
 use Rattle.scheme_engine.specs.declared.applied.AppliedRun.{AppliedRun}
 use Rattle.scheme_engine.specs.declared.applied.SlotChoice.{SlotChoice}
@@ -12,21 +12,10 @@ use Rattle.scheme_engine.specs.declared.slot.SlotView.{SlotView}
 use Rattle.scheme_engine.specs.Slots.{SlotValue, empty_slot, view_of}
 use Rattle.snapshot_print.specs.Fields.{◌then◌, number_or_none, pages_part, yes_or_no}
 
--- the word of an action
-abbrev pub action_word : Action → List ℕ
-action_word Stat = codes "stat"
-action_word Willneed = codes "willneed"
-action_word Cold = codes "cold"
-action_word Pageout = codes "pageout"
-action_word Hugepage = codes "hugepage"
-action_word Nohugepage = codes "nohugepage"
-action_word LruPrio = codes "lru_prio"
-action_word LruDeprio = codes "lru_deprio"
-
 -- the number of a set slot, the action of its scheme, and whether it is active
 abbrev pub scheme_part : ℕ → SlotView → List ℕ
 scheme_part slot v =
-    codes "scheme " then decimal slot then codes " " then action_word v.action
+    codes "scheme " then decimal slot then codes " " then action_name v.action
     then codes " active=" then yes_or_no v.active
 
 -- its window, and the statistics of its scheme
@@ -51,7 +40,7 @@ shown_slots slot (s ∷ ss) = shown_slot slot s ++ shown_slots (slot + 1) ss
 
 -- the beginning of an `apply` line: the number of the slot, and the action of its scheme
 abbrev pub apply_part : ℕ → Action → List ℕ
-apply_part slot action = codes "apply " then decimal slot then codes " " then action_word action then codes " "
+apply_part slot action = codes "apply " then decimal slot then codes " " then action_name action then codes " "
 
 -- the rest of it: the target and the pages of the run, and the score of its row
 abbrev pub run_part : List Target → AppliedRun → List ℕ

@@ -2,7 +2,8 @@ ghost use Rattle.std.specs.Prelude.{◌≡◌, ◌+◌, ◌≤◌, ◌++◌, len
 ghost use Rattle.std.specs.List.{AllByRecursion};
 ghost use Rattle.damon_types.specs.Space.{pages_of};
 ghost use Rattle.damon_core.specs.Report.{report_value};
-ghost use Rattle.snapshot_print.specs.Lines.{aggregate_line, aggregate_text, row_lines};
+ghost use Rattle.snapshot_print.specs.Forms.{writing_of};
+ghost use Rattle.snapshot_print.specs.Lines.{aggregate_line, as_text, row_lines};
 ghost use Rattle.snapshot_print.specs.Kept.{KeepsFront};
 ghost use Rattle.snapshot_print.specs.Printed.{printed_monitor};
 
@@ -29,7 +30,7 @@ pub fn print_aggregate(
     monitor: &Monitor,
 ) -> Result<(), AllocError>
     ensures ok { OnOk result (out.new.items ≡ out.old.items
-        ++ aggregate_text form (printed_monitor monitor.now)) }
+        ++ (writing_of form).aggregate (printed_monitor monitor.now)) }
     ensures err { OnErr result (out.new.items ≡ out.old.items) }
 {
     let before = out.len();
@@ -51,7 +52,7 @@ const FIRST_ROOM: usize = 96 + LINE_ROOM * FIRST_ROWS;
 #[tactic(auto, using(crate::proofs::Appending::appends))]
 fn print_report(out: &mut Vec<u8>, monitor: &Monitor) -> Result<(), AllocError>
     ensures ok { OnOk result (out.new.items ≡ out.old.items
-        ++ aggregate_text Form.Text (printed_monitor monitor.now)) }
+        ++ as_text.aggregate (printed_monitor monitor.now)) }
     ensures kept { KeepsFront out.old.items out.new.items }
 {
     let report = monitor.report();

@@ -10,7 +10,6 @@ use crate::fields::{field_before, text_before, word_before};
 use crate::line_groups::{LineOf, print_lines};
 use crate::page_run::PageRun;
 use crate::row_text::pages_before;
-use crate::slot_text::action_word;
 use damon_types::{Action, MAX_SLOT, Space};
 use line_text::number_before;
 use scheme_engine::{Applied, AppliedRun, Engine, SlotChoice};
@@ -156,7 +155,7 @@ fn apply_before(bytes: &mut [u8], end: usize, slot: u8, action: Action) -> usize
     ensures written { drop result bytes.new ≡ apply_part slot action ++ drop end bytes.old }
 {
     let space = text_before(bytes, end, b" ");
-    let word = word_before(bytes, space, b" ", action_word(action).as_bytes());
+    let word = word_before(bytes, space, b" ", action.name().as_bytes());
     field_before(bytes, word, b"apply ", u64::from(slot))
 }
 

@@ -1,7 +1,9 @@
 ghost use Rattle.std.specs.Prelude.{◌≡◌, ◌++◌, codes, string_bytes, IfOk, OnErr, OnOk};
-ghost use Rattle.snapshot_print.specs.Commit.{answer_text, commit_text, refusal_text};
+ghost use Rattle.snapshot_print.specs.Commit.{answer_text, refusal_text};
 ghost use Rattle.snapshot_print.specs.Commit.{attrs_why, range_why, scheme_why};
+ghost use Rattle.snapshot_print.specs.Forms.{writing_of};
 ghost use Rattle.snapshot_print.specs.Kept.{KeepsFront};
+ghost use Rattle.snapshot_print.specs.Lines.{as_text};
 
 use crate::Form;
 use crate::fields::{end_line, print_field, print_word, whole_or_nothing, yes_or_no};
@@ -21,7 +23,8 @@ pub fn print_commit(
     tick: u64,
     answer: &Result<Changed, CommitFault>,
 ) -> Result<(), AllocError>
-    ensures ok { OnOk result (out.new.items ≡ out.old.items ++ commit_text form tick answer.now) }
+    ensures ok { OnOk result (out.new.items ≡ out.old.items
+        ++ (writing_of form).commit tick answer.now) }
     ensures err { OnErr result (out.new.items ≡ out.old.items) }
 {
     let before = out.len();
@@ -40,7 +43,7 @@ fn print_line(
     answer: &Result<Changed, CommitFault>,
 ) -> Result<(), AllocError>
     ensures ok { OnOk result (out.new.items ≡ out.old.items
-        ++ commit_text Form.Text tick answer.now) }
+        ++ as_text.commit tick answer.now) }
     ensures kept { KeepsFront out.old.items out.new.items }
 {
     print_field(out, b"commit tick=", tick)?;

@@ -5,10 +5,8 @@ ghost use Rattle.std.specs.Fmt.{decimal};
 ghost use Rattle.serde_json.specs.Events.{SendsValue};
 ghost use Rattle.serde_json.specs.Data.{string};
 ghost use Rattle.serde_json.specs.Written.{compact_text};
-ghost use Rattle.snapshot_print.specs.Commit.{commit_json, commit_text};
-ghost use Rattle.snapshot_print.specs.Json.{answer_json, end_json};
+ghost use Rattle.snapshot_print.specs.Json.{answer_json, as_json, end_json};
 ghost use Rattle.snapshot_print.specs.Kept.{KeepsFront};
-ghost use Rattle.snapshot_print.specs.Lines.{aggregate_text, end_text, show_text};
 ghost use Rattle.snapshot_print.specs.Pieces.{served_part};
 ghost use Rattle.snapshot_print.specs.Printed.{printed_monitor};
 
@@ -34,7 +32,7 @@ pub(crate) fn print_show_line(
     monitor: &Monitor,
 ) -> Result<(), AllocError>
     ensures ok { OnOk result (out.new.items ≡ out.old.items
-        ++ show_text Form.Json (printed_monitor monitor.now)) }
+        ++ as_json.show (printed_monitor monitor.now)) }
     ensures kept { KeepsFront out.old.items out.new.items }
 {
     let phase = phase_name(monitor.phase()).as_bytes();
@@ -54,7 +52,7 @@ pub(crate) fn print_aggregate_line(
     monitor: &Monitor,
 ) -> Result<(), AllocError>
     ensures ok { OnOk result (out.new.items ≡ out.old.items
-        ++ aggregate_text Form.Json (printed_monitor monitor.now)) }
+        ++ as_json.aggregate (printed_monitor monitor.now)) }
     ensures kept { KeepsFront out.old.items out.new.items }
 {
     let report = monitor.report();
@@ -98,7 +96,7 @@ pub(crate) fn print_commit_line(
     answer: &Result<Changed, CommitFault>,
 ) -> Result<(), AllocError>
     ensures ok { OnOk result (out.new.items ≡ out.old.items
-        ++ commit_text Form.Json tick answer.now) }
+        ++ as_json.commit tick answer.now) }
     ensures kept { KeepsFront out.old.items out.new.items }
 {
     let text = answer_string(alloc, answer)?;
@@ -113,7 +111,7 @@ pub(crate) fn print_end_line(
     monitor: &Monitor,
 ) -> Result<(), AllocError>
     ensures ok { OnOk result (out.new.items ≡ out.old.items
-        ++ end_text Form.Json (printed_monitor monitor.now)) }
+        ++ as_json.end (printed_monitor monitor.now)) }
     ensures kept { KeepsFront out.old.items out.new.items }
 {
     let line = last_line(alloc, monitor)?;

@@ -12,7 +12,6 @@ use crate::fields::{short_field_before, text_before, word_before};
 use crate::json_list::{close_list, start_before};
 use crate::line_groups::{LineOf, print_lines};
 use crate::page_run::PageRun;
-use crate::slot_text::action_word;
 use damon_types::{Action, Space};
 use line_text::address_before;
 use scheme_engine::{AppliedRun, Engine};
@@ -150,12 +149,7 @@ fn prefix_before(bytes: &mut [u8], end: usize, action: Option<Action>) -> usize
     match action {
         Some(action) => {
             let word = text_before(bytes, end, b"\",\"end\":\"");
-            word_before(
-                bytes,
-                word,
-                b",{\"action\":\"",
-                action_word(action).as_bytes(),
-            )
+            word_before(bytes, word, b",{\"action\":\"", action.name().as_bytes())
         }
         None => text_before(bytes, end, b",{\"action\":null,\"end\":\""),
     }

@@ -11,7 +11,6 @@ ghost use Rattle.snapshot_print.specs.Json.{list_of, set_slot_json, set_slots_js
 ghost use Rattle.snapshot_print.specs.Kept.{KeepsFront};
 
 use crate::json_parts::{send_bool, send_count, send_text};
-use crate::slot_text::action_word;
 use damon_types::MAX_SLOT;
 use scheme_engine::{Engine, SLOTS, SlotView};
 use serde::{Described, Serialize, Serializer};
@@ -122,7 +121,7 @@ fn send_set_slot<S: Serializer>(out: &mut S, slot: u8, view: &SlotView) -> Resul
         (SendsValue (slot_json slot view.now) (S.written out.old) (S.written out.new)) }
 {
     out.begin_map(Some(8))?;
-    send_text(out, "action", action_word(view.action))?;
+    send_text(out, "action", view.action.name())?;
     send_bool(out, "active", view.active)?;
     send_count(out, "applied", view.applied)?;
     send_count(out, "charged", view.window.charged)?;

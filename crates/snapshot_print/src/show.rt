@@ -1,6 +1,7 @@
 ghost use Rattle.std.specs.Prelude.{◌≡◌, ◌++◌, OnErr, OnOk};
 ghost use Rattle.snapshot_print.specs.Fields.{phase_name};
-ghost use Rattle.snapshot_print.specs.Lines.{end_text, show_line, show_text};
+ghost use Rattle.snapshot_print.specs.Forms.{writing_of};
+ghost use Rattle.snapshot_print.specs.Lines.{as_text, show_line};
 ghost use Rattle.snapshot_print.specs.Kept.{KeepsFront};
 ghost use Rattle.snapshot_print.specs.Printed.{printed_monitor};
 
@@ -24,7 +25,7 @@ pub fn print_show(
     monitor: &Monitor,
 ) -> Result<(), AllocError>
     ensures ok { OnOk result (out.new.items ≡ out.old.items
-        ++ show_text form (printed_monitor monitor.now)) }
+        ++ (writing_of form).show (printed_monitor monitor.now)) }
     ensures err { OnErr result (out.new.items ≡ out.old.items) }
 {
     let before = out.len();
@@ -44,7 +45,7 @@ pub fn print_end(
     monitor: &Monitor,
 ) -> Result<(), AllocError>
     ensures ok { OnOk result (out.new.items ≡ out.old.items
-        ++ end_text form (printed_monitor monitor.now)) }
+        ++ (writing_of form).end (printed_monitor monitor.now)) }
     ensures err { OnErr result (out.new.items ≡ out.old.items) }
 {
     let before = out.len();
@@ -59,7 +60,7 @@ pub fn print_end(
 #[tactic(auto, using(crate::proofs::Appending::appends))]
 fn print_state(out: &mut Vec<u8>, monitor: &Monitor) -> Result<(), AllocError>
     ensures ok { OnOk result (out.new.items ≡ out.old.items
-        ++ show_text Form.Text (printed_monitor monitor.now)) }
+        ++ as_text.show (printed_monitor monitor.now)) }
     ensures kept { KeepsFront out.old.items out.new.items }
 {
     print_first_line(out, monitor)?;
@@ -84,7 +85,7 @@ fn print_first_line(out: &mut Vec<u8>, monitor: &Monitor) -> Result<(), AllocErr
 #[tactic(auto, using(crate::proofs::Appending::appends))]
 fn print_totals(out: &mut Vec<u8>, monitor: &Monitor) -> Result<(), AllocError>
     ensures ok { OnOk result (out.new.items ≡ out.old.items
-        ++ end_text Form.Text (printed_monitor monitor.now)) }
+        ++ as_text.end (printed_monitor monitor.now)) }
     ensures kept { KeepsFront out.old.items out.new.items }
 {
     print_field(out, b"end ticks=", monitor.ticks())?;

@@ -1,11 +1,11 @@
 // The lines of the set slots in a show.
 ghost use Rattle.std.specs.Prelude.{◌≡◌, ◌+◌, ◌≤◌, ◌++◌, length, drop, slice_index_or, OnOk};
 ghost use Rattle.scheme_engine.specs.Slots.{empty_slot};
-ghost use Rattle.snapshot_print.specs.Schemes.{action_word, scheme_line, scheme_part, shown_slot, shown_slots, statistics_part};
+ghost use Rattle.snapshot_print.specs.Schemes.{scheme_line, scheme_part, shown_slot, shown_slots, statistics_part};
 ghost use Rattle.snapshot_print.specs.Kept.{KeepsFront};
 
 use crate::fields::{field_before, text_before, word_before, yes_or_no};
-use damon_types::{Action, MAX_SLOT};
+use damon_types::MAX_SLOT;
 use scheme_engine::{Engine, SLOTS, SlotView};
 use std::alloc::AllocError;
 
@@ -77,23 +77,6 @@ fn state_before(bytes: &mut [u8], end: usize, slot: u8, view: &SlotView) -> usiz
     ensures written { drop result bytes.new ≡ scheme_part slot view.now ++ drop end bytes.old }
 {
     let active = word_before(bytes, end, b" active=", yes_or_no(view.active).as_bytes());
-    let action = word_before(bytes, active, b" ", action_word(view.action).as_bytes());
+    let action = word_before(bytes, active, b" ", view.action.name().as_bytes());
     field_before(bytes, action, b"scheme ", u64::from(slot))
-}
-
-// The word of an action.
-pub(crate) fn action_word(action: Action) -> &'static str
-    ensures word { result.now ≡ action_word action }
-    ensures short { length result.now ≤ 10 }
-{
-    match action {
-        Action::Stat => "stat",
-        Action::Willneed => "willneed",
-        Action::Cold => "cold",
-        Action::Pageout => "pageout",
-        Action::Hugepage => "hugepage",
-        Action::Nohugepage => "nohugepage",
-        Action::LruPrio => "lru_prio",
-        Action::LruDeprio => "lru_deprio",
-    }
 }

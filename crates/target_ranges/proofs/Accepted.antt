@@ -1,11 +1,11 @@
 -- What a spec keeps against which there is no reason.
 use Rattle.std.proofs.Common.{◌≡◌, ℕ, ◌≤◌, ◌<◌, true, false, not, List, Ok, Err, Some, None, refl, arith, if◌then◌else◌}
 use Rattle.std.proofs.lemmas.Bool.Decides.{nat_tests}
-use Rattle.std.specs.Prelude.{Bool, Option, Result, slice_get, nat_le, nat_lt}
+use Rattle.std.specs.Prelude.{Bool, Option, Result, slice_get, nat_le, nat_lt, ◌&&◌, ◌==◌, ◌%◌, ◌*◌, ◌+◌}
 use Rattle.damon_types.specs.declared.space.Target.{Target}
 use Rattle.damon_types.specs.declared.range.RangeSpec.{RangeSpec}
 use Rattle.target_ranges.specs.declared.fault.RangeWhy.TheVariants.{TooMany, Unaligned, Reversed, OutsideSpan, TooSmall, BadClass, Overlap}
-use Rattle.target_ranges.specs.Checked.{checked_within, checked_range, is_aligned, lies_in, overlaps}
+use Rattle.target_ranges.specs.Checked.{checked_within, checked_range, overlaps}
 use Rattle.target_ranges.specs.Made.{IsPlaced, page_count}
 
 -- a spec within its limits, after the one before it
@@ -23,9 +23,9 @@ passed false e rest ok = (refl, ok)
 accepted_in : (ts : List Target) (unit : ℕ) (before : Option RangeSpec) (s : RangeSpec) (found : Option Target) → slice_get ts s.target ≡ found → checked_within unit before s found ≡ Ok tt → IsAccepted ts unit before s
 accepted_in ts unit before s None is ok = absurd (cc)
 accepted_in ts unit before s (Some t) is ok =
-    let aligned = passed (not (is_aligned s)) Unaligned _ ok in
+    let aligned = passed (not ((s.from % 4096 == 0) && (s.to % 4096 == 0))) Unaligned _ ok in
     let some = passed (nat_le s.to s.from) Reversed _ aligned.1 in
-    let inside = passed (not (lies_in t s)) OutsideSpan _ some.1 in
+    let inside = passed (not (nat_le t.base s.from && nat_le s.to (t.base + 4096 * t.pages))) OutsideSpan _ some.1 in
     let wide = passed (nat_lt (page_count s) unit) TooSmall _ inside.1 in
     let class = passed (nat_lt 15 s.class) BadClass _ wide.1 in
     let apart = passed (overlaps before s) Overlap _ class.1 in

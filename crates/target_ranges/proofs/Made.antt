@@ -6,7 +6,7 @@ use Rattle.std.proofs.lemmas.List.{length-map, length-take-le, map-append}
 use Rattle.std.proofs.lemmas.List.Elements.{All-from_recursion, All-map, All-weaker}
 use Rattle.std.proofs.lemmas.Option.{slice_get_within}
 use Rattle.std.specs.List.{AllByRecursion}
-use Rattle.std.specs.Prelude.{All, Option}
+use Rattle.std.specs.Prelude.{All, Option, slice_index, map}
 use Rattle.damon_types.specs.declared.space.Target.{Target}
 use Rattle.damon_types.specs.declared.range.Range.{Range}
 use Rattle.damon_types.specs.declared.range.RangeSpec.{RangeSpec}
@@ -14,7 +14,7 @@ use Rattle.damon_types.specs.Ranges.{OrderedFrom, InOrder, Follows, IsRange, end
 use Rattle.damon_types.specs.Space.{pages_of, offset}
 use Rattle.damon_types.specs.Within.{LiesInTarget}
 use Rattle.target_ranges.specs.Checked.{checked_from, checked_ranges, overlaps}
-use Rattle.target_ranges.specs.Made.{IsPlaced, base_of, page_count, range_of, ranges_of}
+use Rattle.target_ranges.specs.Made.{IsPlaced, page_count, range_of, ranges_of}
 use Rattle.target_ranges.proofs.Accepted.{accepted}
 use Rattle.target_ranges.proofs.Faults.{first_accepted, checked_ranges-room}
 use Rattle.target_ranges.proofs.Offsets.{offset-next, offset-le, offset-total, base_of_there}
@@ -24,17 +24,17 @@ pages_add : (base from to : ℕ) → from % 4096 ≡ 0 → to % 4096 ≡ 0 → b
 pages_add base from to begins ends low some = omega arith
 
 -- the range of a spec ends where the spec does
-ends_at : (ts : List Target) (s : RangeSpec) → IsPlaced ts s → end_of (range_of ts s) ≡ offset ts s.target + (s.to - base_of ts s.target) / 4096
+ends_at : (ts : List Target) (s : RangeSpec) → IsPlaced ts s → end_of (range_of ts s) ≡ offset ts s.target + (s.to - (slice_index (map (λ (t : Target). t.base) ts) s.target)) / 4096
 ends_at ts s placed =
     let base = base_of_there ts s.target placed.place placed.there in
-    omega (arith, pages_add (base_of ts s.target) s.from s.to placed.begins placed.ends (omega (arith, base, placed.low)) placed.some)
+    omega (arith, pages_add (slice_index (map (λ (t : Target). t.base) ts) s.target) s.from s.to placed.begins placed.ends (omega (arith, base, placed.low)) placed.some)
 
 -- its pages are pages of its target
 pub placed-LiesInTarget : (ts : List Target) (s : RangeSpec) → IsPlaced ts s → LiesInTarget ts (range_of ts s)
 placed-LiesInTarget ts s placed =
     let next = offset-next ts s.target placed.place placed.there in
     let base = base_of_there ts s.target placed.place placed.there in
-    let most : (s.to - base_of ts s.target) / 4096 ≤ placed.place.pages = omega (arith, base, placed.high) in
+    let most : (s.to - (slice_index (map (λ (t : Target). t.base) ts) s.target)) / 4096 ≤ placed.place.pages = omega (arith, base, placed.high) in
     record {
       target = slice_get_within ts s.target placed.place placed.there;
       from = omega arith;
@@ -58,7 +58,7 @@ apart_follow ts p s before placed apart =
       | inr not_earlier ↦
           let same : p.target ≡ s.target = grind (arith, nat_tests) in
           let below : p.to ≤ s.from = grind (arith, nat_tests) in
-          let base = ap (base_of ts) same in
+          let base = ap (λ i. slice_index (map (λ (t : Target). t.base) ts) i) same in
           (omega arith, omega (arith, ends_at ts p before, ap (offset ts) same, base, below))
     ]
 

@@ -2,10 +2,9 @@
 use Rattle.std.proofs.Common.{◌≡◌, ℕ, zero, suc, ◌+◌, ◌*◌, ◌-◌, ◌/◌, ◌≤◌, ◌<◌, List, [], ◌∷◌, take, Some, ap, ◌∙◌, arith}
 use Rattle.std.proofs.lemmas.Bool.Decides.{nat_tests}
 use Rattle.std.proofs.lemmas.List.Sums.{sum_by-cons, sum_by-take-le}
-use Rattle.std.specs.Prelude.{slice_get}
+use Rattle.std.specs.Prelude.{slice_get, slice_index, map}
 use Rattle.damon_types.specs.declared.space.Target.{Target}
 use Rattle.damon_types.specs.Space.{pages_of, offset, page_of, page_in}
-use Rattle.target_ranges.specs.Made.{base_of}
 
 offset-suc : (t : Target) (ts : List Target) (i : ℕ) → offset (t ∷ ts) (suc i) ≡ t.pages + offset ts i
 offset-suc t ts i = sum_by-cons (λ (u : Target). u.pages) t (take i ts)
@@ -31,7 +30,7 @@ pub offset-total : (ts : List Target) (i : ℕ) → offset ts i ≤ pages_of ts
 offset-total ts i = sum_by-take-le (λ (t : Target). t.pages) ts i
 
 -- the base of a target that is there
-pub base_of_there : (ts : List Target) (i : ℕ) (t : Target) → slice_get ts i ≡ Some t → base_of ts i ≡ t.base
+pub base_of_there : (ts : List Target) (i : ℕ) (t : Target) → slice_get ts i ≡ Some t → (slice_index (map (λ (t : Target). t.base) ts) i) ≡ t.base
 base_of_there [] i t is = absurd (cc)
 base_of_there (u ∷ us) zero t is = let same : u ≡ t = cc in ap (λ (t : Target). t.base) same
 base_of_there (u ∷ us) (suc i) t is = base_of_there us i t is

@@ -11,26 +11,19 @@ use Rattle.target_ranges.specs.declared.fault.RangeWhy.{RangeWhy}
 use Rattle.target_ranges.specs.declared.fault.RangeWhy.TheVariants.{TooMany, NoSuchTarget, Unaligned, Reversed, OutsideSpan, TooSmall, BadClass, Overlap}
 use Rattle.target_ranges.specs.Made.{page_count}
 
--- both addresses are multiples of the page size
-abbrev pub is_aligned : RangeSpec → Bool
-is_aligned s = (s.from % PAGE_SIZE == 0) && (s.to % PAGE_SIZE == 0)
-
--- the addresses lie in the target
-abbrev pub lies_in : Target → RangeSpec → Bool
-lies_in t s = nat_le t.base s.from && nat_le s.to (t.base + PAGE_SIZE * t.pages)
-
 -- the spec does not come after the one before it: it is in an earlier target, or in the same one and begins before its end
 abbrev pub overlaps : Option RangeSpec → RangeSpec → Bool
 overlaps None s = false
 overlaps (Some p) s = nat_lt s.target p.target || ((s.target == p.target) && nat_lt s.from p.to)
 
--- the first reason against a spec after the one before it, in its target if there is one
+-- The first reason against a spec after the one before it, in its target if there is one: an address that is no multiple of the page
+-- size, an end that is not after the beginning, a part outside of the target, too few pages, a class that does not exist, or an overlap.
 abbrev pub checked_within : ℕ → Option RangeSpec → RangeSpec → Option Target → Result (Unit {0}) RangeWhy
 checked_within unit before s None = Err NoSuchTarget
 checked_within unit before s (Some t) =
-    if not (is_aligned s) then Err Unaligned
+    if not ((s.from % PAGE_SIZE == 0) && (s.to % PAGE_SIZE == 0)) then Err Unaligned
     else if nat_le s.to s.from then Err Reversed
-    else if not (lies_in t s) then Err OutsideSpan
+    else if not (nat_le t.base s.from && nat_le s.to (t.base + PAGE_SIZE * t.pages)) then Err OutsideSpan
     else if nat_lt (page_count s) unit then Err TooSmall
     else if nat_lt MAX_CLASS s.class then Err BadClass
     else if overlaps before s then Err Overlap

@@ -6,19 +6,15 @@ use Rattle.damon_types.specs.declared.range.Range.{Range}
 use Rattle.damon_types.specs.declared.range.RangeSpec.{RangeSpec}
 use Rattle.damon_types.specs.Space.{offset}
 
--- the address of the first byte of target i
-abbrev pub base_of : List Target → ℕ → ℕ
-base_of ts i = slice_index (map (λ t. t.base) ts) i
-
 -- the whole pages from the first address of a spec to its last
 abbrev pub page_count : RangeSpec → ℕ
 page_count s = (s.to - s.from) / PAGE_SIZE
 
--- the pages of a spec, as they are numbered in the space
+-- the pages of a spec, as they are numbered in the space; they begin as far from their target's first page as the spec from its base
 abbrev pub range_of : List Target → RangeSpec → Range
 range_of ts s = record {
   target = s.target;
-  first = offset ts s.target + (s.from - base_of ts s.target) / PAGE_SIZE;
+  first = offset ts s.target + (s.from - slice_index (map (λ t. t.base) ts) s.target) / PAGE_SIZE;
   pages = page_count s;
   class = s.class;
 }

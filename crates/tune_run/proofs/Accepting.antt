@@ -5,6 +5,7 @@ use Rattle.std.specs.Result.{result_and}
 use Rattle.std.proofs.lemmas.Bool.Decides.{nat_tests}
 use Rattle.std.proofs.lemmas.Grind.{reverse_onto}
 use Rattle.std.proofs.lemmas.List.{length-map}
+use Rattle.damon_types.specs.Faults.{fault_as}
 use Rattle.damon_types.specs.declared.attrs.Attrs.{Attrs}
 use Rattle.damon_types.specs.declared.range.RangeSpec.{RangeSpec}
 use Rattle.damon_types.specs.declared.row.Row.{Row}
@@ -14,17 +15,19 @@ use Rattle.damon_types.specs.declared.scheme.Scheme.{Scheme}
 use Rattle.damon_types.specs.declared.scheme.SchemeFault.{SchemeFault}
 use Rattle.damon_types.specs.declared.scheme.SlotChange.{SlotChange}
 use Rattle.damon_types.specs.declared.scheme.Version.{Version}
+use Rattle.damon_types.specs.declared.scheme.Version.TheVariants.{One, Two}
 use Rattle.damon_types.specs.Scheme.{checked_in}
 use Rattle.target_ranges.specs.Made.{range_of}
+use Rattle.live_commit.specs.declared.fault.SetupFault.TheVariants.{BadScheme as BadSlot, RepeatedSlot}
 use Rattle.live_commit.specs.declared.fault.CommitFault.{CommitFault}
 use Rattle.live_commit.specs.declared.fault.CommitFault.TheVariants.{BadScheme}
 use Rattle.live_commit.specs.declared.phase.Phase.{Phase}
 use Rattle.live_commit.specs.declared.phase.Phase.TheVariants.{Idle, Clearing, Armed, Checking, Void, Due}
 use Rattle.live_commit.specs.Accepted.{AllowsCommit}
-use Rattle.live_commit.specs.Accepts.{checked_cost, checked_for_slot, checked_new_attrs, checked_new_ranges, checked_new_slot, checked_number, checked_phase, fault_as, max_after, ranges_after}
+use Rattle.live_commit.specs.Accepts.{checked_cost, checked_for_slot, checked_new_attrs, checked_new_ranges, checked_new_slot, checked_number, checked_phase, max_after, ranges_after}
 use Rattle.live_commit.specs.Commit.{CommitValue}
 use Rattle.live_commit.specs.Setup.{IsSetup, SetupValue}
-use Rattle.live_commit.specs.Slots.{checked_after, checked_free, checked_set, checked_slot, is_set, scheme_fault}
+use Rattle.live_commit.specs.Slots.{checked_after, checked_set, checked_slot, is_set}
 use Rattle.damon_core.specs.After.{after, by_clear, by_load, by_observe}
 use Rattle.damon_core.specs.Commit.{becomes_void, check_of, committed, committed_core, if_accepted, phase_after_commit, view_of, with_cost, with_metric, with_slot}
 use Rattle.damon_core.specs.Event.{Event, touch, prepare, clear, load, observe, aggregate, commit, show}
@@ -123,7 +126,7 @@ set_sound version slot scheme notes ok sound i held is =
     ]) refl is
 
 -- the slots of a setup
-scheme_fault_ok : (index : ℕ) (r : Result (Unit {0}) SchemeFault) → scheme_fault index r ≡ Ok tt → r ≡ Ok tt
+scheme_fault_ok : (index : ℕ) (r : Result (Unit {0}) SchemeFault) → (fault_as (BadSlot index) r) ≡ Ok tt → r ≡ Ok tt
 scheme_fault_ok index (Ok t) ok = refl
 scheme_fault_ok index (Err why) ok = absurd (cc)
 
@@ -140,7 +143,7 @@ setup_sound version before (c ∷ changes) notes sound ok =
     by_scheme slot None is fine rest = rest notes sound
     by_scheme slot (Some scheme) is fine rest =
         let others = filter_map set_note changes in
-        let checked = scheme_fault_ok (length before) (checked_in version slot scheme) (both_ok (scheme_fault (length before) (checked_in version slot scheme)) (checked_free (length before) is) fine).0 in
+        let checked = scheme_fault_ok (length before) (checked_in version slot scheme) (both_ok (fault_as (BadSlot (length before)) (checked_in version slot scheme)) (if is then Err (RepeatedSlot (length before)) else Ok tt) fine).0 in
         subst (λ (all : List Note). AreSound version all)
         (sym (append_assoc (reverse others) (set slot scheme ∷ []) notes) ∙ ap (λ front. front ++ notes) (sym (reverse_onto others (set slot scheme) [])))
         (rest (set slot scheme ∷ notes) (set_sound version slot scheme notes checked sound))
@@ -252,11 +255,13 @@ reached_takes s reached =
 -- ---- a change of a slot in force to other bytes is accepted
 
 other_bytes : (version : Version) (slot : ℕ) (s : Scheme) (bytes : ℕ) → checked_in version slot (with_bytes s bytes) ≡ checked_in version slot s
-other_bytes version slot s bytes = by_quota s.quota
+other_bytes version slot s bytes = by_quota version s.quota
   where
-    by_quota : (q : Option Quota) → checked_in version slot (with_bytes (record s { quota = q }) bytes) ≡ checked_in version slot (record s { quota = q })
-    by_quota None = refl
-    by_quota (Some q) = refl
+    by_quota : (version : Version) (q : Option Quota) → checked_in version slot (with_bytes (record s { quota = q }) bytes) ≡ checked_in version slot (record s { quota = q })
+    by_quota One None = refl
+    by_quota One (Some q) = refl
+    by_quota Two None = refl
+    by_quota Two (Some q) = refl
 
 phase_allows : (phase : Phase) (rows : ℕ) → AllowsCommit phase → checked_phase phase rows ≡ Ok tt
 phase_allows Idle rows free = refl

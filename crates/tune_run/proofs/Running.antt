@@ -20,8 +20,9 @@ use Rattle.damon_core.specs.State.{State, opening}
 use Rattle.damon_world.specs.Plays.{along-state}
 use Rattle.damon_control.specs.Script.{ScriptValue}
 use Rattle.damon_control.specs.Sound.{IsSound}
-use Rattle.script_run.specs.Course.{Course, course_after, onward}
-use Rattle.script_run.specs.Unfold.{start_with}
+use Rattle.script_run.specs.Course.{Course, course_after, going_with}
+use Rattle.script_run.specs.Going.{onward}
+use Rattle.script_run.specs.RunWith.{start_with}
 use Rattle.quota_goal.specs.declared.goals.Goal.{Goal}
 use Rattle.quota_goal.specs.declared.moment.Moment.{Moment}
 use Rattle.quota_goal.specs.declared.moment.Moment.TheVariants.{Metric}
@@ -195,7 +196,7 @@ module _ (laws : Bounds) (law : NamesSlots) (goals : List Goal) (r : Course) (e 
 
 module _ (laws : Bounds) (law : NamesSlots) (goals : List Goal) where
   carried_on : (es : List Event) (r : Course) → IsCarried goals r.memory r.moment.state
-      → IsCarried goals (onward (tune_callbacks goals) r es).memory (onward (tune_callbacks goals) r es).moment.state
+      → IsCarried goals (onward (going_with (tune_callbacks goals)) r es).memory (onward (going_with (tune_callbacks goals)) r es).moment.state
   carried_on [] r here = here
   carried_on (e ∷ es) r here = carried_on es (course_after (tune_callbacks goals) r e) (course_carries laws law goals r e here)
 
@@ -206,5 +207,5 @@ module _ (laws : Bounds) (law : NamesSlots) (goals : List Goal) where
     below = first_below goals (opening s.setup);
   }
 
-  pub carried_to : (s : ScriptValue) → IsSound s → (made : List Event) → (let r = onward (tune_callbacks goals) (start_with (tune_callbacks goals) s) made in IsCarried goals r.memory r.moment.state)
+  pub carried_to : (s : ScriptValue) → IsSound s → (made : List Event) → (let r = onward (going_with (tune_callbacks goals)) (start_with (tune_callbacks goals) s) made in IsCarried goals r.memory r.moment.state)
   carried_to s sound made = carried_on made (start_with (tune_callbacks goals) s) (first_carried s sound)

@@ -14,7 +14,8 @@ use Rattle.damon_core.specs.Reached.{run}
 use Rattle.damon_core.specs.Slots.{slot_count}
 use Rattle.damon_core.specs.State.{State}
 use Rattle.damon_world.specs.Plays.{along-state}
-use Rattle.script_run.specs.Course.{Course, course_after, onward}
+use Rattle.script_run.specs.Course.{Course, course_after, going_with}
+use Rattle.script_run.specs.Going.{onward}
 use Rattle.quota_goal.specs.declared.goals.Goal.{Goal}
 use Rattle.quota_goal.specs.declared.moment.Moment.{Moment}
 use Rattle.quota_goal.specs.Goals.{IsGoal}
@@ -180,7 +181,7 @@ module _ (laws : Bounds) (law : NamesSlots) (goals : List Goal) (g : Goal) (one 
     moved top bytes (Some score) is here = step score bytes top is here
 
     stretch : (es : List Event) (q : Course) → IsCarried goals q.memory q.moment.state → (bytes new : ℕ) → bytes_in goals q g.slot ≡ Some bytes
-        → IsIn g (get_or q.memory g.slot 0) bytes → bytes_in goals (onward (tune_callbacks goals) q es) g.slot ≡ Some new → ScoresAre goals g P q es
+        → IsIn g (get_or q.memory g.slot 0) bytes → bytes_in goals (onward (going_with (tune_callbacks goals)) q es) g.slot ≡ Some new → ScoresAre goals g P q es
         → R bytes new
     stretch [] q here bytes new was within is scores =
         let alike : Some bytes ≡ Some new = sym was ∙ is in

@@ -6,7 +6,7 @@ use Rattle.damon_types.specs.declared.scheme.Quota.{Quota}
 use Rattle.damon_types.specs.declared.scheme.Scheme.{Scheme}
 use Rattle.damon_types.specs.declared.space.Target.{Target}
 use Rattle.region_list.specs.Regions.{RegionList}
-use Rattle.quota_charge.specs.Quota.{left_of}
+use Rattle.quota_charge.specs.Quota.{left_of, has_ended}
 use Rattle.scheme_engine.specs.Outcome.{outcome_of}
 use Rattle.scheme_engine.specs.Served.{no_choice}
 use Rattle.live_commit.specs.declared.phase.Phase.{Phase}
@@ -16,8 +16,8 @@ use Rattle.damon_core.specs.Aggregate.{merged_regions}
 use Rattle.damon_core.specs.Event.{Event, touch, prepare, clear, load, observe, aggregate, commit, show}
 use Rattle.damon_core.specs.Note.{Note, turned}
 use Rattle.damon_core.specs.Reached.{run}
-use Rattle.damon_core.specs.Serve.{Serving, nothing_served, run_served, serve_scheme, serve_slot, serve_slots, window_ends, with_turn}
-use Rattle.damon_core.specs.Slots.{charged_of, cost_of, is_active_in, scheme_of, slot_count}
+use Rattle.damon_core.specs.Serve.{Serving, nothing_served, run_served, serve_scheme, serve_slot, serve_slots, with_turn}
+use Rattle.damon_core.specs.Slots.{charged_of, cost_of, is_active_in, scheme_of, slot_count, start_of}
 use Rattle.damon_core.specs.State.{State}
 use Rattle.damon_world.specs.Touches.{touches}
 use Rattle.script_run.specs.Callbacks.{IsStep}
@@ -32,7 +32,7 @@ IsNoCommit _ = Unit {0}
 -- a window that begins
 turn_same : (slot tick : ℕ) (quota : Option Quota) (notes : List Note) (i : ℕ) → scheme_of (with_turn slot tick quota notes) i ≡ scheme_of notes i
 turn_same slot tick quota notes i =
-    elim (window_ends notes slot tick quota) as (λ b. scheme_of (if b then turned slot tick ∷ notes else notes) i ≡ scheme_of notes i) [
+    elim (option_map_or (λ (q : Quota). has_ended q (start_of notes slot) tick) quota false) as (λ b. scheme_of (if b then turned slot tick ∷ notes else notes) i ≡ scheme_of notes i) [
       | true ↦ refl
       | false ↦ refl
     ]

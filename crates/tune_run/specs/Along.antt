@@ -10,8 +10,9 @@ use Rattle.damon_core.specs.State.{State, opening}
 use Rattle.damon_control.specs.Script.{ScriptValue}
 use Rattle.damon_control.specs.Sound.{IsSound}
 use Rattle.script_run.specs.Callbacks.{put_after, remembered}
-use Rattle.script_run.specs.Course.{Course, course_after, onward}
-use Rattle.script_run.specs.Unfold.{own_events, start_with}
+use Rattle.script_run.specs.Course.{Course, course_after, going_with}
+use Rattle.script_run.specs.Going.{onward}
+use Rattle.script_run.specs.RunWith.{own_events, start_with}
 use Rattle.quota_goal.specs.declared.goals.Goal.{Goal}
 use Rattle.quota_goal.specs.declared.moment.Moment.{Moment}
 use Rattle.quota_goal.specs.Goals.{IsGoal}
@@ -23,7 +24,7 @@ use Rattle.tune_run.specs.Callbacks.{moment_after, tune_callbacks, tuner_in}
 abbrev pub AtEachEvent : List Goal → ScriptValue → (Course → Event → Type 0) → Type 0
 AtEachEvent goals s P =
     let c = tune_callbacks goals in
-    (made rest : List Event) (e : Event) → own_events c s ≡ made ++ e ∷ rest → P (onward c (start_with c s) made) e
+    (made rest : List Event) (e : Event) → own_events c s ≡ made ++ e ∷ rest → P (onward (going_with c) (start_with c s) made) e
 
 -- the same of each script and goals within their limits
 abbrev pub AtEachEventOfAll : (List Goal → Course → Event → Type 0) → Type 0
@@ -148,5 +149,5 @@ StayWithTheScores goals r e =
     let c = tune_callbacks goals in
     let q = course_after c r e in
     (es : List Event) (g : Goal) (score bytes new : ℕ) → goals_of goals g.slot ≡ g ∷ [] → score_at g r e ≡ Some score
-    → bytes_in goals q g.slot ≡ Some bytes → bytes_in goals (onward c q es) g.slot ≡ Some new
+    → bytes_in goals q g.slot ≡ Some bytes → bytes_in goals (onward (going_with c) q es) g.slot ≡ Some new
     → (ScoresAre goals g (λ n. n < g.target) q es → bytes ≤ new) × (ScoresAre goals g (λ n. g.target ≤ n) q es → new ≤ bytes)

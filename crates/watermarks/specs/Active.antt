@@ -12,15 +12,11 @@ decides m value = not (nat_le m.mid value && nat_le value m.high)
 abbrev pub activates : Marks → ℕ → Bool
 activates m value = nat_le m.low value && nat_lt value m.mid
 
--- the last of these metrics that decides, if any
-abbrev pub last_deciding : Marks → List ℕ → Option ℕ
-last_deciding m metrics = last_or None (filter (decides m) metrics)
-
 -- Whether a slot is active by the metrics since it was set, the oldest first: always without marks; with marks exactly
 -- where some metric decides and the last one that does makes it active.
 abbrev pub is_active : Option Marks → List ℕ → Bool
 is_active None metrics = true
-is_active (Some m) metrics = option_map_or (activates m) (last_deciding m metrics) false
+is_active (Some m) metrics = option_map_or (activates m) (last_or None (filter (decides m) metrics)) false
 
 -- whether a slot is active after one more metric, by whether it was active before
 abbrev pub after_metric : Option Marks → Bool → ℕ → Bool

@@ -14,10 +14,12 @@ loop-next-preserved c =
     let page = c.page-in-loop-next.result in
     let is : slice_index picks i ≡ page = get_or_from_slice_get picks i page 0 c.page-in-loop-next.ensures in
     record {
-      len = c.clear_bit.ensures.len ∙ c.loop-next.invariant.len;
-      bits = λ p.
-          (c.clear_bit.ensures.bits p
-          ∙ put_more (page == p) (is_picked picks from (i - from) p) false (bit_in c.loop-next.marks p) (bit_in c.args.marks.now p) (c.loop-next.invariant.bits p)
-          ∙ ap (λ b. if b then false else bit_in c.args.marks.now p) (picked_next picks from i page p (omega arith) is));
+      so_far = record {
+        len = c.clear_bit.ensures.len ∙ c.loop-next.invariant.so_far.len;
+        bits = λ p.
+            (c.clear_bit.ensures.bits p
+            ∙ put_more (page == p) (is_picked picks from (i - from) p) false (bit_in c.loop-next.marks p) (bit_in c.args.marks.now p) (c.loop-next.invariant.so_far.bits p)
+            ∙ ap (λ b. if b then false else bit_in c.args.marks.now p) (picked_next picks from i page p (omega arith) is));
+      };
       last = c.clear_bit.ensures.last;
     }

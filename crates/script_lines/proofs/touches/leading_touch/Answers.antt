@@ -1,6 +1,6 @@
 use Rattle.std.proofs.Common.{ℕ, ap, sym, ◌∙◌, refl, rules}
 use Rattle.line_text.specs.Leading.{view_leading}
-use Rattle.script_lines.specs.Spelling.{spelled_touch}
+use Rattle.script_lines.proofs.SpelledParts.{spelled_touch}
 use Rattle.script_lines.proofs.TouchFront.{spelled_front}
 use Rattle.script_lines.proofs.touches.leading_touch.Goals as goal
 

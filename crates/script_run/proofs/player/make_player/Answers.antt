@@ -8,8 +8,9 @@ use Rattle.damon_control.specs.ScriptView.{said_by}
 use Rattle.script_run.specs.Part as part
 use Rattle.script_run.specs.Kept.{ArePartsWithin}
 use Rattle.script_run.specs.Player.{left_in, left_of}
-use Rattle.script_run.specs.Parts.{part_of, parts_of}
-use Rattle.script_run.specs.Unfold.{start_with}
+use Rattle.script_run.specs.Parts.{commands_are_parts, part_of, parts_of}
+use Rattle.script_run.specs.Course.{going_with}
+use Rattle.script_run.specs.RunWith.{start_with}
 use Rattle.script_run.specs.Way.{Reached-start}
 use Rattle.script_run.proofs.Fits.{parts_within}
 use Rattle.script_run.proofs.player.make_player.Goals as goal
@@ -59,7 +60,7 @@ returns-clause-way g c = record {
     world = record { state = c.in_ok-world.ensures.opening; words = ap (stream_of (steps_u32 pcg32)) c.in_ok-world.ensures.source ∙ c.random_words.ensures };
     callbacks = c.requires.opening;
   };
-  left = refl;
+  left = commands_are_parts (going_with g.C.Callbacks.callbacks) c.args.script.setup.cap (start_with g.C.Callbacks.callbacks (said_by c.args.script)) c.args.script.commands.list;
   written = refl;
   form = refl;
 }

@@ -2,7 +2,7 @@ use Rattle.std.proofs.Common.{◌++◌, sym, ap, ◌∙◌, subst}
 use Rattle.std.proofs.lemmas.Result.{err_from_is_err_and}
 use Rattle.damon_core.specs.Stands.{Stands}
 use Rattle.damon_world.specs.Moment.{next_event}
-use Rattle.snapshot_print.specs.Lines.{aggregate_text}
+use Rattle.snapshot_print.specs.Forms.{writing_of}
 use Rattle.snapshot_print.specs.Printed.{printed_monitor}
 use Rattle.script_run.specs.Calls.{IsAggregated}
 use Rattle.script_run.proofs.Making.{GoesAlong, IsDue, aggregated_at, aggregation_plays, aggregation_puts, aggregation_writes, made-puts, one_step, somewhere-aggregated, words_at}
@@ -92,13 +92,13 @@ returns-clause-made g c =
     let x = c.args.out.now.items in
     let y = c.print_aggregate.new.out.items in
     let z = c.append_lines.new.out.items in
-    let form = c.args.form in
-    let grew = c.in_ok-print_aggregate.ensures.ok ∙ ap (λ v. x ++ aggregate_text form (printed_monitor v)) c.monitor-2.ensures in
-    let writes = aggregation_writes stream k stands old new kk told.new.self form x y z due plays follow grew
+    let writing = writing_of c.args.form in
+    let grew = c.in_ok-print_aggregate.ensures.ok ∙ ap (λ v. x ++ writing.aggregate (printed_monitor v)) c.monitor-2.ensures in
+    let writes = aggregation_writes stream k stands old new kk told.new.self writing x y z due plays follow grew
     (λ memory s words stood shows. c.in_ok-append_lines.ensures.ok memory s words stood (subst (λ v. Stands v s) (sym c.monitor-3.ensures) shows)) in
     let pending = g.C.Callbacks.pending told.new.self in
     OnOk-map c.put_in.result
-    (λ rest. made-puts stream k stands old new c.put_in.new.world kk told.new.self c.put_in.new.callbacks form x z c.put_in.new.out.items (λ r. next_event r.moment.state r.moment.stream) pending
+    (λ rest. made-puts stream k stands old new c.put_in.new.world kk told.new.self c.put_in.new.callbacks writing x z c.put_in.new.out.items (λ r. next_event r.moment.state r.moment.stream) pending
     (aggregation_plays stream k stands old new kk told.new.self due plays follow) writes rest
     (aggregation_puts stream k stands old new kk pending due plays (λ memory s words is. told.ensures.puts memory s words (subst (λ v. IsAggregated (λ memory t. stands kk memory t) v memory s words) (sym c.monitor.ensures) is))))
     c.put_in.ensures.made
@@ -118,9 +118,9 @@ returns-clause-err g c =
     let x = c.args.out.now.items in
     let y = c.print_aggregate.new.out.items in
     let z = c.append_lines.new.out.items in
-    let form = c.args.form in
-    let grew = c.in_ok-print_aggregate.ensures.ok ∙ ap (λ v. x ++ aggregate_text form (printed_monitor v)) c.monitor-2.ensures in
-    let writes = aggregation_writes stream k stands old new kk told.new.self form x y z due plays follow grew
+    let writing = writing_of c.args.form in
+    let grew = c.in_ok-print_aggregate.ensures.ok ∙ ap (λ v. x ++ writing.aggregate (printed_monitor v)) c.monitor-2.ensures in
+    let writes = aggregation_writes stream k stands old new kk told.new.self writing x y z due plays follow grew
     (λ memory s words stood shows. c.in_ok-append_lines.ensures.ok memory s words stood (subst (λ v. Stands v s) (sym c.monitor-3.ensures) shows)) in
     let there = c.requires.somewhere in
     OnErr-map c.put_in.result (λ front. keeps-more x z c.put_in.new.out.items _ (writes there.course there.reached there.here) front) c.put_in.ensures.err

@@ -4,7 +4,7 @@ use Rattle.live_commit.specs.Commit.{commit_value}
 use Rattle.damon_core.specs.Commit.{commit_answer}
 use Rattle.damon_core.specs.Event.{commit}
 use Rattle.damon_core.specs.State.{Core}
-use Rattle.snapshot_print.specs.Commit.{commit_text}
+use Rattle.snapshot_print.specs.Forms.{writing_of}
 use Rattle.script_run.proofs.Making.{commit_plays, commit_writes, made-puts, somewhere-one}
 use Rattle.script_run.proofs.Moves.{OnErr-map, OnOk-map, keeps-more, keeps-none}
 use Rattle.script_run.proofs.together.make_commit.Goals as goal
@@ -45,14 +45,14 @@ returns-clause-made g c =
     let told = c.after_commit in
     let x = c.args.out.now.items in
     let y = c.print_commit.new.out.items in
-    let form = c.args.form in
+    let writing = writing_of c.args.form in
     let plays = commit_plays stream k stands old made.new.self c.args.callbacks.now told.new.self parts made.ensures.source made.ensures.event (λ memory s reached stood same. told.ensures.stands memory s (record { reached = reached; stood = stood; is = made.ensures.answer ∙ same })) in
     let grew = c.in_ok-print_commit.ensures.ok
-    ∙ ap (λ t. x ++ commit_text form t made.result) (c.ticks.ensures ∙ ap (λ v. v.core.ticks) c.monitor.ensures ∙ made.ensures.ticks)
-    ∙ ap (λ a. x ++ commit_text form old.monitor.core.ticks a) made.ensures.answer in
-    let writes = commit_writes stream k stands g.met.C.Callbacks.in_place old c.args.callbacks.now form x y parts grew in
+    ∙ ap (λ t. x ++ writing.commit t made.result) (c.ticks.ensures ∙ ap (λ v. v.core.ticks) c.monitor.ensures ∙ made.ensures.ticks)
+    ∙ ap (λ a. x ++ writing.commit old.monitor.core.ticks a) made.ensures.answer in
+    let writes = commit_writes stream k stands g.met.C.Callbacks.in_place old c.args.callbacks.now writing x y parts grew in
     OnOk-map c.put_in.result
-    (λ rest. made-puts stream k stands old made.new.self c.put_in.new.world c.args.callbacks.now told.new.self c.put_in.new.callbacks form x y c.put_in.new.out.items (λ r. commit parts) (g.C.Callbacks.pending told.new.self) plays writes rest
+    (λ rest. made-puts stream k stands old made.new.self c.put_in.new.world c.args.callbacks.now told.new.self c.put_in.new.callbacks writing x y c.put_in.new.out.items (λ r. commit parts) (g.C.Callbacks.pending told.new.self) plays writes rest
     (λ r reached here. told.ensures.puts r.memory r.moment.state (record { reached = reached; stood = here.callbacks; is = made.ensures.answer ∙ ap (λ (q : Core). commit_answer parts q) here.world.state.monitor.same })))
     c.put_in.ensures.made
 

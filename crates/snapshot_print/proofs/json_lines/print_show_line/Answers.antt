@@ -4,10 +4,8 @@ use Rattle.damon_types.specs.declared.row.Row.{Row}
 use Rattle.damon_types.specs.declared.space.Target.{Target}
 use Rattle.scheme_engine.specs.Slots.{SlotValue}
 use Rattle.serde_json.specs.Written.{compact_text}
-use Rattle.snapshot_print.specs.declared.form.Form.TheVariants.{Json}
 use Rattle.snapshot_print.specs.Fields.{phase_name}
-use Rattle.snapshot_print.specs.Json.{list_of, rows_json, set_slots_json}
-use Rattle.snapshot_print.specs.Lines.{show_text}
+use Rattle.snapshot_print.specs.Json.{as_json, list_of, rows_json, set_slots_json}
 use Rattle.snapshot_print.specs.Printed.{printed_monitor}
 use Rattle.snapshot_print.proofs.JsonWhole.{show_joined}
 use Rattle.snapshot_print.proofs.json_lines.print_show_line.Goals as goal
@@ -24,6 +22,6 @@ returns-clause-ok c =
     ∙ ap₂ (λ (s : List Target) (rs : List Row). c.extend_from_slice.new.self.items ++ compact_text (rows_json s rs)) c.space.ensures (c.rows-2.ensures.rows ∙ ap (λ v. v.rows) c.rows.ensures.rows) in
     let slots : c.print_slot_list.new.out.items ≡ c.extend_from_slice-2.new.self.items ++ compact_text (list_of (set_slots_json 0 m.slots)) =
     c.in_ok-print_slot_list.ensures.ok ∙ ap (λ (ss : List SlotValue). c.extend_from_slice-2.new.self.items ++ compact_text (list_of (set_slots_json 0 ss))) c.engine.ensures.slots in
-    let joined : c.print_slot_list.new.out.items ++ (codes ",\"tick\":" ++ (decimal c.ticks.result ++ codes "}\n")) ≡ old ++ show_text Json (printed_monitor m) =
+    let joined : c.print_slot_list.new.out.items ++ (codes ",\"tick\":" ++ (decimal c.ticks.result ++ codes "}\n")) ≡ old ++ as_json.show (printed_monitor m) =
     rw (slots, c.in_ok-extend_from_slice-2.ensures.items, rows, c.in_ok-extend_from_slice.ensures.items, kind, c.ticks.ensures) (show_joined old (printed_monitor m)) in
     subst (λ text. OnOk c.print_last_count.result (c.print_last_count.new.out.items ≡ text)) joined c.print_last_count.ensures.ok

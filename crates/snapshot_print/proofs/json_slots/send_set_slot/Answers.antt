@@ -14,7 +14,7 @@ returns g c =
         c.in_ok-send_text.ensures.named,
         g.S.Serializer.written c.send_text.new.out,
         c.in_ok-send_text.ensures.key,
-        subst (λ n. SendsValue (string n) c.in_ok-send_text.ensures.named (g.S.Serializer.written c.send_text.new.out)) c.action_word.ensures.word c.in_ok-send_text.ensures.sent,
+        subst (λ n. SendsValue (string n) c.in_ok-send_text.ensures.named (g.S.Serializer.written c.send_text.new.out)) c.name.ensures.named c.in_ok-send_text.ensures.sent,
         (
           c.in_ok-send_bool.ensures.named,
           g.S.Serializer.written c.send_bool.new.out,

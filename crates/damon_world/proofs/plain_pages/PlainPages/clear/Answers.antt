@@ -8,11 +8,15 @@ use Rattle.damon_world.specs.Pages.{AreCleared, PagesView, is_picked}
 use Rattle.damon_world.proofs.Parts.{are_cleared, length_bits, stored}
 use Rattle.damon_world.proofs.plain_pages.PlainPages.clear.Goals as goal
 
-pub clear_marks-requires-clause-pages : goal.clear_marks-requires-clause-pages
-clear_marks-requires-clause-pages c k below =
-    let p = c.self.inside in
-    let here : slice_index c.args.picks.now.pages k < p.pages = omega (arith, c.requires.pages k below, ap (λ (v : PagesView). length v.marks) c.self.view_is, length_bits p.pages p.marks.items) in
-    omega (arith, here, c.self.invariant.marked, ap length c.deref_mut.ensures.value)
+pub clear_marks-requires : goal.clear_marks-requires
+clear_marks-requires c = record {
+  order = c.requires.order;
+  within = c.requires.within;
+  pages = λ k below.
+      (let p = c.self.inside in
+      let here : slice_index c.args.picks.now.pages k < p.pages = omega (arith, c.requires.pages k below, ap (λ (v : PagesView). length v.marks) c.self.view_is, length_bits p.pages p.marks.items) in
+      omega (arith, here, c.self.invariant.marked, ap length c.deref_mut.ensures.value));
+}
 
 pub put_tags-requires-clause-pages : goal.put_tags-requires-clause-pages
 put_tags-requires-clause-pages c k below =

@@ -1,5 +1,6 @@
 use Rattle.std.proofs.Common.{◌≡◌, ◌∷◌, [], false, refl, ap, subst, ◌∙◌, arith}
 use Rattle.damon_world.specs.Moment.{next_event}
+use Rattle.snapshot_print.specs.Forms.{writing_of}
 use Rattle.script_run.specs.Kept.{IsMade}
 use Rattle.script_run.specs.Part.{part_value}
 use Rattle.script_run.specs.Parts.{is_done}
@@ -28,6 +29,6 @@ returns-clause-on g c =
     (λ all. record {
       later = ap (λ v. v.later) is;
       on = λ l. aggregate_made stream k stands (with_later c.args.self.now l) _ _ _ c.args.until c.args.most c.requires.part refl refl (ap (λ v. v.form) is) some c.requires.some
-          (subst (λ v. IsMade stream k stands v.world made.new.world v.callbacks made.new.callbacks v.form c.args.out.now.items made.new.out.items (λ r. next_event r.moment.state r.moment.stream ∷ [])) is all);
+          (subst (λ v. IsMade stream k stands v.world made.new.world v.callbacks made.new.callbacks (writing_of v.form) c.args.out.now.items made.new.out.items (λ r. next_event r.moment.state r.moment.stream ∷ [])) is all);
     })
     made.ensures.made

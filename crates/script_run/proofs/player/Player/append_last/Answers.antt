@@ -1,6 +1,6 @@
 use Rattle.std.proofs.Common.{◌++◌, ap, ◌∙◌, append_assoc, subst, sym}
 use Rattle.damon_core.specs.Stands.{Stands}
-use Rattle.snapshot_print.specs.Lines.{end_text}
+use Rattle.snapshot_print.specs.Forms.{writing_of}
 use Rattle.snapshot_print.specs.Printed.{printed_monitor, printed_monitor-stands, printed_state}
 use Rattle.script_run.proofs.Moves.{OnOk-map}
 use Rattle.script_run.proofs.player.Player.append_last.Goals as goal
@@ -15,12 +15,12 @@ returns-clause-last g c =
     OnOk-map c.append_end.result
     (λ lines r here.
     let s = r.moment.state in
-    let own = end_text p.form (printed_state s) in
+    let own = (writing_of p.form).end (printed_state s) in
     let shows = subst (λ v. Stands v s) (ap (λ v. v.world.monitor) (sym is) ∙ sym c.monitor-2.ensures) here.world.state.monitor in
     lines r.memory s (subst (λ k. g.C.Callbacks.stands_for k r.memory s) (ap (λ v. v.callbacks) (sym is)) here.callbacks) shows
     ∙ ap (λ t. t ++ ends r.memory s) (c.in_ok-print_end.ensures.ok
-    ∙ ap (λ v. out ++ end_text form (printed_monitor v)) c.monitor.ensures
-    ∙ ap (λ v. out ++ end_text v.form (printed_monitor v.world.monitor)) is
-    ∙ ap (λ q. out ++ end_text p.form q) (printed_monitor-stands p.world.monitor s here.world.state.monitor))
+    ∙ ap (λ v. out ++ (writing_of form).end (printed_monitor v)) c.monitor.ensures
+    ∙ ap (λ v. out ++ (writing_of v.form).end (printed_monitor v.world.monitor)) is
+    ∙ ap (λ q. out ++ (writing_of p.form).end q) (printed_monitor-stands p.world.monitor s here.world.state.monitor))
     ∙ append_assoc out own (ends r.memory s))
     c.append_end.ensures.ok

@@ -1,5 +1,5 @@
 use Rattle.std.proofs.Common.{◌≤◌, ◌++◌, refl, sym, ap, ◌∙◌, subst, arith}
-use Rattle.snapshot_print.specs.Lines.{show_text}
+use Rattle.snapshot_print.specs.Forms.{writing_of}
 use Rattle.snapshot_print.specs.Printed.{printed_monitor}
 use Rattle.script_run.specs.Part.{part_value}
 use Rattle.script_run.specs.Played.{with_later}
@@ -24,6 +24,6 @@ returns-clause-on g c =
     (λ grew. record {
       later = ap (λ v. v.later) is;
       on = λ l. show_made g.R.Rng.stream g.C.Callbacks.callbacks g.C.Callbacks.stands_for g.met.C.Callbacks.in_place (with_later c.args.self.now l) _ _ _ c.requires refl refl (ap (λ v. v.form) is) (ap (λ v. v.world) is) (ap (λ v. v.callbacks) is)
-          (grew ∙ ap (λ v. out ++ show_text form (printed_monitor v)) c.monitor.ensures ∙ ap (λ v. out ++ show_text v.form (printed_monitor v.world.monitor)) is);
+          (grew ∙ ap (λ v. out ++ (writing_of form).show (printed_monitor v)) c.monitor.ensures ∙ ap (λ v. out ++ (writing_of v.form).show (printed_monitor v.world.monitor)) is);
     })
     c.print_show.ensures.ok

@@ -2,6 +2,7 @@ use Rattle.std.proofs.Common.{◌+◌, ◌<◌, ◌∷◌, [], length, drop, ref
 use Rattle.script_lines.specs.Command.{lent_value}
 use Rattle.damon_core.specs.Event.{commit}
 use Rattle.live_commit.specs.Commit.{commit_value}
+use Rattle.snapshot_print.specs.Forms.{writing_of}
 use Rattle.script_run.specs.Kept.{IsMade}
 use Rattle.script_run.specs.Part.{Part, part_value}
 use Rattle.script_run.specs.Part as part
@@ -68,7 +69,7 @@ returns-in-Commit-clause-on g c =
       next = q;
       first = sym (ap (λ v. v.later) is) ∙ next_part p.cap p.begun p.commands.list (lent_value c.get.result) q here c.get.ensures c.in-Commit.ensures;
       on = λ l. commit_made g.R.Rng.stream cb stands (with_later c.args.self.now (q ∷ l)) _ c.args.out.now.items _ k c.requires.done refl refl (ap (λ v. v.form) is)
-          (subst (λ v. IsMade g.R.Rng.stream cb stands v.world new v.callbacks c.make_commit.new.callbacks v.form c.args.out.now.items c.make_commit.new.out.items (λ r. commit k ∷ [])) is made);
+          (subst (λ v. IsMade g.R.Rng.stream cb stands v.world new v.callbacks c.make_commit.new.callbacks (writing_of v.form) c.args.out.now.items c.make_commit.new.out.items (λ r. commit k ∷ [])) is made);
     })
     c.make_commit.ensures.made
 
