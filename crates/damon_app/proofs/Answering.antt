@@ -203,9 +203,9 @@ module _ (limit : ℕ) (request : Request) (source source' sink sink' : Ends) (s
     not_written (statuses.Unlawful line) ends writes part = absurd ends
 
     -- it was written
-    pub written : WritesWell → Appends sink.bytes sink'.bytes text → IsOutcome limit request source source' sink sink' same statuses.Ok
-    written silent all = record {
-      ok = λ e. of_bytes taken.bytes taken.all taken.end taken.few (λ bytes. WritesWanted request bytes sink.bytes sink'.bytes) (text, taken.wanted, all);
+    pub written : WritesWell → Appends sink.bytes sink'.bytes text → WritesWanted request taken.bytes sink.bytes sink'.bytes → IsOutcome limit request source source' sink sink' same statuses.Ok
+    written silent all wanted = record {
+      ok = λ e. of_bytes taken.bytes taken.all taken.end taken.few (λ bytes. WritesWanted request bytes sink.bytes sink'.bytes) wanted;
       end = λ yes. taken.end;
       complete = has_status taken.bytes taken.all taken.end taken.few statuses.Ok taken.status;
       too_long = λ not known. ((λ e. absurd (cc e)), (λ gave. absurd (not_over taken.bytes taken.all taken.end taken.few known gave)));

@@ -1,8 +1,7 @@
 -- What clap makes of words none of which begins with a hyphen.
-use Rattle.std.proofs.Common.{◌≡◌, ◌≢◌, ◌-◌, ◌^◌, ap₂, arith, ◌⊎◌, inl, inr, ℕ, List, [], ◌∷◌, true, false, Some, None, Option, codes, length, refl, ap, sym, ◌∙◌, Bool, subst}
+use Rattle.std.proofs.Common.{◌≡◌, ◌≢◌, ap₂, arith, ◌⊎◌, inl, inr, ℕ, List, [], ◌∷◌, true, false, Some, None, Option, codes, length, refl, ap, sym, ◌∙◌, Bool, subst}
 use Rattle.std.specs.Prelude.{◌==◌, ◌||◌, ◌&&◌, nat_le, String, if◌then◌else◌, map, string_bytes}
 use Rattle.std.specs.declared.alloc.Global.{Global}
-use Rattle.std.specs.List.{onto_first}
 use Rattle.std.specs.Str.{bytes_eq}
 use Rattle.std.proofs.lemmas.Slice.Eq.{bytes_eq-Decides}
 use Rattle.clap.specs.declared.error.kind.ErrorKind.{ErrorKind}
@@ -11,9 +10,6 @@ use Rattle.std.proofs.lemmas.Bool.Decides.{nat_tests}
 use Rattle.std.specs.Option.{option_map}
 use Rattle.std.specs.Box.{box_value}
 use Rattle.line_text.specs.Number.{number}
-use Rattle.line_text.specs.Parts.{parts}
-use Rattle.line_text.specs.declared.bytes.TheConstants.{COLON}
-use Rattle.damon_types.specs.declared.scheme.TheConstants.{MAX_SLOT}
 use Rattle.clap.specs.declared.error.Error.{Error}
 use Rattle.clap.specs.declared.parser.matches.ArgMatches.{ArgMatches}
 use Rattle.clap.specs.declared.parser.matches.ArgMatches.TheViews.{out-ArgMatches, out-SubCommand}
@@ -23,15 +19,13 @@ use Rattle.clap.specs.Kinds.{HasKind, IsAmong, Kinds}
 use Rattle.clap.specs.Simple.{is_simple, subcommand_of}
 use Rattle.clap.specs.Walk.{Row, Text, all_of, first_of}
 use Rattle.clap.proofs.OnLiterals.{clap_on_literals}
-use Rattle.quota_goal.specs.declared.goals.Goal.{Goal}
 use Rattle.quota_goal.specs.declared.goals.TheConstants.{MAX_GOALS}
-use Rattle.damon_app.specs.GoalWords.{◌>>=◌, goal_in, goal_of, goals_in}
 use Rattle.damon_app.specs.Parser.{Found, begins_with_hyphen, by_goals, damon_app, has_option, request_found, words_found}
 use Rattle.damon_app.specs.declared.request.Request.{Request}
 use Rattle.damon_app.specs.declared.request.Request.TheVariants.{Report, Verify, Admin}
 use Rattle.damon_app.specs.declared.request.Run.TheVariants.{Plain, Reclaim}
 use Rattle.snapshot_print.specs.declared.form.Form.TheVariants.{Text as TextForm, Json as JsonForm}
-use Rattle.damon_app.specs.Request.{asked, asked_alone, asked_by, asked_to_tune, asked_with, request_of}
+use Rattle.damon_app.specs.Request.{asked, asked_by, asked_to_tune, asked_with, request_of}
 use Rattle.damon_app.proofs.TooManyWords.{admin_fails, gen_fails, heat_fails, json_fails, reclaim_fails, replay_fails, verify_fails}
 use Rattle.damon_app.proofs.Walking.{ArePlain, IsPlainWord}
 use Rattle.damon_app.proofs.WalkingGoals.{goals_fail, goals_found, goals_pass}
@@ -91,7 +85,7 @@ named_by word (digits ∷ []) =
 named_by word (digits ∷ more ∷ words) = None
 
 -- whether words may be goals by their number
-abbrev may_tune : List Text → Bool
+abbrev pub may_tune : List Text → Bool
 may_tune words = nat_le 1 (length words) && nat_le (length words) MAX_GOALS
 
 -- what words name
@@ -308,97 +302,6 @@ module _ (words : List (String Global)) (none : has_option words ≡ false) wher
 pub simple : is_simple damon_app ≡ true
 unfolding clap_on_literals
 simple = refl
-
--- ---- words with an option
-
-is_hyphen : (c : ℕ) → (c == 45) ≡ true → c ≡ 45
-is_hyphen c is = grind (arith, nat_tests)
-
-no_report : (word : Text) → begins_with_hyphen word ≡ true → asked_alone word ≡ None
-no_report [] is = absurd cc
-no_report (c ∷ cs) is = subst (λ (b : ℕ). asked_alone (b ∷ cs) ≡ None) (sym (is_hyphen c is)) refl
-
-no_run : (word digits : Text) → begins_with_hyphen word ≡ true → asked_with word digits ≡ None
-no_run [] digits is = absurd cc
-no_run (c ∷ cs) digits is = subst (λ (b : ℕ). asked_with (b ∷ cs) digits ≡ None) (sym (is_hyphen c is)) refl
-
-no_number : (most : ℕ) (cs : Text) → number most (45 ∷ cs) ≡ None
-no_number most [] = refl
-no_number most (d ∷ ds) = refl
-
-no_digits : (word digits : Text) → begins_with_hyphen digits ≡ true → asked_with word digits ≡ None
-no_digits word [] is = absurd cc
-no_digits word (c ∷ cs) is =
-    subst (λ (b : ℕ). asked_with word (b ∷ cs) ≡ None) (sym (is_hyphen c is))
-    (rw (no_number (2 ^ 64 - 1) cs) (by (bytes_eq word (codes "gen")) (bytes_eq word (codes "heat"))))
-  where
-    by : (t u : Bool) → ◌≡◌ {A = Option Request} (if t then None else if u then None else None) None
-    by true u = refl
-    by false true = refl
-    by false false = refl
-
--- a word that begins with a hyphen says no goal: its first field is no number
-no_slot : (parts : List Text) → goal_in (onto_first 45 parts) ≡ None
-no_slot [] = refl
-no_slot (s ∷ []) = refl
-no_slot (s ∷ a ∷ []) = refl
-no_slot (s ∷ a ∷ b ∷ []) = refl
-no_slot (s ∷ a ∷ b ∷ c ∷ []) = refl
-no_slot (s ∷ a ∷ b ∷ c ∷ d ∷ []) = rw (no_number MAX_SLOT s) refl
-no_slot (s ∷ a ∷ b ∷ c ∷ d ∷ e ∷ es) = refl
-
-no_goal : (word : Text) → begins_with_hyphen word ≡ true → goal_of word ≡ None
-no_goal [] is = absurd cc
-no_goal (c ∷ cs) is = subst (λ (b : ℕ). goal_of (b ∷ cs) ≡ None) (sym (is_hyphen c is)) (no_slot (parts COLON cs))
-
--- words one of which begins with a hyphen say no goals
-no_goals : (words : List (String Global)) → has_option words ≡ true → goals_in (map string_bytes words) ≡ None
-no_goals [] is = absurd cc
-no_goals (word ∷ words) is = by (begins_with_hyphen (string_bytes word)) refl is (no_goals words)
-  where
-    by_rest : (o : Option Goal) → goals_in (map string_bytes words) ≡ None → (o >>= (λ goal. goals_in (map string_bytes words) >>= (λ goals. Some (goal ∷ goals)))) ≡ None
-    by_rest None none = refl
-    by_rest (Some goal) none = rw none refl
-
-    by : (t : Bool) → begins_with_hyphen (string_bytes word) ≡ t → (t || has_option words) ≡ true → (has_option words ≡ true → goals_in (map string_bytes words) ≡ None) → goals_in (map string_bytes (word ∷ words)) ≡ None
-    by true first is later = rw (no_goal (string_bytes word) first) refl
-    by false first is later = by_rest (goal_of (string_bytes word)) (later is)
-
-no_tuning : (words : List (String Global)) → goals_in (map string_bytes words) ≡ None → asked_to_tune (map string_bytes words) ≡ None
-no_tuning words none = by (may_tune (map string_bytes words)) refl
-  where
-    by : (t : Bool) → may_tune (map string_bytes words) ≡ t → asked_to_tune (map string_bytes words) ≡ None
-    by true is = rw (is, none) refl
-    by false is = rw is refl
-
--- words with an option ask for nothing
-no_request : (word : String Global) (words : List (String Global)) → has_option (word ∷ words) ≡ true → asked_by (string_bytes word) (map string_bytes words) ≡ None
-no_request word [] is = by (begins_with_hyphen (string_bytes word)) refl is
-  where
-    by : (t : Bool) → begins_with_hyphen (string_bytes word) ≡ t → (t || false) ≡ true → asked_alone (string_bytes word) ≡ None
-    by true first is = no_report (string_bytes word) first
-    by false first is = absurd cc
-no_request word (digits ∷ []) is = by (begins_with_hyphen (string_bytes word)) refl (begins_with_hyphen (string_bytes digits)) refl is
-  where
-    by : (t : Bool) → begins_with_hyphen (string_bytes word) ≡ t → (u : Bool) → begins_with_hyphen (string_bytes digits) ≡ u → (t || (u || false)) ≡ true → asked_with (string_bytes word) (string_bytes digits) ≡ None
-    by true first u second is = no_run (string_bytes word) (string_bytes digits) first
-    by false first true second is = no_digits (string_bytes word) (string_bytes digits) second
-    by false first false second is = absurd cc
-no_request word (digits ∷ more ∷ words) is = refl
-
-pub option_asks : (words : List (String Global)) → has_option words ≡ true → asked words ≡ None
-option_asks [] is = absurd cc
-option_asks (word ∷ words) is = by (bytes_eq (string_bytes word) (codes "tune")) refl
-  where
-    tuned : (t : Bool) → begins_with_hyphen (string_bytes word) ≡ t → string_bytes word ≡ codes "tune" → (t || has_option words) ≡ true → asked_to_tune (map string_bytes words) ≡ None
-    tuned true first tune is = absurd (let no : false ≡ true = ap begins_with_hyphen (sym tune) ∙ first in cc no)
-    tuned false first tune is = no_tuning words (no_goals words is)
-
-    by : (t : Bool) → bytes_eq (string_bytes word) (codes "tune") ≡ t → (if t then asked_to_tune (map string_bytes words) else asked_by (string_bytes word) (map string_bytes words)) ≡ None
-    by true tune = tuned (begins_with_hyphen (string_bytes word)) refl ((bytes_eq-Decides (string_bytes word) (codes "tune")).0 tune) is
-    by false other = no_request word words is
-
--- ---- the subcommand that was found
 
 pair_found : (pair : Option (Text × List Row)) (name : Text) (rows : List Row) → Some name ≡ option_map (λ p. p.0) pair → Some rows ≡ option_map (λ p. p.1) pair → pair ≡ Some (name, rows)
 pair_found None name rows first second = absurd cc

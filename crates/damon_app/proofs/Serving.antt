@@ -16,7 +16,7 @@ use Rattle.damon_app.specs.declared.request.Columns.{Columns}
 use Rattle.damon_app.specs.declared.request.Request.{Request}
 use Rattle.damon_admin.specs.Lines.{lines_said}
 use Rattle.damon_app.specs.Contexts.{Administers, OutputPrefix}
-use Rattle.damon_app.specs.Heating.{Heats, HeatsPrefix}
+use Rattle.damon_app.specs.Heating.{HeatsPrefix}
 use Rattle.damon_journal.specs.Status.{EndsRun, IsFailure, status_of}
 use Rattle.text_io.specs.Ends.{Ends}
 use Rattle.damon_app.specs.StatusOf.{status_of_input}
@@ -112,9 +112,6 @@ module _ (limit : ℕ) (source source' sink sink' : Ends) (unread same : Type 0)
 
 -- the answer to a request for the heat tables of a journal
 module _ (limit : ℕ) (columns : Columns) (source source' sink sink' : Ends) (unread same : Type 0) (status : Status) where
-  heats : (bytes : List ℕ) → WritesWanted (Heat columns) bytes sink.bytes sink'.bytes → Heats columns bytes sink.bytes sink'.bytes
-  heats bytes (text, (said, run, is), all) = record { said = said; run = run; tables = subst (Appends sink.bytes sink'.bytes) (sym is) all }
-
   begins_tables : (bytes : List ℕ) → MayWrite (Heat columns) same bytes sink.bytes sink'.bytes → same ⊎ HeatsPrefix columns bytes sink.bytes sink'.bytes
   begins_tables bytes (inl is) = inl is
   begins_tables bytes (inr (text, (said, run, is), part)) = inr (said, run, subst (WritesPart sink.bytes sink'.bytes) (sym is) part)
@@ -128,7 +125,7 @@ module _ (limit : ℕ) (columns : Columns) (source source' sink sink' : Ends) (u
   pub heated : IsOutcome limit (Heat columns) source source' sink sink' same status → IsAnswer limit (Some (Heat columns)) source source' sink sink' unread same status
   heated is = record {
     report = λ e. untold (λ bytes. TellsReport (Some (Heat columns)) bytes sink.bytes sink'.bytes) source.bytes (λ bytes. tt);
-    lawful = λ e reads. each (λ bytes. WritesWanted (Heat columns) bytes sink.bytes sink'.bytes) (λ bytes. Heats columns bytes sink.bytes sink'.bytes) source.bytes heats (is.ok e);
+    lawful = λ e reads. is.ok e;
     output = λ e asks. absurd (cc asks);
     summary = λ n e asks. absurd (cc asks);
     end = λ reads. is.end;

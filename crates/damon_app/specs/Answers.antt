@@ -27,7 +27,7 @@ use Rattle.damon_journal.specs.Replay.{replay}
 use Rattle.damon_app.specs.declared.request.Columns.{Columns}
 use Rattle.damon_app.specs.Contexts.{Administers}
 use Rattle.damon_app.specs.Generated.{gen_text}
-use Rattle.damon_app.specs.Heating.{IsRun, heat_text}
+use Rattle.damon_app.specs.Heating.{Heats, IsRun, heat_text}
 use Rattle.damon_app.specs.Verifying.{counts_line}
 
 -- the bytes of an input call for this text
@@ -38,8 +38,9 @@ CallsFor (Heat columns) bytes text = (said : JournalRead) × IsRun bytes said ×
 CallsFor Admin bytes text = (lines : List ContextLine) × (lines_said bytes ≡ Ok lines) × (output_of lines ≡ text)
 CallsFor (Generate n) bytes text = ⊥
 
--- the sink gained the text that the bytes call for
+-- the sink gained the text that the bytes call for, and the numbers of heat tables add up
 abbrev pub WritesWanted : Request → List ℕ → Option (List ℕ) → Option (List ℕ) → Type 0
+WritesWanted (Heat columns) bytes old new = Heats columns bytes old new
 WritesWanted request bytes old new = (text : List ℕ) × CallsFor request bytes text × Appends old new text
 
 -- the sink was left alone, which is `same`, or it gained a prefix of that text
@@ -100,6 +101,7 @@ pub record IsRunTaken (limit : ℕ) (source source' : Ends) (r : ReplayerView) :
   pub said : JournalRead
   pub leads : Leads (aggregated said.live said.journal) (replay said.live said.journal).state r
   pub taken : (columns : Columns) → IsTaken limit (Heat columns) source source' (heat_text columns said)
+  pub lawful : (columns : Columns) → IsRun (taken columns).bytes said
 
 -- what a status says where no journal was read, whatever the number of columns
 abbrev pub IsRunRefused : ℕ → Ends → Ends → Status → Type 0

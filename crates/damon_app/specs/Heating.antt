@@ -1,5 +1,6 @@
 -- What `heat` writes.
-use Rattle.std.specs.Prelude.{◌≡◌, ℕ, List, [], ◌∷◌, ◌++◌, flat_map, map, Ok, Option}
+use Rattle.std.specs.Prelude.{◌≡◌, ℕ, ◌<◌, List, [], ◌∷◌, ◌++◌, flat_map, length, map, sum, Ok, Option}
+use Rattle.std.specs.List.{AllByRecursion}
 use Rattle.std.specs.Io.KnownBytes.{Appends}
 use Rattle.damon_core.specs.State.{State}
 use Rattle.damon_journal.specs.Aggregated.{aggregated}
@@ -8,7 +9,8 @@ use Rattle.damon_journal.specs.Reading.{read_journal}
 use Rattle.damon_journal.specs.Replayer.{Leads, ReplayerView}
 use Rattle.damon_journal.specs.Rules.{IsTextOfLawful}
 use Rattle.damon_journal.specs.Woven.{WovenRuns}
-use Rattle.heat_report.specs.Freq.{working_set}
+use Rattle.heat_report.specs.Freq.{freqs, row_pages, working_set}
+use Rattle.heat_report.specs.Heat.{target_heats, target_total}
 use Rattle.heat_report.specs.Text.{last_line, report_text}
 use Rattle.text_io.specs.Taken.{WritesPart}
 use Rattle.damon_app.specs.Pieces.{HandsOver}
@@ -29,6 +31,13 @@ tables_of n s = report_text n s.core.ticks s.core.report.rows s.core.space s.cor
 abbrev pub tables_text : ℕ → List State → List ℕ
 tables_text n states = flat_map (tables_of n) states ++ last_line (map (λ s. working_set s.core.report.rows) states)
 
+-- The numbers of these tables add up: the heat of the columns of each target sums to the sum of pages × count over its rows, and the
+-- numbers of `freq` sum to the pages of all rows.
+pub record AddUp (n : ℕ) (s : State) : Type 0 where
+  pub heat : (target : ℕ) → target < length s.core.space
+      → sum (target_heats s.core.report.rows s.core.space target n) ≡ target_total s.core.report.rows target
+  pub freq : sum (freqs s.core.attrs.aggr s.core.report.rows) ≡ row_pages s.core.report.rows
+
 -- How far the tables of a replay are: what is left of it, the working sets of the reports so far, the text that is not handed over
 -- yet, and what the sink took.
 pub record HeatProgress : Type 0 where
@@ -37,8 +46,8 @@ pub record HeatProgress : Type 0 where
   pub piece : List ℕ
   pub taken : Option (List ℕ)
 
--- the first of the states to come was written: its tables followed the piece, of which the front may have been handed over, and its
--- working set the others
+-- the first of the states to come was written: its tables, which add up, followed the piece, of which the front may have been handed
+-- over, and its working set the others
 pub record IsWrittenNext (n : ℕ) (old new : HeatProgress) (states : List State) (last : State) : Type 0 where
   pub state : State
   pub rest : List State
@@ -46,6 +55,7 @@ pub record IsWrittenNext (n : ℕ) (old new : HeatProgress) (states : List State
   pub leads : Leads rest last new.replay
   pub sizes : new.sizes ≡ old.sizes ++ working_set state.core.report.rows ∷ []
   pub handed : HandsOver old.taken new.taken (old.piece ++ tables_of n state) new.piece
+  pub sums : AddUp n state
 
 -- whatever states the replay leads through, the first was written
 abbrev pub WritesNext : ℕ → HeatProgress → HeatProgress → Type 0
@@ -62,11 +72,12 @@ pub record IsRun (bytes : List ℕ) (said : JournalRead) : Type 0 where
 abbrev pub heat_text : Columns → JournalRead → List ℕ
 heat_text columns said = tables_text (columns_in columns) (aggregated said.live said.journal)
 
--- The bytes are the text of a lawful journal, and the sink gained exactly its heat tables.
+-- The bytes are the text of a lawful journal, and the sink gained exactly its heat tables, whose numbers add up.
 pub record Heats (columns : Columns) (bytes : List ℕ) (old new : Option (List ℕ)) : Type 0 where
   pub said : JournalRead
   pub run : IsRun bytes said
   pub tables : Appends old new (heat_text columns said)
+  pub sums : AllByRecursion (AddUp (columns_in columns)) (aggregated said.live said.journal)
 
 -- the bytes are the text of a lawful journal, and the sink gained a prefix of its heat tables
 abbrev pub HeatsPrefix : Columns → List ℕ → Option (List ℕ) → Option (List ℕ) → Type 0

@@ -38,8 +38,8 @@ CanFollow goals = (words : List (List ℕ)) × (goals_of words ≡ Some goals)
 
 -- Along the run of the script with quotas that follow the goals: each state is bound, and each aggregation makes the best choices. Each
 -- commit that is put in is accepted. The bytes in force of a tunable slot are at most its top, at first and after each event. Directly
--- after a slot was scored they lie between the bounds of its scored goals. Where it has one such goal they do not fall at a score below
--- the target, and do not rise at or above it.
+-- after a slot was scored they lie between the least low and the least high bound of its scored goals, each held down by its top. Where
+-- it has one such goal, bytes within its bounds do not fall at a score below the target, and do not rise at or above it.
 pub record IsTunedRun (goals : List Goal) (s : ScriptValue) : Type 0 where
   pub bound : IsBoundWith (tune_callbacks goals) s
   pub choices : ChoosesBestWith (tune_callbacks goals) s

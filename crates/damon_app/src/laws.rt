@@ -1,4 +1,8 @@
 // What holds of all runs of the program. The functions do nothing.
+ghost use Rattle.std.specs.Prelude.{ℕ, ◌≤◌};
+ghost use Rattle.damon_core.specs.Reached.{Reached};
+ghost use Rattle.damon_core.specs.State.{State};
+ghost use Rattle.damon_app.specs.Heating.{AddUp};
 ghost use Rattle.damon_app.specs.Runs.{EachRunChoosesBest, EachRunFollowsGoals, EachRunIsAccounted, EachRunIsBound};
 ghost use Rattle.damon_app.specs.Runs.{GeneratedRunsAreBound};
 
@@ -45,4 +49,14 @@ pub(crate) fn each_run_follows_goals()
     line_text::number_is_decimal();
     tune_run::tuned_runs_are_bound();
     tune_run::bytes_follow_their_goals();
+}
+
+// The numbers of the heat tables of each state to which events lead add up.
+pub(crate) fn heat_tables_add_up()
+    ensures { (n : ℕ) (s : State) → 1 ≤ n → Reached s → AddUp n s }
+{
+    damon_core::reported_rows_tile();
+    heat_report::tiled_rows_lie_in();
+    heat_report::heat_is_of_rows();
+    heat_report::freqs_are_all_pages();
 }

@@ -60,7 +60,7 @@ pub fn replay_main<S: Source, K: Sink>(
 
     // It is what the words ask for, whatever they are: the report of a script in its form, over a model of
     // resident pages or with quotas that follow goals, the line of the lawful journal whose text was read,
-    // its heat tables, the output of contexts, or the line of the generated script.
+    // its heat tables, whose numbers add up, the output of contexts, or the line of the generated script.
     ensures report { result ≡ Status.Ok → IfSome (S.left source.old)
         (λ bytes. TellsReport (asked words.now) bytes (K.taken sink.old) (K.taken sink.new)) }
     ensures lawful { result ≡ Status.Ok → ReadsJournal (asked words.now) → IfSome (S.left source.old)
@@ -79,13 +79,15 @@ pub fn replay_main<S: Source, K: Sink>(
     ensures generated { GeneratedRunsAreBound }
 
     // The same holds of every script under `reclaim` and under `tune`. Under `reclaim` each page is resident
-    // or out, and out exactly since a `pageout` scheme was last applied to it; and an aggregation pages out
-    // what is resident of the pages that such a scheme is applied to.
+    // or out, and out exactly where a `pageout` scheme was applied to it and since then it was neither touched
+    // nor prefetched; and an aggregation pages out what is resident of the pages that such a scheme is applied
+    // to.
     ensures accounted { EachRunIsAccounted }
 
     // Under `tune` the bytes of each tunable slot are at most what the script gave it, and directly after a
-    // score they lie between the bounds of the goals that were scored. Where it is one goal, they do not fall
-    // below its target, and do not rise at or above it.
+    // score they lie between the least low and the least high bound of the goals that were scored, each held
+    // down to that. Where it is one goal, bytes within its bounds do not fall at a score below its target, and
+    // do not rise at or above it.
     ensures follows { EachRunFollowsGoals }
 
     // Under `admin` what a context says in the output, without its digit and the space, is the report of the

@@ -5,16 +5,22 @@
 mod changed;
 /// The passes that have ended.
 mod clock;
+/// What a commit changes.
+mod commits;
 /// What holds of every state to which events lead.
 mod laws;
 /// The object that stands for a state.
 mod monitor;
+/// The end of a pass.
+mod pass_ends;
 /// What an aggregation reports.
 mod report;
 /// The room that commits need.
 mod room;
 /// What is sampled: rows, picks, and the pass under way.
 mod sampling;
+/// A monitor before its first pass.
+mod start;
 /// The checks and hits of all passes.
 mod totals;
 

@@ -1,25 +1,15 @@
 ghost use Rattle.std.specs.List.{AllByRecursion};
-ghost use Rattle.std.specs.Prelude.{◌≡◌, ◌+◌, ◌*◌, ◌^◌, ◌≤◌, ◌<◌, ℕ, true, max, ◌/◌, [], ◌∷◌, length, map, slice_get, slice_index, slice_set, IfOk, OnErr, Some, Ok};
-ghost use Rattle.damon_types.specs.declared.scheme.CostPart.{CostPart as cost_part};
-ghost use Rattle.damon_types.specs.declared.scheme.SlotChange.{SlotChange as slot_change};
-ghost use Rattle.damon_types.specs.declared.scheme.TheConstants.{MAX_SLOT};
+ghost use Rattle.std.specs.Prelude.{◌≡◌, ◌+◌, ◌*◌, ◌≤◌, ◌<◌, ℕ, true, max, ◌/◌, [], ◌∷◌, length, map, slice_get, slice_index, slice_set, IfOk, Some, Ok};
 ghost use Rattle.damon_types.specs.Ranges.{page_total};
 ghost use Rattle.damon_types.specs.Space.{pages_of};
-ghost use Rattle.damon_types.specs.Span.{spans};
-ghost use Rattle.region_list.specs.Tiling.{Tiling};
-ghost use Rattle.live_commit.specs.Accepts.{steps_made};
-ghost use Rattle.live_commit.specs.Commit.{commit_value};
 ghost use Rattle.live_commit.specs.SetupView.{value_of};
 ghost use Rattle.damon_core.specs.Note.{is_cleared};
-ghost use Rattle.damon_core.specs.State.{State, opening, opening_core, opening_notes, opening_rows, row_count};
-ghost use Rattle.damon_core.specs.Event.{IsClearing, IsLoading, IsObserving, clear_index, load_index, prepare as prepare_event, clear as clear_event, load as load_event, observe as observe_event, aggregate as aggregate_event, commit as commit_event};
+ghost use Rattle.damon_core.specs.State.{State, opening, opening_core, row_count};
+ghost use Rattle.damon_core.specs.Event.{IsClearing, IsLoading, clear_index, load_index, prepare as prepare_event, clear as clear_event, load as load_event, aggregate as aggregate_event};
 ghost use Rattle.damon_core.specs.Aggregate.{core_after_aggregation, engine_served};
-ghost use Rattle.damon_core.specs.Commit.{changed_by, check_of, commit_answer, committed_core, committed_slots, core_after_commit, slots_after_commit, view_of};
-ghost use Rattle.damon_core.specs.Kept.{IsUnused};
 ghost use Rattle.damon_core.specs.Report.{report_value};
-ghost use Rattle.damon_core.specs.Slots.{slots_of};
 ghost use Rattle.damon_core.specs.Several.{clears, loads};
-ghost use Rattle.damon_core.specs.After.{prepared_core, cleared_core, loaded_core, passed_core, phase_cleared, phase_after_pass};
+ghost use Rattle.damon_core.specs.After.{prepared_core, cleared_core, loaded_core};
 ghost use Rattle.damon_core.specs.Reached.{Reached};
 ghost use Rattle.damon_core.specs.Pass.{IsInPass, IsPickWithin, cleared_so_far};
 ghost use Rattle.damon_core.specs.Makes.{Makes};
@@ -27,14 +17,15 @@ ghost use Rattle.damon_core.specs.Stands.{Stands};
 ghost use Rattle.sampler.specs.Draws.{drawn, drawn_rest};
 ghost use Rattle.sampler.specs.Loaded.{next_picks};
 
+use crate::Report;
 use crate::clock::Clock;
 use crate::sampling::Sampling;
+use crate::start::{first_engine, first_regions, opening_is_reached};
 use crate::totals::Totals;
-use crate::{Changed, Report};
 use damon_types::{Attrs, Space, Version};
-use live_commit::{Commit, CommitFault, Phase, Setup, View, validate};
+use live_commit::{Phase, Setup};
 use rand_core::Rng;
-use region_list::{Regions, RowBuf, divide, shrink_rows};
+use region_list::Regions;
 use sampler::{Marks, Picks};
 use scheme_engine::Engine;
 use std::alloc::{AllocError, Global};
@@ -45,15 +36,15 @@ use std::marker::Model;
 /// results of the loads are handed in. Time is counted in passes (ticks).
 #[derive(Drop)]
 pub struct Monitor {
-    version: Version,
-    space: Space,
-    attrs: Attrs,
+    pub(crate) version: Version,
+    pub(crate) space: Space,
+    pub(crate) attrs: Attrs,
     // The large parts are in boxes, so that a monitor is cheap to move, and to hand on in a `Result`.
-    sampling: Box<Sampling>,
-    clock: Clock,
-    totals: Totals,
-    report: Box<Report>,
-    engine: Box<Engine>,
+    pub(crate) sampling: Box<Sampling>,
+    pub(crate) clock: Clock,
+    pub(crate) totals: Totals,
+    pub(crate) report: Box<Report>,
+    pub(crate) engine: Box<Engine>,
 }
 
 impl Model for Monitor {
@@ -132,7 +123,7 @@ impl Monitor {
         self.clock.ticks
     }
 
-    /// The address spaces that are watched.
+    /// The space: all targets, by whose pages everything is numbered.
     pub fn space(&self) -> &Space
         ensures { result.now ≡ self.now.core.space }
     {
@@ -329,22 +320,6 @@ impl Monitor {
         self.sampling.load_next(count, marks);
     }
 
-    /// Ends the pass, of which each pick is loaded, or which is void. One that is not void raises the
-    /// count of each row whose load was a hit. The passes in all are below 2^40.
-    pub fn observe(&mut self)
-        requires phase { IsObserving self.old.core.phase (row_count self.old.core) }
-        requires ticks { self.old.core.ticks < 2 ^ 40 }
-        ensures core { self.new.core
-            ≡ passed_core (record self.old.core { regions = self.new.core.regions }) }
-        ensures cap { self.new.core.regions.cap ≡ self.old.core.regions.cap }
-        ensures event { Makes Stands self.old self.new (observe_event ∷ []) }
-    {
-        match self.sampling.phase() {
-            Phase::Checking { .. } => self.finish_pass(),
-            _ => self.void_pass(),
-        }
-    }
-
     /// Carries out the aggregation that is due: ages the rows, merges those that are about the same,
     /// serves the slots of schemes in order, keeps the report, clears the counts, and splits the rows at
     /// random places, row i by the words 2i and 2i + 1. There are `2 × max` words.
@@ -374,143 +349,6 @@ impl Monitor {
         sampling.split(words);
         self.clock.since = 0;
     }
-
-    /// Commits new attributes, new ranges, a change of a slot, a metric and a cost, or some of these. Returns
-    /// the number of rows and whether the pass under way became void, or the first check that failed
-    /// ([`validate`]); then nothing has changed.
-    ///
-    /// The attributes take effect first. New ranges replace those that are watched, and the rows become
-    /// those of a range update; without new ranges, adjacent rows of one range are joined until there are
-    /// at most `max`. A pass whose picks are cleared becomes void where the rows lie elsewhere
-    /// afterwards: it is observed next, without a load, and counts nothing. Then the slot is set, with
-    /// statistics of 0, or dropped; its window, what is charged to it and its cost stay. Then each set slot
-    /// sees the metric. Last, the nanoseconds of the cost are added to those of its slot, set or not. Takes
-    /// no memory.
-    pub fn commit(&mut self, commit: &Commit) -> Result<Changed, CommitFault>
-        ensures answer { result ≡ commit_answer (commit_value commit.now) self.old.core }
-        ensures core { self.new.core ≡ core_after_commit (commit_value commit.now) self.old.core }
-        ensures slots { self.new.slots
-            ≡ slots_after_commit (commit_value commit.now) self.old.core self.old.slots }
-        ensures event { Makes Stands self.old self.new (commit_event (commit_value commit.now) ∷ []) }
-        ensures kept { OnErr result (self.new ≡ self.old) }
-
-        // What no commit changes.
-        ensures space { self.new.core.space ≡ self.old.core.space }
-        ensures cap { self.new.core.regions.cap ≡ self.old.core.regions.cap }
-        ensures ticks { self.new.core.ticks ≡ self.old.core.ticks }
-    {
-        live_commit::accepted_commits_are_within();
-        watermarks::metrics_decide_in_turn();
-        validate(commit, &self.space, &self.view())?;
-        Ok(self.accept(commit))
-    }
-
-    // What a commit is checked against.
-    fn view(&self) -> View
-        ensures view { result ≡ view_of self.now.core }
-        ensures few { steps_made self.now.core.phase (row_count self.now.core) < 2 ^ 32 }
-    {
-        let regions = self.sampling.regions();
-        View {
-            version: self.version,
-            phase: self.sampling.phase(),
-            rows: regions.len(),
-            ranges: regions.ranges().len(),
-            unit: regions.unit(),
-            cap: regions.cap(),
-            max: self.attrs.max,
-        }
-    }
-
-    // Makes a commit that is accepted.
-    fn accept(&mut self, commit: &Commit) -> Changed
-        requires { check_of (commit_value commit.now) self.old.core ≡ Ok tt }
-        ensures changed { result ≡ changed_by (commit_value commit.now) self.old.core }
-        ensures committed { self.new ≡ record self.old {
-          core = committed_core (commit_value commit.now) self.old.core;
-          slots = committed_slots (commit_value commit.now) self.old.slots;
-        } }
-    {
-        live_commit::accepted_commits_are_within();
-        range_update::updated_rows_are_kept();
-        region_list::shrunk_rows_are_kept();
-        let attrs = commit.attrs.unwrap_or(self.attrs());
-        let sampling = &mut *self.sampling;
-        let void = sampling.commit(&self.space, &commit.ranges, attrs.max);
-        let rows = sampling.regions().len();
-        self.attrs = attrs;
-        change_slots(&mut *self.engine, commit);
-        Changed { rows, void }
-    }
-
-    // Ends a pass whose picks are all loaded.
-    fn finish_pass(&mut self)
-        requires phase { self.old.core.phase ≡ Phase.Checking (row_count self.old.core) }
-        requires ticks { self.old.core.ticks < 2 ^ 40 }
-        ensures core { self.new.core
-            ≡ passed_core (record self.old.core { regions = self.new.core.regions }) }
-        ensures cap { self.new.core.regions.cap ≡ self.old.core.regions.cap }
-        ensures event { Makes Stands self.old self.new (observe_event ∷ []) }
-    {
-        self.clock.tick();
-        let next = self.clock.next_phase(self.attrs.aggr);
-        let sampling = &mut *self.sampling;
-        let hits = sampling.finish(next);
-        self.totals.add(sampling.regions().len(), hits);
-    }
-
-    // Ends a void pass.
-    fn void_pass(&mut self)
-        requires phase { self.old.core.phase ≡ Phase.Void }
-        requires ticks { self.old.core.ticks < 2 ^ 40 }
-        ensures core { self.new.core ≡ passed_core self.old.core }
-        ensures event { Makes Stands self.old self.new (observe_event ∷ []) }
-    {
-        self.clock.tick();
-        self.sampling.leave(self.clock.next_phase(self.attrs.aggr));
-    }
-}
-
-// The opening state of a setup is reached, by no events.
-fn opening_is_reached(setup: &Setup)
-    ensures { Reached (opening (value_of setup.now)) }
-{
-    // For their clauses alone: the targets are within their limits, and the ranges are in order.
-    let (_targets, _ranges) = (setup.space.targets(), setup.ranges.len());
-}
-
-// The slots of a monitor before its first pass: those of the setup are set.
-fn first_engine(alloc: Global, setup: &Setup) -> Result<Box<Engine>, AllocError>
-    ensures slots { IfOk result (λ e. e.value.slots ≡ slots_of (opening_notes (value_of setup.now))) }
-    ensures cap { IfOk result (λ e. e.value.cap ≡ setup.now.cap) }
-    ensures new { IfOk result (λ e. AllByRecursion IsUnused e.value.slots) }
-{
-    live_commit::accepted_commits_are_within();
-    let mut engine = Engine::new(alloc, setup.cap)?;
-    for change in setup.slots.as_slice() {
-        engine.change(change);
-    }
-    Ok(Box::new(alloc, engine)?)
-}
-
-// Makes the slot change of a commit, and hands on its metric and its cost, if it has them. The slots are ones
-// that exist.
-fn change_slots(engine: &mut Engine, commit: &Commit)
-    requires slot { (change : slot_change) → commit.now.slot ≡ Some change → change.slot ≤ MAX_SLOT }
-    requires cost { (part : cost_part) → commit.now.cost ≡ Some part → part.slot ≤ MAX_SLOT }
-    ensures { engine.new ≡ record engine.old {
-      slots = committed_slots (commit_value commit.now) engine.old.slots;
-    } }
-{
-    if let Some(change) = &commit.slot {
-        engine.change(change);
-    }
-    if let Some(value) = commit.metric {
-        engine.metric(value);
-    }
-    if let Some(part) = commit.cost {
-        engine.cost(part.slot, part.nanos);
-    }
 }
 
 // The most pages of a merged row.
@@ -519,27 +357,4 @@ fn merge_limit(regions: &Regions, min: u32) -> u32
     ensures { result ≡ max regions.now.unit (page_total regions.now.ranges / min) }
 {
     (regions.ranges().total() / min).max(regions.unit())
-}
-
-// The regions of a monitor before its first pass.
-fn first_regions(alloc: Global, setup: &Setup) -> Result<Regions, AllocError>
-    ensures { IfOk result (λ r. r ≡ (opening_core (value_of setup.now)).regions) }
-{
-    let rows = first_rows(alloc, setup)?;
-    let mut regions = Regions::new(alloc, setup.unit, setup.cap, setup.attrs.max)?;
-    regions.replace(&setup.ranges, &rows, setup.attrs.max);
-    Ok(regions)
-}
-
-// The rows of a monitor before its first pass.
-#[tactic(auto, using(crate::proofs::RowFacts::tiling_of_pages))]
-fn first_rows(alloc: Global, setup: &Setup) -> Result<RowBuf, AllocError>
-    ensures rows { IfOk result (λ b. b.rows ≡ opening_rows (value_of setup.now)) }
-    ensures tiling { IfOk result (λ b. Tiling setup.now.unit setup.now.ranges.list (spans b.rows)) }
-    ensures few { IfOk result (λ b. length b.rows ≤ setup.now.attrs.max) }
-{
-    let mut rows = RowBuf::new(alloc, setup.ranges.len() + setup.attrs.min)?;
-    divide(&setup.ranges, setup.unit, setup.attrs.min, &mut rows);
-    shrink_rows(&mut rows, &setup.ranges, setup.attrs.max);
-    Ok(rows)
 }

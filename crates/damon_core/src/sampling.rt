@@ -1,12 +1,11 @@
-ghost use Rattle.std.specs.Prelude.{◌≡◌, ◌+◌, ◌*◌, ◌^◌, ◌≤◌, ◌<◌, ℕ, List, false, [], length, count_by, option_map, replicate, slice_set, IfOk, if◌then◌else◌};
+ghost use Rattle.std.specs.Prelude.{◌≡◌, ◌+◌, ◌*◌, ◌^◌, ◌≤◌, ◌<◌, false, [], length, count_by, option_map, replicate, slice_set, IfOk};
 ghost use Rattle.std.specs.List.{AllByRecursion};
 ghost use Rattle.damon_types.specs.Within.{AreWithin};
-ghost use Rattle.damon_types.specs.declared.row.Row.{Row as row};
 ghost use Rattle.live_commit.specs.Accepted.{AllowsCommit};
 ghost use Rattle.live_commit.specs.declared.phase.Phase.TheVariants as variant;
 ghost use Rattle.sampler.specs.Counted.{raised};
 ghost use Rattle.sampler.specs.Draws.{drawn, drawn_rest};
-ghost use Rattle.sampler.specs.Loaded.{loaded_bits, loaded_hits};
+ghost use Rattle.sampler.specs.Loaded.{loaded_bits};
 ghost use Rattle.sampler.specs.Pick.{picks_of};
 ghost use Rattle.aggregator.specs.Aged.{aged};
 ghost use Rattle.aggregator.specs.Cleared.{cleared};
@@ -22,12 +21,13 @@ ghost use Rattle.damon_core.specs.Kept.{CanCommit};
 ghost use Rattle.damon_core.specs.Pass.{IsBetween, IsInPass, IsPickWithin};
 
 use crate::Report;
+use crate::commits::{becomes_void, keep_if_armed, void_or};
 use crate::room::Room;
 use aggregator::{age_all, clear_counts, threshold};
 use damon_types::{RangeSpecs, Space, Version};
 use live_commit::Phase;
 use rand_core::Rng;
-use region_list::{Regions, RowBuf, same_spans};
+use region_list::{Regions, RowBuf};
 use region_merge::merge_all;
 use region_split::split_all;
 use sampler::{Marks, Picks, draw_picks, set_picks};
@@ -364,33 +364,6 @@ impl Sampling {
         self.phase = void_or(void, self.phase);
         void
     }
-}
-
-// Keeps a copy of the rows where a commit may make the pass void, which is where its picks are cleared.
-fn keep_if_armed(earlier: &mut RowBuf, phase: Phase, rows: &RowBuf)
-    requires room { length rows.now.rows ≤ earlier.old.cap }
-    ensures same { (new : List row) → becomes_void_in phase earlier.new.rows new
-        ≡ becomes_void_in phase rows.now.rows new }
-    ensures cap { earlier.new.cap ≡ earlier.old.cap }
-{
-    if phase == Phase::Armed {
-        earlier.copy_from(rows);
-    }
-}
-
-// The phase of a pass that is void, or this one.
-fn void_or(void: bool, phase: Phase) -> Phase
-    ensures { result ≡ (if void then variant.Void else phase) }
-{
-    if void { Phase::Void } else { phase }
-}
-
-// Whether a commit makes the pass under way void: its picks are cleared, and the new rows do not lie where
-// the old ones did.
-fn becomes_void(phase: Phase, old: &RowBuf, new: &RowBuf) -> bool
-    ensures { result ≡ becomes_void_in phase old.now.rows new.now.rows }
-{
-    phase == Phase::Armed && !same_spans(old, new)
 }
 
 // The phase once this many of the picks are cleared.

@@ -46,13 +46,20 @@ no_receipts line text same other = ap (λ (l : List ℕ). same_word l (codes "re
 err_is_no_ok : {A E : Type 0} (e : E) (x : A) → Err e ≡ Ok x → ⊥
 err_is_no_ok e x is = absurd cc
 
--- no part is said by `receipts`
-pub part_is_no_receipts : (version : Version) (commit : CommitValue) (line : List ℕ) (part : Part) → part_line version commit line ≡ Ok part → same_word line (codes "receipts") ≡ false
-part_is_no_receipts version commit line part is = by (same_word line (codes "receipts")) refl
+-- a line that says a part is none that says no part
+no_such_part : (version : Version) (commit : CommitValue) (line other : List ℕ) (part : Part) → part_line version commit other ≡ Err Word → part_line version commit line ≡ Ok part → same_word line other ≡ false
+no_such_part version commit line other part none is = by (same_word line other) refl
   where
-    by : (test : Bool) → same_word line (codes "receipts") ≡ test → test ≡ false
-    by true same = absurd (err_is_no_ok Word part (ap (part_line version commit) (sym (same_text line (codes "receipts") (sym same))) ∙ is))
+    by : (test : Bool) → same_word line other ≡ test → test ≡ false
+    by true same = absurd (err_is_no_ok Word part (sym none ∙ ap (part_line version commit) (sym (same_text line other (sym same))) ∙ is))
     by false same = refl
+
+-- as `receipts` and `apply` say none
+pub part_is_no_receipts : (version : Version) (commit : CommitValue) (line : List ℕ) (part : Part) → part_line version commit line ≡ Ok part → same_word line (codes "receipts") ≡ false
+part_is_no_receipts version commit line part is = no_such_part version commit line (codes "receipts") part refl is
+
+pub part_is_no_apply : (version : Version) (commit : CommitValue) (line : List ℕ) (part : Part) → part_line version commit line ≡ Ok part → same_word line (codes "apply") ≡ false
+part_is_no_apply version commit line part is = no_such_part version commit line (codes "apply") part refl is
 
 -- after `apply`
 pub applied : (v : LiveValue) (j : JournalValue) (c : ℕ) (commit : CommitValue) (line : List ℕ) → same_word line (codes "apply") ≡ true → after_block v j c commit line ≡ Some (AtAnswer v j c (CommitCall commit))

@@ -14,6 +14,7 @@ pub mod Streams
 pub mod Untouched
 pub mod Fitting
 pub mod Quiet
+pub mod WovenTouches
 pub mod Weaving
 pub mod Growing
 pub mod Longer
@@ -60,6 +61,7 @@ pub mod EntriesTaken
 pub mod WrittenBefore
 pub mod BitsRead
 pub mod BlockTaken
+pub mod RangeTaken
 pub mod CallsTaken
 pub mod EntriesStep
 pub mod Judged

@@ -1,5 +1,5 @@
 -- The woven events of a lawful journal: they fit, the results of their loads are right, and they lead where the replay does.
-use Rattle.std.proofs.Common.{◌≡◌, ℕ, zero, suc, ◌+◌, ◌<◌, Bool, true, false, cond, List, [], ◌∷◌, ◌++◌, length, take, Option, Some, None, Ok, Err, refl, sym, ap, ◌∙◌, subst, arith}
+use Rattle.std.proofs.Common.{◌≡◌, ℕ, suc, ◌+◌, ◌<◌, Bool, true, false, cond, List, [], ◌∷◌, ◌++◌, length, take, Option, Some, None, Ok, Err, refl, sym, ap, ◌∙◌, subst, arith}
 use Rattle.std.specs.Prelude.{◌&&◌, ◌==◌, filter, filter_map, map, nat_le, not, reverse, Result}
 use Rattle.std.specs.List.{AllByRecursion}
 use Rattle.std.specs.Option.{option_map_or}
@@ -23,7 +23,7 @@ use Rattle.damon_core.specs.Note.{Note, set, dropped}
 use Rattle.damon_core.specs.Commit.{becomes_void, check_of, committed, committed_core, if_accepted, with_cost, with_metric, with_slot}
 use Rattle.damon_core.specs.State.{Core, State, opening, row_count, set_note}
 use Rattle.damon_core.specs.After.{after, phase_after_pass}
-use Rattle.damon_core.specs.Event.{Event, touch, prepare, clear, load, observe, aggregate, commit, show, ByHit}
+use Rattle.damon_core.specs.Event.{Event, prepare, load, observe}
 use Rattle.damon_core.specs.InPhase.{IsInPhase}
 use Rattle.damon_core.specs.Makes.{AllFit-append, run-append}
 use Rattle.damon_core.specs.Pass.{IsInPass, PagesRiseFrom}
@@ -42,103 +42,13 @@ use Rattle.damon_journal.specs.Words.{words_after}
 use Rattle.damon_journal.proofs.Untouched.{AllFit-untouched, run-untouched}
 use Rattle.damon_journal.proofs.Fitting.{at, carried_reached, entry_fits, entry_own, length-taken, length-words, run_space}
 use Rattle.damon_journal.proofs.Quiet.{HitsReceived, IsArmedBy, Quiet, all_clears_quiet, all_loads_by_hit, all_right, tagged, told_by_pages, touched_core}
+use Rattle.damon_journal.proofs.WovenTouches.{no_loads, AllByHit-append, clears_load_nothing, calls_load_nothing, some_touches, before_are, after_are, touched_by}
 
 -- what is known of states that are reached
 pub record PassLaws : Type 0 where
   pub bound : (s : State) → ReachedByHit s → Bound s
   pub in_phase : (s : State) → Reached s → IsInPhase s
   pub picks : (s : State) → Reached s → IsInPass s.core.phase → (length s.core.picks ≡ row_count s.core) × PagesRiseFrom 0 s.core.picks
-
--- ---- events that load nothing
-
-abbrev pub IsNoLoad : Event → Type 0
-IsNoLoad (load hit) = ⊥
-IsNoLoad _ = Unit {0}
-
-no_load : (s : State) (e : Event) → IsNoLoad e → ByHit s e
-no_load s (touch page) none = tt
-no_load s (prepare words) none = tt
-no_load s clear none = tt
-no_load s (load hit) none = absurd none
-no_load s observe none = tt
-no_load s (aggregate words) none = tt
-no_load s (commit parts) none = tt
-no_load s show none = tt
-
-no_loads : (s : State) (es : List Event) → AllByRecursion IsNoLoad es → AllByHit s es
-no_loads s [] none = tt
-no_loads s (e ∷ es) none = (no_load s e none.0, no_loads (after s e) es none.1)
-
-AllByHit-append : (s : State) (es fs : List Event) → AllByHit s es → AllByHit (run s es) fs → AllByHit s (es ++ fs)
-AllByHit-append s [] fs right more = more
-AllByHit-append s (e ∷ es) fs right more = (right.0, AllByHit-append (after s e) es fs right.1 more)
-
-touches_load_nothing : (rs : List Receipt) → AllByRecursion IsNoLoad (touch_events rs)
-touches_load_nothing [] = tt
-touches_load_nothing (r ∷ rs) = (tt, touches_load_nothing rs)
-
-clears_load_nothing : (n : ℕ) → AllByRecursion IsNoLoad (clears n)
-clears_load_nothing zero = tt
-clears_load_nothing (suc n) = (tt, clears_load_nothing n)
-
-call_loads_nothing : (call : CallValue) → AllByRecursion IsNoLoad (call_event call ∷ [])
-call_loads_nothing ShowCall = (tt, tt)
-call_loads_nothing (CommitCall parts) = (tt, tt)
-
-calls_load_nothing : (o : Option CallValue) → AllByRecursion IsNoLoad (option_map_or (λ call. call_event call ∷ []) o [])
-calls_load_nothing None = tt
-calls_load_nothing (Some call) = call_loads_nothing call
-
--- ---- touches
-
-touches_fit : (rs : List Receipt) (s : State) → AllByRecursion (λ r. r.page < pages_of s.core.space) rs → AllFit s (touch_events rs)
-touches_fit [] s within = tt
-touches_fit (r ∷ rs) s within = (within.0, touches_fit rs (after s (touch r.page)) within.1)
-
-touches_leave : (rs : List Receipt) (s : State) → untouched (run s (touch_events rs)) ≡ untouched s
-touches_leave [] s = refl
-touches_leave (r ∷ rs) s = touches_leave rs (after s (touch r.page))
-
-all_filtered : {A : Type 0} (P : A → Type 0) (test : A → Bool) (xs : List A) → AllByRecursion P xs → AllByRecursion P (filter test xs)
-all_filtered P test [] all = tt
-all_filtered P test (x ∷ xs) all = elim (test x) as (λ b. AllByRecursion P (cond b (x ∷ filter test xs) (filter test xs))) [ true ↦ (all.0, all_filtered P test xs all.1) | false ↦ all_filtered P test xs all.1 ]
-
--- some touches, of receipts whose pages are pages of the space
-pub record AreTouches (pages : ℕ) (es : List Event) : Type 0 where
-  pub receipts : List Receipt
-  pub are : es ≡ touch_events receipts
-  pub within : AllByRecursion (λ r. r.page < pages) receipts
-
-no_touches : (pages : ℕ) → AreTouches pages []
-no_touches pages = record { receipts = []; are = refl; within = tt }
-
-some_touches : (pages : ℕ) (test : Receipt → Bool) (rs : List Receipt) → AllByRecursion (λ r. r.page < pages) rs → AreTouches pages (touch_events (filter test rs))
-some_touches pages test rs within = record { receipts = filter test rs; are = refl; within = all_filtered (λ (r : Receipt). r.page < pages) test rs within }
-
-before_are : (pages : ℕ) (rs : List Receipt) (r : Replayed) (e : Entry) → AllByRecursion (λ x. x.page < pages) rs → AreTouches pages (touches_before rs r e)
-before_are pages rs r (Prepare pass pos) within = no_touches pages
-before_are pages rs r (Check pass) within = let f = hit_at r.state.core.picks (take (row_count r.state.core) r.bits) in some_touches pages (λ x. (x.tag == pass) && f x.page) rs within
-before_are pages rs r (Void pass) within = no_touches pages
-before_are pages rs r (Aggregate tick pos) within = no_touches pages
-before_are pages rs r (Call controller index answer) within = no_touches pages
-
-after_are : (pages : ℕ) (rs : List Receipt) (r : Replayed) (e : Entry) → AllByRecursion (λ x. x.page < pages) rs → AreTouches pages (touches_after rs r e)
-after_are pages rs r (Prepare pass pos) within = no_touches pages
-after_are pages rs r (Check pass) within = let f = hit_at r.state.core.picks (take (row_count r.state.core) r.bits) in some_touches pages (λ x. (x.tag == pass) && not (f x.page)) rs within
-after_are pages rs r (Void pass) within = some_touches pages (λ x. (x.tag == pass) && not (hit_at [] [] x.page)) rs within
-after_are pages rs r (Aggregate tick pos) within = no_touches pages
-after_are pages rs r (Call controller index answer) within = no_touches pages
-
--- touches fit, are right, and change neither what is shown nor the other notes
-pub record IsTouchedBy (s : State) (es : List Event) : Type 0 where
-  pub fit : AllFit s es
-  pub by_hit : AllByHit s es
-  pub same : untouched (run s es) ≡ untouched s
-
-touched_by : (s : State) (es : List Event) → AreTouches (pages_of s.core.space) es → IsTouchedBy s es
-touched_by s es are = subst (IsTouchedBy s) (sym are.are) (record { fit = touches_fit are.receipts s are.within; by_hit = no_loads s (touch_events are.receipts) (touches_load_nothing are.receipts); same = touches_leave are.receipts s })
-
--- ---- a pass that may be loaded
 
 abbrev pub MayLoad : Phase → Type 0
 MayLoad Armed = Unit {0}

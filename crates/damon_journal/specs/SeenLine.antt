@@ -68,7 +68,8 @@ is_risen rs r = list_all (λ (q : Receipt). is_below q r) rs
 abbrev pub receipts_so_far : List (List Receipt) → ℕ → List Receipt
 receipts_so_far all worker = slice_index_or all worker []
 
--- a receipt may come next: its worker is the last one so far or comes after it
+-- A receipt may come next: its worker is the last one so far or comes after it, its tag is a pass that cleared the page, or 0, and no
+-- receipt of the worker so far has a greater tag for the page.
 abbrev pub may_be_seen : List Step → List (List Receipt) → ℕ → Receipt → Bool
 may_be_seen done all worker r =
     (nat_le (length all) (worker + 1) && nat_lt worker MAX_WORKERS) && (is_tag done r.page r.tag && is_risen (receipts_so_far all worker) r)

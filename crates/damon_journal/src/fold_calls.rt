@@ -24,7 +24,7 @@ use crate::same_lines::{call_word, is_answer};
 use damon_control::{Call, MAX_CONTROLLERS, add_part, write_part};
 use damon_types::Version;
 use live_commit::{Commit, Phase};
-use script_lines::{Part, read_part, same_word};
+use script_lines::{Part, read_part, same_word, wants_slot};
 use std::alloc::{AllocError, Global};
 
 // What the first line of a call says.
@@ -226,6 +226,7 @@ fn read_block(
         cost: None,
     };
     'lines: loop {
+        take_ranges(alloc, lines, &mut commit)?;
         let line = lines.take_line()?;
         if same_word(line, b"apply") {
             return Ok(commit);
@@ -239,6 +240,34 @@ fn read_block(
         }
         add_part(alloc, &mut commit, part)?;
     }
+}
+
+// Takes the range lines that come next, where ranges may come, in one pass over their bytes.
+fn take_ranges(
+    alloc: Global,
+    lines: &mut JournalLines,
+    commit: &mut Commit,
+) -> Result<(), AllocError>
+    requires short { IsShort lines.old }
+    requires few { IfSome (commit_value commit.old).ranges (λ rs. length rs ≤ lines.old.taken) }
+    ensures said { OnOk result ((v : LiveValue) (j : JournalValue) (c : ℕ) →
+        said_left (InBlock v j c (commit_value commit.old)) lines.old
+        ≡ said_left (InBlock v j c (commit_value commit.new)) lines.new) }
+    ensures ahead { OnOk result (after_receipts (lines_left lines.old)
+        ≡ after_receipts (lines_left lines.new)) }
+    ensures few { OnOk result (IfSome (commit_value commit.new).ranges
+        (λ rs. length rs ≤ lines.new.taken)) }
+    ensures later { OnOk result (lines.old.taken ≤ lines.new.taken) }
+    ensures short { IsShort lines.new }
+    ensures shorter { OnOk result (length lines.new.rest.now ≤ length lines.old.rest.now) }
+{
+    if !wants_slot(commit) {
+        return Ok(());
+    }
+    'lines: while let Some(range) = lines.take_range() {
+        add_part(alloc, commit, Part::Range(range))?;
+    }
+    Ok(())
 }
 
 // Whether a line is the one that is written of a part.

@@ -8,6 +8,9 @@ use std::marker::Model;
 // 2^32: a tag is `HALF` times its high half, and its low half.
 const HALF: u64 = 1 << 32;
 
+// For how many receipts `push` makes room at once, so that most pushes look at no capacity.
+const STRETCH: u32 = 1024;
+
 /// The receipts of a worker, in the order of its touches: a list of fewer than 2^32 receipts, which grows.
 /// It keeps the allocator that it was made with.
 ///
@@ -81,7 +84,10 @@ impl ReceiptList {
         ensures ok { OnOk result (self.new.list ≡ self.old.list ++ item ∷ []) }
         ensures err { OnErr result (self.new ≡ self.old) }
     {
-        self.reserve(1)?;
+        if self.room == 0 {
+            let most = u32::MAX - self.len();
+            self.reserve(STRETCH.min(most))?;
+        }
         self.put(item);
         Ok(())
     }

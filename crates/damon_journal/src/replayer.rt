@@ -102,7 +102,7 @@ impl Replayer {
         self.replay.monitor()
     }
 
-    /// The address spaces of the text. Takes no memory.
+    /// The space of the journal's setup. Takes no memory.
     pub fn space(&self) -> &Space
         ensures { result.now ≡ self.now.monitor.core.space }
     {
@@ -125,7 +125,7 @@ impl Replayer {
             Phase::Idle => self.prepare(),
             Phase::Armed => self.check(),
             Phase::Void => self.void(),
-            // No other entry of a lawful journal is left.
+            // Due: between two entries no pass is being cleared or checked.
             _ => return Some(self.aggregate()),
         }
         None

@@ -68,7 +68,7 @@ impl fmt::Display for Status {
     }
 }
 
-/// How a run ended that has nothing to give but its failure.
+/// The status of a step that returns nothing: Ok, or the one that it failed with.
 impl From<Result<(), Status>> for Status {
     ghost use Rattle.std.specs.Prelude.{◌≡◌};
     ghost use Rattle.damon_journal.specs.Status.{status_of};

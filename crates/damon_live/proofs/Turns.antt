@@ -113,6 +113,11 @@ is_plain (Void pass) plain = record { none = refl; no_index = λ c. refl }
 is_plain (Aggregate tick pos) plain = record { none = refl; no_index = λ c. refl }
 is_plain (Call controller index answer) plain = absurd plain
 
+-- entries that end a pass, and more of them
+pub plain_more : (es fs : List Entry) → AllByRecursion IsPlain es → AllByRecursion IsPlain fs → AllByRecursion IsPlain (es ++ fs)
+plain_more [] fs plain more = more
+plain_more (e ∷ es) fs plain more = (plain.0, plain_more es fs plain.1 more)
+
 pub turns_more : (v : LiveValue) (added es : List Entry) (counts : List ℕ) → AllByRecursion IsPlain added → AreInTurn v es counts → AreInTurn v (es ++ added) counts
 turns_more v [] es counts plain turns = subst (λ l. AreInTurn v l counts) (sym (append-nil es)) turns
 turns_more v (e ∷ added) es counts plain turns = subst (λ l. AreInTurn v l counts) (append_assoc es (e ∷ []) added) (turns_more v added (es ++ e ∷ []) counts plain.1 (turns_kept v es e counts (is_plain e plain.0) turns))

@@ -140,6 +140,7 @@ impl<'a, N: Named> Kept<'a, N> {
     pub fn check(&mut self, words: &PageWords)
         requires table { words.now ≡ N.table }
         requires begun { passes_open (replay N.script self.old).state.core.phase ≡ 1 }
+        ensures adds { AddsPlain self.old self.new }
         ensures idle { (replay N.script self.new).state.core.phase ≡ Idle }
         ensures made { passes_made self.new ≡ passes_made self.old }
     {

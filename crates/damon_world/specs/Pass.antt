@@ -31,6 +31,6 @@ pub record TakesItsSteps (m : Moment) : Type 0 where
   pub ticks : (core_after (pass_steps (row_count m.state.core)) m).ticks ≡ m.state.core.ticks + 1
   pub ended : IsBetween (core_after (pass_steps (row_count m.state.core)) m).phase
 
--- each pass takes 2 * rows + 2 steps
+-- each pass without a touch, a show or a commit in it takes 2 * rows + 2 steps
 abbrev pub EachPassTakesItsSteps : Type 0
 EachPassTakesItsSteps = (m : Moment) → m.state.core.phase ≡ Idle → 0 < row_count m.state.core → TakesItsSteps m

@@ -80,7 +80,7 @@ impl BitSet {
         ensures result { result ≡ slice_index_or self.old index false }
         ensures set { self.new ≡ slice_set self.old index false }
     {
-        // A set that is asked for numbers that it seldom has is then mostly read.
+        // A word is written only where the number was in the set.
         let was_in = self.has(index);
         if was_in {
             self.put(index, false);

@@ -92,7 +92,7 @@ impl Tuner {
         }
     }
 
-    // The scheme that a slot's scheme becomes at a moment, if its bytes change.
+    // The same, where the slot holds this scheme.
     fn retuned(&self, scheme: &Scheme, slot: u8, moment: &Moment) -> Option<Scheme>
         requires { slot ≤ MAX_SLOT }
         ensures { result ≡ retuned self.now slot moment.now scheme.now }

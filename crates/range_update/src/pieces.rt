@@ -10,6 +10,15 @@ use crate::lookup::{covering_row, ends_by, row_end, skip_rows};
 use damon_types::{Range, Row};
 use region_list::RowBuf;
 
+// A new range while it is cut: the old rows, the page after the last one of the range, and the least
+// pages of a piece.
+#[derive(Clone, Copy)]
+struct Cutting<'a> {
+    rows: &'a RowBuf,
+    end: u32,
+    unit: u32,
+}
+
 // Appends the pieces of a new range. The rows before the index `from` end by its first page. Those
 // before the result end by its end, so the next range can go on there.
 pub(crate) fn cut_range(
@@ -37,13 +46,14 @@ pub(crate) fn cut_range(
     let mut index = skip_rows(rows, range.first, from);
     let first = covering_row(rows, index, range.first);
     let mut current = begin_piece(range.target, range.first, first);
+    let cut = &Cutting { rows, end, unit };
     'rows: while ends_by(rows, index, end) {
-        let cut = cut_at_row(rows, index, end, unit, current, made);
-        let progress = push_whole_rows(rows, index + 1, end, unit, cut, made);
+        let piece = cut_at_row(cut, index, current, made);
+        let progress = push_whole_rows(cut, index + 1, piece, made);
         index = progress.next;
         current = progress.current;
     }
-    push_last(rows, index, end, unit, current, made);
+    push_last(cut, index, current, made);
     index
 }
 
@@ -56,47 +66,42 @@ struct Progress {
 
 // Appends the rows from the index `from` on that are pieces as they are, up to the first that is not.
 // Most rows of a range are such, and a whole stretch of them is copied at once, column by column.
-fn push_whole_rows(
-    rows: &RowBuf,
-    from: usize,
-    end: u32,
-    unit: u32,
-    current: Row,
-    made: &mut RowBuf,
-) -> Progress
-    requires order { RowsInOrder 0 rows.now.rows }
-    requires unit { 1 ≤ unit }
-    requires open { IsOpenPiece rows.now.rows current }
-    requires within { from ≤ length rows.now.rows }
-    requires past { EndBy end rows.now.rows from }
+fn push_whole_rows(cut: &Cutting<'_>, from: usize, current: Row, made: &mut RowBuf) -> Progress
+    requires order { RowsInOrder 0 cut.now.rows.now.rows }
+    requires unit { 1 ≤ cut.now.unit }
+    requires open { IsOpenPiece cut.now.rows.now.rows current }
+    requires within { from ≤ length cut.now.rows.now.rows }
+    requires past { EndBy cut.now.end cut.now.rows.now.rows from }
     requires room { length made.old.rows
-        + length (pieces_from rows.now.rows current.target unit end current.start
-        (boundaries (drop from rows.now.rows))) ≤ made.old.cap }
-    ensures within { result.next ≤ length rows.now.rows }
+        + length (pieces_from cut.now.rows.now.rows current.target cut.now.unit cut.now.end current.start
+        (boundaries (drop from cut.now.rows.now.rows))) ≤ made.old.cap }
+    ensures within { result.next ≤ length cut.now.rows.now.rows }
     ensures forward { from ≤ result.next }
-    ensures past { EndBy end rows.now.rows result.next }
-    ensures open { IsOpenPiece rows.now.rows result.current }
+    ensures past { EndBy cut.now.end cut.now.rows.now.rows result.next }
+    ensures open { IsOpenPiece cut.now.rows.now.rows result.current }
     ensures target { result.current.target ≡ current.target }
-    ensures start { current.start ≤ end → result.current.start ≤ end }
+    ensures start { current.start ≤ cut.now.end → result.current.start ≤ cut.now.end }
     ensures cap { made.new.cap ≡ made.old.cap }
-    ensures made { made.new.rows ++ pieces_from rows.now.rows current.target unit end result.current.start
-        (boundaries (drop result.next rows.now.rows))
-        ≡ made.old.rows ++ pieces_from rows.now.rows current.target unit end current.start
-        (boundaries (drop from rows.now.rows)) }
+    ensures made { made.new.rows
+        ++ pieces_from cut.now.rows.now.rows current.target cut.now.unit cut.now.end result.current.start
+        (boundaries (drop result.next cut.now.rows.now.rows))
+        ≡ made.old.rows
+        ++ pieces_from cut.now.rows.now.rows current.target cut.now.unit cut.now.end current.start
+        (boundaries (drop from cut.now.rows.now.rows)) }
 {
     // For its clauses alone: the number of rows is a u32.
-    let _count = rows.len();
+    let _count = cut.rows.len();
     let mut next = from;
     let mut start = current.start;
-    'whole: while is_whole(rows, next, end, unit, current.target, start) {
-        start = row_end(rows, next);
+    'whole: while is_whole(cut, next, current.target, start) {
+        start = row_end(cut.rows, next);
         next += 1;
     }
     if next == from {
         return Progress { next, current };
     }
-    made.append_rows(rows, from, next);
-    let row = covering_row(rows, next, start);
+    made.append_rows(cut.rows, from, next);
+    let row = covering_row(cut.rows, next, start);
     Progress {
         next,
         current: begin_piece(current.target, start, row),
@@ -105,18 +110,19 @@ fn push_whole_rows(
 
 // Whether there is a row with this index that is a piece as it is: it has the target, it begins at the
 // page `start`, where the current piece does, and its end may be kept.
-fn is_whole(rows: &RowBuf, index: usize, end: u32, unit: u32, target: u32, start: u32) -> bool
-    requires order { RowsInOrder 0 rows.now.rows }
-    ensures here { result ≡ true → index < length rows.now.rows }
-    ensures target { result ≡ true → (row_at rows.now.rows index).target ≡ target }
-    ensures start { result ≡ true → (row_at rows.now.rows index).start ≡ start }
+fn is_whole(cut: &Cutting<'_>, index: usize, target: u32, start: u32) -> bool
+    requires order { RowsInOrder 0 cut.now.rows.now.rows }
+    ensures here { result ≡ true → index < length cut.now.rows.now.rows }
+    ensures target { result ≡ true → (row_at cut.now.rows.now.rows index).target ≡ target }
+    ensures start { result ≡ true → (row_at cut.now.rows.now.rows index).start ≡ start }
     ensures end { result ≡ true
-        → may_keep_at unit end start (row_end_of (row_at rows.now.rows index)) ≡ true }
+        → may_keep_at cut.now.unit cut.now.end start
+        (row_end_of (row_at cut.now.rows.now.rows index)) ≡ true }
 {
-    index < rows.count()
-        && rows.at(index).target == target
-        && rows.at(index).start == start
-        && may_keep(unit, end, start, row_end(rows, index))
+    index < cut.rows.count()
+        && cut.rows.at(index).target == target
+        && cut.rows.at(index).start == start
+        && may_keep(cut.unit, cut.end, start, row_end(cut.rows, index))
 }
 
 // A piece that starts at the page, with the values of an old row, or zeros. Its number of pages is set
@@ -151,139 +157,138 @@ fn may_keep(unit: u32, end: u32, last: u32, x: u32) -> bool
     last + unit <= x && x + unit <= end
 }
 
-// Cuts at the boundary x where it may be kept: the current piece is appended, and the next one has the
-// values of the row that covers page x.
-fn cut_at(x: u32, end: u32, unit: u32, row: Option<Row>, current: Row, made: &mut RowBuf) -> Row
+// A boundary of old rows: its page, and the row that covers it.
+#[derive(Clone, Copy)]
+struct Boundary {
+    page: u32,
+    row: Option<Row>,
+}
+
+// Cuts at the boundary where it may be kept: the current piece is appended, and the next one has the
+// values of the row that covers its page.
+fn cut_at(cut: &Cutting<'_>, boundary: Boundary, current: Row, made: &mut RowBuf) -> Row
     requires room { length made.old.rows < made.old.cap }
     ensures made { made.new ≡ record made.old {
       rows = made.old.rows
-          ++ (if may_keep_at unit end current.start x then with_end x current ∷ [] else []);
+          ++ (if may_keep_at cut.now.unit cut.now.end current.start boundary.page
+          then with_end boundary.page current ∷ [] else []);
     } }
     ensures target { result.target ≡ current.target }
-    ensures within { current.start ≤ end → result.start ≤ end }
+    ensures within { current.start ≤ cut.now.end → result.start ≤ cut.now.end }
     ensures start { result.start
-        ≡ (if may_keep_at unit end current.start x then x else current.start) }
+        ≡ (if may_keep_at cut.now.unit cut.now.end current.start boundary.page
+        then boundary.page else current.start) }
     ensures values { (to : ℕ) → with_end to result
-        ≡ (if may_keep_at unit end current.start x
-        then piece_of row current.target x to else with_end to current) }
+        ≡ (if may_keep_at cut.now.unit cut.now.end current.start boundary.page
+        then piece_of boundary.row current.target boundary.page to else with_end to current) }
 {
-    if may_keep(unit, end, current.start, x) {
+    if may_keep(cut.unit, cut.end, current.start, boundary.page) {
         made.push(Row {
-            pages: x - current.start,
+            pages: boundary.page - current.start,
             ..current
         });
-        begin_piece(current.target, x, row)
+        begin_piece(current.target, boundary.page, boundary.row)
     } else {
         current
     }
 }
 
 // Cuts at the start of the row with this index, where it may be kept.
-fn cut_at_start(
-    rows: &RowBuf,
-    index: usize,
-    end: u32,
-    unit: u32,
-    current: Row,
-    made: &mut RowBuf,
-) -> Row
-    requires here { index < length rows.now.rows }
-    requires order { RowsInOrder 0 rows.now.rows }
-    requires open { IsOpenPiece rows.now.rows current }
+fn cut_at_start(cut: &Cutting<'_>, index: usize, current: Row, made: &mut RowBuf) -> Row
+    requires here { index < length cut.now.rows.now.rows }
+    requires order { RowsInOrder 0 cut.now.rows.now.rows }
+    requires open { IsOpenPiece cut.now.rows.now.rows current }
     requires room { length made.old.rows < made.old.cap }
-    ensures open { IsOpenPiece rows.now.rows result }
+    ensures open { IsOpenPiece cut.now.rows.now.rows result }
     ensures target { result.target ≡ current.target }
-    ensures within { current.start ≤ end → result.start ≤ end }
+    ensures within { current.start ≤ cut.now.end → result.start ≤ cut.now.end }
     ensures cap { made.new.cap ≡ made.old.cap }
     ensures made { (xs : List ℕ)
-        → made.new.rows ++ pieces_from rows.now.rows current.target unit end result.start xs
-        ≡ made.old.rows ++ pieces_from rows.now.rows current.target unit end current.start
-        ((row_at rows.now.rows index).start ∷ xs) }
+        → made.new.rows
+        ++ pieces_from cut.now.rows.now.rows current.target cut.now.unit cut.now.end result.start xs
+        ≡ made.old.rows
+        ++ pieces_from cut.now.rows.now.rows current.target cut.now.unit cut.now.end current.start
+        ((row_at cut.now.rows.now.rows index).start ∷ xs) }
 {
-    let row = rows.at(index);
-    cut_at(row.start, end, unit, Some(row), current, made)
+    let row = cut.rows.at(index);
+    let boundary = Boundary {
+        page: row.start,
+        row: Some(row),
+    };
+    cut_at(cut, boundary, current, made)
 }
 
 // Cuts at the end of the row with this index, where it may be kept. The next row covers that page where
 // it starts there.
-fn cut_at_end(
-    rows: &RowBuf,
-    index: usize,
-    end: u32,
-    unit: u32,
-    current: Row,
-    made: &mut RowBuf,
-) -> Row
-    requires here { index < length rows.now.rows }
-    requires order { RowsInOrder 0 rows.now.rows }
-    requires open { IsOpenPiece rows.now.rows current }
+fn cut_at_end(cut: &Cutting<'_>, index: usize, current: Row, made: &mut RowBuf) -> Row
+    requires here { index < length cut.now.rows.now.rows }
+    requires order { RowsInOrder 0 cut.now.rows.now.rows }
+    requires open { IsOpenPiece cut.now.rows.now.rows current }
     requires room { length made.old.rows < made.old.cap }
-    ensures open { IsOpenPiece rows.now.rows result }
+    ensures open { IsOpenPiece cut.now.rows.now.rows result }
     ensures target { result.target ≡ current.target }
-    ensures within { current.start ≤ end → result.start ≤ end }
+    ensures within { current.start ≤ cut.now.end → result.start ≤ cut.now.end }
     ensures cap { made.new.cap ≡ made.old.cap }
     ensures made { (xs : List ℕ)
-        → made.new.rows ++ pieces_from rows.now.rows current.target unit end result.start xs
-        ≡ made.old.rows ++ pieces_from rows.now.rows current.target unit end current.start
-        (row_end_of (row_at rows.now.rows index) ∷ xs) }
+        → made.new.rows
+        ++ pieces_from cut.now.rows.now.rows current.target cut.now.unit cut.now.end result.start xs
+        ≡ made.old.rows
+        ++ pieces_from cut.now.rows.now.rows current.target cut.now.unit cut.now.end current.start
+        (row_end_of (row_at cut.now.rows.now.rows index) ∷ xs) }
 {
     // For its clauses alone: the number of rows is a u32.
-    let _count = rows.len();
-    let x = row_end(rows, index);
-    let row = covering_row(rows, index + 1, x);
-    cut_at(x, end, unit, row, current, made)
+    let _count = cut.rows.len();
+    let page = row_end(cut.rows, index);
+    let row = covering_row(cut.rows, index + 1, page);
+    cut_at(cut, Boundary { page, row }, current, made)
 }
 
 // Cuts at the start and at the end of the row with this index, where they may be kept.
-fn cut_at_row(
-    rows: &RowBuf,
-    index: usize,
-    end: u32,
-    unit: u32,
-    current: Row,
-    made: &mut RowBuf,
-) -> Row
-    requires here { index < length rows.now.rows }
-    requires order { RowsInOrder 0 rows.now.rows }
-    requires open { IsOpenPiece rows.now.rows current }
+fn cut_at_row(cut: &Cutting<'_>, index: usize, current: Row, made: &mut RowBuf) -> Row
+    requires here { index < length cut.now.rows.now.rows }
+    requires order { RowsInOrder 0 cut.now.rows.now.rows }
+    requires open { IsOpenPiece cut.now.rows.now.rows current }
     requires room { length made.old.rows
-        + length (pieces_from rows.now.rows current.target unit end current.start
-        (boundaries (drop index rows.now.rows))) ≤ made.old.cap }
-    ensures open { IsOpenPiece rows.now.rows result }
+        + length (pieces_from cut.now.rows.now.rows current.target cut.now.unit cut.now.end current.start
+        (boundaries (drop index cut.now.rows.now.rows))) ≤ made.old.cap }
+    ensures open { IsOpenPiece cut.now.rows.now.rows result }
     ensures target { result.target ≡ current.target }
-    ensures within { current.start ≤ end → result.start ≤ end }
+    ensures within { current.start ≤ cut.now.end → result.start ≤ cut.now.end }
     ensures cap { made.new.cap ≡ made.old.cap }
-    ensures made { made.new.rows ++ pieces_from rows.now.rows current.target unit end result.start
-        (boundaries (drop (index + 1) rows.now.rows))
-        ≡ made.old.rows ++ pieces_from rows.now.rows current.target unit end current.start
-        (boundaries (drop index rows.now.rows)) }
+    ensures made { made.new.rows
+        ++ pieces_from cut.now.rows.now.rows current.target cut.now.unit cut.now.end result.start
+        (boundaries (drop (index + 1) cut.now.rows.now.rows))
+        ≡ made.old.rows
+        ++ pieces_from cut.now.rows.now.rows current.target cut.now.unit cut.now.end current.start
+        (boundaries (drop index cut.now.rows.now.rows)) }
 {
-    let current = cut_at_start(rows, index, end, unit, current, made);
-    cut_at_end(rows, index, end, unit, current, made)
+    let current = cut_at_start(cut, index, current, made);
+    cut_at_end(cut, index, current, made)
 }
 
 // Appends the last pieces. The row with this index, if any, ends after the range, so only its start may
 // still be kept.
-fn push_last(rows: &RowBuf, index: usize, end: u32, unit: u32, current: Row, made: &mut RowBuf)
-    requires order { RowsInOrder 0 rows.now.rows }
-    requires unit { 1 ≤ unit }
-    requires open { IsOpenPiece rows.now.rows current }
-    requires next { index < length rows.now.rows → end < row_end_of (row_at rows.now.rows index) }
-    requires start { current.start ≤ end }
+fn push_last(cut: &Cutting<'_>, index: usize, current: Row, made: &mut RowBuf)
+    requires order { RowsInOrder 0 cut.now.rows.now.rows }
+    requires unit { 1 ≤ cut.now.unit }
+    requires open { IsOpenPiece cut.now.rows.now.rows current }
+    requires next { index < length cut.now.rows.now.rows
+        → cut.now.end < row_end_of (row_at cut.now.rows.now.rows index) }
+    requires start { current.start ≤ cut.now.end }
     requires room { length made.old.rows
-        + length (pieces_from rows.now.rows current.target unit end current.start
-        (boundaries (drop index rows.now.rows))) ≤ made.old.cap }
+        + length (pieces_from cut.now.rows.now.rows current.target cut.now.unit cut.now.end current.start
+        (boundaries (drop index cut.now.rows.now.rows))) ≤ made.old.cap }
     ensures { made.new ≡ record made.old {
       rows = made.old.rows
-          ++ pieces_from rows.now.rows current.target unit end current.start
-          (boundaries (drop index rows.now.rows));
+          ++ pieces_from cut.now.rows.now.rows current.target cut.now.unit cut.now.end current.start
+          (boundaries (drop index cut.now.rows.now.rows));
     } }
 {
-    if index < rows.count() {
-        let last = cut_at_start(rows, index, end, unit, current, made);
-        push_piece(last, end, made);
+    if index < cut.rows.count() {
+        let last = cut_at_start(cut, index, current, made);
+        push_piece(last, cut.end, made);
     } else {
-        push_piece(current, end, made);
+        push_piece(current, cut.end, made);
     }
 }
 

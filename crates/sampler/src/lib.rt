@@ -11,6 +11,8 @@ mod marks;
 mod picks;
 /// The columns that picks read.
 mod places;
+/// The reciprocals of the rows' sizes, and their renewal.
+mod renewal;
 
 pub use counting::observe;
 pub use drawing::draw_words;

@@ -7,15 +7,12 @@ ghost use Rattle.sampler.specs.Loaded.{loaded_bits, loaded_hits};
 
 use crate::Marks;
 use crate::places::Places;
+use crate::renewal::{RENEWAL, remainder, renew_at};
 use rand_core::Rng;
 use reciprocal::Reciprocal;
 use region_list::Regions;
 use std::alloc::{AllocError, Global};
 use std::marker::Model;
-
-// In how many passes the reciprocals of the rows' sizes are renewed once. A reciprocal takes as long as some
-// ten remainders, so it pays only where a row lives longer than that.
-const RENEWAL: u32 = 16;
 
 /// The pages that a pass checks, one for each row, each with a bit that says whether its check was
 /// a hit. There is room for a fixed number of them.
@@ -26,7 +23,7 @@ pub struct Picks {
     cap: u32,
     // Reciprocals of the rows' sizes, as they were at the last renewal.
     reciprocals: Vec<Reciprocal>,
-    // The passes that were prepared since then. It is less than that number of passes.
+    // The passes that were prepared since then, fewer than `RENEWAL`.
     passes: u32,
 }
 
@@ -239,41 +236,6 @@ fn pick_given(
     for index in 0..regions.len() {
         let page = pick_at(regions, places, reciprocals, index, words[index as usize]);
         pages[index as usize] = page;
-    }
-}
-
-// Makes the reciprocals those of the rows' sizes, if this is the pass of a renewal.
-fn renew_at(pass: u32, regions: &Regions, reciprocals: &mut [Reciprocal])
-    requires { length regions.now.rows ≤ length reciprocals.old }
-    ensures { length reciprocals.new ≡ length reciprocals.old }
-{
-    if pass == 0 {
-        renew(regions, reciprocals);
-    }
-}
-
-// Makes the reciprocals those of the rows' sizes.
-fn renew(regions: &Regions, reciprocals: &mut [Reciprocal])
-    requires { length regions.now.rows ≤ length reciprocals.old }
-    ensures { length reciprocals.new ≡ length reciprocals.old }
-{
-    for index in 0..regions.len() {
-        let pages = regions.row(index).pages;
-        if reciprocals[index as usize].divisor() != pages {
-            reciprocals[index as usize] = Reciprocal::of(pages);
-        }
-    }
-}
-
-// What is left of a word after a division by this many pages; by the reciprocal, if it is theirs.
-fn remainder(word: u32, pages: u32, reciprocal: &Reciprocal) -> u32
-    requires { 1 ≤ pages }
-    ensures { result ≡ word % pages }
-{
-    if reciprocal.divisor() == pages {
-        reciprocal.remainder(word)
-    } else {
-        word % pages
     }
 }
 

@@ -31,7 +31,8 @@ use Rattle.scheme_engine.specs.Outcome.{changes_rows, chosen_of, cut_in_two, cut
 use Rattle.scheme_engine.proofs.CutLemmas.{length-cut_rows}
 use Rattle.scheme_engine.proofs.GatherLemmas.{IsOfRow, candidate_is}
 use Rattle.scheme_engine.proofs.PlaceLemmas.{Ascend, rows_ascend}
-use Rattle.scheme_engine.proofs.RowsLemmas.{AreChosen, are_chosen, candidate_at, part_fits, rows_none, rows_some}
+use Rattle.scheme_engine.proofs.OneRowLemmas.{candidate_at}
+use Rattle.scheme_engine.proofs.RowsLemmas.{AreChosen, are_chosen, part_fits, rows_none, rows_some}
 
 -- what the laws of choices say
 pub record ChoiceLaws : Type 0 where

@@ -6,6 +6,7 @@ pub mod GatherLemmas
 pub mod CutLemmas
 pub mod ApplyLemmas
 pub mod ChoiceLemmas
+pub mod OneRowLemmas
 pub mod RowsLemmas
 pub mod EngineLemmas
 pub mod LawLemmas

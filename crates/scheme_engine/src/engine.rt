@@ -57,8 +57,8 @@ impl Engine {
     }
 
     /// Sets a slot to a scheme, with statistics of 0 and as a slot that has seen no metric, or drops it.
-    /// Its window stays as it was; dropping an empty slot changes nothing. The number of the slot is at
-    /// most [`MAX_SLOT`].
+    /// Its window and its cost stay as they were; dropping an empty slot changes nothing. The number of the
+    /// slot is at most [`MAX_SLOT`].
     pub fn change(&mut self, change: &SlotChange)
         requires { change.now.slot ≤ MAX_SLOT }
         ensures { self.new ≡ record self.old {

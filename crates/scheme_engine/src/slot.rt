@@ -90,7 +90,7 @@ impl Slot {
         }
     }
 
-    // Sets the slot to a scheme, or drops it. The window stays.
+    // Sets the slot to a scheme, or drops it. The window and the cost stay.
     pub(crate) fn change(&mut self, scheme: Option<Scheme>)
         ensures { self.new ≡ changed scheme self.old }
     {

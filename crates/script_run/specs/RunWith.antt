@@ -18,7 +18,7 @@ use Rattle.script_run.specs.Unfold.{commands_events, start}
 abbrev pub start_with : Callbacks → ScriptValue → Course
 start_with c s = record { moment = start s; memory = c.first (opening s.setup) }
 
--- The script's own events in a run with callbacks. What callbacks put in is none of them, and where it leads counts for the phase at
+-- The script's own events in a run with callbacks. Events that callbacks put in are not among them, but they can change the phase at
 -- which steps stop.
 abbrev pub own_events : Callbacks → ScriptValue → List Event
 own_events c s = commands_events (going_with c) s.setup.cap (start_with c s) s.commands

@@ -1,5 +1,5 @@
-//! Reports as text: what a show and an aggregation write of a monitor, the line of a commit, and the
-//! last line.
+//! Reports as lines of text or as JSON lines: what a show and an aggregation write of a monitor, the line of
+//! a commit, and the last line.
 #![tactic(auto)]
 
 /// The text of an aggregation.

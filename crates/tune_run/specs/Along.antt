@@ -97,7 +97,8 @@ LiesBetween goals top bytes =
     IfSome (least_held (λ g. g.low) top goals) (λ least. least ≤ bytes)
     × IfSome (least_held (λ g. g.high) top goals) (λ most. bytes ≤ most)
 
--- Directly after a slot was scored its bytes lie between the bounds of its scored goals.
+-- Directly after a slot was scored its bytes lie between the least low and the least high bound of its scored goals, each held down
+-- by its top.
 abbrev pub AreTunedWithin : List Goal → Course → Event → Type 0
 AreTunedWithin goals r e =
     let t = tuner_then goals r e in
@@ -105,7 +106,8 @@ AreTunedWithin goals r e =
 
 -- ---- bytes follow the score
 
--- the bytes of a slot do not fall below the target of its goal, and do not rise at or above it
+-- At a score below the target of a goal bytes that are at most its high bound do not fall, and at any other score bytes that are at
+-- least its low bound do not rise. Both bounds are held down by the top.
 abbrev pub DoFollow : Goal → ℕ → ℕ → ℕ → ℕ → Type 0
 DoFollow g top score bytes new =
     (score < g.target → bytes ≤ min g.high top → bytes ≤ new) × (g.target ≤ score → min g.low top ≤ bytes → new ≤ bytes)

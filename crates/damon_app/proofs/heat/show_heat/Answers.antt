@@ -39,9 +39,11 @@ returns g c =
     let run = c.in_ok-replayer.ensures.taken in
     let states = aggregated run.said.live run.said.journal in
     let last = (replay run.said.live run.said.journal).state in
+    let tables = c.in_ok-write_tables_in.ensures.all states last run.leads in
     written INPUT_LIMIT (Heat c.args.columns)
     (record { bytes = g.S.Source.left c.args.source.now; calls = g.S.Source.calls c.args.source.now })
     (record { bytes = g.S.Source.left c.take_run.new.source; calls = g.S.Source.calls c.take_run.new.source })
     (record { bytes = g.K.Sink.taken c.args.sink.now; calls = g.K.Sink.calls c.args.sink.now })
     (record { bytes = g.K.Sink.taken c.write_tables_in.new.sink; calls = g.K.Sink.calls c.write_tables_in.new.sink })
-    (c.write_tables_in.new.sink ≡ c.args.sink.now) (heat_text c.args.columns run.said) (run.taken c.args.columns) (EndsAtFault-not (λ e. cc e) (λ no. no) c.in_ok-write_tables_in.ensures.writes) (c.in_ok-write_tables_in.ensures.all states last run.leads)
+    (c.write_tables_in.new.sink ≡ c.args.sink.now) (heat_text c.args.columns run.said) (run.taken c.args.columns) (EndsAtFault-not (λ e. cc e) (λ no. no) c.in_ok-write_tables_in.ensures.writes) tables
+    (record { said = run.said; run = run.lawful c.args.columns; tables = tables; sums = c.in_ok-write_tables_in.ensures.sums states last run.leads })

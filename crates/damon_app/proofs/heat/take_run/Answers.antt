@@ -33,6 +33,7 @@ pub returns-clause-taken : goal.returns-clause-taken
 returns-clause-taken g c =
     let read = c.in_ok-bytes.ensures in
     let run = c.in_ok-replayer.ensures.lawful in
+    let is : IsRun c.in_ok-bytes.bytes.items run.said = subst (λ bs. IsRun bs run.said) c.deref.ensures.value (record { read = run.read; lawful = run.lawful; woven = run.woven }) in
     record {
       said = run.said;
       leads = run.leads;
@@ -41,9 +42,10 @@ returns-clause-taken g c =
         all = read.all;
         end = read.end;
         few = read.limit;
-        wanted = (run.said, subst (λ bs. IsRun bs run.said) c.deref.ensures.value (record { read = run.read; lawful = run.lawful; woven = run.woven }), refl);
+        wanted = (run.said, is, refl);
         status = ap (λ bs. status_of_journal (read_journal bs)) (sym c.deref.ensures.value) ∙ ap status_of_journal run.read;
         reads = EndsAtFault-not (λ e. cc e) (λ no. no) read.reads;
         calls = read.calls;
       };
+      lawful = λ columns. is;
     }

@@ -35,11 +35,11 @@ returns-in_err-write_all g c =
 pub returns : goal.returns
 returns g c =
     let taken = g.K.Sink.taken in
+    let line = subst (Appends (taken c.args.sink.now) (taken c.write_all.new.sink)) c.deref.ensures.value c.in_ok-write_all.ensures.all in
     written INPUT_LIMIT Verify
     (record { bytes = g.S.Source.left c.args.source.now; calls = g.S.Source.calls c.args.source.now })
     (record { bytes = g.S.Source.left c.take_journal.new.source; calls = g.S.Source.calls c.take_journal.new.source })
     (record { bytes = taken c.args.sink.now; calls = g.K.Sink.calls c.args.sink.now })
     (record { bytes = taken c.write_all.new.sink; calls = g.K.Sink.calls c.write_all.new.sink })
     (c.write_all.new.sink ≡ c.args.sink.now) c.in_ok-line.line.items c.in_ok-line.ensures.taken
-    (EndsAtFault-not (λ e. cc e) (λ no. no) c.in_ok-write_all.ensures.writes)
-    (subst (Appends (taken c.args.sink.now) (taken c.write_all.new.sink)) c.deref.ensures.value c.in_ok-write_all.ensures.all)
+    (EndsAtFault-not (λ e. cc e) (λ no. no) c.in_ok-write_all.ensures.writes) line (c.in_ok-line.line.items, c.in_ok-line.ensures.taken.wanted, line)

@@ -1,5 +1,5 @@
 use Rattle.std.proofs.Common.{sym, ◌∙◌}
-use Rattle.damon_app.proofs.Parsing.{option_asks}
+use Rattle.damon_app.proofs.ParsingOptions.{option_asks}
 use Rattle.damon_app.proofs.request.read_request.Goals as goal
 
 pub returns-then-has_option : goal.returns-then-has_option

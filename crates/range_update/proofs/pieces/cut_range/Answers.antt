@@ -25,8 +25,8 @@ rows-init c =
           ∙ ap (λ ks. c.args.made.now.rows ++ pieces rows g.target (end_of g) g.first ks) (sym same);
     }
 
-pub cut_at_row-cut-requires-clause-room : goal.cut_at_row-cut-requires-clause-room
-cut_at_row-cut-requires-clause-room c =
+pub cut_at_row-piece-requires-clause-room : goal.cut_at_row-piece-requires-clause-room
+cut_at_row-piece-requires-clause-room c =
     let rows = c.args.rows.now.rows in
     let g = c.args.range in
     let k = c.rows.invariant in
@@ -48,7 +48,7 @@ push_whole_rows-progress-requires-clause-room c =
     let rows = c.args.rows.now.rows in
     let g = c.args.range in
     let k = c.rows.invariant in
-    let cut = c.cut_at_row-cut in
+    let cut = c.cut_at_row-piece in
     let so_far =
     subst (λ (t : ℕ). cut.new.made.rows ++ pieces_from rows t c.args.unit (end_of g) cut.result.start (boundaries (drop (c.rows.index + 1) rows)) ≡ c.rows.made.rows ++ pieces_from rows t c.args.unit (end_of g) c.rows.current.start (boundaries (drop c.rows.index rows))) k.target cut.ensures.made
     ∙ k.so_far in
@@ -60,7 +60,7 @@ rows-preserved c =
     let g = c.args.range in
     let k = c.rows.invariant in
     let here = c.rows-test.ensures.yes refl in
-    let cut = c.cut_at_row-cut in
+    let cut = c.cut_at_row-piece in
     let on = c.push_whole_rows-progress in
     let target = cut.ensures.target ∙ k.target in
     record {

@@ -1,6 +1,6 @@
 use Rattle.std.proofs.Common.{◌≡◌}
 use Rattle.damon_core.proofs.Setting.{AreSetSoFar}
-use Rattle.damon_core.proofs.monitor.first_engine.Given as goal
+use Rattle.damon_core.proofs.start.first_engine.Given as goal
 
 abbrev pub invariant-loop-change : goal.invariant-loop-change
 invariant-loop-change l = record {

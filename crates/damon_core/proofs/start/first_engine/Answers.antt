@@ -6,7 +6,7 @@ use Rattle.damon_types.specs.declared.scheme.TheConstants.{MAX_SLOT}
 use Rattle.live_commit.specs.SetupView.{value_of}
 use Rattle.scheme_engine.specs.Engine.{EngineValue}
 use Rattle.damon_core.proofs.Setting.{AreSetSoFar, none_set, one_more_set}
-use Rattle.damon_core.proofs.monitor.first_engine.Goals as goal
+use Rattle.damon_core.proofs.start.first_engine.Goals as goal
 
 pub loop-change-init : goal.loop-change-init
 loop-change-init c = record {

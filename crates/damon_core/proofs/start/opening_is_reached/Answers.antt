@@ -1,6 +1,6 @@
 use Rattle.std.proofs.Common.{[], refl}
 use Rattle.live_commit.specs.SetupView.{value_of}
-use Rattle.damon_core.proofs.monitor.opening_is_reached.Goals as goal
+use Rattle.damon_core.proofs.start.opening_is_reached.Goals as goal
 
 pub returns : goal.returns
 returns c = record {
