@@ -8,7 +8,7 @@ use Rattle.std.specs.Io.KnownBytes.{Appends}
 use Rattle.std.specs.List.{AllByRecursion}
 use Rattle.damon_core.specs.State.{State}
 use Rattle.damon_journal.specs.Replayer.{Leads, ReplayerView}
-use Rattle.heat_report.specs.Freq.{working_set}
+use Rattle.damon_types.specs.RowPages.{working_set}
 use Rattle.heat_report.specs.Text.{last_line}
 use Rattle.text_io.specs.Taken.{WritesPart}
 use Rattle.damon_app.specs.Heating.{AddUp, WritesNext, tables_of, tables_text}

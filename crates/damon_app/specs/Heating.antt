@@ -9,7 +9,8 @@ use Rattle.damon_journal.specs.Reading.{read_journal}
 use Rattle.damon_journal.specs.Replayer.{Leads, ReplayerView}
 use Rattle.damon_journal.specs.Rules.{IsTextOfLawful}
 use Rattle.damon_journal.specs.Woven.{WovenRuns}
-use Rattle.heat_report.specs.Freq.{freqs, row_pages, working_set}
+use Rattle.damon_types.specs.RowPages.{row_pages, working_set}
+use Rattle.heat_report.specs.Freq.{freqs}
 use Rattle.heat_report.specs.Heat.{target_heats, target_total}
 use Rattle.heat_report.specs.Text.{last_line, report_text}
 use Rattle.text_io.specs.Taken.{WritesPart}

@@ -3,11 +3,11 @@ ghost use Rattle.std.specs.Prelude.{◌≡◌, ℕ, ◌≤◌, ◌<◌, ◌++◌
 ghost use Rattle.std.specs.Io.KnownBytes.{Appends};
 ghost use Rattle.std.specs.List.{AllByRecursion};
 ghost use Rattle.damon_types.specs.Calls.{EndsAtFault};
+ghost use Rattle.damon_types.specs.RowPages.{working_set};
 ghost use Rattle.damon_core.specs.Stands.{Stands};
 ghost use Rattle.damon_core.specs.State.{State};
 ghost use Rattle.damon_journal.specs.Replayer.{Leads, StandsForReached};
 ghost use Rattle.damon_journal.specs.Status.{EndsRun, status_of};
-ghost use Rattle.heat_report.specs.Freq.{working_set};
 ghost use Rattle.text_io.specs.Taken.{WritesPart};
 ghost use Rattle.damon_app.specs.Answers.{IsOutcome, IsRunRefused, IsRunTaken};
 ghost use Rattle.damon_app.specs.Heating.{AddUp, WritesNext, columns_in, tables_of, tables_text};

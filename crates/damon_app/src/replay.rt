@@ -79,15 +79,15 @@ pub fn replay_main<S: Source, K: Sink>(
     ensures generated { GeneratedRunsAreBound }
 
     // The same holds of every script under `reclaim` and under `tune`. Under `reclaim` each page is resident
-    // or out, and out exactly where a `pageout` scheme was applied to it and since then it was neither touched
-    // nor prefetched; and an aggregation pages out what is resident of the pages that such a scheme is applied
-    // to.
+    // or out, and out exactly where a `pageout` scheme was applied to it and since then it was neither
+    // touched nor prefetched; and an aggregation pages out what is resident of the pages that such a scheme
+    // is applied to.
     ensures accounted { EachRunIsAccounted }
 
     // Under `tune` the bytes of each tunable slot are at most what the script gave it, and directly after a
     // score they lie between the least low and the least high bound of the goals that were scored, each held
-    // down to that. Where it is one goal, bytes within its bounds do not fall at a score below its target, and
-    // do not rise at or above it.
+    // down to that. Where it is one goal, bytes within its bounds do not fall at a score below its target,
+    // and do not rise at or above it.
     ensures follows { EachRunFollowsGoals }
 
     // Under `admin` what a context says in the output, without its digit and the space, is the report of the

@@ -46,7 +46,7 @@ no_receipts line text same other = ap (λ (l : List ℕ). same_word l (codes "re
 err_is_no_ok : {A E : Type 0} (e : E) (x : A) → Err e ≡ Ok x → ⊥
 err_is_no_ok e x is = absurd cc
 
--- a line that says a part is none that says no part
+-- a line that is read as a part is not a line that no part is read from
 no_such_part : (version : Version) (commit : CommitValue) (line other : List ℕ) (part : Part) → part_line version commit other ≡ Err Word → part_line version commit line ≡ Ok part → same_word line other ≡ false
 no_such_part version commit line other part none is = by (same_word line other) refl
   where
@@ -54,7 +54,7 @@ no_such_part version commit line other part none is = by (same_word line other) 
     by true same = absurd (err_is_no_ok Word part (sym none ∙ ap (part_line version commit) (sym (same_text line other (sym same))) ∙ is))
     by false same = refl
 
--- as `receipts` and `apply` say none
+-- no part is read from `receipts` and `apply`
 pub part_is_no_receipts : (version : Version) (commit : CommitValue) (line : List ℕ) (part : Part) → part_line version commit line ≡ Ok part → same_word line (codes "receipts") ≡ false
 part_is_no_receipts version commit line part is = no_such_part version commit line (codes "receipts") part refl is
 

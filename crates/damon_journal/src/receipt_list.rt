@@ -5,7 +5,10 @@ use crate::entry::Receipt;
 use std::alloc::{AllocError, Global};
 use std::marker::Model;
 
-// 2^32: a tag is `HALF` times its high half, and its low half.
+// 2^16: a quarter of a tag is below it.
+const QUARTER: u64 = 1 << 16;
+
+// 2^32: a tag is `HALF` times its upper half, and its lower half.
 const HALF: u64 = 1 << 32;
 
 // For how many receipts `push` makes room at once, so that most pushes look at no capacity.
@@ -14,15 +17,17 @@ const STRETCH: u32 = 1024;
 /// The receipts of a worker, in the order of its touches: a list of fewer than 2^32 receipts, which grows.
 /// It keeps the allocator that it was made with.
 ///
-/// The parts of a receipt lie in lists of their own, and the high half of a tag is written only where some
-/// tag up to now was 2^32 or more. So a receipt takes 8 bytes in most runs, and 12 up to the last such tag.
+/// The parts of a receipt lie in lists of their own, and of a tag only the first quarter is always written:
+/// the others lack the zeros at their ends. So a receipt takes 6 bytes in most runs, 8 up to the last tag of
+/// 65,536 or more, and at most 12.
 #[derive(Drop)]
 pub struct ReceiptList {
     pages: Vec<u32>,
-    // The low half of each tag.
-    lows: Vec<u32>,
-    // The high halves of the first tags; those of the tags after them are 0.
-    highs: Vec<u32>,
+    // The quarters of the tags, the lowest first.
+    first: Vec<u16>,
+    second: Vec<u16>,
+    third: Vec<u16>,
+    fourth: Vec<u16>,
     // How many more receipts fit into each of the lists.
     room: u32,
 }
@@ -36,13 +41,23 @@ impl Model for ReceiptList {
     ghost Value = { Listed receipt };
 
     ghost view = { λ l. record {
-      list = receipts_in l.pages.items l.lows.items l.highs.items;
+      list = receipts_in l.pages.items (record {
+        first = l.first.items;
+        second = l.second.items;
+        third = l.third.items;
+        fourth = l.fourth.items;
+      });
       spare = l.room;
     } };
 
-    ghost invariant = { λ l. AreReceiptColumns l.pages.items l.lows.items l.highs.items
-        × HaveRoom (vec_len l.pages) (vec_capacity l.pages) (vec_capacity l.lows) (vec_capacity l.highs)
-        l.room };
+    ghost invariant = { λ l. AreReceiptColumns l.pages.items (record {
+      first = l.first.items;
+      second = l.second.items;
+      third = l.third.items;
+      fourth = l.fourth.items;
+    })
+        × HaveRoom (vec_len l.pages) (vec_capacity l.pages) (vec_capacity l.first) (vec_capacity l.second)
+        (vec_capacity l.third) (vec_capacity l.fourth) l.room };
 }
 
 impl ReceiptList {
@@ -52,8 +67,10 @@ impl ReceiptList {
     {
         ReceiptList {
             pages: Vec::new(alloc),
-            lows: Vec::new(alloc),
-            highs: Vec::new(alloc),
+            first: Vec::new(alloc),
+            second: Vec::new(alloc),
+            third: Vec::new(alloc),
+            fourth: Vec::new(alloc),
             room: 0,
         }
     }
@@ -71,9 +88,11 @@ impl ReceiptList {
         ensures { slice_get self.now.list index ≡ Some result }
     {
         let place = index as usize;
+        let lower = u64::from(self.first[place]) + QUARTER * quarter_at(&self.second, place);
+        let upper = quarter_at(&self.third, place) + QUARTER * quarter_at(&self.fourth, place);
         Receipt {
             page: self.pages[place],
-            tag: u64::from(self.lows[place]) + HALF * u64::from(high_at(&self.highs, place)),
+            tag: lower + HALF * upper,
         }
     }
 
@@ -111,9 +130,13 @@ impl ReceiptList {
         if self.room < extra {
             let before = self.pages.len();
             self.pages.reserve(extra as usize)?;
-            self.lows.reserve(extra as usize)?;
-            self.highs
-                .reserve(before - self.highs.len() + extra as usize)?;
+            self.first.reserve(extra as usize)?;
+            self.second
+                .reserve(before - self.second.len() + extra as usize)?;
+            self.third
+                .reserve(before - self.third.len() + extra as usize)?;
+            self.fourth
+                .reserve(before - self.fourth.len() + extra as usize)?;
             self.room = extra;
         }
         Ok(())
@@ -125,36 +148,42 @@ impl ReceiptList {
         ensures { self.new
             ≡ record { list = self.old.list ++ item ∷ []; spare = self.old.spare - 1 } }
     {
-        keep_high(&mut self.highs, self.pages.len(), (item.tag / HALF) as u32);
+        let place = self.pages.len();
+        let (lower, upper) = (item.tag % HALF, item.tag / HALF);
+        keep_quarter(&mut self.second, place, (lower / QUARTER) as u16);
+        keep_quarter(&mut self.third, place, (upper % QUARTER) as u16);
+        keep_quarter(&mut self.fourth, place, (upper / QUARTER) as u16);
         self.pages.push_reserved(item.page);
-        self.lows.push_reserved((item.tag % HALF) as u32);
+        self.first.push_reserved((lower % QUARTER) as u16);
         self.room -= 1;
     }
 }
 
-// The high half of the tag with this index.
-fn high_at(highs: &[u32], index: usize) -> u32
-    ensures { result ≡ slice_index highs.now index }
+// The quarter with this index, where zeros at the end are left out.
+fn quarter_at(quarters: &[u16], index: usize) -> u64
+    ensures exact { result ≡ slice_index quarters.now index }
+    ensures most { result < 2 ^ 16 }
 {
-    match highs.get(index) {
-        Some(high) => *high,
+    match quarters.get(index) {
+        Some(quarter) => u64::from(*quarter),
         None => 0,
     }
 }
 
-// Keeps the high half of the tag with this index, which is behind those that are kept. A 0 is left out.
-fn keep_high(highs: &mut Vec<u32>, index: usize, high: u32)
-    requires few { vec_len highs.old ≤ index }
-    requires room { index < vec_capacity highs.old }
-    ensures here { slice_index highs.new.items index ≡ high }
-    ensures others { (i : ℕ) → i < index → slice_index highs.new.items i ≡ slice_index highs.old.items i }
-    ensures few { vec_len highs.new ≤ index + 1 }
-    ensures room { vec_capacity highs.new ≡ vec_capacity highs.old }
+// Keeps the quarter with this index, which is behind those that are kept. A 0 is left out.
+fn keep_quarter(quarters: &mut Vec<u16>, index: usize, quarter: u16)
+    requires few { vec_len quarters.old ≤ index }
+    requires room { index < vec_capacity quarters.old }
+    ensures here { slice_index quarters.new.items index ≡ quarter }
+    ensures others { (i : ℕ) → i < index
+        → slice_index quarters.new.items i ≡ slice_index quarters.old.items i }
+    ensures few { vec_len quarters.new ≤ index + 1 }
+    ensures room { vec_capacity quarters.new ≡ vec_capacity quarters.old }
 {
-    if high != 0 {
-        'zeros: while highs.len() < index {
-            highs.push_reserved(0);
+    if quarter != 0 {
+        'zeros: while quarters.len() < index {
+            quarters.push_reserved(0);
         }
-        highs.push_reserved(high);
+        quarters.push_reserved(quarter);
     }
 }

@@ -10,6 +10,7 @@ use Rattle.page_words.specs.Seats.{MonitorSeatView}
 use Rattle.damon_core.specs.After.{passed_core, phase_after_pass}
 use Rattle.damon_core.specs.Event.{load, observe}
 use Rattle.damon_core.specs.Makes.{Makes, Makes-append, Reached-run}
+use Rattle.damon_core.specs.Pass.{IsBetween}
 use Rattle.damon_core.specs.Reached.{Reached, run}
 use Rattle.damon_core.specs.State.{Core, row_count}
 use Rattle.damon_core.specs.Stands.{MonitorView, Stands}
@@ -19,7 +20,6 @@ use Rattle.damon_journal.specs.declared.entry.Entry.TheVariants.{Check, Void}
 use Rattle.damon_journal.specs.Replay.{EntryFits, JournalValue, Replayed, carried, check_sizes, entry_events, replay}
 use Rattle.damon_journal.specs.Steps.{load_steps, steps}
 use Rattle.damon_journal.specs.Growth.{GrowsByEntries, GrowsByOthers, longer, replay_with}
-use Rattle.damon_live.specs.Kept.{HasEnded}
 use Rattle.damon_live.specs.Machine.{IsBetweenEntries, IsLoadable, IsRun, entries_owed, with_one}
 use Rattle.damon_live.specs.Passes.{AreLoaded}
 
@@ -27,8 +27,8 @@ use Rattle.damon_live.specs.Passes.{AreLoaded}
 between_passes : (since aggr : ℕ) → IsBetweenEntries (phase_after_pass since aggr)
 between_passes since aggr = elim (nat_le aggr since) as (λ b. IsBetweenEntries (cond b Due Idle)) [ true ↦ tt | false ↦ tt ]
 
-pub ended_after : (since aggr : ℕ) → HasEnded (phase_after_pass since aggr)
-ended_after since aggr = elim (nat_le aggr since) as (λ b. HasEnded (cond b Due Idle)) [ true ↦ tt | false ↦ tt ]
+pub ended_after : (since aggr : ℕ) → IsBetween (phase_after_pass since aggr)
+ended_after since aggr = elim (nat_le aggr since) as (λ b. IsBetween (cond b Due Idle)) [ true ↦ tt | false ↦ tt ]
 
 not_loadable : (since aggr : ℕ) → IsLoadable (phase_after_pass since aggr) → ⊥
 not_loadable since aggr = elim (nat_le aggr since) as (λ b. IsLoadable (cond b Due Idle) → ⊥) [ true ↦ λ may. may | false ↦ λ may. may ]

@@ -3,8 +3,6 @@ use Rattle.std.specs.Prelude.{◌≡◌, ℕ, ◌≤◌, ◌==◌, List, [], ◌
 use Rattle.std.specs.List.{flat_map, range_with_len}
 use Rattle.damon_control.specs.Live.{CallValue, LiveValue, count_all}
 use Rattle.damon_control.specs.declared.live.TheConstants.{MAX_CALLS}
-use Rattle.live_commit.specs.declared.phase.Phase.{Phase}
-use Rattle.live_commit.specs.declared.phase.Phase.TheVariants.{Idle, Due}
 use Rattle.damon_journal.specs.declared.entry.Entry.{Entry}
 use Rattle.damon_journal.specs.declared.entry.Entry.TheVariants.{Call}
 use Rattle.damon_journal.specs.Phases.{IsFree}
@@ -50,9 +48,3 @@ pub record AreInTurn (v : LiveValue) (es : List Entry) (counts : List ℕ) : Typ
 pub record IsKept (v : LiveValue) (j : JournalValue) (counts : List ℕ) : Type 0 where
   pub free : IsFree (replay v j).state.core.phase
   pub turns : AreInTurn v j.entries counts
-
--- a pass has ended
-abbrev pub HasEnded : Phase → Type 0
-HasEnded Idle = Unit {0}
-HasEnded Due = Unit {0}
-HasEnded _ = ⊥

@@ -25,8 +25,8 @@ use std::marker::Brand;
 /// Carries out a live script in this thread: all passes, then the calls of each controller, then the
 /// touches of each worker. Waits for nobody. Takes memory; on an error the script is dropped.
 ///
-/// The script is within its limits, its passes times its `cap` are at most [`MAX_RESULTS`](crate::MAX_RESULTS),
-/// and each page of its traces is a page of its space.
+/// The script is within its limits, its passes times its `cap` are at most
+/// [`MAX_RESULTS`](crate::MAX_RESULTS), and each page of its traces is a page of its space.
 pub fn run_alone(alloc: Global, script: LiveScript) -> Result<AloneRun, AllocError>
     requires limits { KeepsLimits (live_said script) }
     requires product { script.passes * script.setup.cap ≤ MAX_RESULTS }

@@ -1,6 +1,7 @@
 ghost use Rattle.std.specs.Prelude.{◌≡◌, ℕ, ◌+◌, ◌*◌, ◌<◌, ◌≤◌, [], IfOk, length, replicate, slice_index};
 ghost use Rattle.damon_types.specs.Space.{pages_of};
 ghost use Rattle.live_commit.specs.declared.phase.Phase.TheVariants.{Armed, Idle};
+ghost use Rattle.damon_core.specs.Pass.{IsBetween};
 ghost use Rattle.damon_core.specs.Reached.{CanOpen};
 ghost use Rattle.damon_core.specs.Stands.{Stands};
 ghost use Rattle.damon_control.specs.LiveText.{KeepsLimits};
@@ -10,7 +11,7 @@ ghost use Rattle.damon_journal.specs.Phases.{IsFree, passes_open};
 ghost use Rattle.damon_journal.specs.Replay.{IsJournalOf, check_sizes, replay};
 ghost use Rattle.damon_journal.specs.Room.{nothing_said};
 ghost use Rattle.damon_journal.specs.Steps.{steps};
-ghost use Rattle.damon_live.specs.Kept.{CallsAreInOrder, HasEnded, calls_asked, calls_made};
+ghost use Rattle.damon_live.specs.Kept.{CallsAreInOrder, calls_asked, calls_made};
 ghost use Rattle.damon_live.specs.Machine.{passes_made, prepare_after, with_one};
 ghost use Rattle.damon_live.specs.Plain.{AddsPlain};
 ghost use Rattle.damon_live.specs.declared.top.TheConstants.{MAX_RESULTS};
@@ -189,7 +190,7 @@ fn end_pass<N: Named>(machine: &mut Machine<'_, N>, words: &PageWords)
     requires free { IsFree (replay N.script machine.old).state.core.phase }
     requires begun { passes_open (replay N.script machine.old).state.core.phase ≡ 1 }
     ensures adds { AddsPlain machine.old machine.new }
-    ensures ended { HasEnded (replay N.script machine.new).state.core.phase }
+    ensures ended { IsBetween (replay N.script machine.new).state.core.phase }
     ensures made { passes_made machine.new ≡ passes_made machine.old }
 {
     match machine.phase() {
@@ -200,7 +201,7 @@ fn end_pass<N: Named>(machine: &mut Machine<'_, N>, words: &PageWords)
 
 // Makes the aggregation if one is due.
 fn make_due<N: Named>(machine: &mut Machine<'_, N>)
-    requires { HasEnded (replay N.script machine.old).state.core.phase }
+    requires { IsBetween (replay N.script machine.old).state.core.phase }
     ensures adds { AddsPlain machine.old machine.new }
     ensures idle { (replay N.script machine.new).state.core.phase ≡ Idle }
     ensures made { passes_made machine.new ≡ passes_made machine.old }

@@ -8,11 +8,11 @@ ghost use Rattle.damon_control.specs.LiveView.{live_said};
 ghost use Rattle.damon_journal.specs.Growth.{longer};
 ghost use Rattle.damon_journal.specs.Phases.{IsFree, passes_open};
 ghost use Rattle.damon_journal.specs.Room.{nothing_said};
+ghost use Rattle.damon_core.specs.Pass.{IsBetween};
 ghost use Rattle.damon_core.specs.Reached.{CanOpen};
 ghost use Rattle.damon_core.specs.Stands.{Stands};
 ghost use Rattle.damon_journal.specs.Replay.{IsJournalOf, call_answer, call_at, check_sizes, replay};
 ghost use Rattle.damon_journal.specs.Steps.{steps};
-ghost use Rattle.damon_live.specs.Kept.{HasEnded};
 ghost use Rattle.damon_live.specs.Machine.{aggregate_after, calls_left, passes_made, prepare_after, with_one};
 ghost use Rattle.damon_live.specs.declared.top.TheConstants.{MAX_RESULTS};
 
@@ -152,7 +152,7 @@ impl<'a, N: Named> Machine<'a, N> {
         requires armed { (replay N.script self.old).state.core.phase ≡ Armed }
         ensures entry { (results : List Bool) × (self.new
             ≡ longer self.old (Check ((replay N.script self.old).state.core.ticks + 1)) results) }
-        ensures ended { HasEnded (replay N.script self.new).state.core.phase }
+        ensures ended { IsBetween (replay N.script self.new).state.core.phase }
         ensures made { passes_made self.new ≡ passes_made self.old }
     {
         journals_grow();
@@ -169,7 +169,7 @@ impl<'a, N: Named> Machine<'a, N> {
         requires { (replay N.script self.old).state.core.phase ≡ VoidPhase }
         ensures entry { self.new
             ≡ with_one (Void ((replay N.script self.old).state.core.ticks + 1)) self.old }
-        ensures ended { HasEnded (replay N.script self.new).state.core.phase }
+        ensures ended { IsBetween (replay N.script self.new).state.core.phase }
         ensures made { passes_made self.new ≡ passes_made self.old }
     {
         journals_grow();

@@ -28,9 +28,9 @@ use std::thread::Threads;
 /// in this one, all beside each other. Where a thread cannot be made, its work is done by a thread that
 /// goes on. What is left of passes and calls after the threads have ended is made by this one.
 ///
-/// The script is within its limits, its passes times its `cap` are at most [`MAX_RESULTS`](crate::MAX_RESULTS),
-/// and each page of its traces is a page of its space. All threads read it where it stands. Takes memory; on
-/// an error the script is dropped. May wait.
+/// The script is within its limits, its passes times its `cap` are at most
+/// [`MAX_RESULTS`](crate::MAX_RESULTS), and each page of its traces is a page of its space. All threads read
+/// it where it stands. Takes memory; on an error the script is dropped. May wait.
 pub fn run_threads<R: Threads + Wait + Sync, P: Pace + Sync>(
     rt: &R,
     alloc: Global,

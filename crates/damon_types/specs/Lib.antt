@@ -5,6 +5,7 @@ pub mod Standard
 pub mod Faults
 pub mod Attrs
 pub mod Ranges
+pub mod RowPages
 pub mod Span
 pub mod Space
 pub mod Layout

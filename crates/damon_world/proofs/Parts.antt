@@ -1,6 +1,6 @@
 -- The pages of a world, by what is stored of them.
 use Rattle.std.proofs.Common.{◌≡◌, ◌≢◌, inl, inr, ℕ, zero, suc, ◌+◌, ◌-◌, ◌/◌, ◌%◌, ◌≤◌, ◌<◌, Bool, true, false, List, length, set, get_or-set_same, get_or-set_other, refl, sym, ap, ◌∙◌, subst, arith}
-use Rattle.std.specs.Prelude.{◌==◌, ◌||◌, replicate, slice_index, slice_index_or, if◌then◌else◌}
+use Rattle.std.specs.Prelude.{◌==◌, ◌||◌, min, max, replicate, slice_index, slice_index_or, if◌then◌else◌}
 use Rattle.std.proofs.lemmas.Bool.{cases_eq}
 use Rattle.std.proofs.lemmas.Bool.Decides.{nat_tests}
 use Rattle.std.proofs.lemmas.List.{length-replicate}
@@ -10,14 +10,27 @@ use Rattle.sampler.specs.Loaded.{mark_of}
 use Rattle.page_bits.specs.Bits.{bit_in, is_set}
 use Rattle.page_bits.specs.Runs.{in_run}
 use Rattle.page_bits.specs.Sets.{bits_of}
-use Rattle.damon_world.specs.Pages.{AreCleared, AreTouched, PagesView, is_picked}
+use Rattle.damon_world.specs.Pages.{AreCleared, AreTouched, PagesView, is_marked, is_picked, marks_of}
 
+-- there is a bit for each page
 pub length_bits : (n : ℕ) (words : List ℕ) → length (bits_of n words) ≡ n
 length_bits n words = length-map-range_with_len (bit_in words) 0 n
 
--- the mark of a page is its bit
+-- the bit of a page
 pub mark_is_bit : (n : ℕ) (words : List ℕ) (p : ℕ) → p < n → mark_of (bits_of n words) p ≡ bit_in words p
 mark_is_bit n words p below = get_or-map-range_with_len (bit_in words) 0 n p p false below (omega arith)
+
+-- there is a mark for each page
+pub length_marks : (n : ℕ) (words : List ℕ) (from to : ℕ) → length (marks_of n words from to) ≡ n
+length_marks n words from to = length-map-range_with_len (is_marked words from to) 0 n
+
+-- the mark of a page
+pub mark_is : (n : ℕ) (words : List ℕ) (from to p : ℕ) → p < n → mark_of (marks_of n words from to) p ≡ is_marked words from to p
+mark_is n words from to p below = get_or-map-range_with_len (is_marked words from to) 0 n p p false below (omega arith)
+
+-- where nothing was swept, the mark of a page is its bit
+pub none_swept : (words : List ℕ) (p : ℕ) → is_marked words 0 0 p ≡ bit_in words p
+none_swept words p = (let outside : in_run 0 0 p ≡ false = grind (arith, nat_tests) in ap (λ b. if b then true else bit_in words p) outside)
 
 pub index_of_zeros : (n q : ℕ) → slice_index (replicate n 0) q ≡ 0
 index_of_zeros zero q = refl
@@ -33,8 +46,27 @@ no_mark (suc n) (suc p) = no_mark n p
 no_bits : (k p : ℕ) → bit_in (replicate k 0) p ≡ false
 no_bits k p = ap (λ w. is_set w (p % 64)) (index_of_zeros k (p / 64)) ∙ ap (λ n. n == 1) (bit_at-zero (p % 64))
 
-pub bits_of_none : (n k : ℕ) → bits_of n (replicate k 0) ≡ replicate n false
-bits_of_none n k = sym (fill_by_all (bit_in (replicate k 0)) (replicate n false) n false (length-replicate {A = Bool} n false) (λ p below. no_mark n p ∙ sym (no_bits k p)))
+pub marks_of_none : (n k : ℕ) → marks_of n (replicate k 0) 0 0 ≡ replicate n false
+marks_of_none n k = sym (fill_by_all (is_marked (replicate k 0) 0 0) (replicate n false) n false (length-replicate {A = Bool} n false) (λ p below. no_mark n p ∙ sym (none_swept (replicate k 0) p ∙ no_bits k p)))
+
+-- bits that are the marks of each page are the marks
+pub bits_are : (n : ℕ) (words others : List ℕ) (from to : ℕ) → ((p : ℕ) → bit_in words p ≡ is_marked others from to p) → bits_of n words ≡ marks_of n others from to
+bits_are n words others from to each = fill_by_all (is_marked others from to) (bits_of n words) n false (length_bits n words) (λ p below. mark_is_bit n words p below ∙ each p)
+
+-- marks that are the same for each page are the same
+pub marks_same : (n : ℕ) (words others : List ℕ) (from to first last : ℕ) → ((p : ℕ) → is_marked words from to p ≡ is_marked others first last p) → marks_of n words from to ≡ marks_of n others first last
+marks_same n words others from to first last each = fill_by_all (is_marked others first last) (marks_of n words from to) n false (length_marks n words from to) (λ p below. mark_is n words from to p below ∙ each p)
+
+-- two runs that overlap or touch are one
+pub one_run : (from to first last p : ℕ) (b : Bool) → first ≤ last → from ≤ to → first ≤ to → from ≤ last → (if in_run (min first from) (max last to - min first from) p then true else b) ≡ (if in_run from (to - from) p then true else (if in_run first (last - first) p then true else b))
+one_run from to first last p b own other left right = grind (arith, nat_tests)
+
+-- two pages or runs in the other order
+pub swap : (a b rest : Bool) → (if a then true else (if b then true else rest)) ≡ (if b then true else (if a then true else rest))
+swap true true rest = refl
+swap true false rest = refl
+swap false true rest = refl
+swap false false rest = refl
 
 -- a run of one page
 pub one_page : (page p : ℕ) → (page == p) ≡ in_run page 1 p
@@ -50,26 +82,26 @@ one_page page p = elim (cases_eq page p) [
 ]
 
 -- pages by their marks, which are stored so
-abbrev pub stored : ℕ → List ℕ → List ℕ → PagesView
-stored n words tags = record { marks = bits_of n words; tags = tags }
+abbrev pub stored : ℕ → List ℕ → ℕ → ℕ → List ℕ → PagesView
+stored n words from to tags = record { marks = marks_of n words from to; tags = tags }
 
--- marks of which a run is set
-pub are_touched : (n from k : ℕ) (old new tags : List ℕ) → ((p : ℕ) → bit_in new p ≡ (if in_run from k p then true else bit_in old p)) → AreTouched from k (stored n old tags) (stored n new tags)
-are_touched n from k old new tags bits = record {
-  len = length_bits n new ∙ sym (length_bits n old);
+-- marks of which those of a run are set
+pub are_touched : (n start k : ℕ) (words others tags : List ℕ) (from to first last : ℕ) → ((p : ℕ) → is_marked others first last p ≡ (if in_run start k p then true else is_marked words from to p)) → AreTouched start k (stored n words from to tags) (stored n others first last tags)
+are_touched n start k words others tags from to first last each = record {
+  len = length_marks n others first last ∙ sym (length_marks n words from to);
   marks = λ p below.
-      (let here : p < n = omega (arith, below, length_bits n old) in
-      mark_is_bit n new p here ∙ bits p ∙ ap (λ b. if in_run from k p then true else b) (sym (mark_is_bit n old p here)));
+      (let here : p < n = omega (arith, below, length_marks n words from to) in
+      mark_is n others first last p here ∙ each p ∙ ap (λ b. if in_run start k p then true else b) (sym (mark_is n words from to p here)));
   tags = refl;
 }
 
--- marks of which those of picks are cleared, with the tags of these
-pub are_cleared : (picks : List ℕ) (from k pass n : ℕ) (old new tags new_tags : List ℕ) → ((p : ℕ) → bit_in new p ≡ (if is_picked picks from k p then false else bit_in old p)) → length new_tags ≡ length tags → ((p : ℕ) → p < length tags → slice_index new_tags p ≡ (if is_picked picks from k p then pass else slice_index tags p)) → AreCleared picks from k pass (stored n old tags) (stored n new new_tags)
-are_cleared picks from k pass n old new tags new_tags bits len at = record {
-  len = length_bits n new ∙ sym (length_bits n old);
+-- marks of which those of picks are cleared, with the tags of these, where nothing is left of what was swept
+pub are_cleared : (picks : List ℕ) (start k pass n : ℕ) (words others tags new_tags : List ℕ) (from to : ℕ) → ((p : ℕ) → bit_in others p ≡ (if is_picked picks start k p then false else is_marked words from to p)) → length new_tags ≡ length tags → ((p : ℕ) → p < length tags → slice_index new_tags p ≡ (if is_picked picks start k p then pass else slice_index tags p)) → AreCleared picks start k pass (stored n words from to tags) (stored n others 0 0 new_tags)
+are_cleared picks start k pass n words others tags new_tags from to bits len at = record {
+  len = length_marks n others 0 0 ∙ sym (length_marks n words from to);
   marks = λ p below.
-      (let here : p < n = omega (arith, below, length_bits n old) in
-      mark_is_bit n new p here ∙ bits p ∙ ap (λ b. if is_picked picks from k p then false else b) (sym (mark_is_bit n old p here)));
+      (let here : p < n = omega (arith, below, length_marks n words from to) in
+      mark_is n others 0 0 p here ∙ none_swept others p ∙ bits p ∙ ap (λ b. if is_picked picks start k p then false else b) (sym (mark_is n words from to p here)));
   tagged = len;
   tags = at;
 }

@@ -1,8 +1,9 @@
 -- The pages of one thread.
-use Rattle.std.specs.Prelude.{◌≡◌, ℕ, zero, suc, ◌+◌, ◌*◌, ◌/◌, ◌≤◌, ◌<◌, Bool, true, false, ◌==◌, ◌||◌, List, length, slice_index, if◌then◌else◌}
+use Rattle.std.specs.Prelude.{◌≡◌, ℕ, zero, suc, ◌+◌, ◌-◌, ◌*◌, ◌/◌, ◌≤◌, ◌<◌, Bool, true, false, ◌==◌, ◌||◌, List, length, slice_index, if◌then◌else◌}
 use Rattle.sampler.specs.Loaded.{mark_of}
 use Rattle.page_bits.specs.Bits.{bit_in}
 use Rattle.page_bits.specs.Runs.{in_run}
+use Rattle.page_bits.specs.Sets.{each_page}
 use Rattle.damon_core.specs.Note.{Note, is_touched, last_clear}
 
 -- The mark of each page: whether it was touched since it was cleared last, or ever. And the tag of each page, or of none: the pass that cleared it last.
@@ -46,7 +47,17 @@ pub record AreBitsCleared (picks : List ℕ) (from n : ℕ) (old new : List ℕ)
   pub len : length new ≡ length old
   pub bits : (p : ℕ) → bit_in new p ≡ (if is_picked picks from n p then false else bit_in old p)
 
--- there is a bit for each page, and a tag for each or for none
-pub record IsStored (pages : ℕ) (words tags : List ℕ) : Type 0 where
+-- whether a page is marked: it was swept, from page `from` to before page `to`, or its bit is 1
+abbrev pub is_marked : List ℕ → ℕ → ℕ → ℕ → Bool
+is_marked words from to p = if in_run from (to - from) p then true else bit_in words p
+
+-- the marks of this many pages, by their bits and the run that was swept
+abbrev pub marks_of : ℕ → List ℕ → ℕ → ℕ → List Bool
+marks_of pages words from to = each_page pages (is_marked words from to)
+
+-- there is a bit for each page, the run that was swept is of the pages, and there is a tag for each or for none
+pub record IsStored (pages : ℕ) (words : List ℕ) (from to : ℕ) (tags : List ℕ) : Type 0 where
   pub marked : pages ≤ 64 * length words
+  pub order : from ≤ to
+  pub within : to ≤ pages
   pub tagged : 0 < length tags → length tags ≡ pages

@@ -1,7 +1,17 @@
-ghost use Rattle.std.specs.Prelude.{◌≡◌, ◌+◌, ◌-◌, ◌*◌, ◌≤◌, ◌<◌, [], ℕ, false, if◌then◌else◌, length, replicate, slice_index, IfOk};
-ghost use Rattle.page_bits.specs.Sets.{bits_of};
-ghost use Rattle.damon_world.specs.Pages.{AreBitsCleared, AreCleared, AreTouched, HaveBits, is_picked};
+ghost use Rattle.std.specs.Prelude.{◌≡◌, ◌+◌, ◌-◌, ◌*◌, ◌≤◌, ◌<◌, [], ℕ, true, false, if◌then◌else◌, length, replicate, slice_index, IfOk};
+ghost use Rattle.page_bits.specs.Bits.{bit_in};
+ghost use Rattle.page_bits.specs.Runs.{in_run};
+ghost use Rattle.sampler.specs.Loaded.{mark_of, next_picks};
+ghost use Rattle.damon_types.specs.Space.{pages_of};
+ghost use Rattle.damon_core.specs.After.{loaded_core};
+ghost use Rattle.damon_core.specs.Event.{IsLoading, load_index};
+ghost use Rattle.damon_core.specs.Makes.{Makes};
+ghost use Rattle.damon_core.specs.Several.{loads};
+ghost use Rattle.damon_core.specs.Stands.{Stands};
+ghost use Rattle.damon_core.specs.State.{row_count};
+ghost use Rattle.damon_world.specs.Pages.{AreBitsCleared, AreCleared, AreTouched, HaveBits, is_picked, marks_of};
 
+use damon_core::Monitor;
 use page_bits::{LastWord, WORD, clear_bit, is_bit_set, put_bits_of_run, set_bit};
 use sampler::{Marks, Picks};
 use std::alloc::{AllocError, Global};
@@ -13,24 +23,41 @@ use std::marker::Model;
 /// A mark takes one bit. Those of a million pages are 128 KB, which stay within the nearest caches. The tags
 /// of as many pages are 8 MB, and each clear would wait for memory; so they are kept only for who asks for
 /// them.
+///
+/// The marks of a sweep are set when marks are cleared or loaded next. Sweeps up to then that overlap or
+/// touch are one run, whose marks are set once.
 #[derive(Drop)]
 pub struct PlainPages {
     pages: u32,
+    // The marks. Those of the swept pages may not be set yet.
     marks: Vec<u64>,
+    swept: Swept,
     // Empty if no tags are kept.
     tags: Vec<u64>,
 }
 
 impl Model for PlainPages {
-    ghost use Rattle.page_bits.specs.Sets.{bits_of};
-    ghost use Rattle.damon_world.specs.Pages.{IsStored, PagesView};
+    ghost use Rattle.damon_world.specs.Pages.{IsStored, PagesView, marks_of};
 
     ghost Value = { PagesView };
 
-    ghost view = { λ p. record { marks = bits_of p.pages p.marks.items; tags = p.tags.items } };
+    ghost view = { λ p. record {
+      marks = marks_of p.pages p.marks.items p.swept.from p.swept.to;
+      tags = p.tags.items;
+    } };
 
-    ghost invariant = { λ p. IsStored p.pages p.marks.items p.tags.items };
+    ghost invariant = { λ p. IsStored p.pages p.marks.items p.swept.from p.swept.to p.tags.items };
 }
+
+// The pages from `from` to before `to`.
+#[derive(Clone, Copy)]
+struct Swept {
+    from: u32,
+    to: u32,
+}
+
+// No pages.
+const NO_PAGES: Swept = Swept { from: 0, to: 0 };
 
 impl PlainPages {
     /// `pages` pages with tags, none of which was cleared or touched. This call and
@@ -41,7 +68,12 @@ impl PlainPages {
     {
         let marks = no_marks(alloc, pages)?;
         let tags = vec![in alloc; 0; pages as usize]?;
-        Ok(PlainPages { pages, marks, tags })
+        Ok(PlainPages {
+            pages,
+            marks,
+            swept: NO_PAGES,
+            tags,
+        })
     }
 
     /// The same without tags.
@@ -50,7 +82,12 @@ impl PlainPages {
     {
         let marks = no_marks(alloc, pages)?;
         let tags = Vec::new(alloc);
-        Ok(PlainPages { pages, marks, tags })
+        Ok(PlainPages {
+            pages,
+            marks,
+            swept: NO_PAGES,
+            tags,
+        })
     }
 
     /// The tag of a page, if tags are kept.
@@ -75,17 +112,50 @@ impl PlainPages {
         requires within { to ≤ length self.old.marks }
         ensures { AreTouched from (to - from) self.old self.new }
     {
-        put_bits_of_run(&mut self.marks, from, to - from, true);
+        let Swept {
+            from: first,
+            to: last,
+        } = self.swept;
+        if first <= to && from <= last {
+            self.swept = Swept {
+                from: first.min(from),
+                to: last.max(to),
+            };
+            return;
+        }
+        put_bits_of_run(&mut self.marks, first, last - first, true);
+        self.swept = Swept { from, to };
     }
 
-    /// The marks of the pages.
-    pub fn marks(&self) -> PlainMarks<'_>
-        ensures { bits_of result.pages result.words.now ≡ self.now.marks }
+    /// The mark of a page.
+    pub fn is_marked(&self, page: u32) -> bool
+        requires { page < length self.now.marks }
+        ensures { result ≡ mark_of self.now.marks page }
     {
-        PlainMarks {
+        if self.swept.from <= page && page < self.swept.to {
+            return true;
+        }
+        is_bit_set(&self.marks, page)
+    }
+
+    /// Loads the pages of the next `count` picks (at least 1) of a monitor, which has at least as many left
+    /// to load.
+    pub fn load(&mut self, monitor: &mut Monitor, count: u32)
+        requires phase { IsLoading monitor.old.core.phase (row_count monitor.old.core) }
+        requires some { 1 ≤ count }
+        requires within { load_index monitor.old.core.phase + count ≤ row_count monitor.old.core }
+        requires marks { length self.old.marks ≡ pages_of monitor.old.core.space }
+        ensures same { self.new ≡ self.old }
+        ensures core { monitor.new.core ≡ loaded_core count monitor.old.core }
+        ensures events { Makes Stands monitor.old monitor.new (loads self.old.marks
+            (next_picks monitor.old.core.picks (load_index monitor.old.core.phase) count)) }
+    {
+        settle(&mut self.marks, &mut self.swept);
+        let marks = PlainMarks {
             pages: self.pages,
             words: &self.marks,
-        }
+        };
+        monitor.loaded_next(count, marks);
     }
 
     /// Clears in this pass the pages of the picks from `from` to before `to`.
@@ -96,6 +166,7 @@ impl PlainPages {
             → slice_index picks.now.pages k < length self.old.marks }
         ensures { AreCleared picks.now.pages from (to - from) pass self.old self.new }
     {
+        settle(&mut self.marks, &mut self.swept);
         clear_marks(&mut self.marks, picks, from, to);
         if !self.tags.is_empty() {
             put_tags(&mut self.tags, picks, from, to, pass);
@@ -123,12 +194,25 @@ impl Marks for PlainMarks<'_> {
 }
 
 // The marks of `pages` pages, none of which was touched.
-#[tactic(auto, using(crate::proofs::Parts::bits_of_none))]
+#[tactic(auto, using(crate::proofs::Parts::marks_of_none))]
 fn no_marks(alloc: Global, pages: u32) -> Result<Vec<u64>, AllocError>
     ensures each { IfOk result (λ marks. pages ≤ 64 * length marks.items) }
-    ensures none { IfOk result (λ marks. bits_of pages marks.items ≡ replicate pages false) }
+    ensures none { IfOk result (λ marks. marks_of pages marks.items 0 0 ≡ replicate pages false) }
 {
     vec![in alloc; 0; pages.div_ceil(WORD) as usize]
+}
+
+// Sets the marks of the swept pages, so that none are left.
+fn settle(marks: &mut [u64], swept: &mut Swept)
+    requires order { swept.old.from ≤ swept.old.to }
+    requires within { swept.old.to ≤ 64 * length marks.old }
+    ensures len { length marks.new ≡ length marks.old }
+    ensures bits { (p : ℕ) → bit_in marks.new p
+        ≡ (if in_run swept.old.from (swept.old.to - swept.old.from) p then true else bit_in marks.old p) }
+    ensures none { swept.new ≡ record { from = 0; to = 0 } }
+{
+    put_bits_of_run(marks, swept.from, swept.to - swept.from, true);
+    *swept = NO_PAGES;
 }
 
 // From this many picks a word on, the next pick mostly has the word of the last one.

@@ -256,7 +256,7 @@ impl<R: Jump + Drop> World<R> {
         ensures { (s : State) → Reached s → StandsFor self.now s → Tells s.core.phase s result }
     {
         let page = self.monitor.pick(next);
-        let hit = self.pages.marks().is_marked(page);
+        let hit = self.pages.is_marked(page);
         Stepped::Loaded { page, hit }
     }
 
@@ -312,7 +312,7 @@ impl<R: Jump + Drop> World<R> {
         // For its clauses alone: each pick is a page of the space, and those to be loaded are cleared.
         let _picks = self.monitor.picks();
         let count = at_most(self.monitor.rows().len() - next, most);
-        self.monitor.loaded_next(count, self.pages.marks());
+        self.pages.load(&mut self.monitor, count);
         u64::from(count)
     }
 

@@ -4,7 +4,8 @@ use Rattle.std.specs.Prelude.{IsNone}
 use Rattle.std.specs.Fmt.{digits}
 use Rattle.damon_types.specs.declared.row.Row.{Row}
 use Rattle.damon_types.specs.declared.space.Target.{Target}
-use Rattle.heat_report.specs.Freq.{freqs, working_set}
+use Rattle.damon_types.specs.RowPages.{working_set}
+use Rattle.heat_report.specs.Freq.{freqs}
 use Rattle.heat_report.specs.Heat.{count_at, target_heats, target_total}
 use Rattle.heat_report.specs.Sizes.{median, spread_of}
 use Rattle.heat_report.specs.Text.{last_line, report_text}

@@ -8,9 +8,9 @@ use Rattle.std.proofs.lemmas.List.Sums.{sum_by-cons}
 use Rattle.damon_types.specs.declared.row.Row.{Row}
 use Rattle.damon_types.specs.declared.space.Target.{Target}
 use Rattle.damon_types.specs.Space.{offset, pages_of}
+use Rattle.damon_types.specs.RowPages.{row_pages}
 use Rattle.region_list.specs.Find.{AscendFrom}
 use Rattle.heat_report.specs.InSpace.{IsRowOf}
-use Rattle.heat_report.specs.Freq.{row_pages}
 use Rattle.heat_report.specs.Heat.{target_pages, target_total}
 use Rattle.heat_report.specs.Overlap.{overlap}
 

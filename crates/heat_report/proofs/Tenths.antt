@@ -8,7 +8,8 @@ use Rattle.std.proofs.lemmas.List.{drop_all}
 use Rattle.std.proofs.lemmas.List.FromFn.{fill_by_all}
 use Rattle.std.proofs.lemmas.List.Sums.{sum-map, sum_by-cons}
 use Rattle.damon_types.specs.declared.row.Row.{Row}
-use Rattle.heat_report.specs.Freq.{freqs, row_pages, tenths}
+use Rattle.damon_types.specs.RowPages.{row_pages}
+use Rattle.heat_report.specs.Freq.{freqs, tenths}
 use Rattle.heat_report.proofs.Pages.{sum_of_two}
 
 -- the pages of rows that pass a test, with one more row in front

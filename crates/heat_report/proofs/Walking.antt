@@ -5,8 +5,8 @@ use Rattle.std.specs.List.{AllByRecursion}
 use Rattle.std.proofs.lemmas.List.Sums.{sum_by-cons}
 use Rattle.damon_types.specs.declared.attrs.TheConstants.{MAX_AGGR}
 use Rattle.damon_types.specs.declared.row.Row.{Row}
+use Rattle.damon_types.specs.RowPages.{row_pages}
 use Rattle.region_list.specs.Find.{AscendFrom}
-use Rattle.heat_report.specs.Freq.{row_pages}
 use Rattle.heat_report.specs.Heat.{border}
 use Rattle.heat_report.specs.Overlap.{added, pages_in}
 use Rattle.heat_report.proofs.Adding.{no_heat}

@@ -10,7 +10,7 @@ use Rattle.damon_types.specs.declared.attrs.TheConstants.{MAX_AGGR}
 use Rattle.damon_types.specs.declared.row.Row.{Row}
 use Rattle.damon_types.specs.declared.space.Target.{Target}
 use Rattle.damon_types.specs.Space.{IsSpace, offset}
-use Rattle.heat_report.specs.Freq.{row_pages}
+use Rattle.damon_types.specs.RowPages.{row_pages}
 use Rattle.heat_report.specs.InSpace.{IsRowOf, LieIn}
 use Rattle.heat_report.specs.Heat.{border, heat_between, target_heats, target_pages}
 use Rattle.heat_report.specs.Overlap.{added, pages_in}

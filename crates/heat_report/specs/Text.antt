@@ -4,9 +4,10 @@ use Rattle.std.specs.List.{range_with_len}
 use Rattle.std.specs.Fmt.{decimal}
 use Rattle.damon_types.specs.declared.row.Row.{Row}
 use Rattle.damon_types.specs.declared.space.Target.{Target}
+use Rattle.damon_types.specs.RowPages.{working_set}
 use Rattle.heat_report.specs.declared.sizes.Spread.{Spread}
 use Rattle.heat_report.specs.Heat.{target_heats}
-use Rattle.heat_report.specs.Freq.{freqs, working_set}
+use Rattle.heat_report.specs.Freq.{freqs}
 use Rattle.heat_report.specs.Sizes.{spread_of}
 
 infixr 20 ◌then◌

@@ -1,6 +1,7 @@
 // How many pages were accessed how often.
 ghost use Rattle.std.specs.Prelude.{◌≡◌, ◌≤◌, replicate};
-ghost use Rattle.heat_report.specs.Freq.{freqs, tenths, working_set};
+ghost use Rattle.damon_types.specs.RowPages.{working_set};
+ghost use Rattle.heat_report.specs.Freq.{freqs, tenths};
 
 use damon_types::Row;
 use priority::Histogram;

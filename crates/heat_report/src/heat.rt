@@ -3,9 +3,9 @@ ghost use Rattle.std.specs.Prelude.{◌≡◌, ℕ, ◌+◌, ◌*◌, ◌≤◌,
 ghost use Rattle.std.specs.List.{AllByRecursion};
 ghost use Rattle.damon_types.specs.declared.attrs.TheConstants.{MAX_AGGR};
 ghost use Rattle.damon_types.specs.Space.{offset};
+ghost use Rattle.damon_types.specs.RowPages.{row_pages};
 ghost use Rattle.region_list.specs.Find.{AscendFrom};
 ghost use Rattle.heat_report.specs.InSpace.{LieIn};
-ghost use Rattle.heat_report.specs.Freq.{row_pages};
 ghost use Rattle.heat_report.specs.Heat.{border, target_heats};
 ghost use Rattle.heat_report.specs.Overlap.{added, pages_in};
 

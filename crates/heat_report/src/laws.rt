@@ -6,10 +6,11 @@ ghost use Rattle.damon_types.specs.declared.space.Target.{Target};
 ghost use Rattle.damon_types.specs.Ranges.{InOrder};
 ghost use Rattle.damon_types.specs.Span.{spans};
 ghost use Rattle.damon_types.specs.Within.{AreWithin};
+ghost use Rattle.damon_types.specs.RowPages.{row_pages};
 ghost use Rattle.region_list.specs.Tiling.{Tiling};
 ghost use Rattle.heat_report.specs.InSpace.{LieIn};
 ghost use Rattle.heat_report.specs.Heat.{target_heats, target_total};
-ghost use Rattle.heat_report.specs.Freq.{freqs, row_pages};
+ghost use Rattle.heat_report.specs.Freq.{freqs};
 ghost use Rattle.heat_report.specs.Sizes.{IsSpread, spread_of};
 
 /// The heat of the columns of a target sums to the sum of pages × count over its rows, where the rows

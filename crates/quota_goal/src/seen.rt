@@ -1,6 +1,7 @@
 // How much of the watched memory is hot, and how much is cold.
 ghost use Rattle.std.specs.Prelude.{◌≡◌, ◌≤◌};
-ghost use Rattle.quota_goal.specs.Seen.{row_pages, seen, thousandths};
+ghost use Rattle.damon_types.specs.RowPages.{row_pages};
+ghost use Rattle.quota_goal.specs.Seen.{seen, thousandths};
 
 use region_list::RowBuf;
 

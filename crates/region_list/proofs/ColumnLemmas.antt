@@ -116,13 +116,6 @@ drop_row rows i r here is =
     let next : suc i ≡ i + 1 = omega arith in
     drop-cons rows i r here ∙ ap (λ x. x ∷ drop (suc i) rows) (get_or_from_slice_get rows i r r is) ∙ ap (λ n. r ∷ drop n rows) next
 
--- one row more of those that are gathered
-pub gathered_more : (i : ℕ) (rows old : List Row) → i < length rows → i < length old → set (take i rows ++ drop i old) i (row_at rows i) ≡ take (suc i) rows ++ drop (suc i) old
-gathered_more i [] old within room = absurd (omega arith)
-gathered_more i (r ∷ rows) [] within room = absurd (omega arith)
-gathered_more zero (r ∷ rows) (p ∷ old) within room = refl
-gathered_more (suc i) (r ∷ rows) (p ∷ old) within room = ap (λ rs. r ∷ rs) (gathered_more i rows old (omega arith) (omega arith))
-
 -- rows with the same spans have the same column of a field of spans
 same_column : (f : Span → ℕ) (rows others : List Row) → spans others ≡ spans rows → map (λ r. f (span_of r)) others ≡ map (λ r. f (span_of r)) rows
 same_column f rows others same = sym (mapped f others) ∙ ap (map f) same ∙ mapped f rows

@@ -162,6 +162,7 @@ impl RowBuf {
     }
 
     /// The row with this index, which is below the number of rows.
+    #[inline]
     pub fn at(&self, index: usize) -> Row
         requires { index < length self.now.rows }
         ensures { result ≡ row_at self.now.rows index }
@@ -173,19 +174,6 @@ impl RowBuf {
             count: self.counts[index],
             last: self.lasts[index],
             age: self.ages[index],
-        }
-    }
-
-    /// Copies rows into a block, beginning with the row `from`. There are rows for all places of the block.
-    /// A loop that reads all fields of each row is faster over such blocks than over the columns.
-    pub fn gather(&self, from: usize, block: &mut [Row])
-        requires { from + length block.old ≤ length self.now.rows }
-        ensures { block.new ≡ take (length block.old) (drop from self.now.rows) }
-    {
-        // For its clauses alone: the number of rows is a u32.
-        let _count = self.len();
-        for place in 0..block.len() {
-            block[place] = self.at(from + place);
         }
     }
 

@@ -41,13 +41,17 @@ abbrev pub command_said : Result (Command (Box CommitOfCode)) ScriptKind → Res
 command_said (Ok command) = Ok (command_value command)
 command_said (Err kind) = Err kind
 
+-- the most steps that the arming or the finishing of a pass takes, under a cap
+abbrev pub pass_limit : ℕ → ℕ
+pass_limit cap = 2 * cap + 3
+
 -- the work of a command under a cap: its touches, or the steps that it may need, or one show or commit
 abbrev pub weight : ℕ → CommandValue → ℕ
 weight cap (Touch page) = 1
 weight cap (Sweep from to) = to - from
 weight cap (Step times) = times
-weight cap Arm = 2 * cap + 3
-weight cap Finish = 2 * cap + 3
+weight cap Arm = pass_limit cap
+weight cap Finish = pass_limit cap
 weight cap Show = 1
 weight cap (Commit commit) = 1
 

@@ -8,13 +8,13 @@ use Rattle.damon_world.specs.Moment.{Moment, next_event}
 use Rattle.snapshot_print.specs.Printed.{printed_state}
 use Rattle.snapshot_print.specs.Writing.{Writing}
 use Rattle.damon_control.specs.Script.{ScriptValue}
-use Rattle.script_lines.specs.Command.{CommandValue, Touch, Sweep, Step, Arm, Finish, Show, Commit}
+use Rattle.script_lines.specs.Command.{CommandValue, Touch, Sweep, Step, Arm, Finish, Show, Commit, pass_limit}
 use Rattle.script_run.specs.Callbacks.{no_callbacks}
 use Rattle.script_run.specs.Course.{Course, course_after, going_with, with_puts}
 use Rattle.script_run.specs.Going.{onward, plain}
 use Rattle.script_run.specs.Report.{event_text, events_text, last_state, report}
 use Rattle.script_run.specs.RunWith.{last_state_with, own_events, report_with, start_with, text_from, unfold_with}
-use Rattle.script_run.specs.Unfold.{command_events, commands_events, pass_limit, steps_until, stops_at, unfold_script}
+use Rattle.script_run.specs.Unfold.{command_events, commands_events, steps_until, stops_at, unfold_script}
 use Rattle.script_run.specs.declared.part.Until.{Until}
 use Rattle.script_run.specs.declared.part.Until.TheVariants as until
 

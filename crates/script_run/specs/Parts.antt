@@ -4,13 +4,13 @@ use Rattle.std.proofs.Common.{◌∙◌, ap}
 use Rattle.live_commit.specs.declared.phase.Phase.{Phase}
 use Rattle.damon_core.specs.Event.{Event, commit, show}
 use Rattle.damon_world.specs.Touches.{touches}
-use Rattle.script_lines.specs.Command.{CommandValue, Touch, Sweep, Step, Arm, Finish, Show, Commit}
+use Rattle.script_lines.specs.Command.{CommandValue, Touch, Sweep, Step, Arm, Finish, Show, Commit, pass_limit}
 use Rattle.script_run.specs.Going.{Going, onward}
 use Rattle.script_run.specs.Part.{Part}
 use Rattle.script_run.specs.Part as part
 use Rattle.script_run.specs.declared.part.Until.{Until}
 use Rattle.script_run.specs.declared.part.Until.TheVariants as until
-use Rattle.script_run.specs.Unfold.{command_events, commands_events, pass_limit, steps_until, stops_at}
+use Rattle.script_run.specs.Unfold.{command_events, commands_events, steps_until, stops_at}
 
 -- whether no event of a part is left
 abbrev pub is_done : Part → Phase → Bool

@@ -12,7 +12,7 @@ use Rattle.damon_core.specs.Event.{Event, commit, show, touch}
 use Rattle.damon_world.specs.Moment.{Moment, next_event}
 use Rattle.damon_world.specs.Touches.{touches}
 use Rattle.damon_control.specs.Script.{ScriptValue}
-use Rattle.script_lines.specs.Command.{CommandValue, Touch, Sweep, Step, Arm, Finish, Show, Commit}
+use Rattle.script_lines.specs.Command.{CommandValue, Touch, Sweep, Step, Arm, Finish, Show, Commit, pass_limit}
 use Rattle.script_run.specs.Going.{Going, onward, onward-append, plain}
 use Rattle.script_run.specs.declared.part.Until.{Until}
 use Rattle.script_run.specs.declared.part.Until.TheVariants as until
@@ -32,10 +32,6 @@ steps_until g u (suc n) a =
     let m = g.moment a in
     let e = next_event m.state m.stream in
     if stops_at u m.state.core.phase then [] else e ∷ steps_until g u n (g.next a e)
-
--- the most steps that the arming or the finishing of a pass takes, under a cap
-abbrev pub pass_limit : ℕ → ℕ
-pass_limit cap = 2 * cap + 3
 
 -- the events of a command under a cap, from a place of a run: touches, steps up to a phase, a show or a commit
 abbrev pub command_events : {A : Type 0} → Going A → ℕ → A → CommandValue → List Event

@@ -1,10 +1,11 @@
 -- The lines of the rows in two parts.
-use Rattle.std.proofs.Common.{◌≡◌, ℕ, ◌+◌, List, [], ◌++◌, take, drop, ap, sym, ◌∙◌}
+use Rattle.std.proofs.Common.{◌≡◌, ℕ, suc, ◌+◌, ◌-◌, ◌<◌, ◌≤◌, List, [], ◌∷◌, ◌++◌, length, take, drop, drop-cons, ap, sym, ◌∙◌, arith}
 use Rattle.std.specs.List.{flat_map}
 use Rattle.std.proofs.lemmas.List.{append-nil, append_assoc, drop-drop, take-append-drop}
 use Rattle.std.proofs.lemmas.List.Concat.{flat_map-append}
 use Rattle.damon_types.specs.declared.space.Target.{Target}
 use Rattle.damon_types.specs.declared.row.Row.{Row}
+use Rattle.region_list.specs.Rows.{no_row, row_at}
 use Rattle.snapshot_print.specs.Lines.{row_line, row_lines}
 
 -- the lines of the first rows and of the others are the lines of all
@@ -36,3 +37,10 @@ next_lines line xs from count out old is =
     ∙ ap (λ rs. old ++ (flat_map line (take count left) ++ flat_map line rs)) (sym rest)
     ∙ ap (λ t. old ++ t) (sym (flat_map-append line (take count left) (drop count left)))
     ∙ ap (λ rs. old ++ flat_map line rs) (take-append-drop count left)
+
+-- the rows up to an index, from one row earlier on: that row, and those that were there
+pub one_row_more : (rows : List Row) (i to : ℕ) → i < to → to ≤ length rows → take (to - i) (drop i rows) ≡ row_at rows i ∷ take (to - suc i) (drop (suc i) rows)
+one_row_more rows i to below within =
+    let first : drop i rows ≡ row_at rows i ∷ drop (suc i) rows = drop-cons rows i no_row (omega (arith, below, within)) in
+    let longer : to - i ≡ suc (to - suc i) = omega (arith, below) in
+    ap (λ n. take n (drop i rows)) longer ∙ ap (take (suc (to - suc i))) first

@@ -12,7 +12,7 @@ use crate::choice_text::print_choices;
 use crate::fields::{field_before, text_before, whole_or_nothing};
 use crate::json_lines::print_aggregate_line;
 use crate::line_groups::LINE_ROOM;
-use crate::row_blocks::{NO_ROW, block_before, print_blocks};
+use crate::row_groups::{print_rows_from, rows_before};
 use crate::row_text::print_rows;
 use damon_core::{Monitor, Report};
 use damon_types::Space;
@@ -76,7 +76,7 @@ fn print_unserved(out: &mut Vec<u8>, monitor: &Monitor) -> Result<(), AllocError
     let (rows, space) = (&report.rows, monitor.space());
     let count = rows.count().min(FIRST_ROWS);
     print_first_rows(out, report, count, space)?;
-    print_blocks(out, rows, count, space)
+    print_rows_from(out, rows, count, space)
 }
 
 // Appends the first line of an aggregation and the lines of its first `count` rows.
@@ -96,8 +96,7 @@ fn print_first_rows(
     ensures kept { KeepsFront out.old.items out.new.items }
 {
     let mut text = [0; FIRST_ROOM];
-    let mut block = [NO_ROW; FIRST_ROWS];
-    let rows = block_before(&mut text, &mut block[..count], &report.rows, 0, space);
+    let rows = rows_before(&mut text, &report.rows, 0..count, space);
     let start = first_line_before(&mut text, rows, report);
     out.extend_from_slice(&text[start..])
 }

@@ -11,7 +11,7 @@ use crate::fields::short_field_before;
 use crate::json_list::{close_list, start_before};
 use crate::line_groups::LineOf;
 use crate::page_run::PageRun;
-use crate::row_blocks::print_blocks;
+use crate::row_groups::print_rows_from;
 use crate::row_text::address_field_before;
 use damon_types::{Row, Space};
 use region_list::RowBuf;
@@ -31,7 +31,7 @@ pub(crate) fn print_row_list(
     ensures kept { KeepsFront out.old.items out.new.items }
 {
     let start = out.len();
-    print_blocks(out, rows, 0, &RowItems { space })?;
+    print_rows_from(out, rows, 0, &RowItems { space })?;
     close_list(out, start)
 }
 

@@ -33,7 +33,7 @@ mod line_groups;
 /// Consecutive pages, and their addresses.
 mod page_run;
 /// Rows that are written a block at a time.
-mod row_blocks;
+mod row_groups;
 /// The lines of rows.
 mod row_text;
 /// The text of a show, and the last line of a report.

@@ -9,7 +9,7 @@ ghost use Rattle.snapshot_print.specs.Kept.{KeepsFront};
 use crate::fields::{field_before, text_before};
 use crate::line_groups::LineOf;
 use crate::page_run::PageRun;
-use crate::row_blocks::print_blocks;
+use crate::row_groups::print_rows_from;
 use damon_types::{Row, Space};
 use line_text::address_before;
 use region_list::RowBuf;
@@ -22,7 +22,7 @@ pub(crate) fn print_rows(out: &mut Vec<u8>, rows: &RowBuf, space: &Space) -> Res
     ensures ok { OnOk result (out.new.items ≡ out.old.items ++ row_lines space.now rows.now.rows) }
     ensures kept { KeepsFront out.old.items out.new.items }
 {
-    print_blocks(out, rows, 0, space)
+    print_rows_from(out, rows, 0, space)
 }
 
 impl LineOf<Row> for Space {

@@ -3,9 +3,9 @@ use Rattle.std.proofs.Common.{ℕ, ◌+◌, ◌<◌, ◌≤◌, List, [], ◌∷
 use Rattle.std.specs.List.{AllByRecursion}
 use Rattle.std.proofs.lemmas.List.Sums.{sum_by-cons}
 use Rattle.damon_types.specs.declared.row.Row.{Row}
+use Rattle.damon_types.specs.RowPages.{row_pages}
 use Rattle.aggregator.specs.Cleared.{cleared}
 use Rattle.region_split.specs.Split.{split_rows}
-use Rattle.quota_goal.specs.Seen.{row_pages}
 
 -- rows whose split has a row, each with a page
 pub some_pages : (max unit before pages : ℕ) (words : List ℕ) (rows : List Row) → 0 < length (split_rows max unit before words (cleared rows))

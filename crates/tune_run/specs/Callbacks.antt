@@ -9,6 +9,7 @@ use Rattle.live_commit.specs.Commit.{CommitValue}
 use Rattle.damon_core.specs.Event.{Event, aggregate, commit}
 use Rattle.damon_core.specs.Slots.{scheme_of, slot_count}
 use Rattle.damon_core.specs.State.{State}
+use Rattle.snapshot_print.specs.Fields.{number_or_none}
 use Rattle.script_run.specs.Callbacks.{Callbacks}
 use Rattle.quota_goal.specs.declared.goals.Goal.{Goal}
 use Rattle.quota_goal.specs.declared.moment.Moment.{Moment}
@@ -52,15 +53,10 @@ tuned_by t moment = commits_of (changes_at t moment (range_with_len 0 slot_count
 abbrev pub has_goal : List Goal → ℕ → Bool
 has_goal goals slot = list_any (λ g. g.slot == slot) goals
 
--- the bytes of a slot as text
-abbrev pub bytes_text : Option ℕ → List ℕ
-bytes_text None = codes "none"
-bytes_text (Some bytes) = decimal bytes
-
 -- the line of a slot with its bytes, where one of the goals is of it
 abbrev pub slot_text : TunerView → ℕ → List ℕ
 slot_text t slot =
-    if has_goal t.goals slot then codes "tuned " ++ decimal slot ++ codes " bytes=" ++ bytes_text (bytes_at t slot) ++ codes "\n"
+    if has_goal t.goals slot then codes "tuned " ++ decimal slot ++ codes " bytes=" ++ number_or_none (bytes_at t slot) ++ codes "\n"
     else []
 
 -- the lines of all slots with a goal, in order

@@ -1,8 +1,9 @@
 // The lines of the slots with goals, after the last line of a report.
 ghost use Rattle.std.specs.Prelude.{◌≡◌, ◌≤◌, ◌++◌, take, OnErr, OnOk};
+ghost use Rattle.snapshot_print.specs.Fields.{number_or_none};
 ghost use Rattle.tune_run.specs.Kept.{KeepsFront};
 ghost use Rattle.damon_types.specs.declared.scheme.TheConstants.{MAX_SLOT};
-ghost use Rattle.tune_run.specs.Callbacks.{bytes_text, has_goal, slot_text, tuned_text};
+ghost use Rattle.tune_run.specs.Callbacks.{has_goal, slot_text, tuned_text};
 
 use damon_types::MAX_SLOT;
 use line_text::write_number;
@@ -67,7 +68,7 @@ fn append_slot(out: &mut Vec<u8>, tuner: &Tuner, slot: u8) -> Result<(), AllocEr
 
 // Appends the bytes of a slot.
 fn append_bytes(out: &mut Vec<u8>, bytes: Option<u64>) -> Result<(), AllocError>
-    ensures ok { OnOk result (out.new.items ≡ out.old.items ++ bytes_text bytes) }
+    ensures ok { OnOk result (out.new.items ≡ out.old.items ++ number_or_none bytes) }
     ensures err { OnErr result (out.new.items ≡ out.old.items) }
 {
     match bytes {

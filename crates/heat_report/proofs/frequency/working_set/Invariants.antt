@@ -1,5 +1,5 @@
 use Rattle.std.proofs.Common.{◌≡◌, ◌+◌, ◌*◌, ◌-◌, ◌^◌, ◌≤◌, drop}
-use Rattle.heat_report.specs.Freq.{working_set}
+use Rattle.damon_types.specs.RowPages.{working_set}
 use Rattle.heat_report.proofs.frequency.working_set.Given as goal
 
 abbrev pub invariant-loop-index : goal.invariant-loop-index

@@ -16,4 +16,4 @@ returns-clause-ok c =
     rw (c.in_ok-print_first_rows.ensures.ok, c.space-space.ensures) (text_joined core.space count report.rows (take count report.rows) (drop count report.rows) old (aggregate_line report) refl refl) in
     let whole : text ≡ old ++ (aggregate_line core.report ++ row_lines core.space core.report.rows) =
     subst (λ (v : ReportValue). text ≡ old ++ (aggregate_line v ++ row_lines core.space v.rows)) c.report-report.ensures.report joined in
-    subst (λ t. OnOk c.print_blocks.result (c.print_blocks.new.out.items ≡ t)) whole c.print_blocks.ensures.ok
+    subst (λ t. OnOk c.print_rows_from.result (c.print_rows_from.new.out.items ≡ t)) whole c.print_rows_from.ensures.ok

@@ -7,4 +7,4 @@ use Rattle.damon_journal.proofs.receipt_list.ReceiptList.len.Goals as goal
 pub returns : goal.returns
 returns c =
     let l = c.self.inside in
-    c.len.ensures ∙ l.pages.ok.0 ∙ sym (receipts_count l.pages.items l.lows.items l.highs.items) ∙ ap (λ (v : Listed Receipt). length v.list) c.self.view_is
+    c.len.ensures ∙ l.pages.ok.0 ∙ sym (receipts_count l.pages.items _) ∙ ap (λ (v : Listed Receipt). length v.list) c.self.view_is

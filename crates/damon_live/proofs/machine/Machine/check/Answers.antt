@@ -3,7 +3,7 @@ use Rattle.live_commit.specs.declared.phase.Phase.TheVariants.{Armed}
 use Rattle.region_list.specs.Regions.{RegionList}
 use Rattle.page_words.specs.Seats.{MonitorSeatView}
 use Rattle.damon_core.specs.Event.{IsObserving}
-use Rattle.damon_core.specs.Pass.{IsInPass}
+use Rattle.damon_core.specs.Pass.{IsBetween, IsInPass}
 use Rattle.damon_core.specs.State.{Core, row_count}
 use Rattle.damon_journal.specs.Phases.{passes_open}
 use Rattle.damon_journal.specs.declared.entry.Entry.TheVariants.{Check}
@@ -13,7 +13,6 @@ use Rattle.damon_live.specs.Machine.{entries_owed, words_owed}
 use Rattle.damon_live.proofs.Checking.{IsObserved, checked_run}
 use Rattle.damon_live.proofs.Rooms.{by_check, pass_takes, room_for_results, room_left, same_calls}
 use Rattle.damon_live.proofs.Stepping.{all_observed}
-use Rattle.damon_live.specs.Kept.{HasEnded}
 use Rattle.damon_live.proofs.Checking.{ended_after}
 use Rattle.damon_live.specs.Machine.{passes_made}
 use Rattle.damon_live.proofs.machine.Machine.check.Goals as goal
@@ -68,7 +67,7 @@ invariant_of-self g c =
 pub returns-clause-ended : goal.returns-clause-ended
 returns-clause-ended g c =
     let here = (invariant_of-self g c).run.stands.same in
-    subst (λ (d : Core). HasEnded d.phase) here (subst HasEnded (sym (ap (λ (d : Core). d.phase) c.observe.ensures.core)) (ended_after _ _))
+    subst (λ (d : Core). IsBetween d.phase) here (subst IsBetween (sym (ap (λ (d : Core). d.phase) c.observe.ensures.core)) (ended_after _ _))
 
 pub returns-clause-made : goal.returns-clause-made
 returns-clause-made g c = (invariant_of-self g c).room.made ∙ (sym c.self.invariant.room.made ∙ ap passes_made c.self.view_is)

@@ -1,5 +1,6 @@
 use Rattle.std.proofs.Common.{◌≡◌, ℕ, ◌+◌, [], refl, ap, sym, ◌∙◌, arith}
 use Rattle.live_commit.specs.declared.phase.Phase.TheVariants.{Void as VoidPhase}
+use Rattle.damon_core.specs.Pass.{IsBetween}
 use Rattle.damon_core.specs.State.{Core}
 use Rattle.damon_journal.specs.Phases.{passes_open}
 use Rattle.damon_journal.specs.declared.entry.Entry.TheVariants.{Void}
@@ -9,7 +10,6 @@ use Rattle.damon_live.specs.Machine.{IsRun, entries_owed, words_owed}
 use Rattle.damon_live.proofs.Checking.{IsObserved, voided_run}
 use Rattle.damon_live.proofs.Rooms.{by_entry, pass_takes, room_left, same_calls}
 use Rattle.std.proofs.Common.{subst}
-use Rattle.damon_live.specs.Kept.{HasEnded}
 use Rattle.damon_live.proofs.Checking.{ended_after}
 use Rattle.damon_live.specs.Machine.{passes_made}
 use Rattle.damon_live.proofs.machine.Machine.void.Goals as goal
@@ -38,7 +38,7 @@ invariant_of-self g c =
 pub returns-clause-ended : goal.returns-clause-ended
 returns-clause-ended g c =
     let here = (invariant_of-self g c).run.stands.same in
-    subst (λ (d : Core). HasEnded d.phase) here (subst HasEnded (sym (ap (λ (d : Core). d.phase) c.observe.ensures.core)) (ended_after _ _))
+    subst (λ (d : Core). IsBetween d.phase) here (subst IsBetween (sym (ap (λ (d : Core). d.phase) c.observe.ensures.core)) (ended_after _ _))
 
 pub returns-clause-made : goal.returns-clause-made
 returns-clause-made g c = (invariant_of-self g c).room.made ∙ (sym c.self.invariant.room.made ∙ ap passes_made c.self.view_is)

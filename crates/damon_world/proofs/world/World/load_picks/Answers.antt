@@ -3,19 +3,15 @@ use Rattle.std.specs.Prelude.{◌&&◌, slice_index}
 use Rattle.region_list.specs.Regions.{RegionList}
 use Rattle.damon_core.specs.Event.{IsLoading, load_index}
 use Rattle.damon_core.specs.State.{row_count}
-use Rattle.damon_core.specs.Makes.{Makes}
 use Rattle.damon_core.specs.Note.{is_touched}
-use Rattle.damon_core.specs.Several.{loads}
-use Rattle.damon_core.specs.Stands.{Stands}
-use Rattle.sampler.specs.Loaded.{next_picks}
 use Rattle.damon_world.specs.Stands.{WorldView}
 use Rattle.damon_world.specs.Kept.{IsAdvance}
 use Rattle.damon_world.proofs.Stepping.{load_below}
 use Rattle.damon_world.proofs.Advancing.{MarksAre, loading_kept, loads_advance}
 use Rattle.damon_world.proofs.world.World.load_picks.Goals as goal
 
-pub loaded_next-requires-clause-some : goal.loaded_next-requires-clause-some
-loaded_next-requires-clause-some g c =
+pub load-requires-clause-some : goal.load-requires-clause-some
+load-requires-clause-some g c =
     let m = c.self.inside.monitor in
     let rows : c.len.result ≡ row_count m.core = c.len.ensures.len ∙ ap (λ (r : RegionList). length r.rows) c.rows.ensures.rows in
     let loading : IsLoading m.core.phase (row_count m.core) = subst (λ w. IsLoading w.monitor.core.phase (row_count w.monitor.core)) (sym c.self.view_is) c.requires.phase in
@@ -41,10 +37,10 @@ returns-clause-advance g c =
     let in_space = c.picks-picks.ensures.inside ready.0 j here in
     let done = c.picks-picks.ensures.cleared s reached stands j (omega (arith, here, ready.1)) in
     pages.marks page in_space ∙ sym (ap (λ b. b && is_touched s.notes page) done)) in
-    let events : Makes Stands m c.loaded_next.new.self (loads marks (next_picks m.core.picks from n)) =
-    subst (λ bs. Makes Stands m c.loaded_next.new.self (loads bs (next_picks m.core.picks from n))) c.marks.ensures c.loaded_next.ensures.events in
-    let made = loads_advance stream m c.loaded_next.new.self inside.pages inside.source marks from n loading refl within (c.picks-picks.ensures.each ready.0) c.loaded_next.ensures.core events true_marks in
+    let made = loads_advance stream m c.load.new.monitor inside.pages inside.source marks from n loading refl within (c.picks-picks.ensures.each ready.0) c.load.ensures.core c.load.ensures.events true_marks in
     let old : WorldView g.row.R.Denot = record { monitor = m; pages = inside.pages; source = inside.source } in
-    let new : WorldView g.row.R.Denot = record { monitor = c.loaded_next.new.self; pages = inside.pages; source = inside.source } in
-    subst (λ x. IsAdvance stream x new c.from.result) c.self.view_is
-    (subst (λ j. IsAdvance stream old new j) (sym c.from.ensures) made)
+    let new : WorldView g.row.R.Denot = record { monitor = c.load.new.monitor; pages = inside.pages; source = inside.source } in
+    let same : WorldView g.row.R.Denot = record { monitor = c.load.new.monitor; pages = c.load.new.self; source = inside.source } in
+    subst (λ x. IsAdvance stream x same c.from.result) c.self.view_is
+    (subst (λ j. IsAdvance stream old same j) (sym c.from.ensures)
+    (subst (λ ps. IsAdvance stream old (record { monitor = c.load.new.monitor; pages = ps; source = inside.source }) n) (sym c.load.ensures.same) made))

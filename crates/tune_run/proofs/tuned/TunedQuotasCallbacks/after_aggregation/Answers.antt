@@ -3,6 +3,7 @@ use Rattle.std.specs.List.{AllByRecursion}
 use Rattle.damon_types.specs.declared.row.Row.{Row}
 use Rattle.damon_types.specs.declared.scheme.Scheme.{Scheme}
 use Rattle.damon_types.specs.Space.{pages_of}
+use Rattle.damon_types.specs.RowPages.{row_pages}
 use Rattle.damon_core.specs.After.{after}
 use Rattle.damon_core.specs.Aggregate.{served}
 use Rattle.damon_core.specs.Event.{aggregate}
@@ -11,7 +12,7 @@ use Rattle.damon_core.specs.Reached.{Reached}
 use Rattle.damon_core.specs.Report.{ReportValue}
 use Rattle.damon_core.specs.State.{Core}
 use Rattle.quota_goal.specs.declared.moment.Moment.TheVariants.{Seen}
-use Rattle.quota_goal.specs.Seen.{row_pages, seen}
+use Rattle.quota_goal.specs.Seen.{seen}
 use Rattle.quota_goal.specs.Tuned.{TunerView}
 use Rattle.tune_run.specs.Callbacks.{commits_of, tuned_by, tuner_in}
 use Rattle.tune_run.proofs.Changes.{from_the_first}

@@ -4,7 +4,7 @@ use Rattle.std.proofs.lemmas.List.{length-drop, length-take-le, take_all}
 use Rattle.snapshot_print.specs.Kept.{KeepsFront}
 use Rattle.snapshot_print.proofs.Appending.{keeps-append, keeps_through}
 use Rattle.snapshot_print.proofs.Rows.{next_lines}
-use Rattle.snapshot_print.proofs.row_blocks.print_blocks.Goals as goal
+use Rattle.snapshot_print.proofs.row_groups.print_rows_from.Goals as goal
 
 pub groups-preserved : goal.groups-preserved
 groups-preserved g c =
@@ -13,10 +13,10 @@ groups-preserved g c =
     let count = c.min-count.result in
     let next = c.groups.next in
     let kept = c.groups.invariant in
-    let len : length (take count c.groups.block) ≡ count = length-take-le count c.groups.block (omega (arith, c.min-count.array_long, c.min-count.ensures)) in
-    let written = c.block_before-start.ensures.written ∙ ap (λ n. flat_map line (take n (drop next rows))) len in
-    let start = c.block_before-start.result in
-    let whole = take_all (2304 - start) (drop start c.block_before-start.new.lines) (omega (arith, c.block_before-start.auto.lines, length-drop start c.block_before-start.new.lines)) in
+    let many : (next + count) - next ≡ count = omega arith in
+    let written = c.rows_before-start.ensures.written ∙ ap (λ n. flat_map line (take n (drop next rows))) many in
+    let start = c.rows_before-start.result in
+    let whole = take_all (2304 - start) (drop start c.rows_before-start.new.lines) (omega (arith, c.rows_before-start.auto.lines, length-drop start c.rows_before-start.new.lines)) in
     let now = c.in_ok-extend_from_slice.ensures.items ∙ ap (λ t. c.groups.out.items ++ t) (whole ∙ written) in
     record {
       within = omega (arith, c.min-count.ensures, c.count-in-groups-2.ensures, kept.within);
