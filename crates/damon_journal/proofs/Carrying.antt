@@ -29,7 +29,8 @@ use Rattle.damon_journal.specs.Replay.{EntryFits, IsJournalOf, JournalValue, Rep
 use Rattle.damon_journal.specs.Replaying.{Carries, CarriesCall, CarriesKnown, IsCarried, IsReplayOf, ReplayingView}
 use Rattle.damon_journal.specs.Phases.{IsFree}
 use Rattle.damon_journal.specs.Steps.{entry_steps, steps}
-use Rattle.damon_journal.specs.Words.{words_after, words_at, words_from}
+use Rattle.sampler.specs.Seeds.{words_from}
+use Rattle.damon_journal.specs.Words.{words_after, words_at}
 use Rattle.damon_journal.proofs.Longer.{added-keeps, added-last, lengthened}
 
 -- what is left after some words and then others

@@ -7,7 +7,7 @@ use Rattle.rand_pcg.specs.Lcg.{Lcg, advance, next}
 use Rattle.rand_pcg.specs.Pcg.{multiplier_64, pcg32}
 use Rattle.rand_pcg.proofs.LcgLemmas.{advance_more, advance_zero}
 use Rattle.sampler.specs.Draws.{drawn, drawn_rest}
-use Rattle.damon_journal.specs.Words.{words_from}
+use Rattle.sampler.specs.Seeds.{words_from}
 
 -- the words after a jump are those after as many words
 pub words_jumped : (n : ℕ) (g : Lcg) → words_from (advance 64 multiplier_64 n g) ≡ drawn_rest n (words_from g)

@@ -11,7 +11,8 @@ use Rattle.damon_journal.specs.EntryLine.{calls_so_far, with_call_of}
 use Rattle.damon_journal.specs.Growth.{longer, replay_with}
 use Rattle.damon_journal.specs.Replay.{EntryFits, IsJournalOf, JournalValue, call_at, carried, replay}
 use Rattle.damon_journal.specs.Steps.{entry_steps, steps}
-use Rattle.damon_journal.specs.Words.{words_after, words_from}
+use Rattle.sampler.specs.Seeds.{words_from}
+use Rattle.damon_journal.specs.Words.{words_after}
 
 -- a monitor, the random words to come, and how many were drawn
 pub record ReplayingView : Type 0 where

@@ -84,4 +84,4 @@ pub use status::Status;
 pub use text::journal_text;
 pub use text_parts::{Filled, TextParts};
 pub use verifying::verify;
-pub use words::{generator, words_at};
+pub use words::words_at;

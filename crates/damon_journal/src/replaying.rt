@@ -16,12 +16,11 @@ use crate::bits::CheckResults;
 use crate::calls::make_call;
 use crate::entry::CallAnswer;
 use crate::laws::journals_grow;
-use crate::words::generator;
 use damon_control::Call;
 use damon_core::Monitor;
 use live_commit::{Phase, Setup};
 use rand_pcg::Lcg64Xsh32;
-use sampler::draw_words;
+use sampler::{draw_words, generator};
 use std::alloc::{AllocError, Global};
 use std::marker::Model;
 

@@ -1,19 +1,9 @@
 // Random words by their position.
 ghost use Rattle.std.specs.Prelude.{◌≡◌, ◌+◌, ◌<◌, ◌^◌, length};
-ghost use Rattle.damon_journal.specs.Words.{seeded, words_at};
+ghost use Rattle.damon_journal.specs.Words.{words_at};
 
 use rand_core::Rng;
-use rand_pcg::Lcg64Xsh32;
-
-// The stream of the generator from which all words are drawn.
-const STREAM: u64 = 54;
-
-/// The generator of the random words of a seed.
-pub fn generator(seed: u64) -> Lcg64Xsh32
-    ensures { result ≡ seeded seed }
-{
-    Lcg64Xsh32::new(seed, STREAM)
-}
+use sampler::generator;
 
 /// Fills `out` with the random words of a seed from position `at` on, counted from 0. Takes no memory.
 pub fn words_at(seed: u64, at: u64, out: &mut [u32])

@@ -28,7 +28,8 @@ use Rattle.damon_journal.specs.declared.entry.Entry.TheVariants.{Aggregate, Call
 use Rattle.damon_journal.specs.Phases.{IsFree, passes_open}
 use Rattle.damon_journal.specs.Replay.{EntryFits, JournalValue, Replayed, call_answer, call_at, call_event, check_sizes, entry_events, replay}
 use Rattle.damon_journal.specs.Steps.{steps}
-use Rattle.damon_journal.specs.Words.{words_after, words_at, words_from}
+use Rattle.sampler.specs.Seeds.{words_from}
+use Rattle.damon_journal.specs.Words.{words_after, words_at}
 use Rattle.damon_journal.specs.Growth.{GrowsByOthers}
 use Rattle.damon_live.specs.Called.{IsCalled}
 use Rattle.damon_live.proofs.Draws.{rest_after}

@@ -12,7 +12,7 @@ use Rattle.damon_control.specs.declared.live.TheConstants.{MAX_CALLS}
 use Rattle.damon_control.specs.Live.{LiveValue, count_all}
 use Rattle.damon_journal.specs.Phases.{passes_open}
 use Rattle.damon_journal.specs.Room.{JournalView, empty_journal, nothing_said}
-use Rattle.damon_journal.specs.Words.{seeded, words_from}
+use Rattle.sampler.specs.Seeds.{seeded, words_from}
 use Rattle.damon_live.specs.Machine.{HasRoom, IsBetweenEntries, IsLoadable, IsRun, calls_left, entries_owed, passes_made, words_owed}
 
 empty_run : (v : LiveValue) (table : TableId) (m : MonitorView) (seat : MonitorSeatView) (g : Lcg) (out : ℕ) → CanOpen v.setup → Stands m (opening v.setup) → seat ≡ record { table = table; entries = []; out = out } → g ≡ seeded v.seed → table.words ≡ pages_of v.setup.space → m.core ≡ opening_core v.setup → IsRun v table m seat nothing_said [] g 0

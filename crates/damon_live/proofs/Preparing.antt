@@ -26,7 +26,8 @@ use Rattle.damon_journal.specs.Counted.{prepares}
 use Rattle.damon_journal.specs.Replay.{EntryFits, JournalValue, Replayed, carried, check_sizes, entry_events, replay}
 use Rattle.damon_journal.specs.Room.{JournalView}
 use Rattle.damon_journal.specs.Steps.{clear_steps, steps}
-use Rattle.damon_journal.specs.Words.{words_after, words_at, words_from}
+use Rattle.sampler.specs.Seeds.{words_from}
+use Rattle.damon_journal.specs.Words.{words_after, words_at}
 use Rattle.damon_journal.specs.Growth.{GrowsByOthers}
 use Rattle.damon_live.specs.Machine.{HasRoom, call_in, passes_made, calls_left, IsBetweenEntries, IsRun, entries_owed, with_one, words_owed}
 use Rattle.std.proofs.lemmas.List.Sums.{sum_by_push}

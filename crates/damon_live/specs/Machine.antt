@@ -22,7 +22,8 @@ use Rattle.damon_journal.specs.Counted.{prepares}
 use Rattle.damon_journal.specs.Replay.{IsJournalOf, JournalValue, Replayed, check_sizes, replay}
 use Rattle.damon_journal.specs.Room.{JournalView}
 use Rattle.damon_journal.specs.Steps.{steps}
-use Rattle.damon_journal.specs.Words.{words_after, words_from}
+use Rattle.sampler.specs.Seeds.{words_from}
+use Rattle.damon_journal.specs.Words.{words_after}
 
 -- between two entries no pass is half cleared or half checked
 abbrev pub IsBetweenEntries : Phase → Type 0

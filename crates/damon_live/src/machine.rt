@@ -22,11 +22,11 @@ use crate::named::Named;
 use crate::passes::{clear_all, load_all};
 use damon_control::{LiveScript, MAX_CALLS};
 use damon_core::Monitor;
-use damon_journal::{Journal, generator, journals_grow};
+use damon_journal::{Journal, journals_grow};
 use live_commit::Phase;
 use page_words::{MonitorSeat, PageWords};
 use rand_pcg::Lcg64Xsh32;
-use sampler::draw_words;
+use sampler::{draw_words, generator};
 use std::alloc::{AllocError, Global};
 use std::marker::{Model, PhantomData};
 

@@ -1,5 +1,5 @@
 -- The pages of a world, by what is stored of them.
-use Rattle.std.proofs.Common.{◌≡◌, ◌≢◌, inl, inr, ℕ, zero, suc, ◌+◌, ◌-◌, ◌/◌, ◌%◌, ◌≤◌, ◌<◌, Bool, true, false, List, length, set, get_or-set_same, get_or-set_other, refl, sym, ap, ◌∙◌, subst, arith}
+use Rattle.std.proofs.Common.{◌≡◌, ◌≢◌, inl, inr, ℕ, zero, suc, ◌+◌, ◌-◌, ◌%◌, ◌≤◌, ◌<◌, Bool, true, false, List, [], ◌∷◌, length, set, get_or-set_same, get_or-set_other, refl, sym, ap, ◌∙◌, subst, arith}
 use Rattle.std.specs.Prelude.{◌==◌, ◌||◌, min, max, replicate, slice_index, slice_index_or, if◌then◌else◌}
 use Rattle.std.proofs.lemmas.Bool.{cases_eq}
 use Rattle.std.proofs.lemmas.Bool.Decides.{nat_tests}
@@ -7,7 +7,7 @@ use Rattle.std.proofs.lemmas.List.{length-replicate}
 use Rattle.std.proofs.lemmas.List.FromFn.{fill_by_all, get_or-map-range_with_len, length-map-range_with_len}
 use Rattle.std.proofs.lemmas.Nat.Bits.{bit_at-zero}
 use Rattle.sampler.specs.Loaded.{mark_of}
-use Rattle.page_bits.specs.Bits.{bit_in, is_set}
+use Rattle.page_bits.specs.Bits.{bit_in}
 use Rattle.page_bits.specs.Runs.{in_run}
 use Rattle.page_bits.specs.Sets.{bits_of}
 use Rattle.damon_world.specs.Pages.{AreCleared, AreTouched, PagesView, is_marked, is_picked, marks_of}
@@ -42,12 +42,13 @@ no_mark zero p = refl
 no_mark (suc n) zero = refl
 no_mark (suc n) (suc p) = no_mark n p
 
--- no bit of words that are 0 is set
-no_bits : (k p : ℕ) → bit_in (replicate k 0) p ≡ false
-no_bits k p = ap (λ w. is_set w (p % 64)) (index_of_zeros k (p / 64)) ∙ ap (λ n. n == 1) (bit_at-zero (p % 64))
+-- no bit is set where no words are written
+pub no_bits : (words : List ℕ) (p : ℕ) → length words ≡ 0 → bit_in words p ≡ false
+no_bits [] p none = ap (λ n. n == 1) (bit_at-zero (p % 64))
+no_bits (w ∷ ws) p none = absurd (omega (arith, none))
 
-pub marks_of_none : (n k : ℕ) → marks_of n (replicate k 0) 0 0 ≡ replicate n false
-marks_of_none n k = sym (fill_by_all (is_marked (replicate k 0) 0 0) (replicate n false) n false (length-replicate {A = Bool} n false) (λ p below. no_mark n p ∙ sym (none_swept (replicate k 0) p ∙ no_bits k p)))
+pub marks_of_none : (n : ℕ) → marks_of n [] 0 0 ≡ replicate n false
+marks_of_none n = sym (fill_by_all (is_marked [] 0 0) (replicate n false) n false (length-replicate {A = Bool} n false) (λ p below. no_mark n p ∙ sym (none_swept [] p ∙ no_bits [] p refl)))
 
 -- bits that are the marks of each page are the marks
 pub bits_are : (n : ℕ) (words others : List ℕ) (from to : ℕ) → ((p : ℕ) → bit_in words p ≡ is_marked others from to p) → bits_of n words ≡ marks_of n others from to

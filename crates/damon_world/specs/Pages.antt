@@ -1,5 +1,5 @@
 -- The pages of one thread.
-use Rattle.std.specs.Prelude.{◌≡◌, ℕ, zero, suc, ◌+◌, ◌-◌, ◌*◌, ◌/◌, ◌≤◌, ◌<◌, Bool, true, false, ◌==◌, ◌||◌, List, length, slice_index, if◌then◌else◌}
+use Rattle.std.specs.Prelude.{◌≡◌, ℕ, zero, suc, ◌+◌, ◌-◌, ◌*◌, ◌/◌, ◌≤◌, ◌<◌, Bool, true, false, ◌==◌, ◌||◌, List, [], ◌∷◌, length, slice_index, refl, if◌then◌else◌}
 use Rattle.sampler.specs.Loaded.{mark_of}
 use Rattle.page_bits.specs.Bits.{bit_in}
 use Rattle.page_bits.specs.Runs.{in_run}
@@ -55,9 +55,18 @@ is_marked words from to p = if in_run from (to - from) p then true else bit_in w
 abbrev pub marks_of : ℕ → List ℕ → ℕ → ℕ → List Bool
 marks_of pages words from to = each_page pages (is_marked words from to)
 
--- there is a bit for each page, the run that was swept is of the pages, and there is a tag for each or for none
-pub record IsStored (pages : ℕ) (words : List ℕ) (from to : ℕ) (tags : List ℕ) : Type 0 where
-  pub marked : pages ≤ 64 * length words
+-- of four pages, the first has its bit set, the second and third were swept, and the fourth was not touched
+touched_or_swept : marks_of 4 (1 ∷ []) 1 3 ≡ true ∷ true ∷ true ∷ false ∷ []
+touched_or_swept = refl
+
+-- there is room for a bit of each page, and none of them are written yet or all are
+pub record HaveRoom (pages : ℕ) (words : List ℕ) (capacity : ℕ) : Type 0 where
+  pub room : pages ≤ 64 * capacity
+  pub written : 0 < length words → pages ≤ 64 * length words
+
+-- there is room for the bits, the run that was swept is of the pages, and there is a tag for each or for none
+pub record IsStored (pages : ℕ) (words : List ℕ) (capacity from to : ℕ) (tags : List ℕ) : Type 0 where
+  pub bits : HaveRoom pages words capacity
   pub order : from ≤ to
   pub within : to ≤ pages
   pub tagged : 0 < length tags → length tags ≡ pages

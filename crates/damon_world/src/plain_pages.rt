@@ -1,4 +1,4 @@
-ghost use Rattle.std.specs.Prelude.{◌≡◌, ◌+◌, ◌-◌, ◌*◌, ◌≤◌, ◌<◌, [], ℕ, true, false, if◌then◌else◌, length, replicate, slice_index, IfOk};
+ghost use Rattle.std.specs.Prelude.{◌≡◌, ◌+◌, ◌-◌, ◌*◌, ◌≤◌, ◌<◌, [], ℕ, true, false, if◌then◌else◌, length, replicate, slice_index, vec_capacity, IfOk};
 ghost use Rattle.page_bits.specs.Bits.{bit_in};
 ghost use Rattle.page_bits.specs.Runs.{in_run};
 ghost use Rattle.sampler.specs.Loaded.{mark_of, next_picks};
@@ -9,7 +9,7 @@ ghost use Rattle.damon_core.specs.Makes.{Makes};
 ghost use Rattle.damon_core.specs.Several.{loads};
 ghost use Rattle.damon_core.specs.Stands.{Stands};
 ghost use Rattle.damon_core.specs.State.{row_count};
-ghost use Rattle.damon_world.specs.Pages.{AreBitsCleared, AreCleared, AreTouched, HaveBits, is_picked, marks_of};
+ghost use Rattle.damon_world.specs.Pages.{AreBitsCleared, AreCleared, AreTouched, HaveBits, HaveRoom, is_picked, marks_of};
 
 use damon_core::Monitor;
 use page_bits::{LastWord, WORD, clear_bit, is_bit_set, put_bits_of_run, set_bit};
@@ -24,12 +24,15 @@ use std::marker::Model;
 /// of as many pages are 8 MB, and each clear would wait for memory; so they are kept only for who asks for
 /// them.
 ///
-/// The marks of a sweep are set when marks are cleared or loaded next. Sweeps up to then that overlap or
-/// touch are one run, whose marks are set once.
+/// The marks of a sweep are set when marks are cleared or loaded next. One run of swept pages waits until
+/// then: a sweep that overlaps or touches it joins it, and any other has its marks set first and waits in its
+/// place. No mark is written before the first one is set or cleared, so the marks of pages that nobody checks
+/// take no memory of the machine.
 #[derive(Drop)]
 pub struct PlainPages {
     pages: u32,
-    // The marks. Those of the swept pages may not be set yet.
+    // The marks, or none as long as no mark was written. Those of the swept pages may not be set yet. The room
+    // is taken once.
     marks: Vec<u64>,
     swept: Swept,
     // Empty if no tags are kept.
@@ -37,6 +40,7 @@ pub struct PlainPages {
 }
 
 impl Model for PlainPages {
+    ghost use Rattle.std.specs.Prelude.{vec_capacity};
     ghost use Rattle.damon_world.specs.Pages.{IsStored, PagesView, marks_of};
 
     ghost Value = { PagesView };
@@ -46,7 +50,8 @@ impl Model for PlainPages {
       tags = p.tags.items;
     } };
 
-    ghost invariant = { λ p. IsStored p.pages p.marks.items p.swept.from p.swept.to p.tags.items };
+    ghost invariant = { λ p.
+        IsStored p.pages p.marks.items (vec_capacity p.marks) p.swept.from p.swept.to p.tags.items };
 }
 
 // The pages from `from` to before `to`.
@@ -103,6 +108,7 @@ impl PlainPages {
         requires { page < length self.old.marks }
         ensures { AreTouched page 1 self.old self.new }
     {
+        write_marks(&mut self.marks, self.pages);
         set_bit(&mut self.marks, page);
     }
 
@@ -123,7 +129,7 @@ impl PlainPages {
             };
             return;
         }
-        put_bits_of_run(&mut self.marks, first, last - first, true);
+        settle(&mut self.marks, self.pages, &mut self.swept);
         self.swept = Swept { from, to };
     }
 
@@ -135,7 +141,7 @@ impl PlainPages {
         if self.swept.from <= page && page < self.swept.to {
             return true;
         }
-        is_bit_set(&self.marks, page)
+        !self.marks.is_empty() && is_bit_set(&self.marks, page)
     }
 
     /// Loads the pages of the next `count` picks (at least 1) of a monitor, which has at least as many left
@@ -150,7 +156,7 @@ impl PlainPages {
         ensures events { Makes Stands monitor.old monitor.new (loads self.old.marks
             (next_picks monitor.old.core.picks (load_index monitor.old.core.phase) count)) }
     {
-        settle(&mut self.marks, &mut self.swept);
+        settle(&mut self.marks, self.pages, &mut self.swept);
         let marks = PlainMarks {
             pages: self.pages,
             words: &self.marks,
@@ -166,7 +172,7 @@ impl PlainPages {
             → slice_index picks.now.pages k < length self.old.marks }
         ensures { AreCleared picks.now.pages from (to - from) pass self.old self.new }
     {
-        settle(&mut self.marks, &mut self.swept);
+        settle(&mut self.marks, self.pages, &mut self.swept);
         clear_marks(&mut self.marks, picks, from, to);
         if !self.tags.is_empty() {
             put_tags(&mut self.tags, picks, from, to, pass);
@@ -193,24 +199,39 @@ impl Marks for PlainMarks<'_> {
     }
 }
 
-// The marks of `pages` pages, none of which was touched.
+// Room for the marks of `pages` pages, none of which was touched.
 #[tactic(auto, using(crate::proofs::Parts::marks_of_none))]
 fn no_marks(alloc: Global, pages: u32) -> Result<Vec<u64>, AllocError>
-    ensures each { IfOk result (λ marks. pages ≤ 64 * length marks.items) }
+    ensures room { IfOk result (λ marks. HaveRoom pages marks.items (vec_capacity marks)) }
     ensures none { IfOk result (λ marks. marks_of pages marks.items 0 0 ≡ replicate pages false) }
 {
-    vec![in alloc; 0; pages.div_ceil(WORD) as usize]
+    Vec::with_capacity(alloc, pages.div_ceil(WORD) as usize)
+}
+
+// Writes the marks of all pages, unless they are written already: none of them is set yet.
+fn write_marks(marks: &mut Vec<u64>, pages: u32)
+    requires { HaveRoom pages marks.old.items (vec_capacity marks.old) }
+    ensures room { pages ≤ 64 * vec_capacity marks.new }
+    ensures each { pages ≤ 64 * length marks.new.items }
+    ensures same { (p : ℕ) → bit_in marks.new.items p ≡ bit_in marks.old.items p }
+{
+    if marks.is_empty() {
+        marks.resize(pages.div_ceil(WORD) as usize, 0).unwrap();
+    }
 }
 
 // Sets the marks of the swept pages, so that none are left.
-fn settle(marks: &mut [u64], swept: &mut Swept)
+fn settle(marks: &mut Vec<u64>, pages: u32, swept: &mut Swept)
     requires order { swept.old.from ≤ swept.old.to }
-    requires within { swept.old.to ≤ 64 * length marks.old }
-    ensures len { length marks.new ≡ length marks.old }
-    ensures bits { (p : ℕ) → bit_in marks.new p
-        ≡ (if in_run swept.old.from (swept.old.to - swept.old.from) p then true else bit_in marks.old p) }
+    requires within { swept.old.to ≤ pages }
+    requires bits { HaveRoom pages marks.old.items (vec_capacity marks.old) }
+    ensures room { pages ≤ 64 * vec_capacity marks.new }
+    ensures each { pages ≤ 64 * length marks.new.items }
+    ensures bits { (p : ℕ) → bit_in marks.new.items p ≡ (if in_run swept.old.from
+        (swept.old.to - swept.old.from) p then true else bit_in marks.old.items p) }
     ensures none { swept.new ≡ record { from = 0; to = 0 } }
 {
+    write_marks(marks, pages);
     put_bits_of_run(marks, swept.from, swept.to - swept.from, true);
     *swept = NO_PAGES;
 }

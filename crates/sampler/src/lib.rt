@@ -13,8 +13,11 @@ mod picks;
 mod places;
 /// The reciprocals of the rows' sizes, and their renewal.
 mod renewal;
+/// The generator of a seed.
+mod seeds;
 
 pub use counting::observe;
 pub use drawing::draw_words;
 pub use marks::Marks;
 pub use picks::{Picks, draw_picks, set_picks};
+pub use seeds::generator;

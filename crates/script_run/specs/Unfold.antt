@@ -1,10 +1,7 @@
 -- The events of a script.
 use Rattle.std.specs.Prelude.{◌≡◌, ℕ, zero, suc, ◌+◌, ◌-◌, ◌*◌, Bool, true, false, List, [], ◌∷◌, ◌++◌, refl, if◌then◌else◌}
 use Rattle.std.proofs.Common.{◌∙◌, ap, sym, append-nil, append_assoc}
-use Rattle.rand_core.specs.Stream.{Stream}
-use Rattle.rand_core.specs.Steps.{stream_of, steps_u32}
-use Rattle.rand_pcg.specs.Lcg.{started, increment_of}
-use Rattle.rand_pcg.specs.Pcg.{multiplier_64, pcg32}
+use Rattle.sampler.specs.Seeds.{seeded, words_from}
 use Rattle.live_commit.specs.declared.phase.Phase.{Phase}
 use Rattle.live_commit.specs.declared.phase.Phase.TheVariants.{Idle, Armed}
 use Rattle.damon_core.specs.State.{opening}
@@ -48,13 +45,9 @@ abbrev pub commands_events : {A : Type 0} → Going A → ℕ → A → List Com
 commands_events g cap a [] = []
 commands_events g cap a (c ∷ cs) = let es = command_events g cap a c in es ++ commands_events g cap (onward g a es) cs
 
--- the random words of a seed: those of the generator that starts from it on stream 54
-abbrev pub random_words : ℕ → Stream
-random_words seed = stream_of (steps_u32 pcg32) (started 64 multiplier_64 seed (increment_of 64 54))
-
 -- the moment before the first event
 abbrev pub start : ScriptValue → Moment
-start s = record { state = opening s.setup; stream = random_words s.seed }
+start s = record { state = opening s.setup; stream = words_from (seeded s.seed) }
 
 -- the events of a script
 abbrev pub unfold_script : ScriptValue → List Event

@@ -9,8 +9,6 @@ mod laws;
 mod part;
 /// A script that is played piece by piece.
 mod player;
-/// The random words of a script.
-mod random;
 /// A script that is played to its end at once.
 mod to_end;
 /// What a world makes together with callbacks.

@@ -21,7 +21,6 @@ mod one_command;
 
 use crate::callbacks::{Callbacks, NoCallbacks};
 use crate::part::{Part, Start, Until, is_done, start_of, touched_page};
-use crate::random::random_words;
 use crate::together::{make_aggregation, make_commit, make_touches, whole_or_nothing};
 use damon_control::{Commands, MAX_WORK, Script};
 use damon_core::Monitor;
@@ -30,6 +29,7 @@ use live_commit::{Commit, Phase};
 pub use one_command::open_waiting;
 use rand_core::Rng;
 use rand_pcg::Lcg64Xsh32;
+use sampler::generator;
 use snapshot_print::{Form, print_show};
 use std::alloc::{AllocError, Global};
 use std::marker::Model;
@@ -375,7 +375,7 @@ fn make_player<C: Callbacks + Drop>(
     let _commands = script.commands.len();
     // For its clauses alone: the targets are within their limits.
     let _targets = script.setup.space.targets();
-    let world = World::without_tags(alloc, &script.setup, random_words(script.seed))?;
+    let world = World::without_tags(alloc, &script.setup, generator(script.seed))?;
     Ok(Player {
         world,
         callbacks,

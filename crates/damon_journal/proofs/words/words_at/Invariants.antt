@@ -1,6 +1,7 @@
 use Rattle.std.proofs.Common.{◌≡◌, length, take}
 use Rattle.sampler.specs.Draws.{drawn, drawn_rest}
-use Rattle.damon_journal.specs.Words.{words_after, words_from}
+use Rattle.sampler.specs.Seeds.{words_from}
+use Rattle.damon_journal.specs.Words.{words_after}
 use Rattle.damon_journal.proofs.words.words_at.Given as goal
 
 abbrev pub invariant-loop-index : goal.invariant-loop-index

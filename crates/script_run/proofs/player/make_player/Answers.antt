@@ -39,7 +39,7 @@ invariant_of-result g c =
         course = start_with g.C.Callbacks.callbacks (said_by s);
         reached = Reached-start (said_by s) (record { space = c.targets-targets.ensures.sound; sound = s.setup.sound; order = c.len-ranges.ensures.order });
         here = record {
-          world = record { state = c.in_ok-world.ensures.opening; words = ap (stream_of (steps_u32 pcg32)) c.in_ok-world.ensures.source ∙ c.random_words.ensures };
+          world = record { state = c.in_ok-world.ensures.opening; words = ap (stream_of (steps_u32 pcg32)) (c.in_ok-world.ensures.source ∙ c.generator.ensures) };
           callbacks = c.requires.opening;
         };
       };
@@ -57,7 +57,7 @@ returns-clause-way g c = record {
   made = [];
   fit = tt;
   stands = record {
-    world = record { state = c.in_ok-world.ensures.opening; words = ap (stream_of (steps_u32 pcg32)) c.in_ok-world.ensures.source ∙ c.random_words.ensures };
+    world = record { state = c.in_ok-world.ensures.opening; words = ap (stream_of (steps_u32 pcg32)) (c.in_ok-world.ensures.source ∙ c.generator.ensures) };
     callbacks = c.requires.opening;
   };
   left = commands_are_parts (going_with g.C.Callbacks.callbacks) c.args.script.setup.cap (start_with g.C.Callbacks.callbacks (said_by c.args.script)) c.args.script.commands.list;
@@ -67,6 +67,6 @@ returns-clause-way g c = record {
 
 pub returns-clause-at : goal.returns-clause-at
 returns-clause-at g c = record {
-  world = record { state = c.in_ok-world.ensures.opening; words = ap (stream_of (steps_u32 pcg32)) c.in_ok-world.ensures.source ∙ c.random_words.ensures };
+  world = record { state = c.in_ok-world.ensures.opening; words = ap (stream_of (steps_u32 pcg32)) (c.in_ok-world.ensures.source ∙ c.generator.ensures) };
   callbacks = c.requires.opening;
 }

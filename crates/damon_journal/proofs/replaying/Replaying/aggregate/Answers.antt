@@ -7,7 +7,7 @@ use Rattle.damon_core.specs.State.{Core}
 use Rattle.damon_core.specs.Stands.{Stands}
 use Rattle.damon_journal.specs.declared.entry.Entry.TheVariants.{Aggregate}
 use Rattle.damon_journal.specs.Replaying.{Carries, ReplayingView}
-use Rattle.damon_journal.specs.Words.{words_from}
+use Rattle.sampler.specs.Seeds.{words_from}
 use Rattle.damon_journal.proofs.Carrying.{carries_aggregate}
 use Rattle.damon_journal.proofs.replaying.Replaying.aggregate.Goals as goal
 

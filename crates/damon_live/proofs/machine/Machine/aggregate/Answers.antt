@@ -9,7 +9,7 @@ use Rattle.damon_core.specs.Stands.{Stands}
 use Rattle.damon_journal.specs.declared.entry.Entry.TheVariants.{Aggregate}
 use Rattle.damon_journal.specs.Replay.{JournalValue, replay}
 use Rattle.damon_journal.specs.Room.{JournalView}
-use Rattle.damon_journal.specs.Words.{words_from}
+use Rattle.sampler.specs.Seeds.{words_from}
 use Rattle.damon_live.specs.Machine.{HasRoom, IsRun}
 use Rattle.damon_live.proofs.Between.{IsAggregated, aggregated_run}
 use Rattle.damon_live.proofs.Rooms.{aggregate_takes, by_entry, room_left, same_calls}

@@ -7,7 +7,7 @@ use Rattle.damon_core.specs.Reached.{CanOpen}
 use Rattle.damon_core.specs.State.{opening, opening_core}
 use Rattle.damon_core.specs.Stands.{Stands}
 use Rattle.damon_control.specs.Live.{LiveValue}
-use Rattle.damon_journal.specs.Words.{seeded}
+use Rattle.sampler.specs.Seeds.{seeded}
 use Rattle.damon_live.proofs.Opening.{new_room, new_run}
 use Rattle.damon_live.proofs.machine.Machine.new.Goals as goal
 

@@ -12,7 +12,7 @@ use Rattle.damon_journal.specs.Phases.{passes_open}
 use Rattle.damon_journal.specs.Replay.{JournalValue, replay}
 use Rattle.damon_journal.specs.Room.{JournalView}
 use Rattle.damon_journal.specs.Steps.{clear_steps}
-use Rattle.damon_journal.specs.Words.{words_from}
+use Rattle.sampler.specs.Seeds.{words_from}
 use Rattle.damon_live.proofs.Preparing.{IsPrepared, armed_core, prepared_room, prepared_run}
 use Rattle.damon_live.specs.Machine.{IsRun, passes_made}
 use Rattle.damon_live.proofs.machine.Machine.prepare.Goals as goal

@@ -5,14 +5,15 @@ use Rattle.page_bits.specs.Bits.{bit_in}
 use Rattle.page_bits.specs.Runs.{in_run}
 use Rattle.sampler.specs.Loaded.{mark_of}
 use Rattle.damon_world.specs.Pages.{PagesView}
-use Rattle.damon_world.proofs.Parts.{length_marks, mark_is}
+use Rattle.damon_world.proofs.Parts.{length_marks, mark_is, no_bits}
 use Rattle.damon_world.proofs.plain_pages.PlainPages.is_marked.Goals as goal
 use Rattle.damon_world.proofs.plain_pages.PlainPages.is_marked.Goals.{else-self-page-via-then-self-page+else-page-self, else-self-page-via-else-self-page}
 
 pub is_bit_set-requires : goal.is_bit_set-requires
 is_bit_set-requires c =
     let p = c.self.inside in
-    omega (arith, c.requires, ap (λ (v : PagesView). length v.marks) c.self.view_is, length_marks p.pages p.marks.items p.swept.from p.swept.to, c.self.invariant.marked, ap length c.deref.ensures.value)
+    let some : 0 < length p.marks.items = grind (arith, nat_tests, c.is_empty.ensures, c.if-not-is_empty.true) in
+    omega (arith, c.requires, ap (λ (v : PagesView). length v.marks) c.self.view_is, length_marks p.pages p.marks.items p.swept.from p.swept.to, c.self.invariant.bits.written some, ap length c.deref.ensures.value)
 
 pub returns-then-page-self : goal.returns-then-page-self
 returns-then-page-self c =
@@ -26,8 +27,8 @@ returns-then-page-self c =
     ∙ mark_is p.pages p.marks.items from to page here
     ∙ ap (λ b. if b then true else bit_in p.marks.items page) swept)
 
-pub returns : goal.returns
-returns c =
+pub returns-then-not-is_empty : goal.returns-then-not-is_empty
+returns-then-not-is_empty c =
     let p = c.self.inside in
     let from = p.swept.from in
     let to = p.swept.to in
@@ -42,3 +43,21 @@ returns c =
     ∙ sym (sym (ap (λ (v : PagesView). mark_of v.marks page) c.self.view_is)
     ∙ mark_is p.pages p.marks.items from to page here
     ∙ ap (λ b. if b then true else bit_in p.marks.items page) outside)
+
+pub returns-else-not-is_empty : goal.returns-else-not-is_empty
+returns-else-not-is_empty c =
+    let p = c.self.inside in
+    let from = p.swept.from in
+    let to = p.swept.to in
+    let page = c.args.page in
+    let here : page < p.pages = omega (arith, c.requires, ap (λ (v : PagesView). length v.marks) c.self.view_is, length_marks p.pages p.marks.items from to) in
+    let outside : in_run from (to - from) page ≡ false = elim c.else-self-page.branch [
+      | else-self-page-via-then-self-page+else-page-self w ↦ grind (arith, nat_tests, w.if-self-page.true, w.if-page-self.false, c.self.invariant.order)
+      | else-self-page-via-else-self-page w ↦ grind (arith, nat_tests, w.if-self-page.false)
+    ] in
+    let none : length p.marks.items ≡ 0 = grind (arith, nat_tests, c.is_empty.ensures, c.if-not-is_empty.false) in
+    rw (c.if-not-is_empty.false)
+    (sym (sym (ap (λ (v : PagesView). mark_of v.marks page) c.self.view_is)
+    ∙ mark_is p.pages p.marks.items from to page here
+    ∙ ap (λ b. if b then true else bit_in p.marks.items page) outside
+    ∙ no_bits p.marks.items page none))

@@ -1,8 +1,5 @@
-use Rattle.std.proofs.Common.{◌≡◌, ℕ, ◌-◌, true, Bool, List, length, ap, subst, ◌∙◌, arith}
-use Rattle.std.specs.Prelude.{if◌then◌else◌}
-use Rattle.std.proofs.lemmas.List.{with_items_is}
+use Rattle.std.proofs.Common.{◌≡◌, ℕ, ◌-◌, Bool, List, ap, subst, ◌∙◌}
 use Rattle.page_bits.specs.Bits.{bit_in}
-use Rattle.page_bits.specs.Runs.{in_run}
 use Rattle.page_bits.specs.Sets.{bits_of}
 use Rattle.sampler.specs.Loaded.{next_picks}
 use Rattle.damon_core.specs.Event.{load_index}
@@ -19,13 +16,9 @@ returns-clause-same c =
     let p = c.self.inside in
     let from = p.swept.from in
     let to = p.swept.to in
-    let words = c.settle.new.marks in
-    let left = c.settle.new.swept in
-    let all = with_items_is p.marks words (omega (arith, c.settle.ensures.len, ap length c.deref_mut.ensures.value)) in
-    let marked : (q : ℕ) → is_marked words 0 0 q ≡ is_marked p.marks.items from to q = λ q.
-    (none_swept words q ∙ c.settle.ensures.bits q ∙ ap (λ (ws : List ℕ). if in_run from (to - from) q then true else bit_in ws q) c.deref_mut.ensures.value) in
-    ap (λ (ws : List ℕ). stored p.pages ws left.from left.to p.tags.items) all
-    ∙ ap (λ (w : Swept). stored p.pages words w.from w.to p.tags.items) c.settle.ensures.none
+    let words = c.settle.new.marks.items in
+    let marked : (q : ℕ) → is_marked words 0 0 q ≡ is_marked p.marks.items from to q = λ q. (none_swept words q ∙ c.settle.ensures.bits q) in
+    ap (λ (w : Swept). stored p.pages words w.from w.to p.tags.items) c.settle.ensures.none
     ∙ ap (λ (ms : List Bool). record { marks = ms; tags = p.tags.items }) (marks_same p.pages words p.marks.items 0 0 from to marked)
     ∙ c.self.view_is
 
@@ -35,10 +28,8 @@ returns-clause-events c =
     let from = p.swept.from in
     let to = p.swept.to in
     let m = c.args.monitor.now in
-    let words = c.settle.new.marks in
-    let all = with_items_is p.marks words (omega (arith, c.settle.ensures.len, ap length c.deref_mut.ensures.value)) in
-    let marked : (q : ℕ) → bit_in words q ≡ is_marked p.marks.items from to q = λ q.
-    (c.settle.ensures.bits q ∙ ap (λ (ws : List ℕ). if in_run from (to - from) q then true else bit_in ws q) c.deref_mut.ensures.value) in
+    let words = c.settle.new.marks.items in
+    let marked : (q : ℕ) → bit_in words q ≡ is_marked p.marks.items from to q = c.settle.ensures.bits in
     let marks : bits_of p.pages c.deref.result.now ≡ c.args.self.now.marks =
-    ap (λ (ws : List ℕ). bits_of p.pages ws) (c.deref.ensures.value ∙ all) ∙ bits_are p.pages words p.marks.items from to marked ∙ ap (λ (v : PagesView). v.marks) c.self.view_is in
+    ap (λ (ws : List ℕ). bits_of p.pages ws) c.deref.ensures.value ∙ bits_are p.pages words p.marks.items from to marked ∙ ap (λ (v : PagesView). v.marks) c.self.view_is in
     subst (λ bs. Makes Stands m c.loaded_next.new.self (loads bs (next_picks m.core.picks (load_index m.core.phase) c.args.count))) marks c.loaded_next.ensures.events

@@ -1,7 +1,5 @@
-use Rattle.std.proofs.Common.{◌≡◌, ℕ, ◌-◌, ◌≤◌, true, List, length, ap, sym, subst, ◌∙◌, arith}
+use Rattle.std.proofs.Common.{◌≡◌, ℕ, ◌-◌, ◌≤◌, true, length, ap, subst, ◌∙◌, arith}
 use Rattle.std.specs.Prelude.{min, if◌then◌else◌}
-use Rattle.std.specs.Vec.{with_items}
-use Rattle.std.proofs.lemmas.List.{with_items_is}
 use Rattle.page_bits.specs.Bits.{bit_in}
 use Rattle.page_bits.specs.Runs.{in_run}
 use Rattle.damon_world.specs.Pages.{AreTouched, PagesView, is_marked}
@@ -13,7 +11,7 @@ invariant_of-self c =
     let p = c.self.inside in
     let pages = length_marks p.pages p.marks.items p.swept.from p.swept.to in
     record {
-      marked = c.self.invariant.marked;
+      bits = c.self.invariant.bits;
       order = omega (arith, c.min.ensures, c.max.ensures, c.self.invariant.order, c.requires.order);
       within = omega (arith, c.max.ensures, c.self.invariant.within, c.requires.within, pages, ap (λ (v : PagesView). length v.marks) c.self.view_is);
       tagged = c.self.invariant.tagged;
@@ -41,12 +39,9 @@ returns-then-from-last c =
 pub invariant_of-self-2 : goal.invariant_of-self-2
 invariant_of-self-2 c =
     let p = c.self.inside in
-    let words = c.put_bits_of_run.new.words in
-    let same = c.deref_mut.ensures.value in
-    let all = with_items_is p.marks words (omega (arith, c.put_bits_of_run.ensures.len, ap length same)) in
     let pages = length_marks p.pages p.marks.items p.swept.from p.swept.to in
     record {
-      marked = omega (arith, c.self.invariant.marked, c.put_bits_of_run.ensures.len, ap length same, ap length all);
+      bits = record { room = c.settle.ensures.room; written = λ some. c.settle.ensures.each };
       order = c.requires.order;
       within = omega (arith, c.requires.within, pages, ap (λ (v : PagesView). length v.marks) c.self.view_is);
       tagged = c.self.invariant.tagged;
@@ -60,13 +55,8 @@ returns c =
     let n = to - from in
     let first = p.swept.from in
     let last = p.swept.to in
-    let words = c.put_bits_of_run.new.words in
-    let same = c.deref_mut.ensures.value in
-    let all = with_items_is p.marks words (omega (arith, c.put_bits_of_run.ensures.len, ap length same)) in
-    let bits : (q : ℕ) → bit_in words q ≡ is_marked p.marks.items first last q = λ q.
-    (c.put_bits_of_run.ensures.bits q ∙ ap (λ (ws : List ℕ). if in_run first (last - first) q then true else bit_in ws q) same) in
+    let words = c.settle.new.marks.items in
     let each : (q : ℕ) → is_marked words from to q ≡ (if in_run from n q then true else is_marked p.marks.items first last q) = λ q.
-    ap (λ b. if in_run from n q then true else b) (bits q) in
-    subst (λ old. AreTouched from n old (stored p.pages (with_items p.marks words).items from to p.tags.items)) c.self.view_is
-    (subst (λ (ws : List ℕ). AreTouched from n (stored p.pages p.marks.items first last p.tags.items) (stored p.pages ws from to p.tags.items)) (sym all)
-    (are_touched p.pages from n p.marks.items words p.tags.items first last from to each))
+    ap (λ b. if in_run from n q then true else b) (c.settle.ensures.bits q) in
+    subst (λ old. AreTouched from n old (stored p.pages words from to p.tags.items)) c.self.view_is
+    (are_touched p.pages from n p.marks.items words p.tags.items first last from to each)
