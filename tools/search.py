@@ -11,6 +11,7 @@ import os
 import signal
 import sys
 from contextlib import AbstractContextManager
+from functools import partial
 from pathlib import Path
 from types import FrameType
 from typing import Iterator
@@ -111,24 +112,26 @@ def search(options: argparse.Namespace) -> str:
         return first_cells(point, seed, inputs.workloads[point.key(plan.are_traces)])
 
     path = Path(options.runs)
-    before = rows = kept_rows(path, [*plan.columns, *plan.measures, STATUS], first, points.runs)
+    kept = partial(kept_rows, path, [*plan.columns, *plan.measures, STATUS], first, points.runs)
+    before = rows = kept()
     failed = 0
     if rows < points.runs:
         remaining = Remaining(sys.stderr, points.runs, before)
-        with open(path, "a", encoding="utf-8") as stream, rows_from(options, inputs, points, before) as made:
-            try:
+        try:
+            with open(path, "a", encoding="utf-8") as stream, rows_from(options, inputs, points, before) as made:
                 for some in made:
                     stream.write(some.text)
                     stream.flush()
                     failed += some.failed
                     rows += some.runs
                     remaining(rows)
-            except KeyboardInterrupt:
-                remaining.end()
-                print(f"note: stopped with {rows} of {counted(points.runs, 'run')}: the same command goes on", file=sys.stderr)
-                raise
-            finally:
-                remaining.end()
+        except KeyboardInterrupt:
+            remaining.end()
+            # The file tells how many rows there are: the interrupt may have come between a row and its count.
+            print(f"note: stopped with {kept()} of {counted(points.runs, 'run')}: the same command goes on", file=sys.stderr)
+            raise
+        finally:
+            remaining.end()
     if options.points:
         write_points(path, Path(options.points), plan.columns, plan.measures, len(points.seeds))
     return (f"{counted(len(points), 'point')} with {counted(points.runs, 'run')}, {before} of them there before; "
