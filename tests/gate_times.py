@@ -37,6 +37,16 @@ class Job(NamedTuple):
     kind: str
 
 
+class Use(NamedTuple):
+    """What is known of a process while it runs."""
+
+    parent: int
+    # When it began, in ticks since the system did. A later process may get its number, but not both.
+    begun: int
+    # Of processor time.
+    seconds: float
+
+
 # For each crate and kind, the seconds of processor time.
 Table = Dict[str, Dict[str, float]]
 
@@ -48,11 +58,10 @@ def gate() -> List[str]:
     return ["rt", "ci", "--anew"] if "--anew" in said else ["rt", "ci"]
 
 
-def stat_of(pid: int) -> Tuple[int, float]:
-    """The parent of a process, and the seconds of processor time that it has used."""
+def use_of(pid: int) -> Use:
     # The name in parentheses may hold spaces.
     fields = Path(f"/proc/{pid}/stat").read_text().rpartition(")")[2].split()
-    return int(fields[1]), (int(fields[11]) + int(fields[12])) / TICKS
+    return Use(int(fields[1]), int(fields[19]), (int(fields[11]) + int(fields[12])) / TICKS)
 
 
 def job_of(words: List[str], folder: str) -> Optional[Job]:
@@ -69,12 +78,12 @@ def job_of(words: List[str], folder: str) -> Optional[Job]:
     return Job(crate, "base" if Path(kept).name == "seed" else "edits")
 
 
-def processes() -> Iterator[Tuple[int, int, float, Optional[Job]]]:
+def processes() -> Iterator[Tuple[int, Use, Optional[Job]]]:
     for entry in os.listdir("/proc"):
         if entry.isdigit():
             try:
                 words = Path(f"/proc/{entry}/cmdline").read_bytes().decode(errors="replace").split("\0")
-                yield int(entry), *stat_of(int(entry)), job_of(words, os.readlink(f"/proc/{entry}/cwd"))
+                yield int(entry), use_of(int(entry)), job_of(words, os.readlink(f"/proc/{entry}/cwd"))
             except (OSError, IndexError, ValueError):
                 continue  # It ended while it was looked at, or belongs to somebody else.
 
@@ -89,14 +98,14 @@ def is_below(pid: int, top: int, parents: Dict[int, int]) -> bool:
 
 def times_of(command: List[str]) -> Tuple[int, Table]:
     """Runs a command, and gives its exit status and the times of the prover below it."""
-    seconds: Dict[int, Tuple[Job, float]] = {}
+    seconds: Dict[Tuple[int, int], Tuple[Job, float]] = {}
     with subprocess.Popen(command, cwd=TOP, stdout=sys.stderr) as run:
         while run.poll() is None:
             seen = list(processes())
-            parents = {pid: parent for pid, parent, _, _ in seen}
-            for pid, _, used, job in seen:
+            parents = {pid: use.parent for pid, use, _ in seen}
+            for pid, use, job in seen:
                 if job and is_below(pid, run.pid, parents):
-                    seconds[pid] = (job, used)
+                    seconds[pid, use.begun] = (job, use.seconds)
             time.sleep(0.5)
     table: Table = defaultdict(lambda: defaultdict(float))
     for job, used in seconds.values():

@@ -9,11 +9,11 @@ import sys
 import tempfile
 import unittest
 from pathlib import Path
-from typing import Dict
+from typing import Dict, Iterator, Tuple
 from unittest import mock
 
 import gate_times
-from gate_times import Job, job_of, lines_of
+from gate_times import Job, Use, job_of, lines_of, times_of
 
 PROVER = "/opt/kit/bin/rattle"
 
@@ -35,6 +35,21 @@ class Jobs(unittest.TestCase):
     def test_other_processes_prove_nothing(self) -> None:
         for words in ([""], ["/bin/rattle-link", "--crate-name", "low"], [PROVER, "fmt"], [PROVER, "--crate-name"]):
             self.assertIsNone(job_of(words, "/top/crates/low"))
+
+
+class Times(unittest.TestCase):
+    def test_a_number_that_comes_again_is_another_process(self) -> None:
+        begun = iter(range(100))
+
+        def processes() -> Iterator[Tuple[int, Use, Job]]:
+            yield 7, Use(1, next(begun), 2.0), Job("low", "proof")
+
+        # Long enough for two looks.
+        command = [sys.executable, "-c", "import time; time.sleep(0.8)"]
+        with mock.patch.object(gate_times, "processes", processes), mock.patch.object(gate_times, "is_below", return_value=True):
+            _, table = times_of(command)
+        self.assertEqual(table["low"]["proof"], 2.0 * next(begun))
+        self.assertGreater(table["low"]["proof"], 2.0)
 
 
 class Printing(unittest.TestCase):

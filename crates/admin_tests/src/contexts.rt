@@ -1,6 +1,6 @@
 // Contexts whose lines come in turn.
-use damon_admin::{Admin, AdminFail, CONTEXTS};
-use damon_control::{MAX_BYTES, ScriptKind};
+use damon_admin::{Admin, CONTEXTS};
+use damon_control::MAX_BYTES;
 use std::alloc::AllocError;
 use std::process::Abort;
 use std::test::Fail;
@@ -76,17 +76,6 @@ fn each_line_writes_at_its_place(rt: HostRuntime) -> Result<(), Fail> {
     Ok(())
 }
 
-#[test]
-fn after_the_last_line_nothing_is_written(rt: HostRuntime) -> Result<(), Fail> {
-    let mut admin = open(&rt)?;
-    do_lines(&rt, &mut admin, 14)?;
-    let mut out = Vec::new(rt.alloc());
-    let done = admin.next(rt.alloc(), &mut out)?;
-    assert!(rt; !done);
-    assert!(rt; out.is_empty());
-    Ok(())
-}
-
 // The passes and the hits of the monitor of a context.
 fn counts(rt: &impl Abort, admin: &Admin, context: u32) -> Option<(u64, u64)> {
     assert!(rt; context < CONTEXTS);
@@ -105,27 +94,4 @@ fn a_context_has_the_monitor_of_its_lines(rt: HostRuntime) -> Result<(), Fail> {
     assert_eq!(rt; counts(&rt, &admin, 3), None);
     assert_eq!(rt; counts(&rt, &admin, 7), None);
     Ok(())
-}
-
-// The fault of an input; None where it has none.
-fn fault_of(rt: &(impl Abort + AllocGlobal), input: &[u8]) -> Option<(u64, ScriptKind)> {
-    assert!(rt; input.len() <= MAX_BYTES);
-    match Admin::new(rt.alloc(), input) {
-        Ok(_) => None,
-        Err(AdminFail::Script { fault }) => Some((fault.line, fault.kind)),
-        Err(AdminFail::Memory) => panic!(rt; "out of memory"),
-    }
-}
-
-#[test]
-fn inputs_have_faults(rt: HostRuntime) {
-    let cases: [(&[u8], u64, ScriptKind); 4] = [
-        (b"", 1, ScriptKind::Cut),
-        (b"damon admin 2\n8 x\n", 1, ScriptKind::Header),
-        (b"damon admin 1\n0 x\n8 x\n", 3, ScriptKind::Form),
-        (b"damon admin 1\n8 x", 2, ScriptKind::Cut),
-    ];
-    for (input, line, kind) in &cases {
-        assert_eq!(rt; fault_of(&rt, input), Some((*line, *kind)));
-    }
 }

@@ -60,13 +60,13 @@ touched_or_swept : marks_of 4 (1 ∷ []) 1 3 ≡ true ∷ true ∷ true ∷ fals
 touched_or_swept = refl
 
 -- there is room for a bit of each page, and none of them are written yet or all are
-pub record HaveRoom (pages : ℕ) (words : List ℕ) (capacity : ℕ) : Type 0 where
+pub record HaveRoomForBits (pages : ℕ) (words : List ℕ) (capacity : ℕ) : Type 0 where
   pub room : pages ≤ 64 * capacity
   pub written : 0 < length words → pages ≤ 64 * length words
 
 -- there is room for the bits, the run that was swept is of the pages, and there is a tag for each or for none
 pub record IsStored (pages : ℕ) (words : List ℕ) (capacity from to : ℕ) (tags : List ℕ) : Type 0 where
-  pub bits : HaveRoom pages words capacity
+  pub bits : HaveRoomForBits pages words capacity
   pub order : from ≤ to
   pub within : to ≤ pages
   pub tagged : 0 < length tags → length tags ≡ pages

@@ -9,7 +9,7 @@ ghost use Rattle.damon_core.specs.Makes.{Makes};
 ghost use Rattle.damon_core.specs.Several.{loads};
 ghost use Rattle.damon_core.specs.Stands.{Stands};
 ghost use Rattle.damon_core.specs.State.{row_count};
-ghost use Rattle.damon_world.specs.Pages.{AreBitsCleared, AreCleared, AreTouched, HaveBits, HaveRoom, is_picked, marks_of};
+ghost use Rattle.damon_world.specs.Pages.{AreBitsCleared, AreCleared, AreTouched, HaveBits, HaveRoomForBits, is_picked, marks_of};
 
 use damon_core::Monitor;
 use page_bits::{LastWord, WORD, clear_bit, is_bit_set, put_bits_of_run, set_bit};
@@ -31,8 +31,8 @@ use std::marker::Model;
 #[derive(Drop)]
 pub struct PlainPages {
     pages: u32,
-    // The marks, or none as long as no mark was written. Those of the swept pages may not be set yet. The room
-    // is taken once.
+    // The marks, or none as long as no mark was written. Those of the swept pages may not be set yet. The
+    // room is taken once.
     marks: Vec<u64>,
     swept: Swept,
     // Empty if no tags are kept.
@@ -202,7 +202,7 @@ impl Marks for PlainMarks<'_> {
 // Room for the marks of `pages` pages, none of which was touched.
 #[tactic(auto, using(crate::proofs::Parts::marks_of_none))]
 fn no_marks(alloc: Global, pages: u32) -> Result<Vec<u64>, AllocError>
-    ensures room { IfOk result (λ marks. HaveRoom pages marks.items (vec_capacity marks)) }
+    ensures room { IfOk result (λ marks. HaveRoomForBits pages marks.items (vec_capacity marks)) }
     ensures none { IfOk result (λ marks. marks_of pages marks.items 0 0 ≡ replicate pages false) }
 {
     Vec::with_capacity(alloc, pages.div_ceil(WORD) as usize)
@@ -210,7 +210,7 @@ fn no_marks(alloc: Global, pages: u32) -> Result<Vec<u64>, AllocError>
 
 // Writes the marks of all pages, unless they are written already: none of them is set yet.
 fn write_marks(marks: &mut Vec<u64>, pages: u32)
-    requires { HaveRoom pages marks.old.items (vec_capacity marks.old) }
+    requires { HaveRoomForBits pages marks.old.items (vec_capacity marks.old) }
     ensures room { pages ≤ 64 * vec_capacity marks.new }
     ensures each { pages ≤ 64 * length marks.new.items }
     ensures same { (p : ℕ) → bit_in marks.new.items p ≡ bit_in marks.old.items p }
@@ -224,7 +224,7 @@ fn write_marks(marks: &mut Vec<u64>, pages: u32)
 fn settle(marks: &mut Vec<u64>, pages: u32, swept: &mut Swept)
     requires order { swept.old.from ≤ swept.old.to }
     requires within { swept.old.to ≤ pages }
-    requires bits { HaveRoom pages marks.old.items (vec_capacity marks.old) }
+    requires bits { HaveRoomForBits pages marks.old.items (vec_capacity marks.old) }
     ensures room { pages ≤ 64 * vec_capacity marks.new }
     ensures each { pages ≤ 64 * length marks.new.items }
     ensures bits { (p : ℕ) → bit_in marks.new.items p ≡ (if in_run swept.old.from

@@ -9,3 +9,4 @@ pub mod Numbers
 pub mod Addresses
 pub mod LeadingLemmas
 mod Examples
+pub mod HexValues

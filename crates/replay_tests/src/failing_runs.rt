@@ -33,28 +33,6 @@ fn replay(
     Ok(replay_main(alloc, &words, source, sink))
 }
 
-#[test]
-fn a_read_of_the_script_fails(rt: HostRuntime) -> Result<(), Fail> {
-    let mut source = FaultSource::new(SCRIPT, 100, &[2]);
-    let mut sink = FaultSink::new(rt.alloc(), 1000, 100, &[])?;
-    let answer = replay(rt.alloc(), &mut source, &mut sink)?;
-    assert_eq!(rt;
-        (answer, source.calls(), sink.calls()),
-        (Status::ReadFault, 2, 0)
-    );
-    Ok(())
-}
-
-#[test]
-fn a_write_of_the_report_fails(rt: HostRuntime) -> Result<(), Fail> {
-    let mut source = FaultSource::new(SCRIPT, 1000, &[]);
-    let mut sink = FaultSink::new(rt.alloc(), 1000, 10, &[3])?;
-    let answer = replay(rt.alloc(), &mut source, &mut sink)?;
-    let taken = b"show tick=1 phase=id".as_slice();
-    assert_eq!(rt; (answer, sink.bytes()), (Status::WriteFault, taken));
-    Ok(())
-}
-
 // The script has 136 bytes. A source of one byte a call gives them in as many calls, and ends in one more.
 #[test]
 fn each_read_that_fails_ends_the_run(rt: HostRuntime) -> Result<(), Fail> {

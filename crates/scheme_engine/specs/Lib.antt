@@ -8,3 +8,4 @@ pub mod Engine
 pub mod Kept
 pub mod Applied
 pub mod Applying
+pub mod InContext

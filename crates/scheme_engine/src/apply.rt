@@ -21,7 +21,6 @@ use scheme_filter::MAX_RUNS;
 // which all passing pages are taken get age 0, unless the action leaves rows as they are. Returns the last
 // row of which some but not all are taken, if the action changes rows.
 pub(crate) fn apply(
-    slot: u8,
     scheme: &Scheme,
     context: &Context,
     candidates: &Candidates,
@@ -35,7 +34,7 @@ pub(crate) fn apply(
     requires room { length applied.old.runs + MAX_RUNS * length candidates.now.list
         ≤ RUNS_PER_ROW * applied.old.cap }
     ensures runs { applied.new ≡ record applied.old {
-      runs = applied.old.runs ++ applied_runs slot
+      runs = applied.old.runs ++ applied_runs context.now.number
           (passes scheme.now.filters context.now.space.now regions.old.ranges)
           (spans regions.old.rows) candidates.now.list;
     } }
@@ -51,9 +50,7 @@ pub(crate) fn apply(
     let mut part = None;
     let mut near = 0;
     for candidate in candidates.as_slice() {
-        let next = apply_to(
-            slot, scheme, context, candidate, &mut near, regions, applied,
-        );
+        let next = apply_to(scheme, context, candidate, &mut near, regions, applied);
         part = next.or(part);
     }
     part
@@ -62,7 +59,6 @@ pub(crate) fn apply(
 // Applies a scheme to the pages that are taken of one candidate. The row is looked for at the index `near`
 // first, which becomes the one after it.
 fn apply_to(
-    slot: u8,
     scheme: &Scheme,
     context: &Context,
     candidate: &Candidate,
@@ -76,7 +72,7 @@ fn apply_to(
         (spans regions.old.rows) candidate.now }
     requires room { length applied.old.runs + MAX_RUNS ≤ RUNS_PER_ROW * applied.old.cap }
     ensures runs { applied.new ≡ record applied.old {
-      runs = applied.old.runs ++ candidate_runs slot
+      runs = applied.old.runs ++ candidate_runs context.now.number
           (passes scheme.now.filters context.now.space.now regions.old.ranges)
           (spans regions.old.rows) candidate.now;
     } }
@@ -98,9 +94,8 @@ fn apply_to(
     *near = index + 1;
     let row = regions.row(index);
     let pages = take_row(
-        slot,
+        context,
         &scheme.filters,
-        context.space,
         regions.ranges(),
         &row,
         candidate,

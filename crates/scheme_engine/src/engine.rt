@@ -145,18 +145,15 @@ impl Engine {
         } }
     {
         applied.clear();
-        let context = Context { space, aggr };
         for number in 0..SLOTS {
             let slot = &mut self.slots[number];
-            serve(
-                number as u8,
-                slot,
-                &context,
+            let context = Context {
+                number: number as u8,
                 tick,
-                &mut self.candidates,
-                regions,
-                applied,
-            );
+                space,
+                aggr,
+            };
+            serve(slot, &context, &mut self.candidates, regions, applied);
         }
     }
 }

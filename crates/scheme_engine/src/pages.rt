@@ -15,9 +15,13 @@ use damon_types::{Filters, Ranges, Row, Space};
 use priority::Candidate;
 use scheme_filter::{MAX_RUNS, PassRuns, Run, passing};
 
-/// What the schemes of a monitor have in common.
+/// Which slot is served, and when.
 #[derive(Clone, Copy)]
 pub(crate) struct Context<'a> {
+    /// The number of the slot.
+    pub(crate) number: u8,
+    /// The tick at the end of the aggregation.
+    pub(crate) tick: u64,
     /// The targets.
     pub(crate) space: &'a Space,
     /// The number of passes of an aggregation.
@@ -27,35 +31,35 @@ pub(crate) struct Context<'a> {
 // Appends the runs of the first passing pages of a row, as many as the share of its candidate, which is at
 // least 1. Returns how many pages the row has up to the last one of them.
 pub(crate) fn take_row(
-    slot: u8,
+    context: &Context,
     filters: &Filters,
-    space: &Space,
     ranges: &Ranges,
     row: &Row,
     candidate: &Candidate,
     applied: &mut Applied,
 ) -> u32
-    requires within { AreWithin space.now ranges.now.list }
+    requires within { AreWithin context.now.space.now ranges.now.list }
     requires held { Any (LiesIn (span_of row.now)) ranges.now.list }
     requires some { 1 ≤ candidate.now.share }
     requires share { candidate.now.share ≤ candidate.now.passing }
     requires passing { candidate.now.passing ≡ length
-        (passing_pages (passes filters.now space.now ranges.now.list) (span_of row.now)) }
+        (passing_pages (passes filters.now context.now.space.now ranges.now.list)
+        (span_of row.now)) }
     requires room { length applied.old.runs + MAX_RUNS ≤ RUNS_PER_ROW * applied.old.cap }
     ensures runs { applied.new ≡ record applied.old {
-      runs = applied.old.runs ++ map (applied_run slot candidate.now)
-          (taken_runs (passes filters.now space.now ranges.now.list) candidate.now.share
+      runs = applied.old.runs ++ map (applied_run context.now.number candidate.now)
+          (taken_runs (passes filters.now context.now.space.now ranges.now.list) candidate.now.share
           (span_of row.now));
     } }
     ensures few { length applied.new.runs ≤ length applied.old.runs + MAX_RUNS }
-    ensures pages { result ≡ cut_place (passes filters.now space.now ranges.now.list)
+    ensures pages { result ≡ cut_place (passes filters.now context.now.space.now ranges.now.list)
         candidate.now.share (span_of row.now) }
     ensures most { result ≤ row.now.pages }
 {
     // Mostly all pages of a row pass: then its first pages are one run, and no filter is looked at.
     if candidate.passing == row.pages {
         applied.push_run(AppliedRun {
-            slot,
+            slot: context.number,
             target: candidate.target,
             start: row.start,
             pages: candidate.share,
@@ -63,40 +67,40 @@ pub(crate) fn take_row(
         });
         return candidate.share;
     }
-    take_passing(slot, filters, space, ranges, row, candidate, applied)
+    take_passing(context, filters, ranges, row, candidate, applied)
 }
 
 // The same for a row of any pages, whose filters are looked at.
 fn take_passing(
-    slot: u8,
+    context: &Context,
     filters: &Filters,
-    space: &Space,
     ranges: &Ranges,
     row: &Row,
     candidate: &Candidate,
     applied: &mut Applied,
 ) -> u32
-    requires within { AreWithin space.now ranges.now.list }
+    requires within { AreWithin context.now.space.now ranges.now.list }
     requires held { Any (LiesIn (span_of row.now)) ranges.now.list }
     requires some { 1 ≤ candidate.now.share }
     requires share { candidate.now.share ≤ length
-        (passing_pages (passes filters.now space.now ranges.now.list) (span_of row.now)) }
+        (passing_pages (passes filters.now context.now.space.now ranges.now.list)
+        (span_of row.now)) }
     requires room { length applied.old.runs + MAX_RUNS ≤ RUNS_PER_ROW * applied.old.cap }
     ensures runs { applied.new ≡ record applied.old {
-      runs = applied.old.runs ++ map (applied_run slot candidate.now)
-          (taken_runs (passes filters.now space.now ranges.now.list) candidate.now.share
+      runs = applied.old.runs ++ map (applied_run context.now.number candidate.now)
+          (taken_runs (passes filters.now context.now.space.now ranges.now.list) candidate.now.share
           (span_of row.now));
     } }
     ensures few { length applied.new.runs ≤ length applied.old.runs + MAX_RUNS }
-    ensures pages { result ≡ cut_place (passes filters.now space.now ranges.now.list)
+    ensures pages { result ≡ cut_place (passes filters.now context.now.space.now ranges.now.list)
         candidate.now.share (span_of row.now) }
     ensures most { result ≤ row.now.pages }
 {
     // For its clauses alone: the row ends below page 2^32.
     let _count = ranges.len();
     let mut runs = PassRuns::new();
-    passing(filters, space, ranges, row, &mut runs);
-    let end = take_pages(slot, candidate, runs.as_slice(), applied);
+    passing(filters, context.space, ranges, row, &mut runs);
+    let end = take_pages(context.number, candidate, runs.as_slice(), applied);
     end - row.start
 }
 

@@ -2,8 +2,7 @@
 ghost use Rattle.std.specs.Prelude.{◌≡◌, ◌+◌, ◌*◌, ◌≤◌, ◌<◌, ◌++◌, ◌∷◌, [], length, Some, IsSome, IfSome};
 ghost use Rattle.damon_types.specs.Within.{AreWithin};
 ghost use Rattle.scheme_engine.specs.Engine.{FitsSlot};
-ghost use Rattle.scheme_engine.specs.Outcome.{outcome_of};
-ghost use Rattle.scheme_engine.specs.Served.{scheme_served, slot_served};
+ghost use Rattle.scheme_engine.specs.InContext.{outcome_in, scheme_served_in, slot_served_in};
 
 use crate::apply::apply;
 use crate::candidates::gather;
@@ -24,52 +23,43 @@ struct Counts {
     chosen: Chosen,
 }
 
-// Serves the slot with this number: begins a new window if it is due, and runs the scheme of a slot that is
-// set and active.
+// Serves a slot: begins a new window if it is due, and runs the scheme of a slot that is set and active.
 pub(crate) fn serve(
-    number: u8,
     slot: &mut Slot,
     context: &Context,
-    tick: u64,
     candidates: &mut Candidates,
     regions: &mut Regions,
     applied: &mut Applied,
 )
-    requires window { IsSome slot.old.set → slot.old.window.start ≤ tick }
+    requires window { IsSome slot.old.set → slot.old.window.start ≤ context.now.tick }
     requires within { AreWithin context.now.space.now regions.old.ranges }
     requires aggr { 1 ≤ context.now.aggr }
     requires cap { candidates.old.cap ≡ regions.old.cap }
     requires room { length applied.old.runs + MAX_RUNS * regions.old.cap
         ≤ RUNS_PER_ROW * applied.old.cap }
     requires choices { length applied.old.choices < SLOTS }
-    requires fits { FitsSlot (slot_served number context.now.space.now context.now.aggr tick
-        regions.old slot.old).slot }
-    ensures slot { slot.new ≡ (slot_served number context.now.space.now context.now.aggr tick
-        regions.old slot.old).slot }
+    requires fits { FitsSlot (slot_served_in context.now regions.old slot.old).slot }
+    ensures slot { slot.new ≡ (slot_served_in context.now regions.old slot.old).slot }
     ensures rows { regions.new ≡ record regions.old {
-      rows = (slot_served number context.now.space.now context.now.aggr tick regions.old
-          slot.old).rows;
+      rows = (slot_served_in context.now regions.old slot.old).rows;
     } }
     ensures applied { applied.new ≡ record applied.old {
-      runs = applied.old.runs ++ (slot_served number context.now.space.now context.now.aggr tick
-          regions.old slot.old).runs;
-      choices = applied.old.choices ++ (slot_served number context.now.space.now
-          context.now.aggr tick regions.old slot.old).choices;
+      runs = applied.old.runs ++ (slot_served_in context.now regions.old slot.old).runs;
+      choices = applied.old.choices ++ (slot_served_in context.now regions.old slot.old).choices;
     } }
     ensures few { length applied.new.runs
         ≤ length applied.old.runs + MAX_RUNS * regions.old.cap }
     ensures one { length applied.new.choices ≤ length applied.old.choices + 1 }
     ensures cap { candidates.new.cap ≡ candidates.old.cap }
 {
-    slot.turn(tick);
+    slot.turn(context.tick);
     if let Some(set) = slot.scheme() {
-        serve_set(number, slot, &set, context, candidates, regions, applied);
+        serve_set(slot, &set, context, candidates, regions, applied);
     }
 }
 
 // Serves a slot whose scheme this is, and whose window is that of this tick.
 fn serve_set(
-    number: u8,
     slot: &mut Slot,
     set: &SetScheme,
     context: &Context,
@@ -84,19 +74,19 @@ fn serve_set(
     requires room { length applied.old.runs + MAX_RUNS * regions.old.cap
         ≤ RUNS_PER_ROW * applied.old.cap }
     requires choices { length applied.old.choices < SLOTS }
-    requires fits { FitsSlot (scheme_served number context.now.space.now context.now.aggr
-        regions.old slot.old (Some set.now)).slot }
-    ensures slot { slot.new ≡ (scheme_served number context.now.space.now context.now.aggr
-        regions.old slot.old (Some set.now)).slot }
+    requires fits { FitsSlot (scheme_served_in context.now regions.old slot.old
+        (Some set.now)).slot }
+    ensures slot { slot.new ≡ (scheme_served_in context.now regions.old slot.old
+        (Some set.now)).slot }
     ensures rows { regions.new ≡ record regions.old {
-      rows = (scheme_served number context.now.space.now context.now.aggr regions.old slot.old
+      rows = (scheme_served_in context.now regions.old slot.old
           (Some set.now)).rows;
     } }
     ensures applied { applied.new ≡ record applied.old {
-      runs = applied.old.runs ++ (scheme_served number context.now.space.now context.now.aggr
-          regions.old slot.old (Some set.now)).runs;
-      choices = applied.old.choices ++ (scheme_served number context.now.space.now
-          context.now.aggr regions.old slot.old (Some set.now)).choices;
+      runs = applied.old.runs ++ (scheme_served_in context.now regions.old slot.old
+          (Some set.now)).runs;
+      choices = applied.old.choices ++ (scheme_served_in context.now regions.old slot.old
+          (Some set.now)).choices;
     } }
     ensures few { length applied.new.runs
         ≤ length applied.old.runs + MAX_RUNS * regions.old.cap }
@@ -105,7 +95,7 @@ fn serve_set(
 {
     if !set.gauge.active() {
         applied.push_choice(SlotChoice {
-            slot: number,
+            slot: context.number,
             active: false,
             left: None,
             taken: 0,
@@ -115,7 +105,6 @@ fn serve_set(
     }
     let left = slot.left();
     let Counts { tried, chosen } = run_scheme(
-        number,
         &set.scheme,
         left,
         context,
@@ -125,7 +114,7 @@ fn serve_set(
     );
     slot.count(tried, chosen.taken, chosen.exceeds);
     applied.push_choice(SlotChoice {
-        slot: number,
+        slot: context.number,
         active: true,
         left,
         taken: chosen.taken,
@@ -135,7 +124,6 @@ fn serve_set(
 
 // Runs a scheme, where `left` pages are left of its quota, if it has one.
 fn run_scheme(
-    number: u8,
     scheme: &Scheme,
     left: Option<u64>,
     context: &Context,
@@ -149,23 +137,20 @@ fn run_scheme(
     requires room { length applied.old.runs + MAX_RUNS * regions.old.cap
         ≤ RUNS_PER_ROW * applied.old.cap }
     ensures runs { applied.new ≡ record applied.old {
-      runs = applied.old.runs ++ (outcome_of number context.now.space.now context.now.aggr
-          scheme.now left regions.old).runs;
+      runs = applied.old.runs ++ (outcome_in context.now scheme.now left regions.old).runs;
     } }
     ensures few { length applied.new.runs
         ≤ length applied.old.runs + MAX_RUNS * regions.old.cap }
     ensures rows { regions.new ≡ record regions.old {
-      rows = (outcome_of number context.now.space.now context.now.aggr scheme.now left
-          regions.old).rows;
+      rows = (outcome_in context.now scheme.now left regions.old).rows;
     } }
-    ensures tried { result.tried ≡ (outcome_of number context.now.space.now context.now.aggr
-        scheme.now left regions.old).tried }
-    ensures taken { result.chosen.taken ≡ (outcome_of number context.now.space.now
-        context.now.aggr scheme.now left regions.old).taken }
-    ensures lowest { result.chosen.lowest ≡ (outcome_of number context.now.space.now
-        context.now.aggr scheme.now left regions.old).lowest }
-    ensures exceeds { result.chosen.exceeds ≡ (outcome_of number context.now.space.now
-        context.now.aggr scheme.now left regions.old).exceeds }
+    ensures tried { result.tried ≡ (outcome_in context.now scheme.now left regions.old).tried }
+    ensures taken { result.chosen.taken
+        ≡ (outcome_in context.now scheme.now left regions.old).taken }
+    ensures lowest { result.chosen.lowest
+        ≡ (outcome_in context.now scheme.now left regions.old).lowest }
+    ensures exceeds { result.chosen.exceeds
+        ≡ (outcome_in context.now scheme.now left regions.old).exceeds }
     ensures within { IfSome left (λ most. result.chosen.taken ≤ most) }
     ensures cap { candidates.new.cap ≡ candidates.old.cap }
 {
@@ -177,7 +162,7 @@ fn run_scheme(
     counts_keep_in_any_order();
     let tried = gather(scheme, context, regions, candidates);
     let chosen = candidates.choose(left);
-    if let Some(part) = apply(number, scheme, context, candidates, regions, applied) {
+    if let Some(part) = apply(scheme, context, candidates, regions, applied) {
         cut(part, regions);
     }
     Counts { tried, chosen }

@@ -84,7 +84,8 @@ pub(crate) fn text_before(bytes: &mut [u8], end: usize, text: &[u8]) -> usize
     ensures written { drop result bytes.new ≡ text.now ++ drop end bytes.old }
 {
     let start = end - text.len();
-    // For a text of constant length this is a store or two, where a copy asks first whether the slices overlap.
+    // For a text of constant length this is a store or two, where a copy asks first whether the slices
+    // overlap.
     let mut index = text.len();
     'bytes: while index > 0 {
         index -= 1;

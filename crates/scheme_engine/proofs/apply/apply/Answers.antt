@@ -55,7 +55,7 @@ loop-candidate-preserved c =
     let list = c.args.candidates.now.list in
     let i = c.loop-candidate.candidate-index in
     let now = c.loop-candidate.regions.rows in
-    let slot = c.args.slot in
+    let slot = c.args.context.now.number in
     let action = c.args.scheme.now.action in
     let test : List Range → ℕ → Bool = λ gs. passes c.args.scheme.now.filters c.args.context.now.space.now gs in
     let is = c.as_slice-candidate-items.ensures in
@@ -90,7 +90,7 @@ returns c =
     let action = c.args.scheme.now.action in
     let test : ℕ → Bool = passes c.args.scheme.now.filters c.args.context.now.space.now old.ranges in
     let all : take i list ≡ list = take_all i list (omega (arith, c.loop-candidate-test.false, ap length c.as_slice-candidate-items.ensures)) in
-    let with : List Candidate → AppliedList = λ cs. record before { runs = before.runs ++ applied_runs c.args.slot test (spans old.rows) cs } in
+    let with : List Candidate → AppliedList = λ cs. record before { runs = before.runs ++ applied_runs c.args.context.now.number test (spans old.rows) cs } in
     let put : List Candidate → RegionList = λ cs. record old { rows = fold (rows_renewed action) old.rows cs } in
     record {
       runs = kept.runs ∙ ap with all;

@@ -19,7 +19,7 @@ pub returns-then-candidate-eq0-clause-runs : goal.returns-then-candidate-eq0-cla
 returns-then-candidate-eq0-clause-runs c =
     let old = c.args.applied.now in
     let p = passes c.args.scheme.now.filters c.args.context.now.space.now c.args.regions.now.ranges in
-    let none = no_share c.args.slot p (spans c.args.regions.now.rows) c.args.candidate.now c.if-candidate-eq0.true in
+    let none = no_share c.args.context.now.number p (spans c.args.regions.now.rows) c.args.candidate.now c.if-candidate-eq0.true in
     let with : List AppliedRun → AppliedList = λ rs. record old { runs = rs } in
     ap with (sym (ap (λ rs. old.runs ++ rs) none ∙ append-nil old.runs))
 
@@ -76,7 +76,7 @@ returns c =
     let test : List Range → ℕ → Bool = λ gs. passes c.args.scheme.now.filters c.args.context.now.space.now gs in
     let ascend = rows_ascend old.unit old.ranges (spans old.rows) c.len-count.ensures.unit c.len-count.ensures.order c.len-count.ensures.tiling in
     let is = found (test old.ranges) old.rows cand c.in_ok-index.index row ascend c.requires.row (sym c.find_near.ensures ∙ c.in_ok-index.was) c.row-row.ensures.row in
-    let with : (ℕ → Bool) → Span → AppliedList = λ p s. record before { runs = before.runs ++ map (applied_run c.args.slot cand) (taken_runs p cand.share s) } in
+    let with : (ℕ → Bool) → Span → AppliedList = λ p s. record before { runs = before.runs ++ map (applied_run c.args.context.now.number cand) (taken_runs p cand.share s) } in
     let pages = c.take_row-pages.ensures.pages ∙ ap (λ gs. cut_place (test gs) cand.share (span_of row)) c.ranges-2.ensures.list in
     record {
       runs = c.take_row-pages.ensures.runs ∙ ap (λ gs. with (test gs) (span_of row)) c.ranges-2.ensures.list ∙ ap (with (test old.ranges)) (sym is.span);

@@ -73,7 +73,7 @@ returns-in-Some-clause-runs c =
     let chosen = is_chosen laws space aggr scheme left old tiled c.gather-tried.new.candidates.list list gathered c.choose-chosen.ensures.list in
     let applied = c.args.applied.now in
     let put : List AppliedRun → AppliedList = λ rs. record applied { runs = applied.runs ++ rs } in
-    c.apply.ensures.runs ∙ ap put (chosen_runs c.args.number test old.rows all list chosen)
+    c.apply.ensures.runs ∙ ap put (chosen_runs c.args.context.now.number test old.rows all list chosen)
 
 pub returns-in-Some-clause-few : goal.returns-in-Some-clause-few
 returns-in-Some-clause-few c =
@@ -170,7 +170,7 @@ returns-in_default-clause-runs c =
     let chosen = is_chosen laws space aggr scheme left old tiled c.gather-tried.new.candidates.list list gathered c.choose-chosen.ensures.list in
     let applied = c.args.applied.now in
     let put : List AppliedRun → AppliedList = λ rs. record applied { runs = applied.runs ++ rs } in
-    c.apply.ensures.runs ∙ ap put (chosen_runs c.args.number test old.rows all list chosen)
+    c.apply.ensures.runs ∙ ap put (chosen_runs c.args.context.now.number test old.rows all list chosen)
 
 pub returns-in_default-clause-few : goal.returns-in_default-clause-few
 returns-in_default-clause-few c =

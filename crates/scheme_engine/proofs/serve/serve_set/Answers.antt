@@ -11,7 +11,7 @@ use Rattle.scheme_engine.proofs.serve.serve_set.Goals as goal
 
 pub count-requires-clause-fits : goal.count-requires-clause-fits
 count-requires-clause-fits c =
-    let number = c.args.number in
+    let number = c.args.context.now.number in
     let space = c.args.context.now.space.now in
     let aggr = c.args.context.now.aggr in
     let old = c.args.regions.now in
@@ -32,7 +32,7 @@ count-requires-clause-fits c =
 
 pub returns-clause-slot : goal.returns-clause-slot
 returns-clause-slot c =
-    let number = c.args.number in
+    let number = c.args.context.now.number in
     let space = c.args.context.now.space.now in
     let aggr = c.args.context.now.aggr in
     let old = c.args.regions.now in
@@ -53,7 +53,7 @@ returns-clause-slot c =
 
 pub returns-clause-rows : goal.returns-clause-rows
 returns-clause-rows c =
-    let number = c.args.number in
+    let number = c.args.context.now.number in
     let space = c.args.context.now.space.now in
     let aggr = c.args.context.now.aggr in
     let old = c.args.regions.now in
@@ -75,7 +75,7 @@ returns-clause-rows c =
 
 pub returns-clause-applied : goal.returns-clause-applied
 returns-clause-applied c =
-    let number = c.args.number in
+    let number = c.args.context.now.number in
     let space = c.args.context.now.space.now in
     let aggr = c.args.context.now.aggr in
     let old = c.args.regions.now in
