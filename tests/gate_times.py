@@ -37,7 +37,7 @@ class Job(NamedTuple):
     kind: str
 
 
-class Use(NamedTuple):
+class Process(NamedTuple):
     """What is known of a process while it runs."""
 
     parent: int
@@ -58,10 +58,10 @@ def gate() -> List[str]:
     return ["rt", "ci", "--anew"] if "--anew" in said else ["rt", "ci"]
 
 
-def use_of(pid: int) -> Use:
+def process_of(pid: int) -> Process:
     # The name in parentheses may hold spaces.
     fields = Path(f"/proc/{pid}/stat").read_text().rpartition(")")[2].split()
-    return Use(int(fields[1]), int(fields[19]), (int(fields[11]) + int(fields[12])) / TICKS)
+    return Process(int(fields[1]), int(fields[19]), (int(fields[11]) + int(fields[12])) / TICKS)
 
 
 def job_of(words: List[str], folder: str) -> Optional[Job]:
@@ -78,12 +78,12 @@ def job_of(words: List[str], folder: str) -> Optional[Job]:
     return Job(crate, "base" if Path(kept).name == "seed" else "edits")
 
 
-def processes() -> Iterator[Tuple[int, Use, Optional[Job]]]:
+def processes() -> Iterator[Tuple[int, Process, Optional[Job]]]:
     for entry in os.listdir("/proc"):
         if entry.isdigit():
             try:
                 words = Path(f"/proc/{entry}/cmdline").read_bytes().decode(errors="replace").split("\0")
-                yield int(entry), use_of(int(entry)), job_of(words, os.readlink(f"/proc/{entry}/cwd"))
+                yield int(entry), process_of(int(entry)), job_of(words, os.readlink(f"/proc/{entry}/cwd"))
             except (OSError, IndexError, ValueError):
                 continue  # It ended while it was looked at, or belongs to somebody else.
 
@@ -102,10 +102,10 @@ def times_of(command: List[str]) -> Tuple[int, Table]:
     with subprocess.Popen(command, cwd=TOP, stdout=sys.stderr) as run:
         while run.poll() is None:
             seen = list(processes())
-            parents = {pid: use.parent for pid, use, _ in seen}
-            for pid, use, job in seen:
+            parents = {pid: process.parent for pid, process, _ in seen}
+            for pid, process, job in seen:
                 if job and is_below(pid, run.pid, parents):
-                    seconds[pid, use.begun] = (job, use.seconds)
+                    seconds[pid, process.begun] = (job, process.seconds)
             time.sleep(0.5)
     table: Table = defaultdict(lambda: defaultdict(float))
     for job, used in seconds.values():

@@ -13,7 +13,7 @@ from typing import Dict, Iterator, Tuple
 from unittest import mock
 
 import gate_times
-from gate_times import Job, Use, job_of, lines_of, times_of
+from gate_times import Job, Process, job_of, lines_of, times_of
 
 PROVER = "/opt/kit/bin/rattle"
 
@@ -41,8 +41,8 @@ class Times(unittest.TestCase):
     def test_a_number_that_comes_again_is_another_process(self) -> None:
         begun = iter(range(100))
 
-        def processes() -> Iterator[Tuple[int, Use, Job]]:
-            yield 7, Use(1, next(begun), 2.0), Job("low", "proof")
+        def processes() -> Iterator[Tuple[int, Process, Job]]:
+            yield 7, Process(1, next(begun), 2.0), Job("low", "proof")
 
         # Long enough for two looks.
         command = [sys.executable, "-c", "import time; time.sleep(0.8)"]

@@ -1,23 +1,20 @@
 -- The results of loads, by the bits that a journal keeps.
-use Rattle.std.proofs.Common.{◌≡◌, ℕ, ◌+◌, ◌-◌, ◌≤◌, ◌<◌, Bool, false, List, [], ◌∷◌, ◌++◌, drop, length, take, get_or, get_or-set_same, append_assoc, sym, ap, ◌∙◌, arith}
-use Rattle.std.specs.Prelude.{Some, map, slice_get, slice_set}
-use Rattle.std.proofs.lemmas.List.{drop-drop, drop-take, get_or_default, get_or-drop, get_or-take, length-drop, length-set, length-take-le, take-set-le, take-take, drop_more, take_more}
+use Rattle.std.proofs.Common.{◌≡◌, ℕ, ◌+◌, ◌-◌, ◌≤◌, ◌<◌, Bool, true, false, List, [], ◌∷◌, ◌++◌, drop, length, take, get_or, append_assoc, length-append, sym, ap, ◌∙◌, arith}
+use Rattle.std.specs.Prelude.{map, if◌then◌else◌}
+use Rattle.std.proofs.lemmas.Bool.Decides.{nat_tests}
+use Rattle.std.proofs.lemmas.List.{drop-drop, drop-take, ext_get_or, get_or_append_left, get_or-append-add, get_or-take, length-drop, length-take-le, take-append-drop, take-take, drop_more}
+use Rattle.std.proofs.lemmas.List.FromFn.{get_or-map-range_with_len, length-map-range_with_len}
+use mathlib.Core.List.{map-append}
+use mathlib.Core.Logic.{dite}
+use native.Mathlib.Decide.{dec_lt}
+use Rattle.page_bits.specs.Runs.{bit_after, in_run}
+use Rattle.page_bits.specs.Sets.{with_each}
 use Rattle.damon_journal.specs.Room.{JournalView}
 use Rattle.damon_journal.specs.Spelled.{bit_digit}
-use Rattle.damon_journal.proofs.Listing.{take_next}
 
 -- how many results a run of loads has
 pub run_length : (xs : List Bool) (start count : ℕ) → start + count ≤ length xs → length (take count (drop start xs)) ≡ count
 run_length xs start count within = length-take-le count (drop start xs) (omega (arith, within, length-drop start xs))
-
--- one of them
-pub run_read : (xs : List Bool) (start count index : ℕ) (none : Bool) → start + count ≤ length xs → index < count → get_or xs (start + index) false ≡ get_or (take count (drop start xs)) index none
-run_read xs start count index none within below =
-    sym (
-    get_or-take count (drop start xs) index none below
-    ∙ get_or-drop start xs index none
-    ∙ get_or_default xs (start + index) none false (omega (arith, within, below))
-    )
 
 -- the first of them, and those after them
 pub run_first : (xs : List Bool) (start count n : ℕ) → n ≤ count → take n (drop start xs) ≡ take n (take count (drop start xs))
@@ -40,24 +37,42 @@ digit_more xs text more whole k digit bit below read spelled added left =
     ∙ ap (λ l. text ++ map bit_digit l) (sym (drop_more xs k false below))
     ∙ left
 
--- one more result is kept
-pub one_more : (xs : List Bool) (n : ℕ) (hit : Bool) → n < length xs → take (n + 1) (slice_set xs n hit) ≡ take n xs ++ hit ∷ []
-one_more xs n hit below =
-    take_more (slice_set xs n hit) n false (omega (arith, below, length-set xs n hit))
-    ∙ ap (λ l. l ++ get_or (slice_set xs n hit) n false ∷ []) (take-set-le n xs n hit (omega arith))
-    ∙ ap (λ b. take n xs ++ b ∷ []) (get_or-set_same xs n hit false below)
+-- the digits of more results are appended
+pub digits_more : (xs bits : List Bool) (text more whole : List ℕ) (k n : ℕ) → bits ≡ take n (drop k xs) → more ≡ text ++ map bit_digit bits → text ++ map bit_digit (drop k xs) ≡ whole → more ++ map bit_digit (drop (k + n) xs) ≡ whole
+digits_more xs bits text more whole k n read added left =
+    let parts : bits ++ drop (k + n) xs ≡ drop k xs = ap (λ l. l ++ drop (k + n) xs) read ∙ ap (λ l. take n (drop k xs) ++ l) (sym (drop-drop n k xs)) ∙ take-append-drop n (drop k xs) in
+    ap (λ l. l ++ map bit_digit (drop (k + n) xs)) added
+    ∙ append_assoc text (map bit_digit bits) (map bit_digit (drop (k + n) xs))
+    ∙ ap (λ l. text ++ l) (sym (map-append bit_digit bits (drop (k + n) xs)) ∙ ap (map bit_digit) parts)
+    ∙ left
 
--- the same among the results of a check
-pub loaded_more : (before now new bits : List Bool) (loaded at k : ℕ) (hit : Bool) → new ≡ slice_set now at hit → at ≡ loaded + k → loaded + k < length now → slice_get bits k ≡ Some hit
-    → take (loaded + k) now ≡ take loaded before ++ take k bits → take (loaded + (k + 1)) new ≡ take loaded before ++ take (k + 1) bits
-loaded_more before now new bits loaded at k hit is here below got kept =
-    let sum : loaded + (k + 1) ≡ loaded + k + 1 = omega arith in
-    ap (λ n. take n new) sum
-    ∙ ap (take (loaded + k + 1)) (is ∙ ap (λ n. slice_set now n hit) here)
-    ∙ one_more now (loaded + k) hit below
-    ∙ ap (λ l. l ++ hit ∷ []) kept
-    ∙ append_assoc (take loaded before) (take k bits) (hit ∷ [])
-    ∙ ap (λ l. take loaded before ++ l) (sym (take_next bits k hit got))
+-- the room stays
+pub length_kept : (loads bits : List Bool) (loaded : ℕ) → length (with_each loaded bits loads) ≡ length loads
+length_kept loads bits loaded = length-map-range_with_len (λ p. bit_after loaded bits p (get_or loads p false)) 0 (length loads)
+
+-- the results of a check follow those that were kept
+pub kept_behind : (loads bits : List Bool) (loaded : ℕ) → loaded + length bits ≤ length loads → take (loaded + length bits) (with_each loaded bits loads) ≡ take loaded loads ++ bits
+kept_behind loads bits loaded within =
+    let n = length bits in
+    let f : ℕ → Bool = λ p. bit_after loaded bits p (get_or loads p false) in
+    let new = with_each loaded bits loads in
+    let size = length_kept loads bits loaded in
+    let all : length (take (loaded + n) new) ≡ loaded + n = length-take-le (loaded + n) new (omega (arith, within, size)) in
+    let first : length (take loaded loads) ≡ loaded = length-take-le loaded loads (omega (arith, within)) in
+    ext_get_or false (take (loaded + n) new) (take loaded loads ++ bits) (omega (arith, all, first, length-append (take loaded loads) bits)) (λ i below.
+    get_or-take (loaded + n) new i false (omega (arith, below, all))
+    ∙ get_or-map-range_with_len f 0 (length loads) i i false (omega (arith, below, all, within)) (omega arith)
+    ∙ dite (dec_lt i loaded)
+    (λ (before : i < loaded).
+    let test : in_run loaded n i ≡ false = grind (arith, nat_tests) in
+    ap (λ b. if b then get_or bits (i - loaded) false else get_or loads i false) test
+    ∙ sym (get_or-take loaded loads i false before)
+    ∙ sym (get_or_append_left (take loaded loads) bits false i (omega (arith, before, first))))
+    (λ (from : ¬ (i < loaded)).
+    let test : in_run loaded n i ≡ true = (let ge : loaded ≤ i = omega (arith, from) in let lt : i < loaded + n = omega (arith, below, all) in grind (arith, nat_tests)) in
+    let at : i ≡ length (take loaded loads) + (i - loaded) = omega (arith, from, first) in
+    ap (λ b. if b then get_or bits (i - loaded) false else get_or loads i false) test
+    ∙ sym (ap (λ k. get_or (take loaded loads ++ bits) k false) at ∙ get_or-append-add (take loaded loads) bits (i - loaded) false)))
 
 -- the results of a check still fit
 pub loads_fit : (v : JournalView) (loads : List Bool) (loaded n : ℕ) → loaded ≤ length loads → take loaded loads ≡ v.value.bits → length loads ≡ v.bit_room → length v.value.bits + n ≤ v.bit_room → loaded + n ≤ length loads

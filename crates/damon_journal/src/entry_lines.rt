@@ -20,6 +20,9 @@ use script_lines::write_number_line;
 use snapshot_print::print_answer;
 use std::alloc::{AllocError, Global};
 
+// How many results are read at once.
+const BLOCK: u32 = 256;
+
 // Appends the lines of an entry, with the results of its loads.
 pub(crate) fn write_entry(
     alloc: Global,
@@ -59,15 +62,32 @@ fn write_check(out: &mut Vec<u8>, pass: u64, loaded: LoadRun<'_>) -> Result<(), 
     end_line(out)
 }
 
-// Appends a digit for each result.
+// Appends a digit for each result. They are read a block at a time, since a word then is loaded once for all of
+// its results.
 fn write_bits(out: &mut Vec<u8>, loaded: LoadRun<'_>) -> Result<(), AllocError>
     ensures ok { OnOk result (out.new.items ≡ out.old.items ++ map bit_digit (loads_in loaded.entry)) }
     ensures kept { KeepsFront out.old.items out.new.items }
 {
-    let count = loaded.len();
-    out.reserve(count as usize)?;
-    for index in 0..count {
-        out.push_reserved(bit_digit(loaded.get(index)));
+    let mut places = [false; BLOCK as usize];
+    let mut done = 0;
+    'pieces: while done < loaded.len() {
+        let count = (loaded.len() - done).min(BLOCK);
+        let bits = &mut places[..count as usize];
+        loaded.read(done, bits);
+        write_digits(out, bits)?;
+        done += count;
+    }
+    Ok(())
+}
+
+// Appends a digit for each of these results.
+fn write_digits(out: &mut Vec<u8>, bits: &[bool]) -> Result<(), AllocError>
+    ensures ok { OnOk result (out.new.items ≡ out.old.items ++ map bit_digit bits.now) }
+    ensures kept { KeepsFront out.old.items out.new.items }
+{
+    out.reserve(bits.len())?;
+    for k in 0..bits.len() {
+        out.push_reserved(bit_digit(bits[k]));
     }
     Ok(())
 }

@@ -122,9 +122,7 @@ impl Journal {
         ensures { self.new ≡ with_entry (Check pass) (with_results picks.now.bits self.old) }
     {
         let count = picks.len();
-        for k in 0..count {
-            self.loads.put(self.loaded + k, picks.hit(k));
-        }
+        self.loads.put_each(self.loaded, picks.bits());
         self.loaded += count;
         self.checked.push_reserved(count);
         self.entries.push_reserved(Entry::Check { pass });

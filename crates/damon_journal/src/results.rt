@@ -1,5 +1,5 @@
 // The results of the checks of a journal, one check after another.
-ghost use Rattle.std.specs.Prelude.{◌≡◌, ◌+◌, ◌≤◌, ◌<◌, Bool, drop, length, slice_index_or, sum, take};
+ghost use Rattle.std.specs.Prelude.{◌≡◌, ◌+◌, ◌≤◌, drop, length, sum, take};
 ghost use Rattle.damon_journal.specs.Results.{bits_left, loads_in, results_of, sizes_left};
 
 use crate::entry::Entry;
@@ -28,12 +28,12 @@ impl<'a> LoadRun<'a> {
         self.count
     }
 
-    // The result with this index.
-    pub(crate) fn get(&self, index: u32) -> bool
-        requires { index < length (loads_in self.now) }
-        ensures { (none : Bool) → result ≡ slice_index_or (loads_in self.now) index none }
+    // The results from one on, as many as there are places for.
+    pub(crate) fn read(&self, from: u32, places: &mut [bool])
+        requires { from + length places.old ≤ length (loads_in self.now) }
+        ensures { places.new ≡ take (length places.old) (drop from (loads_in self.now)) }
     {
-        self.set.has(self.start + index)
+        self.set.get_each(self.start + from, places);
     }
 
     // The first `count` results, and those after them.

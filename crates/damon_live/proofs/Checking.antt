@@ -45,32 +45,29 @@ pub record IsObserved (m now : MonitorView) : Type 0 where
   pub core : now.core ≡ passed_core (record m.core { regions = now.core.regions })
   pub cap : now.core.regions.cap ≡ m.core.regions.cap
 
-pub checked_run : (v : LiveValue) (table : TableId) (m mid now : MonitorView) (seat new : MonitorSeatView) (j next : JournalValue) (ks kt : List ℕ) (g : Lcg) (count pass : ℕ) → GrowsByEntries → IsRun v table m seat j ks g count → AreLoaded (row_count m.core) seat new m mid → IsObserved mid now → m.core.phase ≡ Armed → pass ≡ m.core.ticks + 1 → length m.bits ≡ row_count m.core → length m.core.picks ≡ row_count m.core → next ≡ longer j (Check pass) mid.bits → kt ≡ ks ++ length mid.bits ∷ []
+pub checked_run : (v : LiveValue) (table : TableId) (m mid now : MonitorView) (seat new : MonitorSeatView) (j next : JournalValue) (ks kt : List ℕ) (g : Lcg) (count pass : ℕ) → GrowsByEntries → IsRun v table m seat j ks g count → AreLoaded seat new m mid → IsObserved mid now → m.core.phase ≡ Armed → pass ≡ m.core.ticks + 1 → next ≡ longer j (Check pass) mid.bits → kt ≡ ks ++ length mid.bits ∷ []
     → IsRun v table now new next kt g count
-checked_run v table m mid now seat new j next ks kt g count pass grow h a o armed number each picks more sized =
+checked_run v table m mid now seat new j next ks kt g count pass grow h a o armed number more sized =
     let r = replay v j in
-    let n = row_count m.core in
+    let n = row_count r.state.core in
     let same : m.core ≡ r.state.core = h.stands.same in
-    let rows : n ≡ row_count r.state.core = ap row_count same in
-    let bits : mid.bits ≡ a.results = sym (take_all n mid.bits (omega (arith, a.each, each))) ∙ a.taken in
-    let size : length mid.bits ≡ row_count r.state.core = a.each ∙ (each ∙ rows) in
+    let size : length mid.bits ≡ n = a.each ∙ ap row_count same in
     let e = Check pass in
     let with_bits = replay_with v j mid.bits in
     let fits : EntryFits v with_bits e = (sym (ap (λ (c : Core). c.phase) same) ∙ armed, number ∙ ap (λ (c : Core). c.ticks + 1) same, omega (arith, size)) in
-    let none : (carried v with_bits e).bits ≡ [] = drop_all (row_count r.state.core) mid.bits (omega (arith, size)) in
+    let none : (carried v with_bits e).bits ≡ [] = drop_all n mid.bits (omega (arith, size)) in
     let grown = grow v j next e mid.bits more h.journal fits none in
-    let taken : take (row_count r.state.core) mid.bits ≡ mid.bits = take_all (row_count r.state.core) mid.bits (omega (arith, size)) in
-    let events : map (λ result. load result) a.results ++ observe ∷ [] ≡ entry_events v with_bits e = ap (λ bs. map (λ result. load result) bs ++ observe ∷ []) (sym bits ∙ sym taken) in
-    let made = subst (Makes Stands m now) events (Makes-append Stands m mid now (map (λ result. load result) a.results) (observe ∷ []) a.events o.event) r.state h.reached h.stands in
+    let taken : take n mid.bits ≡ mid.bits = take_all n mid.bits (omega (arith, size)) in
+    let events : map (λ result. load result) mid.bits ++ observe ∷ [] ≡ entry_events v with_bits e = ap (λ bs. map (λ result. load result) bs ++ observe ∷ []) (sym taken) in
+    let made = subst (Makes Stands m now) events (Makes-append Stands m mid now (map (λ result. load result) mid.bits) (observe ∷ []) a.events o.event) r.state h.reached h.stands in
     let state : run r.state (entry_events v with_bits e) ≡ (replay v next).state = sym (ap (λ (x : Replayed). x.state) grown.is) in
     let ticks : now.core.ticks ≡ m.core.ticks + 1 = ap (λ (c : Core). c.ticks) o.core ∙ ap (λ (c : Core). c.ticks + 1) a.core in
     let ended : now.core.phase ≡ phase_after_pass (mid.core.since + 1) mid.core.attrs.aggr = ap (λ (c : Core). c.phase) o.core in
-    let entries : new.entries ≡ seat.entries ++ load_steps (m.core.ticks + 1) (take n m.core.picks) a.results = ap (λ (s : MonitorSeatView). s.entries) a.seat in
-    let loads : load_steps (m.core.ticks + 1) (take n m.core.picks) a.results ≡ load_steps pass r.state.core.picks (take (row_count r.state.core) mid.bits) =
-    ap (λ ps. load_steps (m.core.ticks + 1) ps a.results) (take_all n m.core.picks (omega (arith, picks)))
-    ∙ (ap (λ bs. load_steps (m.core.ticks + 1) m.core.picks bs) (sym bits ∙ sym taken)
-    ∙ (ap (λ k. load_steps k m.core.picks (take (row_count r.state.core) mid.bits)) (sym number)
-    ∙ ap (λ (c : Core). load_steps pass c.picks (take (row_count r.state.core) mid.bits)) same)) in
+    let entries : new.entries ≡ seat.entries ++ load_steps (m.core.ticks + 1) m.core.picks mid.bits = ap (λ (s : MonitorSeatView). s.entries) a.seat in
+    let loads : load_steps (m.core.ticks + 1) m.core.picks mid.bits ≡ load_steps pass r.state.core.picks (take n mid.bits) =
+    ap (λ bs. load_steps (m.core.ticks + 1) m.core.picks bs) (sym taken)
+    ∙ (ap (λ k. load_steps k m.core.picks (take n mid.bits)) (sym number)
+    ∙ ap (λ (c : Core). load_steps pass c.picks (take n mid.bits)) same) in
     let none_more : r.drawn + 0 ≡ r.drawn = omega arith in
     record {
       can = h.can;
@@ -82,7 +79,7 @@ checked_run v table m mid now seat new j next ks kt g count pass grow h a o arme
       words = h.words;
       place = ap (λ (s : MonitorSeatView). s.table) a.seat ∙ h.place;
       pages = ap (λ (c : Core). pages_of c.space) o.core ∙ (ap (λ (c : Core). pages_of c.space) a.core ∙ h.pages);
-      steps_are = entries ∙ (ap (λ es. es ++ load_steps (m.core.ticks + 1) (take n m.core.picks) a.results) h.steps_are ∙ (ap (λ es. steps v j ++ es) loads ∙ sym grown.steps_are));
+      steps_are = entries ∙ (ap (λ es. es ++ load_steps (m.core.ticks + 1) m.core.picks mid.bits) h.steps_are ∙ (ap (λ es. steps v j ++ es) loads ∙ sym grown.steps_are));
       cleared = λ may. absurd (not_loadable (mid.core.since + 1) mid.core.attrs.aggr (subst IsLoadable ended may));
       last = omega (arith, a.last, h.last, ticks);
       between = subst IsBetweenEntries (sym ended) (between_passes (mid.core.since + 1) mid.core.attrs.aggr);

@@ -93,9 +93,9 @@ prepared_run v table m now seat new j next ks g left count pass more grow h p id
     }
 
 -- the room that is left then
-pub prepared_room : (v : LiveValue) (m now mid : MonitorView) (j new : JournalView) (ws : List ℕ) (passes count reserved more pass : ℕ) → HasRoom v m.core j passes count reserved → m.core.phase ≡ Idle → m.core.ticks < v.passes → mid.core ≡ prepared_core ws m.core → now.core ≡ cleared_core (row_count m.core) mid.core → row_count m.core < 2 ^ 32 → more ≡ count + row_count m.core
-    → new ≡ record j { value = with_one (Prepare pass count) j.value } → HasRoom v now.core new (passes + 1) more reserved
-prepared_room v m now mid j new ws passes count reserved more pass h idle left begin clear rows sum longer =
+pub prepared_room : (v : LiveValue) (m now mid : MonitorView) (j new : JournalView) (ws : List ℕ) (passes count reserved places more pass : ℕ) → HasRoom v m.core j passes count reserved places → m.core.phase ≡ Idle → m.core.ticks < v.passes → mid.core ≡ prepared_core ws m.core → now.core ≡ cleared_core (row_count m.core) mid.core → row_count m.core < 2 ^ 32 → more ≡ count + row_count m.core
+    → new ≡ record j { value = with_one (Prepare pass count) j.value } → HasRoom v now.core new (passes + 1) more reserved places
+prepared_room v m now mid j new ws passes count reserved places more pass h idle left begin clear rows sum longer =
     let shows = armed_core m mid now ws begin clear in
     let ticks : now.core.ticks ≡ m.core.ticks = ap (λ (c : Core). c.ticks) shows ∙ ap (λ (c : Core). c.ticks) begin in
     let opened : passes_open now.core.phase ≡ 1 = ap (λ (c : Core). passes_open c.phase) shows in
@@ -122,4 +122,5 @@ prepared_room v m now mid j new ws passes count reserved more pass h idle left b
           (subst (λ k. length j.value.bits + m.core.regions.cap * (v.passes - passes + passes_open m.core.phase) ≤ k) (sym bit_room) h.results)));
       drawn = (let d = h.drawn in let later_words : words_owed now.core.phase ≡ 2 ^ 33 = ap (λ (c : Core). words_owed c.phase) shows in let no_words : words_owed m.core.phase ≡ 0 = ap words_owed idle in omega (arith, d, sum, rows, later_words, no_words));
       words = subst (λ c. 2 * c ≤ reserved) (sym cap) h.words;
+      hits = subst (λ c. c ≤ places) (sym cap) h.hits;
     }

@@ -56,8 +56,8 @@ pub record Takes (c d : Core) (bs : List Bool) (count more owed left : ℕ) : Ty
   pub bits : length bs + c.regions.cap * passes_open d.phase ≤ c.regions.cap * passes_open c.phase
   pub words : more + words_owed d.phase ≤ count + words_owed c.phase
 
-pub room_left : (v : LiveValue) (c d : Core) (j new : JournalView) (e : Entry) (bs : List Bool) (passes count more reserved : ℕ) → HasRoom v c j passes count reserved → prepares e ≡ 0 → Takes c d bs count more (calls_left v j.value.entries) (calls_left v (j.value.entries ++ e ∷ [])) → IsExtended j new e bs → HasRoom v d new passes more reserved
-room_left v c d j new e bs passes count more reserved h plain t is =
+pub room_left : (v : LiveValue) (c d : Core) (j new : JournalView) (e : Entry) (bs : List Bool) (passes count more reserved places : ℕ) → HasRoom v c j passes count reserved places → prepares e ≡ 0 → Takes c d bs count more (calls_left v j.value.entries) (calls_left v (j.value.entries ++ e ∷ [])) → IsExtended j new e bs → HasRoom v d new passes more reserved places
+room_left v c d j new e bs passes count more reserved places h plain t is =
     let entries : length new.value.entries ≡ length j.value.entries + 1 = ap (λ (x : JournalValue). length x.entries) is.value ∙ length-append j.value.entries (e ∷ []) in
     let bits : length new.value.bits ≡ length j.value.bits + length bs = ap (λ (x : JournalValue). length x.bits) is.value ∙ length-append j.value.bits bs in
     let room : new.room ≡ j.room = is.room in
@@ -75,6 +75,7 @@ room_left v c d j new e bs passes count more reserved h plain t is =
       results = subst (λ x. length new.value.bits + x ≤ new.bit_room) joined now;
       drawn = omega (arith, h.drawn, t.words);
       words = subst (λ x. 2 * x ≤ reserved) (sym t.cap) h.words;
+      hits = subst (λ x. x ≤ places) (sym t.cap) h.hits;
     }
 
 -- the phase after a pass
@@ -103,8 +104,8 @@ pass_takes m mid now bs count o ticks cap opened owed words few before left same
     }
 
 -- the results of a pass that is open fit
-pub room_for_results : (v : LiveValue) (c : Core) (j : JournalView) (passes count reserved more : ℕ) → HasRoom v c j passes count reserved → passes_open c.phase ≡ 1 → more ≤ c.regions.cap → length j.value.bits + more ≤ j.bit_room
-room_for_results v c j passes count reserved more h opened few =
+pub room_for_results : (v : LiveValue) (c : Core) (j : JournalView) (passes count reserved places more : ℕ) → HasRoom v c j passes count reserved places → passes_open c.phase ≡ 1 → more ≤ c.regions.cap → length j.value.bits + more ≤ j.bit_room
+room_for_results v c j passes count reserved places more h opened few =
     let k : ℕ = v.passes - passes in
     let spread : c.regions.cap * (k + passes_open c.phase) ≡ c.regions.cap * k + c.regions.cap = ap (λ n. c.regions.cap * (k + n)) opened ∙ omega arith in
     let r : length j.value.bits + (c.regions.cap * k + c.regions.cap) ≤ j.bit_room = subst (λ x. length j.value.bits + x ≤ j.bit_room) spread h.results in

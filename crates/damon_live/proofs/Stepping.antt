@@ -1,22 +1,15 @@
 -- One clear more, and one load more.
-use Rattle.std.proofs.Common.{◌≡◌, ℕ, zero, suc, ◌+◌, ◌*◌, ◌%◌, ◌<◌, cond, Bool, true, false, List, [], ◌∷◌, ◌++◌, Some, length, take, refl, sym, ap, ◌∙◌, subst, append_assoc, length-append, arith}
-use Rattle.std.specs.Prelude.{◌==◌, if◌then◌else◌, map, slice_get}
+use Rattle.std.proofs.Common.{◌≡◌, ℕ, zero, suc, ◌+◌, ◌*◌, ◌%◌, ◌<◌, cond, Bool, true, false, List, [], ◌∷◌, ◌++◌, Some, length, set, take, refl, sym, ap, ◌∙◌, subst, append_assoc, arith}
+use Rattle.std.specs.Prelude.{◌==◌, if◌then◌else◌, slice_get, slice_index}
 use Rattle.std.specs.List.{AllByRecursion, flat_map}
 use Rattle.std.proofs.lemmas.Bool.Decides.{nat_tests}
-use Rattle.std.proofs.lemmas.List.{append-nil, length-set, length-take, take_more_set}
+use Rattle.std.proofs.lemmas.List.{append-nil, length-take, take_more_set}
 use mathlib.Core.List.{map-append}
-use Rattle.live_commit.specs.declared.phase.Phase.TheVariants.{Armed, Checking}
 use Rattle.page_words.specs.declared.view.Entry.{Entry as Step}
 use Rattle.page_words.specs.declared.view.Entry.TheVariants.{Clear, Load}
 use Rattle.page_words.specs.Clears.{clear_of, clear_passes_of, last_clear_of, last_of, pass_of}
 use Rattle.page_words.specs.Seats.{MonitorSeatView}
-use Rattle.damon_core.specs.Event.{load, IsLoading, IsObserving, load_index}
-use Rattle.damon_core.specs.Makes.{Makes, Makes-append}
-use Rattle.damon_core.specs.Pass.{IsInPass}
-use Rattle.damon_core.specs.State.{Core}
-use Rattle.damon_core.specs.Stands.{MonitorView, Stands}
 use Rattle.damon_journal.specs.Steps.{clear_steps, load_steps}
-use Rattle.damon_live.specs.Passes.{AreLoaded, IsLoaded, phase_loaded}
 
 -- ---- lists
 
@@ -29,6 +22,11 @@ pub all_at : (P : ℕ → Type 0) (xs : List ℕ) (k x : ℕ) → AllByRecursion
 all_at P [] k x all here = absurd (cc here)
 all_at P (y ∷ ys) zero x all here = let e : y ≡ x = cc here in subst P e all.0
 all_at P (y ∷ ys) (suc k) x all here = all_at P ys k x all.1 here
+
+pub index_here : (xs : List ℕ) (k x : ℕ) → slice_get xs k ≡ Some x → slice_index xs k ≡ x
+index_here [] k x here = absurd (cc here)
+index_here (y ∷ ys) zero x here = cc here
+index_here (y ∷ ys) (suc k) x here = index_here ys k x here
 
 -- one item more
 pub take_next : {A : Type 0} (xs : List A) (k : ℕ) (x : A) → slice_get xs k ≡ Some x → take (k + 1) xs ≡ take k xs ++ x ∷ []
@@ -96,23 +94,8 @@ all_cleared n es (p ∷ ps) =
 
 -- ---- loads
 
-pub loading_phase : (k rows : ℕ) → k < rows → IsLoading (phase_loaded k) rows
-loading_phase zero rows below = tt
-loading_phase (suc k) rows below = below
-
-pub in_pass : (k : ℕ) → IsInPass (phase_loaded k)
-in_pass zero = tt
-in_pass (suc k) = tt
-
-pub index_loaded : (k : ℕ) → load_index (phase_loaded k) ≡ k
-index_loaded zero = refl
-index_loaded (suc k) = refl
-
-next_phase : (k : ℕ) → Checking (k + 1) ≡ phase_loaded (k + 1)
-next_phase k = let e : k + 1 ≡ suc k = omega arith in ap (λ n. Checking n) e ∙ sym (ap phase_loaded e)
-
 -- a word by the pass that it names and its lowest bit
-pub word_is : (word pass : ℕ) (odd : Bool) → pass_of word ≡ pass → odd ≡ (word % 2 == 1) → word ≡ 2 * pass + cond odd 1 0
+word_is : (word pass : ℕ) (odd : Bool) → pass_of word ≡ pass → odd ≡ (word % 2 == 1) → word ≡ 2 * pass + cond odd 1 0
 word_is word pass true names odd = let one : word % 2 ≡ 1 = grind (arith, nat_tests) in omega (arith, names, one)
 word_is word pass false names odd = let none : (word % 2 ≡ 1) → ⊥ = grind (arith, nat_tests) in let low : word % 2 ≡ 0 = omega (arith, none) in omega (arith, names, low)
 
@@ -122,44 +105,25 @@ load_steps-next n [] (c ∷ bs) p b same = absurd (omega (arith, same))
 load_steps-next n (q ∷ ps) [] p b same = absurd (omega (arith, same))
 load_steps-next n (q ∷ ps) (c ∷ bs) p b same = ap (λ l. Load q (2 * n + cond c 1 0) ∷ l) (load_steps-next n ps bs p b (omega (arith, same)))
 
-pub none_loaded : (seat : MonitorSeatView) (m : MonitorView) → m.core.phase ≡ Armed → AreLoaded 0 seat seat m m
-none_loaded seat m armed = record {
-  results = [];
-  count = refl;
-  seat = ap (λ es. record seat { entries = es }) (sym (append-nil seat.entries));
-  last = refl;
-  core = ap (λ ph. record m.core { phase = ph }) armed;
-  taken = refl;
-  each = refl;
-  events = λ s reached stands. (tt, stands);
-}
+-- the first k picks were loaded, each of which was cleared in this pass last
+abbrev pub HasLoaded : MonitorSeatView → MonitorSeatView → List ℕ → List Bool → ℕ → Type 0
+HasLoaded old new picks hits k = (pass : ℕ) → AllByRecursion (λ p. last_clear_of p old.entries ≡ pass) picks → new ≡ record old { entries = old.entries ++ load_steps pass (take k picks) (take k hits) }
 
-pub one_more_loaded : (k : ℕ) (old mid new : MonitorSeatView) (before m now : MonitorView) → k < length before.core.picks → k < length before.bits → AreLoaded k old mid before m → IsLoaded k mid new m now → AreLoaded (k + 1) old new before now
-one_more_loaded k old mid new before m now below here a i =
-    let n : ℕ = before.core.ticks + 1 in
-    let picks = before.core.picks in
-    let pick : slice_get picks k ≡ Some i.page = ap (λ (c : Core). slice_get c.picks k) (sym a.core) ∙ i.pick in
-    let each : length a.results ≡ length (take k picks) = a.count ∙ omega (arith, below, length-take k picks) in
-    let step : Step = Load i.page (2 * n + cond i.result 1 0) in
-    let word : Load i.page (2 * (m.core.ticks + 1) + cond i.result 1 0) ≡ step = ap (λ (c : Core). Load i.page (2 * (c.ticks + 1) + cond i.result 1 0)) a.core in
-    let more : load_steps n (take (k + 1) picks) (a.results ++ i.result ∷ []) ≡ load_steps n (take k picks) a.results ++ step ∷ [] = ap (λ ps. load_steps n ps (a.results ++ i.result ∷ [])) (take_next picks k i.page pick) ∙ load_steps-next n (take k picks) a.results i.page i.result each in
-    record {
-      results = a.results ++ i.result ∷ [];
-      count = omega (arith, length-append a.results (i.result ∷ []), a.count);
-      seat =
-          i.seat
-          ∙ (ap (λ w. record mid { entries = mid.entries ++ w ∷ [] }) word
-          ∙ (ap (λ (s : MonitorSeatView). record s { entries = s.entries ++ step ∷ [] }) a.seat
-          ∙ (ap (λ es. record old { entries = es }) (append_assoc old.entries (load_steps n (take k picks) a.results) (step ∷ []))
-          ∙ ap (λ es. record old { entries = old.entries ++ es }) (sym more))));
-      last = i.last ∙ a.last;
-      core = i.core ∙ (ap (λ (c : Core). record c { phase = Checking (k + 1) }) a.core ∙ ap (λ ph. record before.core { phase = ph }) (next_phase k));
-      taken = ap (take (k + 1)) i.bits ∙ (take_more_set m.bits k i.result (omega (arith, here, a.each)) ∙ ap (λ l. l ++ i.result ∷ []) a.taken);
-      each = ap length i.bits ∙ (length-set m.bits k i.result ∙ a.each);
-      events = subst (Makes Stands before now) (sym (map-append (λ result. load result) a.results (i.result ∷ []))) (Makes-append Stands before m now (map (λ result. load result) a.results) (load i.result ∷ []) a.events i.event);
-    }
-
--- once all are loaded the pass may be observed
-pub all_observed : (n : ℕ) → 0 < n → IsObserving (phase_loaded n) n
-all_observed zero some = absurd (omega (arith, some))
-all_observed (suc n) some = refl
+pub one_more_loaded : (old mid new : MonitorSeatView) (picks : List ℕ) (hits : List Bool) (k page word : ℕ) → k < length picks → length hits ≡ length picks → slice_get picks k ≡ Some page → pass_of word ≡ last_clear_of page mid.entries → new ≡ record mid { entries = mid.entries ++ Load page word ∷ [] } → HasLoaded old mid picks hits k → HasLoaded old new picks (set hits k (word % 2 == 1)) (k + 1)
+one_more_loaded old mid new picks hits k page word below each here names is so_far = λ pass cleared.
+    let odd : Bool = word % 2 == 1 in
+    let was = so_far pass cleared in
+    let ps = take k picks in
+    let bs = take k hits in
+    let last : last_clear_of page mid.entries ≡ pass = ap (λ (s : MonitorSeatView). last_clear_of page s.entries) was ∙ (last_clear-loads page pass old.entries ps bs ∙ all_at (λ p. last_clear_of p old.entries ≡ pass) picks k page cleared here) in
+    let step : Step = Load page (2 * pass + cond odd 1 0) in
+    let same : length bs ≡ length ps = omega (arith, each, below, length-take k picks, length-take k hits) in
+    let more : load_steps pass (take (k + 1) picks) (take (k + 1) (set hits k odd)) ≡ load_steps pass ps bs ++ step ∷ [] =
+    ap (λ l. load_steps pass l (take (k + 1) (set hits k odd))) (take_next picks k page here)
+    ∙ (ap (λ l. load_steps pass (ps ++ page ∷ []) l) (take_more_set hits k odd (omega (arith, below, each)))
+    ∙ load_steps-next pass ps bs page odd same) in
+    is
+    ∙ (ap (λ w. record mid { entries = mid.entries ++ Load page w ∷ [] }) (word_is word pass odd (names ∙ last) refl)
+    ∙ (ap (λ (s : MonitorSeatView). record s { entries = s.entries ++ step ∷ [] }) was
+    ∙ (ap (λ es. record old { entries = es }) (append_assoc old.entries (load_steps pass ps bs) (step ∷ []))
+    ∙ ap (λ es. record old { entries = old.entries ++ es }) (sym more))))

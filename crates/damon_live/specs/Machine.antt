@@ -84,8 +84,8 @@ abbrev pub calls_left : LiveValue → List Entry → ℕ
 calls_left v es = count_all v.controllers - sum_by call_in es
 
 -- The passes and the room that are left: three entries and `cap` results for each pass that is not begun, and what the pass
--- that is begun still takes.
-pub record HasRoom (v : LiveValue) (c : Core) (j : JournalView) (passes count reserved : ℕ) : Type 0 where
+-- that is begun still takes. The random words of an aggregation and the results of a pass have their places.
+pub record HasRoom (v : LiveValue) (c : Core) (j : JournalView) (passes count reserved places : ℕ) : Type 0 where
   pub made : passes_made j.value ≡ passes
   pub passes_are : c.ticks + passes_open c.phase ≡ passes
   pub most : passes ≤ v.passes
@@ -94,15 +94,16 @@ pub record HasRoom (v : LiveValue) (c : Core) (j : JournalView) (passes count re
   pub results : length j.value.bits + c.regions.cap * (v.passes - passes + passes_open c.phase) ≤ j.bit_room
   pub drawn : count + words_owed c.phase ≤ 2 ^ 34 * passes
   pub words : 2 * c.regions.cap ≤ reserved
+  pub hits : c.regions.cap ≤ places
 
 -- all that a machine keeps
-pub record IsMachine (v : LiveValue) (table : TableId) (seats : ℕ) (script : LiveScript) (m : MonitorView) (seat : MonitorSeatView) (j : JournalView) (g : Lcg) (count passes reserved : ℕ) : Type 0 where
+pub record IsMachine (v : LiveValue) (table : TableId) (seats : ℕ) (script : LiveScript) (m : MonitorView) (seat : MonitorSeatView) (j : JournalView) (g : Lcg) (count passes reserved places : ℕ) : Type 0 where
   pub said : live_said script ≡ v
   pub limits : KeepsLimits v
   pub pages : table.words ≡ pages_of v.setup.space
   pub out : seat.out ≡ seats
   pub run : IsRun v table m seat j.value j.checked g count
-  pub room : HasRoom v m.core j passes count reserved
+  pub room : HasRoom v m.core j passes count reserved places
 
 -- a journal with one more entry
 abbrev pub with_one : Entry → JournalValue → JournalValue

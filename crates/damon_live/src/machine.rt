@@ -43,11 +43,13 @@ pub struct Machine<'a, N: Named> {
     passes: u32,
     // The random words of an aggregation; the room for them is taken once.
     buffer: Vec<u32>,
+    // Places for the results of a pass, one for each row that there may be.
+    places: Vec<bool>,
     of: PhantomData<N>,
 }
 
 impl<'a, N: Named> Model for Machine<'a, N> {
-    ghost use Rattle.std.specs.Prelude.{vec_capacity};
+    ghost use Rattle.std.specs.Prelude.{length, vec_capacity};
     ghost use Rattle.damon_journal.specs.Replay.{JournalValue};
     ghost use Rattle.damon_live.specs.Machine.{IsMachine};
 
@@ -56,7 +58,7 @@ impl<'a, N: Named> Model for Machine<'a, N> {
     ghost view = { λ m. m.journal.value };
 
     ghost invariant = { λ m. IsMachine N.script N.table N.seats m.script.now m.monitor m.seat
-        m.journal m.words m.drawn m.passes (vec_capacity m.buffer) };
+        m.journal m.words m.drawn m.passes (vec_capacity m.buffer) (length m.places.items) };
 }
 
 impl<'a, N: Named> Machine<'a, N> {
@@ -78,6 +80,7 @@ impl<'a, N: Named> Machine<'a, N> {
         let monitor = Monitor::new(alloc, &script.setup)?;
         let journal = Journal::new(alloc, script.passes, script.setup.cap, MAX_CALLS)?;
         let buffer = Vec::with_capacity(alloc, 2 * script.setup.cap as usize)?;
+        let places = vec![in alloc; false; script.setup.cap as usize]?;
         let words = generator(script.seed);
         Ok(Machine {
             script,
@@ -88,6 +91,7 @@ impl<'a, N: Named> Machine<'a, N> {
             drawn: 0,
             passes: 0,
             buffer,
+            places,
             of: PhantomData,
         })
     }
@@ -156,10 +160,10 @@ impl<'a, N: Named> Machine<'a, N> {
         ensures made { passes_made self.new ≡ passes_made self.old }
     {
         journals_grow();
-        // For their clauses alone: each row has a pick with a result, and there are at most `cap` rows.
-        let (_picks, _rows) = (self.monitor.picks().len(), self.monitor.rows().len());
+        // For its clauses alone: there are at most `cap` rows.
+        let _rows = self.monitor.rows().len();
         let pass = self.monitor.ticks() + 1;
-        load_all(words, &mut self.seat, &mut self.monitor);
+        load_all(words, &mut self.seat, &mut self.monitor, &mut self.places);
         self.journal.check(pass, self.monitor.picks());
         self.monitor.observe();
     }
@@ -244,6 +248,7 @@ impl<'a, N: Named> Machine<'a, N> {
             drawn: _,
             passes: _,
             buffer: _,
+            places: _,
             of: _,
         } = self;
         KeptParts {

@@ -8,8 +8,8 @@ use Rattle.std.proofs.lemmas.List.FromFn.{fill_by_all, get_or-map-range_with_len
 use Rattle.std.proofs.lemmas.List.Sums.{sum_by-cons}
 use Rattle.std.proofs.lemmas.Nat.Bits.{bit_at-zero}
 use Rattle.page_bits.specs.Bits.{bit_in, is_set}
-use Rattle.page_bits.specs.Runs.{count_pages, differs, in_run}
-use Rattle.page_bits.specs.Sets.{bits_of, each_page, with_run}
+use Rattle.page_bits.specs.Runs.{bit_after, count_pages, differs, in_run}
+use Rattle.page_bits.specs.Sets.{bits_of, each_page, with_each, with_run}
 use Rattle.page_bits.proofs.Counting.{count_same}
 
 -- a page of a set of which each is told
@@ -22,6 +22,10 @@ length_pages n f = length-map-range_with_len f 0 n
 -- a page of a set has a bit
 pub has_bit : (n page : ℕ) (words : List ℕ) (xs : List Bool) → bits_of n words ≡ xs → page < length xs → page < n
 has_bit n page words xs is below = omega (arith, below, ap length is, length_pages n (bit_in words))
+
+-- and so have those of a run
+pub have_bits : (n start pages : ℕ) (words : List ℕ) (xs : List Bool) → bits_of n words ≡ xs → start + pages ≤ length xs → start + pages ≤ n
+have_bits n start pages words xs is within = omega (arith, within, ap length is, length_pages n (bit_in words))
 
 -- a set by what it says of each page
 each_page_is : (f : ℕ → Bool) (xs : List Bool) (n : ℕ) → length xs ≡ n → ((p : ℕ) → p < n → slice_index_or xs p false ≡ f p) → xs ≡ each_page n f
@@ -72,6 +76,13 @@ one_is_put n page old new now here bits =
           let kept : slice_index_or (set xs page now) p false ≡ slice_index_or xs p false = rw get_or-set_other refl in
           kept ∙ (at_page n (bit_in old) p below ∙ sym (bits p ∙ ap (λ b. if b then now else bit_in old p) test))
     ]))
+
+-- the set once its bits from a page on are these
+pub each_is : (n start : ℕ) (bits : List Bool) (old new : List ℕ) → ((p : ℕ) → bit_in new p ≡ bit_after start bits p (bit_in old p)) → bits_of n new ≡ with_each start bits (bits_of n old)
+each_is n start bits old new each =
+    let g : ℕ → Bool = λ p. bit_after start bits p (slice_index_or (bits_of n old) p false) in
+    each_page_same n (bit_in new) g (λ p below. each p ∙ ap (λ b. bit_after start bits p b) (sym (at_page n (bit_in old) p below)))
+    ∙ ap (λ k. each_page k g) (sym (length_pages n (bit_in old)))
 
 -- What the bits of a run say of the set.
 module _ (n start pages : ℕ) (old new : List ℕ) (now : Bool) where

@@ -1,5 +1,5 @@
 -- Runs of pages, and runs of bits that are set or cleared.
-use Rattle.std.specs.Prelude.{◌≡◌, ℕ, ◌+◌, ◌≤◌, Bool, not, ◌&&◌, nat_le, nat_lt, List, length, count_by, if◌then◌else◌}
+use Rattle.std.specs.Prelude.{◌≡◌, ℕ, ◌+◌, ◌-◌, ◌≤◌, Bool, false, not, ◌&&◌, nat_le, nat_lt, List, length, count_by, slice_index_or, if◌then◌else◌}
 use Rattle.std.specs.List.{range_with_len}
 use Rattle.page_bits.specs.Bits.{bit_in}
 
@@ -20,3 +20,7 @@ pub record IsRunPut (old new : List ℕ) (start pages : ℕ) (now : Bool) (chang
   pub len : length new ≡ length old
   pub bits : (p : ℕ) → bit_in new p ≡ (if in_run start pages p then now else bit_in old p)
   pub count : (n : ℕ) → start + pages ≤ n → changed ≡ count_pages n (λ p. in_run start pages p && differs now (bit_in old p))
+
+-- the bit of a page that was `old`, once the pages from `start` on have these bits, in order
+abbrev pub bit_after : ℕ → List Bool → ℕ → Bool → Bool
+bit_after start bits page old = if in_run start (length bits) page then slice_index_or bits (page - start) false else old

@@ -1,8 +1,8 @@
-ghost use Rattle.std.specs.Prelude.{◌≡◌, ◌+◌, ◌^◌, ◌≤◌, ◌<◌, ◌&&◌, [], false, length, replicate, count_by, slice_index_or, slice_set, IfOk};
+ghost use Rattle.std.specs.Prelude.{◌≡◌, ◌+◌, ◌^◌, ◌≤◌, ◌<◌, ◌&&◌, [], drop, false, length, replicate, take, count_by, slice_index_or, slice_set, IfOk};
 ghost use Rattle.page_bits.specs.Runs.{count_pages, differs, in_run};
-ghost use Rattle.page_bits.specs.Sets.{with_run};
+ghost use Rattle.page_bits.specs.Sets.{with_each, with_run};
 
-use crate::{WORD, clear_bit, is_bit_set, put_bits_of_run, set_bit};
+use crate::{WORD, clear_bit, get_each_bit, is_bit_set, put_bits_of_run, put_each_bit, set_bit};
 use std::alloc::{AllocError, Global};
 use std::marker::Model;
 
@@ -98,5 +98,23 @@ impl BitSet {
         ensures few { count_by (λ has. has) self.new < 2 ^ 32 }
     {
         put_bits_of_run(&mut self.words, start, count, now)
+    }
+
+    /// Tells of the numbers from `start` on whether the set has each.
+    pub fn get_each(&self, start: u32, bits: &mut [bool])
+        requires { start + length bits.old ≤ length self.now }
+        ensures { bits.new ≡ take (length bits.old) (drop start self.now) }
+    {
+        // For its clause alone: the numbers are fewer than 2^32.
+        let _len = self.len();
+        get_each_bit(&self.words, start, bits);
+    }
+
+    /// Puts the numbers from `start` on into the set, or takes them out of it, as these bits say, in order.
+    pub fn put_each(&mut self, start: u32, bits: &[bool])
+        requires { start + length bits.now ≤ length self.old }
+        ensures { self.new ≡ with_each start bits.now self.old }
+    {
+        put_each_bit(&mut self.words, start, bits);
     }
 }

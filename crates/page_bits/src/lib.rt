@@ -3,6 +3,8 @@
 
 /// One page's bit: whether it is 1, and setting and clearing it.
 mod bit;
+/// Bits for pages that lie next to each other, one for each.
+mod each;
 /// The word that was changed last.
 mod last_word;
 /// The bits of a word that lie next to each other.
@@ -14,6 +16,7 @@ mod run;
 
 pub use bit::{clear_bit, is_bit_set, set_bit};
 pub use bit_set::BitSet;
+pub use each::{get_each_bit, put_each_bit};
 pub use last_word::LastWord;
 pub use mask::ones_between;
 pub use run::put_bits_of_run;

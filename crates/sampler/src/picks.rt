@@ -89,8 +89,8 @@ impl Picks {
         self.bits[k as usize]
     }
 
-    // Whether the check of each pick was a hit.
-    pub(crate) fn bits(&self) -> &[bool]
+    /// Whether the check of each pick was a hit, in their order.
+    pub fn bits(&self) -> &[bool]
         ensures { result.now ≡ self.now.bits }
     {
         &self.bits

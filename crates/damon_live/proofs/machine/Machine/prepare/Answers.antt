@@ -51,7 +51,7 @@ invariant_of-self g c =
       pages = i.pages;
       out = ap (λ (x : MonitorSeatView). x.out) c.clear_all.ensures.seat ∙ i.out;
       run = subst (λ ks. IsRun v table now c.clear_all.new.seat c.prepare.new.self.value ks c.prepare_from.new.source more) (sym kept) (prepared_run v table m now s.seat c.clear_all.new.seat s.journal.value c.prepare.new.self.value s.journal.checked s.words c.prepare_from.new.source s.drawn pass more c.journals_grow.ensures.other i.run prepared idle number sum (ap (λ (j : JournalView). j.value) c.prepare.ensures));
-      room = prepared_room v m now mid s.journal c.prepare.new.self (drawn (row_count m.core) (words_from s.words)) s.passes s.drawn _ more pass i.room idle left c.prepare_from.ensures.core clear (omega (arith, count, c.len-rows.ensures.few, c.len-rows.ensures.most, c.len-rows.ensures.small)) sum c.prepare.ensures;
+      room = prepared_room v m now mid s.journal c.prepare.new.self (drawn (row_count m.core) (words_from s.words)) s.passes s.drawn _ _ more pass i.room idle left c.prepare_from.ensures.core clear (omega (arith, count, c.len-rows.ensures.few, c.len-rows.ensures.most, c.len-rows.ensures.small)) sum c.prepare.ensures;
     }
 
 pub returns-clause-armed : goal.returns-clause-armed
