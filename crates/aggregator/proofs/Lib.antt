@@ -1,2 +1,3 @@
-pub mod RowLemmas
+mod RowLemmas
+pub mod Lemmas
 mod Examples

@@ -1,5 +1,6 @@
 -- What aging and clearing make of the values of rows, and what stays.
-use Rattle.std.proofs.Common.{◌≡◌, ℕ, zero, suc, ◌+◌, ◌≤◌, ◌<◌, List, [], ◌∷◌, ◌++◌, length, map, take, drop, get_or, set, refl, ap, arith}
+use Rattle.std.proofs.Common.{◌≡◌, ℕ, zero, suc, ◌≤◌, ◌<◌, List, [], ◌∷◌, ◌++◌, length, map, take, drop, set, refl, ap, arith}
+use Rattle.std.proofs.lemmas.List.{length-map}
 use Rattle.std.specs.Prelude.{replicate, slice_index}
 use Rattle.std.specs.List.{AllByRecursion}
 use Rattle.damon_types.specs.declared.row.Row.{Row}
@@ -9,21 +10,27 @@ use Rattle.region_list.specs.Rows.{row_at}
 use Rattle.aggregator.specs.Aged.{aged, aged_row}
 use Rattle.aggregator.specs.Cleared.{cleared}
 
-pub spans-aged : (threshold : ℕ) (version : Version) (rows : List Row) → spans (aged threshold version rows) ≡ spans rows
-spans-aged threshold version [] = refl
-spans-aged threshold version (r ∷ rows) = ap (λ ss. span_of r ∷ ss) (spans-aged threshold version rows)
+pub spans_aged : (threshold : ℕ) (version : Version) (rows : List Row) → spans (aged threshold version rows) ≡ spans rows
+spans_aged threshold version [] = refl
+spans_aged threshold version (r ∷ rows) = ap (λ ss. span_of r ∷ ss) (spans_aged threshold version rows)
 
-pub spans-cleared : (rows : List Row) → spans (cleared rows) ≡ spans rows
-spans-cleared [] = refl
-spans-cleared (r ∷ rows) = ap (λ ss. span_of r ∷ ss) (spans-cleared rows)
+pub spans_cleared : (rows : List Row) → spans (cleared rows) ≡ spans rows
+spans_cleared [] = refl
+spans_cleared (r ∷ rows) = ap (λ ss. span_of r ∷ ss) (spans_cleared rows)
 
-pub counts-aged : (threshold most : ℕ) (version : Version) (rows : List Row) → AllByRecursion (λ r. r.count ≤ most) rows → AllByRecursion (λ r. r.count ≤ most) (aged threshold version rows)
-counts-aged threshold most version [] few = few
-counts-aged threshold most version (r ∷ rows) few = (few.0, counts-aged threshold most version rows few.1)
+pub length_aged : (threshold : ℕ) (version : Version) (rows : List Row) → length (aged threshold version rows) ≡ length rows
+length_aged threshold version rows = length-map rows (aged_row threshold version)
 
-pub counts-cleared : (rows : List Row) → AllByRecursion (λ r. r.count ≤ 0) (cleared rows)
-counts-cleared [] = tt
-counts-cleared (r ∷ rows) = (omega arith, counts-cleared rows)
+pub counts_aged : (threshold most : ℕ) (version : Version) (rows : List Row) → AllByRecursion (λ r. r.count ≤ most) rows → AllByRecursion (λ r. r.count ≤ most) (aged threshold version rows)
+counts_aged threshold most version [] few = few
+counts_aged threshold most version (r ∷ rows) few = (few.0, counts_aged threshold most version rows few.1)
+
+pub length_cleared : (rows : List Row) → length (cleared rows) ≡ length rows
+length_cleared rows = length-map rows (λ (r : Row). record r { last = r.count; count = 0 })
+
+pub counts_cleared : (rows : List Row) → AllByRecursion (λ r. r.count ≤ 0) (cleared rows)
+counts_cleared [] = tt
+counts_cleared (r ∷ rows) = (omega arith, counts_cleared rows)
 
 -- the counts of rows that are cleared
 pub cleared_counts : (rows : List Row) → map (λ r. r.count) (cleared rows) ≡ replicate (length rows) 0

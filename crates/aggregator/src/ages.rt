@@ -4,18 +4,16 @@ ghost use Rattle.damon_types.specs.declared.row.Row.{Row as row};
 ghost use Rattle.region_list.specs.Columns.{AreValues};
 ghost use Rattle.aggregator.specs.Aged.{aged, is_anew, is_turned as is_turned_count, max_age};
 
-use crate::aged_rows_are_kept;
 use damon_types::Version;
 use region_list::{Regions, ValuePass};
 
 /// Ages all rows by one aggregation. A row whose count and last count differ by more than the
 /// threshold (in passes) gets age 0, in version Two also a row of which exactly one of the two is 0.
 /// The age of any other row rises by one and stops at 4,294,967,295.
+#[tactic(auto, using(crate::proofs::RowLemmas::spans_aged))]
 pub fn age_all(regions: &mut Regions, threshold: u32, version: Version)
     ensures { regions.new ≡ record regions.old { rows = aged threshold version regions.old.rows } }
 {
-    // For its clauses alone: the pages of the rows stay.
-    aged_rows_are_kept();
     regions.revalue(&Aging { threshold, version });
 }
 

@@ -1,16 +1,14 @@
 ghost use Rattle.std.specs.Prelude.{◌≡◌};
 ghost use Rattle.aggregator.specs.Cleared.{cleared};
 
-use crate::cleared_rows_are_kept;
 use region_list::{Regions, ValuePass};
 
 /// Clears the counts at the end of an aggregation: the count of each row becomes its last count,
 /// and its count becomes 0.
+#[tactic(auto, using(crate::proofs::RowLemmas::spans_cleared))]
 pub fn clear_counts(regions: &mut Regions)
     ensures { regions.new ≡ record regions.old { rows = cleared regions.old.rows } }
 {
-    // For its clauses alone: the pages of the rows stay.
-    cleared_rows_are_kept();
     regions.revalue(&Clearing);
 }
 

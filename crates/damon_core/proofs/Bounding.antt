@@ -8,18 +8,18 @@ use Rattle.damon_core.proofs.Adapting.{merged_tiled}
 use Rattle.damon_core.proofs.Committing.{committed_notes_hold}
 use Rattle.damon_core.proofs.Keeping.{Keeps, any_result, reached_keeps, reached_by_hit_keeps, reached_of}
 use Rattle.damon_core.proofs.Opening.{opening_holds}
-use Rattle.damon_core.proofs.Rows.{HasRows, RowLaws, rows_kept, rows_of}
+use Rattle.damon_core.proofs.Rows.{HasRows, rows_kept, rows_of}
 use Rattle.damon_core.proofs.Hits.{HasHits, hits_kept}
 use Rattle.damon_core.proofs.Passes.{HasPasses, passes_kept}
-use Rattle.damon_core.proofs.Served.{RunLaws, runs_within}
+use Rattle.damon_core.proofs.Served.{runs_within}
 
 -- what is kept of the runs of schemes
 record HasRuns (s : State) : Type 0 where
   pub rows : HasRows s
   pub runs : EachRunIsWithin s.notes
 
-runs_kept : RowLaws → RunLaws → Keeps any_result HasRuns
-runs_kept laws within = let rows = rows_kept any_result laws in record {
+runs_kept : Keeps any_result HasRuns
+runs_kept = let rows = rows_kept any_result in record {
   opens = λ v can. record { rows = rows.opens v can; runs = opening_holds EachRunIsWithin tt (λ slot scheme notes runs. runs) v };
   touching = λ s p h. record { rows = rows.touching s p h.rows; runs = h.runs };
   preparing = λ s ws idle count h. record { rows = rows.preparing s ws idle count h.rows; runs = h.runs };
@@ -29,7 +29,7 @@ runs_kept laws within = let rows = rows_kept any_result laws in record {
   voiding = λ s is h. record { rows = rows.voiding s is h.rows; runs = h.runs };
   aggregating = λ s ws is h. record {
     rows = rows.aggregating s ws is h.rows;
-    runs = runs_within within slot_count 0 s.core.space s.core.attrs.aggr s.core.ticks (merged_regions s.core) s.notes (merged_tiled laws.adapt s.core h.rows.wide h.rows.order (rows_of s h.rows)) h.runs;
+    runs = runs_within slot_count 0 s.core.space s.core.attrs.aggr s.core.ticks (merged_regions s.core) s.notes (merged_tiled s.core h.rows.wide h.rows.order (rows_of s h.rows)) h.runs;
   };
   committing = λ s c ok h. record {
     rows = rows.committing s c ok h.rows;
@@ -38,9 +38,9 @@ runs_kept laws within = let rows = rows_kept any_result laws in record {
 }
 
 -- what is kept gives what is promised
-pub reached_bound : RowLaws → RunLaws → (s : State) → ReachedByHit s → Bound s
-reached_bound laws within s reached =
-    let passes = reached_keeps HasPasses (passes_kept any_result laws) s (reached_of s reached) in
-    let hits = reached_by_hit_keeps HasHits (hits_kept laws) s reached in
-    let runs = reached_keeps HasRuns (runs_kept laws within) s (reached_of s reached) in
+pub reached_bound : (s : State) → ReachedByHit s → Bound s
+reached_bound s reached =
+    let passes = reached_keeps HasPasses (passes_kept any_result) s (reached_of s reached) in
+    let hits = reached_by_hit_keeps HasHits hits_kept s reached in
+    let runs = reached_keeps HasRuns runs_kept s (reached_of s reached) in
     record { tiles = passes.rows.tiles; few = passes.rows.few; max = passes.rows.max; most = passes.rows.most; passes = passes.passes; hits = hits.rests; runs = runs.runs }

@@ -7,14 +7,12 @@ use Rattle.damon_types.specs.declared.scheme.CostPart.{CostPart}
 use Rattle.damon_types.specs.declared.scheme.Scheme.{Scheme}
 use Rattle.damon_types.specs.declared.scheme.SlotChange.{SlotChange}
 use Rattle.damon_types.specs.declared.scheme.TheConstants.{MAX_SLOT}
-use Rattle.damon_types.specs.declared.space.Target.{Target}
 use Rattle.live_commit.specs.declared.fault.CommitFault.{CommitFault}
 use Rattle.live_commit.specs.declared.phase.Phase.{Phase}
-use Rattle.live_commit.specs.declared.view.View.{View}
-use Rattle.live_commit.specs.Accepted.{AllowsCommit, IsAccepted}
-use Rattle.live_commit.specs.Accepts.{checked_commit}
+use Rattle.live_commit.specs.Accepted.{AllowsCommit}
 use Rattle.live_commit.specs.Commit.{CommitValue}
 use Rattle.scheme_engine.specs.Slots.{changed, empty_slot}
+use Rattle.live_commit.proofs.Lemmas.{commit_accepted}
 use Rattle.damon_core.specs.Note.{Note, was_hit, set, dropped}
 use Rattle.damon_core.specs.Totals.{checks_made, hits_made}
 use Rattle.damon_core.specs.State.{Core, State}
@@ -25,7 +23,7 @@ use Rattle.damon_core.specs.Makes.{Makes}
 use Rattle.damon_core.specs.Stands.{MonitorView, Stands, last_pass}
 use Rattle.damon_core.proofs.Committing.{allows_commit, by_phase_after, committed_notes_hold}
 use Rattle.damon_core.proofs.Shown.{after_asked}
-use Rattle.damon_core.proofs.SlotNotes.{DecidesInTurn, slot_counted_below, slots_of-cost, slots_of-dropped, slots_of-metric, slots_of-set}
+use Rattle.damon_core.proofs.SlotNotes.{slot_counted_below, slots_of-cost, slots_of-dropped, slots_of-metric, slots_of-set}
 use Rattle.damon_core.proofs.Tallying.{was_hit-commit}
 
 checks_made-commit : (c : CommitValue) (notes : List Note) → checks_made (committed_notes c notes) ≡ checks_made notes
@@ -41,11 +39,6 @@ last_pass-commit ph old new ticks allows = by_phase_after (λ p. last_pass ph ti
     number : {p : Phase} → ph ≡ p → last_pass ph ticks ≡ last_pass p ticks
     number is = ap (λ p. last_pass p ticks) is
 
--- what the laws of the crates below say of the slot of a commit that is accepted, and of a metric after others
-pub record SlotLaws : Type 0 where
-  pub accepted : (space : List Target) (v : View) (c : CommitValue) → checked_commit space v c ≡ Ok tt → IsAccepted space v c
-  pub in_turn : DecidesInTurn
-
 slots_scheme : (slot : ℕ) (scheme : Option Scheme) (notes : List Note) → slot < slot_count
     → put (slots_of notes) slot (changed scheme (get_or (slots_of notes) slot empty_slot)) ≡ slots_of (option_map_or (set slot) scheme (dropped slot) ∷ notes)
 slots_scheme slot None notes below = sym (slots_of-dropped slot notes below)
@@ -55,26 +48,26 @@ slots_slot : (change : Option SlotChange) (notes : List Note) → ((x : SlotChan
 slots_slot None notes within = refl
 slots_slot (Some x) notes within = slots_scheme x.slot x.scheme notes (slot_counted_below x.slot (within x refl))
 
-slots_metric : DecidesInTurn → (value : Option ℕ) (notes : List Note) → slots_metered value (slots_of notes) ≡ slots_of (with_metric value notes)
-slots_metric law None notes = refl
-slots_metric law (Some value) notes = sym (slots_of-metric law value notes)
+slots_metric : (value : Option ℕ) (notes : List Note) → slots_metered value (slots_of notes) ≡ slots_of (with_metric value notes)
+slots_metric None notes = refl
+slots_metric (Some value) notes = sym (slots_of-metric value notes)
 
 slots_cost : (part : Option CostPart) (notes : List Note) → ((x : CostPart) → part ≡ Some x → x.slot ≤ MAX_SLOT) → slots_costed part (slots_of notes) ≡ slots_of (with_cost part notes)
 slots_cost None notes within = refl
 slots_cost (Some x) notes within = sym (slots_of-cost x.slot x.nanos notes (slot_counted_below x.slot (within x refl)))
 
 -- the slots after a commit that is accepted are those that its notes tell of
-slots_committed : SlotLaws → (c : CommitValue) (core : Core) (notes : List Note) → check_of c core ≡ Ok tt → committed_slots c (slots_of notes) ≡ slots_of (committed_notes c notes)
-slots_committed laws c core notes ok =
-    let is = laws.accepted core.space (view_of core) c ok in
+slots_committed : (c : CommitValue) (core : Core) (notes : List Note) → check_of c core ≡ Ok tt → committed_slots c (slots_of notes) ≡ slots_of (committed_notes c notes)
+slots_committed c core notes ok =
+    let is = commit_accepted core.space (view_of core) c ok in
     ap (λ ss. slots_costed c.cost (slots_metered c.metric ss)) (slots_slot c.slot notes is.slot)
-    ∙ ap (slots_costed c.cost) (slots_metric laws.in_turn c.metric (with_slot c.slot notes))
+    ∙ ap (slots_costed c.cost) (slots_metric c.metric (with_slot c.slot notes))
     ∙ slots_cost c.cost (with_metric c.metric (with_slot c.slot notes)) (λ part some. (is.cost part some).1)
 
 -- what the check of the commit leaves
-pub stands_after : SlotLaws → (checked : Result (Unit {0}) CommitFault) (m : MonitorView) (s : State) (c : CommitValue) → check_of c s.core ≡ checked → Stands m s
+pub stands_after : (checked : Result (Unit {0}) CommitFault) (m : MonitorView) (s : State) (c : CommitValue) → check_of c s.core ≡ checked → Stands m s
     → Stands (record m { core = if_accepted checked (committed_core c s.core) s.core; slots = if_accepted checked (committed_slots c m.slots) m.slots }) (if_accepted checked (committed c s) s)
-stands_after laws (Ok t) m s c ok stands =
+stands_after (Ok t) m s c ok stands =
     let new = (committed_core c s.core).regions.rows in
     let number = last_pass-commit s.core.phase s.core.regions.rows new s.core.ticks (allows_commit c s.core ok) in
     record {
@@ -87,9 +80,9 @@ stands_after laws (Ok t) m s c ok stands =
           ∙ sym (was_hit-commit c s.notes (last_pass (phase_after_commit s.core.phase s.core.regions.rows new) s.core.ticks) k);
       checks = stands.checks ∙ sym (checks_made-commit c s.notes);
       hits = stands.hits ∙ sym (hits_made-commit c s.notes);
-      slots = ap (committed_slots c) stands.slots ∙ slots_committed laws c s.core s.notes ok;
+      slots = ap (committed_slots c) stands.slots ∙ slots_committed c s.core s.notes ok;
     }
-stands_after laws (Err fault) m s c ok stands = record {
+stands_after (Err fault) m s c ok stands = record {
   same = refl;
   each = stands.each ∙ ap (λ (x : Core). length x.picks) stands.same;
   results = λ k. stands.results k ∙ ap (λ (x : Core). was_hit s.notes (last_pass x.phase x.ticks) k) stands.same;
@@ -99,7 +92,7 @@ stands_after laws (Err fault) m s c ok stands = record {
 }
 
 -- a commit is an event, accepted or not
-pub commit_makes : SlotLaws → (m : MonitorView) (c : CommitValue) → Makes Stands m (after_asked c m) (commit c ∷ [])
-commit_makes laws m c s reached stands =
+pub commit_makes : (m : MonitorView) (c : CommitValue) → Makes Stands m (after_asked c m) (commit c ∷ [])
+commit_makes m c s reached stands =
     let is : record m { core = core_after_commit c s.core; slots = slots_after_commit c s.core m.slots } ≡ after_asked c m = ap (λ (x : Core). record m { core = core_after_commit c x; slots = slots_after_commit c x m.slots }) (sym stands.same) in
-    ((tt, tt), rw (← is) (stands_after laws (check_of c s.core) m s c refl stands))
+    ((tt, tt), rw (← is) (stands_after (check_of c s.core) m s c refl stands))

@@ -21,40 +21,27 @@ use Rattle.damon_types.specs.Attrs.{IsAttrs}
 use Rattle.damon_types.specs.Ranges.{InOrder}
 use Rattle.damon_types.specs.Space.{IsSpace}
 use Rattle.damon_types.specs.Span.{Span, span_of, spans}
-use Rattle.target_ranges.specs.Laws.{MakesEach, MakesInOrder, MakesWide}
 use Rattle.target_ranges.specs.Made.{ranges_of}
 use Rattle.region_list.specs.Regions.{RegionList}
 use Rattle.region_list.specs.Same.{same_spans}
-use Rattle.region_list.specs.Shrink.{shrunk}
 use Rattle.region_list.specs.Tiling.{Tiling}
-use Rattle.range_update.specs.Updated.{updated}
 use Rattle.sampler.specs.Pick.{PickList}
 use Rattle.live_commit.specs.declared.fault.CommitFault.{CommitFault}
 use Rattle.live_commit.specs.declared.phase.Phase.{Phase}
 use Rattle.live_commit.specs.declared.phase.Phase.TheVariants.{Idle, Clearing, Armed, Checking, Void, Due}
-use Rattle.live_commit.specs.declared.view.View.{View}
-use Rattle.live_commit.specs.Accepted.{AllowsCommit, IsAccepted}
-use Rattle.live_commit.specs.Accepts.{checked_commit, checked_phase, max_after}
+use Rattle.live_commit.specs.Accepted.{AllowsCommit}
+use Rattle.live_commit.specs.Accepts.{checked_phase, max_after}
 use Rattle.live_commit.specs.Commit.{CommitValue}
+use Rattle.live_commit.proofs.Lemmas.{commit_accepted}
+use Rattle.range_update.proofs.Lemmas.{counts_updated, length_updated, some_updated, tiling_updated}
+use Rattle.region_list.proofs.Lemmas.{counts_shrunk, length_shrunk, some_shrunk, tiling_shrunk}
+use Rattle.target_ranges.proofs.Lemmas.{made_each, made_in_order, made_wide}
 use Rattle.damon_core.specs.Note.{Note, set, dropped, metric, cost}
 use Rattle.damon_core.specs.State.{Core}
 use Rattle.damon_core.specs.Kept.{CanCommit, CountsHits, HasPicks, IsSampling, SinceFew, loaded_so_far}
 use Rattle.damon_core.specs.Pass.{IsPickWithin}
 use Rattle.damon_core.specs.Commit.{check_of, view_of, committed_notes, phase_after_commit, regions_after, with_cost, with_metric, with_slot}
 use Rattle.damon_core.proofs.RowFacts.{tiling_of_pages}
-
--- what the laws of the crates below say of commits, and of the rows after them
-pub record CommitLaws : Type 0 where
-  pub accepted : (space : List Target) (v : View) (c : CommitValue) → checked_commit space v c ≡ Ok tt → IsAccepted space v c
-  pub ranges_order : MakesInOrder
-  pub ranges_each : MakesEach
-  pub ranges_wide : MakesWide
-  pub shrunk_few : (to : ℕ) (gs : List Range) (rows : List Row) → InOrder gs → Tiling 1 gs (spans rows) → length gs ≤ to → length (shrunk gs to rows) ≤ to
-  pub shrunk_tiling : (unit to : ℕ) (gs : List Range) (rows : List Row) → InOrder gs → Tiling 1 gs (spans rows) → length gs ≤ to → Tiling unit gs (spans rows) → Tiling unit gs (spans (shrunk gs to rows))
-  pub shrunk_some : (to : ℕ) (gs : List Range) (rows : List Row) → 0 < length rows → 0 < length (shrunk gs to rows)
-  pub updated_tiling : (unit most : ℕ) (rows : List Row) (gs : List Range) → 1 ≤ unit → InOrder gs → length gs ≤ most → AllByRecursion (λ g. unit ≤ g.pages) gs → Tiling unit gs (spans (updated unit most rows gs))
-  pub updated_few : (unit most : ℕ) (rows : List Row) (gs : List Range) → 1 ≤ unit → InOrder gs → length gs ≤ most → AllByRecursion (λ g. unit ≤ g.pages) gs → length (updated unit most rows gs) ≤ most
-  pub updated_some : (unit most : ℕ) (rows : List Row) (gs : List Range) → 1 ≤ unit → InOrder gs → length gs ≤ most → AllByRecursion (λ g. unit ≤ g.pages) gs → 0 < length gs → 0 < length (updated unit most rows gs)
 
 -- a fact of the notes before a commit that the notes of a commit keep
 pub committed_notes_hold : (P : List Note → Type 0)
@@ -145,9 +132,9 @@ pub record CommitFacts (c : Core) (v : CommitValue) : Type 0 where
   pub attrs : IsAttrs (unwrap_or v.attrs c.attrs)
   pub can : CanCommit c.space c.regions v.ranges (unwrap_or v.attrs c.attrs).max
 
-pub commit_facts : ((space : List Target) (w : View) (v : CommitValue) → checked_commit space w v ≡ Ok tt → IsAccepted space w v) → (c : Core) (v : CommitValue) → check_of v c ≡ Ok tt → IsAttrs c.attrs → c.attrs.max ≤ c.regions.cap → CommitFacts c v
-commit_facts law c v ok sound most =
-    let is = law c.space (view_of c) v ok in
+pub commit_facts : (c : Core) (v : CommitValue) → check_of v c ≡ Ok tt → IsAttrs c.attrs → c.attrs.max ≤ c.regions.cap → CommitFacts c v
+commit_facts c v ok sound most =
+    let is = commit_accepted c.space (view_of c) v ok in
     let attrs = attrs_kept v.attrs c.attrs c.regions.cap is.attrs sound most in
     record {
       allows = is.phase;
@@ -171,35 +158,35 @@ pub record HasRegions (unit cap most : ℕ) (r : RegionList) : Type 0 where
   pub few : length r.rows ≤ most
 
 -- the regions after a commit that is accepted
-pub regions_kept : CommitLaws → (space : List Target) (new : Option (List RangeSpec)) (most : ℕ) (r : RegionList)
+pub regions_kept : (space : List Target) (new : Option (List RangeSpec)) (most : ℕ) (r : RegionList)
     → IsSpace space → 1 ≤ r.unit → InOrder r.ranges → Tiling r.unit r.ranges (spans r.rows) → 0 < length r.rows → CanCommit space r new most
     → HasRegions r.unit r.cap most (regions_after space new most r)
-regions_kept laws space None most r sound wide order tiling some can =
+regions_kept space None most r sound wide order tiling some can =
     let pages = tiling_of_pages r.unit r.ranges (spans r.rows) wide tiling in
     record {
       unit_is = refl;
       cap_is = refl;
       max_is = refl;
       order = order;
-      tiling = laws.shrunk_tiling r.unit most r.ranges r.rows order pages can.few tiling;
-      some = laws.shrunk_some most r.ranges r.rows some;
-      few = laws.shrunk_few most r.ranges r.rows order pages can.few;
+      tiling = tiling_shrunk r.unit most r.ranges r.rows order pages can.few tiling;
+      some = some_shrunk most r.ranges r.rows some;
+      few = length_shrunk most r.ranges r.rows order pages can.few;
     }
-regions_kept laws space (Some specs) most r sound wide order tiling some can =
+regions_kept space (Some specs) most r sound wide order tiling some can =
     let ok = can.specs specs refl in
     let gs = ranges_of space specs in
-    let each = laws.ranges_each space specs in
-    let new_order = laws.ranges_order space r.unit r.cap specs sound ok.1 in
-    let new_wide = recursion_from_All (λ (g : Range). r.unit ≤ g.pages) gs (laws.ranges_wide space r.unit r.cap specs ok.1) in
+    let each = made_each space specs in
+    let new_order = made_in_order space r.unit r.cap specs sound ok.1 in
+    let new_wide = recursion_from_All (λ (g : Range). r.unit ≤ g.pages) gs (made_wide space r.unit r.cap specs ok.1) in
     let new_few : length gs ≤ most = omega (arith, each, can.few) in
     record {
       unit_is = refl;
       cap_is = refl;
       max_is = refl;
       order = new_order;
-      tiling = laws.updated_tiling r.unit most r.rows gs wide new_order new_few new_wide;
-      some = laws.updated_some r.unit most r.rows gs wide new_order new_few new_wide (omega (arith, each, ok.0));
-      few = laws.updated_few r.unit most r.rows gs wide new_order new_few new_wide;
+      tiling = tiling_updated r.unit most r.rows gs wide new_order new_few new_wide;
+      some = some_updated r.unit most r.rows gs wide new_order new_few new_wide (omega (arith, each, ok.0));
+      few = length_updated r.unit most r.rows gs wide new_order new_few new_wide;
     }
 
 -- what is sampled, after a commit that is accepted
@@ -225,15 +212,13 @@ sampling_kept old new ph picks hits row_room range_room was allows some same = b
     }
 
 -- regions after a commit: their limits, their rows, and a bound on the counts
-pub new_some : (updates : (unit most : ℕ) (rows : List Row) (gs : List Range) → 1 ≤ unit → InOrder gs → length gs ≤ most → AllByRecursion (λ g. unit ≤ g.pages) gs → 0 < length gs → 0 < length (updated unit most rows gs))
-    → (shrinks : (to : ℕ) (gs : List Range) (rows : List Row) → 0 < length rows → 0 < length (shrunk gs to rows))
-    → (orders : MakesInOrder) → (each : MakesEach) → (wides : MakesWide)
-    → (space : List Target) (new : Option (List RangeSpec)) (most : ℕ) (r : RegionList) → IsSpace space → 1 ≤ r.unit → 0 < length r.rows → CanCommit space r new most → 0 < length (regions_after space new most r).rows
-new_some updates shrinks orders each wides space None most r sound wide some can = shrinks most r.ranges r.rows some
-new_some updates shrinks orders each wides space (Some specs) most r sound wide some can =
+pub new_some : (space : List Target) (new : Option (List RangeSpec)) (most : ℕ) (r : RegionList) → IsSpace space → 1 ≤ r.unit → 0 < length r.rows → CanCommit space r new most → 0 < length (regions_after space new most r).rows
+new_some space None most r sound wide some can = some_shrunk most r.ranges r.rows some
+new_some space (Some specs) most r sound wide some can =
     let ok = can.specs specs refl in
     let gs = ranges_of space specs in
-    updates r.unit most r.rows gs wide (orders space r.unit r.cap specs sound ok.1) (omega (arith, each space specs, can.few)) (recursion_from_All (λ (g : Range). r.unit ≤ g.pages) gs (wides space r.unit r.cap specs ok.1)) (omega (arith, each space specs, ok.0))
+    let each = made_each space specs in
+    some_updated r.unit most r.rows gs wide (made_in_order space r.unit r.cap specs sound ok.1) (omega (arith, each, can.few)) (recursion_from_All (λ (g : Range). r.unit ≤ g.pages) gs (made_wide space r.unit r.cap specs ok.1)) (omega (arith, each, ok.0))
 
 pub new_cap : (space : List Target) (new : Option (List RangeSpec)) (most : ℕ) (r : RegionList) → (regions_after space new most r).cap ≡ r.cap
 new_cap space None most r = refl
@@ -243,11 +228,9 @@ pub new_max : (space : List Target) (new : Option (List RangeSpec)) (most : ℕ)
 new_max space None most r = refl
 new_max space (Some specs) most r = refl
 
-pub new_counts : (updates : (unit most n : ℕ) (rows : List Row) (gs : List Range) → AllByRecursion (λ r. r.count ≤ n) rows → AllByRecursion (λ r. r.count ≤ n) (updated unit most rows gs))
-    → (shrinks : (to n : ℕ) (gs : List Range) (rows : List Row) → AllByRecursion (λ r. r.count ≤ n) rows → AllByRecursion (λ r. r.count ≤ n) (shrunk gs to rows))
-    → (space : List Target) (new : Option (List RangeSpec)) (most n : ℕ) (r : RegionList) → AllByRecursion (λ q. q.count ≤ n) r.rows → AllByRecursion (λ q. q.count ≤ n) (regions_after space new most r).rows
-new_counts updates shrinks space None most n r all = shrinks most n r.ranges r.rows all
-new_counts updates shrinks space (Some specs) most n r all = updates r.unit most n r.rows (ranges_of space specs) all
+pub new_counts : (space : List Target) (new : Option (List RangeSpec)) (most n : ℕ) (r : RegionList) → AllByRecursion (λ q. q.count ≤ n) r.rows → AllByRecursion (λ q. q.count ≤ n) (regions_after space new most r).rows
+new_counts space None most n r all = counts_shrunk most n r.ranges r.rows all
+new_counts space (Some specs) most n r all = counts_updated r.unit most n r.rows (ranges_of space specs) all
 
 -- the passes since the last aggregation
 pub since_kept : (ph : Phase) (old new : List Row) (since : ℕ) → AllowsCommit ph → SinceFew ph since → SinceFew (phase_after_commit ph old new) since

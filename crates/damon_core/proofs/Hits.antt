@@ -19,7 +19,7 @@ use Rattle.damon_core.proofs.Committing.{allows_commit, by_phase_after, committe
 use Rattle.damon_core.proofs.Keeping.{Keeps, any_result, true_result, reached_keeps}
 use Rattle.damon_core.proofs.Opening.{opening_holds}
 use Rattle.damon_core.proofs.Served.{notes_hold}
-use Rattle.damon_core.proofs.Rows.{RowLaws, HasRows, rows_kept}
+use Rattle.damon_core.proofs.Rows.{HasRows, rows_kept}
 
 -- the pass has cleared each pick before the one that comes next
 pub record HasClears (s : State) : Type 0 where
@@ -175,8 +175,8 @@ load_rests s k hit fits is known h = EachHitRests-after_check s.notes (s.core.ti
         touched_after_clear-from_is_touched s.notes (s.core.ticks + 1) k page touch (h.clears.each k below)
 
 -- each step keeps the hits, where the results of loads are those of their pages
-pub hits_kept : RowLaws → Keeps true_result HasHits
-hits_kept laws = let rows = rows_kept true_result laws in let clears = clears_kept true_result in record {
+pub hits_kept : Keeps true_result HasHits
+hits_kept = let rows = rows_kept true_result in let clears = clears_kept true_result in record {
   opens = λ v can. record { rows = rows.opens v can; clears = clears.opens v can; rests = opening_holds EachHitRests tt (λ slot scheme notes rests. rests) v };
   touching = λ s p h. record { rows = rows.touching s p h.rows; clears = clears.touching s p h.clears; rests = h.rests };
   preparing = λ s ws idle count h. record { rows = rows.preparing s ws idle count h.rows; clears = clears.preparing s ws idle count h.clears; rests = h.rests };

@@ -24,7 +24,7 @@ use Rattle.damon_core.proofs.Committing.{allows_commit, by_phase_after, committe
 use Rattle.damon_core.proofs.Keeping.{Keeps}
 use Rattle.damon_core.proofs.Opening.{opening_holds}
 use Rattle.damon_core.proofs.Served.{notes_hold}
-use Rattle.damon_core.proofs.Rows.{RowLaws, HasRows, rows_kept}
+use Rattle.damon_core.proofs.Rows.{HasRows, rows_kept}
 
 enumerate_from-take-suc : (n k j : ℕ) (ps : List ℕ) → k < length ps → n + k ≡ j → enumerate_from n (take (suc k) ps) ≡ enumerate_from n (take k ps) ++ (j, slice_index ps k) ∷ []
 enumerate_from-take-suc n k j [] here is = absurd (omega arith)
@@ -361,8 +361,8 @@ passes_commit s c ok rows h =
     }
 
 -- each step keeps the passes
-pub passes_kept : (Q : State → Bool → Type 0) → RowLaws → Keeps Q HasPasses
-passes_kept Q laws = let rows = rows_kept Q laws in record {
+pub passes_kept : (Q : State → Bool → Type 0) → Keeps Q HasPasses
+passes_kept Q = let rows = rows_kept Q in record {
   opens = λ v can. passes_open v (rows.opens v can);
   touching = λ s p h. passes_touch s p (rows.touching s p h.rows) h;
   preparing = λ s ws idle count h. passes_prepare s ws idle count (rows.preparing s ws idle count h.rows) h;

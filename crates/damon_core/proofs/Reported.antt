@@ -4,28 +4,27 @@ use Rattle.std.specs.List.{AllByRecursion}
 use Rattle.std.specs.Option.{unwrap_or}
 use Rattle.std.proofs.lemmas.List.Elements.{All-from_recursion}
 use Rattle.damon_types.specs.declared.attrs.TheConstants.{MAX_AGGR}
-use Rattle.damon_types.specs.declared.range.Range.{Range}
 use Rattle.damon_types.specs.declared.range.RangeSpec.{RangeSpec}
 use Rattle.damon_types.specs.declared.row.Row.{Row}
-use Rattle.damon_types.specs.declared.scheme.Scheme.{Scheme}
 use Rattle.damon_types.specs.declared.space.Target.{Target}
 use Rattle.damon_types.specs.Span.{spans}
 use Rattle.damon_types.specs.Within.{AreWithin, LiesInTarget}
-use Rattle.target_ranges.specs.Laws.{MakesWithin}
 use Rattle.region_list.specs.Division.{divided}
 use Rattle.region_list.specs.Regions.{RegionList}
-use Rattle.region_list.specs.Shrink.{shrunk}
 use Rattle.region_list.specs.Tiling.{Tiling}
 use Rattle.aggregator.specs.Aged.{aged}
 use Rattle.aggregator.specs.Cleared.{cleared}
 use Rattle.aggregator.specs.Threshold.{threshold}
-use Rattle.region_merge.specs.Merged.{merged}
-use Rattle.range_update.specs.Updated.{updated}
 use Rattle.live_commit.specs.declared.phase.Phase.{Phase}
 use Rattle.live_commit.specs.declared.phase.Phase.TheVariants.{Armed, Clearing, Due}
 use Rattle.live_commit.specs.Commit.{CommitValue}
 use Rattle.live_commit.specs.Setup.{SetupValue}
-use Rattle.scheme_engine.specs.Outcome.{outcome_of}
+use Rattle.aggregator.proofs.Lemmas.{counts_aged, counts_cleared}
+use Rattle.region_list.proofs.Lemmas.{counts_shrunk}
+use Rattle.region_merge.proofs.Lemmas.{counts_merged}
+use Rattle.region_split.proofs.Lemmas.{counts_split}
+use Rattle.scheme_engine.proofs.Lemmas.{outcome_counts}
+use Rattle.target_ranges.proofs.Lemmas.{made_within}
 use Rattle.damon_core.specs.After.{counted_from, phase_cleared}
 use Rattle.damon_core.specs.Aggregate.{aggregated, merge_limit, merged_regions, served}
 use Rattle.damon_core.specs.Commit.{check_of, committed, regions_after}
@@ -41,18 +40,9 @@ use Rattle.damon_core.proofs.Between.{since-phase_after_pass}
 use Rattle.damon_core.proofs.Committing.{commit_facts, new_counts, since_kept}
 use Rattle.damon_core.proofs.Keeping.{Keeps, any_result, reached_keeps}
 use Rattle.damon_core.proofs.RowFacts.{counts-divided, one_more, weaker}
-use Rattle.damon_core.proofs.Rows.{HasRows, RowLaws, rows_kept, rows_of}
+use Rattle.damon_core.proofs.Rows.{HasRows, rows_kept, rows_of}
 use Rattle.damon_core.proofs.Running.{load_since}
 use Rattle.damon_core.proofs.Served.{serve_rows_hold}
-
--- what the laws of the crates below say of rows, of a bound of their counts, and of where ranges lie
-pub record ReportLaws : Type 0 where
-  pub rows : RowLaws
-  pub ranges_within : MakesWithin
-  pub merged_counts : (gs : List Range) (t limit most : ℕ) (rows : List Row) → AllByRecursion (λ r. r.count ≤ most) rows → AllByRecursion (λ r. r.count ≤ most) (merged gs t limit rows)
-  pub served_counts : (slot aggr most : ℕ) (space : List Target) (scheme : Scheme) (left : Option ℕ) (r : RegionList) → AllByRecursion (λ q. q.count ≤ most) r.rows → AllByRecursion (λ q. q.count ≤ most) (outcome_of slot space aggr scheme left r).rows
-  pub shrunk_counts : (to most : ℕ) (gs : List Range) (rows : List Row) → AllByRecursion (λ r. r.count ≤ most) rows → AllByRecursion (λ r. r.count ≤ most) (shrunk gs to rows)
-  pub updated_counts : (unit max most : ℕ) (rows : List Row) (gs : List Range) → AllByRecursion (λ r. r.count ≤ most) rows → AllByRecursion (λ r. r.count ≤ most) (updated unit max rows gs)
 
 -- what is kept of the rows, of what they count, and of those that were reported
 record HasReport (s : State) : Type 0 where
@@ -85,26 +75,26 @@ counts-counted_from since k notes pass [] all = tt
 counts-counted_from since k notes pass (r ∷ rows) all = (one_more (was_hit notes pass k) r.count since all.0, counts-counted_from since (k + 1) notes pass rows all.1)
 
 -- a bound of the counts holds of the rows once the slots are served
-counts-served : ReportLaws → (most : ℕ) (s : State) → AllByRecursion (λ r. r.count ≤ most) s.core.regions.rows → AllByRecursion (λ r. r.count ≤ most) (served s).rows
-counts-served laws most s all =
+counts-served : (most : ℕ) (s : State) → AllByRecursion (λ r. r.count ≤ most) s.core.regions.rows → AllByRecursion (λ r. r.count ≤ most) (served s).rows
+counts-served most s all =
     let c = s.core in
     let t = threshold c.regions.rows in
-    let merged_all = laws.merged_counts c.regions.ranges t (merge_limit c) most (aged t c.version c.regions.rows) (laws.rows.adapt.aged_counts t most c.version c.regions.rows all) in
-    serve_rows_hold (λ (r : RegionList). AllByRecursion (λ q. q.count ≤ most) r.rows) (λ slot aggr space scheme left r held. laws.served_counts slot aggr most space scheme left r held) slot_count 0 c.space c.attrs.aggr c.ticks (merged_regions c) s.notes merged_all
+    let merged_all = counts_merged c.regions.ranges t (merge_limit c) most (aged t c.version c.regions.rows) (counts_aged t most c.version c.regions.rows all) in
+    serve_rows_hold (λ (r : RegionList). AllByRecursion (λ q. q.count ≤ most) r.rows) (λ slot aggr space scheme left r held. outcome_counts slot aggr most space scheme left r held) slot_count 0 c.space c.attrs.aggr c.ticks (merged_regions c) s.notes merged_all
 
 -- the ranges after a commit lie in the space
-within_after_commit : MakesWithin → (space : List Target) (new : Option (List RangeSpec)) (most : ℕ) (r : RegionList) → CanCommit space r new most → AreWithin space r.ranges → AreWithin space (regions_after space new most r).ranges
-within_after_commit law space None most r can was = was
-within_after_commit law space (Some specs) most r can was = law space r.unit r.cap specs (can.specs specs refl).1
+within_after_commit : (space : List Target) (new : Option (List RangeSpec)) (most : ℕ) (r : RegionList) → CanCommit space r new most → AreWithin space r.ranges → AreWithin space (regions_after space new most r).ranges
+within_after_commit space None most r can was = was
+within_after_commit space (Some specs) most r can was = made_within space r.unit r.cap specs (can.specs specs refl).1
 
-report_opens : ReportLaws → (v : SetupValue) → CanOpen v → HasReport (opening v)
-report_opens laws v can =
+report_opens : (v : SetupValue) → CanOpen v → HasReport (opening v)
+report_opens v can =
     let parts = divided v.unit v.attrs.min v.ranges in
     record {
-      rows = (rows_kept any_result laws.rows).opens v can;
+      rows = (rows_kept any_result).opens v can;
       within = can.sound.within;
       since = omega arith;
-      counts = laws.shrunk_counts v.attrs.max 0 v.ranges parts (counts-divided v.unit v.attrs.min v.ranges);
+      counts = counts_shrunk v.attrs.max 0 v.ranges parts (counts-divided v.unit v.attrs.min v.ranges);
       reported = record {
         ranges = [];
         unit = 1;
@@ -118,17 +108,17 @@ report_opens laws v can =
     }
 
 -- An aggregation reports rows that tile the ranges of the state. None counts more passes than there were since the last one.
-report_aggregates : ReportLaws → (s : State) (ws : List ℕ) → s.core.phase ≡ Due → HasReport s → HasReport (aggregated ws s)
-report_aggregates laws s ws due h =
+report_aggregates : (s : State) (ws : List ℕ) → s.core.phase ≡ Due → HasReport s → HasReport (aggregated ws s)
+report_aggregates s ws due h =
     let c = s.core in
     let since : (1 ≤ c.since) × (c.since ≤ 1000) = subst (λ (ph : Phase). SinceFew ph c.since) due h.since in
-    let kept = served_kept laws.rows.adapt laws.rows.serve s h.rows.wide h.rows.order (rows_of s h.rows) in
+    let kept = served_kept s h.rows.wide h.rows.order (rows_of s h.rows) in
     let rows = (served s).rows in
     record {
-      rows = (rows_kept any_result laws.rows).aggregating s ws due h.rows;
+      rows = (rows_kept any_result).aggregating s ws due h.rows;
       within = h.within;
       since = omega arith;
-      counts = laws.rows.adapt.split_counts c.regions.max c.regions.unit c.before 0 ws (cleared rows) (laws.rows.adapt.cleared_counts rows);
+      counts = counts_split c.regions.max c.regions.unit c.before 0 ws (cleared rows) (counts_cleared rows);
       reported = record {
         ranges = c.regions.ranges;
         unit = c.regions.unit;
@@ -136,29 +126,29 @@ report_aggregates laws s ws due h =
         order = h.rows.order;
         within = h.within;
         tiles = kept.tiling;
-        counts = weaker c.since MAX_AGGR since.1 rows (counts-served laws c.since s h.counts);
+        counts = weaker c.since MAX_AGGR since.1 rows (counts-served c.since s h.counts);
         aggr = h.rows.attrs.aggr_some;
       };
     }
 
-report_commits : ReportLaws → (s : State) (v : CommitValue) → check_of v s.core ≡ Ok tt → HasReport s → HasReport (committed v s)
-report_commits laws s v ok h =
+report_commits : (s : State) (v : CommitValue) → check_of v s.core ≡ Ok tt → HasReport s → HasReport (committed v s)
+report_commits s v ok h =
     let c = s.core in
-    let facts = commit_facts laws.rows.commit.accepted c v ok h.rows.attrs h.rows.most in
+    let facts = commit_facts c v ok h.rows.attrs h.rows.most in
     let now = unwrap_or v.attrs c.attrs in
     let new = regions_after c.space v.ranges now.max c.regions in
     record {
-      rows = (rows_kept any_result laws.rows).committing s v ok h.rows;
-      within = within_after_commit laws.ranges_within c.space v.ranges now.max c.regions facts.can h.within;
+      rows = (rows_kept any_result).committing s v ok h.rows;
+      within = within_after_commit c.space v.ranges now.max c.regions facts.can h.within;
       since = since_kept c.phase c.regions.rows new.rows c.since facts.allows h.since;
-      counts = new_counts laws.updated_counts laws.shrunk_counts c.space v.ranges now.max c.since c.regions h.counts;
+      counts = new_counts c.space v.ranges now.max c.since c.regions h.counts;
       reported = still_reported c (committed v s).core refl refl facts.attrs.aggr_some h.reported;
     }
 
 -- each step keeps it
-report_kept : ReportLaws → Keeps any_result HasReport
-report_kept laws = let rows = rows_kept any_result laws.rows in record {
-  opens = report_opens laws;
+report_kept : Keeps any_result HasReport
+report_kept = let rows = rows_kept any_result in record {
+  opens = report_opens;
   touching = λ s p h. record { rows = rows.touching s p h.rows; within = h.within; since = h.since; counts = h.counts; reported = h.reported };
   preparing = λ s ws idle count h. record {
     rows = rows.preparing s ws idle count h.rows;
@@ -199,9 +189,9 @@ report_kept laws = let rows = rows_kept any_result laws.rows in record {
         counts = weaker s.core.since (s.core.since + 1) (omega arith) s.core.regions.rows h.counts;
         reported = still_reported s.core _ refl refl h.rows.attrs.aggr_some h.reported;
       });
-  aggregating = report_aggregates laws;
-  committing = report_commits laws;
+  aggregating = report_aggregates;
+  committing = report_commits;
 }
 
-pub reached_reported : ReportLaws → (s : State) → Reached s → IsReported s.core
-reached_reported laws s reached = (reached_keeps HasReport (report_kept laws) s reached).reported
+pub reached_reported : (s : State) → Reached s → IsReported s.core
+reached_reported s reached = (reached_keeps HasReport (report_kept) s reached).reported

@@ -19,6 +19,7 @@ use Rattle.live_commit.specs.declared.phase.Phase.{Phase}
 use Rattle.live_commit.specs.declared.phase.Phase.TheVariants.{Idle, Clearing, Armed, Checking, Void, Due}
 use Rattle.live_commit.specs.Commit.{CommitValue}
 use Rattle.live_commit.specs.Setup.{SetupValue}
+use Rattle.region_list.proofs.Lemmas.{length_shrunk, tiles, tiling_divided, tiling_shrunk}
 use Rattle.damon_core.specs.Note.{Note}
 use Rattle.damon_core.specs.State.{State, row_count, opening, opening_rows}
 use Rattle.damon_core.specs.Event.{IsLoading, load_index}
@@ -28,17 +29,9 @@ use Rattle.damon_core.specs.Pass.{IsPickWithin}
 use Rattle.damon_core.proofs.Keeping.{Keeps}
 use Rattle.damon_core.specs.Aggregate.{aggregated, served}
 use Rattle.damon_core.specs.Commit.{check_of, committed, regions_after}
-use Rattle.damon_core.proofs.Adapting.{AdaptLaws, AreRowsOf, ServeLaws, served_kept, split_kept}
-use Rattle.damon_core.proofs.Committing.{CommitLaws, by_phase_after, commit_facts, regions_kept}
+use Rattle.damon_core.proofs.Adapting.{AreRowsOf, served_kept, split_kept}
+use Rattle.damon_core.proofs.Committing.{by_phase_after, commit_facts, regions_kept}
 use Rattle.damon_core.proofs.RowFacts.{tiling_of_pages}
-
--- what the laws of the crates below say of a tiling, of the division, of an aggregation, of schemes, and of a commit
-pub record RowLaws : Type 0 where
-  pub per_page : (unit : ℕ) (gs : List Range) (rows : List Span) → 1 ≤ unit → InOrder gs → Tiling unit gs rows → Tiles gs rows unit
-  pub division : (unit min : ℕ) (gs : List Range) → 1 ≤ unit → AllByRecursion (λ g. unit ≤ g.pages) gs → Tiling unit gs (spans (divided unit min gs))
-  pub adapt : AdaptLaws
-  pub serve : ServeLaws
-  pub commit : CommitLaws
 
 -- what is kept of the rows
 pub record HasRows (s : State) : Type 0 where
@@ -89,24 +82,24 @@ within_after_load (Clearing i) k rows some fits is = absurd fits
 within_after_load Void k rows some fits is = absurd fits
 within_after_load Due k rows some fits is = absurd fits
 
-rows_open : RowLaws → (v : SetupValue) → CanOpen v → HasRows (opening v)
-rows_open laws v can =
+rows_open : (v : SetupValue) → CanOpen v → HasRows (opening v)
+rows_open v can =
     let wide = recursion_from_All (λ (g : Range). v.unit ≤ g.pages) v.ranges can.sound.wide in
     let parts = divided v.unit v.attrs.min v.ranges in
-    let divides : Tiling v.unit v.ranges (spans parts) = laws.division v.unit v.attrs.min v.ranges can.sound.unit_some wide in
+    let divides : Tiling v.unit v.ranges (spans parts) = tiling_divided v.unit v.attrs.min v.ranges can.sound.unit_some wide in
     let pages : Tiling 1 v.ranges (spans parts) = tiling_of_pages v.unit v.ranges (spans parts) can.sound.unit_some divides in
     let rows = opening_rows v in
-    let tiling : Tiling v.unit v.ranges (spans rows) = laws.commit.shrunk_tiling v.unit v.attrs.max v.ranges parts can.order pages can.sound.ranges_most divides in
+    let tiling : Tiling v.unit v.ranges (spans rows) = tiling_shrunk v.unit v.attrs.max v.ranges parts can.order pages can.sound.ranges_most divides in
     let some : 0 < length (spans rows) = tiling_some v.unit v.ranges (spans rows) can.sound.unit_some can.sound.ranges_some wide tiling in
     record {
       space = can.space;
       attrs = can.sound.attrs;
       order = can.order;
       tiling = tiling;
-      tiles = laws.per_page v.unit v.ranges (spans rows) can.sound.unit_some can.order tiling;
+      tiles = tiles v.unit v.ranges (spans rows) can.sound.unit_some can.order tiling;
       wide = can.sound.unit_some;
       some = omega (arith, some, length-map rows span_of);
-      few = laws.commit.shrunk_few v.attrs.max v.ranges parts can.order pages can.sound.ranges_most;
+      few = length_shrunk v.attrs.max v.ranges parts can.order pages can.sound.ranges_most;
       max = refl;
       most = can.sound.max_cap;
       within = tt;
@@ -116,15 +109,15 @@ rows_open laws v can =
 pub rows_of : (s : State) → HasRows s → AreRowsOf s.core s.core.regions.rows
 rows_of s h = record { tiling = h.tiling; some = h.some; few = omega (arith, h.few, h.max) }
 
-rows_aggregate : RowLaws → (s : State) (ws : List ℕ) → HasRows s → HasRows (aggregated ws s)
-rows_aggregate laws s ws h =
-    let kept = split_kept laws.adapt ws s.core (served s).rows (served_kept laws.adapt laws.serve s h.wide h.order (rows_of s h)) in
+rows_aggregate : (s : State) (ws : List ℕ) → HasRows s → HasRows (aggregated ws s)
+rows_aggregate s ws h =
+    let kept = split_kept ws s.core (served s).rows (served_kept s h.wide h.order (rows_of s h)) in
     record {
       space = h.space;
       attrs = h.attrs;
       order = h.order;
       tiling = kept.tiling;
-      tiles = laws.per_page s.core.regions.unit s.core.regions.ranges _ h.wide h.order kept.tiling;
+      tiles = tiles s.core.regions.unit s.core.regions.ranges _ h.wide h.order kept.tiling;
       wide = h.wide;
       some = kept.some;
       few = omega (arith, kept.few, h.max);
@@ -133,11 +126,11 @@ rows_aggregate laws s ws h =
       within = tt;
     }
 
-rows_commit : RowLaws → (s : State) (c : CommitValue) → check_of c s.core ≡ Ok tt → HasRows s → HasRows (committed c s)
-rows_commit laws s c ok h =
-    let facts = commit_facts laws.commit.accepted s.core c ok h.attrs h.most in
+rows_commit : (s : State) (c : CommitValue) → check_of c s.core ≡ Ok tt → HasRows s → HasRows (committed c s)
+rows_commit s c ok h =
+    let facts = commit_facts s.core c ok h.attrs h.most in
     let now = unwrap_or c.attrs s.core.attrs in
-    let kept = regions_kept laws.commit s.core.space c.ranges now.max s.core.regions h.space h.wide h.order h.tiling h.some facts.can in
+    let kept = regions_kept s.core.space c.ranges now.max s.core.regions h.space h.wide h.order h.tiling h.some facts.can in
     let new = regions_after s.core.space c.ranges now.max s.core.regions in
     let tiling = subst (λ unit. Tiling unit new.ranges (spans new.rows)) (sym kept.unit_is) kept.tiling in
     let wide = subst (λ unit. 1 ≤ unit) (sym kept.unit_is) h.wide in
@@ -146,7 +139,7 @@ rows_commit laws s c ok h =
       attrs = facts.attrs;
       order = kept.order;
       tiling = tiling;
-      tiles = laws.per_page new.unit new.ranges (spans new.rows) wide kept.order tiling;
+      tiles = tiles new.unit new.ranges (spans new.rows) wide kept.order tiling;
       wide = wide;
       some = kept.some;
       few = kept.few;
@@ -156,9 +149,9 @@ rows_commit laws s c ok h =
     }
 
 -- each step keeps the rows
-pub rows_kept : (Q : State → Bool → Type 0) → RowLaws → Keeps Q HasRows
-rows_kept Q laws = record {
-  opens = rows_open laws;
+pub rows_kept : (Q : State → Bool → Type 0) → Keeps Q HasRows
+rows_kept Q = record {
+  opens = rows_open;
   touching = λ s p h. record { space = h.space; attrs = h.attrs; order = h.order; tiling = h.tiling; tiles = h.tiles; wide = h.wide; some = h.some; few = h.few; max = h.max; most = h.most; within = h.within };
   preparing = λ s ws idle count h. record { space = h.space; attrs = h.attrs; order = h.order; tiling = h.tiling; tiles = h.tiles; wide = h.wide; some = h.some; few = h.few; max = h.max; most = h.most; within = h.some };
   clearing = λ s k is h. record { space = h.space; attrs = h.attrs; order = h.order; tiling = h.tiling; tiles = h.tiles; wide = h.wide; some = h.some; few = h.few; max = h.max; most = h.most; within = within_after_clear k (row_count s.core) (subst (λ (ph : Phase). IsPickWithin ph (row_count s.core)) is h.within) };
@@ -180,6 +173,6 @@ rows_kept Q laws = record {
         within = within_after_pass (s.core.since + 1) s.core.attrs.aggr (length (counted_from 0 s.notes (s.core.ticks + 1) s.core.regions.rows));
       });
   voiding = λ s is h. record { space = h.space; attrs = h.attrs; order = h.order; tiling = h.tiling; tiles = h.tiles; wide = h.wide; some = h.some; few = h.few; max = h.max; most = h.most; within = within_after_pass (s.core.since + 1) s.core.attrs.aggr (row_count s.core) };
-  aggregating = λ s ws is h. rows_aggregate laws s ws h;
-  committing = rows_commit laws;
+  aggregating = λ s ws is h. rows_aggregate s ws h;
+  committing = rows_commit;
 }

@@ -12,13 +12,14 @@ use Rattle.scheme_engine.specs.declared.applied.AppliedRun.{AppliedRun}
 use Rattle.scheme_engine.specs.Kept.{AreTiled}
 use Rattle.scheme_engine.specs.Outcome.{outcome_of}
 use Rattle.scheme_engine.specs.Served.{no_choice}
+use Rattle.scheme_engine.proofs.Lemmas.{outcome_sum, outcome_tiled, outcome_within}
 use Rattle.damon_core.specs.Note.{Note, turned, ran}
 use Rattle.damon_core.specs.State.{State}
 use Rattle.damon_core.specs.Aggregate.{merged_regions, served}
 use Rattle.damon_core.specs.Bound.{EachRunIsWithin, IsRunWithin}
 use Rattle.damon_core.specs.Serve.{Serving, nothing_served, run_served, serve_now, serve_scheme, serve_slot, serve_slots, with_turn}
 use Rattle.damon_core.specs.Slots.{charged_of, cost_of, is_active_in, pages_in, scheme_of, slot_count, start_of}
-use Rattle.damon_core.proofs.Serving.{OutcomeLaws, turn_is}
+use Rattle.damon_core.proofs.Serving.{turn_is}
 
 -- ---- facts of notes
 
@@ -91,17 +92,12 @@ serve_rows_hold P kept (suc n) slot space aggr tick regions notes holds =
 
 -- ---- runs within their quotas
 
--- what the laws of the engine say of the pages that a run takes
-pub record RunLaws : Type 0 where
-  pub outcome : OutcomeLaws
-  pub within : (slot aggr : ℕ) (space : List Target) (scheme : Scheme) (left : Option ℕ) (regions : RegionList) → AreTiled regions → IfSome left (λ most. (outcome_of slot space aggr scheme left regions).taken ≤ most)
-
 within_quota : (quota : Option Quota) (cost : Cost) (charged pages taken : ℕ) → pages ≡ taken → IfSome (left_of quota cost charged) (λ most. taken ≤ most) → 1 ≤ pages → IfSome quota (λ q. charged + pages ≤ effective_pages q cost)
 within_quota None cost charged pages taken same within some = tt
 within_quota (Some q) cost charged pages taken same within some = omega (arith, within)
 
-slot_within : RunLaws → (slot : ℕ) (space : List Target) (aggr tick : ℕ) (regions : RegionList) (notes : List Note) → AreTiled regions → EachRunIsWithin notes → EachRunIsWithin (serve_slot slot space aggr tick regions notes).notes
-slot_within laws slot space aggr tick regions notes tiled each = by_scheme (scheme_of notes slot) refl
+slot_within : (slot : ℕ) (space : List Target) (aggr tick : ℕ) (regions : RegionList) (notes : List Note) → AreTiled regions → EachRunIsWithin notes → EachRunIsWithin (serve_slot slot space aggr tick regions notes).notes
+slot_within slot space aggr tick regions notes tiled each = by_scheme (scheme_of notes slot) refl
   where
     by_active : (scheme : Scheme) (now : List Note) → scheme_of now slot ≡ Some scheme → EachRunIsWithin now → (b : Bool) → is_active_in now slot scheme ≡ b
         → EachRunIsWithin (cond b (run_served slot tick (left_of scheme.quota (cost_of now slot) (charged_of now slot)) now (outcome_of slot space aggr scheme (left_of scheme.quota (cost_of now slot) (charged_of now slot)) regions)) (record { rows = regions.rows; notes = now; runs = []; choices = no_choice slot ∷ [] })).notes
@@ -112,7 +108,7 @@ slot_within laws slot space aggr tick regions notes tiled each = by_scheme (sche
           scheme = scheme;
           is_set = is;
           active = active;
-          within = within_quota scheme.quota (cost_of now slot) (charged_of now slot) (pages_in o.runs) o.taken (laws.outcome.sum slot aggr space scheme left regions tiled) (laws.within slot aggr space scheme left regions tiled);
+          within = within_quota scheme.quota (cost_of now slot) (charged_of now slot) (pages_in o.runs) o.taken (outcome_sum slot aggr space scheme left regions tiled) (outcome_within slot aggr space scheme left regions tiled);
         } in
         (run, each)
     by_active scheme now is each false active = each
@@ -124,10 +120,10 @@ slot_within laws slot space aggr tick regions notes tiled each = by_scheme (sche
         let turn = turn_is slot tick scheme.quota notes in
         by_active scheme now (turn.scheme ∙ is) (with_turn_holds EachRunIsWithin (λ i t ns all. all) slot tick scheme.quota notes each) (is_active_in now slot scheme) refl
 
-pub runs_within : RunLaws → (n slot : ℕ) (space : List Target) (aggr tick : ℕ) (regions : RegionList) (notes : List Note) → AreTiled regions → EachRunIsWithin notes → EachRunIsWithin (serve_slots n slot space aggr tick regions notes).notes
-runs_within laws zero slot space aggr tick regions notes tiled each = each
-runs_within laws (suc n) slot space aggr tick regions notes tiled each =
+pub runs_within : (n slot : ℕ) (space : List Target) (aggr tick : ℕ) (regions : RegionList) (notes : List Note) → AreTiled regions → EachRunIsWithin notes → EachRunIsWithin (serve_slots n slot space aggr tick regions notes).notes
+runs_within zero slot space aggr tick regions notes tiled each = each
+runs_within (suc n) slot space aggr tick regions notes tiled each =
     let first = serve_slot slot space aggr tick regions notes in
-    runs_within laws n (slot + 1) space aggr tick (record regions { rows = first.rows }) first.notes
-    (slot_rows_hold AreTiled (λ i a sp sc l r t. laws.outcome.tiled i a sp sc l r t) slot space aggr tick regions notes tiled)
-    (slot_within laws slot space aggr tick regions notes tiled each)
+    runs_within n (slot + 1) space aggr tick (record regions { rows = first.rows }) first.notes
+    (slot_rows_hold AreTiled (λ i a sp sc l r t. outcome_tiled i a sp sc l r t) slot space aggr tick regions notes tiled)
+    (slot_within slot space aggr tick regions notes tiled each)

@@ -1,6 +1,6 @@
 -- Serving the slots of a monitor, and serving those that the notes tell of, come to the same.
 use Rattle.std.proofs.Common.{◌≡◌, ℕ, zero, suc, ◌+◌, ◌<◌, Bool, true, false, List, [], ◌∷◌, ◌++◌, map, Option, Some, None, refl, sym, ap, ◌∙◌, subst, arith}
-use Rattle.std.specs.Prelude.{if◌then◌else◌, sum_by}
+use Rattle.std.specs.Prelude.{if◌then◌else◌}
 use Rattle.std.specs.List.{range_with_len}
 use Rattle.std.specs.Option.{option_map, option_map_or}
 use Rattle.damon_types.specs.declared.scheme.Quota.{Quota}
@@ -14,17 +14,13 @@ use Rattle.scheme_engine.specs.Kept.{AreTiled}
 use Rattle.scheme_engine.specs.Outcome.{outcome_of}
 use Rattle.scheme_engine.specs.Served.{ServedSlot, Served, no_choice, slot_counted, slot_run, slot_served, slots_served}
 use Rattle.scheme_engine.specs.Slots.{SetScheme, SlotValue, window_at}
+use Rattle.scheme_engine.proofs.Lemmas.{outcome_sum, outcome_tiled}
 use Rattle.damon_core.specs.Note.{Note, turned}
 use Rattle.damon_core.specs.Aggregate.{IsServedAlike, merged_regions}
 use Rattle.damon_core.specs.State.{State}
 use Rattle.damon_core.specs.Serve.{Serving, nothing_served, run_served, serve_scheme, serve_slot, serve_slots, with_turn}
 use Rattle.damon_core.specs.Slots.{charged_of, cost_of, is_active_in, scheme_of, set_scheme_of, slot_count, slot_of, start_of}
 use Rattle.damon_core.proofs.SlotNotes.{same, ran-other, ran-same, turned-other}
-
--- what the laws of the engine say of the outcome of a scheme
-pub record OutcomeLaws : Type 0 where
-  pub tiled : (slot aggr : ℕ) (space : List Target) (scheme : Scheme) (left : Option ℕ) (regions : RegionList) → AreTiled regions → AreTiled (record regions { rows = (outcome_of slot space aggr scheme left regions).rows })
-  pub sum : (slot aggr : ℕ) (space : List Target) (scheme : Scheme) (left : Option ℕ) (regions : RegionList) → AreTiled regions → sum_by (λ r. r.pages) (outcome_of slot space aggr scheme left regions).runs ≡ (outcome_of slot space aggr scheme left regions).taken
 
 -- the window of a slot, by the notes
 abbrev pub window_of : List Note → ℕ → Window
@@ -76,28 +72,28 @@ notes_served slot space aggr tick regions now scheme active =
     if active then run_served slot tick left now (outcome_of slot space aggr scheme left regions)
     else record { rows = regions.rows; notes = now; runs = []; choices = no_choice slot ∷ [] }
 
-set_alike : OutcomeLaws → (slot : ℕ) (space : List Target) (aggr tick : ℕ) (regions : RegionList) (notes now : List Note) (scheme : Scheme) (window : Window) (active : Bool) → AreTiled regions → scheme_of notes slot ≡ Some scheme → TurnIs slot notes now window
+set_alike : (slot : ℕ) (space : List Target) (aggr tick : ℕ) (regions : RegionList) (notes now : List Note) (scheme : Scheme) (window : Window) (active : Bool) → AreTiled regions → scheme_of notes slot ≡ Some scheme → TurnIs slot notes now window
     → AsServed slot regions notes (set_served slot space aggr regions scheme (set_scheme_of notes slot scheme) active (window_of now slot) (cost_of now slot)) (notes_served slot space aggr tick regions now scheme active)
-set_alike laws slot space aggr tick regions notes now scheme window true tiled is turn =
+set_alike slot space aggr tick regions notes now scheme window true tiled is turn =
     let left = left_of scheme.quota (cost_of now slot) (charged_of now slot) in
     let o = outcome_of slot space aggr scheme left regions in
     record {
       slots =
           ap (λ (s : SlotValue). slot_counted o.tried o.taken o.exceeds s) (set_here slot notes now scheme window is turn)
-          ∙ ap (λ n. slot_counted o.tried n o.exceeds (slot_of now slot)) (sym (laws.sum slot aggr space scheme left regions tiled))
+          ∙ ap (λ n. slot_counted o.tried n o.exceeds (slot_of now slot)) (sym (outcome_sum slot aggr space scheme left regions tiled))
           ∙ sym (ran-same slot tick o.tried o.runs o.exceeds now);
       rows = refl;
       runs = refl;
       choices = refl;
       others = λ j apart. ran-other slot tick o.tried o.runs o.exceeds j now apart ∙ turn.others j apart;
-      tiled = laws.tiled slot aggr space scheme left regions tiled;
+      tiled = outcome_tiled slot aggr space scheme left regions tiled;
     }
   where
     set_here : (slot : ℕ) (notes now : List Note) (scheme : Scheme) (window : Window) → scheme_of notes slot ≡ Some scheme → TurnIs slot notes now window → record { set = Some (set_scheme_of notes slot scheme); window = window_of now slot; cost = cost_of now slot } ≡ slot_of now slot
     set_here slot notes now scheme window is turn =
         ap (λ (h : SetScheme). record { set = Some h; window = window_of now slot; cost = cost_of now slot }) (sym (turn.counted scheme))
         ∙ ap (λ (o : Option Scheme). record { set = option_map (λ s. set_scheme_of now slot s) o; window = window_of now slot; cost = cost_of now slot }) (sym (turn.scheme ∙ is))
-set_alike laws slot space aggr tick regions notes now scheme window false tiled is turn = record {
+set_alike slot space aggr tick regions notes now scheme window false tiled is turn = record {
   slots =
       ap (λ (h : SetScheme). record { set = Some h; window = window_of now slot; cost = cost_of now slot }) (sym (turn.counted scheme))
       ∙ ap (λ (o : Option Scheme). record { set = option_map (λ s. set_scheme_of now slot s) o; window = window_of now slot; cost = cost_of now slot }) (sym (turn.scheme ∙ is));
@@ -112,9 +108,9 @@ set_alike laws slot space aggr tick regions notes now scheme window false tiled 
 abbrev slot_by : ℕ → List Note → Option Scheme → SlotValue
 slot_by slot notes o = record { set = option_map (λ s. set_scheme_of notes slot s) o; window = window_of notes slot; cost = cost_of notes slot }
 
-by_scheme : OutcomeLaws → (slot : ℕ) (space : List Target) (aggr tick : ℕ) (regions : RegionList) (notes : List Note) (o : Option Scheme) → AreTiled regions → scheme_of notes slot ≡ o
+by_scheme : (slot : ℕ) (space : List Target) (aggr tick : ℕ) (regions : RegionList) (notes : List Note) (o : Option Scheme) → AreTiled regions → scheme_of notes slot ≡ o
     → AsServed slot regions notes (slot_served slot space aggr tick regions (slot_by slot notes o)) (option_map_or (serve_scheme slot space aggr tick regions notes) o (nothing_served regions notes))
-by_scheme laws slot space aggr tick regions notes None tiled is = record {
+by_scheme slot space aggr tick regions notes None tiled is = record {
   slots = ap (slot_by slot notes) (sym is);
   rows = refl;
   runs = refl;
@@ -122,20 +118,20 @@ by_scheme laws slot space aggr tick regions notes None tiled is = record {
   others = λ j apart. refl;
   tiled = tiled;
 }
-by_scheme laws slot space aggr tick regions notes (Some scheme) tiled is =
+by_scheme slot space aggr tick regions notes (Some scheme) tiled is =
     let now = with_turn slot tick scheme.quota notes in
     let turn = turn_is slot tick scheme.quota notes in
     let active : is_active_in now slot scheme ≡ is_active_in notes slot scheme = ap (λ (h : SetScheme). h.gauge.active) (turn.counted scheme) in
-    let alike = set_alike laws slot space aggr tick regions notes now scheme (window_at tick scheme.quota (window_of notes slot)) (is_active_in now slot scheme) tiled is turn in
+    let alike = set_alike slot space aggr tick regions notes now scheme (window_at tick scheme.quota (window_of notes slot)) (is_active_in now slot scheme) tiled is turn in
     let served : Bool → Window → Cost → ServedSlot = λ b w cost. set_served slot space aggr regions scheme (set_scheme_of notes slot scheme) b w cost in
     let AsHere : ServedSlot → Type 0 = λ x. AsServed slot regions notes x (serve_scheme slot space aggr tick regions notes scheme) in
     subst (λ (w : Window). AsHere (served (is_active_in notes slot scheme) w (cost_of notes slot))) turn.begins
     (subst (λ (k : Cost). AsHere (served (is_active_in notes slot scheme) (window_of now slot) k)) turn.cost
     (subst (λ b. AsHere (served b (window_of now slot) (cost_of now slot))) active alike))
 
-one_alike : OutcomeLaws → (slot : ℕ) (space : List Target) (aggr tick : ℕ) (regions : RegionList) (notes : List Note) → AreTiled regions
+one_alike : (slot : ℕ) (space : List Target) (aggr tick : ℕ) (regions : RegionList) (notes : List Note) → AreTiled regions
     → AsServed slot regions notes (slot_served slot space aggr tick regions (slot_of notes slot)) (serve_slot slot space aggr tick regions notes)
-one_alike laws slot space aggr tick regions notes tiled = by_scheme laws slot space aggr tick regions notes (scheme_of notes slot) tiled refl
+one_alike slot space aggr tick regions notes tiled = by_scheme slot space aggr tick regions notes (scheme_of notes slot) tiled refl
 
 -- slots of the engine and the notes of them were served alike
 pub record AreServed (slot n : ℕ) (regions : RegionList) (notes : List Note) (x : Served) (y : Serving) : Type 0 where
@@ -153,15 +149,15 @@ slots_above old new from (suc n) i above others =
     ap (λ x. x ∷ map (slot_of old) (range_with_len (from + 1) n)) (sym (others from (λ e. absurd (omega arith))))
     ∙ ap (λ xs. slot_of new from ∷ xs) (slots_above old new (from + 1) n i (omega arith) others)
 
-pub slots_alike : OutcomeLaws → (n slot : ℕ) (space : List Target) (aggr tick : ℕ) (regions : RegionList) (notes : List Note) → AreTiled regions
+pub slots_alike : (n slot : ℕ) (space : List Target) (aggr tick : ℕ) (regions : RegionList) (notes : List Note) → AreTiled regions
     → AreServed slot n regions notes (slots_served slot space aggr tick regions (map (slot_of notes) (range_with_len slot n))) (serve_slots n slot space aggr tick regions notes)
-slots_alike laws zero slot space aggr tick regions notes tiled = record { slots = refl; rows = refl; runs = refl; choices = refl; before = λ j below. refl; tiled = tiled }
-slots_alike laws (suc n) slot space aggr tick regions notes tiled =
+slots_alike zero slot space aggr tick regions notes tiled = record { slots = refl; rows = refl; runs = refl; choices = refl; before = λ j below. refl; tiled = tiled }
+slots_alike (suc n) slot space aggr tick regions notes tiled =
     let x = slot_served slot space aggr tick regions (slot_of notes slot) in
     let y = serve_slot slot space aggr tick regions notes in
-    let one = one_alike laws slot space aggr tick regions notes tiled in
+    let one = one_alike slot space aggr tick regions notes tiled in
     let next : RegionList = record regions { rows = y.rows } in
-    let more = slots_alike laws n (slot + 1) space aggr tick next y.notes one.tiled in
+    let more = slots_alike n (slot + 1) space aggr tick next y.notes one.tiled in
     let Y = serve_slots n (slot + 1) space aggr tick next y.notes in
     let is : slots_served (slot + 1) space aggr tick (record regions { rows = x.rows }) (map (slot_of notes) (range_with_len (slot + 1) n)) ≡ slots_served (slot + 1) space aggr tick next (map (slot_of y.notes) (range_with_len (slot + 1) n)) =
     ap (λ rows. slots_served (slot + 1) space aggr tick (record regions { rows = rows }) (map (slot_of notes) (range_with_len (slot + 1) n))) one.rows
@@ -178,7 +174,7 @@ slots_alike laws (suc n) slot space aggr tick regions notes tiled =
     }
 
 -- the slots of a state whose merged rows tile their ranges
-pub served_alike : OutcomeLaws → (s : State) → AreTiled (merged_regions s.core) → IsServedAlike s
-served_alike laws s tiled =
-    let alike = slots_alike laws slot_count 0 s.core.space s.core.attrs.aggr s.core.ticks (merged_regions s.core) s.notes tiled in
+pub served_alike : (s : State) → AreTiled (merged_regions s.core) → IsServedAlike s
+served_alike s tiled =
+    let alike = slots_alike slot_count 0 s.core.space s.core.attrs.aggr s.core.ticks (merged_regions s.core) s.notes tiled in
     record { slots = alike.slots; rows = alike.rows; runs = alike.runs; choices = alike.choices }

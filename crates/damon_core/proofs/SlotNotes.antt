@@ -1,18 +1,18 @@
 -- What the notes say of the slots once there is a note more of a set or dropped slot, of a metric, of a cost, of a window, or of a run.
-use Rattle.std.proofs.Common.{◌≡◌, ℕ, zero, suc, ◌+◌, ◌-◌, ◌^◌, ◌<◌, ◌≤◌, min, Bool, true, false, List, [], ◌∷◌, ◌++◌, map, set as put, get_or, Option, Some, None, refl, sym, ap, ◌∙◌, cond, arith}
+use Rattle.std.proofs.Common.{◌≡◌, ℕ, zero, suc, ◌+◌, ◌-◌, ◌^◌, ◌<◌, ◌≤◌, min, Bool, true, false, List, [], ◌∷◌, map, set as put, get_or, Option, Some, None, refl, sym, ap, ◌∙◌, cond, arith}
 use Rattle.std.specs.Prelude.{◌==◌, if◌then◌else◌, replicate}
 use Rattle.std.specs.List.{range_with_len}
 use Rattle.std.specs.Option.{option_map}
 use Rattle.std.proofs.lemmas.Bool.Decides.{nat_tests}
 use Rattle.std.proofs.lemmas.List.FromFn.{get_or-map-range_with_len}
-use Rattle.damon_types.specs.declared.scheme.Marks.{Marks}
 use Rattle.damon_types.specs.declared.scheme.TheConstants.{MAX_SLOT}
 use Rattle.damon_types.specs.declared.scheme.Scheme.{Scheme}
-use Rattle.watermarks.specs.Active.{after_metric, is_active}
+use Rattle.watermarks.specs.Active.{is_active}
 use Rattle.scheme_engine.specs.declared.applied.AppliedRun.{AppliedRun}
 use Rattle.scheme_engine.specs.declared.slot.TheConstants.{SLOTS}
 use Rattle.scheme_engine.specs.Served.{scheme_counted, slot_counted}
 use Rattle.scheme_engine.specs.Slots.{SetScheme, SlotValue, changed, costed, empty_slot, metered, scheme_metered}
+use Rattle.watermarks.proofs.Lemmas.{is_active-push}
 use Rattle.damon_core.specs.Note.{Note, set, dropped, metric, turned, ran, cost}
 use Rattle.damon_core.specs.Slots.{charged_of, cost_of, is_active_in, metrics_of, nanos_measured, pages_in, pages_of_runs, scheme_of, set_scheme_of, slot_count, slot_of, slots_of, start_of, tried_of, applied_of, exceeds_of}
 
@@ -137,28 +137,24 @@ slots_of-dropped i notes below = one_slot notes (dropped i ∷ notes) i _ below 
 
 -- ---- a metric
 
--- how a metric decides after others
-abbrev pub DecidesInTurn : Type 0
-DecidesInTurn = (marks : Option Marks) (metrics : List ℕ) (value : ℕ) → is_active marks (metrics ++ value ∷ []) ≡ after_metric marks (is_active marks metrics) value
-
-metered-set : DecidesInTurn → (value j : ℕ) (notes : List Note) (o : Option Scheme)
+metered-set : (value j : ℕ) (notes : List Note) (o : Option Scheme)
     → option_map (λ scheme. set_scheme_of (metric value ∷ notes) j scheme) o ≡ option_map (scheme_metered value) (option_map (λ scheme. set_scheme_of notes j scheme) o)
-metered-set law value j notes None = refl
-metered-set law value j notes (Some s) =
+metered-set value j notes None = refl
+metered-set value j notes (Some s) =
     ap (λ active. Some (record { scheme = s; gauge = record { marks = s.marks; active = active }; tried = tried_of notes j; applied = applied_of notes j; exceeds = exceeds_of notes j }))
-    (law s.marks (metrics_of notes j) value)
+    (is_active-push s.marks (metrics_of notes j) value)
 
-slot_of-metric : DecidesInTurn → (value j : ℕ) (notes : List Note) → slot_of (metric value ∷ notes) j ≡ metered value (slot_of notes j)
-slot_of-metric law value j notes =
-    ap (λ (h : Option SetScheme). record { set = h; window = record { start = start_of notes j; charged = charged_of notes j }; cost = cost_of notes j }) (metered-set law value j notes (scheme_of notes j))
+slot_of-metric : (value j : ℕ) (notes : List Note) → slot_of (metric value ∷ notes) j ≡ metered value (slot_of notes j)
+slot_of-metric value j notes =
+    ap (λ (h : Option SetScheme). record { set = h; window = record { start = start_of notes j; charged = charged_of notes j }; cost = cost_of notes j }) (metered-set value j notes (scheme_of notes j))
 
-map_metered : DecidesInTurn → (value : ℕ) (notes : List Note) (js : List ℕ) → map (slot_of (metric value ∷ notes)) js ≡ map (metered value) (map (slot_of notes) js)
-map_metered law value notes [] = refl
-map_metered law value notes (j ∷ js) =
-    ap (λ x. x ∷ map (slot_of (metric value ∷ notes)) js) (slot_of-metric law value j notes) ∙ ap (λ xs. metered value (slot_of notes j) ∷ xs) (map_metered law value notes js)
+map_metered : (value : ℕ) (notes : List Note) (js : List ℕ) → map (slot_of (metric value ∷ notes)) js ≡ map (metered value) (map (slot_of notes) js)
+map_metered value notes [] = refl
+map_metered value notes (j ∷ js) =
+    ap (λ x. x ∷ map (slot_of (metric value ∷ notes)) js) (slot_of-metric value j notes) ∙ ap (λ xs. metered value (slot_of notes j) ∷ xs) (map_metered value notes js)
 
-pub slots_of-metric : DecidesInTurn → (value : ℕ) (notes : List Note) → slots_of (metric value ∷ notes) ≡ map (metered value) (slots_of notes)
-slots_of-metric law value notes = map_metered law value notes (range_with_len 0 slot_count)
+pub slots_of-metric : (value : ℕ) (notes : List Note) → slots_of (metric value ∷ notes) ≡ map (metered value) (slots_of notes)
+slots_of-metric value notes = map_metered value notes (range_with_len 0 slot_count)
 
 -- ---- a cost
 

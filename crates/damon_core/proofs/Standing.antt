@@ -26,7 +26,7 @@ use Rattle.damon_core.specs.Stands.{MonitorView, Stands, bit_at, last_pass}
 use Rattle.damon_core.specs.Kept.{loaded_so_far, HasPicks}
 use Rattle.damon_core.proofs.RowFacts.{length-picks_of}
 use Rattle.damon_core.proofs.Served.{notes_hold}
-use Rattle.damon_core.proofs.Serving.{AreServed, OutcomeLaws, slots_alike}
+use Rattle.damon_core.proofs.Serving.{AreServed, slots_alike}
 use Rattle.damon_core.proofs.Shown.{after_prepare, after_clears, after_load, after_observe, ended, after_aggregate}
 use Rattle.damon_core.proofs.Tallying.{checks_counted, hits_below, pass_checks, reached_counted, reached_early, loading_pass, last_pass-phase_after_clear, last_pass-phase_after_pass, was_hit-served}
 
@@ -219,10 +219,10 @@ core_alike ws c x y rows runs choices =
     ∙ ap (λ rs. aggregated_core ws y.rows rs x.choices c) runs
     ∙ ap (λ cs. aggregated_core ws y.rows y.runs cs c) choices
 
-aggregate_stands : OutcomeLaws → (m : MonitorView) (s : State) (ws : List ℕ) → AreTiled (merged_regions s.core) → m.core.phase ≡ Due → Stands m s → Stands (after_aggregate ws m) (aggregated ws s)
-aggregate_stands laws m s ws tiled due stands =
+aggregate_stands : (m : MonitorView) (s : State) (ws : List ℕ) → AreTiled (merged_regions s.core) → m.core.phase ≡ Due → Stands m s → Stands (after_aggregate ws m) (aggregated ws s)
+aggregate_stands m s ws tiled due stands =
     let over = at_pass m s m.core.ticks stands (ap (λ ph. last_pass ph m.core.ticks) due) in
-    let alike : AreServed 0 slot_count (merged_regions s.core) s.notes (engine_served s.core (slots_of s.notes)) (served s) = slots_alike laws slot_count 0 s.core.space s.core.attrs.aggr s.core.ticks (merged_regions s.core) s.notes tiled in
+    let alike : AreServed 0 slot_count (merged_regions s.core) s.notes (engine_served s.core (slots_of s.notes)) (served s) = slots_alike slot_count 0 s.core.space s.core.attrs.aggr s.core.ticks (merged_regions s.core) s.notes tiled in
     record {
       same =
           ap (core_after_aggregation ws m.slots) stands.same
@@ -239,11 +239,11 @@ aggregate_stands laws m s ws tiled due stands =
     }
 
 -- an aggregation is an event
-pub aggregate_makes : OutcomeLaws → (m : MonitorView) (ws : List ℕ) → AreTiled (merged_regions m.core) → m.core.phase ≡ Due → length ws ≡ 2 * m.core.attrs.max → Makes Stands m (after_aggregate ws m) (aggregate ws ∷ [])
-aggregate_makes laws m ws tiled due count s reached stands =
+pub aggregate_makes : (m : MonitorView) (ws : List ℕ) → AreTiled (merged_regions m.core) → m.core.phase ≡ Due → length ws ≡ 2 * m.core.attrs.max → Makes Stands m (after_aggregate ws m) (aggregate ws ∷ [])
+aggregate_makes m ws tiled due count s reached stands =
     let phase = ap (λ (c : Core). c.phase) (sym stands.same) ∙ due in
     let words = count ∙ ap (λ (c : Core). 2 * c.attrs.max) stands.same in
-    (((phase, words), tt), aggregate_stands laws m s ws (subst (λ (c : Core). AreTiled (merged_regions c)) stands.same tiled) due stands)
+    (((phase, words), tt), aggregate_stands m s ws (subst (λ (c : Core). AreTiled (merged_regions c)) stands.same tiled) due stands)
 
 -- where an event fits of what the monitor shows it fits of the state
 pub load_fits : (m : MonitorView) (s : State) (hit : Bool) → Stands m s → IsLoading m.core.phase (row_count m.core) → IsLoading s.core.phase (row_count s.core)

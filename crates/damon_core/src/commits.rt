@@ -43,8 +43,6 @@ impl Monitor {
         ensures cap { self.new.core.regions.cap ≡ self.old.core.regions.cap }
         ensures ticks { self.new.core.ticks ≡ self.old.core.ticks }
     {
-        live_commit::accepted_commits_are_within();
-        watermarks::metrics_decide_in_turn();
         validate(commit, &self.space, &self.view())?;
         Ok(self.accept(commit))
     }
@@ -75,9 +73,6 @@ impl Monitor {
           slots = committed_slots (commit_value commit.now) self.old.slots;
         } }
     {
-        live_commit::accepted_commits_are_within();
-        range_update::updated_rows_are_kept();
-        region_list::shrunk_rows_are_kept();
         let attrs = commit.attrs.unwrap_or(self.attrs());
         let sampling = &mut *self.sampling;
         let void = sampling.commit(&self.space, &commit.ranges, attrs.max);

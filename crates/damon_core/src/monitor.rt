@@ -88,7 +88,6 @@ impl Monitor {
         ensures reached { IfOk result (λ m. Reached (opening (value_of setup.now))) }
     {
         opening_is_reached(setup);
-        region_list::shrunk_rows_are_kept();
         let regions = first_regions(alloc, setup)?;
         // For its clauses alone: the rows tile their ranges and are within their limits.
         let _rows = regions.len();
@@ -330,9 +329,6 @@ impl Monitor {
         ensures slots { self.new.slots ≡ (engine_served self.old.core self.old.slots).slots }
         ensures event { Makes Stands self.old self.new (aggregate_event words.now ∷ []) }
     {
-        scheme_engine::outcome_rows_are_kept();
-        scheme_engine::outcome_runs_are_taken();
-        scheme_engine::served_slots_are_kept();
         let sampling = &mut *self.sampling;
         let limit = merge_limit(sampling.regions(), self.attrs.min);
         let threshold = sampling.merge(limit, self.version);

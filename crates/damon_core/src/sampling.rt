@@ -258,6 +258,7 @@ impl Sampling {
 
     // Ages the rows and merges those that are about the same; merged rows have at most `limit` pages.
     // Returns the threshold of both. No pass is under way.
+    #[tactic(auto, using(aggregator::proofs::Lemmas::length_aged, region_merge::proofs::Lemmas::some_merged))]
     pub(crate) fn merge(&mut self, limit: u32, version: Version) -> u32
         requires { IsBetween self.old.phase }
         ensures threshold { result ≡ threshold_of self.old.regions.rows }
@@ -268,8 +269,6 @@ impl Sampling {
           };
         } }
     {
-        aggregator::aged_rows_are_kept();
-        region_merge::merged_rows_are_kept();
         let threshold = threshold(&self.regions);
         age_all(&mut self.regions, threshold, version);
         merge_all(&mut self.regions, threshold, limit);
@@ -278,6 +277,7 @@ impl Sampling {
 
     // Serves the slots of an engine over the rows, at the end of an aggregation of `aggr` passes at a tick.
     // The report keeps what they were applied to. No pass is under way.
+    #[tactic(auto, using(scheme_engine::proofs::Lemmas::slots_some))]
     pub(crate) fn serve(
         &mut self,
         engine: &mut Engine,
@@ -309,12 +309,12 @@ impl Sampling {
           };
         } }
     {
-        scheme_engine::served_slots_are_kept();
         report.serve(engine, &mut self.regions, space, aggr, tick);
     }
 
     // Clears the counts and splits the rows, row i by the words 2i and 2i + 1. No pass is under way, and
     // the next one may be prepared.
+    #[tactic(auto, using(crate::proofs::Adapting::rows_split))]
     pub(crate) fn split(&mut self, words: &[u32])
         requires phase { IsBetween self.old.phase }
         requires words { 2 * length self.old.regions.rows ≤ length words.now }
@@ -328,8 +328,6 @@ impl Sampling {
         } }
         ensures counts { AllByRecursion (λ r. r.count ≤ 0) self.new.regions.rows }
     {
-        aggregator::cleared_rows_are_kept();
-        region_split::split_rows_are_kept();
         let before = self.regions.len();
         clear_counts(&mut self.regions);
         split_all(&mut self.regions, words, self.before);
@@ -353,9 +351,6 @@ impl Sampling {
         ensures within { AreWithin space.now self.old.regions.ranges
             → AreWithin space.now self.new.regions.ranges }
     {
-        range_update::updated_rows_are_kept();
-        region_list::shrunk_rows_are_kept();
-        target_ranges::made_in_order();
         // For their clauses alone: there are at most `cap` rows, and the space is within its limits.
         let (_rows, _targets) = (self.regions.len(), space.targets());
         keep_if_armed(&mut self.earlier, self.phase, self.regions.rows());

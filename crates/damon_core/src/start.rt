@@ -28,7 +28,6 @@ pub(crate) fn first_engine(alloc: Global, setup: &Setup) -> Result<Box<Engine>, 
     ensures cap { IfOk result (λ e. e.value.cap ≡ setup.now.cap) }
     ensures new { IfOk result (λ e. AllByRecursion IsUnused e.value.slots) }
 {
-    live_commit::accepted_commits_are_within();
     let mut engine = Engine::new(alloc, setup.cap)?;
     for change in setup.slots.as_slice() {
         engine.change(change);

@@ -1,5 +1,6 @@
-pub mod Changes
-pub mod Limits
-pub mod Accepting
+mod Changes
+mod Limits
+mod Accepting
+pub mod Lemmas
 mod Examples
 mod CommitExamples

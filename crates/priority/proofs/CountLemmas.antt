@@ -1,13 +1,13 @@
 -- What a choice amounts to does not depend on the order of the candidates, nor on those without a share.
-use Rattle.std.proofs.Common.{◌≡◌, ℕ, ◌<◌, ◌≤◌, Bool, true, false, cond, List, [], ◌∷◌, Option, Some, None, map, refl, ap, arith}
-use Rattle.std.specs.Prelude.{min, filter, IsPermutation}
+use Rattle.std.proofs.Common.{◌≡◌, ℕ, ◌<◌, ◌≤◌, Bool, true, false, cond, List, [], ◌∷◌, Option, Some, None, map, refl, sym, ap, arith}
+use Rattle.std.specs.Prelude.{min, filter, nat_lt, IsPermutation}
 use Rattle.std.specs.List.{reduce}
 use Rattle.std.proofs.lemmas.Bool.Decides.{nat_tests}
 use Rattle.std.proofs.lemmas.List.Elements.{filter_passes}
-use Rattle.std.proofs.lemmas.List.Sorted.{All-permutation, Contains-permutation}
+use Rattle.std.proofs.lemmas.List.Sorted.{All-permutation, Contains-permutation, list_any-IsPermutation, sum_by-IsPermutation}
 use Rattle.std.proofs.lemmas.List.Sums.{sum_by-cons}
 use Rattle.priority.specs.declared.candidates.Candidate.{Candidate}
-use Rattle.priority.specs.Chosen.{lowest_of, taken_of}
+use Rattle.priority.specs.Chosen.{exceeds_of, lowest_of, taken_of}
 use Rattle.priority.specs.Share.{has_share}
 use Rattle.priority.proofs.DropLemmas.{all_pass}
 use Rattle.priority.proofs.LowestLemmas.{IsLowest, lowest_is, lowest_one}
@@ -37,3 +37,9 @@ taken_filter (c ∷ cs) = by (has_share c) refl (taken_filter cs)
     by false test rest =
         let none : c.share ≡ 0 = grind (arith, nat_tests) in
         omega (arith, rest, none, sum_by-cons (λ (x : Candidate). x.share) c cs)
+
+pub taken_permuted : (cs ds : List Candidate) → IsPermutation cs ds → taken_of cs ≡ taken_of ds
+taken_permuted cs ds same = sym (sum_by-IsPermutation (λ (c : Candidate). c.share) cs ds same)
+
+pub exceeds_permuted : (cs ds : List Candidate) → IsPermutation cs ds → exceeds_of cs ≡ exceeds_of ds
+exceeds_permuted = list_any-IsPermutation (λ (c : Candidate). nat_lt c.share c.passing)

@@ -1,18 +1,19 @@
-pub mod ScaleLemmas
-pub mod FrequentLemmas
-pub mod HistogramLemmas
-pub mod OrderLemmas
-pub mod ShareLemmas
-pub mod CandidateLemmas
-pub mod LowestLemmas
-pub mod WalkLemmas
-pub mod SortLemmas
-pub mod RankLemmas
-pub mod TakenLemmas
-pub mod BestLemmas
-pub mod DropLemmas
-pub mod ThresholdLemmas
-pub mod ExceedsLemmas
-pub mod CountLemmas
-pub mod ChoiceLemmas
+mod ScaleLemmas
+mod FrequentLemmas
+mod HistogramLemmas
+mod OrderLemmas
+mod ShareLemmas
+mod CandidateLemmas
+mod LowestLemmas
+mod WalkLemmas
+mod SortLemmas
+mod RankLemmas
+mod TakenLemmas
+mod BestLemmas
+mod DropLemmas
+mod ThresholdLemmas
+mod ExceedsLemmas
+mod CountLemmas
+mod ChoiceLemmas
+pub mod Lemmas
 mod Examples

@@ -41,6 +41,9 @@ pub starts_same : (left : Option ℕ) (all cs : List Candidate) → starts (map 
 starts_same left all [] = refl
 starts_same left all (c ∷ cs) = ap (λ ns. c.start ∷ ns) (starts_same left all cs)
 
+pub starts_shares : (left : Option ℕ) (cs : List Candidate) → starts (with_shares left cs) ≡ starts cs
+starts_shares left cs = starts_same left cs cs
+
 -- the passing pages of all candidates that come before one
 abbrev pub passing_before : List Candidate → Candidate → ℕ
 passing_before cs r = sum_by (λ s. s.passing) (filter (λ s. is_before s r) cs)

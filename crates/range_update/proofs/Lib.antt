@@ -1,7 +1,9 @@
-pub mod RangeLemmas
-pub mod OrderLemmas
-pub mod PieceLemmas
-pub mod SizeLemmas
-pub mod KeptLemmas
-pub mod CountLemmas
+mod RangeLemmas
+mod OrderLemmas
+mod PieceLemmas
+mod SizeLemmas
+mod KeptLemmas
+mod CountLemmas
+mod UpdatedLemmas
+pub mod Lemmas
 mod Examples

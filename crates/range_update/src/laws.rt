@@ -9,8 +9,6 @@ ghost use Rattle.region_list.specs.Tiling.{Tiling};
 ghost use Rattle.range_update.specs.Updated.{boundaries, kept, all_pieces, updated};
 ghost use Rattle.range_update.specs.Kept.{ArePieces, IsKept};
 
-use region_list::{shrunk_rows_are_kept, shrunk_rows_tile};
-
 /// Of the boundaries of rows that tile ranges in order, those kept in one pass from left to right are
 /// the ones of the rule, stated for each page by itself (`IsKept`); and no other list is.
 pub fn boundaries_follow_rule()
@@ -46,7 +44,4 @@ pub fn updated_rows_are_kept()
     ensures counts { (unit max most : ℕ) (rows : List row) (gs : List range)
         → AllByRecursion (λ r. r.count ≤ most) rows
         → AllByRecursion (λ r. r.count ≤ most) (updated unit max rows gs) }
-{
-    shrunk_rows_tile();
-    shrunk_rows_are_kept();
-}
+{}

@@ -87,6 +87,10 @@ divided_tiling unit least total (g ∷ gs) some wide =
       divided_tiling unit least total gs some wide.1,
     )
 
+-- the initial division tiles its ranges
+pub tiling_divided : (unit min : ℕ) (gs : List Range) → 1 ≤ unit → AllByRecursion (λ g. unit ≤ g.pages) gs → Tiling unit gs (spans (divided unit min gs))
+tiling_divided unit min gs some wide = divided_tiling unit min (page_total gs) gs some wide
+
 -- the ranges from index k: the one there and the others
 pub drop_next : (gs : List Range) (i : ℕ) (g : Range) → i < length gs → slice_get gs i ≡ Some g → drop i gs ≡ g ∷ drop (i + 1) gs
 drop_next gs i g here is = drop-cons gs i g here ∙ ap (λ x. x ∷ drop (suc i) gs) (get_or_from_slice_get gs i g g is) ∙ ap (λ n. g ∷ drop n gs) (sym (add-one i))

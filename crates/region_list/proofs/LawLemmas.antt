@@ -1,9 +1,11 @@
 -- What the laws say of joined rows, and of a walk along the rows of a tiling.
-use Rattle.std.proofs.Common.{◌≡◌, inl, inr, ℕ, ◌+◌, ◌^◌, ◌≤◌, ◌<◌, true, List, ◌∷◌, ◌++◌, length, subst, arith}
+use Rattle.std.proofs.Common.{◌≡◌, inl, inr, ℕ, ◌+◌, ◌^◌, ◌≤◌, ◌<◌, true, false, List, Some, ◌∷◌, ◌++◌, length, refl, subst, arith}
+use Rattle.std.specs.Prelude.{slice_get}
 use Rattle.std.specs.List.{AllByRecursion}
+use Rattle.std.specs.Option.{option_map}
 use Rattle.damon_types.specs.declared.range.Range.{Range}
 use Rattle.damon_types.specs.declared.row.Row.{Row}
-use Rattle.damon_types.specs.Ranges.{InOrder}
+use Rattle.damon_types.specs.Ranges.{InOrder, end_of}
 use Rattle.damon_types.specs.Span.{spans}
 use Rattle.region_list.specs.Tiling.{Tiling}
 use Rattle.region_list.specs.Join.{join}
@@ -12,7 +14,7 @@ use Rattle.region_list.specs.Walk.{TilesFrom, BeginsIn}
 use Rattle.region_list.proofs.JoinLemmas.{sizes_joined}
 use Rattle.region_list.proofs.TilingLemmas.{tiling_size, tiling_weaker, end_at}
 use Rattle.region_list.proofs.WalkLemmas.{Next, Step, step, prepend, tiling_joined}
-use Rattle.region_list.proofs.ClosestLemmas.{here_within}
+use Rattle.region_list.proofs.ClosestLemmas.{at_begin, at_on, at_over, here_within}
 use Rattle.region_list.proofs.ShrinkLemmas.{tiling_of_sizes}
 use Rattle.region_list.proofs.SweepLemmas.{pair_at, joined_here}
 
@@ -47,3 +49,14 @@ pub begins_fits : (gs : List Range) (a : Row) (rows : List Row) (k end : ℕ) �
 begins_fits gs a rows k end ordered here =
     let s = step here.from here.range here.others a rows here.rest in
     omega (arith, s.high, s.start, end_at 0 0 gs k here.range ordered (here_within gs k here.range here.others here.ranges).1)
+
+-- the next row lies in the same range, or begins the next one
+pub begins_same : (gs : List Range) (a b : Row) (rows : List Row) (k end : ℕ) → InOrder gs → BeginsIn gs (a ∷ b ∷ rows) k end → (a.start + a.pages ≡ end → ⊥) → (in_one_range gs a b ≡ true) × BeginsIn gs (b ∷ rows) k end
+begins_same gs a b rows k end ordered here on = let is = at_on gs (a ∷ b ∷ rows) k 0 end a b rows ordered refl here on in (is.1, is.0)
+
+pub begins_next : (gs : List Range) (a b : Row) (rows : List Row) (k end : ℕ) → InOrder gs → BeginsIn gs (a ∷ b ∷ rows) k end → a.start + a.pages ≡ end → (in_one_range gs a b ≡ false) × (k + 1 < length gs) × ((next : ℕ) → option_map end_of (slice_get gs (k + 1)) ≡ Some next → BeginsIn gs (b ∷ rows) (k + 1) next)
+begins_next gs a b rows k end ordered here over = let is = at_over gs (a ∷ b ∷ rows) k 0 end a b rows ordered refl here over in (is.2, is.0, is.1)
+
+-- the first row of a tiling lies in the first range
+pub begins_first : (gs : List Range) (a : Row) (rows : List Row) (end : ℕ) → InOrder gs → Tiling 1 gs (spans (a ∷ rows)) → option_map end_of (slice_get gs 0) ≡ Some end → BeginsIn gs (a ∷ rows) 0 end
+begins_first gs a rows end ordered tiling is = at_begin gs (a ∷ rows) end ordered tiling (omega arith) is

@@ -1,5 +1,6 @@
-pub mod GroupingLemmas
-pub mod MergedLemmas
+mod GroupingLemmas
+mod MergedLemmas
 mod StayLemmas
-pub mod StepLemmas
+mod StepLemmas
+pub mod Lemmas
 mod Examples

@@ -5,10 +5,12 @@ use Rattle.std.specs.Prelude.{◌&&◌}
 use Rattle.std.specs.List.{AllByRecursion}
 use Rattle.damon_types.specs.declared.range.Range.{Range}
 use Rattle.damon_types.specs.declared.row.Row.{Row}
+use Rattle.damon_types.specs.Ranges.{InOrder}
 use Rattle.damon_types.specs.Span.{spans}
 use Rattle.region_list.specs.Tiling.{Tiling}
 use Rattle.region_list.specs.Join.{average, join}
 use Rattle.region_list.specs.Shrink.{in_one_range}
+use Rattle.region_list.proofs.Lemmas.{joined_tiling}
 use Rattle.region_merge.specs.Merged.{may_join, merged_from, merged}
 
 -- the law of joined rows, at one list of ranges
@@ -32,9 +34,9 @@ tiling_from unit threshold limit gs front (b ∷ rows) a law tiling = by (may_jo
         rw may (rw append_assoc at (next later))
 
 -- merged rows tile as before
-pub tiling_merged : (unit threshold limit : ℕ) (gs : List Range) (rows : List Row) → JoinsTile unit gs → Tiling unit gs (spans rows) → Tiling unit gs (spans (merged gs threshold limit rows))
-tiling_merged unit threshold limit gs [] law tiling = tiling
-tiling_merged unit threshold limit gs (a ∷ rows) law tiling = tiling_from unit threshold limit gs [] rows a law tiling
+pub tiling_merged : (unit : ℕ) (gs : List Range) (threshold limit : ℕ) (rows : List Row) → 1 ≤ unit → InOrder gs → Tiling unit gs (spans rows) → Tiling unit gs (spans (merged gs threshold limit rows))
+tiling_merged unit gs threshold limit [] some ordered tiling = tiling
+tiling_merged unit gs threshold limit (a ∷ rows) some ordered tiling = tiling_from unit threshold limit gs [] rows a (λ front back x y before one. joined_tiling unit gs front back x y some ordered before one) tiling
 
 -- there is a row, and there are no more than there were
 pub length-merged_from : (threshold limit : ℕ) (gs : List Range) (a : Row) (rows : List Row) → (1 ≤ length (merged_from gs threshold limit a rows)) × (length (merged_from gs threshold limit a rows) ≤ length rows + 1)
@@ -45,13 +47,13 @@ length-merged_from threshold limit gs a (b ∷ rows) = by (may_join gs threshold
     by true may on next = rw may (on.0, omega (arith, on.1))
     by false may on next = rw may (omega arith, omega (arith, next.1))
 
-pub length-merged : (threshold limit : ℕ) (gs : List Range) (rows : List Row) → length (merged gs threshold limit rows) ≤ length rows
-length-merged threshold limit gs [] = omega arith
-length-merged threshold limit gs (a ∷ rows) = omega (arith, (length-merged_from threshold limit gs a rows).1)
+pub length_merged : (gs : List Range) (threshold limit : ℕ) (rows : List Row) → length (merged gs threshold limit rows) ≤ length rows
+length_merged gs threshold limit [] = omega arith
+length_merged gs threshold limit (a ∷ rows) = omega (arith, (length-merged_from threshold limit gs a rows).1)
 
-pub some_merged : (threshold limit : ℕ) (gs : List Range) (rows : List Row) → 0 < length rows → 0 < length (merged gs threshold limit rows)
-some_merged threshold limit gs [] some = some
-some_merged threshold limit gs (a ∷ rows) some = (length-merged_from threshold limit gs a rows).0
+pub some_merged : (gs : List Range) (threshold limit : ℕ) (rows : List Row) → 0 < length rows → 0 < length (merged gs threshold limit rows)
+some_merged gs threshold limit [] some = some
+some_merged gs threshold limit (a ∷ rows) some = (length-merged_from threshold limit gs a rows).0
 
 -- an average is at most what both numbers are at most
 average_le : (most x x_pages y y_pages : ℕ) → x ≤ most → y ≤ most → average x x_pages y y_pages ≤ most
@@ -68,6 +70,6 @@ counts_from most threshold limit gs a (b ∷ rows) first others = by (may_join g
     by false may on next = rw may (first, next)
 
 -- a bound on all counts still holds
-pub counts_merged : (most threshold limit : ℕ) (gs : List Range) (rows : List Row) → AllByRecursion (λ (r : Row). r.count ≤ most) rows → AllByRecursion (λ (r : Row). r.count ≤ most) (merged gs threshold limit rows)
-counts_merged most threshold limit gs [] counts = tt
-counts_merged most threshold limit gs (a ∷ rows) counts = counts_from most threshold limit gs a rows counts.0 counts.1
+pub counts_merged : (gs : List Range) (threshold limit most : ℕ) (rows : List Row) → AllByRecursion (λ (r : Row). r.count ≤ most) rows → AllByRecursion (λ (r : Row). r.count ≤ most) (merged gs threshold limit rows)
+counts_merged gs threshold limit most [] counts = tt
+counts_merged gs threshold limit most (a ∷ rows) counts = counts_from most threshold limit gs a rows counts.0 counts.1

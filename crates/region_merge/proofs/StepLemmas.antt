@@ -6,48 +6,40 @@ use Rattle.std.specs.Prelude.{◌&&◌, ◌==◌, not, slice_get}
 use Rattle.std.specs.Option.{option_map}
 use Rattle.damon_types.specs.declared.range.Range.{Range}
 use Rattle.damon_types.specs.declared.row.Row.{Row}
-use Rattle.damon_types.specs.Ranges.{end_of}
+use Rattle.damon_types.specs.Ranges.{InOrder, end_of}
 use Rattle.region_list.specs.Join.{join}
 use Rattle.region_list.specs.Rows.{no_row, row_at}
 use Rattle.region_list.specs.Shrink.{in_one_range}
 use Rattle.region_list.specs.Walk.{BeginsIn}
+use Rattle.region_list.proofs.Lemmas.{begins_next, begins_same}
 use Rattle.region_merge.specs.Merged.{row_end, is_within, may_join, merged_from}
-
--- the laws of a walk along rows, for these ranges
-pub record WalkLaws (gs : List Range) : Type 0 where
-  pub same : (a b : Row) (rows : List Row) (k end : ℕ) → BeginsIn gs (a ∷ b ∷ rows) k end → (row_end a ≡ end → ⊥) → (in_one_range gs a b ≡ true) × BeginsIn gs (b ∷ rows) k end
-  pub next : (a b : Row) (rows : List Row) (k end : ℕ) → BeginsIn gs (a ∷ b ∷ rows) k end → row_end a ≡ end → (in_one_range gs a b ≡ false) × (k + 1 < length gs) × ((next : ℕ) → option_map end_of (slice_get gs (k + 1)) ≡ Some next → BeginsIn gs (b ∷ rows) (k + 1) next)
 
 drop_next : (rows : List Row) (i : ℕ) → i < length rows → drop i rows ≡ row_at rows i ∷ drop (i + 1) rows
 drop_next rows i within = rw add-one (drop-cons rows i no_row within)
 
--- the rows that are left begin with the next row
-pub begins_next : (gs : List Range) (a : Row) (rows : List Row) (i k end : ℕ) → i < length rows → BeginsIn gs (a ∷ drop i rows) k end → BeginsIn gs (a ∷ row_at rows i ∷ drop (i + 1) rows) k end
-begins_next gs a rows i k end within here = subst (λ rs. BeginsIn gs (a ∷ rs) k end) (drop_next rows i within) here
-
 -- one range holds both rows exactly if the first one ends before its range
-in_one_range_is : (gs : List Range) (a b : Row) (rows : List Row) (k end : ℕ) → WalkLaws gs → BeginsIn gs (a ∷ b ∷ rows) k end → in_one_range gs a b ≡ not (row_end a == end)
-in_one_range_is gs a b rows k end laws here = by (row_end a == end) refl
+in_one_range_is : (gs : List Range) (a b : Row) (rows : List Row) (k end : ℕ) → InOrder gs → BeginsIn gs (a ∷ b ∷ rows) k end → in_one_range gs a b ≡ not (row_end a == end)
+in_one_range_is gs a b rows k end order here = by (row_end a == end) refl
   where
     by : (v : Bool) → (row_end a == end) ≡ v → in_one_range gs a b ≡ not v
-    by true over = (laws.next a b rows k end here (eqb-true _ _ over)).0
-    by false on = (laws.same a b rows k end here (eqb-false _ _ on)).0
+    by true over = (begins_next gs a b rows k end order here (eqb-true _ _ over)).0
+    by false on = (begins_same gs a b rows k end order here (eqb-false _ _ on)).0
 
 -- so a test of the ends shows whether the rows are joined
-pub may_join_is : (gs : List Range) (threshold limit : ℕ) (a b : Row) (rows : List Row) (k end : ℕ) → WalkLaws gs → BeginsIn gs (a ∷ b ∷ rows) k end → may_join gs threshold limit a b ≡ (not (row_end a == end) && is_within threshold limit a b)
-may_join_is gs threshold limit a b rows k end laws here = ap (λ one. one && is_within threshold limit a b) (in_one_range_is gs a b rows k end laws here)
+pub may_join_is : (gs : List Range) (threshold limit : ℕ) (a b : Row) (rows : List Row) (k end : ℕ) → InOrder gs → BeginsIn gs (a ∷ b ∷ rows) k end → may_join gs threshold limit a b ≡ (not (row_end a == end) && is_within threshold limit a b)
+may_join_is gs threshold limit a b rows k end order here = ap (λ one. one && is_within threshold limit a b) (in_one_range_is gs a b rows k end order here)
 
 -- where the next row begins a group, in this range or in the next one
-pub begins_group : (gs : List Range) (a b : Row) (rows : List Row) (k end k' end' : ℕ) → WalkLaws gs → BeginsIn gs (a ∷ b ∷ rows) k end → ((row_end a ≡ end → ⊥) → (k' ≡ k) × (end' ≡ end)) → (row_end a ≡ end → (k' ≡ k + 1) × (option_map end_of (slice_get gs (k + 1)) ≡ Some end')) → BeginsIn gs (b ∷ rows) k' end'
-begins_group gs a b rows k end k' end' laws here same next = by (row_end a == end) refl
+pub begins_group : (gs : List Range) (a b : Row) (rows : List Row) (k end k' end' : ℕ) → InOrder gs → BeginsIn gs (a ∷ b ∷ rows) k end → ((row_end a ≡ end → ⊥) → (k' ≡ k) × (end' ≡ end)) → (row_end a ≡ end → (k' ≡ k + 1) × (option_map end_of (slice_get gs (k + 1)) ≡ Some end')) → BeginsIn gs (b ∷ rows) k' end'
+begins_group gs a b rows k end k' end' order here same next = by (row_end a == end) refl
   where
     by : (v : Bool) → (row_end a == end) ≡ v → BeginsIn gs (b ∷ rows) k' end'
     by true is =
         let over = eqb-true _ _ is in
-        rw ((next over).0) ((laws.next a b rows k end here over).2 end' (next over).1)
+        rw ((next over).0) ((begins_next gs a b rows k end order here over).2 end' (next over).1)
     by false is =
         let on = eqb-false _ _ is in
-        rw ((same on).0, (same on).1) ((laws.same a b rows k end here on).1)
+        rw ((same on).0, (same on).1) ((begins_same gs a b rows k end order here on).1)
 
 -- the next row is joined
 pub merged_joined : (gs : List Range) (threshold limit : ℕ) (a : Row) (rows : List Row) (i : ℕ) → i < length rows → may_join gs threshold limit a (row_at rows i) ≡ true → merged_from gs threshold limit a (drop i rows) ≡ merged_from gs threshold limit (join a (row_at rows i)) (drop (i + 1) rows)

@@ -33,6 +33,4 @@ pub fn merged_rows_are_kept()
     ensures counts { (gs : List range) (threshold limit most : ℕ) (rows : List row)
         → AllByRecursion (λ r. r.count ≤ most) rows
         → AllByRecursion (λ r. r.count ≤ most) (merged gs threshold limit rows) }
-{
-    region_list::joined_rows_tile();
-}
+{}

@@ -6,9 +6,8 @@ ghost use Rattle.region_list.specs.Walk.{BeginsIn};
 ghost use Rattle.region_merge.specs.Merged.{row_end, is_within, merged};
 ghost use Rattle.region_merge.specs.Grouping.{IsMerged};
 
-use crate::{merged_rows_are_kept, merged_rows_are_the_grouping};
 use damon_types::{Ranges, Row};
-use region_list::{Regions, RowBuf, RowPass, join_rows, range_end, rows_follow_ranges};
+use region_list::{Regions, RowBuf, RowPass, join_rows, range_end};
 
 /// Merges the rows of a monitor from left to right. Within one range each row is joined to the row
 /// merged so far where their counts differ by at most `threshold` (passes) and they have at most
@@ -16,6 +15,7 @@ use region_list::{Regions, RowBuf, RowPass, join_rows, range_end, rows_follow_ra
 /// join are averages weighted by pages and rounded down, taken anew at each join. Only the rows
 /// change. Makes one pass over them and takes no memory. The threshold, the size limit and the
 /// averages are this project's own rule.
+#[tactic(auto, using(crate::proofs::MergedLemmas::tiling_merged, crate::proofs::MergedLemmas::length_merged, crate::proofs::GroupingLemmas::merged_groups))]
 pub fn merge_all(regions: &mut Regions, threshold: u32, limit: u32)
     ensures rows { regions.new ≡ record regions.old {
       rows = merged regions.old.ranges threshold limit regions.old.rows;
@@ -23,9 +23,7 @@ pub fn merge_all(regions: &mut Regions, threshold: u32, limit: u32)
     ensures grouping { IsMerged regions.old.ranges threshold limit
         regions.old.rows regions.new.rows }
 {
-    // For their clauses alone: merging finds the grouping, and merged rows tile and have room.
-    merged_rows_are_the_grouping();
-    merged_rows_are_kept();
+    // For its clauses alone: the rows tile their ranges, which are in order.
     let _count = regions.len();
     if may_join_two(regions.rows(), threshold, limit) {
         regions.remake(&MergePass { threshold, limit });
@@ -72,9 +70,8 @@ impl RowPass for MergePass {
     ghost can_run = { λ pass rows. Unit {0} };
 
     fn run(&self, ranges: &Ranges, rows: &RowBuf, made: &mut RowBuf) {
-        // For their clauses alone: the ranges are in order, and the rows follow them.
+        // For its clauses alone: the ranges are in order.
         let _count = ranges.len();
-        rows_follow_ranges();
         if rows.len() == 0 {
             return;
         }
@@ -126,8 +123,6 @@ impl MergePass {
             ≡ take from.index rows.now.rows
             ++ merged ranges.now.list self.now.threshold self.now.limit (drop from.index rows.now.rows) }
     {
-        // For its clauses alone: the rows follow the ranges.
-        rows_follow_ranges();
         let last = rows.len() - 1;
         let mut at = from;
         'pairs: while at.index < last {

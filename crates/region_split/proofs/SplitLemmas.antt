@@ -5,12 +5,14 @@ use Rattle.std.specs.List.{AllByRecursion}
 use Rattle.std.proofs.lemmas.Bool.Decides.{nat_tests}
 use Rattle.std.proofs.lemmas.List.{map-append}
 use Rattle.std.proofs.Math.Nat.{mul-le-mul_right, div-le_of_le-mul}
+use Rattle.damon_types.specs.declared.range.Range.{Range}
 use Rattle.damon_types.specs.declared.row.Row.{Row}
 use Rattle.damon_types.specs.Span.{span_of, spans}
-use Rattle.region_list.specs.Tiling.{Chain}
+use Rattle.region_list.specs.Tiling.{Chain, Tiling}
 use Rattle.region_list.specs.Refined.{IsRefined}
+use Rattle.region_list.proofs.Lemmas.{refined_tiling}
 use Rattle.region_split.specs.Cut.{SplitLimits, cut_place, may_cut, left_side, right_side}
-use Rattle.region_split.specs.Split.{two_parts, three_parts, split_from}
+use Rattle.region_split.specs.Split.{two_parts, three_parts, split_from, split_rows, wants_three}
 
 -- a cut lies within the row
 cut_place_within : (pages word : ℕ) → cut_place pages word ≤ pages
@@ -145,3 +147,16 @@ rest_stays limits three words count i (r ∷ rows) full =
     ap (λ new. new ++ split_from limits three words (count + length new - 1) (i + 1) rows) (row_stays limits three count (slice_index words (2 * i)) (slice_index words (2 * i + 1)) r full)
     ∙ ap (λ n. r ∷ split_from limits three words n (i + 1) rows) same
     ∙ ap (λ rs. r ∷ rs) (rest_stays limits three words count (i + 1) rows full)
+
+-- what all rows keep when they are split
+pub tiling_split : (max unit before : ℕ) (words : List ℕ) (gs : List Range) (rows : List Row) → Tiling unit gs (spans rows) → Tiling unit gs (spans (split_rows max unit before words rows))
+tiling_split max unit before words gs rows tiling = refined_tiling unit gs (spans rows) (spans (split_rows max unit before words rows)) tiling (split_refined (record { max = max; unit = unit }) (wants_three max before (length rows)) words (length rows) 0 rows)
+
+pub length_split : (max unit before : ℕ) (words : List ℕ) (rows : List Row) → length rows ≤ max → length (split_rows max unit before words rows) ≤ max
+length_split max unit before words rows few = omega (arith, split_few (record { max = max; unit = unit }) (wants_three max before (length rows)) words 0 (length rows) 0 rows (omega arith) few)
+
+pub some_split : (max unit before : ℕ) (words : List ℕ) (rows : List Row) → 0 < length rows → 0 < length (split_rows max unit before words rows)
+some_split max unit before words rows some = split_some (record { max = max; unit = unit }) (wants_three max before (length rows)) words (length rows) 0 rows some
+
+pub counts_split : (max unit before most : ℕ) (words : List ℕ) (rows : List Row) → AllByRecursion (λ r. r.count ≤ most) rows → AllByRecursion (λ r. r.count ≤ most) (split_rows max unit before words rows)
+counts_split max unit before most words rows few = split_counts (record { max = max; unit = unit }) most (wants_three max before (length rows)) words (length rows) 0 rows few

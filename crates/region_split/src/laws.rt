@@ -7,8 +7,6 @@ ghost use Rattle.damon_types.specs.Span.{spans};
 ghost use Rattle.region_list.specs.Tiling.{Tiling};
 ghost use Rattle.region_split.specs.Split.{split_rows};
 
-use region_list::refined_rows_tile;
-
 /// Rows that are split still tile their ranges with the minimum size of the split, are at most
 /// `max` where they were so before, and are at least one where there was one. No count rises.
 pub fn split_rows_are_kept()
@@ -22,6 +20,4 @@ pub fn split_rows_are_kept()
     ensures counts { (max unit before most : ℕ) (words : List ℕ) (rows : List row)
         → AllByRecursion (λ r. r.count ≤ most) rows
         → AllByRecursion (λ r. r.count ≤ most) (split_rows max unit before words rows) }
-{
-    refined_rows_tile();
-}
+{}

@@ -2,7 +2,6 @@ ghost use Rattle.std.specs.Prelude.{◌≡◌, ◌+◌, ◌-◌, ◌*◌, ◌≤
 ghost use Rattle.region_split.specs.Split.{wants_three as wants_three_of, two_parts, three_parts, split_from, split_rows};
 
 use crate::cut::{Limits, cut_place, left, may_cut, right};
-use crate::laws::split_rows_are_kept;
 use damon_types::{Ranges, Row};
 use region_list::{Regions, RowBuf, RowPass, tiled_rows_fit};
 
@@ -19,6 +18,7 @@ use region_list::{Regions, RowBuf, RowPass, tiled_rows_fit};
 /// by the same rule. The parts have the count, last count and age of their row.
 ///
 /// The split rule is this project's own.
+#[tactic(auto, using(crate::proofs::SplitLemmas::tiling_split, crate::proofs::SplitLemmas::length_split))]
 pub fn split_all(regions: &mut Regions, words: &[u32], before: u32)
     requires words { 2 * length regions.old.rows ≤ length words.now }
     ensures { regions.new
@@ -26,8 +26,6 @@ pub fn split_all(regions: &mut Regions, words: &[u32], before: u32)
           rows = split_rows regions.old.max regions.old.unit before words.now regions.old.rows;
         } }
 {
-    // For its clauses alone: the new rows tile the ranges and are few enough.
-    split_rows_are_kept();
     let count = regions.len();
     let max = regions.max();
     // No row is cut where there are as many as are allowed, and then none is copied.

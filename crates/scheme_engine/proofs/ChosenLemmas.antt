@@ -18,7 +18,7 @@ use Rattle.scheme_engine.specs.Candidates.{candidates_of}
 use Rattle.scheme_engine.specs.Kept.{AreTiled}
 use Rattle.scheme_engine.specs.Outcome.{chosen_of, rows_after}
 use Rattle.scheme_engine.specs.Taken.{applied_runs}
-use Rattle.scheme_engine.proofs.LawLemmas.{ChoiceLaws, are_defined}
+use Rattle.scheme_engine.proofs.LawLemmas.{are_defined}
 use Rattle.scheme_engine.proofs.RowsLemmas.{AreChosen, part_fits, rows_none, rows_some}
 use Rattle.scheme_engine.proofs.SharedLemmas.{shared_part, shared_rows, shared_runs}
 
@@ -28,9 +28,9 @@ pub record IsChosenList (passes : ℕ → Bool) (rows : List Row) (all list : Li
   pub is : list ≡ filter (λ c. nat_lt 0 c.share) all
 
 -- what a choice gives
-pub is_chosen : ChoiceLaws → (space : List Target) (aggr : ℕ) (scheme : Scheme) (left : Option ℕ) (regions : RegionList) → AreTiled regions → (cs list : List Candidate) → cs ≡ candidates_of space regions.ranges aggr scheme regions.rows → list ≡ filter (λ c. nat_lt 0 c.share) (in_order (with_shares left cs)) → IsChosenList (passes scheme.filters space regions.ranges) regions.rows (chosen_of space aggr scheme left regions) list
-is_chosen laws space aggr scheme left regions tiled cs list gathered is = record {
-  are = (are_defined laws space aggr scheme left regions tiled).chosen;
+pub is_chosen : (space : List Target) (aggr : ℕ) (scheme : Scheme) (left : Option ℕ) (regions : RegionList) → AreTiled regions → (cs list : List Candidate) → cs ≡ candidates_of space regions.ranges aggr scheme regions.rows → list ≡ filter (λ c. nat_lt 0 c.share) (in_order (with_shares left cs)) → IsChosenList (passes scheme.filters space regions.ranges) regions.rows (chosen_of space aggr scheme left regions) list
+is_chosen space aggr scheme left regions tiled cs list gathered is = record {
+  are = (are_defined space aggr scheme left regions tiled).chosen;
   is = is ∙ ap (λ ds. filter (λ c. nat_lt 0 c.share) (in_order (with_shares left ds))) gathered;
 }
 

@@ -1,6 +1,6 @@
 -- What runs of schemes keep.
 use Rattle.std.proofs.Common.{◌≡◌, ℕ, ◌+◌, ◌-◌, ◌≤◌, ◌<◌, Bool, true, false, List, [], ◌∷◌, ◌++◌, Option, Some, None, length, length-append, refl, sym, ap, ◌∙◌, subst, arith}
-use Rattle.std.specs.Prelude.{◌==◌, All, IfSome, IsPermutation, fold, nat_lt, nat_eq}
+use Rattle.std.specs.Prelude.{◌==◌, IfSome, IsPermutation, fold, nat_lt, nat_eq}
 use Rattle.std.specs.List.{AllByRecursion, IsDistinct, cons_option, flat_map}
 use Rattle.std.specs.Option.{option_map_or}
 use Rattle.std.proofs.lemmas.Bool.Decides.{nat_tests}
@@ -20,9 +20,9 @@ use Rattle.region_list.specs.Tiling.{Chain}
 use Rattle.scheme_filter.specs.Passes.{passes}
 use Rattle.priority.specs.declared.candidates.Candidate.{Candidate}
 use Rattle.priority.specs.Candidates.{DistinctStarts, starts}
-use Rattle.priority.specs.Chosen.{taken_of}
-use Rattle.priority.specs.Order.{InPriority, in_order}
+use Rattle.priority.specs.Order.{in_order}
 use Rattle.priority.specs.Share.{with_shares}
+use Rattle.priority.proofs.Lemmas.{order_of, same_of, shares_fit, starts_shares}
 use Rattle.scheme_engine.specs.declared.cut.Part.{Part}
 use Rattle.scheme_engine.specs.Applying.{cut_rows, next_part, row_renewed, rows_cut, rows_renewed}
 use Rattle.scheme_engine.specs.Candidates.{candidate_of, candidates_of}
@@ -33,14 +33,6 @@ use Rattle.scheme_engine.proofs.GatherLemmas.{IsOfRow, candidate_is}
 use Rattle.scheme_engine.proofs.PlaceLemmas.{Ascend, rows_ascend}
 use Rattle.scheme_engine.proofs.OneRowLemmas.{candidate_at}
 use Rattle.scheme_engine.proofs.RowsLemmas.{AreChosen, are_chosen, part_fits, rows_none, rows_some}
-
--- what the laws of choices say
-pub record ChoiceLaws : Type 0 where
-  pub order : (cs : List Candidate) → DistinctStarts cs → InPriority (in_order cs)
-  pub same : (cs : List Candidate) → DistinctStarts cs → IsPermutation cs (in_order cs)
-  pub starts : (left : Option ℕ) (cs : List Candidate) → starts (with_shares left cs) ≡ starts cs
-  pub each : (left : Option ℕ) (cs : List Candidate) → All (λ c. c.share ≤ c.passing) (with_shares left cs)
-  pub within : (left : Option ℕ) (cs : List Candidate) → DistinctStarts cs → IfSome left (λ most. taken_of (with_shares left cs) ≤ most)
 
 -- the candidates of rows that ascend start at different pages
 later : (n : ℕ) (ys : List ℕ) (m : ℕ) → n ≤ m → AllByRecursion (λ y. m ≤ y) ys → AllByRecursion (λ y. n ≤ y) ys
@@ -80,11 +72,11 @@ eq_flips : (x y : ℕ) → nat_eq x y ≡ nat_eq y x
 eq_flips x y = grind (arith, nat_tests)
 
 -- candidates in priority order, and candidates with their shares, start at pages of their own
-pub distinct_in_order : ChoiceLaws → (cs : List Candidate) → DistinctStarts cs → DistinctStarts (in_order cs)
-distinct_in_order laws cs distinct = IsDistinct-IsPermutation nat_eq eq_flips (starts cs) (starts (in_order cs)) (IsPermutation-map (λ (c : Candidate). c.start) cs (in_order cs) (laws.same cs distinct)) distinct
+pub distinct_in_order : (cs : List Candidate) → DistinctStarts cs → DistinctStarts (in_order cs)
+distinct_in_order cs distinct = IsDistinct-IsPermutation nat_eq eq_flips (starts cs) (starts (in_order cs)) (IsPermutation-map (λ (c : Candidate). c.start) cs (in_order cs) (same_of cs distinct)) distinct
 
-pub distinct_shares : ChoiceLaws → (left : Option ℕ) (cs : List Candidate) → DistinctStarts cs → DistinctStarts (with_shares left cs)
-distinct_shares laws left cs distinct = subst (IsDistinct nat_eq) (sym (laws.starts left cs)) distinct
+pub distinct_shares : (left : Option ℕ) (cs : List Candidate) → DistinctStarts cs → DistinctStarts (with_shares left cs)
+distinct_shares left cs distinct = subst (IsDistinct nat_eq) (sym (starts_shares left cs)) distinct
 
 -- the candidates of the definition
 pub record AreDefined (space : List Target) (aggr : ℕ) (scheme : Scheme) (left : Option ℕ) (regions : RegionList) : Type 0 where
@@ -92,18 +84,18 @@ pub record AreDefined (space : List Target) (aggr : ℕ) (scheme : Scheme) (left
   pub same : IsPermutation (with_shares left (candidates_of space regions.ranges aggr scheme regions.rows)) (chosen_of space aggr scheme left regions)
   pub chosen : AreChosen (passes scheme.filters space regions.ranges) regions.rows (chosen_of space aggr scheme left regions)
 
-pub are_defined : ChoiceLaws → (space : List Target) (aggr : ℕ) (scheme : Scheme) (left : Option ℕ) (regions : RegionList) → AreTiled regions → AreDefined space aggr scheme left regions
-are_defined laws space aggr scheme left regions tiled =
+pub are_defined : (space : List Target) (aggr : ℕ) (scheme : Scheme) (left : Option ℕ) (regions : RegionList) → AreTiled regions → AreDefined space aggr scheme left regions
+are_defined space aggr scheme left regions tiled =
     let cs = candidates_of space regions.ranges aggr scheme regions.rows in
     let ds = chosen_of space aggr scheme left regions in
     let distinct = distinct_candidates space regions.ranges aggr scheme regions.rows (rows_ascend regions.unit regions.ranges (spans regions.rows) tiled.unit tiled.order tiled.tiling) in
-    let shared : DistinctStarts (with_shares left cs) = distinct_shares laws left cs distinct in
-    let same = laws.same (with_shares left cs) shared in
+    let shared : DistinctStarts (with_shares left cs) = distinct_shares left cs distinct in
+    let same = same_of (with_shares left cs) shared in
     let chosen : DistinctStarts ds = IsDistinct-IsPermutation nat_eq eq_flips (starts (with_shares left cs)) (starts ds) (IsPermutation-map (λ (c : Candidate). c.start) (with_shares left cs) ds same) shared in
     record {
       distinct = distinct;
       same = same;
-      chosen = are_chosen space aggr scheme left regions cs ds tiled.unit tiled.order tiled.tiling refl same (laws.order (with_shares left cs) shared) chosen (All-permutation (λ c. c.share ≤ c.passing) (with_shares left cs) ds same (laws.each left cs));
+      chosen = are_chosen space aggr scheme left regions cs ds tiled.unit tiled.order tiled.tiling refl same (order_of (with_shares left cs) shared) chosen (All-permutation (λ c. c.share ≤ c.passing) (with_shares left cs) ds same (shares_fit left cs));
     }
 
 -- what a row becomes, in the three cases: a fact that holds of the row, of the row with age 0, and of its two sides, holds of it

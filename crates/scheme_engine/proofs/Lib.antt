@@ -1,16 +1,18 @@
-pub mod TakenLemmas
-pub mod SharedLemmas
-pub mod ChosenLemmas
-pub mod PlaceLemmas
-pub mod GatherLemmas
-pub mod CutLemmas
-pub mod ApplyLemmas
-pub mod ChoiceLemmas
-pub mod OneRowLemmas
-pub mod RowsLemmas
-pub mod EngineLemmas
-pub mod LawLemmas
-pub mod RunLemmas
-pub mod BoundLemmas
-pub mod SlotLemmas
+mod TakenLemmas
+mod SharedLemmas
+mod ChosenLemmas
+mod PlaceLemmas
+mod GatherLemmas
+mod CutLemmas
+mod ApplyLemmas
+mod ChoiceLemmas
+mod OneRowLemmas
+mod RowsLemmas
+mod EngineLemmas
+mod LawLemmas
+mod RunLemmas
+mod BoundLemmas
+mod OutcomeLemmas
+mod SlotLemmas
+pub mod Lemmas
 mod Examples

@@ -21,17 +21,7 @@ use Rattle.scheme_engine.specs.Kept.{AreTiled, CountsWithin, IsRunIn, StartBy}
 use Rattle.scheme_engine.specs.Outcome.{outcome_of}
 use Rattle.scheme_engine.specs.Served.{ServedSlot, choice_of, left_in, no_choice, scheme_counted, scheme_served, slot_counted, slot_run, slot_served, slots_served}
 use Rattle.scheme_engine.specs.Slots.{SetScheme, SlotValue, changed, empty_slot, quota_of, turned_slot, window_at}
-
--- what the laws of outcomes say
-pub record OutcomeLaws : Type 0 where
-  pub tiled : (slot aggr : ℕ) (space : List Target) (scheme : Scheme) (left : Option ℕ) (regions : RegionList) → AreTiled regions → AreTiled (record regions { rows = (outcome_of slot space aggr scheme left regions).rows })
-  pub some : (slot aggr : ℕ) (space : List Target) (scheme : Scheme) (left : Option ℕ) (regions : RegionList) → 0 < length regions.rows → 0 < length (outcome_of slot space aggr scheme left regions).rows
-  pub counts : (slot aggr most : ℕ) (space : List Target) (scheme : Scheme) (left : Option ℕ) (regions : RegionList) → AllByRecursion (λ r. r.count ≤ most) regions.rows → AllByRecursion (λ r. r.count ≤ most) (outcome_of slot space aggr scheme left regions).rows
-  pub sum : (slot aggr : ℕ) (space : List Target) (scheme : Scheme) (left : Option ℕ) (regions : RegionList) → AreTiled regions → sum_by (λ r. r.pages) (outcome_of slot space aggr scheme left regions).runs ≡ (outcome_of slot space aggr scheme left regions).taken
-  pub within : (slot aggr : ℕ) (space : List Target) (scheme : Scheme) (left : Option ℕ) (regions : RegionList) → AreTiled regions → IfSome left (λ most. (outcome_of slot space aggr scheme left regions).taken ≤ most)
-  pub space : (slot aggr : ℕ) (space : List Target) (scheme : Scheme) (left : Option ℕ) (regions : RegionList) → AreTiled regions → AreWithin space regions.ranges → All (IsRunIn space) (outcome_of slot space aggr scheme left regions).runs
-  pub taken : (slot aggr : ℕ) (space : List Target) (scheme : Scheme) (left : Option ℕ) (regions : RegionList) → AreTiled regions → AreWithin space regions.ranges → IsSpace space → (outcome_of slot space aggr scheme left regions).taken ≤ MAX_PAGES
-  pub tried : (slot aggr : ℕ) (space : List Target) (scheme : Scheme) (left : Option ℕ) (regions : RegionList) → AreTiled regions → AreWithin space regions.ranges → IsSpace space → (outcome_of slot space aggr scheme left regions).tried ≤ MAX_PAGES
+use Rattle.scheme_engine.proofs.OutcomeLemmas.{outcome_counts, outcome_some, outcome_space, outcome_sum, outcome_taken, outcome_tiled, outcome_tried, outcome_within}
 
 -- The three cases of a slot that is served: it is empty, inactive, or its scheme is run.
 record HoldsOfSlot (slot : ℕ) (space : List Target) (aggr : ℕ) (regions : RegionList) (t : SlotValue) (P : ServedSlot → Type 0) : Type 0 where
@@ -54,26 +44,26 @@ slot_holds slot space aggr tick regions s P holds = by s.set
     by (Some h) = on h h.gauge.active
 
 -- rows
-slot_tiled : OutcomeLaws → (slot : ℕ) (space : List Target) (aggr tick : ℕ) (regions : RegionList) (s : SlotValue) → AreTiled regions → AreTiled (record regions { rows = (slot_served slot space aggr tick regions s).rows })
-slot_tiled laws slot space aggr tick regions s tiled =
-    slot_holds slot space aggr tick regions s (λ w. AreTiled (record regions { rows = w.rows })) (record { empty = tiled; inactive = tiled; active = λ h. laws.tiled slot aggr space h.scheme (left_in (turned_slot tick s)) regions tiled })
+slot_tiled : (slot : ℕ) (space : List Target) (aggr tick : ℕ) (regions : RegionList) (s : SlotValue) → AreTiled regions → AreTiled (record regions { rows = (slot_served slot space aggr tick regions s).rows })
+slot_tiled slot space aggr tick regions s tiled =
+    slot_holds slot space aggr tick regions s (λ w. AreTiled (record regions { rows = w.rows })) (record { empty = tiled; inactive = tiled; active = λ h. outcome_tiled slot aggr space h.scheme (left_in (turned_slot tick s)) regions tiled })
 
-pub slots_tiled : OutcomeLaws → (slot aggr tick : ℕ) (space : List Target) (regions : RegionList) (slots : List SlotValue) → AreTiled regions → AreTiled (record regions { rows = (slots_served slot space aggr tick regions slots).rows })
-slots_tiled laws slot aggr tick space regions [] tiled = tiled
-slots_tiled laws slot aggr tick space regions (s ∷ ss) tiled =
-    slots_tiled laws (slot + 1) aggr tick space (record regions { rows = (slot_served slot space aggr tick regions s).rows }) ss (slot_tiled laws slot space aggr tick regions s tiled)
+pub slots_tiled : (slot aggr tick : ℕ) (space : List Target) (regions : RegionList) (slots : List SlotValue) → AreTiled regions → AreTiled (record regions { rows = (slots_served slot space aggr tick regions slots).rows })
+slots_tiled slot aggr tick space regions [] tiled = tiled
+slots_tiled slot aggr tick space regions (s ∷ ss) tiled =
+    slots_tiled (slot + 1) aggr tick space (record regions { rows = (slot_served slot space aggr tick regions s).rows }) ss (slot_tiled slot space aggr tick regions s tiled)
 
-pub slots_some : OutcomeLaws → (slot aggr tick : ℕ) (space : List Target) (regions : RegionList) (slots : List SlotValue) → 0 < length regions.rows → 0 < length (slots_served slot space aggr tick regions slots).rows
-slots_some laws slot aggr tick space regions [] some = some
-slots_some laws slot aggr tick space regions (s ∷ ss) some =
-    slots_some laws (slot + 1) aggr tick space (record regions { rows = (slot_served slot space aggr tick regions s).rows }) ss
-    (slot_holds slot space aggr tick regions s (λ w. 0 < length w.rows) (record { empty = some; inactive = some; active = λ h. laws.some slot aggr space h.scheme (left_in (turned_slot tick s)) regions some }))
+pub slots_some : (slot aggr tick : ℕ) (space : List Target) (regions : RegionList) (slots : List SlotValue) → 0 < length regions.rows → 0 < length (slots_served slot space aggr tick regions slots).rows
+slots_some slot aggr tick space regions [] some = some
+slots_some slot aggr tick space regions (s ∷ ss) some =
+    slots_some (slot + 1) aggr tick space (record regions { rows = (slot_served slot space aggr tick regions s).rows }) ss
+    (slot_holds slot space aggr tick regions s (λ w. 0 < length w.rows) (record { empty = some; inactive = some; active = λ h. outcome_some slot aggr space h.scheme (left_in (turned_slot tick s)) regions some }))
 
-pub slots_counts : OutcomeLaws → (slot aggr tick most : ℕ) (space : List Target) (regions : RegionList) (slots : List SlotValue) → AllByRecursion (λ r. r.count ≤ most) regions.rows → AllByRecursion (λ r. r.count ≤ most) (slots_served slot space aggr tick regions slots).rows
-slots_counts laws slot aggr tick most space regions [] few = few
-slots_counts laws slot aggr tick most space regions (s ∷ ss) few =
-    slots_counts laws (slot + 1) aggr tick most space (record regions { rows = (slot_served slot space aggr tick regions s).rows }) ss
-    (slot_holds slot space aggr tick regions s (λ w. AllByRecursion (λ r. r.count ≤ most) w.rows) (record { empty = few; inactive = few; active = λ h. laws.counts slot aggr most space h.scheme (left_in (turned_slot tick s)) regions few }))
+pub slots_counts : (slot aggr tick most : ℕ) (space : List Target) (regions : RegionList) (slots : List SlotValue) → AllByRecursion (λ r. r.count ≤ most) regions.rows → AllByRecursion (λ r. r.count ≤ most) (slots_served slot space aggr tick regions slots).rows
+slots_counts slot aggr tick most space regions [] few = few
+slots_counts slot aggr tick most space regions (s ∷ ss) few =
+    slots_counts (slot + 1) aggr tick most space (record regions { rows = (slot_served slot space aggr tick regions s).rows }) ss
+    (slot_holds slot space aggr tick regions s (λ w. AllByRecursion (λ r. r.count ≤ most) w.rows) (record { empty = few; inactive = few; active = λ h. outcome_counts slot aggr most space h.scheme (left_in (turned_slot tick s)) regions few }))
 
 -- slots
 pub slots_length : (slot aggr tick : ℕ) (space : List Target) (regions : RegionList) (slots : List SlotValue) → length (slots_served slot space aggr tick regions slots).slots ≡ length slots
@@ -127,20 +117,20 @@ slots_begun last tick (s ∷ ss) later start =
     ((here, rest.0), (λ set. here, rest.1))
 
 -- runs and choices
-pub slots_sum : OutcomeLaws → (slot aggr tick : ℕ) (space : List Target) (regions : RegionList) (slots : List SlotValue) → AreTiled regions → sum_by (λ r. r.pages) (slots_served slot space aggr tick regions slots).runs ≡ sum_by (λ c. c.taken) (slots_served slot space aggr tick regions slots).choices
-slots_sum laws slot aggr tick space regions [] tiled = refl
-slots_sum laws slot aggr tick space regions (s ∷ ss) tiled =
+pub slots_sum : (slot aggr tick : ℕ) (space : List Target) (regions : RegionList) (slots : List SlotValue) → AreTiled regions → sum_by (λ r. r.pages) (slots_served slot space aggr tick regions slots).runs ≡ sum_by (λ c. c.taken) (slots_served slot space aggr tick regions slots).choices
+slots_sum slot aggr tick space regions [] tiled = refl
+slots_sum slot aggr tick space regions (s ∷ ss) tiled =
     let first = slot_served slot space aggr tick regions s in
     let next : RegionList = record regions { rows = first.rows } in
     let others = slots_served (slot + 1) space aggr tick next ss in
     let here : sum_by (λ (r : AppliedRun). r.pages) first.runs ≡ sum_by (λ (c : SlotChoice). c.taken) first.choices =
-    slot_holds slot space aggr tick regions s (λ w. sum_by (λ (r : AppliedRun). r.pages) w.runs ≡ sum_by (λ (c : SlotChoice). c.taken) w.choices) (record { empty = refl; inactive = refl; active = λ h. omega (arith, laws.sum slot aggr space h.scheme (left_in (turned_slot tick s)) regions tiled) }) in
-    let rest = slots_sum laws (slot + 1) aggr tick space next ss (slot_tiled laws slot space aggr tick regions s tiled) in
+    slot_holds slot space aggr tick regions s (λ w. sum_by (λ (r : AppliedRun). r.pages) w.runs ≡ sum_by (λ (c : SlotChoice). c.taken) w.choices) (record { empty = refl; inactive = refl; active = λ h. omega (arith, outcome_sum slot aggr space h.scheme (left_in (turned_slot tick s)) regions tiled) }) in
+    let rest = slots_sum (slot + 1) aggr tick space next ss (slot_tiled slot space aggr tick regions s tiled) in
     omega (arith, here, rest, sum_by-append (λ (r : AppliedRun). r.pages) first.runs others.runs, sum_by-append (λ (c : SlotChoice). c.taken) first.choices others.choices)
 
-pub slots_within : OutcomeLaws → (slot aggr tick : ℕ) (space : List Target) (regions : RegionList) (slots : List SlotValue) → AreTiled regions → All (λ c. IfSome c.left (λ most. c.taken ≤ most)) (slots_served slot space aggr tick regions slots).choices
-slots_within laws slot aggr tick space regions [] tiled = All-nil (λ (c : SlotChoice). IfSome c.left (λ most. c.taken ≤ most))
-slots_within laws slot aggr tick space regions (s ∷ ss) tiled =
+pub slots_within : (slot aggr tick : ℕ) (space : List Target) (regions : RegionList) (slots : List SlotValue) → AreTiled regions → All (λ c. IfSome c.left (λ most. c.taken ≤ most)) (slots_served slot space aggr tick regions slots).choices
+slots_within slot aggr tick space regions [] tiled = All-nil (λ (c : SlotChoice). IfSome c.left (λ most. c.taken ≤ most))
+slots_within slot aggr tick space regions (s ∷ ss) tiled =
     let first = slot_served slot space aggr tick regions s in
     let next : RegionList = record regions { rows = first.rows } in
     let others = slots_served (slot + 1) space aggr tick next ss in
@@ -151,20 +141,20 @@ slots_within laws slot aggr tick space regions (s ∷ ss) tiled =
       inactive = All-cons P (no_choice slot) [] tt (All-nil P);
       active = λ h.
           let t = turned_slot tick s in
-          All-cons P (choice_of slot (left_in t) (outcome_of slot space aggr h.scheme (left_in t) regions)) [] (laws.within slot aggr space h.scheme (left_in t) regions tiled) (All-nil P);
+          All-cons P (choice_of slot (left_in t) (outcome_of slot space aggr h.scheme (left_in t) regions)) [] (outcome_within slot aggr space h.scheme (left_in t) regions tiled) (All-nil P);
     }))
-    (slots_within laws (slot + 1) aggr tick space next ss (slot_tiled laws slot space aggr tick regions s tiled))
+    (slots_within (slot + 1) aggr tick space next ss (slot_tiled slot space aggr tick regions s tiled))
 
-pub slots_space : OutcomeLaws → (slot aggr tick : ℕ) (space : List Target) (regions : RegionList) (slots : List SlotValue) → AreTiled regions → AreWithin space regions.ranges → All (IsRunIn space) (slots_served slot space aggr tick regions slots).runs
-slots_space laws slot aggr tick space regions [] tiled within = All-nil (IsRunIn space)
-slots_space laws slot aggr tick space regions (s ∷ ss) tiled within =
+pub slots_space : (slot aggr tick : ℕ) (space : List Target) (regions : RegionList) (slots : List SlotValue) → AreTiled regions → AreWithin space regions.ranges → All (IsRunIn space) (slots_served slot space aggr tick regions slots).runs
+slots_space slot aggr tick space regions [] tiled within = All-nil (IsRunIn space)
+slots_space slot aggr tick space regions (s ∷ ss) tiled within =
     let first = slot_served slot space aggr tick regions s in
     let next : RegionList = record regions { rows = first.rows } in
     let others = slots_served (slot + 1) space aggr tick next ss in
     let P : AppliedRun → Type 0 = IsRunIn space in
     All-append P first.runs others.runs
-    (slot_holds slot space aggr tick regions s (λ w. All P w.runs) (record { empty = All-nil P; inactive = All-nil P; active = λ h. laws.space slot aggr space h.scheme (left_in (turned_slot tick s)) regions tiled within }))
-    (slots_space laws (slot + 1) aggr tick space next ss (slot_tiled laws slot space aggr tick regions s tiled) within)
+    (slot_holds slot space aggr tick regions s (λ w. All P w.runs) (record { empty = All-nil P; inactive = All-nil P; active = λ h. outcome_space slot aggr space h.scheme (left_in (turned_slot tick s)) regions tiled within }))
+    (slots_space (slot + 1) aggr tick space next ss (slot_tiled slot space aggr tick regions s tiled) within)
 
 -- numbers
 one_more : (n : ℕ) (s : SlotValue) → CountsWithin n s → CountsWithin (n + 1) s
@@ -195,9 +185,9 @@ one_run n tried taken exceeds s rows pages is = record {
 turned_counts : (n tick : ℕ) (s : SlotValue) → CountsWithin n s → CountsWithin n (turned_slot tick s)
 turned_counts n tick s is = record { tried = is.tried; applied = is.applied; exceeds = is.exceeds; charged = omega (arith, is.charged, window_charged tick (quota_of s) s.window); cost = is.cost }
 
-pub slots_bounded : OutcomeLaws → (slot aggr tick n : ℕ) (space : List Target) (regions : RegionList) (slots : List SlotValue) → AreTiled regions → AreWithin space regions.ranges → IsSpace space → AllByRecursion (CountsWithin n) slots → AllByRecursion (CountsWithin (n + 1)) (slots_served slot space aggr tick regions slots).slots
-slots_bounded laws slot aggr tick n space regions [] tiled within sound all = tt
-slots_bounded laws slot aggr tick n space regions (s ∷ ss) tiled within sound all =
+pub slots_bounded : (slot aggr tick n : ℕ) (space : List Target) (regions : RegionList) (slots : List SlotValue) → AreTiled regions → AreWithin space regions.ranges → IsSpace space → AllByRecursion (CountsWithin n) slots → AllByRecursion (CountsWithin (n + 1)) (slots_served slot space aggr tick regions slots).slots
+slots_bounded slot aggr tick n space regions [] tiled within sound all = tt
+slots_bounded slot aggr tick n space regions (s ∷ ss) tiled within sound all =
     let t = turned_slot tick s in
     let is = turned_counts n tick s all.0 in (
       slot_holds slot space aggr tick regions s (λ w. CountsWithin (n + 1) w.slot) (record {
@@ -205,9 +195,9 @@ slots_bounded laws slot aggr tick n space regions (s ∷ ss) tiled within sound 
         inactive = one_more n t is;
         active = λ h.
             let o = outcome_of slot space aggr h.scheme (left_in t) regions in
-            one_run n o.tried o.taken o.exceeds t (laws.tried slot aggr space h.scheme (left_in t) regions tiled within sound) (laws.taken slot aggr space h.scheme (left_in t) regions tiled within sound) is;
+            one_run n o.tried o.taken o.exceeds t (outcome_tried slot aggr space h.scheme (left_in t) regions tiled within sound) (outcome_taken slot aggr space h.scheme (left_in t) regions tiled within sound) is;
       }),
-      slots_bounded laws (slot + 1) aggr tick n space (record regions { rows = (slot_served slot space aggr tick regions s).rows }) ss (slot_tiled laws slot space aggr tick regions s tiled) within sound all.1,
+      slots_bounded (slot + 1) aggr tick n space (record regions { rows = (slot_served slot space aggr tick regions s).rows }) ss (slot_tiled slot space aggr tick regions s tiled) within sound all.1,
     )
 
 pub counts_fit : (n : ℕ) (slots : List SlotValue) → n ≤ 2 ^ 43 → AllByRecursion (CountsWithin n) slots → AllByRecursion FitsSlot slots

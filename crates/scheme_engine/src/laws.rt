@@ -15,10 +15,6 @@ ghost use Rattle.scheme_engine.specs.Outcome.{chosen_of, outcome_of};
 ghost use Rattle.scheme_engine.specs.Served.{slots_served};
 ghost use Rattle.scheme_engine.specs.Slots.{SlotValue};
 
-use priority::{order_is_one, shares_are_best, shares_are_within};
-use region_list::{refined_rows_tile, tiling_is_per_page};
-use scheme_filter::{longest_runs_are_one, passing_pages_are_counted};
-
 /// The rows after a run of a scheme still tile their ranges with the minimum size, and are at most
 /// `max`. At most one candidate is taken in part, so at most one row is cut, and before the cut there are
 /// as many rows as before the run. There is a row where there was one. Each has the count of the row that
@@ -40,11 +36,7 @@ pub fn outcome_rows_are_kept()
         → AllByRecursion (λ r. r.count ≤ most) regions.rows
         → AllByRecursion (λ r. r.count ≤ most)
         (outcome_of slot space aggr scheme left regions).rows }
-{
-    refined_rows_tile();
-    order_is_one();
-    shares_are_within();
-}
+{}
 
 /// The runs of a scheme have as many pages together as are taken, at most what is left of its quota.
 /// Each has a page and lies in a row, and so in the space where the ranges do. No more rows match and no
@@ -71,13 +63,7 @@ pub fn outcome_runs_are_taken()
     ensures tried { (slot aggr : ℕ) (space : List target) (scheme : scheme_type) (left : Option ℕ)
         (regions : RegionList) → AreTiled regions → AreWithin space regions.ranges → IsSpace space
         → (outcome_of slot space aggr scheme left regions).tried ≤ MAX_PAGES }
-{
-    order_is_one();
-    shares_are_within();
-    passing_pages_are_counted();
-    longest_runs_are_one();
-    tiling_is_per_page();
-}
+{}
 
 /// A run of a scheme is the best choice: its candidates are in priority order, each with its share of
 /// what is left of the quota; what it is applied to are the first passing pages of each; no other choice
@@ -87,11 +73,7 @@ pub fn outcome_is_best()
         (regions : RegionList) → AreTiled regions
         → IsBestRun slot space aggr scheme left regions
         (outcome_of slot space aggr scheme left regions) }
-{
-    order_is_one();
-    shares_are_best();
-    shares_are_within();
-}
+{}
 
 /// What serving slots keeps: the rows and their counts as [`outcome_rows_are_kept`] says, the number of
 /// slots, and that no window begins after the tick. The runs of all slots have as many pages as are taken
@@ -137,7 +119,4 @@ pub fn served_slots_are_kept()
         (slots_served slot space aggr tick regions slots).slots }
     ensures fits { (t : ℕ) (slots : List SlotValue) → t ≤ 2 ^ 43
         → AllByRecursion (CountsWithin t) slots → AllByRecursion FitsSlot slots }
-{
-    outcome_rows_are_kept();
-    outcome_runs_are_taken();
-}
+{}

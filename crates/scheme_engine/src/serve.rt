@@ -11,7 +11,7 @@ use crate::pages::Context;
 use crate::slot::{SetScheme, Slot};
 use crate::{Applied, RUNS_PER_ROW, SLOTS, SlotChoice};
 use damon_types::Scheme;
-use priority::{Candidates, Chosen, counts_keep_in_any_order, order_is_one, shares_are_within};
+use priority::{Candidates, Chosen};
 use region_list::Regions;
 use scheme_filter::MAX_RUNS;
 
@@ -154,12 +154,8 @@ fn run_scheme(
     ensures within { IfSome left (λ most. result.chosen.taken ≤ most) }
     ensures cap { candidates.new.cap ≡ candidates.old.cap }
 {
-    // For their clauses alone: there are at most `cap` rows, and they lie apart; only candidates with a share
-    // count.
+    // For its clauses alone: there are at most `cap` rows, and they lie apart.
     let _count = regions.len();
-    order_is_one();
-    shares_are_within();
-    counts_keep_in_any_order();
     let tried = gather(scheme, context, regions, candidates);
     let chosen = candidates.choose(left);
     if let Some(part) = apply(scheme, context, candidates, regions, applied) {

@@ -1,7 +1,8 @@
-pub mod ChangeLemmas
-pub mod FoundLemmas
-pub mod LongestLemmas
-pub mod RowLemmas
-pub mod RangeLemmas
-pub mod RunsOfLemmas
+mod ChangeLemmas
+mod FoundLemmas
+mod LongestLemmas
+mod RowLemmas
+mod RangeLemmas
+mod RunsOfLemmas
+pub mod Lemmas
 mod Examples

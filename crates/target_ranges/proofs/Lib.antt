@@ -1,6 +1,7 @@
-pub mod Last
-pub mod Offsets
-pub mod Accepted
-pub mod Faults
-pub mod Made
+mod Last
+mod Offsets
+mod Accepted
+mod Faults
+mod Made
+pub mod Lemmas
 mod Examples

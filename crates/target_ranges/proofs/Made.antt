@@ -14,6 +14,7 @@ use Rattle.damon_types.specs.Ranges.{OrderedFrom, InOrder, Follows, IsRange, end
 use Rattle.damon_types.specs.Space.{pages_of, offset}
 use Rattle.damon_types.specs.Within.{LiesInTarget}
 use Rattle.target_ranges.specs.Checked.{checked_from, checked_ranges, overlaps}
+use Rattle.target_ranges.specs.Laws.{MakesEach, MakesInOrder, MakesWide, MakesWithin}
 use Rattle.target_ranges.specs.Made.{IsPlaced, page_count, range_of, ranges_of}
 use Rattle.target_ranges.proofs.Accepted.{accepted}
 use Rattle.target_ranges.proofs.Faults.{first_accepted, checked_ranges-room}
@@ -133,3 +134,16 @@ pub few_pages : (ts : List Target) (s : RangeSpec) → IsPlaced ts s → page_co
 few_pages ts s placed =
     let lies = placed-LiesInTarget ts s placed in
     omega (arith, lies.from, lies.to, offset-total ts (s.target + 1))
+
+-- what holds of the ranges made of specs that are accepted
+pub made_in_order : MakesInOrder
+made_in_order = λ ts unit room specs sound ok. ranges_of-InOrder ts unit room specs (omega (arith, sound.total)) ok
+
+pub made_each : MakesEach
+made_each = λ ts specs. length-map specs (range_of ts)
+
+pub made_wide : MakesWide
+made_wide = λ ts unit room specs ok. each_made ts unit room specs (λ (g : Range). unit ≤ g.pages) (λ s good. good.wide) ok
+
+pub made_within : MakesWithin
+made_within = λ ts unit room specs ok. each_made ts unit room specs (LiesInTarget ts) (λ s good. placed-LiesInTarget ts s good.placed) ok

@@ -1,2 +1,3 @@
 mod ActiveLemmas
+pub mod Lemmas
 mod Examples

@@ -1,11 +1,5 @@
-use Rattle.std.proofs.lemmas.List.{length-map}
-use Rattle.damon_types.specs.declared.row.Row.{Row}
-use Rattle.aggregator.proofs.RowLemmas.{spans-cleared, counts-cleared}
+use Rattle.aggregator.proofs.RowLemmas.{spans_cleared, length_cleared, counts_cleared}
 use Rattle.aggregator.proofs.laws.cleared_rows_are_kept.Goals as goal
 
 pub returns : goal.returns
-returns c = record {
-  spans = spans-cleared;
-  len = λ rows. length-map rows (λ (r : Row). record r { last = r.count; count = 0 });
-  counts = counts-cleared;
-}
+returns c = record { spans = spans_cleared; len = length_cleared; counts = counts_cleared }

@@ -2,8 +2,4 @@ use Rattle.region_list.proofs.ShrinkLemmas.{counts_shrunk, some_shrunk, shrunk_s
 use Rattle.region_list.proofs.laws.shrunk_rows_are_kept.Goals as goal
 
 pub returns : goal.returns
-returns c = record {
-  counts = λ to most gs rows few. counts_shrunk most to gs rows few;
-  some = some_shrunk;
-  same = λ to gs rows few. shrunk_same gs to rows few;
-}
+returns c = record { counts = counts_shrunk; some = some_shrunk; same = λ to gs rows few. shrunk_same gs to rows few }

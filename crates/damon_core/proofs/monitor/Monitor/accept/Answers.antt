@@ -6,6 +6,7 @@ use Rattle.damon_types.specs.Attrs.{IsAttrs}
 use Rattle.damon_types.specs.Space.{pages_of}
 use Rattle.region_list.specs.Regions.{RegionList}
 use Rattle.live_commit.specs.Commit.{CommitValue, commit_value}
+use Rattle.live_commit.proofs.Lemmas.{commit_accepted}
 use Rattle.damon_core.specs.Commit.{check_of, phase_after_commit, regions_after, view_of}
 use Rattle.damon_core.specs.Kept.{CanCommit, IsServing, SamplingView, SinceFew, IsMonitor}
 use Rattle.damon_core.specs.State.{Core}
@@ -28,7 +29,7 @@ commit-void-requires-clause-can c =
     let v : CommitValue = commit_value c.args.commit.now in
     let ok = subst (λ (m : MonitorView). check_of v m.core ≡ Ok tt) (sym view) c.requires in
     let most = subst (λ (m : MonitorView). m.core.attrs.max ≤ m.core.regions.cap) (sym view) c.attrs.ensures.max in
-    let facts = commit_facts c.accepted_commits_are_within.ensures.accepted core v ok kept.attrs_sound most in
+    let facts = commit_facts core v ok kept.attrs_sound most in
     let new : c.unwrap_or-attrs.result ≡ unwrap_or v.attrs i.attrs = c.unwrap_or-attrs.ensures ∙ ap (unwrap_or v.attrs) (c.attrs.ensures.attrs ∙ ap (λ (m : MonitorView). m.core.attrs) (sym view)) in
     subst (λ (a : Attrs). CanCommit i.space s.regions v.ranges a.max) (sym new) facts.can
 
@@ -43,7 +44,7 @@ change_slots-requires-clause-cost c part some =
     let core : Core = (shown i.version i.space i.attrs s i.clock i.totals (report_value i.report.value) e.slots).core in
     let v : CommitValue = commit_value c.args.commit.now in
     let ok = subst (λ (m : MonitorView). check_of v m.core ≡ Ok tt) (sym view) c.requires in
-    ((c.accepted_commits_are_within.ensures.accepted core.space (view_of core) v ok).cost part some).1
+    ((commit_accepted core.space (view_of core) v ok).cost part some).1
 
 pub invariant_of-self : goal.invariant_of-self
 invariant_of-self c =
@@ -59,7 +60,7 @@ invariant_of-self c =
     let v : CommitValue = commit_value c.args.commit.now in
     let ok = subst (λ (m : MonitorView). check_of v m.core ≡ Ok tt) (sym view) c.requires in
     let most = subst (λ (m : MonitorView). m.core.attrs.max ≤ m.core.regions.cap) (sym view) c.attrs.ensures.max in
-    let facts = commit_facts c.accepted_commits_are_within.ensures.accepted core v ok inv.attrs_sound most in
+    let facts = commit_facts core v ok inv.attrs_sound most in
     let new : c.unwrap_or-attrs.result ≡ unwrap_or v.attrs i.attrs = c.unwrap_or-attrs.ensures ∙ ap (unwrap_or v.attrs) (c.attrs.ensures.attrs ∙ ap (λ (m : MonitorView). m.core.attrs) (sym view)) in
     let old = s.regions in
     let now = c.unwrap_or-attrs.result.max in
@@ -73,7 +74,7 @@ invariant_of-self c =
       cap_few = omega (arith, inv.cap_few, cap);
       ranges_in = c.commit-void.ensures.within inv.ranges_in;
       picks_in = subst (λ (s : SamplingView). AllByRecursion (λ p. p < pages_of i.space) s.picks) (sym made) inv.picks_in;
-      counts = subst (λ (r : RegionList). AllByRecursion (λ q. q.count ≤ i.clock.since) r.rows) (sym same) (new_counts c.updated_rows_are_kept.ensures.counts c.shrunk_rows_are_kept.ensures.counts i.space v.ranges now i.clock.since old inv.counts);
+      counts = subst (λ (r : RegionList). AllByRecursion (λ q. q.count ≤ i.clock.since) r.rows) (sym same) (new_counts i.space v.ranges now i.clock.since old inv.counts);
       since_few = subst (λ (s : SamplingView). SinceFew s.phase i.clock.since) (sym made) (since_kept s.phase old.rows regions.rows i.clock.since facts.allows inv.since_few);
       checks_few = inv.checks_few;
       hits_few = inv.hits_few;

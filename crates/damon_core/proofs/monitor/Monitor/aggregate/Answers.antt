@@ -13,6 +13,7 @@ use Rattle.region_list.specs.Tiles.{Tiles}
 use Rattle.scheme_engine.specs.Engine.{EngineValue}
 use Rattle.scheme_engine.specs.Kept.{AreTiled, IsRunIn}
 use Rattle.scheme_engine.specs.Served.{Served, slots_served}
+use Rattle.scheme_engine.proofs.Lemmas.{counts_fit, slots_begun, slots_bounded, slots_space, slots_windows}
 use Rattle.damon_core.specs.Aggregate.{merge_limit, merged_regions}
 use Rattle.damon_core.specs.Kept.{IsMonitor, IsServing, RowsLieIn, SamplingView, SinceFew}
 use Rattle.damon_core.specs.declared.report.Report.{Report}
@@ -24,7 +25,6 @@ use Rattle.damon_core.specs.Stands.{MonitorView, Stands}
 use Rattle.damon_core.specs.Pass.{IsBetween}
 use Rattle.damon_core.proofs.Adapting.{merged_is, tiled_by_len}
 use Rattle.damon_core.proofs.RowFacts.{rows_in}
-use Rattle.damon_core.proofs.Serving.{OutcomeLaws}
 use Rattle.damon_core.proofs.Shown.{after_aggregate, aggregated_view, shown, with_kept}
 use Rattle.damon_core.proofs.SlotFacts.{serving_served}
 use Rattle.damon_core.proofs.Standing.{aggregate_makes}
@@ -50,15 +50,15 @@ serve-requires c =
     let tiled = subst AreTiled c.regions-2.ensures.regions (tiled_by_len _ c.len-merged.result len.len len.few len.unit len.order len.tiling) in
     let due : s.phase ≡ Due = ap (λ (m : MonitorView). m.core.phase) view ∙ c.requires.due in
     let t : ℕ = i.clock.ticks - i.clock.since in
-    let bounded = c.served_slots_are_kept.ensures.bounded 0 i.attrs.aggr i.clock.ticks t i.space r e.slots tiled within c.targets-targets.ensures.sound v.serving.served in
+    let bounded = slots_bounded 0 i.attrs.aggr i.clock.ticks t i.space r e.slots tiled within c.targets-targets.ensures.sound v.serving.served in
     record {
       phase = subst IsBetween (sym (ap (λ (s : SamplingView). s.phase) now ∙ due)) tt;
       within = within;
       aggr = v.attrs_sound.aggr_some;
       engine = same_cap ∙ v.engine_room;
       room = same_cap ∙ v.applied_room;
-      windows = (c.served_slots_are_kept.ensures.begun i.clock.ticks i.clock.ticks e.slots (omega arith) v.serving.windows).1;
-      fits = c.served_slots_are_kept.ensures.fits (t + 1) (slots_served 0 i.space i.attrs.aggr i.clock.ticks r e.slots).slots (omega (arith, v.serving.ticks_few)) bounded;
+      windows = (slots_begun i.clock.ticks i.clock.ticks e.slots (omega arith) v.serving.windows).1;
+      fits = counts_fit (t + 1) (slots_served 0 i.space i.attrs.aggr i.clock.ticks r e.slots).slots (omega (arith, v.serving.ticks_few)) bounded;
     }
 
 pub invariant_of-self : goal.invariant_of-self
@@ -90,11 +90,11 @@ invariant_of-self c =
     let rows = rows_in i.space next.ranges next.unit next.rows unit ranges_in tiles in
     let told = c.rows.ensures.rows ∙ ap (λ (x : RegionList). x.rows) seen in
     let t : ℕ = i.clock.ticks - i.clock.since in
-    let bounded = c.served_slots_are_kept.ensures.bounded 0 i.attrs.aggr i.clock.ticks t i.space r e.slots tiled within c.targets-targets.ensures.sound v.serving.served in
-    let windows = c.served_slots_are_kept.ensures.windows 0 i.attrs.aggr i.clock.ticks i.space r e.slots v.serving.windows in
+    let bounded = slots_bounded 0 i.attrs.aggr i.clock.ticks t i.space r e.slots tiled within c.targets-targets.ensures.sound v.serving.served in
+    let windows = slots_windows 0 i.attrs.aggr i.clock.ticks i.space r e.slots v.serving.windows in
     let due : s.phase ≡ Due = ap (λ (m : MonitorView). m.core.phase) view ∙ c.requires.due in
     let since = subst (λ (ph : Phase). SinceFew ph i.clock.since) due v.since_few in
-    let runs = recursion_from_All (IsRunIn i.space) o.runs (c.served_slots_are_kept.ensures.space 0 i.attrs.aggr i.clock.ticks i.space r e.slots tiled within) in
+    let runs = recursion_from_All (IsRunIn i.space) o.runs (slots_space 0 i.attrs.aggr i.clock.ticks i.space r e.slots tiled within) in
     let report : c.set.new.self ≡ record c.serve.new.report { tick = i.clock.ticks; threshold = c.merge-threshold.result; rows = record c.serve.new.report.rows { rows = c.rows.result.now.rows } } = c.set.ensures in
     subst (λ x. IsMonitor i.space i.attrs x (record { ticks = i.clock.ticks; since = 0 }) i.totals c.set.new.self c.serve.new.engine) (sym c.split.ensures.split) (record {
       attrs_sound = v.attrs_sound;
@@ -132,7 +132,6 @@ returns-clause-event c =
     let merged = merged_is core c.merge-threshold.new.self.regions c.merge-threshold.result c.merge_limit-limit.result (ap (λ (s : SamplingView). s.regions) c.merge-threshold.ensures.merged) c.merge-threshold.ensures.threshold limit in
     let tiled = subst AreTiled (c.regions-2.ensures.regions ∙ merged) (tiled_by_len _ c.len-merged.result len.len len.few len.unit len.order len.tiling) in
     let here = subst (λ (x : MonitorView). AreTiled (merged_regions x.core)) view tiled in
-    let laws : OutcomeLaws = record { tiled = c.outcome_rows_are_kept.ensures.tiled; sum = c.outcome_runs_are_taken.ensures.sum } in
     let told = c.rows.ensures.rows ∙ ap (λ (x : RegionList). x.rows) c.regions-rows.ensures.regions in
     let after = aggregated_view i.version i.space i.attrs i.clock i.totals ws s c.merge-threshold.new.self c.serve.new.self c.split.new.self (report_value b) (report_value c.serve.new.report) (report_value c.set.new.self) e.slots c.serve.new.engine.slots c.merge-threshold.result
     (c.merge-threshold.ensures.merged ∙ ap (λ (r : RegionList). record s { regions = r }) (sym (ap (λ (s : SamplingView). s.regions) c.merge-threshold.ensures.merged) ∙ merged))
@@ -143,4 +142,4 @@ returns-clause-event c =
     (ap report_value c.set.ensures ∙ ap (λ (rows : List Row). with_kept i.clock.ticks c.merge-threshold.result rows (report_value c.serve.new.report)) told)
     c.split.ensures.split in
     subst (λ (x : MonitorView). Makes Stands m x (aggregate ws ∷ [])) (sym (after ∙ ap (after_aggregate ws) view))
-    (aggregate_makes laws m ws here c.requires.due c.requires.words)
+    (aggregate_makes m ws here c.requires.due c.requires.words)

@@ -10,6 +10,7 @@ use Rattle.region_list.specs.Regions.{RegionList}
 use Rattle.region_list.specs.Tiling.{Tiling}
 use Rattle.region_list.specs.Division.{divided}
 use Rattle.live_commit.specs.SetupView.{value_of}
+use Rattle.region_list.proofs.Lemmas.{counts_shrunk}
 use Rattle.damon_core.specs.State.{Core, opening_core, opening_rows}
 use Rattle.damon_core.specs.Kept.{IsMonitor, RowsLieIn, SamplingView}
 use Rattle.damon_core.specs.declared.report.Report.{Report}
@@ -50,7 +51,7 @@ invariant_of-result c =
       cap_few = omega (arith, sound.cap_most, ap (λ (x : RegionList). x.cap) made);
       ranges_in = subst (AreWithin c.in_ok-space.space) (sym (ap (λ (x : RegionList). x.ranges) made)) (subst (λ ts. AreWithin ts v.ranges) (sym c.in_ok-space.ensures.cases) sound.within);
       picks_in = tt;
-      counts = subst (λ (x : RegionList). AllByRecursion (λ q. q.count ≤ 0) x.rows) (sym made) (c.shrunk_rows_are_kept.ensures.counts v.attrs.max 0 v.ranges (divided v.unit v.attrs.min v.ranges) (counts-divided v.unit v.attrs.min v.ranges));
+      counts = subst (λ (x : RegionList). AllByRecursion (λ q. q.count ≤ 0) x.rows) (sym made) (counts_shrunk v.attrs.max 0 v.ranges (divided v.unit v.attrs.min v.ranges) (counts-divided v.unit v.attrs.min v.ranges));
       since_few = omega arith;
       checks_few = omega arith;
       hits_few = omega arith;

@@ -23,7 +23,7 @@ invariant_of-self c =
     let allows = subst (λ (v : SamplingView). AllowsCommit v.phase) (sym c.self.view_is) c.requires.phase in
     let made : new ≡ regions_after space specs c.args.max i.regions = c.change.ensures.changed in
     let some = subst (λ (r : RegionList). 0 < length r.rows) (sym made)
-    (new_some c.updated_rows_are_kept.ensures.some c.shrunk_rows_are_kept.ensures.some c.made_in_order.ensures.order c.made_in_order.ensures.count c.made_in_order.ensures.wide space specs c.args.max i.regions c.targets-targets.ensures.sound c.len-rows.ensures.unit c.self.invariant.some can) in
+    (new_some space specs c.args.max i.regions c.targets-targets.ensures.sound c.len-rows.ensures.unit c.self.invariant.some can) in
     let cap = ap (λ (r : RegionList). r.cap) made ∙ new_cap space specs c.args.max i.regions in
     let void =
     c.becomes_void-void.ensures

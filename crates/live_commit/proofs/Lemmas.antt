@@ -1,0 +1,2 @@
+-- What the crates above may cite of the proofs of this crate.
+pub use Rattle.live_commit.proofs.Accepting.{commit_accepted, setup_accepted}
