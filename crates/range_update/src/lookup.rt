@@ -17,13 +17,12 @@ pub(crate) fn skip_rows(rows: &RowBuf, page: u32, from: usize) -> usize
     ensures forward { from ≤ result }
     ensures next { result < length rows.now.rows → page < row_end_of (row_at rows.now.rows result) }
 {
-    // For its clauses alone: the number of rows is a u32.
-    let _count = rows.len();
-    let mut index = from;
-    'ended: while ends_by(rows, index, page) {
-        index += 1;
+    'ended: for index in from..rows.count() {
+        if page < row_end(rows, index) {
+            return index;
+        }
     }
-    index
+    rows.count()
 }
 
 // Whether there is a row with this index, and it ends by the page.

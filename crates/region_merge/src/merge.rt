@@ -36,14 +36,10 @@ fn may_join_two(rows: &RowBuf, threshold: u32, limit: u32) -> bool
     ensures { result ≡ false
         → (gs : List range) → merged gs threshold limit rows.now.rows ≡ rows.now.rows }
 {
-    // For its clauses alone: the number of rows is a u32.
-    let _count = rows.len();
-    let mut next = 1;
-    'pairs: while next < rows.count() {
+    'pairs: for next in 1..rows.count() {
         if are_within(&rows.at(next - 1), &rows.at(next), threshold, limit) {
             return true;
         }
-        next += 1;
     }
     false
 }

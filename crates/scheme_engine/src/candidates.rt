@@ -37,12 +37,11 @@ pub(crate) fn gather(
     } }
     ensures tried { result ≡ tried_of scheme.now regions.now.rows }
 {
-    // For its clauses alone: each row lies in a range, and starts rise.
-    let _count = regions.len();
     candidates.clear();
     let ranges = regions.ranges();
+    let count = regions.len();
     // Without ranges there is no row to score.
-    let scorer = Scorer::new(ranges.total().max(1), context.aggr, regions.len(), scheme);
+    let scorer = Scorer::new(ranges.total().max(1), context.aggr, count, scheme);
     let mut near = RangeRuns::new(&scheme.filters);
     let rows = regions.rows();
     let mut found = [0; BLOCK];

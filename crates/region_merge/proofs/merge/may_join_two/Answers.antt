@@ -13,12 +13,9 @@ pairs-preserved c =
     let within = is_within c.args.threshold c.args.limit in
     let apart : within (row_at rows (n - 1)) (row_at rows n) ≡ false =
     ap (λ (r : Row). within r (row_at rows n)) (sym c.at.ensures) ∙ ap (λ (r : Row). within c.at.result r) (sym c.at-in-pairs.ensures) ∙ sym c.are_within.ensures ∙ c.if-are_within.false in
-    record {
-      some = omega arith;
-      stay = λ gs. kept.stay gs ∙ one_stays gs c.args.threshold c.args.limit rows n kept.some (omega (arith, c.pairs-test.true, c.count.ensures)) apart;
-    }
+    λ gs. kept gs ∙ one_stays gs c.args.threshold c.args.limit rows n (omega arith) (omega (arith, c.pairs-test.true, c.count-next-end.ensures)) apart
 
 pub returns : goal.returns
 returns c none gs =
     let kept = c.pairs.invariant in
-    kept.stay gs ∙ all_stay gs c.args.threshold c.args.limit c.args.rows.now.rows c.pairs.next (omega (arith, c.pairs-test.false, c.count.ensures)) kept.some
+    kept gs ∙ all_stay gs c.args.threshold c.args.limit c.args.rows.now.rows c.pairs.next (omega (arith, c.pairs-test.false, c.count-next-end.ensures)) (omega arith)
