@@ -1,6 +1,7 @@
 -- What the choice of a run gives, of which only the candidates with a share are kept.
 use Rattle.std.proofs.Common.{◌≡◌, ℕ, Bool, List, Option, Some, None, sym, ap, ◌∙◌, subst}
-use Rattle.std.specs.Prelude.{All, filter, fold, nat_lt}
+use Rattle.std.specs.Prelude.{All, IfSome, filter, fold, nat_lt}
+use Rattle.std.specs.Option.{option_map_or}
 use Rattle.std.proofs.lemmas.List.Elements.{All-filter}
 use Rattle.damon_types.specs.declared.row.Row.{Row}
 use Rattle.damon_types.specs.declared.scheme.Action.{Action}
@@ -48,18 +49,29 @@ chosen_part : (action : Action) (passes : ℕ → Bool) (rows : List Row) (all l
 chosen_part action passes rows all list chosen = ap (fold (next_part action passes (spans rows)) None) chosen.is ∙ shared_part action passes (spans rows) all None
 
 -- the part of a candidate names a row
-pub chosen_fits : (action : Action) (passes : ℕ → Bool) (rows : List Row) (all list : List Candidate) (q : Part) → IsChosenList passes rows all list → fold (next_part action passes (spans rows)) None list ≡ Some q → IsPartOf (fold (rows_renewed action) rows list) q
+chosen_fits : (action : Action) (passes : ℕ → Bool) (rows : List Row) (all list : List Candidate) (q : Part) → IsChosenList passes rows all list → fold (next_part action passes (spans rows)) None list ≡ Some q → IsPartOf (fold (rows_renewed action) rows list) q
 chosen_fits action passes rows all list q chosen some =
     subst (λ rs. IsPartOf rs q) (sym (chosen_rows action passes rows all list chosen))
     (part_fits action passes rows all q chosen.are (sym (chosen_part action passes rows all list chosen) ∙ some))
 
 -- the rows after a cut, and without one, are those of the definition
-pub chosen_cut : (action : Action) (passes : ℕ → Bool) (regions : RegionList) (all list : List Candidate) (q : Part) → IsChosenList passes regions.rows all list → fold (next_part action passes (spans regions.rows)) None list ≡ Some q → rows_cut (record regions { rows = fold (rows_renewed action) regions.rows list }) q ≡ rows_after action regions passes all
+chosen_cut : (action : Action) (passes : ℕ → Bool) (regions : RegionList) (all list : List Candidate) (q : Part) → IsChosenList passes regions.rows all list → fold (next_part action passes (spans regions.rows)) None list ≡ Some q → rows_cut (record regions { rows = fold (rows_renewed action) regions.rows list }) q ≡ rows_after action regions passes all
 chosen_cut action passes regions all list q chosen some =
     ap (λ rs. rows_cut (record regions { rows = rs }) q) (chosen_rows action passes regions.rows all list chosen)
     ∙ rows_some action passes regions all q chosen.are (sym (chosen_part action passes regions.rows all list chosen) ∙ some)
 
-pub chosen_whole : (action : Action) (passes : ℕ → Bool) (regions : RegionList) (all list : List Candidate) → IsChosenList passes regions.rows all list → fold (next_part action passes (spans regions.rows)) None list ≡ None → fold (rows_renewed action) regions.rows list ≡ rows_after action regions passes all
+chosen_whole : (action : Action) (passes : ℕ → Bool) (regions : RegionList) (all list : List Candidate) → IsChosenList passes regions.rows all list → fold (next_part action passes (spans regions.rows)) None list ≡ None → fold (rows_renewed action) regions.rows list ≡ rows_after action regions passes all
 chosen_whole action passes regions all list chosen none =
     chosen_rows action passes regions.rows all list chosen
     ∙ rows_none action passes regions all chosen.are (sym (chosen_part action passes regions.rows all list chosen) ∙ none)
+
+-- the rows once the part is cut, if there is one, are those of the definition
+pub chosen_after : (action : Action) (passes : ℕ → Bool) (regions : RegionList) (all list : List Candidate) (part : Option Part) → IsChosenList passes regions.rows all list → part ≡ fold (next_part action passes (spans regions.rows)) None list
+    → option_map_or (rows_cut (record regions { rows = fold (rows_renewed action) regions.rows list })) part (fold (rows_renewed action) regions.rows list) ≡ rows_after action regions passes all
+chosen_after action passes regions all list None chosen is = chosen_whole action passes regions all list chosen (sym is)
+chosen_after action passes regions all list (Some part) chosen is = chosen_cut action passes regions all list part chosen (sym is)
+
+-- and the part names a row of those that are cut
+pub chosen_part_fits : (action : Action) (passes : ℕ → Bool) (rows : List Row) (all list : List Candidate) (part : Option Part) → IsChosenList passes rows all list → part ≡ fold (next_part action passes (spans rows)) None list → IfSome part (IsPartOf (fold (rows_renewed action) rows list))
+chosen_part_fits action passes rows all list None chosen is = tt
+chosen_part_fits action passes rows all list (Some part) chosen is = chosen_fits action passes rows all list part chosen (sym is)

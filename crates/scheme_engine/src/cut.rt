@@ -1,5 +1,6 @@
 // Cutting the row of which some but not all passing pages are taken.
-ghost use Rattle.std.specs.Prelude.{◌≡◌, ◌<◌, ◌≤◌, length};
+ghost use Rattle.std.specs.Prelude.{◌≡◌, ◌<◌, ◌≤◌, length, IfSome};
+ghost use Rattle.std.specs.Option.{option_map_or};
 ghost use Rattle.scheme_engine.specs.Applying.{IsPartOf, cut_rows, rows_cut};
 
 use region_list::Regions;
@@ -11,9 +12,20 @@ pub(crate) struct Part {
     pub(crate) pages: u32,
 }
 
+// Cuts the row of a part, if there is one.
+pub(crate) fn cut_part(part: Option<Part>, regions: &mut Regions)
+    requires { IfSome part (IsPartOf regions.old.rows) }
+    ensures { regions.new
+        ≡ record regions.old { rows = option_map_or (rows_cut regions.old) part regions.old.rows } }
+{
+    if let Some(part) = part {
+        cut(part, regions);
+    }
+}
+
 // Cuts the row where there is room for one more and both sides have the minimum size. The first side gets
 // age 0.
-pub(crate) fn cut(part: Part, regions: &mut Regions)
+fn cut(part: Part, regions: &mut Regions)
     requires { IsPartOf regions.old.rows part }
     ensures { regions.new ≡ record regions.old { rows = rows_cut regions.old part } }
 {

@@ -6,7 +6,7 @@ ghost use Rattle.scheme_engine.specs.InContext.{outcome_in, scheme_served_in, sl
 
 use crate::apply::apply;
 use crate::candidates::gather;
-use crate::cut::cut;
+use crate::cut::cut_part;
 use crate::pages::Context;
 use crate::slot::{SetScheme, Slot};
 use crate::{Applied, RUNS_PER_ROW, SLOTS, SlotChoice};
@@ -158,8 +158,7 @@ fn run_scheme(
     let _count = regions.len();
     let tried = gather(scheme, context, regions, candidates);
     let chosen = candidates.choose(left);
-    if let Some(part) = apply(scheme, context, candidates, regions, applied) {
-        cut(part, regions);
-    }
+    let part = apply(scheme, context, candidates, regions, applied);
+    cut_part(part, regions);
     Counts { tried, chosen }
 }
