@@ -1,12 +1,13 @@
-pub mod Counting
-pub mod Runs
-pub mod Moving
-pub mod Standing
-pub mod Serving
-pub mod Balancing
-pub mod Reaching
-pub mod Following
-pub mod TouchedRuns
-pub mod BySlot
-pub mod Lasting
+mod Counting
+mod Runs
+mod Moving
+mod Standing
+mod Serving
+mod Balancing
+mod Reaching
+mod Following
+mod TouchedRuns
+mod BySlot
+mod Lasting
+pub mod Lemmas
 mod Examples

@@ -10,9 +10,8 @@ use Rattle.damon_core.specs.After.{after}
 use Rattle.damon_core.specs.Aggregate.{aggregated, served}
 use Rattle.damon_core.specs.Event.{aggregate}
 use Rattle.damon_core.specs.Makes.{Reached-run}
-use Rattle.damon_core.specs.Note.{Note}
 use Rattle.damon_core.specs.Reached.{Reached}
-use Rattle.damon_core.specs.Slots.{scheme_of, slots_of}
+use Rattle.damon_core.specs.Slots.{slots_of}
 use Rattle.damon_core.specs.Stands.{MonitorView}
 use Rattle.damon_core.specs.State.{Core, State}
 use Rattle.script_run.specs.Calls.{IsAggregated}
@@ -20,7 +19,8 @@ use Rattle.reclaim_module.specs.Counts.{pageouts_of}
 use Rattle.reclaim_module.specs.Pages.{ReclaimView}
 use Rattle.reclaim_module.specs.Stands.{after_applied, after_event}
 use Rattle.reclaim_run.specs.Stands.{Models}
-use Rattle.reclaim_run.proofs.Following.{FollowLaws, models_follow}
+use Rattle.reclaim_module.proofs.Lemmas.{applied_alike, few_went_out, runs_of_slots, schemes_stay, space_stays}
+use Rattle.reclaim_run.proofs.Following.{models_follow}
 
 -- what holds of each holds of each alike
 all_weaker : (P Q : AppliedRun → Type 0) → ((run : AppliedRun) → P run → Q run) → (runs : List AppliedRun) → AllByRecursion P runs → AllByRecursion Q runs
@@ -34,27 +34,17 @@ few_fit n pages ticks most few short =
     let all : 17 * pages * ticks ≤ 17 * 1048576 * 1099511627776 = mul-le (17 * pages) ticks (17 * 1048576) 1099511627776 first (omega (arith, short)) in
     omega (arith, most, all)
 
--- What a model of pages promises of aggregations.
-pub record AggregateLaws : Type 0 where
-  pub follow : FollowLaws
-  pub schemes : (words : List ℕ) (s : State) (slot : ℕ) → scheme_of (aggregated words s).notes slot ≡ scheme_of s.notes slot
-  pub slots : (s : State) → AllByRecursion (λ run. run.slot ≤ MAX_SLOT) (served s).runs
-  pub alike : (now notes : List Note) (runs : List AppliedRun) (r : ReclaimView)
-      → ((slot : ℕ) → scheme_of now slot ≡ scheme_of notes slot) → after_applied now runs r ≡ after_applied notes runs r
-  pub few : (s : State) → Reached s
-      → 2 * pageouts_of (pages_of s.core.space) s.notes ≤ 17 * pages_of s.core.space * (s.core.ticks - s.core.since)
-
-module _ (laws : AggregateLaws) (old : ReclaimView) (m : MonitorView) (memory : List ℕ) (s : State) (words : List ℕ)
+module _ (old : ReclaimView) (m : MonitorView) (memory : List ℕ) (s : State) (words : List ℕ)
     (is : IsAggregated (λ memory t. Models old t) m memory s words) where
   -- the runs that the monitor reports are those that were applied
   reported : (runs : List AppliedRun) → runs ≡ m.core.report.runs → runs ≡ (served s).runs
   reported runs shown = shown ∙ ap (λ (q : Core). q.report.runs) is.shows.same
 
   pub slots_few : (runs : List AppliedRun) → runs ≡ m.core.report.runs → AllByRecursion (λ run. run.slot ≤ MAX_SLOT) runs
-  slots_few runs shown = subst (AllByRecursion (λ run. run.slot ≤ MAX_SLOT)) (sym (reported runs shown)) (laws.slots s)
+  slots_few runs shown = subst (AllByRecursion (λ run. run.slot ≤ MAX_SLOT)) (sym (reported runs shown)) (runs_of_slots s)
 
   same_space : m.core.space ≡ s.core.space
-  same_space = ap (λ (q : Core). q.space) is.shows.same ∙ laws.follow.space (aggregate words) s
+  same_space = ap (λ (q : Core). q.space) is.shows.same ∙ space_stays (aggregate words) s
 
   pub runs_within : (runs : List AppliedRun) → runs ≡ m.core.report.runs
       → AllByRecursion (λ r. (1 ≤ r.pages) × (r.start + r.pages ≤ pages_of m.core.space)) m.core.report.runs
@@ -69,13 +59,13 @@ module _ (laws : AggregateLaws) (old : ReclaimView) (m : MonitorView) (memory : 
       → after_applied (aggregated words s).notes runs old ≡ after_event (aggregate words) s old
   applied_is runs shown =
       ap (λ all. after_applied (aggregated words s).notes all old) (reported runs shown)
-      ∙ laws.alike (aggregated words s).notes s.notes (served s).runs old (laws.schemes words s)
+      ∙ applied_alike (aggregated words s).notes s.notes (served s).runs old (schemes_stay words s)
 
   -- the model after it stands for the state after it
   pub stands_after : (new : ReclaimView) (runs : List AppliedRun) → runs ≡ m.core.report.runs
       → new ≡ after_applied (aggregated words s).notes runs old → Models new (after s (aggregate words))
   stands_after new runs shown made =
-      models_follow laws.follow (aggregate words ∷ []) s old new (made ∙ applied_is runs shown) is.stood (is.fits, tt)
+      models_follow (aggregate words ∷ []) s old new (made ∙ applied_is runs shown) is.stood (is.fits, tt)
 
   -- and what went out fits
   pub few_go_out : (runs : List AppliedRun) → runs ≡ m.core.report.runs → IsSpace m.core.space
@@ -88,7 +78,7 @@ module _ (laws : AggregateLaws) (old : ReclaimView) (m : MonitorView) (memory : 
       let pages : pages_of next.core.space ≤ 1048576 = subst (λ ts. pages_of ts ≤ 1048576) (ap (λ (q : Core). q.space) is.shows.same) space.total in
       let is_out_in_all : new.counts.pageouts ≡ pageouts_of (pages_of next.core.space) next.notes =
       here.stands.pageouts ∙ ap (λ n. pageouts_of n next.notes) here.pages in
-      let most : 2 * pageouts_of (pages_of next.core.space) next.notes ≤ 17 * pages_of next.core.space * (next.core.ticks - next.core.since) = laws.few next reached in
+      let most : 2 * pageouts_of (pages_of next.core.space) next.notes ≤ 17 * pages_of next.core.space * (next.core.ticks - next.core.since) = few_went_out next reached in
       let short : next.core.ticks - next.core.since < 2 ^ 40 = omega (arith, is.few) in
       subst (λ n. n < 2 ^ 64) (sym is_out_in_all) (few_fit (pageouts_of (pages_of next.core.space) next.notes) (pages_of next.core.space) (next.core.ticks - next.core.since) most pages short)
 

@@ -16,6 +16,7 @@ use Rattle.scheme_engine.specs.Slots.{SlotValue, empty_slot, view_of}
 use Rattle.damon_core.specs.Note.{Note}
 use Rattle.damon_core.specs.Slots.{scheme_of, set_scheme_of, slot_count, slot_of, slots_of}
 use Rattle.reclaim_module.specs.Stands.{action_in}
+use Rattle.reclaim_module.proofs.Lemmas.{action_few, applied_next, first_runs_few, length_after_action}
 
 -- what holds of all holds of each
 pub one_of_all : {X : Type 0} (P : X → Type 0) (xs : List X) (i : ℕ) (d : X) → i < length xs → AllByRecursion P xs → P (get_or xs i d)
@@ -49,3 +50,6 @@ action_shown slots notes slot shown few is same =
 pub some_page : (ts : List Target) → IsSpace ts → 1 ≤ pages_of ts
 some_page [] sound = absurd (omega (arith, sound.some))
 some_page (t ∷ ts) sound = (let one = sound.each 0 t (omega arith) in omega (arith, one.some, sum_by-cons (λ (x : Target). x.pages) t ts))
+
+-- one run after another is applied, and the first ones page out no more than all
+pub ruleset applies_runs = (applied_next, first_runs_few, action_few, length_after_action)

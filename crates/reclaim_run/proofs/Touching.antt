@@ -1,14 +1,15 @@
 -- Touches of pages one after another.
-use Rattle.std.proofs.Common.{◌≡◌, ℕ, zero, suc, ◌+◌, ◌<◌, List, [], ◌∷◌, ◌++◌, length, sym, ap, ◌∙◌, arith}
+use Rattle.std.proofs.Common.{◌≡◌, ℕ, zero, suc, ◌+◌, ◌<◌, [], ◌∷◌, ◌++◌, length, sym, ap, ◌∙◌, arith}
 use Rattle.damon_types.specs.Space.{pages_of}
 use Rattle.damon_core.specs.After.{after}
-use Rattle.damon_core.specs.Event.{Event, touch}
-use Rattle.damon_core.specs.Reached.{AllFit, run}
+use Rattle.damon_core.specs.Event.{touch}
+use Rattle.damon_core.specs.Reached.{AllFit}
 use Rattle.damon_core.specs.State.{State}
 use Rattle.damon_world.specs.Touches.{touches}
 use Rattle.reclaim_module.specs.Calls.{after_touch, touched_run}
 use Rattle.reclaim_module.specs.Pages.{ReclaimView}
 use Rattle.reclaim_module.specs.Stands.{after_events}
+use Rattle.reclaim_module.proofs.Lemmas.{events-append, touched_next, touched_none}
 
 -- one touch more
 touches_more : (page n : ℕ) → touches page (suc n) ≡ touches page n ++ touch (page + n) ∷ []
@@ -18,14 +19,12 @@ touches_more page (suc n) =
     ap (λ es. touch page ∷ es) (touches_more (page + 1) n ∙ ap (λ p. touches (page + 1) n ++ touch p ∷ []) last)
 
 -- the same of a model
-pub model_touches_more :
-    (others : (es fs : List Event) (s : State) (r : ReclaimView) → after_events (es ++ fs) s r ≡ after_events fs (run s es) (after_events es s r))
-    → (page n : ℕ) (s : State) (r : ReclaimView) → after_events (touches page (n + 1)) s r ≡ after_touch (page + n) (after_events (touches page n) s r)
-model_touches_more others page n s r =
+pub model_touches_more : (page n : ℕ) (s : State) (r : ReclaimView) → after_events (touches page (n + 1)) s r ≡ after_touch (page + n) (after_events (touches page n) s r)
+model_touches_more page n s r =
     let next : n + 1 ≡ suc n = omega arith in
     ap (λ k. after_events (touches page k) s r) next
     ∙ ap (λ es. after_events es s r) (touches_more page n)
-    ∙ others (touches page n) (touch (page + n) ∷ []) s r
+    ∙ events-append (touches page n) (touch (page + n) ∷ []) s r
 
 -- touches that fit are of pages of the space
 pub touches_are_within : (page n : ℕ) (s : State) → AllFit s (touches page n) → (i : ℕ) → i < n → page + i < pages_of s.core.space
@@ -34,15 +33,11 @@ touches_are_within page (suc n) s fit zero below = omega (arith, fit.0)
 touches_are_within page (suc n) s fit (suc i) below = omega (arith, touches_are_within (page + 1) n (after s (touch page)) fit.1 i (omega (arith, below)))
 
 -- a run of pages that is touched is its touches, one after another
-pub run_is_touches :
-    (others : (es fs : List Event) (s : State) (r : ReclaimView) → after_events (es ++ fs) s r ≡ after_events fs (run s es) (after_events es s r))
-    → (none : (start : ℕ) (r : ReclaimView) → touched_run start 0 r ≡ r)
-    → (next : (start n : ℕ) (r : ReclaimView) → start + n < length r.out → touched_run start (n + 1) r ≡ after_touch (start + n) (touched_run start n r))
-    → (page n : ℕ) (s : State) (r : ReclaimView) → ((i : ℕ) → i < n → page + i < length r.out) → touched_run page n r ≡ after_events (touches page n) s r
-run_is_touches others none next page zero s r within = none page r
-run_is_touches others none next page (suc n) s r within =
+pub run_is_touches : (page n : ℕ) (s : State) (r : ReclaimView) → ((i : ℕ) → i < n → page + i < length r.out) → touched_run page n r ≡ after_events (touches page n) s r
+run_is_touches page zero s r within = touched_none page r
+run_is_touches page (suc n) s r within =
     let more : suc n ≡ n + 1 = omega arith in
     ap (λ k. touched_run page k r) more
-    ∙ (next page n r (within n (omega arith))
-    ∙ (ap (after_touch (page + n)) (run_is_touches others none next page n s r (λ i below. within i (omega (arith, below))))
-    ∙ (sym (model_touches_more others page n s r) ∙ ap (λ k. after_events (touches page k) s r) (sym more))))
+    ∙ (touched_next page n r (within n (omega arith))
+    ∙ (ap (after_touch (page + n)) (run_is_touches page n s r (λ i below. within i (omega (arith, below))))
+    ∙ (sym (model_touches_more page n s r) ∙ ap (λ k. after_events (touches page k) s r) (sym more))))

@@ -9,7 +9,4 @@ pub fn each_reclaimed_run_is_accounted()
     ensures { EachReclaimedRun }
 {
     script_run::each_run_with_callbacks_is_bound();
-    reclaim_module::pages_out_balance();
-    reclaim_module::pages_are_out_since_their_last();
-    reclaim_module::slots_page_out_what_is_resident();
 }

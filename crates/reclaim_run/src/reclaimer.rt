@@ -51,8 +51,6 @@ impl Reclaimer {
         ensures opening { IfOk result (λ r. (v : SetupValue) → pages_of v.space ≡ pages
             → Models r.model (opening v)) }
     {
-        reclaim_module::model_stands_for_notes();
-        reclaim_module::pages_stay();
         let model = Reclaim::new(alloc, pages)?;
         Ok(Reclaimer { model, share: None })
     }
@@ -73,38 +71,23 @@ impl Callbacks for Reclaimer {
 
     #[inline]
     fn after_touches(&mut self, page: u32, count: u32) {
-        // For their clauses alone: the model follows events.
-        reclaim_module::model_follows_events();
-        reclaim_module::pages_stay();
         touch_pages(&mut self.model, page, count);
     }
 
     #[inline]
-    fn after_steps(&mut self) {
-        // For their clauses alone: steps move no page.
-        reclaim_module::model_follows_events();
-        reclaim_module::pages_stay();
-    }
+    fn after_steps(&mut self) {}
 
     fn after_aggregation(&mut self, monitor: &Monitor) {
-        // For its clauses alone: the pages that are out, by what has happened.
-        reclaim_module::model_counts_pages();
         follow_aggregation(&mut self.model, monitor);
         self.share = Some(share_out(&self.model, monitor.space()));
     }
 
     fn after_commit(&mut self, _commit: &Commit, _answer: &Result<Changed, CommitFault>) {
-        // For their clauses alone: a commit moves no page.
-        reclaim_module::model_follows_events();
-        reclaim_module::pages_stay();
         self.share = None;
     }
 
     #[inline]
     fn next_commit(&mut self) -> Option<Commit> {
-        // For their clauses alone: a commit moves no page.
-        reclaim_module::model_follows_events();
-        reclaim_module::pages_stay();
         let share = self.share.take()?;
         Some(Commit {
             attrs: None,
@@ -144,9 +127,6 @@ fn touch_pages(model: &mut Reclaim, page: u32, count: u32)
     requires { (i : ℕ) → i < count → page + i < length model.old.out }
     ensures { (s : State) → model.new ≡ after_events (touches page count) s model.old }
 {
-    // For their clauses alone: touches one after another are one touch of the run.
-    reclaim_module::model_follows_events();
-    reclaim_module::touches_of_a_run_are_one();
     if count > 0 {
         model.touch_run(page, count);
     }
@@ -160,12 +140,6 @@ fn follow_aggregation(model: &mut Reclaim, monitor: &Monitor)
         → IsAggregated (λ memory t. Models model.old t) monitor.now memory s words
         → Models model.new (after s (aggregate words)) }
 {
-    // For their clauses alone: what an aggregation makes of the pages, and that few go out.
-    reclaim_module::model_follows_events();
-    reclaim_module::aggregations_keep_schemes();
-    reclaim_module::few_pages_go_out();
-    reclaim_module::applied_runs_follow();
-    reclaim_module::pages_stay();
     // For its clauses alone: the space is within its limits.
     let _targets = monitor.space().targets();
     let runs = monitor.report().applied.runs();
@@ -173,6 +147,7 @@ fn follow_aggregation(model: &mut Reclaim, monitor: &Monitor)
 }
 
 // Applies runs in order, each with the action of its slot.
+#[tactic(auto, using(crate::proofs::Applying::applies_runs))]
 fn apply_runs(model: &mut Reclaim, runs: &[AppliedRun], engine: &Engine)
     requires slots { AllByRecursion (λ run. run.slot ≤ MAX_SLOT) runs.now }
     requires within { AllByRecursion
@@ -182,10 +157,6 @@ fn apply_runs(model: &mut Reclaim, runs: &[AppliedRun], engine: &Engine)
     ensures { (notes : List Note) → engine.now.slots ≡ slots_of notes
         → model.new ≡ after_applied notes runs.now model.old }
 {
-    // For their clauses alone: runs follow one another, and the first ones page out no more than all.
-    reclaim_module::applied_runs_follow();
-    reclaim_module::few_pages_go_out();
-    reclaim_module::pages_stay();
     for run in runs {
         model.apply(run.start, run.pages, action_of(engine, run.slot));
     }

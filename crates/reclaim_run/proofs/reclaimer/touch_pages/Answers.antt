@@ -8,6 +8,4 @@ touch_run-requires c =
     omega (arith, c.requires (c.args.count - 1) last, c.if-count-gt0.true)
 
 pub returns-then-count-gt0 : goal.returns-then-count-gt0
-returns-then-count-gt0 c s =
-    let one = c.touches_of_a_run_are_one.ensures in
-    c.touch_run.ensures ∙ run_is_touches c.model_follows_events.ensures.others one.none one.next c.args.page c.args.count s c.args.model.now c.requires
+returns-then-count-gt0 c s = c.touch_run.ensures ∙ run_is_touches c.args.page c.args.count s c.args.model.now c.requires

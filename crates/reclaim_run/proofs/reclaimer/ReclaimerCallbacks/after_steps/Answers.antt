@@ -1,8 +1,9 @@
 use Rattle.std.proofs.Common.{sym}
+use Rattle.reclaim_module.proofs.Lemmas.{events_leave}
 use Rattle.reclaim_run.proofs.Following.{models_follow, steps_leave}
 use Rattle.reclaim_run.proofs.reclaimer.ReclaimerCallbacks.after_steps.Goals as goal
 
 pub returns : goal.returns
 returns c steps all memory s reached here fit =
     let m = c.args.self.now.model in
-    models_follow (record { stands = c.model_follows_events.ensures.stands; space = c.model_follows_events.ensures.space; many = c.pages_stay.ensures.event }) steps s m m (sym (c.model_follows_events.ensures.leave steps s m (steps_leave steps all))) here fit
+    models_follow steps s m m (sym (events_leave steps s m (steps_leave steps all))) here fit

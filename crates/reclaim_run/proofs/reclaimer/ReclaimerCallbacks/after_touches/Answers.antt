@@ -16,4 +16,4 @@ pub returns : goal.returns
 returns c memory s reached here fit =
     let es = touches c.args.page c.args.count in
     let made = c.touch_pages.ensures s ∙ ap (λ (v : ReclaimerView). after_events es s v.model) c.self.view_is in
-    models_follow (record { stands = c.model_follows_events.ensures.stands; space = c.model_follows_events.ensures.space; many = c.pages_stay.ensures.event }) es s c.args.self.now.model c.touch_pages.new.model made here fit
+    models_follow es s c.args.self.now.model c.touch_pages.new.model made here fit

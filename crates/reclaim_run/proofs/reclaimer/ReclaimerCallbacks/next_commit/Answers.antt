@@ -8,4 +8,4 @@ use Rattle.reclaim_run.proofs.reclaimer.ReclaimerCallbacks.next_commit.Goals as 
 pub returns-clause-stands : goal.returns-clause-stands
 returns-clause-stands c memory s reached here fit =
     let same = ap (λ (v : ReclaimerView). v.model) c.self.view_is in
-    models_follow (record { stands = c.model_follows_events.ensures.stands; space = c.model_follows_events.ensures.space; many = c.pages_stay.ensures.event }) (commit (metric_commit c.in_ok-share.share) ∷ []) s c.args.self.now.model c.self.inside.model same here (tt, tt)
+    models_follow (commit (metric_commit c.in_ok-share.share) ∷ []) s c.args.self.now.model c.self.inside.model same here (tt, tt)
