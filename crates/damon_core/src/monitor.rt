@@ -10,7 +10,7 @@ ghost use Rattle.damon_core.specs.Aggregate.{core_after_aggregation, engine_serv
 ghost use Rattle.damon_core.specs.Report.{report_value};
 ghost use Rattle.damon_core.specs.Several.{clears, loads};
 ghost use Rattle.damon_core.specs.After.{prepared_core, cleared_core, loaded_core};
-ghost use Rattle.damon_core.specs.Reached.{Reached};
+ghost use Rattle.damon_core.specs.Reached.{Reached, ReachedByHit};
 ghost use Rattle.damon_core.specs.Pass.{IsInPass, IsPickWithin, cleared_so_far};
 ghost use Rattle.damon_core.specs.Makes.{Makes};
 ghost use Rattle.damon_core.specs.Stands.{Stands};
@@ -86,6 +86,7 @@ impl Monitor {
         ensures core { IfOk result (λ m. m.core ≡ opening_core (value_of setup.now)) }
         ensures opening { IfOk result (λ m. Stands m (opening (value_of setup.now))) }
         ensures reached { IfOk result (λ m. Reached (opening (value_of setup.now))) }
+        ensures by_hit { IfOk result (λ m. ReachedByHit (opening (value_of setup.now))) }
     {
         opening_is_reached(setup);
         let regions = first_regions(alloc, setup)?;

@@ -5,7 +5,7 @@ ghost use Rattle.damon_types.specs.Span.{spans};
 ghost use Rattle.region_list.specs.Tiling.{Tiling};
 ghost use Rattle.live_commit.specs.SetupView.{value_of};
 ghost use Rattle.damon_core.specs.Kept.{IsUnused};
-ghost use Rattle.damon_core.specs.Reached.{Reached};
+ghost use Rattle.damon_core.specs.Reached.{ReachedByHit};
 ghost use Rattle.damon_core.specs.Slots.{slots_of};
 ghost use Rattle.damon_core.specs.State.{opening, opening_core, opening_notes, opening_rows};
 
@@ -16,7 +16,7 @@ use std::alloc::{AllocError, Global};
 
 // The opening state of a setup is reached, by no events.
 pub(crate) fn opening_is_reached(setup: &Setup)
-    ensures { Reached (opening (value_of setup.now)) }
+    ensures { ReachedByHit (opening (value_of setup.now)) }
 {
     // For their clauses alone: the targets are within their limits, and the ranges are in order.
     let (_targets, _ranges) = (setup.space.targets(), setup.ranges.len());

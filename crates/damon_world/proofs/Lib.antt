@@ -5,3 +5,4 @@ pub mod Stepping
 pub mod Committing
 pub mod Advancing
 pub mod Passing
+pub mod Hits

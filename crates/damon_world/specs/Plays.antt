@@ -3,8 +3,8 @@ use Rattle.std.specs.Prelude.{◌≡◌, List, [], ◌∷◌, ◌++◌, refl}
 use Rattle.std.proofs.Common.{sym, subst}
 use Rattle.rand_core.specs.Stream.{Stream}
 use Rattle.damon_core.specs.Event.{Event}
-use Rattle.damon_core.specs.Reached.{AllFit, Reached, run}
-use Rattle.damon_core.specs.Makes.{AllFit-append, Reached-run}
+use Rattle.damon_core.specs.Reached.{AllByHit, AllFit, Reached, ReachedByHit, run}
+use Rattle.damon_core.specs.Makes.{AllFit-append, Reached-run, ReachedByHit-run, reached_of}
 use Rattle.damon_world.specs.Moment.{Moment, along, moved}
 use Rattle.damon_world.specs.Stands.{WorldView, StandsAt}
 
@@ -36,3 +36,13 @@ Plays-append stream old between new es fs first second m reached here =
       AllFit-append m.state (es m) (fs (along m (es m))) made.0 (subst (λ s. AllFit s (fs (along m (es m)))) (along-state m (es m)) then.0),
       subst (StandsAt stream new) (sym (along-append m (es m) (fs (along m (es m))))) then.1,
     )
+
+-- the same of the moments whose states are reached with the results of their pages: the world then stands at such a moment again
+abbrev pub PlaysByHit : {R : Type 0} → (R → Stream) → WorldView R → WorldView R → (Moment → List Event) → Type 0
+PlaysByHit stream old new events = (m : Moment) → ReachedByHit m.state → StandsAt stream old m → ReachedByHit (along m (events m)).state × StandsAt stream new (along m (events m))
+
+-- what plays events whose results are those of their pages
+pub PlaysByHit-from : {R : Type 0} (stream : R → Stream) (old new : WorldView R) (es : Moment → List Event) → ((m : Moment) → AllByHit m.state (es m)) → Plays stream old new es → PlaysByHit stream old new es
+PlaysByHit-from stream old new es hit plays m reached here =
+    let made = plays m (reached_of m.state reached) here in
+    (subst ReachedByHit (sym (along-state m (es m))) (ReachedByHit-run m.state (es m) reached made.0 (hit m)), made.1)

@@ -5,16 +5,16 @@ ghost use Rattle.live_commit.specs.SetupView.{value_of};
 ghost use Rattle.damon_core.specs.Commit.{commit_answer, core_after_commit};
 ghost use Rattle.damon_core.specs.State.{State, opening, opening_core, opening_notes, row_count};
 ghost use Rattle.damon_core.specs.Event.{IsLoading, IsObserving, load_index, commit as commit_event, touch as touch_event};
-ghost use Rattle.damon_core.specs.Makes.{Makes};
+ghost use Rattle.damon_core.specs.Makes.{Makes, MakesByHit};
 ghost use Rattle.damon_core.specs.Pass.{IsInPass};
-ghost use Rattle.damon_core.specs.Reached.{Reached};
+ghost use Rattle.damon_core.specs.Reached.{Reached, ReachedByHit};
 ghost use Rattle.sampler.specs.Draws.{drawn, drawn_rest};
 ghost use Rattle.damon_world.specs.Pages.{ArePagesOf, AreCleared};
 ghost use Rattle.damon_world.specs.Stands.{KeepsTags, StandsAt, StandsFor};
 ghost use Rattle.damon_world.specs.Touches.{touches};
 ghost use Rattle.damon_world.specs.Advance.{AreAmid, steps_of_kind};
 ghost use Rattle.damon_world.specs.Moment.{Moment, Tells, events_of_steps, next_event};
-ghost use Rattle.damon_world.specs.Plays.{Plays};
+ghost use Rattle.damon_world.specs.Plays.{Plays, PlaysByHit};
 ghost use Rattle.damon_world.specs.Kept.{IsAdvance};
 
 use crate::{Jump, PlainPages, draw_all};
@@ -70,6 +70,7 @@ impl<R: Jump + Drop> World<R> {
         ensures core { IfOk result (λ w. w.monitor.core ≡ opening_core (value_of setup.now)) }
         ensures source { IfOk result (λ w. w.source ≡ words) }
         ensures opening { IfOk result (λ w. StandsFor w (opening (value_of setup.now))) }
+        ensures reached { IfOk result (λ w. ReachedByHit (opening (value_of setup.now))) }
         ensures tags { IfOk result (λ w. KeepsTags w) }
     {
         // For its clause alone: no page was touched or cleared before the first event.
@@ -83,6 +84,7 @@ impl<R: Jump + Drop> World<R> {
         ensures core { IfOk result (λ w. w.monitor.core ≡ opening_core (value_of setup.now)) }
         ensures source { IfOk result (λ w. w.source ≡ words) }
         ensures opening { IfOk result (λ w. StandsFor w (opening (value_of setup.now))) }
+        ensures reached { IfOk result (λ w. ReachedByHit (opening (value_of setup.now))) }
     {
         // For its clause alone: no page was touched or cleared before the first event.
         damon_core::pages_are_kept();
@@ -104,6 +106,7 @@ impl<R: Jump + Drop> World<R> {
         ensures pages { IfOk result (λ w. w.pages ≡ pages) }
         ensures source { IfOk result (λ w. w.source ≡ words) }
         ensures opening { IfOk result (λ w. StandsFor w (opening (value_of setup.now))) }
+        ensures reached { IfOk result (λ w. ReachedByHit (opening (value_of setup.now))) }
     {
         let monitor = Monitor::new(alloc, setup)?;
         let drawn = Vec::with_capacity(alloc, 2 * setup.cap as usize)?;
@@ -131,6 +134,7 @@ impl<R: Jump + Drop> World<R> {
         ensures monitor { self.new.monitor ≡ self.old.monitor }
         ensures source { self.new.source ≡ self.old.source }
         ensures event { Makes StandsFor self.old self.new (touch_event page ∷ []) }
+        ensures by_hit { MakesByHit StandsFor self.old self.new (touch_event page ∷ []) }
         ensures tags { length self.new.pages.tags ≡ length self.old.pages.tags }
     {
         let tag = self.pages.tag(page);
@@ -144,6 +148,7 @@ impl<R: Jump + Drop> World<R> {
         ensures monitor { self.new.monitor ≡ self.old.monitor }
         ensures source { self.new.source ≡ self.old.source }
         ensures event { Makes StandsFor self.old self.new (touch_event page ∷ []) }
+        ensures by_hit { MakesByHit StandsFor self.old self.new (touch_event page ∷ []) }
         ensures tags { length self.new.pages.tags ≡ length self.old.pages.tags }
     {
         self.pages.touch(page);
@@ -156,6 +161,7 @@ impl<R: Jump + Drop> World<R> {
         ensures monitor { self.new.monitor ≡ self.old.monitor }
         ensures source { self.new.source ≡ self.old.source }
         ensures events { Makes StandsFor self.old self.new (touches from (to - from)) }
+        ensures by_hit { MakesByHit StandsFor self.old self.new (touches from (to - from)) }
         ensures tags { length self.new.pages.tags ≡ length self.old.pages.tags }
     {
         self.pages.sweep(from, to);
@@ -171,6 +177,8 @@ impl<R: Jump + Drop> World<R> {
         ensures source { self.new.source ≡ self.old.source }
         ensures kept { OnErr result (self.new ≡ self.old) }
         ensures event { Makes StandsFor self.old self.new (commit_event (commit_value commit.now) ∷ []) }
+        ensures by_hit { MakesByHit StandsFor self.old self.new
+            (commit_event (commit_value commit.now) ∷ []) }
 
         // What no commit changes.
         ensures space { self.new.monitor.core.space ≡ self.old.monitor.core.space }
@@ -185,6 +193,7 @@ impl<R: Jump + Drop> World<R> {
     pub fn step(&mut self) -> Stepped
         requires { self.old.monitor.core.ticks < 2 ^ 40 }
         ensures plays { Plays R.stream self.old self.new (λ m. next_event m.state m.stream ∷ []) }
+        ensures by_hit { PlaysByHit R.stream self.old self.new (λ m. next_event m.state m.stream ∷ []) }
         ensures told { (s : State) → Reached s → StandsFor self.old s
             → Tells s.core.phase s result }
 
@@ -209,6 +218,7 @@ impl<R: Jump + Drop> World<R> {
             (steps_of_kind self.old.monitor.core.phase (row_count self.old.monitor.core)) }
         ensures some { 1 ≤ result }
         ensures plays { Plays R.stream self.old self.new (λ m. events_of_steps result m) }
+        ensures by_hit { PlaysByHit R.stream self.old self.new (λ m. events_of_steps result m) }
         ensures amid { (m : Moment) → Reached m.state → StandsAt R.stream self.old m
             → AreAmid result m }
 

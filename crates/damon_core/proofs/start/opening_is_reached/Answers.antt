@@ -8,5 +8,6 @@ returns c = record {
   events = [];
   can_open = record { space = c.targets-targets.ensures.sound; sound = c.args.setup.now.sound; order = c.len-ranges.ensures.order };
   fit = tt;
+  by_hit = tt;
   is = refl;
 }

@@ -11,7 +11,7 @@ use Rattle.region_list.specs.Tiling.{Tiling}
 use Rattle.region_list.specs.Division.{divided}
 use Rattle.live_commit.specs.SetupView.{value_of}
 use Rattle.region_list.proofs.Lemmas.{counts_shrunk}
-use Rattle.damon_core.specs.State.{Core, opening_core, opening_rows}
+use Rattle.damon_core.specs.State.{Core, opening, opening_core, opening_rows}
 use Rattle.damon_core.specs.Kept.{IsMonitor, RowsLieIn, SamplingView}
 use Rattle.damon_core.specs.declared.report.Report.{Report}
 use Rattle.damon_core.specs.Report.{ReportValue, report_value}
@@ -20,6 +20,7 @@ use Rattle.live_commit.specs.declared.phase.Phase.TheVariants.{Idle}
 use Rattle.damon_core.specs.Note.{was_hit}
 use Rattle.damon_core.specs.Stands.{bit_at, last_pass}
 use Rattle.damon_core.specs.Totals.{checks_made, hits_made}
+use Rattle.damon_core.proofs.Keeping.{reached_of}
 use Rattle.damon_core.proofs.Opening.{opening_holds}
 use Rattle.damon_core.proofs.Rows.{tiling_some}
 use Rattle.damon_core.proofs.Shown.{shown}
@@ -80,3 +81,6 @@ returns-clause-opening c =
       hits = opening_holds (λ ns. 0 ≡ hits_made ns) refl (λ slot scheme ns none. none) v;
       slots = c.in_ok-engine.ensures.slots;
     }
+
+pub returns-clause-reached : goal.returns-clause-reached
+returns-clause-reached c = reached_of (opening (value_of c.args.setup.now)) c.opening_is_reached.ensures

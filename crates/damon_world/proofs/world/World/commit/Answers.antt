@@ -8,6 +8,8 @@ use Rattle.damon_core.specs.Event.{commit}
 use Rattle.damon_world.specs.Pages.{ArePagesOf}
 use Rattle.damon_world.proofs.Committing.{word_of-commit}
 use Rattle.damon_world.proofs.Notes.{same_pages}
+use Rattle.std.proofs.Common.{[], ◌∷◌}
+use Rattle.damon_core.specs.Makes.{ReachedByHit-run, reached_of}
 use Rattle.damon_world.proofs.world.World.commit.Goals as goal
 
 pub returns-clause-event : goal.returns-clause-event
@@ -22,3 +24,9 @@ returns-clause-event g c s reached stands =
             (same_pages c.self.inside.pages s.notes (after s (commit parts)).notes (pages_of c.self.inside.monitor.core.space) (word_of-commit parts s) inner.pages);
       },
     )
+
+pub returns-clause-by_hit : goal.returns-clause-by_hit
+returns-clause-by_hit g c s reached stands =
+    let made = returns-clause-event g c s (reached_of s reached) stands in
+    let parts : CommitValue = commit_value c.args.commit.now in
+    (ReachedByHit-run s (commit parts ∷ []) reached made.0 (tt, tt), made.1)

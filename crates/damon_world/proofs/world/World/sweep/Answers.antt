@@ -3,6 +3,9 @@ use Rattle.damon_types.specs.Space.{pages_of}
 use Rattle.damon_core.specs.State.{Core}
 use Rattle.damon_world.specs.Stands.{StandsFor}
 use Rattle.damon_world.proofs.Notes.{AllFit-touches, pages_touched, stands-touches}
+use Rattle.damon_core.specs.Makes.{ReachedByHit-run, reached_of}
+use Rattle.damon_world.specs.Touches.{touches}
+use Rattle.damon_world.proofs.Hits.{touches_by_hit}
 use Rattle.damon_world.proofs.world.World.sweep.Goals as goal
 
 pub returns-clause-events : goal.returns-clause-events
@@ -22,3 +25,9 @@ returns-clause-events g c s reached stands =
         pages = pages_touched s from n pages inside.pages c.sweep.new.self c.self.invariant.each c.sweep.ensures inner.pages;
       },
     )
+
+pub returns-clause-by_hit : goal.returns-clause-by_hit
+returns-clause-by_hit g c s reached stands =
+    let made = returns-clause-events g c s (reached_of s reached) stands in
+    let n = c.args.to - c.args.from in
+    (ReachedByHit-run s (touches c.args.from n) reached made.0 (touches_by_hit n c.args.from s), made.1)

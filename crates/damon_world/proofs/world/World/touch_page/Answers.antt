@@ -3,6 +3,9 @@ use Rattle.damon_types.specs.Space.{pages_of}
 use Rattle.damon_core.specs.State.{Core}
 use Rattle.damon_world.specs.Stands.{StandsFor}
 use Rattle.damon_world.proofs.Notes.{AllFit-touches, pages_touched, stands-touches}
+use Rattle.std.proofs.Common.{[], ◌∷◌}
+use Rattle.damon_core.specs.Event.{touch}
+use Rattle.damon_core.specs.Makes.{ReachedByHit-run, reached_of}
 use Rattle.damon_world.proofs.world.World.touch_page.Goals as goal
 
 pub returns-clause-event : goal.returns-clause-event
@@ -19,3 +22,8 @@ returns-clause-event g c s reached stands =
         pages = pages_touched s page 1 pages inside.pages c.touch.new.self c.self.invariant.each c.touch.ensures inner.pages;
       },
     )
+
+pub returns-clause-by_hit : goal.returns-clause-by_hit
+returns-clause-by_hit g c s reached stands =
+    let made = returns-clause-event g c s (reached_of s reached) stands in
+    (ReachedByHit-run s (touch c.args.page ∷ []) reached made.0 (tt, tt), made.1)
