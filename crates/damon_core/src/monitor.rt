@@ -6,7 +6,7 @@ ghost use Rattle.live_commit.specs.SetupView.{value_of};
 ghost use Rattle.damon_core.specs.Note.{is_cleared};
 ghost use Rattle.damon_core.specs.State.{State, opening, opening_core, row_count};
 ghost use Rattle.damon_core.specs.Event.{IsClearing, IsLoading, clear_index, load_index, prepare as prepare_event, clear as clear_event, load as load_event, aggregate as aggregate_event};
-ghost use Rattle.damon_core.specs.Aggregate.{core_after_aggregation, engine_served};
+ghost use Rattle.damon_core.specs.Aggregate.{core_after_aggregation, engine_served, merged_regions};
 ghost use Rattle.damon_core.specs.Report.{report_value};
 ghost use Rattle.damon_core.specs.Several.{clears, loads};
 ghost use Rattle.damon_core.specs.After.{prepared_core, cleared_core, loaded_core};
@@ -14,6 +14,7 @@ ghost use Rattle.damon_core.specs.Reached.{Reached, ReachedByHit};
 ghost use Rattle.damon_core.specs.Pass.{IsInPass, IsPickWithin, cleared_so_far};
 ghost use Rattle.damon_core.specs.Makes.{Makes};
 ghost use Rattle.damon_core.specs.Stands.{Stands};
+ghost use Rattle.scheme_engine.specs.Best.{AreServedBest};
 ghost use Rattle.sampler.specs.Draws.{drawn, drawn_rest};
 ghost use Rattle.sampler.specs.Loaded.{next_picks};
 
@@ -328,6 +329,8 @@ impl Monitor {
         requires words { length words.now ≡ 2 * self.old.core.attrs.max }
         ensures core { self.new.core ≡ core_after_aggregation words.now self.old.slots self.old.core }
         ensures slots { self.new.slots ≡ (engine_served self.old.core self.old.slots).slots }
+        ensures best { AreServedBest 0 self.old.core.space self.old.core.attrs.aggr self.old.core.ticks
+            (merged_regions self.old.core) self.old.slots }
         ensures event { Makes Stands self.old self.new (aggregate_event words.now ∷ []) }
     {
         let sampling = &mut *self.sampling;

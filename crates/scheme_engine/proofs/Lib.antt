@@ -14,5 +14,6 @@ mod RunLemmas
 mod BoundLemmas
 mod OutcomeLemmas
 mod SlotLemmas
+mod BestLemmas
 pub mod Lemmas
 mod Examples

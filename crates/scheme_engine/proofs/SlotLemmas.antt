@@ -44,7 +44,7 @@ slot_holds slot space aggr tick regions s P holds = by s.set
     by (Some h) = on h h.gauge.active
 
 -- rows
-slot_tiled : (slot : ℕ) (space : List Target) (aggr tick : ℕ) (regions : RegionList) (s : SlotValue) → AreTiled regions → AreTiled (record regions { rows = (slot_served slot space aggr tick regions s).rows })
+pub slot_tiled : (slot : ℕ) (space : List Target) (aggr tick : ℕ) (regions : RegionList) (s : SlotValue) → AreTiled regions → AreTiled (record regions { rows = (slot_served slot space aggr tick regions s).rows })
 slot_tiled slot space aggr tick regions s tiled =
     slot_holds slot space aggr tick regions s (λ w. AreTiled (record regions { rows = w.rows })) (record { empty = tiled; inactive = tiled; active = λ h. outcome_tiled slot aggr space h.scheme (left_in (turned_slot tick s)) regions tiled })
 

@@ -1,5 +1,5 @@
 -- What a run of a scheme is, without the way in which it is found.
-use Rattle.std.specs.Prelude.{◌≡◌, ℕ, List, Option, IsPermutation}
+use Rattle.std.specs.Prelude.{◌≡◌, ℕ, ◌+◌, true, false, List, [], ◌∷◌, Option, Some, None, IsPermutation}
 use Rattle.damon_types.specs.declared.scheme.Scheme.{Scheme}
 use Rattle.damon_types.specs.declared.space.Target.{Target}
 use Rattle.damon_types.specs.Span.{spans}
@@ -12,6 +12,8 @@ use Rattle.priority.specs.Order.{InPriority}
 use Rattle.priority.specs.Share.{with_shares}
 use Rattle.scheme_engine.specs.Candidates.{candidates_of}
 use Rattle.scheme_engine.specs.Outcome.{Outcome}
+use Rattle.scheme_engine.specs.Served.{ServedSlot, choice_of, left_in, no_choice, slot_served}
+use Rattle.scheme_engine.specs.Slots.{SetScheme, SlotValue, turned_slot}
 use Rattle.scheme_engine.specs.Taken.{applied_runs}
 
 -- A scheme is run over regions, where `left` is what is left of its quota. The candidates, each with its share of that, are in
@@ -26,3 +28,25 @@ pub record IsBestRun (slot : ℕ) (space : List Target) (aggr : ℕ) (scheme : S
   pub certificate : IsCertified left candidates
   pub taken : o.taken ≡ taken_of candidates
   pub lowest : o.lowest ≡ lowest_of candidates
+
+-- the scheme of a slot whose window is that of the tick is applied to the best choice within what is left of its quota
+pub record RunsBest (slot : ℕ) (space : List Target) (aggr : ℕ) (regions : RegionList) (s : SlotValue) (scheme : Scheme) (y : ServedSlot) : Type 0 where
+  pub outcome : Outcome
+  pub best : IsBestRun slot space aggr scheme (left_in s) regions outcome
+  pub runs : y.runs ≡ outcome.runs
+  pub choices : y.choices ≡ choice_of slot (left_in s) outcome ∷ []
+
+-- What is applied to serve a slot: nothing where it is not set; nothing where it is set but not active, and its choice says so; the
+-- best choice where it is set and active, within what is left once its window may have begun anew.
+pub record IsServedBest (slot : ℕ) (space : List Target) (aggr tick : ℕ) (regions : RegionList) (s : SlotValue) (y : ServedSlot) : Type 0 where
+  pub unset : s.set ≡ None → (y.runs ≡ []) × (y.choices ≡ [])
+  pub inactive : (h : SetScheme) → s.set ≡ Some h → h.gauge.active ≡ false → (y.runs ≡ []) × (y.choices ≡ no_choice slot ∷ [])
+  pub active : (h : SetScheme) → s.set ≡ Some h → h.gauge.active ≡ true → RunsBest slot space aggr regions (turned_slot tick s) h.scheme y
+
+-- slots are served so in order, the first of which has this number, each over the rows as those before it leave them
+abbrev pub AreServedBest : ℕ → List Target → ℕ → ℕ → RegionList → List SlotValue → Type 0
+AreServedBest slot space aggr tick regions [] = Unit {0}
+AreServedBest slot space aggr tick regions (s ∷ ss) =
+    let first = slot_served slot space aggr tick regions s in
+    IsServedBest slot space aggr tick regions s first
+    × AreServedBest (slot + 1) space aggr tick (record regions { rows = first.rows }) ss

@@ -1,9 +1,9 @@
 pub mod Candidates
 pub mod Taken
 pub mod Outcome
-pub mod Best
 pub mod Slots
 pub mod Served
+pub mod Best
 pub mod Engine
 pub mod Kept
 pub mod Applied

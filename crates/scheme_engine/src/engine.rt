@@ -1,6 +1,7 @@
 ghost use Rattle.std.specs.Prelude.{◌≡◌, ◌≤◌, [], length, map, replicate, slice_set, slice_index_or, IfOk};
 ghost use Rattle.std.specs.List.{AllByRecursion};
 ghost use Rattle.damon_types.specs.Within.{AreWithin};
+ghost use Rattle.scheme_engine.specs.Best.{AreServedBest};
 ghost use Rattle.scheme_engine.specs.Engine.{BeginBy, FitsSlot};
 ghost use Rattle.scheme_engine.specs.Served.{slots_served};
 ghost use Rattle.scheme_engine.specs.Slots.{changed, costed, empty_slot, metered, view_of};
@@ -143,7 +144,10 @@ impl Engine {
           runs = (slots_served 0 space.now aggr tick regions.old self.old.slots).runs;
           choices = (slots_served 0 space.now aggr tick regions.old self.old.slots).choices;
         } }
+        ensures best { AreServedBest 0 space.now aggr tick regions.old self.old.slots }
     {
+        // For its clauses alone: the rows tile their ranges and are within their limits.
+        let _rows = regions.len();
         applied.clear();
         for number in 0..SLOTS {
             let slot = &mut self.slots[number];

@@ -8,7 +8,7 @@ ghost use Rattle.damon_types.specs.Space.{IsSpace};
 ghost use Rattle.damon_types.specs.Span.{spans};
 ghost use Rattle.damon_types.specs.Within.{AreWithin};
 ghost use Rattle.region_list.specs.Regions.{RegionList};
-ghost use Rattle.scheme_engine.specs.Best.{IsBestRun};
+ghost use Rattle.scheme_engine.specs.Best.{AreServedBest, IsBestRun};
 ghost use Rattle.scheme_engine.specs.Engine.{BeginBy, FitsSlot};
 ghost use Rattle.scheme_engine.specs.Kept.{AreTiled, CountsWithin, IsRunIn, LiesInRow, OneInPart, StartBy};
 ghost use Rattle.scheme_engine.specs.Outcome.{chosen_of, outcome_of};
@@ -74,6 +74,16 @@ pub fn outcome_is_best()
         → IsBestRun slot space aggr scheme left regions
         (outcome_of slot space aggr scheme left regions) }
 {}
+
+/// Each slot that is served is served best, over the rows as those before it leave them: nothing is done
+/// for one that is not set or not active, and the scheme of an active one is applied to the best choice
+/// within what is left of its quota.
+pub fn served_slots_are_best()
+    ensures best { (slot aggr tick : ℕ) (space : List target) (regions : RegionList)
+        (slots : List SlotValue) → AreTiled regions
+        → AreServedBest slot space aggr tick regions slots }
+{
+}
 
 /// What serving slots keeps: the rows and their counts as [`outcome_rows_are_kept`] says, the number of
 /// slots, and that no window begins after the tick. The runs of all slots have as many pages as are taken

@@ -13,7 +13,7 @@ use Rattle.region_list.specs.Tiles.{Tiles}
 use Rattle.scheme_engine.specs.Engine.{EngineValue}
 use Rattle.scheme_engine.specs.Kept.{AreTiled, IsRunIn}
 use Rattle.scheme_engine.specs.Served.{Served, slots_served}
-use Rattle.scheme_engine.proofs.Lemmas.{counts_fit, slots_begun, slots_bounded, slots_space, slots_windows}
+use Rattle.scheme_engine.proofs.Lemmas.{counts_fit, served_best, slots_begun, slots_bounded, slots_space, slots_windows}
 use Rattle.damon_core.specs.Aggregate.{merge_limit, merged_regions}
 use Rattle.damon_core.specs.Kept.{IsMonitor, IsServing, RowsLieIn, SamplingView, SinceFew}
 use Rattle.damon_core.specs.declared.report.Report.{Report}
@@ -114,6 +114,29 @@ invariant_of-self c =
       serving = subst (λ (e : EngineValue). IsServing (record { ticks = i.clock.ticks; since = 0 }) e.slots) (sym c.serve.ensures.slots) (serving_served i.clock o.slots since.0 v.serving.since_ticks v.serving.ticks_few windows bounded);
     })
 
+-- the rows that schemes find tile their ranges
+merged_are_tiled : (c : goal.After-self-4-1) → AreTiled (merged_regions c.args.self.now.core)
+merged_are_tiled c =
+    let i = c.self.inside in
+    let s = c.deref_mut-sampling.result.now in
+    let at = c.deref_mut-sampling.ensures.value in
+    let e = c.deref_mut-engine.result.now in
+    let e_at = c.deref_mut-engine.ensures.value in
+    let b = c.deref_mut-report.result.now in
+    let b_at = c.deref_mut-report.ensures.value in
+    let view = ap (λ x. shown i.version i.space i.attrs x i.clock i.totals (report_value b) e.slots) at ∙ ap (λ x. shown i.version i.space i.attrs i.sampling.value i.clock i.totals (report_value x) e.slots) b_at ∙ ap (λ x. shown i.version i.space i.attrs i.sampling.value i.clock i.totals (report_value i.report.value) x.slots) e_at ∙ c.self.view_is in
+    let core : Core = (shown i.version i.space i.attrs s i.clock i.totals (report_value b) e.slots).core in
+    let len = c.len-merged.ensures in
+    let limit : c.merge_limit-limit.result ≡ merge_limit core = c.merge_limit-limit.ensures ∙ ap (λ (x : RegionList). max x.unit (page_total x.ranges / i.attrs.min)) c.regions.ensures.regions in
+    let merged = merged_is core c.merge-threshold.new.self.regions c.merge-threshold.result c.merge_limit-limit.result (ap (λ (s : SamplingView). s.regions) c.merge-threshold.ensures.merged) c.merge-threshold.ensures.threshold limit in
+    let tiled = subst AreTiled (c.regions-2.ensures.regions ∙ merged) (tiled_by_len _ c.len-merged.result len.len len.few len.unit len.order len.tiling) in
+    subst (λ (x : MonitorView). AreTiled (merged_regions x.core)) view tiled
+
+pub returns-clause-best : goal.returns-clause-best
+returns-clause-best c =
+    let m = c.args.self.now in
+    served_best 0 m.core.attrs.aggr m.core.ticks m.core.space (merged_regions m.core) m.slots (merged_are_tiled c)
+
 pub returns-clause-event : goal.returns-clause-event
 returns-clause-event c =
     let i = c.self.inside in
@@ -127,11 +150,8 @@ returns-clause-event c =
     let m = c.args.self.now in
     let ws = c.args.words.now in
     let core : Core = (shown i.version i.space i.attrs s i.clock i.totals (report_value b) e.slots).core in
-    let len = c.len-merged.ensures in
     let limit : c.merge_limit-limit.result ≡ merge_limit core = c.merge_limit-limit.ensures ∙ ap (λ (x : RegionList). max x.unit (page_total x.ranges / i.attrs.min)) c.regions.ensures.regions in
     let merged = merged_is core c.merge-threshold.new.self.regions c.merge-threshold.result c.merge_limit-limit.result (ap (λ (s : SamplingView). s.regions) c.merge-threshold.ensures.merged) c.merge-threshold.ensures.threshold limit in
-    let tiled = subst AreTiled (c.regions-2.ensures.regions ∙ merged) (tiled_by_len _ c.len-merged.result len.len len.few len.unit len.order len.tiling) in
-    let here = subst (λ (x : MonitorView). AreTiled (merged_regions x.core)) view tiled in
     let told = c.rows.ensures.rows ∙ ap (λ (x : RegionList). x.rows) c.regions-rows.ensures.regions in
     let after = aggregated_view i.version i.space i.attrs i.clock i.totals ws s c.merge-threshold.new.self c.serve.new.self c.split.new.self (report_value b) (report_value c.serve.new.report) (report_value c.set.new.self) e.slots c.serve.new.engine.slots c.merge-threshold.result
     (c.merge-threshold.ensures.merged ∙ ap (λ (r : RegionList). record s { regions = r }) (sym (ap (λ (s : SamplingView). s.regions) c.merge-threshold.ensures.merged) ∙ merged))
@@ -142,4 +162,4 @@ returns-clause-event c =
     (ap report_value c.set.ensures ∙ ap (λ (rows : List Row). with_kept i.clock.ticks c.merge-threshold.result rows (report_value c.serve.new.report)) told)
     c.split.ensures.split in
     subst (λ (x : MonitorView). Makes Stands m x (aggregate ws ∷ [])) (sym (after ∙ ap (after_aggregate ws) view))
-    (aggregate_makes m ws here c.requires.due c.requires.words)
+    (aggregate_makes m ws (merged_are_tiled c) c.requires.due c.requires.words)
