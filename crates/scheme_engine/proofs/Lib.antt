@@ -11,6 +11,7 @@ mod RowsLemmas
 mod EngineLemmas
 mod LawLemmas
 mod RunLemmas
+mod PageLemmas
 mod BoundLemmas
 mod OutcomeLemmas
 mod SlotLemmas

@@ -5,7 +5,7 @@ use Rattle.std.specs.List.{AllByRecursion}
 use Rattle.std.proofs.lemmas.List.Elements.{All-weaker}
 use Rattle.std.proofs.lemmas.List.Folds.{fold-map}
 use Rattle.std.proofs.lemmas.List.Sorted.{sum_by-IsPermutation}
-use Rattle.std.proofs.lemmas.List.Sums.{count_by-le-length}
+use Rattle.std.proofs.lemmas.List.Sums.{count_by-le-length, sum-map}
 use Rattle.damon_types.specs.declared.scheme.Scheme.{Scheme}
 use Rattle.damon_types.specs.declared.space.Target.{Target}
 use Rattle.damon_types.specs.declared.space.TheConstants.{MAX_PAGES}
@@ -26,6 +26,7 @@ use Rattle.scheme_engine.specs.Kept.{AreTiled, IsRunIn, LiesInRow, OneInPart}
 use Rattle.scheme_engine.specs.Outcome.{chosen_of, outcome_of}
 use Rattle.scheme_engine.proofs.BoundLemmas.{passing_sum, rows_at_most, rows_within, run_within, share_sum}
 use Rattle.scheme_engine.proofs.LawLemmas.{are_defined, distinct_in_order, distinct_shares, rows_counts, rows_few, rows_refined, rows_some_left}
+use Rattle.scheme_engine.proofs.PageLemmas.{pages_are_best}
 use Rattle.scheme_engine.proofs.RunLemmas.{applied_lie, applied_sum}
 
 -- the rows
@@ -88,12 +89,14 @@ outcome_best slot aggr space scheme left regions tiled =
     let cs = candidates_of space regions.ranges aggr scheme regions.rows in
     let ordered = distinct_in_order cs are.distinct in
     let is = shares_of_order left cs are.distinct in
+    let best : IsBest left (chosen_of space aggr scheme left regions) = subst (IsBest left) (sym is) (shares_best left _ ordered) in
     record {
       candidates = chosen_of space aggr scheme left regions;
       same = are.same;
       order = order_of _ (distinct_shares left cs are.distinct);
       runs = refl;
-      best = subst (IsBest left) (sym is) (shares_best left _ ordered);
+      within = subst (λ n. IfSome left (λ most. n ≤ most)) (sum-map (λ (d : Candidate). d.share) (chosen_of space aggr scheme left regions)) best.choice.within;
+      best = pages_are_best slot left (passes scheme.filters space regions.ranges) (spans regions.rows) (chosen_of space aggr scheme left regions) are.chosen.ascend are.chosen.each best;
       certificate = subst (IsCertified left) (sym is) (certified left _ ordered);
       taken = refl;
       lowest = refl;

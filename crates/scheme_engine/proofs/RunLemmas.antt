@@ -21,10 +21,10 @@ use Rattle.scheme_engine.proofs.PlaceLemmas.{Ascend, found_by_start, no_span}
 use Rattle.scheme_engine.proofs.TakenLemmas.{first_pages_sum, is_among, taken_are_first}
 
 -- where the row of a candidate lies
-span_is : (passes : ℕ → Bool) (ss : List Span) (c : Candidate) → Ascend 0 ss → (is : IsCandidateOf passes ss c) → span_at ss c ≡ is.span
+pub span_is : (passes : ℕ → Bool) (ss : List Span) (c : Candidate) → Ascend 0 ss → (is : IsCandidateOf passes ss c) → span_at ss c ≡ is.span
 span_is passes ss c ascend is = ap (λ o. unwrap_or o no_span) (found_by_start 0 ss is.index is.span c.start ascend is.at is.start)
 
-candidate_sum : (slot : ℕ) (passes : ℕ → Bool) (ss : List Span) (c : Candidate) → Ascend 0 ss → IsCandidateOf passes ss c → sum_by (λ r. r.pages) (candidate_runs slot passes ss c) ≡ c.share
+pub candidate_sum : (slot : ℕ) (passes : ℕ → Bool) (ss : List Span) (c : Candidate) → Ascend 0 ss → IsCandidateOf passes ss c → sum_by (λ r. r.pages) (candidate_runs slot passes ss c) ≡ c.share
 candidate_sum slot passes ss c ascend is =
     let s = is.span in
     let all : sum_by (λ (r : Run). r.pages) (runs_of passes s.start s.pages) ≡ c.passing = runs_of-pages passes s.pages s.start ∙ sym (length-filter passes (range_with_len s.start s.pages)) ∙ sym is.passing in

@@ -66,8 +66,8 @@ pub fn outcome_runs_are_taken()
 {}
 
 /// A run of a scheme is the best choice: its candidates are in priority order, each with its share of
-/// what is left of the quota; what it is applied to are the first passing pages of each; no other choice
-/// within what is left has a greater sum of scores, and the certificate holds.
+/// what is left of the quota; what it is applied to are the first passing pages of each, within what is
+/// left; no other pages within it have a greater sum of scores, and the certificate holds.
 pub fn outcome_is_best()
     ensures best { (slot aggr : ℕ) (space : List target) (scheme : scheme_type) (left : Option ℕ)
         (regions : RegionList) → AreTiled regions
@@ -82,8 +82,7 @@ pub fn served_slots_are_best()
     ensures best { (slot aggr tick : ℕ) (space : List target) (regions : RegionList)
         (slots : List SlotValue) → AreTiled regions
         → AreServedBest slot space aggr tick regions slots }
-{
-}
+{}
 
 /// What serving slots keeps: the rows and their counts as [`outcome_rows_are_kept`] says, the number of
 /// slots, and that no window begins after the tick. The runs of all slots have as many pages as are taken
