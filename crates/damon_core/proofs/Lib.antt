@@ -24,5 +24,6 @@ pub mod CommitStanding
 pub mod Preparing
 pub mod VersionOne
 pub mod Reported
+pub mod Stepping
 mod Examples
 mod ReportedExamples

@@ -19,3 +19,4 @@ pub mod Choosing
 pub mod Kept
 pub mod InPhase
 pub mod Reported
+pub mod Steps

@@ -1,8 +1,11 @@
 // What holds of each state to which events lead.
-ghost use Rattle.std.specs.Prelude.{◌≡◌, ℕ, List, length};
+ghost use Rattle.std.specs.Prelude.{◌≡◌, ℕ, true, false, List, length};
 ghost use Rattle.damon_types.specs.declared.scheme.Version.TheVariants as version;
+ghost use Rattle.live_commit.specs.declared.phase.Phase.TheVariants as Phase;
 ghost use Rattle.live_commit.specs.Setup.{SetupValue};
 ghost use Rattle.damon_core.specs.Aggregate.{IsServedAlike, aggregated};
+ghost use Rattle.damon_core.specs.After.{after};
+ghost use Rattle.damon_core.specs.Event.{Event, Fits, prepare};
 ghost use Rattle.damon_core.specs.Note.{word_of};
 ghost use Rattle.damon_core.specs.State.{State, opening, row_count};
 ghost use Rattle.damon_core.specs.Reached.{Reached, ReachedByHit};
@@ -11,6 +14,7 @@ ghost use Rattle.damon_core.specs.Choosing.{ServesBest};
 ghost use Rattle.damon_core.specs.InPhase.{IsInPhase};
 ghost use Rattle.damon_core.specs.Pass.{IsInPass, PagesRiseFrom};
 ghost use Rattle.damon_core.specs.Reported.{IsReported};
+ghost use Rattle.damon_core.specs.Steps.{EndsPass, TakesItsSteps, is_step};
 ghost use Rattle.damon_core.specs.VersionOne.{AreOfVersionOne};
 
 /// In each state to which fitting events lead, whatever the results of the loads, there is at least
@@ -29,6 +33,21 @@ pub fn reached_states_are_bound()
     ensures alike { (s : State) → Reached s → IsServedAlike s }
     ensures bound { (s : State) → ReachedByHit s → Bound s }
 {}
+
+/// From Idle, the first step prepares a pass, and touches, shows and commits before it leave the phase.
+/// A pass that is not void when it ends takes exactly 2 × r + 2 steps, where r rows are there when it is
+/// prepared: one to prepare it, a clear and a load of each row's pick, and one to observe it, in this
+/// order, whatever touches, shows and commits come between them. The rows then lie where they did.
+pub fn a_pass_takes_its_steps_amid_events()
+    ensures waits { (s : State) (e : Event) → s.core.phase ≡ Phase.Idle → is_step e ≡ false
+        → (after s e).core.phase ≡ Phase.Idle }
+    ensures begins { (s : State) (e : Event) → s.core.phase ≡ Phase.Idle → Fits s e → is_step e ≡ true
+        → (words : List ℕ) × (e ≡ prepare words) }
+    ensures pass { (s : State) (words : List ℕ) (events : List Event) → Reached s
+        → EndsPass s words events → TakesItsSteps s words events }
+{
+    reached_states_are_bound();
+}
 
 /// In each state to which fitting events lead, the rows that the last aggregation reported tile ranges
 /// of the space, in order, none of their counts is above the most passes of an aggregation, and an

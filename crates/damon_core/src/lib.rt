@@ -26,7 +26,8 @@ mod totals;
 
 pub use changed::Changed;
 pub use laws::{
-    pages_are_kept, reached_states_are_bound, reported_rows_tile, version_one_has_no_costs,
+    a_pass_takes_its_steps_amid_events, pages_are_kept, reached_states_are_bound,
+    reported_rows_tile, version_one_has_no_costs,
 };
 pub use monitor::Monitor;
 pub use report::Report;

@@ -10,9 +10,10 @@ use Rattle.damon_core.specs.Event.{IsLoading, observe, load, load_index, next_hi
 use Rattle.damon_core.specs.Several.{clears}
 use Rattle.damon_core.specs.After.{by_load, phase_cleared, phase_after_pass}
 use Rattle.damon_core.specs.Pass.{IsBetween}
+use Rattle.damon_core.specs.Steps.{IsPass, pass_steps}
 use Rattle.damon_world.specs.Moment.{Moment, event_in, events_of_steps, moved, next_event, stepped, stepped_times}
 use Rattle.sampler.specs.Draws.{drawn}
-use Rattle.damon_world.specs.Pass.{IsPass, core_after, pass_steps, TakesItsSteps}
+use Rattle.damon_world.specs.Pass.{core_after, TakesItsSteps}
 use Rattle.damon_world.specs.Steps.{events_append, events_more, stepped_more}
 use Rattle.damon_world.proofs.Stepping.{event_in-load, is_last, not_last}
 use Rattle.damon_world.proofs.Advancing.{clears_to}

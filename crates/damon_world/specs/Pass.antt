@@ -1,23 +1,10 @@
 -- A pass, by its steps.
-use Rattle.std.specs.Prelude.{◌≡◌, ℕ, ◌+◌, ◌*◌, ◌≤◌, ◌<◌, Bool, List, [], ◌∷◌, ◌++◌, length, map}
+use Rattle.std.specs.Prelude.{◌≡◌, ℕ, ◌+◌, ◌≤◌, ◌<◌}
 use Rattle.live_commit.specs.declared.phase.Phase.TheVariants.{Idle}
 use Rattle.damon_core.specs.State.{Core, row_count}
-use Rattle.damon_core.specs.Event.{Event, prepare, load, observe}
 use Rattle.damon_core.specs.Pass.{IsBetween}
-use Rattle.damon_core.specs.Several.{clears}
+use Rattle.damon_core.specs.Steps.{IsPass, pass_steps}
 use Rattle.damon_world.specs.Moment.{Moment, events_of_steps, stepped_times}
-
--- the steps of a pass over this many rows
-abbrev pub pass_steps : ℕ → ℕ
-pass_steps rows = 2 * rows + 2
-
--- The events are those of a pass: it is prepared, the pick of each row is cleared, each is loaded, and the pass is
--- observed.
-pub record IsPass (rows : ℕ) (events : List Event) : Type 0 where
-  pub words : List ℕ
-  pub hits : List Bool
-  pub each : length hits ≡ rows
-  pub are : events ≡ prepare words ∷ (clears rows ++ map (λ hit. load hit) hits ++ observe ∷ [])
 
 -- what a monitor shows after n steps
 abbrev pub core_after : ℕ → Moment → Core
