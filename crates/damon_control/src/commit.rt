@@ -1,4 +1,4 @@
-ghost use Rattle.std.specs.Prelude.{◌≡◌, ◌≤◌, ◌<◌, ◌+◌, ◌-◌, ◌^◌, IfOk, IfSome, OnOk, Ok, Err, Some, None, option_map, length, Result};
+ghost use Rattle.std.specs.Prelude.{◌≡◌, ◌≤◌, ◌<◌, ◌+◌, ◌-◌, ◌^◌, IfOk, IfSome, OnErr, OnOk, Ok, Err, Some, None, option_map, length, Result};
 ghost use Rattle.live_commit.specs.Commit.{commit_value};
 ghost use Rattle.script_lines.specs.Body.{no_commit, with_part, with_range};
 ghost use Rattle.damon_control.specs.declared.grammar.Grammar.{Grammar as grammar};
@@ -70,6 +70,7 @@ fn read_ranges(alloc: Global, lines: &mut Lines, commit: &mut Commit) -> Result<
 pub fn add_part(alloc: Global, commit: &mut Commit, part: Part) -> Result<(), AllocError>
     requires { IfSome commit.old.ranges (λ l. length l.list < 2 ^ 32 - 1) }
     ensures ok { OnOk result (commit_value commit.new ≡ with_part (commit_value commit.old) part) }
+    ensures err { OnErr result (commit_value commit.new ≡ commit_value commit.old) }
 {
     match part {
         Part::Range(range) => return add_range(alloc, &mut commit.ranges, range),
@@ -81,15 +82,17 @@ pub fn add_part(alloc: Global, commit: &mut Commit, part: Part) -> Result<(), Al
     Ok(())
 }
 
-// Adds a range to those of a commit.
+// Adds a range to those of a commit. When out of memory, nothing is added.
 fn add_range(
     alloc: Global,
     ranges: &mut Option<RangeSpecs>,
     range: RangeSpec,
 ) -> Result<(), AllocError>
     requires { IfSome ranges.old (λ l. length l.list < 2 ^ 32 - 1) }
-    ensures { OnOk result (option_map (λ l. l.list) ranges.new
+    ensures ok { OnOk result (option_map (λ l. l.list) ranges.new
         ≡ with_range (option_map (λ l. l.list) ranges.old) range) }
+    ensures err { OnErr result (option_map (λ l. l.list) ranges.new
+        ≡ option_map (λ l. l.list) ranges.old) }
 {
     match ranges {
         Some(list) => list.push(range),
