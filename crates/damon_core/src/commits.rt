@@ -35,6 +35,7 @@ impl Monitor {
         ensures core { self.new.core ≡ core_after_commit (commit_value commit.now) self.old.core }
         ensures slots { self.new.slots
             ≡ slots_after_commit (commit_value commit.now) self.old.core self.old.slots }
+        ensures alone { self.new ≡ record self.old { core = self.new.core; slots = self.new.slots } }
         ensures event { Makes Stands self.old self.new (commit_event (commit_value commit.now) ∷ []) }
         ensures kept { OnErr result (self.new ≡ self.old) }
 

@@ -1,5 +1,5 @@
 ghost use Rattle.std.specs.List.{AllByRecursion};
-ghost use Rattle.std.specs.Prelude.{◌≡◌, ◌+◌, ◌*◌, ◌≤◌, ◌<◌, ℕ, true, max, ◌/◌, [], ◌∷◌, length, map, slice_get, slice_index, slice_set, IfOk, Some, Ok};
+ghost use Rattle.std.specs.Prelude.{◌≡◌, ◌+◌, ◌*◌, ◌≤◌, ◌<◌, ℕ, false, true, max, ◌/◌, [], ◌∷◌, length, map, replicate, slice_get, slice_index, slice_set, IfOk, Some, Ok};
 ghost use Rattle.damon_types.specs.Ranges.{page_total};
 ghost use Rattle.damon_types.specs.Space.{pages_of};
 ghost use Rattle.live_commit.specs.SetupView.{value_of};
@@ -16,7 +16,7 @@ ghost use Rattle.damon_core.specs.Makes.{Makes};
 ghost use Rattle.damon_core.specs.Stands.{Stands};
 ghost use Rattle.scheme_engine.specs.Best.{AreServedBest};
 ghost use Rattle.sampler.specs.Draws.{drawn, drawn_rest};
-ghost use Rattle.sampler.specs.Loaded.{next_picks};
+ghost use Rattle.sampler.specs.Loaded.{loaded_bits, next_picks};
 
 use crate::Report;
 use crate::clock::Clock;
@@ -135,6 +135,7 @@ impl Monitor {
     pub fn attrs(&self) -> Attrs
         ensures attrs { result ≡ self.now.core.attrs }
         ensures max { self.now.core.attrs.max ≤ self.now.core.regions.cap }
+        ensures limit { self.now.core.regions.max ≡ self.now.core.attrs.max }
     {
         // For its clauses alone: at most `cap` rows are allowed.
         let _rows = self.sampling.regions().len();
@@ -219,6 +220,8 @@ impl Monitor {
         requires idle { self.old.core.phase ≡ Phase.Idle }
         requires words { length words.now ≡ row_count self.old.core }
         ensures core { self.new.core ≡ prepared_core words.now self.old.core }
+        ensures bits { self.new.bits ≡ replicate (row_count self.old.core) false }
+        ensures alone { self.new ≡ record self.old { core = self.new.core; bits = self.new.bits } }
         ensures event { Makes Stands self.old self.new (prepare_event words.now ∷ []) }
     {
         let sampling = &mut *self.sampling;
@@ -233,6 +236,8 @@ impl Monitor {
         requires { self.old.core.phase ≡ Phase.Idle }
         ensures core { self.new.core
             ≡ prepared_core (drawn (row_count self.old.core) (R.stream source.old)) self.old.core }
+        ensures bits { self.new.bits ≡ replicate (row_count self.old.core) false }
+        ensures alone { self.new ≡ record self.old { core = self.new.core; bits = self.new.bits } }
         ensures event { Makes Stands self.old self.new
             (prepare_event (drawn (row_count self.old.core) (R.stream source.old)) ∷ []) }
         ensures rest { R.stream source.new
@@ -263,6 +268,7 @@ impl Monitor {
     pub fn cleared(&mut self)
         requires { IsClearing self.old.core.phase }
         ensures core { self.new.core ≡ cleared_core 1 self.old.core }
+        ensures alone { self.new ≡ record self.old { core = self.new.core } }
         ensures event { Makes Stands self.old self.new (clear_event ∷ []) }
     {
         // For its clauses alone: the next pick is that of a row.
@@ -276,6 +282,7 @@ impl Monitor {
         requires phase { IsClearing self.old.core.phase }
         requires within { clear_index self.old.core.phase + count ≤ row_count self.old.core }
         ensures core { self.new.core ≡ cleared_core count self.old.core }
+        ensures alone { self.new ≡ record self.old { core = self.new.core } }
         ensures events { Makes Stands self.old self.new (clears count) }
     {
         self.sampling.clear(count);
@@ -288,6 +295,7 @@ impl Monitor {
         ensures core { self.new.core ≡ loaded_core 1 self.old.core }
         ensures bits { self.new.bits
             ≡ slice_set self.old.bits (load_index self.old.core.phase) hit }
+        ensures alone { self.new ≡ record self.old { core = self.new.core; bits = self.new.bits } }
         ensures event { Makes Stands self.old self.new (load_event hit ∷ []) }
     {
         self.sampling.load(hit);
@@ -300,6 +308,7 @@ impl Monitor {
         requires each { length hits.now ≡ row_count self.old.core }
         ensures core { self.new.core ≡ loaded_core (row_count self.old.core) self.old.core }
         ensures bits { self.new.bits ≡ hits.now }
+        ensures alone { self.new ≡ record self.old { core = self.new.core; bits = self.new.bits } }
         ensures events { Makes Stands self.old self.new (map (λ hit. load_event hit) hits.now) }
     {
         self.sampling.load_all(hits);
@@ -314,6 +323,10 @@ impl Monitor {
         requires within { load_index self.old.core.phase + count ≤ row_count self.old.core }
         requires marks { length (M.marks_of marks) ≡ pages_of self.old.core.space }
         ensures core { self.new.core ≡ loaded_core count self.old.core }
+        ensures bits { self.new.bits
+            ≡ loaded_bits (M.marks_of marks) self.old.core.picks (load_index self.old.core.phase) count
+            self.old.bits }
+        ensures alone { self.new ≡ record self.old { core = self.new.core; bits = self.new.bits } }
         ensures events { Makes Stands self.old self.new
             (loads (M.marks_of marks)
             (next_picks self.old.core.picks (load_index self.old.core.phase) count)) }
@@ -329,8 +342,12 @@ impl Monitor {
         requires words { length words.now ≡ 2 * self.old.core.attrs.max }
         ensures core { self.new.core ≡ core_after_aggregation words.now self.old.slots self.old.core }
         ensures slots { self.new.slots ≡ (engine_served self.old.core self.old.slots).slots }
+<<<<<<< ours
         ensures best { AreServedBest 0 self.old.core.space self.old.core.attrs.aggr self.old.core.ticks
             (merged_regions self.old.core) self.old.slots }
+=======
+        ensures alone { self.new ≡ record self.old { core = self.new.core; slots = self.new.slots } }
+>>>>>>> theirs
         ensures event { Makes Stands self.old self.new (aggregate_event words.now ∷ []) }
     {
         let sampling = &mut *self.sampling;

@@ -1,5 +1,7 @@
 // The end of a pass.
-ghost use Rattle.std.specs.Prelude.{◌≡◌, ◌^◌, ◌<◌, ◌∷◌, []};
+ghost use Rattle.std.specs.Prelude.{◌≡◌, ◌+◌, ◌^◌, ◌<◌, ◌∷◌, [], count_by};
+ghost use Rattle.live_commit.specs.declared.phase.Phase.TheVariants as variant;
+ghost use Rattle.sampler.specs.Counted.{raised};
 ghost use Rattle.damon_core.specs.After.{passed_core};
 ghost use Rattle.damon_core.specs.Event.{IsObserving, observe as observe_event};
 ghost use Rattle.damon_core.specs.Makes.{Makes};
@@ -18,6 +20,18 @@ impl Monitor {
         ensures core { self.new.core
             ≡ passed_core (record self.old.core { regions = self.new.core.regions }) }
         ensures cap { self.new.core.regions.cap ≡ self.old.core.regions.cap }
+        ensures counts { self.old.core.phase ≡ variant.Checking (row_count self.old.core)
+            → self.new ≡ record self.old {
+              core = passed_core (record self.old.core {
+                regions = record self.old.core.regions {
+                  rows = raised self.old.bits self.old.core.regions.rows;
+                };
+              });
+              checks = self.old.checks + row_count self.old.core;
+              hits = self.old.hits + count_by (λ hit. hit) self.old.bits;
+            } }
+        ensures void { self.old.core.phase ≡ variant.Void
+            → self.new ≡ record self.old { core = passed_core self.old.core } }
         ensures event { Makes Stands self.old self.new (observe_event ∷ []) }
     {
         match self.sampling.phase() {
@@ -33,6 +47,15 @@ impl Monitor {
         ensures core { self.new.core
             ≡ passed_core (record self.old.core { regions = self.new.core.regions }) }
         ensures cap { self.new.core.regions.cap ≡ self.old.core.regions.cap }
+        ensures counts { self.new ≡ record self.old {
+          core = passed_core (record self.old.core {
+            regions = record self.old.core.regions {
+              rows = raised self.old.bits self.old.core.regions.rows;
+            };
+          });
+          checks = self.old.checks + row_count self.old.core;
+          hits = self.old.hits + count_by (λ hit. hit) self.old.bits;
+        } }
         ensures event { Makes Stands self.old self.new (observe_event ∷ []) }
     {
         self.clock.tick();
@@ -46,7 +69,7 @@ impl Monitor {
     fn void_pass(&mut self)
         requires phase { self.old.core.phase ≡ Phase.Void }
         requires ticks { self.old.core.ticks < 2 ^ 40 }
-        ensures core { self.new.core ≡ passed_core self.old.core }
+        ensures void { self.new ≡ record self.old { core = passed_core self.old.core } }
         ensures event { Makes Stands self.old self.new (observe_event ∷ []) }
     {
         self.clock.tick();

@@ -175,6 +175,7 @@ impl<R: Jump + Drop> World<R> {
         ensures core { self.new.monitor.core
             ≡ core_after_commit (commit_value commit.now) self.old.monitor.core }
         ensures source { self.new.source ≡ self.old.source }
+        ensures pages { self.new.pages ≡ self.old.pages }
         ensures kept { OnErr result (self.new ≡ self.old) }
         ensures event { Makes StandsFor self.old self.new (commit_event (commit_value commit.now) ∷ []) }
         ensures by_hit { MakesByHit StandsFor self.old self.new

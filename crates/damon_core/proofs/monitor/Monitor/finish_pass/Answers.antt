@@ -99,3 +99,14 @@ returns-clause-event c =
     let fits : IsObserving m.core.phase (row_count m.core) = subst (λ (ph : Phase). IsObserving ph (row_count m.core)) (sym c.requires.phase) refl in
     let bits = subst (λ (x : MonitorView). length x.bits ≡ row_count x.core) view c.finish-hits.ensures.each in
     subst (λ x. Makes Stands m x (observe ∷ [])) (sym is) (observe_makes m fits (inr bits))
+
+pub returns-clause-counts : goal.returns-clause-counts
+returns-clause-counts c =
+    let i = c.self.inside in
+    let s = c.deref_mut-sampling.result.now in
+    let at = c.deref_mut-sampling.ensures.value in
+    let view = ap (λ x. shown i.version i.space i.attrs x i.clock i.totals (report_value i.report.value) i.engine.value.slots) at ∙ c.self.view_is in
+    ap (λ x. shown i.version i.space i.attrs x c.tick.new.self c.add.new.self (report_value i.report.value) i.engine.value.slots) (sampled c)
+    ∙ ap (λ x. shown i.version i.space i.attrs (sampled_then s (phase_after_pass (i.clock.since + 1) i.attrs.aggr)) x c.add.new.self (report_value i.report.value) i.engine.value.slots) c.tick.ensures
+    ∙ ap (λ x. shown i.version i.space i.attrs (sampled_then s (phase_after_pass (i.clock.since + 1) i.attrs.aggr)) (clock_then i.clock) x (report_value i.report.value) i.engine.value.slots) (totals c)
+    ∙ ap (λ (x : MonitorView). ended (Checking (row_count x.core)) x) view
