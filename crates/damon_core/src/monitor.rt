@@ -342,12 +342,9 @@ impl Monitor {
         requires words { length words.now ≡ 2 * self.old.core.attrs.max }
         ensures core { self.new.core ≡ core_after_aggregation words.now self.old.slots self.old.core }
         ensures slots { self.new.slots ≡ (engine_served self.old.core self.old.slots).slots }
-<<<<<<< ours
+        ensures alone { self.new ≡ record self.old { core = self.new.core; slots = self.new.slots } }
         ensures best { AreServedBest 0 self.old.core.space self.old.core.attrs.aggr self.old.core.ticks
             (merged_regions self.old.core) self.old.slots }
-=======
-        ensures alone { self.new ≡ record self.old { core = self.new.core; slots = self.new.slots } }
->>>>>>> theirs
         ensures event { Makes Stands self.old self.new (aggregate_event words.now ∷ []) }
     {
         let sampling = &mut *self.sampling;
