@@ -72,11 +72,12 @@ impl<T> PlainList<T> {
 }
 
 impl<T: Drop> PlainList<T> {
-    /// Appends an item. Allocates; on an error the list is unchanged and the item is dropped. The
-    /// list must have fewer than 2^32 - 1 items.
+    /// Appends an item, which takes at most one place of the spare room. Allocates; on an error the list
+    /// is unchanged and the item is dropped. The list must have fewer than 2^32 - 1 items.
     pub fn push(&mut self, item: T) -> Result<(), AllocError>
         requires { length self.old.list < 2 ^ 32 - 1 }
         ensures ok { OnOk result (self.new.list ≡ self.old.list ++ item ∷ []) }
+        ensures spare { OnOk result (self.old.spare - 1 ≤ self.new.spare) }
         ensures err { OnErr result (self.new ≡ self.old) }
     {
         self.items.reserve(1)?;
