@@ -8,5 +8,6 @@ pub mod Plain
 pub mod Numbers
 pub mod Addresses
 pub mod LeadingLemmas
+pub mod LeadingBack
 mod Examples
 pub mod HexValues

@@ -3,7 +3,7 @@ use Rattle.std.specs.Prelude.{◌≡◌, ℕ, ◌^◌, ◌<◌, ◌≤◌, List,
 use Rattle.std.specs.Char.{is_ascii_digit}
 use Rattle.std.specs.Fmt.{decimal, digits}
 use Rattle.line_text.specs.Address.{address, hex_digit, spelled_address}
-use Rattle.line_text.specs.Leading.{leading_address, leading_number}
+use Rattle.line_text.specs.Leading.{is_hex_digit, leading_address, leading_number}
 use Rattle.line_text.specs.Line.{after_prefix, split_at_byte}
 use Rattle.line_text.specs.Number.{number}
 use Rattle.line_text.specs.Parts.{IsPiece, joined, parts}
@@ -53,6 +53,16 @@ SpellsLeadingNumber =
 abbrev pub SpellsLeadingAddress : Type 0
 SpellsLeadingAddress =
     (n : ℕ) (bytes rest : List ℕ) → leading_address bytes ≡ Some (n, rest) → (bytes ≡ spelled_address n ++ rest) × (n < 2 ^ 64)
+
+-- the decimal spelling of a number within the limit, and a byte that is no digit, begin with that number
+abbrev pub ReadsLeadingNumber : Type 0
+ReadsLeadingNumber =
+    (most n c : ℕ) (rest : List ℕ) → n ≤ most → most < 2 ^ 64 → is_ascii_digit c ≡ false → leading_number most (decimal n ++ c ∷ rest) ≡ Some (n, c ∷ rest)
+
+-- the spelling of an address, and a byte that is no hexadecimal digit, begin with that address
+abbrev pub ReadsLeadingAddress : Type 0
+ReadsLeadingAddress =
+    (n c : ℕ) (rest : List ℕ) → n < 2 ^ 64 → is_hex_digit c ≡ false → leading_address (spelled_address n ++ c ∷ rest) ≡ Some (n, c ∷ rest)
 
 -- pieces without the separator are the parts of the joined bytes
 abbrev pub TakesApartPieces : Type 0

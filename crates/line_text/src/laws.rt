@@ -1,6 +1,6 @@
 // Laws of the definitions that the contracts cite, for the proofs of callers. The functions have no
 // bodies.
-ghost use Rattle.line_text.specs.Laws.{PutsPartsTogether, ReadsDecimal, ReadsOnlyDecimal, ReadsOnlySpelledAddress, ReadsSpelledAddress, SpellsDigits, SpellsHexDigits, SpellsLeadingAddress, SpellsLeadingNumber, StripsFront, StripsOnlyFront, TakesApartPieces, TakesPiece};
+ghost use Rattle.line_text.specs.Laws.{PutsPartsTogether, ReadsDecimal, ReadsLeadingAddress, ReadsLeadingNumber, ReadsOnlyDecimal, ReadsOnlySpelledAddress, ReadsSpelledAddress, SpellsDigits, SpellsHexDigits, SpellsLeadingAddress, SpellsLeadingNumber, StripsFront, StripsOnlyFront, TakesApartPieces, TakesPiece};
 
 /// The decimal spelling of a number of at most 64 bits is read as that number, under any limit that
 /// it is within.
@@ -38,6 +38,13 @@ pub fn spelled_address_has_digits()
 pub fn leading_numbers_are_spelled()
     ensures numbers { SpellsLeadingNumber }
     ensures addresses { SpellsLeadingAddress }
+{}
+
+/// The spelling of a number or of an address, with a byte after it that is no digit, is read as that
+/// number or address and the rest from that byte on.
+pub fn leading_numbers_are_read()
+    ensures numbers { ReadsLeadingNumber }
+    ensures addresses { ReadsLeadingAddress }
 {}
 
 /// A piece without a byte, that byte, and any rest are split at the byte.

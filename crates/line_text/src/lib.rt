@@ -23,8 +23,8 @@ pub use address::{address_before, read_address};
 pub use bytes::{COLON, COMMA, DASH, EQUALS, LF, SPACE};
 pub use laws::{
     address_is_spelled, decimal_has_digits, decimal_is_read, front_is_stripped,
-    leading_numbers_are_spelled, number_is_decimal, parts_are_pieces, piece_is_taken,
-    pieces_are_parts, spelled_address_has_digits, spelled_address_is_read,
+    leading_numbers_are_read, leading_numbers_are_spelled, number_is_decimal, parts_are_pieces,
+    piece_is_taken, pieces_are_parts, spelled_address_has_digits, spelled_address_is_read,
     stripped_front_was_first,
 };
 pub use leading::{leading_address, leading_number};

@@ -5,6 +5,7 @@ pub mod SpellSteps
 pub mod SpellWords
 pub mod SpelledParts
 pub mod RangeFront
+pub mod Found
 pub mod PlainWords
 pub mod SpellFits
 pub mod ReadFields

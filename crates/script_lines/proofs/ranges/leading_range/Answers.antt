@@ -1,5 +1,9 @@
-use Rattle.std.proofs.Common.{◌∙◌, ap, sym, rules, arith}
-use Rattle.line_text.specs.Leading.{view_leading}
+use Rattle.std.proofs.Common.{◌∙◌, ℕ, List, [], ◌∷◌, Option, ap, refl, sym, rules, arith}
+use Rattle.std.specs.Borrow.{Bor}
+use Rattle.std.specs.Option.{option_copied, option_map}
+use Rattle.line_text.specs.Leading.{leading_number, view_leading}
+use Rattle.line_text.specs.Line.{after_prefix}
+use Rattle.script_lines.proofs.Found.{both_are, never_none, range_words, read_is, same_range, three_are}
 use Rattle.script_lines.proofs.RangeFront.{range_front}
 use Rattle.script_lines.proofs.ranges.leading_range.Goals as goal
 
@@ -13,3 +17,28 @@ returns-clause-line c =
 pub returns-clause-fits : goal.returns-clause-fits
 returns-clause-fits c =
     (c.in_ok-target.ensures.fits, c.in_ok-from.ensures.fits.0, c.in_ok-from.ensures.fits.1, omega (arith, c.in_ok-class.ensures.bound, c.from.ensures))
+
+-- two addresses and borrowed bytes, as numbers and a list
+abbrev view_addresses : Option (ℕ × ℕ × Bor (List ℕ)) → Option (ℕ × ℕ × List ℕ)
+view_addresses result = option_map {U = ℕ × ℕ × List ℕ} (λ (x : ℕ × ℕ × Bor (List ℕ)). (x.0, x.1, x.2.now)) result
+
+pub returns-in_err-rest-clause-found : goal.returns-in_err-rest-clause-found
+returns-in_err-rest-clause-found c range rest fits is =
+    let words = range_words range c.args.text.now rest is in
+    let target = both_are c.in_ok-target.target range.target c.in_ok-target.words.now _ (view_leading c.leading_target.result) (sym (ap view_leading c.in_ok-target.was)) (c.leading_target.ensures.found range.target _ fits.0 words) in
+    let from = three_are c.in_ok-from.from range.from c.in_ok-from.to range.to c.in_ok-from.words.now _ _ (sym (ap view_addresses c.in_ok-from.was)) (c.leading_addresses.ensures.found range.from range.to _ fits.1 fits.2 target.1) in
+    let read = c.leading_numbers_are_read.ensures.numbers c.from.result range.class 10 rest (omega (arith, c.from.ensures, fits.3)) (omega (arith, c.from.ensures)) refl in
+    let class = both_are c.in_ok-class.class range.class c.in_ok-class.words.now (10 ∷ rest) (view_leading c.leading_number.result) (sym (ap view_leading c.in_ok-class.was)) (c.leading_number.ensures.exact ∙ ap (leading_number c.from.result) from.2 ∙ read) in
+    let left = ap (after_prefix (10 ∷ [])) class.1 ∙ c.front_is_stripped.ensures.read_back (10 ∷ []) rest in
+    never_none _ rest (after_prefix (10 ∷ []) c.in_ok-class.words.now) (sym (ap option_copied c.in_err-rest.was) ∙ c.strip.ensures.exact) left
+
+pub returns-clause-found : goal.returns-clause-found
+returns-clause-found c range rest fits is =
+    let words = range_words range c.args.text.now rest is in
+    let target = both_are c.in_ok-target.target range.target c.in_ok-target.words.now _ (view_leading c.leading_target.result) (sym (ap view_leading c.in_ok-target.was)) (c.leading_target.ensures.found range.target _ fits.0 words) in
+    let from = three_are c.in_ok-from.from range.from c.in_ok-from.to range.to c.in_ok-from.words.now _ _ (sym (ap view_addresses c.in_ok-from.was)) (c.leading_addresses.ensures.found range.from range.to _ fits.1 fits.2 target.1) in
+    let read = c.leading_numbers_are_read.ensures.numbers c.from.result range.class 10 rest (omega (arith, c.from.ensures, fits.3)) (omega (arith, c.from.ensures)) refl in
+    let class = both_are c.in_ok-class.class range.class c.in_ok-class.words.now (10 ∷ rest) (view_leading c.leading_number.result) (sym (ap view_leading c.in_ok-class.was)) (c.leading_number.ensures.exact ∙ ap (leading_number c.from.result) from.2 ∙ read) in
+    let left = ap (after_prefix (10 ∷ [])) class.1 ∙ c.front_is_stripped.ensures.read_back (10 ∷ []) rest in
+    let end = read_is c.in_ok-rest.rest.now rest (after_prefix (10 ∷ []) c.in_ok-class.words.now) (sym (ap option_copied c.in_ok-rest.was) ∙ c.strip.ensures.exact) left in
+    same_range range c.in_ok-target.target c.in_ok-from.from c.in_ok-from.to c.in_ok-class.class c.in_ok-rest.rest.now rest target.0 from.0 from.1 class.0 end
