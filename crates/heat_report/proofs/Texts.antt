@@ -1,28 +1,14 @@
 -- Texts that are appended piece by piece.
-use Rattle.std.proofs.Common.{◌≡◌, ℕ, suc, ◌+◌, ◌-◌, ◌≤◌, ◌<◌, List, ◌++◌, take, drop, length, codes, decimal, sym, ap, ◌∙◌, subst, arith}
+use Rattle.std.proofs.Common.{◌≡◌, ℕ, suc, ◌+◌, ◌-◌, ◌<◌, List, ◌++◌, length, codes, decimal, sym, ap, ◌∙◌, arith}
 use Rattle.std.specs.Prelude.{Option, flat_map, IsPermutation}
 use Rattle.std.specs.List.{range_with_len}
 use Rattle.std.proofs.lemmas.List.Sorted.{length_permutation}
-use Rattle.std.proofs.lemmas.List.{append_assoc, take-append-le, take-append-drop, length-append}
+use Rattle.std.proofs.lemmas.List.{append_assoc}
 use Rattle.damon_types.specs.declared.row.Row.{Row}
 use Rattle.heat_report.specs.declared.sizes.Spread.{Spread}
-use Rattle.heat_report.specs.Kept.{KeepsFront}
 use Rattle.heat_report.specs.Freq.{freqs}
 use Rattle.heat_report.specs.Sizes.{spread_of}
 use Rattle.heat_report.specs.Text.{freq_line, last_line, numbers, spread_part}
-
--- what a text begins with is kept where the text is
-pub keeps_through : (a b c : List ℕ) → KeepsFront a b → KeepsFront b c → KeepsFront a c
-keeps_through a b c first second =
-    let b_is : a ++ drop (length a) b ≡ b = ap (λ t. t ++ drop (length a) b) (sym first.front) ∙ take-append-drop (length a) b in
-    let c_is : b ++ drop (length b) c ≡ c = ap (λ t. t ++ drop (length b) c) (sym second.front) ∙ take-append-drop (length b) c in
-    let within : length a ≤ length b = subst (λ t. length a ≤ length t) b_is (omega (arith, length-append a (drop (length a) b))) in
-    record {
-      front =
-          ap (λ t. take (length a) t) (sym c_is)
-          ∙ take-append-le (length a) b (drop (length b) c) within
-          ∙ first.front;
-    }
 
 -- lines of indexes: a line, and those after it
 pub lines_step : (line : ℕ → List ℕ) (old out new whole : List ℕ) (i n : ℕ) → i < n → new ≡ out ++ line i → out ++ flat_map line (range_with_len i (n - i)) ≡ old ++ whole → new ++ flat_map line (range_with_len (i + 1) (n - (i + 1))) ≡ old ++ whole

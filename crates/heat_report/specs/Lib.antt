@@ -3,5 +3,4 @@ pub mod Heat
 pub mod Overlap
 pub mod Freq
 pub mod Sizes
-pub mod Kept
 pub mod Text

@@ -1,16 +1,15 @@
 // The text of reports.
-ghost use Rattle.std.specs.Prelude.{◌≡◌, ◌≤◌, ◌<◌, ◌++◌, length, OnOk, OnErr, IsPermutation, codes, take};
+ghost use Rattle.std.specs.Prelude.{◌≡◌, ◌≤◌, ◌<◌, ◌++◌, length, OnOk, OnErr, IsPermutation, codes};
 ghost use Rattle.std.specs.List.{AllByRecursion};
-ghost use Rattle.std.specs.Fmt.{decimal};
 ghost use Rattle.damon_types.specs.declared.attrs.TheConstants.{MAX_AGGR};
 ghost use Rattle.heat_report.specs.InSpace.{LieIn};
-ghost use Rattle.heat_report.specs.Kept.{KeepsFront};
+ghost use Rattle.line_text.specs.Appended.{KeepsFront};
 ghost use Rattle.heat_report.specs.Sizes.{spread_of};
 ghost use Rattle.heat_report.specs.Text.{freq_line, heat_line, heat_lines, last_line, numbers, report_text, spread_part, wss_line};
 
 use crate::{Sizes, Spread, freq, heat_row, working_set};
 use damon_types::Space;
-use line_text::write_number;
+use line_text::{append_field, end_line, whole_or_nothing};
 use priority::Histogram;
 use region_list::RowBuf;
 use std::alloc::AllocError;
@@ -115,8 +114,8 @@ fn append_heat_line<const N: usize>(
 {
     let mut heat = Histogram::<N>::new();
     heat_row(rows, space, target, &mut heat);
-    append_field(b"heat ", tick, out)?;
-    append_field(b" ", u64::from(target), out)?;
+    append_field(out, b"heat ", tick)?;
+    append_field(out, b" ", u64::from(target))?;
     append_numbers(&heat, out)
 }
 
@@ -133,7 +132,7 @@ fn append_freq_line(
 {
     let mut tenths = Histogram::<11>::new();
     freq(rows, aggr, &mut tenths);
-    append_field(b"freq ", tick, out)?;
+    append_field(out, b"freq ", tick)?;
     append_numbers(&tenths, out)
 }
 
@@ -142,8 +141,8 @@ fn append_wss_line(tick: u64, rows: &RowBuf, out: &mut Vec<u8>) -> Result<(), Al
     ensures ok { OnOk result (out.new.items ≡ out.old.items ++ wss_line tick rows.now.rows) }
     ensures kept { KeepsFront out.old.items out.new.items }
 {
-    append_field(b"wss ", tick, out)?;
-    append_field(b" ", working_set(rows), out)?;
+    append_field(out, b"wss ", tick)?;
+    append_field(out, b" ", working_set(rows))?;
     end_line(out)
 }
 
@@ -154,7 +153,7 @@ fn append_last(sizes: &mut Sizes, out: &mut Vec<u8>) -> Result<(), AllocError>
     ensures same { IsPermutation sizes.old sizes.new }
 {
     let spread = sizes.spread();
-    append_field(b"all reports=", sizes.len() as u64, out)?;
+    append_field(out, b"all reports=", sizes.len() as u64)?;
     append_spread(spread, out)?;
     end_line(out)
 }
@@ -167,9 +166,9 @@ fn append_spread(spread: Option<Spread>, out: &mut Vec<u8>) -> Result<(), AllocE
     let Some(spread) = spread else {
         return Ok(());
     };
-    append_field(b" least=", spread.least, out)?;
-    append_field(b" median=", spread.median, out)?;
-    append_field(b" greatest=", spread.greatest, out)
+    append_field(out, b" least=", spread.least)?;
+    append_field(out, b" median=", spread.median)?;
+    append_field(out, b" greatest=", spread.greatest)
 }
 
 // Appends the numbers of a histogram, each after a space, and the line's end.
@@ -185,40 +184,7 @@ fn append_numbers<const N: usize>(
     // For its clause alone: the histogram has N numbers.
     let _none = histogram.from(N as u32);
     for index in 0..N as u32 {
-        append_field(b" ", histogram.sum(index), out)?;
+        append_field(out, b" ", histogram.sum(index))?;
     }
     end_line(out)
-}
-
-// Appends a field's name and a number in decimal.
-fn append_field(name: &[u8], value: u64, out: &mut Vec<u8>) -> Result<(), AllocError>
-    ensures ok { OnOk result (out.new.items ≡ out.old.items ++ (name.now ++ decimal value)) }
-    ensures kept { KeepsFront out.old.items out.new.items }
-{
-    out.extend_from_slice(name)?;
-    write_number(out, value)
-}
-
-// Ends a line.
-fn end_line(out: &mut Vec<u8>) -> Result<(), AllocError>
-    ensures ok { OnOk result (out.new.items ≡ out.old.items ++ codes "\n") }
-    ensures kept { KeepsFront out.old.items out.new.items }
-{
-    out.extend_from_slice(b"\n")
-}
-
-// Removes what was appended after the first `before` bytes if writing failed.
-fn whole_or_nothing(
-    out: &mut Vec<u8>,
-    before: usize,
-    written: Result<(), AllocError>,
-) -> Result<(), AllocError>
-    ensures same { result ≡ written }
-    ensures ok { OnOk result (out.new.items ≡ out.old.items) }
-    ensures err { OnErr result (out.new.items ≡ take before out.old.items) }
-{
-    if written.is_err() {
-        out.truncate(before);
-    }
-    written
 }

@@ -11,3 +11,4 @@ pub mod LeadingLemmas
 pub mod LeadingBack
 mod Examples
 pub mod HexValues
+pub mod Appending

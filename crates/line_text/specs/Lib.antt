@@ -4,3 +4,4 @@ pub mod Number
 pub mod Address
 pub mod Leading
 pub mod Laws
+pub mod Appended

@@ -4,6 +4,8 @@
 
 /// Hexadecimal addresses: reading and writing.
 mod address;
+/// Appending to a text.
+mod append;
 /// The bytes between the parts of a text.
 mod bytes;
 /// Hexadecimal digits, written from the last to the first.
@@ -20,6 +22,7 @@ mod number;
 mod parts;
 
 pub use address::{address_before, read_address};
+pub use append::{append_field, end_line, whole_or_nothing};
 pub use bytes::{COLON, COMMA, DASH, EQUALS, LF, SPACE};
 pub use laws::{
     address_is_spelled, decimal_has_digits, decimal_is_read, front_is_stripped,

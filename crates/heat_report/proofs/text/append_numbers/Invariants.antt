@@ -1,5 +1,5 @@
 use Rattle.std.proofs.Common.{◌≡◌, ◌++◌, drop}
-use Rattle.heat_report.specs.Kept.{KeepsFront}
+use Rattle.line_text.specs.Appended.{KeepsFront}
 use Rattle.heat_report.specs.Text.{numbers}
 use Rattle.heat_report.proofs.text.append_numbers.Given as goal
 

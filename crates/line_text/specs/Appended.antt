@@ -1,4 +1,4 @@
--- Internal to the proofs: what a failed append leaves.
+-- What an append that failed leaves.
 use Rattle.std.specs.Prelude.{◌≡◌, ℕ, List, length, take}
 
 -- the new text begins with the old one
