@@ -21,6 +21,5 @@ pub mod LineLimits
 pub mod BlockLemmas
 pub mod TouchFront
 mod SpellExamples
-pub mod Appending
 pub mod WrittenKeys
 pub mod WrittenSchemes

@@ -20,6 +20,5 @@ pub mod ReadBack
 pub mod Within
 pub mod Touches
 pub mod WrittenLine
-pub mod Kept
 pub mod KeysText
 pub mod WriteBack

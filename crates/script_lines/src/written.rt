@@ -2,7 +2,7 @@
 ghost use Rattle.std.specs.Prelude.{◌≡◌, ◌+◌, ◌≤◌, [], ◌∷◌, ◌++◌, map, length, codes, OnOk};
 ghost use Rattle.std.specs.Fmt.{decimal};
 ghost use Rattle.line_text.specs.Address.{spelled_address};
-ghost use Rattle.script_lines.specs.Kept.{KeepsFront};
+ghost use Rattle.line_text.specs.Appended.{KeepsFront};
 ghost use Rattle.script_lines.specs.KeysText.{keys_text};
 ghost use Rattle.script_lines.specs.Separators.{colon};
 ghost use Rattle.script_lines.specs.Spelling.{kind_name, kind_value, listed, spelled_answer, spelled_filter, spelled_scheme, spelled_setting, spelled_side, spelled_span};
@@ -13,21 +13,11 @@ use crate::keys::Setting;
 use damon_types::{
     Filter, FilterKind, Marks, Pattern, Prefer, Quota, Scheme, SlotChange, Span, Weights,
 };
-use line_text::{address_before, write_number};
+use line_text::{address_before, append_field, end_line};
 use std::alloc::AllocError;
 
-// Appends a text and a number in decimal.
-#[tactic(auto, using(crate::proofs::Appending::appends))]
-pub fn write_field(out: &mut Vec<u8>, name: &[u8], value: u64) -> Result<(), AllocError>
-    ensures ok { OnOk result (out.new.items ≡ out.old.items ++ (name.now ++ decimal value)) }
-    ensures kept { KeepsFront out.old.items out.new.items }
-{
-    out.extend_from_slice(name)?;
-    write_number(out, value)
-}
-
 // Appends a text and a word.
-#[tactic(auto, using(crate::proofs::Appending::appends))]
+#[tactic(auto, using(line_text::proofs::Appending::appends))]
 fn write_word(out: &mut Vec<u8>, name: &[u8], word: &[u8]) -> Result<(), AllocError>
     ensures ok { OnOk result (out.new.items ≡ out.old.items ++ (name.now ++ word.now)) }
     ensures kept { KeepsFront out.old.items out.new.items }
@@ -37,7 +27,7 @@ fn write_word(out: &mut Vec<u8>, name: &[u8], word: &[u8]) -> Result<(), AllocEr
 }
 
 // Appends a text and an address.
-#[tactic(auto, using(crate::proofs::Appending::appends))]
+#[tactic(auto, using(line_text::proofs::Appending::appends))]
 pub fn write_address(out: &mut Vec<u8>, name: &[u8], value: u64) -> Result<(), AllocError>
     ensures ok { OnOk result (out.new.items ≡ out.old.items ++ (name.now ++ spelled_address value)) }
     ensures kept { KeepsFront out.old.items out.new.items }
@@ -48,35 +38,26 @@ pub fn write_address(out: &mut Vec<u8>, name: &[u8], value: u64) -> Result<(), A
     out.extend_from_slice(&digits[start..])
 }
 
-// Ends a line.
-#[tactic(auto, using(crate::proofs::Appending::appends))]
-pub fn end_line(out: &mut Vec<u8>) -> Result<(), AllocError>
-    ensures ok { OnOk result (out.new.items ≡ out.old.items ++ codes "\n") }
-    ensures kept { KeepsFront out.old.items out.new.items }
-{
-    out.extend_from_slice(b"\n")
-}
-
 // Appends `scheme SLOT ACTION KEYS`, or `drop SLOT`.
-#[tactic(auto, using(crate::proofs::Appending::appends))]
+#[tactic(auto, using(line_text::proofs::Appending::appends))]
 pub fn write_change(out: &mut Vec<u8>, change: &SlotChange) -> Result<(), AllocError>
     ensures ok { OnOk result (out.new.items ≡ out.old.items ++ change_text change.now) }
     ensures kept { KeepsFront out.old.items out.new.items }
 {
     match &change.scheme {
         Some(scheme) => write_scheme(out, change.slot, scheme),
-        None => write_field(out, b"drop ", u64::from(change.slot)),
+        None => append_field(out, b"drop ", u64::from(change.slot)),
     }
 }
 
 // Appends `scheme SLOT ACTION KEYS`.
-#[tactic(auto, using(crate::proofs::Appending::appends))]
+#[tactic(auto, using(line_text::proofs::Appending::appends))]
 fn write_scheme(out: &mut Vec<u8>, slot: u8, scheme: &Scheme) -> Result<(), AllocError>
     ensures ok { OnOk result (out.new.items
         ≡ out.old.items ++ spelled_scheme slot scheme.now.action (settings_given scheme.now)) }
     ensures kept { KeepsFront out.old.items out.new.items }
 {
-    write_field(out, b"scheme ", u64::from(slot))?;
+    append_field(out, b"scheme ", u64::from(slot))?;
     write_word(out, b" ", scheme.action.name().as_bytes())?;
     write_keys(out, scheme)
 }
@@ -100,7 +81,7 @@ fn write_keys(out: &mut Vec<u8>, scheme: &Scheme) -> Result<(), AllocError>
 }
 
 // Appends the keys of a pattern.
-#[tactic(auto, using(crate::proofs::Appending::appends))]
+#[tactic(auto, using(line_text::proofs::Appending::appends))]
 fn write_pattern(out: &mut Vec<u8>, pattern: &Pattern) -> Result<(), AllocError>
     ensures ok { OnOk result (out.new.items
         ≡ out.old.items ++ keys_text (pattern_given pattern.now)) }
@@ -146,7 +127,7 @@ fn write_quota(out: &mut Vec<u8>, quota: Option<Quota>) -> Result<(), AllocError
 }
 
 // Appends the key of a time, if there is one.
-#[tactic(auto, using(crate::proofs::Appending::appends))]
+#[tactic(auto, using(line_text::proofs::Appending::appends))]
 fn write_time(out: &mut Vec<u8>, time: Option<u64>) -> Result<(), AllocError>
     ensures ok { OnOk result (out.new.items ≡ out.old.items ++ keys_text (time_given time)) }
     ensures kept { KeepsFront out.old.items out.new.items }
@@ -158,7 +139,7 @@ fn write_time(out: &mut Vec<u8>, time: Option<u64>) -> Result<(), AllocError>
 }
 
 // Appends the key of a preference other than `hot`.
-#[tactic(auto, using(crate::proofs::Appending::appends))]
+#[tactic(auto, using(line_text::proofs::Appending::appends))]
 fn write_prefer(out: &mut Vec<u8>, prefer: Prefer) -> Result<(), AllocError>
     ensures ok { OnOk result (out.new.items ≡ out.old.items ++ keys_text (prefer_given prefer)) }
     ensures kept { KeepsFront out.old.items out.new.items }
@@ -170,7 +151,7 @@ fn write_prefer(out: &mut Vec<u8>, prefer: Prefer) -> Result<(), AllocError>
 }
 
 // Appends the key of watermarks, if there are some.
-#[tactic(auto, using(crate::proofs::Appending::appends))]
+#[tactic(auto, using(line_text::proofs::Appending::appends))]
 fn write_marks(out: &mut Vec<u8>, marks: Option<Marks>) -> Result<(), AllocError>
     ensures ok { OnOk result (out.new.items ≡ out.old.items ++ keys_text (marks_given marks)) }
     ensures kept { KeepsFront out.old.items out.new.items }
@@ -194,7 +175,7 @@ fn write_filters(out: &mut Vec<u8>, filters: &[Filter]) -> Result<(), AllocError
 }
 
 // Appends a space and a setting, unless its value is the default of its key.
-#[tactic(auto, using(crate::proofs::Appending::appends))]
+#[tactic(auto, using(line_text::proofs::Appending::appends))]
 fn write_unless(out: &mut Vec<u8>, is_default: bool, setting: Setting) -> Result<(), AllocError>
     ensures ok { OnOk result (out.new.items
         ≡ out.old.items ++ keys_text (unless is_default setting)) }
@@ -208,7 +189,7 @@ fn write_unless(out: &mut Vec<u8>, is_default: bool, setting: Setting) -> Result
 }
 
 // Appends `KEY=VALUE`.
-#[tactic(auto, using(crate::proofs::Appending::appends))]
+#[tactic(auto, using(line_text::proofs::Appending::appends))]
 fn write_setting(out: &mut Vec<u8>, setting: Setting) -> Result<(), AllocError>
     ensures ok { OnOk result (out.new.items ≡ out.old.items ++ spelled_setting setting) }
     ensures kept { KeepsFront out.old.items out.new.items }
@@ -218,10 +199,10 @@ fn write_setting(out: &mut Vec<u8>, setting: Setting) -> Result<(), AllocError>
         Setting::Count(span) => write_span(out, b"count=", span),
         Setting::Age(span) => write_span(out, b"age=", span),
         Setting::Quota(Quota { bytes, reset, .. }) => {
-            write_field(out, b"quota=", bytes)?;
-            write_field(out, b",", u64::from(reset))
+            append_field(out, b"quota=", bytes)?;
+            append_field(out, b",", u64::from(reset))
         }
-        Setting::Time(time) => write_field(out, b"time=", time),
+        Setting::Time(time) => append_field(out, b"time=", time),
         Setting::Weights(Weights { size, count, age }) => {
             write_three(
                 out,
@@ -239,17 +220,17 @@ fn write_setting(out: &mut Vec<u8>, setting: Setting) -> Result<(), AllocError>
 }
 
 // Appends a key and `LOW,HIGH`.
-#[tactic(auto, using(crate::proofs::Appending::appends))]
+#[tactic(auto, using(line_text::proofs::Appending::appends))]
 fn write_span(out: &mut Vec<u8>, key: &[u8], span: Span) -> Result<(), AllocError>
     ensures ok { OnOk result (out.new.items ≡ out.old.items ++ (key.now ++ spelled_span span)) }
     ensures kept { KeepsFront out.old.items out.new.items }
 {
-    write_field(out, key, u64::from(span.low))?;
-    write_field(out, b",", u64::from(span.high))
+    append_field(out, key, u64::from(span.low))?;
+    append_field(out, b",", u64::from(span.high))
 }
 
 // Appends a key and three numbers.
-#[tactic(auto, using(crate::proofs::Appending::appends))]
+#[tactic(auto, using(line_text::proofs::Appending::appends))]
 fn write_three(
     out: &mut Vec<u8>,
     key: &[u8],
@@ -261,13 +242,13 @@ fn write_three(
         ++ (key.now ++ listed (decimal first ∷ decimal second ∷ decimal third ∷ []))) }
     ensures kept { KeepsFront out.old.items out.new.items }
 {
-    write_field(out, key, u64::from(first))?;
-    write_field(out, b",", u64::from(second))?;
-    write_field(out, b",", u64::from(third))
+    append_field(out, key, u64::from(first))?;
+    append_field(out, b",", u64::from(second))?;
+    append_field(out, b",", u64::from(third))
 }
 
 // Appends `filter=ANSWER:[not-]KIND:VALUE`.
-#[tactic(auto, using(crate::proofs::Appending::appends))]
+#[tactic(auto, using(line_text::proofs::Appending::appends))]
 fn write_filter(out: &mut Vec<u8>, filter: Filter) -> Result<(), AllocError>
     ensures ok { OnOk result (out.new.items
         ≡ out.old.items ++ (codes "filter=" ++ spelled_filter filter)) }
@@ -279,7 +260,7 @@ fn write_filter(out: &mut Vec<u8>, filter: Filter) -> Result<(), AllocError>
 }
 
 // Appends `KIND:VALUE`.
-#[tactic(auto, using(crate::proofs::Appending::appends))]
+#[tactic(auto, using(line_text::proofs::Appending::appends))]
 fn write_kind(out: &mut Vec<u8>, kind: FilterKind) -> Result<(), AllocError>
     ensures ok { OnOk result (out.new.items
         ≡ out.old.items ++ (kind_name kind ++ colon ∷ kind_value kind)) }
@@ -290,8 +271,8 @@ fn write_kind(out: &mut Vec<u8>, kind: FilterKind) -> Result<(), AllocError>
             write_address(out, b"addr:", from)?;
             write_address(out, b"-", to)
         }
-        FilterKind::Target { target } => write_field(out, b"target:", u64::from(target)),
-        FilterKind::Class { class } => write_field(out, b"class:", u64::from(class)),
+        FilterKind::Target { target } => append_field(out, b"target:", u64::from(target)),
+        FilterKind::Class { class } => append_field(out, b"class:", u64::from(class)),
     }
 }
 

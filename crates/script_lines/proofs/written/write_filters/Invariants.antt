@@ -1,6 +1,6 @@
 use Rattle.std.proofs.Common.{◌≡◌, ◌++◌, drop, map}
 use Rattle.script_lines.specs.declared.keys.Setting.TheVariants.{Filter}
-use Rattle.script_lines.specs.Kept.{KeepsFront}
+use Rattle.line_text.specs.Appended.{KeepsFront}
 use Rattle.script_lines.specs.KeysText.{keys_text}
 use Rattle.script_lines.proofs.written.write_filters.Given as goal
 

@@ -18,7 +18,7 @@ returns-clause-ok c =
     let before = c.args.out.now.items in
     let joined : c.write_word.new.out.items ++ keys_text settings ≡ before ++ spelled_scheme c.args.slot action settings =
     ap (λ t. t ++ keys_text settings) c.in_ok-write_word.ensures.ok
-    ∙ ap (λ t. (t ++ (codes " " ++ c.as_bytes.result.now)) ++ keys_text settings) c.in_ok-write_field.ensures.ok
+    ∙ ap (λ t. (t ++ (codes " " ++ c.as_bytes.result.now)) ++ keys_text settings) c.in_ok-append_field.ensures.ok
     ∙ ap (λ n. ((before ++ (codes "scheme " ++ decimal n)) ++ (codes " " ++ c.as_bytes.result.now)) ++ keys_text settings) c.from.ensures
     ∙ ap (λ w. ((before ++ (codes "scheme " ++ decimal c.args.slot)) ++ (codes " " ++ w)) ++ keys_text settings) (c.as_bytes.ensures.value ∙ c.name.ensures.named)
     ∙ regroup before (codes "scheme ") (decimal c.args.slot) (codes " ") (action_name action) (keys_text settings)
