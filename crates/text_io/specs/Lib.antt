@@ -1,3 +1,4 @@
 pub mod Given
 pub mod Taken
 pub mod Ends
+pub mod Pumped

@@ -5,6 +5,9 @@
 mod input;
 /// Handing a text to a sink.
 mod output;
+/// Handing over a text that is made a piece at a time.
+mod source;
 
 pub use input::{INPUT_LIMIT, InputFault, read_all};
 pub use output::{PIECE, write_all};
+pub use source::{Filled, PumpFault, TextSource, pump};
