@@ -32,23 +32,19 @@ THEOREM = TOP / "docs/THEOREM.md"
 MACHINE = ["Bound", "ServesBest", "opening", "damon_core/After.after", "damon_core/Event.Fits"]
 OK = ["damon_app::replay_main.ok"]
 HEADLINE = [*OK, "damon_app::replay_main.bound", "damon_app::replay_main.choices"]
-BY_LAW = {"script_of": "IsText"}
 
 
 class Claim(NamedTuple):
-    """A claim in words, its roots, definitions that a law allows to be read in place of others, and the roots of claims
-    that are believed already."""
+    """A claim in words, its roots, and the roots of claims that are believed already."""
 
     words: str
     roots: List[str]
-    instead: Dict[str, str] = {}
     believed: List[str] = []
 
 
 WHOLE = Claim(
-    "**the headline as one claim: the clauses `ok`, `bound` and `choices` of `replay_main`, with the grammar as `IsText`**",
+    "**the headline as one claim: the clauses `ok`, `bound` and `choices` of `replay_main`**",
     HEADLINE,
-    BY_LAW,
 )
 CLAIMS = [
     WHOLE,
@@ -57,10 +53,9 @@ CLAIMS = [
     Claim("which texts are scripts: `IsText`", ["IsText"]),
     Claim("which texts are live scripts: `IsLiveText`", ["IsLiveText"]),
     Claim("clause `ok` of `replay_main`: what was read, and what was written", OK),
-    Claim("the same, with the grammar as `IsText` in place of `script_of`", OK, BY_LAW),
     Claim("all clauses of `replay_main`", ["damon_app::replay_main"]),
     Claim("a journal of a live run: `IsWholeRun`", ["IsWholeRun"]),
-    Claim("the same, where the machine is believed already", ["IsWholeRun"], {}, [*MACHINE, "LiveValue"]),
+    Claim("the same, where the machine is believed already", ["IsWholeRun"], [*MACHINE, "LiveValue"]),
     Claim("all clauses of `live_main`", ["damon_live::live_main"]),
     Claim("every clause of every exported function", ["all"]),
 ]
@@ -71,8 +66,8 @@ def counts(repository: Repository) -> List[str]:
     rows = ["| claim | definitions | lines | constants |", "|---|---|---|---|"]
     for claim in CLAIMS:
         believed = repository.needed(claim.believed) if claim.believed else []
-        needed = [it for it in repository.needed(claim.roots, **claim.instead) if it not in believed]
-        cited = repository.constants(claim.roots, **claim.instead)
+        needed = [it for it in repository.needed(claim.roots) if it not in believed]
+        cited = repository.constants(claim.roots)
         rows.append(f"| {claim.words} | {len(needed)} | {line_count(needed)} | {len(cited)} |")
     return rows
 
@@ -84,7 +79,7 @@ def line_count(definitions: Iterable[Definition]) -> int:
 def constants(repository: Repository) -> List[str]:
     """The constants that the headline cites, each with its value as the code writes it."""
     rows = ["| crate | file | constant | value |", "|---|---|---|---|"]
-    for it in repository.constants(WHOLE.roots, **WHOLE.instead):
+    for it in repository.constants(WHOLE.roots):
         rows.append(f"| `{it.crate}` | {it.module.replace('.', '/')}.rt | `{it.name}` | `{it.value}` |")
     return rows
 
@@ -136,7 +131,7 @@ def written(page: str, repository: Repository) -> str:
 
 def theorem_written(page: str, repository: Repository) -> str:
     """The page of the theorem with the size of the headline written again."""
-    needed = repository.needed(WHOLE.roots, **WHOLE.instead)
+    needed = repository.needed(WHOLE.roots)
     files = {(it.crate, it.file) for it in needed}
     size = f"**{len(needed)} definitions in {line_count(needed):,} lines, in {len(files)} files**\n"
     return with_block(page, "headline", size)

@@ -90,24 +90,22 @@ class Repository:
             sys.exit(f"{root} is not one definition: " + (", ".join(it.path() for it in defined) or "there is none"))
         return list(defined)
 
-    def needed(self, roots: Iterable[str], **instead: str) -> List[Definition]:
-        """The definitions that the roots need, in reading order, with some read instead of others."""
-        found = self._closure(roots, instead)
+    def needed(self, roots: Iterable[str]) -> List[Definition]:
+        """The definitions that the roots need, in reading order."""
+        found = self._closure(roots)
         return [it for it in self.definitions if it in found]
 
-    def constants(self, roots: Iterable[str], **instead: str) -> List[Constant]:
+    def constants(self, roots: Iterable[str]) -> List[Constant]:
         """The constants of the code that the roots, and the definitions that they need, cite."""
-        found = {it for it in self._closure(roots, instead) if isinstance(it, Constant)}
+        found = {it for it in self._closure(roots) if isinstance(it, Constant)}
         return sorted(found, key=lambda it: (self.crates.index(it.crate), it.module, it.name))
 
-    def _closure(self, roots: Iterable[str], instead: Dict[str, str]) -> Set[Named]:
+    def _closure(self, roots: Iterable[str]) -> Set[Named]:
         waiting = [it for root in roots for it in self.find(root)]
         found: Set[Named] = set()
         while waiting:
             it = waiting.pop()
-            if it.name in instead:
-                waiting += self.find(instead[it.name])
-            elif it not in found:
+            if it not in found:
                 found.add(it)
                 if isinstance(it, Definition):
                     waiting += names_in(it, self._scopes[it.crate, it.file])

@@ -35,8 +35,8 @@ class OfSources(unittest.TestCase):
     def specs(self, text: str) -> Repository:
         return self.repository({"low/specs/Lib.antt": LIB, "low/specs/First.antt": text})
 
-    def needed(self, repository: Repository, *roots: str, **instead: str) -> List[str]:
-        return [it.name for it in repository.needed(roots, **instead)]
+    def needed(self, repository: Repository, *roots: str) -> List[str]:
+        return [it.name for it in repository.needed(roots)]
 
 
 class Counting(OfSources):
@@ -107,14 +107,6 @@ class Counting(OfSources):
             "  -- whether it is odd\n  pub odd : ℕ → Bool\n  odd (suc n) = even n\n"
         )
         self.assertEqual(self.needed(repository, "even"), ["even", "odd"])
-
-    def test_one_definition_can_be_read_for_another(self) -> None:
-        repository = self.specs(
-            "-- a\nabbrev pub folded : ℕ\nfolded = 1\n\n"
-            "-- b\nabbrev pub said : ℕ\nsaid = 2\n\n"
-            "-- c\nabbrev pub claim : ℕ\nclaim = folded\n"
-        )
-        self.assertEqual(self.needed(repository, "claim", folded="said"), ["said", "claim"])
 
     def test_a_name_of_two_files_is_written_with_its_file(self) -> None:
         repository = self.repository({

@@ -2,7 +2,8 @@
 use Rattle.std.specs.Prelude.{◌≡◌, ◌≢◌, ◌⊎◌, ◌↔◌, ℕ, ◌≤◌, ◌+◌, List, length, Option, Some, None, Ok, IfSome, IsSome}
 use Rattle.std.specs.Io.KnownBytes.{Appends, Consumes, IsAtEnd}
 use Rattle.damon_types.specs.Calls.{EndsAtFault, Rose}
-use Rattle.damon_control.specs.Script.{ScriptValue, script_of}
+use Rattle.damon_control.specs.Script.{ScriptValue}
+use Rattle.damon_control.specs.Text.{IsText}
 use Rattle.damon_admin.specs.Admin.{AdminView, left_text}
 use Rattle.damon_admin.specs.Lines.{ContextLine, lines_said}
 use Rattle.damon_admin.specs.Written.{output_of}
@@ -32,7 +33,7 @@ use Rattle.damon_app.specs.Verifying.{counts_line}
 
 -- the bytes of an input call for this text
 abbrev pub CallsFor : Request → List ℕ → List ℕ → Type 0
-CallsFor (Report run) bytes text = (s : ScriptValue) × (script_of bytes ≡ Ok s) × (report_of run s ≡ text)
+CallsFor (Report run) bytes text = (s : ScriptValue) × IsText bytes s × (report_of run s ≡ text)
 CallsFor Verify bytes text = (counts : Lawful) × IsVerified bytes counts × (counts_line counts ≡ text)
 CallsFor (Heat columns) bytes text = (said : JournalRead) × IsRun bytes said × (heat_text columns said ≡ text)
 CallsFor Admin bytes text = (lines : List ContextLine) × (lines_said bytes ≡ Ok lines) × (output_of lines ≡ text)

@@ -1,7 +1,8 @@
 -- What the program makes of what it was asked for.
-use Rattle.std.specs.Prelude.{◌≡◌, ◌⊎◌, ◌↔◌, ℕ, List, Option, Some, None, Ok, Err, IfSome}
+use Rattle.std.specs.Prelude.{◌≡◌, ◌⊎◌, ◌↔◌, ℕ, List, Option, Some, None, Err, IfSome}
 use Rattle.std.specs.Io.KnownBytes.{Appends}
 use Rattle.damon_control.specs.Script.{ScriptValue, script_of}
+use Rattle.damon_control.specs.Text.{IsText}
 use Rattle.damon_control.specs.declared.fault.ScriptFault.{ScriptFault}
 use Rattle.snapshot_print.specs.Forms.{writing_of}
 use Rattle.script_run.specs.Report.{report}
@@ -35,7 +36,7 @@ report_of (Tune goals) s = tuned_report goals s
 -- The bytes spell a script, and the sink gained exactly this report of it.
 pub record Reports (report_of : ScriptValue → List ℕ) (bytes : List ℕ) (old new : Option (List ℕ)) : Type 0 where
   pub script : ScriptValue
-  pub spells : script_of bytes ≡ Ok script
+  pub spells : IsText bytes script
   pub report : Appends old new (report_of script)
 
 -- where a script is run, the sink gained exactly the report of that run
@@ -46,7 +47,7 @@ TellsReport _ bytes old new = Unit {0}
 -- the bytes spell a script, and the sink gained a prefix of its report, where it is run like this
 abbrev pub WritesPrefix : Run → List ℕ → Option (List ℕ) → Option (List ℕ) → Type 0
 WritesPrefix run bytes old new =
-    (s : ScriptValue) × (script_of bytes ≡ Ok s) × WritesPart old new (report_of run s)
+    (s : ScriptValue) × IsText bytes s × WritesPart old new (report_of run s)
 
 -- The bytes are the text of a lawful journal, and the sink gained exactly the line of its counts.
 pub record Verifies (bytes : List ℕ) (old new : Option (List ℕ)) : Type 0 where

@@ -1,6 +1,7 @@
 -- What holds along each run of the program.
-use Rattle.std.specs.Prelude.{◌≡◌, ◌⊎◌, ℕ, List, Ok, Some}
-use Rattle.damon_control.specs.Script.{ScriptValue, script_of}
+use Rattle.std.specs.Prelude.{◌≡◌, ◌⊎◌, ℕ, List, Some}
+use Rattle.damon_control.specs.Script.{ScriptValue}
+use Rattle.damon_control.specs.Text.{IsText}
 use Rattle.script_run.specs.BoundAlong.{IsBoundAlong, IsBoundWith}
 use Rattle.script_run.specs.Choices.{ChoosesBestAlong, ChoosesBestWith}
 use Rattle.quota_goal.specs.declared.goals.Goal.{Goal}
@@ -12,11 +13,11 @@ use Rattle.damon_app.specs.GoalWords.{goals_of}
 
 -- the events of each script that a text spells fit, and the states along them are bound
 abbrev pub EachRunIsBound : Type 0
-EachRunIsBound = (text : List ℕ) (s : ScriptValue) → script_of text ≡ Ok s → IsBoundAlong s
+EachRunIsBound = (text : List ℕ) (s : ScriptValue) → IsText text s → IsBoundAlong s
 
 -- each aggregation along such a script applies each active scheme to the best choice within what is left of its quota
 abbrev pub EachRunChoosesBest : Type 0
-EachRunChoosesBest = (text : List ℕ) (s : ScriptValue) → script_of text ≡ Ok s → ChoosesBestAlong s
+EachRunChoosesBest = (text : List ℕ) (s : ScriptValue) → IsText text s → ChoosesBestAlong s
 
 -- the same of the generated script of each number
 pub record GeneratedRunsAreBound : Type 0 where
@@ -25,7 +26,7 @@ pub record GeneratedRunsAreBound : Type 0 where
 
 -- a script that the program can be asked to run: the one that a text spells, or the generated one of a number
 abbrev pub CanRun : ScriptValue → Type 0
-CanRun s = ((text : List ℕ) × (script_of text ≡ Ok s)) ⊎ ((n : ℕ) × (s ≡ gen n))
+CanRun s = ((text : List ℕ) × IsText text s) ⊎ ((n : ℕ) × (s ≡ gen n))
 
 -- Each such script that is run over a model of resident pages: each state along its run is bound, and its pages are accounted for; each
 -- aggregation makes the best choices, and pages out, slot by slot, what is resident of the pages that a `pageout` scheme is applied to.

@@ -10,6 +10,7 @@ ghost use Rattle.damon_app.specs.Runs.{GeneratedRunsAreBound};
 pub(crate) fn each_run_is_bound()
     ensures { EachRunIsBound }
 {
+    damon_control::texts_are_exactly_read();
     damon_control::scripts_are_sound();
     script_run::each_script_is_bound();
 }
@@ -18,6 +19,7 @@ pub(crate) fn each_run_is_bound()
 pub(crate) fn each_run_chooses_best()
     ensures { EachRunChoosesBest }
 {
+    damon_control::texts_are_exactly_read();
     damon_control::scripts_are_sound();
     script_run::each_choice_is_best();
 }
@@ -35,6 +37,7 @@ pub(crate) fn generated_runs_are_bound()
 pub(crate) fn each_run_is_accounted()
     ensures { EachRunIsAccounted }
 {
+    damon_control::texts_are_exactly_read();
     damon_control::scripts_are_sound();
     trace_gen::generated_scripts_are_sound();
     reclaim_run::each_reclaimed_run_is_accounted();
@@ -44,6 +47,7 @@ pub(crate) fn each_run_is_accounted()
 pub(crate) fn each_run_follows_goals()
     ensures { EachRunFollowsGoals }
 {
+    damon_control::texts_are_exactly_read();
     damon_control::scripts_are_sound();
     trace_gen::generated_scripts_are_sound();
     line_text::number_is_decimal();

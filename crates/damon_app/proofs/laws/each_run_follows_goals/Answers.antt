@@ -8,7 +8,7 @@ returns c = λ goals s said.
     let within = said_goals c.number_is_decimal.ensures.only said.0 goals said.1 in
     let runs = c.tuned_runs_are_bound.ensures in
     let bytes = c.bytes_follow_their_goals.ensures in
-    of_each_run (IsTunedRun goals) c.scripts_are_sound.ensures.sound c.generated_scripts_are_sound.ensures
+    of_each_run (IsTunedRun goals) c.texts_are_exactly_read.ensures.texts c.scripts_are_sound.ensures.sound c.generated_scripts_are_sound.ensures
     (λ s sound. record {
       bound = runs.bound goals s sound;
       choices = runs.choices goals s sound;
