@@ -16,50 +16,11 @@ use Rattle.script_lines.specs.Body.{no_commit, with_part}
 use Rattle.script_lines.specs.Laws.{may_come}
 use Rattle.script_lines.specs.ReadBack.{LinesReadBack}
 use Rattle.script_lines.specs.WriteBack.{ChangesAreReadBack}
-use Rattle.damon_control.specs.CommitLines.{AreReadAfter, ReadsPartsBack, WritesPartsInTurn}
-use Rattle.damon_control.specs.Text.{come_in_order}
+use Rattle.damon_control.specs.CommitLines.{AreReadAfter, ReadsPartsBack, WritesPartsInTurn, come_in_order}
 use Rattle.damon_control.specs.Written.{part_given, part_text, parts_of, ranges_given}
 use Rattle.damon_control.proofs.LineWords.{both_true}
-use Rattle.damon_control.proofs.ReadWritten.{IsSaid, cost_is_in, parts_in, parts_said}
-
--- ---- one part more
-
--- a part behind lists of others
-behind_two : (a r : List Part) (p : Part) → a ++ (r ++ p ∷ []) ≡ (a ++ (r ++ [])) ++ p ∷ []
-behind_two a r p = ap (λ ps. a ++ ps) (sym (append_assoc r [] (p ∷ []))) ∙ sym (append_assoc a (r ++ []) (p ∷ []))
-
-behind_three : (a r s : List Part) (p : Part) → a ++ (r ++ (s ++ p ∷ [])) ≡ (a ++ (r ++ (s ++ []))) ++ p ∷ []
-behind_three a r s p = ap (λ ps. a ++ ps) (behind_two r s p) ∙ sym (append_assoc a (r ++ (s ++ [])) (p ∷ []))
-
-behind_four : (a r s m : List Part) (p : Part) → a ++ (r ++ (s ++ (m ++ p ∷ []))) ≡ (a ++ (r ++ (s ++ (m ++ [])))) ++ p ∷ []
-behind_four a r s m p = ap (λ ps. a ++ ps) (behind_three r s m p) ∙ sym (append_assoc a (r ++ (s ++ (m ++ []))) (p ∷ []))
-
--- a range behind attributes and other ranges
-behind_ranges : (a : List Part) (rs : List RangeSpec) (r : RangeSpec) → a ++ (map (λ q. RangePart q) (rs ++ r ∷ []) ++ []) ≡ (a ++ (map (λ q. RangePart q) rs ++ [])) ++ RangePart r ∷ []
-behind_ranges a rs r =
-    ap (λ ps. a ++ ps) (append-nil (map (λ q. RangePart q) (rs ++ r ∷ [])) ∙ map-append (λ q. RangePart q) rs (r ∷ []))
-    ∙ behind_two a (map (λ q. RangePart q) rs) (RangePart r)
-
--- a commit with these parts
-abbrev made_of : Option Attrs → Option (List RangeSpec) → Option SlotChange → Option ℕ → Option CostPart → CommitValue
-made_of attrs ranges slot metric cost = record { attrs = attrs; ranges = ranges; slot = slot; metric = metric; cost = cost }
-
-parts_more : (version : Version) (attrs : Option Attrs) (ranges : Option (List RangeSpec)) (slot : Option SlotChange) (metric : Option ℕ) (cost : Option CostPart) (p : Part)
-    → may_come version (made_of attrs ranges slot metric cost) p ≡ true
-    → parts_of (with_part (made_of attrs ranges slot metric cost) p) ≡ parts_of (made_of attrs ranges slot metric cost) ++ p ∷ []
-parts_more version None None None None None (AttrsPart a) may = refl
-parts_more version attrs None None None None (RangePart r) may = behind_two (part_given (λ a. AttrsPart a) attrs) [] (RangePart r)
-parts_more version attrs (Some rs) None None None (RangePart r) may = behind_ranges (part_given (λ a. AttrsPart a) attrs) rs r
-parts_more version attrs ranges None None None (Slot d) may = behind_two (part_given (λ a. AttrsPart a) attrs) (ranges_given ranges) (Slot d)
-parts_more version attrs ranges slot None None (Metric m) may = behind_three (part_given (λ a. AttrsPart a) attrs) (ranges_given ranges) (part_given (λ s. Slot s) slot) (Metric m)
-parts_more Two attrs ranges slot metric None (Cost k) may =
-    behind_four (part_given (λ a. AttrsPart a) attrs) (ranges_given ranges) (part_given (λ s. Slot s) slot) (part_given (λ m. Metric m) metric) (Cost k)
-parts_more version attrs ranges slot metric cost (AttrsPart a) may = absurd cc
-parts_more version attrs ranges slot metric cost (RangePart r) may = absurd cc
-parts_more version attrs ranges slot metric cost (Slot d) may = absurd cc
-parts_more version attrs ranges slot metric cost (Metric m) may = absurd cc
-parts_more One attrs ranges slot metric cost (Cost k) may = absurd cc
-parts_more Two attrs ranges slot metric (Some c) (Cost k) may = absurd cc
+use Rattle.damon_control.proofs.ReadWritten.{IsSaid, parts_said}
+use Rattle.damon_control.proofs.PartsInOrder.{cost_is_in, parts_in, parts_more}
 
 -- the lines of a commit with one part more
 pub parts_written : WritesPartsInTurn

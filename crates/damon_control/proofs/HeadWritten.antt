@@ -11,8 +11,8 @@ use Rattle.target_ranges.specs.Made.{IsPlaced, range_of, ranges_of}
 use Rattle.damon_control.specs.declared.grammar.Grammar.TheVariants.{OfJournal}
 use Rattle.damon_control.specs.JournalHead.{ReadsHeadsBack, ReadsOnlyHeads, head_lines}
 use Rattle.damon_control.specs.Script.{AtEnd, Place, header_of}
-use Rattle.damon_control.specs.Text.{SaySetup, number_lines}
-use Rattle.damon_control.specs.Written.{spec_of, written_setup}
+use Rattle.damon_control.specs.Text.{SaySetup}
+use Rattle.damon_control.specs.Written.{number_lines, spec_of, written_setup}
 use Rattle.script_lines.specs.Lines.{lines_text}
 use Rattle.script_lines.specs.Spelling.{spelled_range, spelled_target}
 use Rattle.script_lines.specs.WriteBack.{ChangesAreReadBack}
@@ -84,6 +84,6 @@ begin_ends seed setup = record {
 -- a head that is written is read as what it says
 pub head_read_back : LeadLaws → ChangesAreReadBack → ReadsHeadsBack
 head_read_back laws back seed s is =
-    let says = written-SaySetup back OfJournal seed s is in
+    let says = written-SaySetup laws.said back OfJournal seed s is in
     led_read laws.apart OfJournal (head_lines seed s) (record { seed = seed; setup = s })
     (setup_leads laws OfJournal seed s (written_setup seed s) (codes "begin") (ended seed s) [] says.0 says.1 (begin_ends seed s))

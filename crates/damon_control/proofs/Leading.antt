@@ -41,7 +41,7 @@ use Rattle.script_lines.specs.ReadBack.{LinesReadBack}
 use Rattle.script_lines.specs.Refusal.{◌>>=◌}
 use Rattle.damon_control.specs.Script.{AtAttrs, AtCap, AtEnd, AtHeader, AtRanges, AtSchemes, AtSeed, AtTargets, AtUnit, InCommit, Place, Said, Within, after_setup, header_of, place_after, reads, scheme_line_in, version_in}
 use Rattle.script_lines.specs.Spelling.{spelled_attrs, spelled_range, spelled_target}
-use Rattle.damon_control.specs.Text.{EachSays, SaySetup, come_in_order}
+use Rattle.damon_control.specs.Text.{EachSays, SaySetup}
 use Rattle.script_lines.specs.Lines.{lines_text}
 use Rattle.script_lines.specs.Words.{begins_with}
 use Rattle.damon_control.proofs.Leads.{leads, leads-line, leads-read, lines_apart}
@@ -49,6 +49,9 @@ use Rattle.damon_control.proofs.LineWords.{begins_other, both_true, leads-IsPiec
 use Rattle.damon_control.proofs.OneSpelling.{IsSpelledFor, scheme_in-Ok, scheme_in-read}
 use Rattle.damon_control.proofs.SetupLimits.{checked-Limits}
 use Rattle.damon_control.proofs.SpaceLimits.{accepted-FitsRange, checked-IsSpace, checked_before}
+use Rattle.damon_control.specs.CommitLines.{come_in_order}
+use Rattle.damon_control.proofs.SlotLines.{both_ok, said_gives, scheme_accepted}
+use Rattle.script_lines.specs.SchemeLine.{SchemesAreSaid}
 
 -- ---- the lines before the targets
 
@@ -148,6 +151,7 @@ frame_of seed setup = record { version = setup.version; seed = seed; unit = setu
 -- what is known of the checks of ranges, and of texts that are taken apart
 pub record LeadLaws : Type 0 where
   pub lines : LinesReadBack
+  pub said : SchemesAreSaid
   pub one_more : ChecksOneMore
   pub keeps_fault : KeepsFault
   pub apart : TakesApartPieces
@@ -202,14 +206,6 @@ scheme_leads g f targets specs before line c read =
     then_way (begins_with (codes "scheme") line) _ _ (scheme_begins f.version before line c (scheme_in-Ok g f.version before line c read)).begins
     ∙ lead_to g (scheme_line_in g f.version before line) c (λ d. AtSchemes f targets specs (before ++ d ∷ [])) read
 
-pub both_ok : (r s : Result (Unit {0}) SetupFault) → result_and r s ≡ Ok tt → (r ≡ Ok tt) × (s ≡ Ok tt)
-both_ok (Ok t) s ok = (refl, ok)
-both_ok (Err e) s ok = absurd cc
-
-scheme_accepted : (index : ℕ) (r : Result (Unit {0}) SchemeFault) → (fault_as (BadScheme index) r) ≡ Ok tt → r ≡ Ok tt
-scheme_accepted index (Ok t) ok = refl
-scheme_accepted index (Err why) ok = absurd cc
-
 free_accepted : (index : ℕ) (set : Bool) → (if set then Err (RepeatedSlot index) else Ok (tt {0})) ≡ Ok tt → set ≡ false
 free_accepted index true ok = absurd cc
 free_accepted index false ok = refl
@@ -229,13 +225,6 @@ none_sets slot (c ∷ changes) each free =
 each_set-more : (changes : List SlotChange) (c : SlotChange) → AllByRecursion (λ d. has_scheme d ≡ true) changes → has_scheme c ≡ true → AllByRecursion (λ d. has_scheme d ≡ true) (changes ++ c ∷ [])
 each_set-more [] c each here = (here, tt)
 each_set-more (d ∷ changes) c each here = (each.0, each_set-more changes c each.1 here)
-
--- a change that is accepted gives its slot a scheme within the limits of the version
-pub set_sound : (version : Version) (before : List SlotChange) (c : SlotChange) (s : Scheme) → c.scheme ≡ Some s → checked_slot version (length before) before c ≡ Ok tt
-    → checked_in version c.slot s ≡ Ok tt
-set_sound version before c s is ok =
-    let set : result_and (fault_as (BadScheme (length before)) (checked_in version c.slot s)) (if is_set c.slot before then Err (RepeatedSlot (length before)) else Ok (tt {0})) ≡ Ok tt = rw is at ok in
-    scheme_accepted (length before) (checked_in version c.slot s) (both_ok (fault_as (BadScheme (length before)) (checked_in version c.slot s)) (if is_set c.slot before then Err (RepeatedSlot (length before)) else Ok (tt {0})) set).0
 
 scheme_read : LinesReadBack → (version : Version) (before : List SlotChange) (line : List ℕ) (c : SlotChange) → AllByRecursion (λ d. has_scheme d ≡ true) before → GivesScheme version line c → checked_slot version (length before) before c ≡ Ok tt
     → scheme_line version before line ≡ Ok c
@@ -320,6 +309,7 @@ pub setup_leads : LeadLaws → (g : Grammar) (seed : ℕ) (setup : SetupValue) (
 setup_leads laws g seed setup lines opening next back says spelled opens =
     let f = frame_of seed setup in
     let space = setup.space in
+    let give = said_gives laws.said setup.version [] says.schemes setup.slots says.give says.set says.changes says.slots in
     let after_ranges = says.schemes ++ opening ∷ back in
     let after_targets = map spelled_range says.specs ++ after_ranges in
     let frame_lines = λ (ls : List (List ℕ)). header_of g setup.version ∷ (codes "seed " ++ decimal seed) ∷ (codes "unit " ++ decimal setup.unit) ∷ (codes "cap " ++ decimal setup.cap) ∷ spelled_attrs setup.attrs ∷ ls in
@@ -334,8 +324,8 @@ setup_leads laws g seed setup lines opening next back says spelled opens =
     ∙ frame_leads laws.lines g f (map spelled_target space ++ after_targets) says.seed_fits says.limits
     ∙ targets_lead laws.lines g f [] space after_targets says.targets
     ∙ targets_ranges_lead laws g f space says.specs after_ranges says.targets says.ranges says.some_range says.few_ranges
-    ∙ ranges_schemes_lead laws g f space says.specs says.schemes setup.slots opening back says.some_range says.give says.slots opens.no_range
-    ∙ schemes_lead laws.lines g f space says.specs [] says.schemes setup.slots (opening ∷ back) tt says.give spelled says.slots
+    ∙ ranges_schemes_lead laws g f space says.specs says.schemes setup.slots opening back says.some_range give says.slots opens.no_range
+    ∙ schemes_lead laws.lines g f space says.specs [] says.schemes setup.slots (opening ∷ back) tt give spelled says.slots
     ∙ leads-line g (AtSchemes f space says.specs setup.slots) next opening back last
 
 -- lines that lead to the end of a text are read as what it says

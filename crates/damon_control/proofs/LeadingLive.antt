@@ -32,6 +32,7 @@ use Rattle.damon_control.proofs.LiveLemmas.{count_all-more, some_more, to_last-m
 use Rattle.damon_control.proofs.OneSpelling.{each_in_any}
 use Rattle.damon_control.proofs.SayPlaces.{both_ways}
 use Rattle.damon_control.proofs.Steps.{bind-Ok, either_way}
+use Rattle.damon_control.proofs.CommitFields.{commit_parts}
 
 -- ---- touches
 
@@ -171,36 +172,37 @@ commit_begins : (v : LiveValue) (cs : List (List CallValue)) (t : List CallValue
 commit_begins v cs t = rw (some_more cs t) refl
 
 -- the lines of a commit
-commit_leads : LinesReadBack → (v : LiveValue) (cs : List (List CallValue)) (t : List CallValue) (commit : CommitValue) (group lines : List (List ℕ)) → AreCommit v.setup.version group commit → count_all cs + length t < MAX_CALLS
+commit_leads : LeadLaws → (v : LiveValue) (cs : List (List CallValue)) (t : List CallValue) (commit : CommitValue) (group lines : List (List ℕ)) → AreCommit v.setup.version group commit → count_all cs + length t < MAX_CALLS
     → leads OfLive (InBody (with_controllers v (cs ++ t ∷ []))) (group ++ lines) ≡ leads OfLive (InBody (with_controllers v (cs ++ (t ++ CommitCall commit ∷ []) ∷ []))) lines
-commit_leads back v cs t commit group lines are few =
+commit_leads laws v cs t commit group lines says few =
+    let are = commit_parts laws.said v.setup.version group commit says in
     let here = with_controllers v (cs ++ t ∷ []) in
     ap (λ ls. leads OfLive (InBody here) (ls ++ lines)) are.spelled
     ∙ leads-line OfLive (InBody here) (InCommit here no_commit) (codes "commit") ((are.between ++ codes "apply" ∷ []) ++ lines) (commit_begins v cs t)
     ∙ ap (leads OfLive (InCommit here no_commit)) (append_assoc are.between (codes "apply" ∷ []) lines)
-    ∙ parts_lead back OfLive here no_commit are.between are.parts (codes "apply" ∷ lines) are.each are.in_order
+    ∙ parts_lead laws.lines OfLive here no_commit are.between are.parts (codes "apply" ∷ lines) are.each are.in_order
     ∙ ap (λ c. leads OfLive (InCommit here c) (codes "apply" ∷ lines)) are.made
     ∙ leads-line OfLive (InCommit here commit) (InBody (with_controllers v (cs ++ (t ++ CommitCall commit ∷ []) ∷ []))) (codes "apply") lines (call_taken v cs t (CommitCall commit) few)
 
 -- the lines of a call
-call_leads : LinesReadBack → (v : LiveValue) (cs : List (List CallValue)) (t : List CallValue) (call : CallValue) (group lines : List (List ℕ)) → SayCall v.setup.version group call → count_all cs + length t < MAX_CALLS
+call_leads : LeadLaws → (v : LiveValue) (cs : List (List CallValue)) (t : List CallValue) (call : CallValue) (group lines : List (List ℕ)) → SayCall v.setup.version group call → count_all cs + length t < MAX_CALLS
     → leads OfLive (InBody (with_controllers v (cs ++ t ∷ []))) (group ++ lines) ≡ leads OfLive (InBody (with_controllers v (cs ++ (t ++ call ∷ []) ∷ []))) lines
-call_leads back v cs t ShowCall group lines says few =
+call_leads laws v cs t ShowCall group lines says few =
     ap (λ ls. leads OfLive (InBody (with_controllers v (cs ++ t ∷ []))) (ls ++ lines)) says
     ∙ leads-line OfLive (InBody (with_controllers v (cs ++ t ∷ []))) (InBody (with_controllers v (cs ++ (t ++ ShowCall ∷ []) ∷ []))) (codes "show") lines (show_leads v cs t few)
-call_leads back v cs t (CommitCall commit) group lines says few = commit_leads back v cs t commit group lines says few
+call_leads laws v cs t (CommitCall commit) group lines says few = commit_leads laws v cs t commit group lines says few
 
-calls_lead : LinesReadBack → (v : LiveValue) (cs : List (List CallValue)) (t : List CallValue) (groups : List (List (List ℕ))) (calls : List CallValue) (lines : List (List ℕ)) → EachSays (SayCall v.setup.version) groups calls
+calls_lead : LeadLaws → (v : LiveValue) (cs : List (List CallValue)) (t : List CallValue) (groups : List (List (List ℕ))) (calls : List CallValue) (lines : List (List ℕ)) → EachSays (SayCall v.setup.version) groups calls
     → count_all cs + length t + length calls ≤ MAX_CALLS
     → leads OfLive (InBody (with_controllers v (cs ++ t ∷ []))) (all_lines groups ++ lines) ≡ leads OfLive (InBody (with_controllers v (cs ++ (t ++ calls) ∷ []))) lines
-calls_lead back v cs t [] [] lines each few = ap (λ (ks : List CallValue). leads OfLive (InBody (with_controllers v (cs ++ ks ∷ []))) lines) (sym (append-nil t))
-calls_lead back v cs t (group ∷ groups) (call ∷ calls) lines each few =
+calls_lead laws v cs t [] [] lines each few = ap (λ (ks : List CallValue). leads OfLive (InBody (with_controllers v (cs ++ ks ∷ []))) lines) (sym (append-nil t))
+calls_lead laws v cs t (group ∷ groups) (call ∷ calls) lines each few =
     ap (leads OfLive (InBody (with_controllers v (cs ++ t ∷ [])))) (append_assoc group (all_lines groups) lines)
-    ∙ call_leads back v cs t call group (all_lines groups ++ lines) each.0 (omega (arith, few))
-    ∙ calls_lead back v cs (t ++ call ∷ []) groups calls lines each.1 (omega (arith, few, length-append t (call ∷ [])))
+    ∙ call_leads laws v cs t call group (all_lines groups ++ lines) each.0 (omega (arith, few))
+    ∙ calls_lead laws v cs (t ++ call ∷ []) groups calls lines each.1 (omega (arith, few, length-append t (call ∷ [])))
     ∙ ap (λ (ks : List CallValue). leads OfLive (InBody (with_controllers v (cs ++ ks ∷ []))) lines) (append_assoc t (call ∷ []) calls)
-calls_lead back v cs t [] (call ∷ calls) lines each few = absurd each
-calls_lead back v cs t (group ∷ groups) [] lines each few = absurd each
+calls_lead laws v cs t [] (call ∷ calls) lines each few = absurd each
+calls_lead laws v cs t (group ∷ groups) [] lines each few = absurd each
 
 -- ---- controllers
 
@@ -208,25 +210,25 @@ controller_begins : (v : LiveValue) (cs : List (List CallValue)) → length cs <
 controller_begins v cs few = rw (few_more cs MAX_CONTROLLERS few) refl
 
 -- the lines of a controller
-controller_leads : LinesReadBack → (v : LiveValue) (cs : List (List CallValue)) (t : List CallValue) (group lines : List (List ℕ)) → SayController v.setup.version group t → length cs < MAX_CONTROLLERS → count_all cs + length t ≤ MAX_CALLS
+controller_leads : LeadLaws → (v : LiveValue) (cs : List (List CallValue)) (t : List CallValue) (group lines : List (List ℕ)) → SayController v.setup.version group t → length cs < MAX_CONTROLLERS → count_all cs + length t ≤ MAX_CALLS
     → leads OfLive (InBody (with_controllers v cs)) (group ++ lines) ≡ leads OfLive (InBody (with_controllers v (cs ++ t ∷ []))) lines
-controller_leads back v cs t group lines says few calls_few =
+controller_leads laws v cs t group lines says few calls_few =
     ap (λ ls. leads OfLive (InBody (with_controllers v cs)) (ls ++ lines)) says.spelled
     ∙ leads-line OfLive (InBody (with_controllers v cs)) (InBody (with_controllers v (cs ++ [] ∷ []))) (codes "controller") (all_lines says.groups ++ lines) (controller_begins v cs few)
-    ∙ calls_lead back v cs [] says.groups t lines says.each (omega (arith, calls_few))
+    ∙ calls_lead laws v cs [] says.groups t lines says.each (omega (arith, calls_few))
 
-controllers_lead : LinesReadBack → (v : LiveValue) (cs : List (List CallValue)) (groups : List (List (List ℕ))) (more : List (List CallValue)) (lines : List (List ℕ)) → EachSays (SayController v.setup.version) groups more
+controllers_lead : LeadLaws → (v : LiveValue) (cs : List (List CallValue)) (groups : List (List (List ℕ))) (more : List (List CallValue)) (lines : List (List ℕ)) → EachSays (SayController v.setup.version) groups more
     → length (cs ++ more) ≤ MAX_CONTROLLERS → count_all (cs ++ more) ≤ MAX_CALLS
     → leads OfLive (InBody (with_controllers v cs)) (all_lines groups ++ lines) ≡ leads OfLive (InBody (with_controllers v (cs ++ more))) lines
-controllers_lead back v cs [] [] lines each few sum = ap (λ (us : List (List CallValue)). leads OfLive (InBody (with_controllers v us)) lines) (sym (append-nil cs))
-controllers_lead back v cs (group ∷ groups) (t ∷ more) lines each few sum =
+controllers_lead laws v cs [] [] lines each few sum = ap (λ (us : List (List CallValue)). leads OfLive (InBody (with_controllers v us)) lines) (sym (append-nil cs))
+controllers_lead laws v cs (group ∷ groups) (t ∷ more) lines each few sum =
     let all = append_assoc cs (t ∷ []) more in
     ap (leads OfLive (InBody (with_controllers v cs))) (append_assoc group (all_lines groups) lines)
-    ∙ controller_leads back v cs t group (all_lines groups ++ lines) each.0 (omega (arith, few, length-append cs (t ∷ more))) (omega (arith, sum, count-cons cs more t))
-    ∙ controllers_lead back v (cs ++ t ∷ []) groups more lines each.1 (subst (λ (us : List (List CallValue)). length us ≤ MAX_CONTROLLERS) (sym all) few) (subst (λ (us : List (List CallValue)). count_all us ≤ MAX_CALLS) (sym all) sum)
+    ∙ controller_leads laws v cs t group (all_lines groups ++ lines) each.0 (omega (arith, few, length-append cs (t ∷ more))) (omega (arith, sum, count-cons cs more t))
+    ∙ controllers_lead laws v (cs ++ t ∷ []) groups more lines each.1 (subst (λ (us : List (List CallValue)). length us ≤ MAX_CONTROLLERS) (sym all) few) (subst (λ (us : List (List CallValue)). count_all us ≤ MAX_CALLS) (sym all) sum)
     ∙ ap (λ (us : List (List CallValue)). leads OfLive (InBody (with_controllers v us)) lines) all
-controllers_lead back v cs [] (t ∷ more) lines each few sum = absurd each
-controllers_lead back v cs (group ∷ groups) [] lines each few sum = absurd each
+controllers_lead laws v cs [] (t ∷ more) lines each few sum = absurd each
+controllers_lead laws v cs (group ∷ groups) [] lines each few sum = absurd each
 
 -- ---- a whole text
 
@@ -253,10 +255,10 @@ lines_lead : LeadLaws → (text : List ℕ) (v : LiveValue) (says : IsLiveText t
 lines_lead laws text v says =
     let ends = codes "end" ∷ [] in
     setup_leads laws OfLive v.seed v.setup says.setup (codes "passes " ++ decimal v.passes) (InBody (live_begun v.seed v.setup v.passes)) (all_lines says.workers ++ (all_lines says.controllers ++ ends)) says.says_setup
-    (each_in_any OfLive (λ line c. tt) v.setup.version says.says_setup.schemes v.setup.slots says.says_setup.give)
+    (each_in_any OfLive (λ line c. tt) says.says_setup.schemes v.setup.slots says.says_setup.give)
     (passes_opens laws.lines v.seed v.setup v.passes says.limits.some_pass says.limits.passes)
     ∙ workers_lead laws.lines v [] says.workers v.workers (all_lines says.controllers ++ ends) says.say_workers says.limits.workers says.limits.touches
-    ∙ controllers_lead laws.lines v [] says.controllers v.controllers ends says.say_controllers says.limits.controllers says.limits.calls
+    ∙ controllers_lead laws v [] says.controllers v.controllers ends says.say_controllers says.limits.controllers says.limits.calls
 
 -- a text that says a live script is read as it
 pub IsLiveText-live_of : LeadLaws → (text : List ℕ) (v : LiveValue) → IsLiveText text v → live_of text ≡ Ok v

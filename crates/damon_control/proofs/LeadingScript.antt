@@ -20,6 +20,7 @@ use Rattle.damon_control.proofs.Leading.{LeadLaws, Opens, else_way, led_read, pa
 use Rattle.damon_control.proofs.Leads.{leads, leads-line}
 use Rattle.damon_control.proofs.LineWords.{command_begins}
 use Rattle.damon_control.proofs.OneSpelling.{each_in_any}
+use Rattle.damon_control.proofs.CommitFields.{commit_parts}
 
 -- a body with more commands, and their work
 abbrev with_commands : Body → List CommandValue → Body
@@ -60,37 +61,38 @@ line_leads back b line c is few =
     ∙ command_taken b c few
 
 -- the lines of a commit
-commit_leads : LinesReadBack → (b : Body) (commit : CommitValue) (group lines : List (List ℕ)) → AreCommit b.said.setup.version group commit → b.work + weight b.said.setup.cap (Commit commit) ≤ MAX_WORK
+commit_leads : LeadLaws → (b : Body) (commit : CommitValue) (group lines : List (List ℕ)) → AreCommit b.said.setup.version group commit → b.work + weight b.said.setup.cap (Commit commit) ≤ MAX_WORK
     → leads OfScript (InBody b) (group ++ lines) ≡ leads OfScript (InBody (with_one b (Commit commit))) lines
-commit_leads back b commit group lines are few =
+commit_leads laws b commit group lines says few =
+    let are = commit_parts laws.said b.said.setup.version group commit says in
     ap (λ ls. leads OfScript (InBody b) (ls ++ lines)) are.spelled
     ∙ leads-line OfScript (InBody b) (InCommit b no_commit) (codes "commit") ((are.between ++ codes "apply" ∷ []) ++ lines) refl
     ∙ ap (leads OfScript (InCommit b no_commit)) (append_assoc are.between (codes "apply" ∷ []) lines)
-    ∙ parts_lead back OfScript b no_commit are.between are.parts (codes "apply" ∷ lines) are.each are.in_order
+    ∙ parts_lead laws.lines OfScript b no_commit are.between are.parts (codes "apply" ∷ lines) are.each are.in_order
     ∙ ap (λ c. leads OfScript (InCommit b c) (codes "apply" ∷ lines)) are.made
     ∙ leads-line OfScript (InCommit b commit) (InBody (with_one b (Commit commit))) (codes "apply") lines (command_taken b (Commit commit) few)
 
 -- the lines of one command
-group_leads : LinesReadBack → (b : Body) (group : List (List ℕ)) (c : CommandValue) (lines : List (List ℕ)) → SayCommand b.said.setup group c → b.work + weight b.said.setup.cap c ≤ MAX_WORK
+group_leads : LeadLaws → (b : Body) (group : List (List ℕ)) (c : CommandValue) (lines : List (List ℕ)) → SayCommand b.said.setup group c → b.work + weight b.said.setup.cap c ≤ MAX_WORK
     → leads OfScript (InBody b) (group ++ lines) ≡ leads OfScript (InBody (with_one b c)) lines
-group_leads back b group c lines (inl (line, is, says)) few =
+group_leads laws b group c lines (inl (line, is, says)) few =
     ap (λ ls. leads OfScript (InBody b) (ls ++ lines)) is
-    ∙ leads-line OfScript (InBody b) (InBody (with_one b c)) line lines (line_leads back b line c says few)
-group_leads back b group c lines (inr (commit, is, are)) few =
-    commit_leads back b commit group lines are (subst (λ (d : CommandValue). b.work + weight b.said.setup.cap d ≤ MAX_WORK) is few)
+    ∙ leads-line OfScript (InBody b) (InBody (with_one b c)) line lines (line_leads laws.lines b line c says few)
+group_leads laws b group c lines (inr (commit, is, are)) few =
+    commit_leads laws b commit group lines are (subst (λ (d : CommandValue). b.work + weight b.said.setup.cap d ≤ MAX_WORK) is few)
     ∙ ap (λ d. leads OfScript (InBody (with_one b d)) lines) (sym is)
 
-commands_lead : LinesReadBack → (b : Body) (groups : List (List (List ℕ))) (commands : List CommandValue) (lines : List (List ℕ)) → EachSays (SayCommand b.said.setup) groups commands
+commands_lead : LeadLaws → (b : Body) (groups : List (List (List ℕ))) (commands : List CommandValue) (lines : List (List ℕ)) → EachSays (SayCommand b.said.setup) groups commands
     → b.work + work_of b.said.setup.cap commands ≤ MAX_WORK → leads OfScript (InBody b) (all_lines groups ++ lines) ≡ leads OfScript (InBody (with_commands b commands)) lines
-commands_lead back b [] [] lines each few = ap (λ d. leads OfScript (InBody d) lines) (no_more b)
-commands_lead back b (group ∷ groups) (c ∷ commands) lines each few =
+commands_lead laws b [] [] lines each few = ap (λ d. leads OfScript (InBody d) lines) (no_more b)
+commands_lead laws b (group ∷ groups) (c ∷ commands) lines each few =
     let sum = sum_by-cons (weight b.said.setup.cap) c commands in
     ap (leads OfScript (InBody b)) (append_assoc group (all_lines groups) lines)
-    ∙ group_leads back b group c (all_lines groups ++ lines) each.0 (omega (arith, sum, few))
-    ∙ commands_lead back (with_one b c) groups commands lines each.1 (omega (arith, sum, few))
+    ∙ group_leads laws b group c (all_lines groups ++ lines) each.0 (omega (arith, sum, few))
+    ∙ commands_lead laws (with_one b c) groups commands lines each.1 (omega (arith, sum, few))
     ∙ ap (λ d. leads OfScript (InBody d) lines) (one_and_more b c commands)
-commands_lead back b [] (c ∷ commands) lines each few = absurd each
-commands_lead back b (group ∷ groups) [] lines each few = absurd each
+commands_lead laws b [] (c ∷ commands) lines each few = absurd each
+commands_lead laws b (group ∷ groups) [] lines each few = absurd each
 
 -- ---- a whole text
 
@@ -110,9 +112,9 @@ script_lines text s says = header_of OfScript s.setup.version ∷ (says.setup ++
 lines_lead : LeadLaws → (text : List ℕ) (s : ScriptValue) (says : IsText text s) → leads OfScript AtHeader (script_lines text s says) ≡ Ok (AtEnd s)
 lines_lead laws text s says =
     setup_leads laws OfScript s.seed s.setup says.setup (codes "begin") (InBody (begun s.seed s.setup)) (all_lines says.commands ++ codes "end" ∷ []) says.says_setup
-    (each_in_any OfScript (λ line c. tt) s.setup.version says.says_setup.schemes s.setup.slots says.says_setup.give)
+    (each_in_any OfScript (λ line c. tt) says.says_setup.schemes s.setup.slots says.says_setup.give)
     (begin_opens s.seed s.setup)
-    ∙ commands_lead laws.lines (begun s.seed s.setup) says.commands s.commands (codes "end" ∷ []) says.say_commands (omega (arith, says.work))
+    ∙ commands_lead laws (begun s.seed s.setup) says.commands s.commands (codes "end" ∷ []) says.say_commands (omega (arith, says.work))
 
 -- a text that says a script is read as it
 pub IsText-script_of : LeadLaws → (text : List ℕ) (s : ScriptValue) → IsText text s → script_of text ≡ Ok s

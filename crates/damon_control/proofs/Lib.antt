@@ -13,6 +13,9 @@ pub mod LiveLemmas
 pub mod LiveLimits
 pub mod SchemesFit
 pub mod CallsFit
+pub mod PartsInOrder
+pub mod SlotLines
+pub mod CommitFields
 pub mod SayPlaces
 pub mod SayCommands
 pub mod SayBlocks

@@ -12,6 +12,9 @@ use Rattle.damon_control.specs.Live.{CommitCall, LiveValue, ShowCall}
 use Rattle.damon_control.specs.LiveText.{IsLiveText, KeepsLimits, SayController, SayWorker, SaysPages}
 use Rattle.damon_control.specs.Script.{live_of}
 use Rattle.damon_control.specs.Text.{SaySetup}
+use Rattle.std.proofs.lemmas.List.Elements.{All-nil}
+use Rattle.script_lines.specs.Fits.{FitsChange}
+use Rattle.std.specs.Prelude.{IsSome}
 
 abbrev space : List Target
 space = record { base = 65536; pages = 3 } ∷ []
@@ -47,7 +50,9 @@ says_setup = record {
   some_range = omega arith;
   few_ranges = omega arith;
   watched = refl;
+  set = All-nil (λ c. IsSome c.scheme);
   slots = refl;
+  changes = All-nil FitsChange;
   give = tt;
 }
 

@@ -17,25 +17,9 @@ use Rattle.damon_control.specs.WriteBack.{SpellsRanges}
 use Rattle.damon_control.proofs.SetupLimits.{SaySetup-InOrder, SaySetup-IsSetup}
 use Rattle.damon_control.proofs.SpaceLimits.{checked-IsSpace}
 
--- one more range
-with_range-some : (ranges : Option (List RangeSpec)) (r : RangeSpec) → IfSome (with_range ranges r) (λ rs. 1 ≤ length rs)
-with_range-some None r = omega arith
-with_range-some (Some rs) r = omega (arith, length-append rs (r ∷ []))
-
-pub part_spelled : (c : CommitValue) (part : Part) → SpellsRanges c → SpellsRanges (with_part c part)
-part_spelled c (Attrs attrs) fine = fine
-part_spelled c (Range range) fine = with_range-some c.ranges range
-part_spelled c (Slot change) fine = fine
-part_spelled c (Metric value) fine = fine
-part_spelled c (Cost cost) fine = fine
-
-parts_spelled : (c : CommitValue) (parts : List Part) → SpellsRanges c → SpellsRanges (fold with_part c parts)
-parts_spelled c [] fine = fine
-parts_spelled c (part ∷ parts) fine = parts_spelled (with_part c part) parts (part_spelled c part fine)
-
 call_spelled : (version : Version) (lines : List (List ℕ)) (call : CallValue) → SayCall version lines call → IsSpelledCall call
 call_spelled version lines ShowCall says = tt
-call_spelled version lines (CommitCall commit) says = subst SpellsRanges says.made (parts_spelled no_commit says.parts tt)
+call_spelled version lines (CommitCall commit) says = says.some_range
 
 calls_spelled : (version : Version) (groups : List (List (List ℕ))) (calls : List CallValue) → EachSays (SayCall version) groups calls → AllByRecursion IsSpelledCall calls
 calls_spelled version [] [] each = tt

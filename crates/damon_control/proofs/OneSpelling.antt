@@ -14,7 +14,7 @@ use Rattle.script_lines.specs.Refusal.{◌>>=◌, only_if}
 use Rattle.script_lines.specs.Words.{same_word}
 use Rattle.script_lines.specs.WrittenLine.{change_text}
 use Rattle.damon_control.specs.Script.{scheme_line_in}
-use Rattle.damon_control.specs.Text.{EachSays}
+use Rattle.damon_control.specs.Text.{EachSays, SaysSlot}
 use Rattle.damon_control.proofs.Steps.{bind-Ok, only_if-Ok}
 
 -- the line of a change is in its one spelling, where the grammar wants it
@@ -67,11 +67,11 @@ each_written_for g [] = tt
 each_written_for g (c ∷ changes) = (written_for g c, each_written_for g changes)
 
 -- where the grammar wants no spelling, a line for each change is enough
-pub each_in_any : (g : Grammar) → ((line : List ℕ) (c : SlotChange) → IsSpelledFor g line c) → (version : Version) (lines : List (List ℕ)) (changes : List SlotChange) → EachSays (GivesScheme version) lines changes → EachSays (IsSpelledFor g) lines changes
-each_in_any g any version [] [] give = tt
-each_in_any g any version (line ∷ lines) (c ∷ changes) give = (any line c, each_in_any g any version lines changes give.1)
-each_in_any g any version [] (c ∷ changes) give = absurd give
-each_in_any g any version (line ∷ lines) [] give = absurd give
+pub each_in_any : (g : Grammar) → ((line : List ℕ) (c : SlotChange) → IsSpelledFor g line c) → (lines : List (List ℕ)) (changes : List SlotChange) → EachSays SaysSlot lines changes → EachSays (IsSpelledFor g) lines changes
+each_in_any g any [] [] give = tt
+each_in_any g any (line ∷ lines) (c ∷ changes) give = (any line c, each_in_any g any lines changes give.1)
+each_in_any g any [] (c ∷ changes) give = absurd give
+each_in_any g any (line ∷ lines) [] give = absurd give
 
 -- lines in their one spelling are those that are written
 pub each_is_written : (lines : List (List ℕ)) (changes : List SlotChange) → EachSays (IsSpelledFor OfJournal) lines changes → lines ≡ map change_text changes

@@ -34,13 +34,13 @@ use Rattle.script_lines.specs.Refusal.{◌>>=◌}
 use Rattle.damon_control.specs.Live.{live_begun}
 use Rattle.damon_control.specs.Script.{AtHeader, InBody, InCommit, Place, Within, at, begun, header_of, place_after, reads, version_in}
 use Rattle.script_lines.specs.Spelling.{spelled_range, spelled_target}
-use Rattle.damon_control.specs.Text.{EachSays, SaySetup, come_in_order, number_lines}
+use Rattle.damon_control.specs.Text.{EachSays, SaySetup}
 use Rattle.script_lines.specs.Lines.{lines_text}
 use Rattle.script_lines.specs.WriteBack.{ChangesAreReadBack}
 use Rattle.damon_control.specs.WriteBack.{CommitsAreReadBack, FitsCommit, IsSpelledIn, IsWritable, LiveSetupsAreReadBack, MayCommit, SetupsAreReadBack}
 use Rattle.script_lines.specs.WrittenLine.{change_text}
-use Rattle.damon_control.specs.Written.{commit_text, part_given, part_text, parts_of, ranges_given, setup_text, spec_of, written_commit, written_setup}
-use Rattle.damon_control.proofs.Leading.{LeadLaws, Opens, both_ok, parts_lead, set_sound, setup_leads}
+use Rattle.damon_control.specs.Written.{commit_text, number_lines, part_given, part_text, parts_of, ranges_given, setup_text, spec_of, written_commit, written_setup}
+use Rattle.damon_control.proofs.Leading.{LeadLaws, Opens, parts_lead, setup_leads}
 use Rattle.damon_control.proofs.LeadingLive.{passes_opens}
 use Rattle.damon_control.proofs.LeadingScript.{begin_opens}
 use Rattle.damon_control.proofs.Leads.{leads, leads-line}
@@ -50,6 +50,10 @@ use Rattle.damon_control.proofs.PartLemmas.{parts-some, reads_line, reads_more}
 use Rattle.damon_control.proofs.Steps.{bind-Ok}
 use Rattle.damon_control.proofs.WrittenLemmas.{lines_text-append}
 use Rattle.damon_control.proofs.WrittenRanges.{checked_written, ranges_again}
+use Rattle.damon_control.specs.CommitLines.{come_in_order}
+use Rattle.damon_control.proofs.PartsInOrder.{TimesAreIn, cost_is_in, parts_in, times_are_in}
+use Rattle.damon_control.proofs.SlotLines.{both_ok, each_gives_said, second_ok, set_sound}
+use Rattle.script_lines.specs.SchemeLine.{SchemesAreSaid}
 
 -- ---- the limits of a setup, as checks
 
@@ -80,10 +84,6 @@ space_checked ts is =
     let total : nat_le (pages_of ts) 1048576 ≡ true = grind (arith, nat_tests, is.total) in
     rw (some, few, targets_checked 0 ts is.each, total) refl
 
-second_ok : {E : Type 0} (r s : Result (Unit {0}) E) → result_and r s ≡ Ok tt → s ≡ Ok tt
-second_ok (Ok t) s ok = ok
-second_ok (Err e) s ok = absurd cc
-
 -- changes that are accepted after others are written as they are
 changes_give : ChangesAreReadBack → (version : Version) (before changes : List SlotChange) → checked_after version before changes ≡ Ok tt → All (λ c. IsSome c.scheme) changes → All FitsChange changes
     → EachSays (GivesScheme version) (map change_text changes) changes
@@ -107,8 +107,8 @@ map_both f g [] = refl
 map_both f g (x ∷ xs) = ap (λ ys. f (g x) ∷ ys) (map_both f g xs)
 
 -- the lines that are written of a setup say it, its schemes in the spelling that the grammar wants
-pub written-SaySetup : ChangesAreReadBack → (g : Grammar) (seed : ℕ) (s : SetupValue) → IsWritable seed s → (says : SaySetup (written_setup seed s) seed s) × EachSays (IsSpelledFor g) says.schemes s.slots
-written-SaySetup back g seed s is =
+pub written-SaySetup : SchemesAreSaid → ChangesAreReadBack → (g : Grammar) (seed : ℕ) (s : SetupValue) → IsWritable seed s → (says : SaySetup (written_setup seed s) seed s) × EachSays (IsSpelledFor g) says.schemes s.slots
+written-SaySetup said back g seed s is =
     let setup = is.setup in
     let specs = map (spec_of s.space) s.ranges in
     let count : length specs ≡ length s.ranges = length-map s.ranges (spec_of s.space) in
@@ -126,8 +126,10 @@ written-SaySetup back g seed s is =
       some_range = omega (arith, count, setup.ranges_some);
       few_ranges = omega (arith, count, setup.ranges_most);
       watched = ranges_again s.space s.unit is.space setup.unit_some s.ranges setup.within setup.wide;
+      set = setup.set;
       slots = setup.slots;
-      give = changes_give back s.version [] s.slots setup.slots setup.set is.changes;
+      changes = is.changes;
+      give = each_gives_said said s.version changes s.slots (changes_give back s.version [] s.slots setup.slots setup.set is.changes);
     } in
     (says, each_written_for g s.slots)
 
@@ -183,7 +185,7 @@ opening_read_back : LeadLaws → ChangesAreReadBack → PutsPartsTogether → (g
     → reads g 1 AtHeader (parts 10 (header_of g s.version ++ (codes "\n" ++ (setup_text seed s ++ (opening ++ (codes "\n" ++ rest))))))
     ≡ reads g (3 + length (written_setup seed s)) next (parts 10 rest)
 opening_read_back laws back together g seed s opening next rest is opens =
-    let says = written-SaySetup back g seed s is in
+    let says = written-SaySetup laws.said back g seed s is in
     let written = written_setup seed s in
     let lines = header_of g s.version ∷ (written ++ opening ∷ []) in
     let lead : leads g AtHeader lines ≡ Ok next = setup_leads laws g seed s written opening next [] says.0 says.1 opens in
@@ -228,31 +230,6 @@ ranges_said : (version : Version) (ranges : Option (List RangeSpec)) → IfSome 
 ranges_said version None fit = tt
 ranges_said version (Some ranges) fit = each_range_said version ranges fit
 
--- the scheme of a slot change has no time that the version does not spell
-abbrev HasTimeIn : Version → Option Scheme → Type 0
-HasTimeIn version scheme = IfSome scheme (λ s. checked_time version s.quota ≡ Ok tt)
-
--- the same of the slot change of a commit
-abbrev TimesAreIn : Version → Option SlotChange → Type 0
-TimesAreIn version slot = IfSome slot (λ change. HasTimeIn version change.scheme)
-
--- version Two spells each time
-time_in_two : (quota : Option Quota) → checked_time Two quota ≡ Ok tt
-time_in_two None = refl
-time_in_two (Some q) = refl
-
-scheme_in_two : (scheme : Option Scheme) → HasTimeIn Two scheme
-scheme_in_two None = tt
-scheme_in_two (Some s) = time_in_two s.quota
-
-slot_in_two : (slot : Option SlotChange) → TimesAreIn Two slot
-slot_in_two None = tt
-slot_in_two (Some change) = scheme_in_two change.scheme
-
-times_are_in : (version : Version) (c : CommitValue) → IsSpelledIn version c → TimesAreIn version c.slot
-times_are_in One c is = is.1
-times_are_in Two c is = slot_in_two c.slot
-
 slot_said : ChangesAreReadBack → (version : Version) (slot : Option SlotChange) → IfSome slot FitsChange → TimesAreIn version slot → AllByRecursion (IsSaid version) (part_given (λ c. Slot c) slot)
 slot_said back version None fits timed = tt
 slot_said back version (Some c) fits timed = (by c.scheme refl, tt)
@@ -280,73 +257,6 @@ parts_said back version c fits spelled =
     (said-append version ranges (slot ++ (metric ++ cost)) (ranges_said version c.ranges fits.ranges_fit)
     (said-append version slot (metric ++ cost) (slot_said back version c.slot fits.slot_fits (times_are_in version c spelled))
     (said-append version metric cost (metric_said version c.metric fits.metric_fits) (cost_said version c.cost fits.cost_fits))))
-
--- the parts of a commit after its ranges
-pub record Rest : Type 0 where
-  pub slot : Option SlotChange
-  pub metric : Option ℕ
-  pub cost : Option CostPart
-
--- these parts, as lines say them
-abbrev last_parts : Rest → List Part
-last_parts r = part_given (λ s. Slot s) r.slot ++ (part_given (λ m. Metric m) r.metric ++ part_given (λ p. Cost p) r.cost)
-
--- a commit with attributes and ranges alone
-abbrev with_ranges : Option Attrs → Option (List RangeSpec) → CommitValue
-with_ranges attrs ranges = record no_commit { attrs = attrs; ranges = ranges }
-
--- a commit with these parts
-abbrev pub commit_of : Option Attrs → Option (List RangeSpec) → Rest → CommitValue
-commit_of attrs ranges r = record { attrs = attrs; ranges = ranges; slot = r.slot; metric = r.metric; cost = r.cost }
-
--- the parts are in order, and make a commit
-pub record AreIn (version : Version) (before : CommitValue) (parts : List Part) (c : CommitValue) : Type 0 where
-  pub in_order : come_in_order version before parts ≡ true
-  pub made : fold with_part before parts ≡ c
-
--- a cost comes in version Two alone
-abbrev pub CostIsIn : Version → Option CostPart → Type 0
-CostIsIn One cost = cost ≡ None
-CostIsIn Two cost = Unit {0}
-
-last_in : (version : Version) (attrs : Option Attrs) (ranges : Option (List RangeSpec)) (slot : Option SlotChange) (metric : Option ℕ) (cost : Option CostPart) → CostIsIn version cost
-    → let rest : Rest = record { slot = slot; metric = metric; cost = cost } in
-    AreIn version (with_ranges attrs ranges) (last_parts rest) (commit_of attrs ranges rest)
-last_in version attrs ranges None None None is = record { in_order = refl; made = refl }
-last_in version attrs ranges None (Some m) None is = record { in_order = refl; made = refl }
-last_in version attrs ranges (Some c) None None is = record { in_order = refl; made = refl }
-last_in version attrs ranges (Some c) (Some m) None is = record { in_order = refl; made = refl }
-last_in One attrs ranges slot metric (Some p) is = absurd cc
-last_in Two attrs ranges None None (Some p) is = record { in_order = refl; made = refl }
-last_in Two attrs ranges None (Some m) (Some p) is = record { in_order = refl; made = refl }
-last_in Two attrs ranges (Some c) None (Some p) is = record { in_order = refl; made = refl }
-last_in Two attrs ranges (Some c) (Some m) (Some p) is = record { in_order = refl; made = refl }
-
-more_in : (version : Version) (attrs : Option Attrs) (before ranges : List RangeSpec) (rest : List Part) (c : CommitValue) → AreIn version (with_ranges attrs (Some (before ++ ranges))) rest c
-    → AreIn version (with_ranges attrs (Some before)) (map (λ r. RangePart r) ranges ++ rest) c
-more_in version attrs before [] rest c are = subst (λ (rs : List RangeSpec). AreIn version (with_ranges attrs (Some rs)) rest c) (append-nil before) are
-more_in version attrs before (r ∷ ranges) rest c are =
-    let all = sym (append_assoc before (r ∷ []) ranges) in
-    let others = more_in version attrs (before ++ r ∷ []) ranges rest c (subst (λ (rs : List RangeSpec). AreIn version (with_ranges attrs (Some rs)) rest c) all are) in
-    record { in_order = others.in_order; made = others.made }
-
-pub parts_in : (version : Version) (attrs : Option Attrs) (ranges : Option (List RangeSpec)) (rest : Rest) → CostIsIn version rest.cost → IfSome ranges (λ rs. 1 ≤ length rs)
-    → AreIn version no_commit (parts_of (commit_of attrs ranges rest)) (commit_of attrs ranges rest)
-parts_in version None None rest is some = last_in version None None rest.slot rest.metric rest.cost is
-parts_in version (Some a) None rest is some =
-    let others = last_in version (Some a) None rest.slot rest.metric rest.cost is in
-    record { in_order = others.in_order; made = others.made }
-parts_in version attrs (Some []) rest is some = absurd (omega (arith, some))
-parts_in version None (Some (r ∷ ranges)) rest is some =
-    let others = more_in version None (r ∷ []) ranges (last_parts rest) (commit_of None (Some (r ∷ ranges)) rest) (last_in version None (Some (r ∷ ranges)) rest.slot rest.metric rest.cost is) in
-    record { in_order = others.in_order; made = others.made }
-parts_in version (Some a) (Some (r ∷ ranges)) rest is some =
-    let others = more_in version (Some a) (r ∷ []) ranges (last_parts rest) (commit_of (Some a) (Some (r ∷ ranges)) rest) (last_in version (Some a) (Some (r ∷ ranges)) rest.slot rest.metric rest.cost is) in
-    record { in_order = others.in_order; made = others.made }
-
-pub cost_is_in : (version : Version) (c : CommitValue) → IsSpelledIn version c → CostIsIn version c.cost
-cost_is_in One c is = is.0
-cost_is_in Two c is = tt
 
 -- the first line of a commit
 commit_opens : (g : Grammar) (b : Within g) → MayCommit g b → place_after g (InBody b) (codes "commit") ≡ Ok (InCommit b no_commit)

@@ -30,11 +30,12 @@ use Rattle.damon_control.specs.LiveText.{IsLiveText, KeepsLimits, SayController,
 use Rattle.script_lines.specs.Refusal.{◌>>=◌}
 use Rattle.damon_control.specs.Script.{AtAttrs, AtCap, AtEnd, AtHeader, AtRanges, AtSchemes, AtSeed, AtTargets, AtUnit, Body, HeadValue, InBody, InCommit, Place, Said, Within, header_of, version_in}
 use Rattle.script_lines.specs.Spelling.{spelled_attrs, spelled_range, spelled_target}
-use Rattle.damon_control.specs.Text.{EachSays, IsText, SayCommand, SaySetup, all_lines, come_in_order}
+use Rattle.damon_control.specs.Text.{EachSays, IsText, SayCommand, SaySetup, all_lines}
 use Rattle.script_lines.specs.Lines.{lines_text}
 use Rattle.damon_control.specs.WriteBack.{MayCommit}
 use Rattle.damon_control.proofs.OneSpelling.{IsSpelledFor}
 use Rattle.damon_control.proofs.Steps.{bind-Ok}
+use Rattle.damon_control.specs.CommitLines.{come_in_order}
 
 -- what is known of lines, and of the checks of ranges and slots
 pub record TextLaws : Type 0 where

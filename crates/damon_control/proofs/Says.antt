@@ -15,7 +15,7 @@ use Rattle.script_lines.specs.declared.setup.Frame.{Frame}
 use Rattle.script_lines.specs.Body.{no_commit, part_line, with_part}
 use Rattle.script_lines.specs.Command.{Commit}
 use Rattle.script_lines.specs.Head.{attrs_line, cap_line, range_line, seed_line, setup_said, target_line, unit_line}
-use Rattle.script_lines.specs.Laws.{GivesScheme, IsPart, may_come}
+use Rattle.script_lines.specs.Laws.{IsPart, may_come}
 use Rattle.damon_control.specs.Live.{CommitCall, LiveValue, live_begun}
 use Rattle.script_lines.specs.Blocks.{passes_line}
 use Rattle.damon_control.specs.LiveText.{IsLiveText}
@@ -23,7 +23,7 @@ use Rattle.script_lines.specs.Refusal.{◌>>=◌}
 use Rattle.damon_control.specs.Script.{AtAttrs, AtCap, AtEnd, AtHeader, AtRanges, AtSchemes, AtSeed, AtTargets, AtUnit, HeadValue, InBody, InCommit, Place, Said, ScriptValue, Within, after_commit, after_ranges, after_schemes, after_setup, after_targets, after_within, head_of, live_of, opened, place_after, reads, scheme_line_in, script_of, version_in, version_said, with_commit}
 use Rattle.script_lines.specs.Lines.{lines_text}
 use Rattle.script_lines.specs.Spelling.{spelled_range, spelled_target}
-use Rattle.damon_control.specs.Text.{AreCommit, IsText, number_lines}
+use Rattle.damon_control.specs.Text.{AreCommit, IsText, SaysSlot}
 use Rattle.script_lines.specs.Words.{alone, begins_with}
 use Rattle.damon_control.proofs.Leads.{leads, read-Lead}
 use Rattle.damon_control.proofs.LineWords.{version_said-Ok}
@@ -32,6 +32,13 @@ use Rattle.damon_control.proofs.SayBlocks.{in_blocks, more_call}
 use Rattle.damon_control.proofs.SayCommands.{in_body, more_command}
 use Rattle.damon_control.proofs.SayPlaces.{IsTextOf, SayCommit, SayRanges, SaySchemes, SayTargets, SayWithin, Says, SaysHead, TextLaws, both_ways, each_more, frame_lines, order-more, read_to, with_parts-more}
 use Rattle.damon_control.proofs.Steps.{bind-Ok, either_way}
+use Rattle.damon_control.specs.Written.{number_lines}
+use Rattle.script_lines.specs.Fits.{FitsChange}
+use Rattle.std.specs.Prelude.{IsSome}
+use Rattle.std.proofs.lemmas.List.Elements.{All-append, All-from_recursion, All-nil}
+use Rattle.damon_control.proofs.SlotLines.{gives_said}
+use Rattle.damon_control.proofs.SchemesFit.{gives_fits}
+use Rattle.damon_control.proofs.CommitFields.{commit_said}
 
 -- the lines of a setup up to its schemes, from `seed` on
 abbrev setup_lines : ℕ → SetupValue → List RangeSpec → List (List ℕ)
@@ -45,16 +52,18 @@ group_of between = codes "commit" ∷ (between ++ codes "apply" ∷ [])
 group_is : (g : Grammar) (lines : List (List ℕ)) (b : Within g) (commit : CommitValue) (before : SayCommit g lines b commit) → lines ++ codes "apply" ∷ [] ≡ before.front ++ group_of before.between
 group_is g lines b commit before = ap (λ ls. ls ++ codes "apply" ∷ []) before.spelled ∙ append_assoc before.front (codes "commit" ∷ before.between) (codes "apply" ∷ [])
 
-group_says : (g : Grammar) (lines : List (List ℕ)) (b : Within g) (commit : CommitValue) (before : SayCommit g lines b commit) → AreCommit (version_in g b) (group_of before.between) commit
-group_says g lines b commit before = record { between = before.between; parts = before.parts; spelled = refl; each = before.each; in_order = before.in_order; made = before.made }
+group_says : (laws : TextLaws) (g : Grammar) (lines : List (List ℕ)) (b : Within g) (commit : CommitValue) (before : SayCommit g lines b commit) → AreCommit (version_in g b) (group_of before.between) commit
+group_says laws g lines b commit before =
+    commit_said laws.lines.said (version_in g b) (group_of before.between) commit
+    (record { between = before.between; parts = before.parts; spelled = refl; each = before.each; in_order = before.in_order; made = before.made })
 
 -- the last line of a commit, after which its lines are a group
-committed : (g : Grammar) (lines : List (List ℕ)) (b : Within g) (commit : CommitValue) (next : Place g) → SayCommit g lines b commit → with_commit g b commit ≡ Ok next
+committed : (laws : TextLaws) (g : Grammar) (lines : List (List ℕ)) (b : Within g) (commit : CommitValue) (next : Place g) → SayCommit g lines b commit → with_commit g b commit ≡ Ok next
     → Says g (lines ++ codes "apply" ∷ []) next
-committed OfScript lines b commit next before e = more_command (lines ++ codes "apply" ∷ []) before.front b (group_of before.between) (Commit commit) next before.body (group_is OfScript lines b commit before) (inr (commit, refl, group_says OfScript lines b commit before)) e
-committed OfLive lines v commit next before e =
-    more_call (lines ++ codes "apply" ∷ []) before.front v (group_of before.between) (CommitCall commit) next before.body before.begins (group_is OfLive lines v commit before) (group_says OfLive lines v commit before) e
-committed OfJournal lines none commit next before e = absurd none
+committed laws OfScript lines b commit next before e = more_command (lines ++ codes "apply" ∷ []) before.front b (group_of before.between) (Commit commit) next before.body (group_is OfScript lines b commit before) (inr (commit, refl, group_says laws OfScript lines b commit before)) e
+committed laws OfLive lines v commit next before e =
+    more_call (lines ++ codes "apply" ∷ []) before.front v (group_of before.between) (CommitCall commit) next before.body before.begins (group_is OfLive lines v commit before) (group_says laws OfLive lines v commit before) e
+committed laws OfJournal lines none commit next before e = absurd none
 
 in_commit : (laws : TextLaws) (g : Grammar) (lines : List (List ℕ)) (b : Within g) (commit : CommitValue) (line : List ℕ) (next : Place g) → SayCommit g lines b commit → after_commit g b commit line ≡ Ok next
     → Says g (lines ++ line ∷ []) next
@@ -63,7 +72,7 @@ in_commit laws g lines b commit line next before e = either_way (begins_with (co
     at_apply : (alone (codes "apply") line >>= λ _. with_commit g b commit) ≡ Ok next → Says g (lines ++ line ∷ []) next
     at_apply read =
         let word = bind-Ok (alone (codes "apply") line) (λ _. with_commit g b commit) next read in
-        subst (λ (l : List ℕ). Says g (lines ++ l ∷ []) next) (sym (laws.lines.word (codes "apply") line word.1)) (committed g lines b commit next before word.2)
+        subst (λ (l : List ℕ). Says g (lines ++ l ∷ []) next) (sym (laws.lines.word (codes "apply") line word.1)) (committed laws g lines b commit next before word.2)
 
     at_part : (part_line (version_in g b) commit line >>= λ part. Ok (InCommit b (with_part commit part))) ≡ Ok next → Says g (lines ++ line ∷ []) next
     at_part = read_to (Says g (lines ++ line ∷ [])) (part_line (version_in g b) commit line) (λ part. InCommit b (with_part commit part)) next (λ part read.
@@ -128,6 +137,7 @@ at_schemes laws g lines f targets specs slots line next before e = either_way (b
     at_scheme : (scheme_line_in g f.version slots line >>= λ change. Ok (AtSchemes f targets specs (slots ++ change ∷ []))) ≡ Ok next → Says g (lines ++ line ∷ []) next
     at_scheme = read_to (Says g (lines ++ line ∷ [])) (scheme_line_in g f.version slots line) (λ change. AtSchemes f targets specs (slots ++ change ∷ [])) next (λ change read.
         let said = scheme_in-Ok g f.version slots line change read in
+        let gives = laws.lines.scheme f.version slots line change said in
         record {
           others = before.others ++ line ∷ [];
           spelled = ap (λ ls. ls ++ line ∷ []) before.spelled;
@@ -144,8 +154,10 @@ at_schemes laws g lines f targets specs slots line next before e = either_way (b
             some_range = before.says.some_range;
             few_ranges = before.says.few_ranges;
             watched = before.says.watched;
+            set = All-append (λ (c : SlotChange). IsSome c.scheme) slots (change ∷ []) before.says.set (All-from_recursion (λ (c : SlotChange). IsSome c.scheme) (change ∷ []) ((rw gives.1 refl), tt));
             slots = laws.slots f.version slots change before.says.slots ∙ laws.lines.within.scheme f.version slots line change said;
-            give = each_more (GivesScheme f.version) before.says.schemes slots line change before.says.give (laws.lines.scheme f.version slots line change said);
+            changes = All-append FitsChange slots (change ∷ []) before.says.changes (All-from_recursion FitsChange (change ∷ []) ((gives_fits f.version line change gives).0, tt));
+            give = each_more SaysSlot before.says.schemes slots line change before.says.give (gives_said laws.lines.said f.version line change gives);
           };
           in_spelling = each_more (IsSpelledFor g) before.says.schemes slots line change before.in_spelling (scheme_in-spelled g f.version slots line change read);
         })
@@ -167,7 +179,9 @@ ranges-SaySchemes g lines f targets specs before some = record {
     some_range = some;
     few_ranges = before.few;
     watched = refl;
+    set = All-nil (λ (c : SlotChange). IsSome c.scheme);
     slots = refl;
+    changes = All-nil FitsChange;
     give = tt;
   };
   in_spelling = tt;

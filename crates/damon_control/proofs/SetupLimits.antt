@@ -74,13 +74,6 @@ checked-Limits unit cap a ok =
       max_cap = max_kept a.max cap third.1;
     }
 
--- each line gives its slot a scheme
-each_set : (version : Version) (lines : List (List ℕ)) (slots : List SlotChange) → EachSays (GivesScheme version) lines slots → AllByRecursion (λ c. IsSome c.scheme) slots
-each_set version [] [] all = tt
-each_set version (line ∷ lines) (c ∷ slots) all = (rw all.0.1 refl, each_set version lines slots all.1)
-each_set version [] (c ∷ slots) all = absurd all
-each_set version (line ∷ lines) [] all = absurd all
-
 -- lines say a setup within its limits
 pub SaySetup-IsSetup : MakesEach → (lines : List (List ℕ)) (seed : ℕ) (setup : SetupValue) → SaySetup lines seed setup → IsSetup setup
 SaySetup-IsSetup makes lines seed setup says =
@@ -101,7 +94,7 @@ SaySetup-IsSetup makes lines seed setup says =
       wide = made.wide;
       classes = made.classes;
       within = made.within;
-      set = All-from_recursion (λ c. IsSome c.scheme) setup.slots (each_set setup.version says.schemes setup.slots says.give);
+      set = says.set;
       slots = says.slots;
     }
 

@@ -1,14 +1,19 @@
 -- The lines of a commit, one by one: each part is a line, and a part more is a line more.
-use Rattle.std.specs.Prelude.{◌≡◌, true, List, [], ◌∷◌, ◌++◌, Ok}
+use Rattle.std.specs.Prelude.{◌≡◌, Bool, true, ◌&&◌, List, [], ◌∷◌, ◌++◌, Ok}
 use Rattle.std.specs.List.{fold}
 use Rattle.damon_types.specs.declared.scheme.Version.{Version}
 use Rattle.live_commit.specs.Commit.{CommitValue}
 use Rattle.script_lines.specs.declared.part.Part.{Part}
 use Rattle.script_lines.specs.Body.{no_commit, part_line, with_part}
 use Rattle.script_lines.specs.Laws.{may_come}
-use Rattle.damon_control.specs.Text.{come_in_order}
 use Rattle.damon_control.specs.WriteBack.{FitsCommit, IsSpelledIn, SpellsRanges}
 use Rattle.damon_control.specs.Written.{part_text, parts_of, written_commit}
+
+-- whether parts may follow those of a commit, one after another
+abbrev pub come_in_order : Version → CommitValue → List Part → Bool
+come_in_order version commit [] = true
+come_in_order version commit (part ∷ parts) =
+    may_come version commit part && come_in_order version (with_part commit part) parts
 
 -- a part that may come after those of a commit is written after them
 abbrev pub WritesPartsInTurn : Type 0

@@ -6,12 +6,12 @@ pub mod BodyLine
 pub mod Left
 pub mod HeadView
 pub mod LiveView
-pub mod Text
-pub mod LiveText
 pub mod LineLaws
 pub mod Sound
 pub mod Written
 pub mod WriteBack
+pub mod Text
+pub mod LiveText
 pub mod JournalHead
 pub mod CommitLines
 pub mod Spellable

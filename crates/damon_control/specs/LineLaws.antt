@@ -9,6 +9,7 @@ use Rattle.script_lines.specs.Blocks.{passes_line}
 use Rattle.script_lines.specs.Head.{attrs_line, cap_line, range_line, seed_line, target_line, unit_line}
 use Rattle.script_lines.specs.Laws.{ReadsOnly, ReadsOnlyCommands, ReadsOnlyParts, ReadsOnlySchemes, ReadsOnlySweeps, ReadsOnlyTouches, ReadsOnlyWords}
 use Rattle.script_lines.specs.ReadBack.{LinesReadBack}
+use Rattle.script_lines.specs.SchemeLine.{SchemesAreSaid}
 use Rattle.script_lines.specs.Spelling.{spelled_attrs, spelled_range, spelled_target}
 use Rattle.script_lines.specs.Within.{LinesAreWithin}
 
@@ -33,3 +34,4 @@ pub record LineLaws : Type 0 where
   pub part : ReadsOnlyParts
   pub within : LinesAreWithin
   pub back : LinesReadBack
+  pub said : SchemesAreSaid

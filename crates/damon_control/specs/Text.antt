@@ -1,9 +1,9 @@
 -- A script as a text: its lines, what they say, and the limits of what they say.
-use Rattle.std.specs.Prelude.{◌≡◌, ◌⊎◌, ℕ, ◌^◌, ◌<◌, ◌≤◌, Bool, true, ◌&&◌, List, [], ◌∷◌, ◌++◌, length, map, codes, Ok, ◌↔◌}
+use Rattle.std.specs.Prelude.{◌≡◌, ◌⊎◌, ℕ, ◌^◌, ◌<◌, ◌≤◌, List, [], ◌∷◌, ◌++◌, length, map, codes, Ok, ◌↔◌, All, IsSome, MatchOption}
 use Rattle.std.specs.Fmt.{decimal}
-use Rattle.std.specs.List.{fold}
-use Rattle.damon_types.specs.declared.attrs.Attrs.{Attrs}
+use Rattle.std.specs.Option.{option_map_or, unwrap_or}
 use Rattle.damon_types.specs.declared.range.RangeSpec.{RangeSpec}
+use Rattle.damon_types.specs.declared.scheme.SlotChange.{SlotChange}
 use Rattle.damon_types.specs.declared.scheme.Version.{Version}
 use Rattle.damon_types.specs.Space.{checked}
 use Rattle.live_commit.specs.Checked.{checked_limits}
@@ -12,15 +12,17 @@ use Rattle.live_commit.specs.Setup.{SetupValue}
 use Rattle.live_commit.specs.Slots.{checked_slots}
 use Rattle.target_ranges.specs.Checked.{checked_ranges}
 use Rattle.target_ranges.specs.Made.{ranges_of}
-use Rattle.script_lines.specs.declared.part.Part.{Part}
 use Rattle.damon_control.specs.declared.grammar.Grammar.TheVariants.{OfScript}
 use Rattle.damon_control.specs.declared.script.TheConstants.{MAX_WORK}
-use Rattle.script_lines.specs.Body.{no_commit, with_part}
 use Rattle.script_lines.specs.Command.{CommandValue, Commit, work_of}
 use Rattle.script_lines.specs.Lines.{lines_text}
-use Rattle.script_lines.specs.Laws.{GivesScheme, IsCommand, IsPart, may_come}
+use Rattle.script_lines.specs.Fits.{FitsChange}
+use Rattle.script_lines.specs.Laws.{IsCommand}
+use Rattle.script_lines.specs.SchemeLine.{SaysScheme, named}
 use Rattle.damon_control.specs.Script.{ScriptValue, header_of, script_of}
-use Rattle.script_lines.specs.Spelling.{spelled_attrs, spelled_range, spelled_target}
+use Rattle.script_lines.specs.Spelling.{spelled_attrs, spelled_cost, spelled_range, spelled_target}
+use Rattle.damon_control.specs.WriteBack.{FitsCommit, IsSpelledIn, SpellsRanges}
+use Rattle.damon_control.specs.Written.{number_lines}
 
 -- the lines of groups, one group after another
 abbrev pub all_lines : List (List (List ℕ)) → List (List ℕ)
@@ -33,10 +35,9 @@ EachSays says [] [] = Unit {0}
 EachSays says (line ∷ lines) (value ∷ values) = says line value × EachSays says lines values
 EachSays says _ _ = ⊥
 
--- the lines of the numbers of a setup
-abbrev pub number_lines : ℕ → ℕ → ℕ → Attrs → List (List ℕ)
-number_lines seed unit cap attrs =
-    (codes "seed " ++ decimal seed) ∷ (codes "unit " ++ decimal unit) ∷ (codes "cap " ++ decimal cap) ∷ spelled_attrs attrs ∷ []
+-- a line says what becomes of a slot: the scheme that it gets, or that it is dropped
+abbrev pub SaysSlot : List ℕ → SlotChange → Type 0
+SaysSlot line c = MatchOption c.scheme (line ≡ codes "drop " ++ decimal c.slot) (SaysScheme line c.slot)
 
 -- lines say a seed and a setup: a line for each number, target, range and scheme, in this order and each within its limits
 pub record SaySetup (lines : List (List ℕ)) (seed : ℕ) (setup : SetupValue) : Type 0 where
@@ -52,23 +53,24 @@ pub record SaySetup (lines : List (List ℕ)) (seed : ℕ) (setup : SetupValue) 
   pub some_range : 1 ≤ length specs
   pub few_ranges : length specs ≤ setup.attrs.max
   pub watched : ranges_of setup.space specs ≡ setup.ranges
+  pub set : All (λ c. IsSome c.scheme) setup.slots
   pub slots : checked_slots setup.version setup.slots ≡ Ok tt
-  pub give : EachSays (GivesScheme setup.version) schemes setup.slots
+  pub changes : All FitsChange setup.slots
+  pub give : EachSays SaysSlot schemes setup.slots
 
--- whether parts may follow those of a commit, one after another
-abbrev pub come_in_order : Version → CommitValue → List Part → Bool
-come_in_order version commit [] = true
-come_in_order version commit (part ∷ parts) =
-    may_come version commit part && come_in_order version (with_part commit part) parts
-
--- lines of a version say a commit: its parts stand in order between `commit` and `apply`, a line each
-pub record AreCommit (version : Version) (lines : List (List ℕ)) (commit : CommitValue) : Type 0 where
-  pub between : List (List ℕ)
-  pub parts : List Part
-  pub spelled : lines ≡ codes "commit" ∷ (between ++ codes "apply" ∷ [])
-  pub each : EachSays (IsPart version) between parts
-  pub in_order : come_in_order version no_commit parts ≡ true
-  pub made : fold with_part no_commit parts ≡ commit
+-- lines say a commit that a text of a version can spell: attributes, ranges, a slot, a metric and a cost between `commit` and `apply`
+pub record AreCommit (version : Version) (lines : List (List ℕ)) (c : CommitValue) : Type 0 where
+  pub slot : List (List ℕ)
+  pub spelled :
+      lines
+      ≡ codes "commit"
+      ∷ (named [] spelled_attrs c.attrs
+      ++ (map spelled_range (unwrap_or c.ranges [])
+      ++ (slot ++ (named (codes "metric ") decimal c.metric ++ (named [] spelled_cost c.cost ++ codes "apply" ∷ [])))))
+  pub says_slot : EachSays SaysSlot slot (option_map_or (λ change. change ∷ []) c.slot [])
+  pub fits : FitsCommit c
+  pub some_range : SpellsRanges c
+  pub in_version : IsSpelledIn version c
 
 -- lines after a setup say a command: one line, or those of a commit
 abbrev pub SayCommand : SetupValue → List (List ℕ) → CommandValue → Type 0

@@ -1,6 +1,7 @@
 -- The one spelling of a setup and of a commit: the lines that are written of them.
 use Rattle.std.specs.Prelude.{ℕ, ◌+◌, ◌*◌, List, [], ◌∷◌, ◌++◌, map, Option, Some, None, codes}
 use Rattle.std.specs.Fmt.{decimal}
+use Rattle.damon_types.specs.declared.attrs.Attrs.{Attrs}
 use Rattle.damon_types.specs.declared.range.Range.{Range}
 use Rattle.damon_types.specs.declared.range.RangeSpec.{RangeSpec}
 use Rattle.damon_types.specs.declared.space.TheConstants.{PAGE_SIZE}
@@ -13,7 +14,11 @@ use Rattle.script_lines.specs.declared.part.Part.TheVariants.{Attrs as AttrsPart
 use Rattle.script_lines.specs.Spelling.{spelled_attrs, spelled_cost, spelled_range, spelled_target}
 use Rattle.script_lines.specs.Lines.{lines_text}
 use Rattle.script_lines.specs.WrittenLine.{change_text}
-use Rattle.damon_control.specs.Text.{number_lines}
+
+-- the lines of the numbers of a setup
+abbrev pub number_lines : ℕ → ℕ → ℕ → Attrs → List (List ℕ)
+number_lines seed unit cap attrs =
+    (codes "seed " ++ decimal seed) ∷ (codes "unit " ++ decimal unit) ∷ (codes "cap " ++ decimal cap) ∷ spelled_attrs attrs ∷ []
 
 -- the addresses of a range: that of its first page, and that after its last
 abbrev pub spec_of : List Target → Range → RangeSpec

@@ -13,7 +13,7 @@ use damon_types::pages_rise;
 use line_text::{parts_are_pieces, pieces_are_parts};
 use live_commit::slots_are_checked_in_turn;
 use script_lines::{
-    accepted_lines_are_within, body_lines_are_spelled, schemes_are_spelled,
+    accepted_lines_are_within, body_lines_are_spelled, schemes_are_said, schemes_are_spelled,
     setup_lines_are_spelled, spelled_lines_are_read, written_changes_are_read_back,
 };
 use target_ranges::{fault_stays, made_in_order, next_decides};
@@ -26,6 +26,7 @@ pub(crate) fn lines_have_laws()
     pieces_are_parts();
     setup_lines_are_spelled();
     schemes_are_spelled();
+    schemes_are_said();
     body_lines_are_spelled();
     accepted_lines_are_within();
     spelled_lines_are_read();

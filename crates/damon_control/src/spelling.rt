@@ -7,10 +7,9 @@ ghost use Rattle.live_commit.specs.SetupView.{value_of};
 ghost use Rattle.script_lines.specs.Kept.{KeepsFront};
 ghost use Rattle.script_lines.specs.Spelling.{spelled_range, spelled_target};
 ghost use Rattle.script_lines.specs.Lines.{lines_text};
-ghost use Rattle.damon_control.specs.Text.{number_lines};
 ghost use Rattle.damon_control.specs.WriteBack.{SpellsRanges};
 ghost use Rattle.script_lines.specs.WrittenLine.{change_text};
-ghost use Rattle.damon_control.specs.Written.{commit_text, part_given, part_text, ranges_given, setup_text, spec_of};
+ghost use Rattle.damon_control.specs.Written.{commit_text, number_lines, part_given, part_text, ranges_given, setup_text, spec_of};
 ghost use Rattle.script_lines.specs.declared.part.Part.TheVariants.{Attrs as attrs_part, Slot as slot_part, Metric as metric_part, Cost as cost_part};
 
 use damon_types::{

@@ -23,3 +23,4 @@ pub mod TouchFront
 mod SpellExamples
 pub mod WrittenKeys
 pub mod WrittenSchemes
+pub mod SaidSchemes

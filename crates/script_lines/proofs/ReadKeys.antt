@@ -27,8 +27,8 @@ use Rattle.script_lines.specs.Keys.{answer_of, filter_of, key_and_value, key_nam
 use Rattle.script_lines.specs.Laws.{WordLaws}
 use Rattle.script_lines.specs.Refusal.{◌>>=◌}
 use Rattle.script_lines.specs.Separators.{colon, comma, dash, equals_sign}
-use Rattle.script_lines.specs.Spelling.{kind_name, kind_value, spelled_answer, spelled_filter, spelled_prefer, spelled_setting, spelled_side, spelled_span}
-use Rattle.script_lines.proofs.SpelledParts.{spelled_marks, spelled_quota, spelled_weights}
+use Rattle.script_lines.specs.Spelling.{kind_name, kind_value, spelled_answer, spelled_filter, spelled_marks, spelled_prefer, spelled_setting, spelled_side, spelled_span, spelled_weights}
+use Rattle.script_lines.proofs.SpelledParts.{spelled_quota}
 use Rattle.script_lines.specs.Words.{byte_address, number_8, number_16, number_32, number_64}
 use Rattle.script_lines.specs.Settings.{key_of}
 use Rattle.script_lines.proofs.PlainWords.{IsField, is_word_byte, address_field, decimal_field, field_8, field_16, field_32, field_piece, is_field_byte, lacks, list_all-both, list_all-weaker}

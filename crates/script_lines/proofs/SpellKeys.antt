@@ -19,8 +19,8 @@ use Rattle.script_lines.specs.declared.keys.Setting.TheVariants.{Size as SizeOf,
 use Rattle.script_lines.specs.Keys.{addr_of, answer_of, filter_of, key_and_value, key_named, kind_of, marks_of, plain_name, prefer_of, quota_of, setting_for, setting_of, span_in, time_of, weights_of}
 use Rattle.script_lines.specs.Laws.{ReadsOnly, WordLaws}
 use Rattle.script_lines.specs.Refusal.{◌>>=◌}
-use Rattle.script_lines.specs.Spelling.{kind_name, kind_value, spelled_answer, spelled_filter, spelled_prefer, spelled_setting, spelled_side, spelled_span}
-use Rattle.script_lines.proofs.SpelledParts.{spelled_marks, spelled_quota, spelled_weights}
+use Rattle.script_lines.specs.Spelling.{kind_name, kind_value, spelled_answer, spelled_filter, spelled_marks, spelled_prefer, spelled_setting, spelled_side, spelled_span, spelled_weights}
+use Rattle.script_lines.proofs.SpelledParts.{spelled_quota}
 use Rattle.script_lines.specs.Words.{byte_address, number_8, number_16, number_32, number_64}
 use Rattle.script_lines.proofs.SpellSteps.{bind-Ok, ok_or-Ok}
 use Rattle.script_lines.proofs.SpellWords.{byte_address-Ok, number_8-Ok, number_16-Ok, number_32-Ok, number_64-Ok, one_part-Ok, same_or_other, three_parts-Ok, two_parts-Ok}

@@ -25,6 +25,11 @@ pub only_if-Ok : {A : Type 0} (test : Bool) (kind : ScriptKind) (value x : A) �
 only_if-Ok true kind value x e = (refl, cc)
 only_if-Ok false kind value x e = absurd cc
 
+-- a branch that is no fault is the first one
+pub if-Ok : {A : Type 0} (test : Bool) (kind : ScriptKind) (value x : A) → (if test then Ok value else Err kind) ≡ Ok x → value ≡ x
+if-Ok true kind value x e = cc
+if-Ok false kind value x e = absurd cc
+
 -- the first branch, where the test is true
 pub chosen : {R : Type 0} (test : Bool) (here others x : R) → test ≡ true → here ≡ x → (if test then here else others) ≡ x
 chosen test here others x passes is = ap (λ t. if t then here else others) passes ∙ is

@@ -5,9 +5,7 @@ use Rattle.damon_types.specs.declared.attrs.Attrs.{Attrs}
 use Rattle.damon_types.specs.declared.range.RangeSpec.{RangeSpec}
 use Rattle.damon_types.specs.declared.scheme.Action.{Action}
 use Rattle.damon_types.specs.declared.scheme.CostPart.{CostPart}
-use Rattle.damon_types.specs.declared.scheme.Marks.{Marks}
 use Rattle.damon_types.specs.declared.scheme.Quota.{Quota}
-use Rattle.damon_types.specs.declared.scheme.Weights.{Weights}
 use Rattle.damon_types.specs.declared.space.Target.{Target}
 use Rattle.line_text.specs.Address.{spelled_address}
 use Rattle.script_lines.specs.declared.keys.Setting.{Setting}
@@ -45,11 +43,3 @@ spelled_sweep target from to = spaced (codes "sweep" ∷ decimal target ∷ spel
 -- `BYTES,RESET`, without the time
 abbrev pub spelled_quota : Quota → List ℕ
 spelled_quota q = listed (decimal q.bytes ∷ decimal q.reset ∷ [])
-
--- `SIZE,COUNT,AGE`
-abbrev pub spelled_weights : Weights → List ℕ
-spelled_weights w = listed (decimal w.size ∷ decimal w.count ∷ decimal w.age ∷ [])
-
--- `HIGH,MID,LOW`
-abbrev pub spelled_marks : Marks → List ℕ
-spelled_marks m = listed (decimal m.high ∷ decimal m.mid ∷ decimal m.low ∷ [])

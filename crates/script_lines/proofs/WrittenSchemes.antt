@@ -28,7 +28,7 @@ use Rattle.script_lines.specs.WrittenLine.{are_even, change_text, is_any, marks_
 
 -- ---- the settings fit
 
-fit-append : (a b : List Setting) → AllByRecursion FitsSetting a → AllByRecursion FitsSetting b → AllByRecursion FitsSetting (a ++ b)
+pub fit-append : (a b : List Setting) → AllByRecursion FitsSetting a → AllByRecursion FitsSetting b → AllByRecursion FitsSetting (a ++ b)
 fit-append [] b first second = second
 fit-append (s ∷ a) b first second = (first.0, fit-append a b first.1 second)
 
@@ -40,7 +40,7 @@ time-fit : (time : Option ℕ) → IfSome time (λ t. t < 2 ^ 64) → AllByRecur
 time-fit None fits = tt
 time-fit (Some time) fits = (fits, tt)
 
-quota-fit : (quota : Option Quota) → IfSome quota FitsQuota → AllByRecursion FitsSetting (quota_given quota)
+pub quota-fit : (quota : Option Quota) → IfSome quota FitsQuota → AllByRecursion FitsSetting (quota_given quota)
 quota-fit None fits = tt
 quota-fit (Some quota) fits = ((fits.0, fits.1, refl), time-fit quota.time fits.2)
 
@@ -48,11 +48,11 @@ prefer-fit : (prefer : Prefer) → AllByRecursion FitsSetting (prefer_given pref
 prefer-fit Hot = tt
 prefer-fit Cold = (tt, tt)
 
-marks-fit : (marks : Option Marks) → IfSome marks (λ m. FitsSetting (MarksOf m)) → AllByRecursion FitsSetting (marks_given marks)
+pub marks-fit : (marks : Option Marks) → IfSome marks (λ m. FitsSetting (MarksOf m)) → AllByRecursion FitsSetting (marks_given marks)
 marks-fit None fits = tt
 marks-fit (Some marks) fits = (fits, tt)
 
-filters-fit : (filters : List Filter) → All (λ f. FitsKind f.kind) filters → AllByRecursion FitsSetting (map (λ f. FilterOf f) filters)
+pub filters-fit : (filters : List Filter) → All (λ f. FitsKind f.kind) filters → AllByRecursion FitsSetting (map (λ f. FilterOf f) filters)
 filters-fit [] each = tt
 filters-fit (f ∷ filters) each = (All-head (λ g. FitsKind g.kind) f filters each, filters-fit filters (All-tail (λ g. FitsKind g.kind) f filters each))
 
@@ -78,19 +78,19 @@ scheme-fit s fits =
 -- ---- and stand in order
 
 -- the least place of a key after this one
-abbrev next_place : Key → ℕ
+abbrev pub next_place : Key → ℕ
 next_place FilterKey = 8
 next_place key = key_place key + 1
 
 -- settings from a place on, in order; a time stands at its own place alone, directly after the quota
-abbrev From : Version → ℕ → List Setting → Type 0
+abbrev pub From : Version → ℕ → List Setting → Type 0
 From version place [] = Unit {0}
 From version place (s ∷ settings) =
     (place ≤ key_place (key_of s))
     × (key_of s ≡ TimeKey → (version ≡ Two) × (place ≡ 4))
     × From version (next_place (key_of s)) settings
 
-from-earlier : (version : Version) (early late : ℕ) (settings : List Setting) → early ≤ late → (late ≡ 4 → ⊥) → From version late settings → From version early settings
+pub from-earlier : (version : Version) (early late : ℕ) (settings : List Setting) → early ≤ late → (late ≡ 4 → ⊥) → From version late settings → From version early settings
 from-earlier version early late [] less other all = tt
 from-earlier version early late (s ∷ settings) less other all = (omega (arith, less, all.0), (λ is. absurd (other (all.1 is).1)), all.2)
 
@@ -110,19 +110,19 @@ from-time version bytes reset None rest sound after = from-earlier version 4 5 r
 from-time Two bytes reset (Some time) rest sound after = (omega arith, (λ is. (refl, refl)), after)
 from-time One bytes reset (Some time) rest sound after = absurd cc
 
-from-quota : (version : Version) (quota : Option Quota) (rest : List Setting) → checked_time version quota ≡ Ok tt → From version 5 rest → From version 3 (quota_given quota ++ rest)
+pub from-quota : (version : Version) (quota : Option Quota) (rest : List Setting) → checked_time version quota ≡ Ok tt → From version 5 rest → From version 3 (quota_given quota ++ rest)
 from-quota version None rest sound after = from-earlier version 3 5 rest (omega arith) (λ e. omega (arith, e)) after
 from-quota version (Some quota) rest sound after = (omega arith, (λ is. absurd cc), from-time version quota.bytes quota.reset quota.time rest sound after)
 
-from-prefer : (version : Version) (prefer : Prefer) (rest : List Setting) → From version 7 rest → From version 6 (prefer_given prefer ++ rest)
+pub from-prefer : (version : Version) (prefer : Prefer) (rest : List Setting) → From version 7 rest → From version 6 (prefer_given prefer ++ rest)
 from-prefer version Hot rest after = from-earlier version 6 7 rest (omega arith) (λ e. omega (arith, e)) after
 from-prefer version Cold rest after = (omega arith, (λ is. absurd cc), after)
 
-from-marks : (version : Version) (marks : Option Marks) (rest : List Setting) → From version 8 rest → From version 7 (marks_given marks ++ rest)
+pub from-marks : (version : Version) (marks : Option Marks) (rest : List Setting) → From version 8 rest → From version 7 (marks_given marks ++ rest)
 from-marks version None rest after = from-earlier version 7 8 rest (omega arith) (λ e. omega (arith, e)) after
 from-marks version (Some marks) rest after = (omega arith, (λ is. absurd cc), after)
 
-from-filters : (version : Version) (filters : List Filter) → From version 8 (map (λ f. FilterOf f) filters)
+pub from-filters : (version : Version) (filters : List Filter) → From version 8 (map (λ f. FilterOf f) filters)
 from-filters version [] = tt
 from-filters version (f ∷ filters) = (omega arith, (λ is. absurd cc), from-filters version filters)
 
@@ -145,7 +145,7 @@ scheme-from version s sound =
     (from-unless version 5 (are_even s.weights) (WeightsOf s.weights) _ before_weights
     (from-prefer version s.prefer _ (from-marks version s.marks _ (from-filters version s.filters))))))))
 
-filter_follows : (later : Setting) → 8 ≤ key_place (key_of later) → key_of later ≡ FilterKey
+pub filter_follows : (later : Setting) → 8 ≤ key_place (key_of later) → key_of later ≡ FilterKey
 filter_follows (SizeOf x) most = absurd (omega (arith, most))
 filter_follows (CountOf x) most = absurd (omega (arith, most))
 filter_follows (AgeOf x) most = absurd (omega (arith, most))
@@ -189,7 +189,7 @@ from-after version earlier (later ∷ more) all = (
   from-after version later more all.2,
 )
 
-from-in_order : (version : Version) (settings : List Setting) → From version 0 settings → AreAfter version None settings
+pub from-in_order : (version : Version) (settings : List Setting) → From version 0 settings → AreAfter version None settings
 from-in_order version [] all = tt
 from-in_order version (s ∷ more) all = (record { comes_later = tt; timed = λ is. absurd (omega (arith, (all.1 is).1)) }, from-after version s more all.2)
 
@@ -245,7 +245,7 @@ time_settled : (s : Scheme) (q : Quota) (time : Option ℕ) (rest : List Setting
 time_settled s q None rest = refl
 time_settled s q (Some time) rest = refl
 
-quota_settled : (s : Scheme) (quota : Option Quota) (rest : List Setting) → s.quota ≡ None → settled s (quota_given quota ++ rest) ≡ settled (record s { quota = quota }) rest
+pub quota_settled : (s : Scheme) (quota : Option Quota) (rest : List Setting) → s.quota ≡ None → settled s (quota_given quota ++ rest) ≡ settled (record s { quota = quota }) rest
 quota_settled s None rest is = ap (λ (q : Option Quota). settled (record s { quota = q }) rest) is
 quota_settled s (Some quota) rest is = time_settled s quota quota.time rest
 
@@ -261,11 +261,11 @@ prefer_settled : (s : Scheme) (prefer : Prefer) (rest : List Setting) → s.pref
 prefer_settled s Hot rest is = ap (λ (p : Prefer). settled (record s { prefer = p }) rest) is
 prefer_settled s Cold rest is = refl
 
-marks_settled : (s : Scheme) (marks : Option Marks) (rest : List Setting) → s.marks ≡ None → settled s (marks_given marks ++ rest) ≡ settled (record s { marks = marks }) rest
+pub marks_settled : (s : Scheme) (marks : Option Marks) (rest : List Setting) → s.marks ≡ None → settled s (marks_given marks ++ rest) ≡ settled (record s { marks = marks }) rest
 marks_settled s None rest is = ap (λ (m : Option Marks). settled (record s { marks = m }) rest) is
 marks_settled s (Some marks) rest is = refl
 
-filters_settled : (s : Scheme) (before filters : List Filter) → length (before ++ filters) ≤ 8
+pub filters_settled : (s : Scheme) (before filters : List Filter) → length (before ++ filters) ≤ 8
     → settled (record s { filters = before }) (map (λ f. FilterOf f) filters) ≡ Ok (record s { filters = before ++ filters })
 filters_settled s before [] few = ap (λ (fs : List Filter). Ok (record s { filters = fs })) (sym (append-nil before))
 filters_settled s before (f ∷ filters) few =

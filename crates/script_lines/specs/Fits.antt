@@ -57,8 +57,8 @@ pub record FitsScheme (s : Scheme) : Type 0 where
   pub count : FitsSpan s.pattern.count
   pub age : FitsSpan s.pattern.age
   pub quota : IfSome s.quota FitsQuota
-  pub weights : FitsSetting (WeightsOf s.weights)
-  pub marks : IfSome s.marks (λ m. FitsSetting (MarksOf m))
+  pub weights : (s.weights.size < 2 ^ 16) × (s.weights.count < 2 ^ 16) × (s.weights.age < 2 ^ 16)
+  pub marks : IfSome s.marks (λ m. (m.high < 2 ^ 32) × (m.mid < 2 ^ 32) × (m.low < 2 ^ 32))
   pub filters : All (λ f. FitsKind f.kind) s.filters
   pub few : length s.filters ≤ MAX_FILTERS
 

@@ -16,6 +16,7 @@ pub mod Spelling
 pub mod Lines
 pub mod Fits
 pub mod Laws
+pub mod SchemeLine
 pub mod ReadBack
 pub mod Within
 pub mod Touches

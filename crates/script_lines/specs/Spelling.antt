@@ -9,9 +9,11 @@ use Rattle.damon_types.specs.declared.filter.FilterKind.TheVariants.{Addr, Targe
 use Rattle.damon_types.specs.declared.range.RangeSpec.{RangeSpec}
 use Rattle.damon_types.specs.declared.scheme.Action.{Action}
 use Rattle.damon_types.specs.declared.scheme.CostPart.{CostPart}
+use Rattle.damon_types.specs.declared.scheme.Marks.{Marks}
 use Rattle.damon_types.specs.declared.scheme.Prefer.{Prefer}
 use Rattle.damon_types.specs.declared.scheme.Prefer.TheVariants.{Hot, Cold}
 use Rattle.damon_types.specs.declared.scheme.Span.{Span}
+use Rattle.damon_types.specs.declared.scheme.Weights.{Weights}
 use Rattle.damon_types.specs.declared.space.Target.{Target}
 use Rattle.line_text.specs.Address.{spelled_address}
 use Rattle.line_text.specs.Parts.{joined}
@@ -46,6 +48,14 @@ spelled_cost cost = spaced (codes "cost" ∷ decimal cost.slot ∷ decimal cost.
 -- `LOW,HIGH`
 abbrev pub spelled_span : Span → List ℕ
 spelled_span s = listed (decimal s.low ∷ decimal s.high ∷ [])
+
+-- `SIZE,COUNT,AGE`
+abbrev pub spelled_weights : Weights → List ℕ
+spelled_weights w = listed (decimal w.size ∷ decimal w.count ∷ decimal w.age ∷ [])
+
+-- `HIGH,MID,LOW`
+abbrev pub spelled_marks : Marks → List ℕ
+spelled_marks m = listed (decimal m.high ∷ decimal m.mid ∷ decimal m.low ∷ [])
 
 -- `hot` or `cold`
 abbrev pub spelled_prefer : Prefer → List ℕ
@@ -86,9 +96,9 @@ spelled_setting (CountOf span) = codes "count=" ++ spelled_span span
 spelled_setting (AgeOf span) = codes "age=" ++ spelled_span span
 spelled_setting (QuotaOf quota) = codes "quota=" ++ listed (decimal quota.bytes ∷ decimal quota.reset ∷ [])
 spelled_setting (TimeOf time) = codes "time=" ++ decimal time
-spelled_setting (WeightsOf w) = codes "weights=" ++ listed (decimal w.size ∷ decimal w.count ∷ decimal w.age ∷ [])
+spelled_setting (WeightsOf w) = codes "weights=" ++ spelled_weights w
 spelled_setting (PreferOf prefer) = codes "prefer=" ++ spelled_prefer prefer
-spelled_setting (MarksOf m) = codes "marks=" ++ listed (decimal m.high ∷ decimal m.mid ∷ decimal m.low ∷ [])
+spelled_setting (MarksOf m) = codes "marks=" ++ spelled_marks m
 spelled_setting (FilterOf filter) = codes "filter=" ++ spelled_filter filter
 
 -- `scheme SLOT ACTION KEYS`

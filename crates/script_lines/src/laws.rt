@@ -12,6 +12,7 @@ ghost use Rattle.script_lines.specs.Head.{attrs_line, cap_line, one_target, rang
 ghost use Rattle.script_lines.specs.Keys.{setting_of};
 ghost use Rattle.script_lines.specs.Laws.{NamesActions, ReadsOnly, ReadsOnlyCommands, ReadsOnlyParts, ReadsOnlySchemes, ReadsOnlySweeps, ReadsOnlyTouches, ReadsOnlyWords, WordLaws};
 ghost use Rattle.script_lines.specs.ReadBack.{LinesReadBack};
+ghost use Rattle.script_lines.specs.SchemeLine.{SchemesAreSaid};
 ghost use Rattle.script_lines.specs.Spelling.{spelled_attrs, spelled_range, spelled_setting, spelled_target};
 ghost use Rattle.script_lines.specs.Within.{LinesAreWithin};
 ghost use Rattle.script_lines.specs.WriteBack.{ChangesAreReadBack};
@@ -72,6 +73,12 @@ pub fn schemes_are_spelled()
 {
     words_have_laws();
 }
+
+/// A line whose settings, one after another, turn the action's default into a scheme says that scheme by
+/// its keys, and a line that says a scheme by its keys has such settings.
+pub fn schemes_are_said()
+    ensures { SchemesAreSaid }
+{}
 
 /// A line of a body that is accepted says the command that is read from it. A line of a commit that
 /// is accepted says the part that is read from it, and that part may come there. A line of one word is

@@ -7,6 +7,7 @@ returns c =
     record {
       back = commit_read_back (record {
         lines = lines.back;
+        said = lines.said;
         one_more = c.next_decides.ensures.next;
         keeps_fault = c.fault_stays.ensures.first;
         apart = lines.apart;

@@ -9,6 +9,7 @@ returns c =
       spelled = head_spelled (record { lines = lines; ranges = ranges; slots = c.slots_are_checked_in_turn.ensures.next });
       back = head_read_back (record {
         lines = lines.back;
+        said = lines.said;
         one_more = ranges;
         keeps_fault = c.fault_stays.ensures.first;
         apart = lines.apart;

@@ -23,5 +23,6 @@ returns c =
         part = body.parts;
         within = c.accepted_lines_are_within.ensures.within;
         back = c.spelled_lines_are_read.ensures.lines;
+        said = c.schemes_are_said.ensures;
       };
     }

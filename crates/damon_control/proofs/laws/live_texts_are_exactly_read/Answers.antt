@@ -9,6 +9,6 @@ returns c =
     record {
       texts = λ text v. (
         live_of-IsLiveText (record { lines = lines; ranges = ranges; slots = c.slots_are_checked_in_turn.ensures.next }) text v,
-        IsLiveText-live_of (record { lines = lines.back; one_more = ranges; keeps_fault = c.fault_stays.ensures.first; apart = lines.apart }) text v,
+        IsLiveText-live_of (record { lines = lines.back; said = lines.said; one_more = ranges; keeps_fault = c.fault_stays.ensures.first; apart = lines.apart }) text v,
       );
     }

@@ -7,6 +7,7 @@ returns c =
     let lines = c.lines_have_laws.ensures.laws in
     let laws : LeadLaws = record {
       lines = lines.back;
+      said = lines.said;
       one_more = c.next_decides.ensures.next;
       keeps_fault = c.fault_stays.ensures.first;
       apart = lines.apart;

@@ -9,6 +9,6 @@ returns c =
     record {
       texts = λ text s. (
         script_of-IsText (record { lines = lines; ranges = ranges; slots = c.slots_are_checked_in_turn.ensures.next }) text s,
-        IsText-script_of (record { lines = lines.back; one_more = ranges; keeps_fault = c.fault_stays.ensures.first; apart = lines.apart }) text s,
+        IsText-script_of (record { lines = lines.back; said = lines.said; one_more = ranges; keeps_fault = c.fault_stays.ensures.first; apart = lines.apart }) text s,
       );
     }

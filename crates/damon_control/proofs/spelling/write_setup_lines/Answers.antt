@@ -4,9 +4,8 @@ use Rattle.damon_types.specs.declared.scheme.SlotChange.{SlotChange}
 use Rattle.live_commit.specs.SetupView.{value_of}
 use Rattle.script_lines.specs.Spelling.{spelled_range, spelled_target}
 use Rattle.script_lines.specs.Lines.{lines_text}
-use Rattle.damon_control.specs.Text.{number_lines}
 use Rattle.script_lines.specs.WrittenLine.{change_text}
-use Rattle.damon_control.specs.Written.{setup_text, spec_of}
+use Rattle.damon_control.specs.Written.{number_lines, setup_text, spec_of}
 use Rattle.damon_control.proofs.WrittenLemmas.{lines_added}
 use Rattle.damon_control.proofs.spelling.write_setup_lines.Goals as goal
 
