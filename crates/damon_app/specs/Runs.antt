@@ -2,8 +2,9 @@
 use Rattle.std.specs.Prelude.{◌≡◌, ◌⊎◌, ℕ, List, Some}
 use Rattle.damon_control.specs.Script.{ScriptValue}
 use Rattle.damon_control.specs.Text.{IsText}
-use Rattle.script_run.specs.BoundAlong.{IsBoundAlong, IsBoundWith}
-use Rattle.script_run.specs.Choices.{ChoosesBestAlong, ChoosesBestWith}
+use Rattle.script_run.specs.BoundAlong.{IsBoundAlong, IsBoundFrom, IsBoundWith}
+use Rattle.script_run.specs.Choices.{ChoosesBestAlong, ChoosesBestFrom, ChoosesBestWith}
+use Rattle.script_run.specs.ScriptEvents.{script_events}
 use Rattle.quota_goal.specs.declared.goals.Goal.{Goal}
 use Rattle.trace_gen.specs.Gen.{gen}
 use Rattle.reclaim_run.specs.Along.{IsReclaimedRun}
@@ -13,11 +14,11 @@ use Rattle.damon_app.specs.GoalWords.{goals_of}
 
 -- the events of each script that a text spells fit, and the states along them are bound
 abbrev pub EachRunIsBound : Type 0
-EachRunIsBound = (text : List ℕ) (s : ScriptValue) → IsText text s → IsBoundAlong s
+EachRunIsBound = (text : List ℕ) (s : ScriptValue) → IsText text s → IsBoundFrom s.setup (script_events s)
 
 -- each aggregation along such a script applies each active scheme to the best choice within what is left of its quota
 abbrev pub EachRunChoosesBest : Type 0
-EachRunChoosesBest = (text : List ℕ) (s : ScriptValue) → IsText text s → ChoosesBestAlong s
+EachRunChoosesBest = (text : List ℕ) (s : ScriptValue) → IsText text s → ChoosesBestFrom s.setup (script_events s)
 
 -- the same of the generated script of each number
 pub record GeneratedRunsAreBound : Type 0 where

@@ -13,6 +13,7 @@ pub(crate) fn each_run_is_bound()
     damon_control::texts_are_exactly_read();
     damon_control::scripts_are_sound();
     script_run::each_script_is_bound();
+    script_run::events_are_alone();
 }
 
 // Each aggregation along each run applies schemes to the best choices.
@@ -22,6 +23,7 @@ pub(crate) fn each_run_chooses_best()
     damon_control::texts_are_exactly_read();
     damon_control::scripts_are_sound();
     script_run::each_choice_is_best();
+    script_run::events_are_alone();
 }
 
 // Both hold of generated scripts too.

@@ -7,8 +7,7 @@ ghost use Rattle.script_lines.specs.Limits.{AreCommandsWithin};
 ghost use Rattle.damon_control.specs.ScriptView.{said_by};
 ghost use Rattle.text_io.specs.Given.{GaveOver};
 ghost use Rattle.text_io.specs.Taken.{WritesPart};
-ghost use Rattle.snapshot_print.specs.Lines.{as_text};
-ghost use Rattle.script_run.specs.Report.{report};
+ghost use Rattle.script_run.specs.TextReport.{text_report};
 ghost use Rattle.damon_admin.specs.Laws.{ContextsAreApart, ContextsAreBound, VoicesAreReports};
 ghost use Rattle.damon_app.specs.Request.{AskToReplay, ReadsInput, ReadsJournal, asked};
 ghost use Rattle.damon_app.specs.Contexts.{Administers};
@@ -37,6 +36,7 @@ use damon_admin::{contexts_are_apart, contexts_are_bound, voices_are_reports};
 use damon_control::{MAX_WORK, Script, read_script, texts_are_exactly_read};
 use damon_journal::{Status, rejected_texts_are_unlawful, verify};
 use damon_types::{Sink, Source};
+use script_run::reports_are_text;
 use std::alloc::Global;
 use text_io::{INPUT_LIMIT, read_all, write_all};
 
@@ -56,7 +56,7 @@ pub fn replay_main<S: Source, K: Sink>(
 ) -> Status
     // With `replay`, what was written is the report of the script that was read.
     ensures ok { result ≡ Status.Ok → AskToReplay words.now → IfSome (S.left source.old)
-        (λ bytes. Reports (report as_text) bytes (K.taken sink.old) (K.taken sink.new)) }
+        (λ bytes. Reports text_report bytes (K.taken sink.old) (K.taken sink.new)) }
 
     // It is what the words ask for, whatever they are: the report of a script in its form, over a model of
     // resident pages or with quotas that follow goals, the line of the lawful journal whose text was read,
@@ -125,7 +125,9 @@ pub fn replay_main<S: Source, K: Sink>(
     ensures prefix { IsBegun (asked words.now) (sink.new ≡ sink.old)
         (S.left source.old) (K.taken sink.old) (K.taken sink.new) }
 {
-    // For their clauses alone: what holds of every script, and that no lawful journal is rejected.
+    // For their clauses alone: that a report is the text of the states along its run, what holds of every
+    // script, and that no lawful journal is rejected.
+    reports_are_text();
     each_run_is_bound();
     each_run_chooses_best();
     generated_runs_are_bound();

@@ -2,7 +2,9 @@ pub mod Part
 pub mod Going
 pub mod Unfold
 pub mod Parts
+pub mod ScriptEvents
 pub mod Report
+pub mod TextReport
 pub mod Callbacks
 pub mod Calls
 pub mod Course

@@ -2,6 +2,8 @@
 ghost use Rattle.script_run.specs.BoundAlong.{EachRunIsBound, EachScriptIsBound};
 ghost use Rattle.script_run.specs.Choices.{EachChoiceIsBest, EachRunChoosesBest};
 ghost use Rattle.script_run.specs.Reaching.{ReachTheirPhase};
+ghost use Rattle.script_run.specs.ScriptEvents.{EventsAreAlone};
+ghost use Rattle.script_run.specs.TextReport.{ReportsAreText};
 
 /// What holds of each script within its limits holds with all callbacks whose events fit where they are
 /// put in: the events of the script with these fit from the opening of its setup, each state to which a
@@ -39,3 +41,17 @@ pub fn passes_reach_their_phase()
 {
     damon_core::reached_states_are_bound();
 }
+
+/// The text that is printed of the run of a script is the one that the states along it say. No code is
+/// run for it.
+pub fn reports_are_text()
+    ensures { ReportsAreText }
+{
+    snapshot_print::texts_are_of_states();
+}
+
+/// The events of a script, by the moments along its run, are those of its run without callbacks. No code
+/// is run for it.
+pub fn events_are_alone()
+    ensures { EventsAreAlone }
+{}

@@ -94,7 +94,7 @@ own_first : (slot : ℕ) (own runs : List AppliedRun) → RunsOf slot own → Ru
 own_first slot [] runs of from = runs_lower slot runs from
 own_first slot (r ∷ rs) runs of from = (omega (arith, of.0), own_first slot rs runs of.1 from)
 
-no_slot : (slot : ℕ) (runs : List AppliedRun) (cs : List SlotChoice) → AreBySlot (slot + 1) runs cs → AreBySlot slot runs cs
+pub no_slot : (slot : ℕ) (runs : List AppliedRun) (cs : List SlotChoice) → AreBySlot (slot + 1) runs cs → AreBySlot slot runs cs
 no_slot slot runs cs later = record {
   runs_from = runs_lower slot runs later.runs_from;
   choices_from = choices_lower slot cs later.choices_from;
@@ -102,7 +102,7 @@ no_slot slot runs cs later = record {
 }
 
 -- the choice of a slot with its runs comes before those of later slots
-one_choice : (c : SlotChoice) (own runs : List AppliedRun) (cs : List SlotChoice) → RunsOf c.slot own → AreBySlot (c.slot + 1) runs cs → AreBySlot c.slot (own ++ runs) (c ∷ cs)
+pub one_choice : (c : SlotChoice) (own runs : List AppliedRun) (cs : List SlotChoice) → RunsOf c.slot own → AreBySlot (c.slot + 1) runs cs → AreBySlot c.slot (own ++ runs) (c ∷ cs)
 one_choice c own runs cs of later = record {
   runs_from = own_first c.slot own runs of later.runs_from;
   choices_from = (omega arith, choices_lower c.slot cs later.choices_from);
@@ -123,7 +123,7 @@ runs_of_one : (slot : ℕ) (c : Candidate) (rs : List Run) → RunsOf slot (map 
 runs_of_one slot c [] = tt
 runs_of_one slot c (r ∷ rs) = (refl, runs_of_one slot c rs)
 
-runs_of_all : (slot : ℕ) (passes : ℕ → Bool) (ss : List Span) (cs : List Candidate) → RunsOf slot (applied_runs slot passes ss cs)
+pub runs_of_all : (slot : ℕ) (passes : ℕ → Bool) (ss : List Span) (cs : List Candidate) → RunsOf slot (applied_runs slot passes ss cs)
 runs_of_all slot passes ss [] = tt
 runs_of_all slot passes ss (c ∷ cs) =
     all_append slot (candidate_runs slot passes ss c) (applied_runs slot passes ss cs) (runs_of_one slot c (taken_runs passes c.share (span_at ss c))) (runs_of_all slot passes ss cs)

@@ -12,5 +12,6 @@ pub mod JsonWhole
 pub mod Floats
 pub mod Readable
 pub mod BySlot
+pub mod StateText
 pub mod OneLine
 mod Examples

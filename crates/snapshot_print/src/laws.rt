@@ -11,6 +11,7 @@ ghost use Rattle.snapshot_print.specs.Json.{aggregate_json, answer_json, end_jso
 ghost use Rattle.snapshot_print.specs.Printed.{Printed as printed};
 ghost use Rattle.snapshot_print.specs.Readable.{HasWords, IsOneLine};
 ghost use Rattle.snapshot_print.specs.Schemes.{choices_by_slot, choices_text};
+ghost use Rattle.snapshot_print.specs.StateText.{IsTextOfStates};
 
 /// Once slots were served, the runs that come next for a choice are all runs of its slot. So in the text of
 /// an aggregation each choice has all of them.
@@ -20,6 +21,12 @@ pub fn choices_have_all_their_runs()
         → let served = slots_served slot space aggr tick regions slots in
         choices_text space shown served.runs served.choices
         ≡ choices_by_slot space shown served.runs served.choices }
+{}
+
+/// The text of a report by states, in which each line is one expression over what the notes tell, is the
+/// text that is printed: of a show in each state, and of an aggregation in the state after it.
+pub fn texts_are_of_states()
+    ensures { IsTextOfStates }
 {}
 
 /// Each line of a report as JSON, without its end, is read as the value of which it is the text. The

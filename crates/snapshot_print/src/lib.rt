@@ -44,5 +44,7 @@ mod slot_text;
 pub use aggregate::print_aggregate;
 pub use commit::{print_answer, print_commit};
 pub use form::Form;
-pub use laws::{choices_have_all_their_runs, json_lines_are_one_line, json_lines_are_read};
+pub use laws::{
+    choices_have_all_their_runs, json_lines_are_one_line, json_lines_are_read, texts_are_of_states,
+};
 pub use show::{print_end, print_show};

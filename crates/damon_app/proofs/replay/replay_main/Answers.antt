@@ -4,7 +4,7 @@ use Rattle.damon_app.proofs.replay.replay_main.Goals as goal
 
 pub returns-clause-ok : goal.returns-clause-ok
 returns-clause-ok g c e asks =
-    plain_report c.args.words.now (g.S.Source.left c.args.source.now) (g.K.Sink.taken c.args.sink.now) (g.K.Sink.taken c.serve.new.sink) asks (c.serve.ensures.report e)
+    plain_report c.reports_are_text.ensures c.args.words.now (g.S.Source.left c.args.source.now) (g.K.Sink.taken c.args.sink.now) (g.K.Sink.taken c.serve.new.sink) asks (c.serve.ensures.report e)
 
 pub returns-clause-unlawful : goal.returns-clause-unlawful
 returns-clause-unlawful g c = λ line e.
