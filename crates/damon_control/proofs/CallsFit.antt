@@ -1,27 +1,13 @@
 -- What a live text says can be spelled: its setup, and each of its calls.
-use Rattle.std.proofs.Common.{◌≡◌, ⊎_elim, ◌∷◌, [], ℕ, List, Option, Some, None, true, false, refl, subst}
-use Rattle.std.specs.Prelude.{◌&&◌, All, Bool, IfSome}
-use Rattle.std.specs.List.{fold, AllByRecursion}
-use Rattle.std.proofs.lemmas.List.Elements.{All-append, All-from_recursion}
-use Rattle.damon_types.specs.declared.range.RangeSpec.{RangeSpec}
-use Rattle.damon_types.specs.declared.scheme.SlotChange.{SlotChange}
+use Rattle.std.proofs.Common.{◌∷◌, [], ℕ, List}
+use Rattle.std.specs.List.{AllByRecursion}
 use Rattle.damon_types.specs.declared.scheme.Version.{Version}
-use Rattle.damon_types.specs.declared.scheme.Version.TheVariants.{One, Two}
-use Rattle.live_commit.specs.Commit.{CommitValue}
 use Rattle.target_ranges.specs.Laws.{MakesEach, MakesInOrder}
-use Rattle.script_lines.specs.declared.part.Part.{Part}
-use Rattle.script_lines.specs.declared.part.Part.TheVariants.{Attrs, Cost, Metric, Range, Slot}
-use Rattle.script_lines.specs.Body.{no_commit, with_part, with_range}
-use Rattle.script_lines.specs.Fits.{FitsChange, FitsRange}
-use Rattle.script_lines.specs.Laws.{EmptiesSlot, GivesScheme, IsPart, may_come}
 use Rattle.damon_control.specs.Live.{CallValue, CommitCall, LiveValue, ShowCall}
 use Rattle.damon_control.specs.LiveText.{IsLiveText, SayCall, SayController}
 use Rattle.damon_control.specs.Spellable.{FitsCall, IsLiveSpellable}
 use Rattle.damon_control.specs.Text.{EachSays}
-use Rattle.damon_control.specs.WriteBack.{FitsCommit, IsSpelledIn, SpellsRanges}
 use Rattle.damon_control.proofs.LiveLimits.{IsLiveText-IsLiveSound}
-use Rattle.damon_control.proofs.SchemesFit.{ChangeFits, empties_fits, gives_fits}
-use Rattle.damon_control.specs.CommitLines.{come_in_order}
 
 -- ---- the calls
 

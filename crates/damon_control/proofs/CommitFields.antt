@@ -1,6 +1,6 @@
 -- The lines of a commit by its parts, one after another, and by its fields.
-use Rattle.std.proofs.Common.{◌≡◌, inl, inr, ⊎_elim, ◌∷◌, [], ◌++◌, ◌^◌, ◌<◌, ◌≤◌, ℕ, true, false, List, length, map, codes, Option, Some, None, refl, sym, ap, subst, ◌∙◌, append_assoc, arith, decimal, length-append}
-use Rattle.std.specs.Prelude.{◌&&◌, ◌⊎◌, All, Bool, IfSome}
+use Rattle.std.proofs.Common.{◌≡◌, ⊎_elim, ◌∷◌, [], ◌++◌, ◌^◌, ◌<◌, ◌≤◌, ℕ, true, false, List, length, map, codes, Option, Some, None, refl, sym, ap, subst, ◌∙◌, append_assoc, arith, decimal, length-append}
+use Rattle.std.specs.Prelude.{◌&&◌, All, Bool, IfSome}
 use Rattle.std.specs.List.{fold}
 use Rattle.std.specs.Option.{option_map_or, unwrap_or}
 use Rattle.std.proofs.lemmas.List.Elements.{All-append, All-from_recursion, All-head, All-tail}

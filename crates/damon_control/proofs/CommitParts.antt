@@ -1,23 +1,16 @@
 -- The lines of a commit are those of its parts, one after another.
-use Rattle.std.proofs.Common.{◌≡◌, ◌∷◌, [], ℕ, true, List, ◌++◌, map, Some, None, refl, sym, ap, ◌∙◌, append_assoc}
-use Rattle.std.specs.Prelude.{Option}
+use Rattle.std.proofs.Common.{◌≡◌, ◌∷◌, [], true, List, map, ap, ◌∙◌}
 use Rattle.std.specs.List.{AllByRecursion}
-use Rattle.std.proofs.lemmas.List.{append-nil, map-append}
-use Rattle.damon_types.specs.declared.attrs.Attrs.{Attrs}
-use Rattle.damon_types.specs.declared.range.RangeSpec.{RangeSpec}
-use Rattle.damon_types.specs.declared.scheme.CostPart.{CostPart}
-use Rattle.damon_types.specs.declared.scheme.SlotChange.{SlotChange}
+use Rattle.std.proofs.lemmas.List.{map-append}
 use Rattle.damon_types.specs.declared.scheme.Version.{Version}
-use Rattle.damon_types.specs.declared.scheme.Version.TheVariants.{One, Two}
 use Rattle.live_commit.specs.Commit.{CommitValue}
 use Rattle.script_lines.specs.declared.part.Part.{Part}
-use Rattle.script_lines.specs.declared.part.Part.TheVariants.{Attrs as AttrsPart, Range as RangePart, Slot, Metric, Cost}
 use Rattle.script_lines.specs.Body.{no_commit, with_part}
 use Rattle.script_lines.specs.Laws.{may_come}
 use Rattle.script_lines.specs.ReadBack.{LinesReadBack}
 use Rattle.script_lines.specs.WriteBack.{ChangesAreReadBack}
 use Rattle.damon_control.specs.CommitLines.{AreReadAfter, ReadsPartsBack, WritesPartsInTurn, come_in_order}
-use Rattle.damon_control.specs.Written.{part_given, part_text, parts_of, ranges_given}
+use Rattle.damon_control.specs.Written.{part_text, parts_of}
 use Rattle.damon_control.proofs.LineWords.{both_true}
 use Rattle.damon_control.proofs.ReadWritten.{IsSaid, parts_said}
 use Rattle.damon_control.proofs.PartsInOrder.{cost_is_in, parts_in, parts_more}

@@ -24,6 +24,7 @@ use Rattle.damon_control.proofs.SayPlaces.{TextLaws}
 use Rattle.damon_control.proofs.Says.{head_of-SaysHead}
 use Rattle.damon_control.proofs.SpaceLimits.{IsAccepted, base_of_there, each_accepted, each_range, target_there}
 use Rattle.damon_control.proofs.WrittenRanges.{place_there}
+use Rattle.damon_control.proofs.SetupChecks.{space_checked}
 
 -- ---- a text that is read is the written one
 
@@ -53,7 +54,7 @@ setup_written : (lines : List (List ℕ)) (seed : ℕ) (s : SetupValue) (says : 
 setup_written lines seed s says schemes =
     let each = each_range s.space s.unit s.cap 0 None says.specs says.ranges in
     let ranges : map spelled_range says.specs ≡ map (λ g. spelled_range (spec_of s.space g)) s.ranges =
-    sym (ranges_back s.space s.unit says.specs (each_accepted s.space says.targets) each) ∙ ap (map (λ (g : Range). spelled_range (spec_of s.space g))) says.watched
+    sym (ranges_back s.space s.unit says.specs (each_accepted s.space (space_checked s.space says.space)) each) ∙ ap (map (λ (g : Range). spelled_range (spec_of s.space g))) says.watched
     in
     let numbers = number_lines seed s.unit s.cap s.attrs in
     says.spelled

@@ -1,14 +1,12 @@
 -- Lines that say a setup lead from the first line of a text to its body or its end, and those of a commit to its last line.
-use Rattle.std.proofs.Common.{◌≡◌, ◌∷◌, [], ◌==◌, ◌||◌, ◌^◌, ◌<◌, ◌≤◌, ℕ, Bool, true, false, List, ◌++◌, length, map, codes, Some, Ok, Err, refl, sym, ap, subst, ◌∙◌, append_assoc, arith, decimal}
+use Rattle.std.proofs.Common.{◌≡◌, ◌∷◌, [], ◌==◌, ◌||◌, ◌^◌, ◌<◌, ◌≤◌, ℕ, Bool, true, false, List, ◌++◌, length, map, codes, Ok, Err, refl, sym, ap, subst, ◌∙◌, append_assoc, arith, decimal}
 use Rattle.std.proofs.lemmas.Bool.Decides.{nat_tests}
 use Rattle.std.proofs.lemmas.List.{append-nil, length-append}
 use Rattle.std.specs.Prelude.{Result, if◌then◌else◌}
-use Rattle.std.specs.List.{fold, AllByRecursion, list_any}
+use Rattle.std.specs.List.{fold, AllByRecursion}
 use Rattle.std.specs.Result.{result_and}
 use Rattle.damon_types.specs.Faults.{fault_as}
 use Rattle.damon_types.specs.declared.range.RangeSpec.{RangeSpec}
-use Rattle.damon_types.specs.declared.scheme.Scheme.{Scheme}
-use Rattle.damon_types.specs.declared.scheme.SchemeFault.{SchemeFault}
 use Rattle.damon_types.specs.declared.scheme.SlotChange.{SlotChange}
 use Rattle.damon_types.specs.declared.scheme.Version.{Version}
 use Rattle.damon_types.specs.declared.scheme.Version.TheVariants.{One, Two}
@@ -18,7 +16,6 @@ use Rattle.damon_types.specs.Space.{checked}
 use Rattle.line_text.specs.Laws.{TakesApartPieces}
 use Rattle.line_text.specs.Parts.{parts}
 use Rattle.live_commit.specs.declared.fault.SetupFault.TheVariants.{BadScheme, RepeatedSlot}
-use Rattle.live_commit.specs.declared.fault.SetupFault.{SetupFault}
 use Rattle.live_commit.specs.Checked.{checked_limits}
 use Rattle.live_commit.specs.Commit.{CommitValue}
 use Rattle.live_commit.specs.Setup.{SetupValue}
@@ -50,8 +47,9 @@ use Rattle.damon_control.proofs.OneSpelling.{IsSpelledFor, scheme_in-Ok, scheme_
 use Rattle.damon_control.proofs.SetupLimits.{checked-Limits}
 use Rattle.damon_control.proofs.SpaceLimits.{accepted-FitsRange, checked-IsSpace, checked_before}
 use Rattle.damon_control.specs.CommitLines.{come_in_order}
-use Rattle.damon_control.proofs.SlotLines.{both_ok, said_gives, scheme_accepted}
+use Rattle.damon_control.proofs.SlotLines.{both_ok, free_accepted, said_gives, scheme_accepted}
 use Rattle.script_lines.specs.SchemeLine.{SchemesAreSaid}
+use Rattle.damon_control.proofs.SetupChecks.{said_limits, said_slots, space_checked}
 
 -- ---- the lines before the targets
 
@@ -206,10 +204,6 @@ scheme_leads g f targets specs before line c read =
     then_way (begins_with (codes "scheme") line) _ _ (scheme_begins f.version before line c (scheme_in-Ok g f.version before line c read)).begins
     ∙ lead_to g (scheme_line_in g f.version before line) c (λ d. AtSchemes f targets specs (before ++ d ∷ [])) read
 
-free_accepted : (index : ℕ) (set : Bool) → (if set then Err (RepeatedSlot index) else Ok (tt {0})) ≡ Ok tt → set ≡ false
-free_accepted index true ok = absurd cc
-free_accepted index false ok = refl
-
 -- where each change has a scheme, a slot that none sets is a slot that none is of
 none_sets : (slot : ℕ) (changes : List SlotChange) → AllByRecursion (λ c. has_scheme c ≡ true) changes → is_set slot changes ≡ false → is_changed slot changes ≡ false
 none_sets slot [] each free = refl
@@ -309,7 +303,9 @@ pub setup_leads : LeadLaws → (g : Grammar) (seed : ℕ) (setup : SetupValue) (
 setup_leads laws g seed setup lines opening next back says spelled opens =
     let f = frame_of seed setup in
     let space = setup.space in
-    let give = said_gives laws.said setup.version [] says.schemes setup.slots says.give says.set says.changes says.slots in
+    let slots = said_slots lines seed setup says in
+    let targets = space_checked setup.space says.space in
+    let give = said_gives laws.said setup.version [] says.schemes setup.slots says.give says.set says.changes slots in
     let after_ranges = says.schemes ++ opening ∷ back in
     let after_targets = map spelled_range says.specs ++ after_ranges in
     let frame_lines = λ (ls : List (List ℕ)). header_of g setup.version ∷ (codes "seed " ++ decimal seed) ∷ (codes "unit " ++ decimal setup.unit) ∷ (codes "cap " ++ decimal setup.cap) ∷ spelled_attrs setup.attrs ∷ ls in
@@ -321,11 +317,11 @@ setup_leads laws g seed setup lines opening next back says spelled opens =
     else_way (begins_with (codes "scheme") opening) _ _ opens.no_scheme ∙ opens.opens says.specs says.watched
     in
     ap (leads g AtHeader) lines_are
-    ∙ frame_leads laws.lines g f (map spelled_target space ++ after_targets) says.seed_fits says.limits
-    ∙ targets_lead laws.lines g f [] space after_targets says.targets
-    ∙ targets_ranges_lead laws g f space says.specs after_ranges says.targets says.ranges says.some_range says.few_ranges
-    ∙ ranges_schemes_lead laws g f space says.specs says.schemes setup.slots opening back says.some_range give says.slots opens.no_range
-    ∙ schemes_lead laws.lines g f space says.specs [] says.schemes setup.slots (opening ∷ back) tt give spelled says.slots
+    ∙ frame_leads laws.lines g f (map spelled_target space ++ after_targets) says.seed_fits (said_limits lines seed setup says)
+    ∙ targets_lead laws.lines g f [] space after_targets targets
+    ∙ targets_ranges_lead laws g f space says.specs after_ranges targets says.ranges says.some_range says.few_ranges
+    ∙ ranges_schemes_lead laws g f space says.specs says.schemes setup.slots opening back says.some_range give slots opens.no_range
+    ∙ schemes_lead laws.lines g f space says.specs [] says.schemes setup.slots (opening ∷ back) tt give spelled slots
     ∙ leads-line g (AtSchemes f space says.specs setup.slots) next opening back last
 
 -- lines that lead to the end of a text are read as what it says

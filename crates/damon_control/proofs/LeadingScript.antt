@@ -17,7 +17,7 @@ use Rattle.damon_control.specs.Script.{AtEnd, AtHeader, Body, InBody, InCommit, 
 use Rattle.damon_control.specs.Text.{AreCommit, EachSays, IsText, SayCommand, all_lines}
 use Rattle.script_lines.specs.Words.{begins_with}
 use Rattle.damon_control.proofs.Leading.{LeadLaws, Opens, else_way, led_read, parts_lead, setup_leads, then_way}
-use Rattle.damon_control.proofs.Leads.{leads, leads-line}
+use Rattle.damon_control.proofs.Leads.{leads, leads-line, lines_joined}
 use Rattle.damon_control.proofs.LineWords.{command_begins}
 use Rattle.damon_control.proofs.OneSpelling.{each_in_any}
 use Rattle.damon_control.proofs.CommitFields.{commit_parts}
@@ -118,4 +118,4 @@ lines_lead laws text s says =
 
 -- a text that says a script is read as it
 pub IsText-script_of : LeadLaws → (text : List ℕ) (s : ScriptValue) → IsText text s → script_of text ≡ Ok s
-IsText-script_of laws text s says = ap script_of says.spelled ∙ led_read laws.apart OfScript (script_lines text s says) s (lines_lead laws text s says)
+IsText-script_of laws text s says = ap script_of (says.spelled ∙ sym (lines_joined (script_lines text s says))) ∙ led_read laws.apart OfScript (script_lines text s says) s (lines_lead laws text s says)

@@ -1,5 +1,5 @@
 -- A text is read as a script, or as a live script, exactly where its lines lead from its header to its end.
-use Rattle.std.proofs.Common.{◌≡◌, ◌∷◌, [], ◌+◌, ◌<◌, ℕ, List, ◌++◌, length, All, Ok, Err, refl, sym, ap, ◌∙◌, arith}
+use Rattle.std.proofs.Common.{◌≡◌, ◌∷◌, [], ◌+◌, ◌<◌, ℕ, List, ◌++◌, length, All, Ok, Err, refl, sym, ap, ◌∙◌, arith, append_assoc}
 use Rattle.std.specs.Prelude.{Result}
 use Rattle.std.proofs.lemmas.List.{length-append}
 use Rattle.std.proofs.lemmas.List.Elements.{All-append, All-from_recursion, All-nil}
@@ -12,6 +12,12 @@ use Rattle.damon_control.specs.Script.{AtAttrs, AtCap, AtEnd, AtHeader, AtRanges
 use Rattle.script_lines.specs.Lines.{lines_text}
 use Rattle.damon_control.proofs.PartLemmas.{reads_more}
 use Rattle.damon_control.proofs.Steps.{bind-Ok}
+use Rattle.std.specs.List.{flat_map}
+
+-- the text of lines, each with its LF
+pub lines_joined : (lines : List (List ℕ)) → lines_text lines ≡ flat_map (λ line. line ++ 10 ∷ []) lines
+lines_joined [] = refl
+lines_joined (line ∷ lines) = ap (λ t. line ++ 10 ∷ t) (lines_joined lines) ∙ sym (append_assoc line (10 ∷ []) (flat_map (λ l. l ++ 10 ∷ []) lines))
 
 -- the place to which lines lead from another
 abbrev pub leads : (g : Grammar) → Place g → List (List ℕ) → Result (Place g) ScriptKind

@@ -15,6 +15,7 @@ pub mod SchemesFit
 pub mod CallsFit
 pub mod PartsInOrder
 pub mod SlotLines
+pub mod SetupChecks
 pub mod CommitFields
 pub mod SayPlaces
 pub mod SayCommands

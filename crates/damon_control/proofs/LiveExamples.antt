@@ -14,7 +14,9 @@ use Rattle.damon_control.specs.Script.{live_of}
 use Rattle.damon_control.specs.Text.{SaySetup}
 use Rattle.std.proofs.lemmas.List.Elements.{All-nil}
 use Rattle.script_lines.specs.Fits.{FitsChange}
-use Rattle.std.specs.Prelude.{IsSome}
+use Rattle.std.specs.Prelude.{IsSome, IfSome}
+use Rattle.damon_types.specs.Scheme.{checked_in}
+use Rattle.damon_control.proofs.SpaceLimits.{checked-IsSpace}
 
 abbrev space : List Target
 space = record { base = 65536; pages = 3 } ∷ []
@@ -44,14 +46,20 @@ says_setup = record {
   schemes = [];
   spelled = refl;
   seed_fits = lit< tt;
-  limits = refl;
-  targets = refl;
+  space = checked-IsSpace space refl;
+  unit_some = omega arith;
+  unit_most = omega arith;
+  cap_some = omega arith;
+  cap_most = omega arith;
+  attrs = record { min = omega arith; max = omega arith; aggr_some = omega arith; aggr_most = omega arith };
+  max_cap = omega arith;
   ranges = refl;
   some_range = omega arith;
   few_ranges = omega arith;
   watched = refl;
+  apart = λ i j d less below. absurd (omega (arith, below));
   set = All-nil (λ c. IsSome c.scheme);
-  slots = refl;
+  accepted = All-nil (λ c. IfSome c.scheme (λ s. checked_in One c.slot s ≡ Ok tt));
   changes = All-nil FitsChange;
   give = tt;
 }

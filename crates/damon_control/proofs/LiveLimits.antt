@@ -1,21 +1,13 @@
 -- What a live text says keeps the limits of a live script, and a text can spell it.
-use Rattle.std.proofs.Common.{◌≤◌, ◌∷◌, [], ℕ, List, Option, Some, None, length, subst, arith, length-append}
-use Rattle.std.specs.Prelude.{IfSome}
-use Rattle.std.specs.List.{fold, AllByRecursion}
-use Rattle.damon_types.specs.declared.range.RangeSpec.{RangeSpec}
+use Rattle.std.proofs.Common.{◌∷◌, [], ℕ, List}
+use Rattle.std.specs.List.{AllByRecursion}
 use Rattle.damon_types.specs.declared.scheme.Version.{Version}
-use Rattle.live_commit.specs.Commit.{CommitValue}
 use Rattle.target_ranges.specs.Laws.{MakesEach, MakesInOrder}
-use Rattle.script_lines.specs.declared.part.Part.{Part}
-use Rattle.script_lines.specs.declared.part.Part.TheVariants.{Attrs, Cost, Metric, Range, Slot}
-use Rattle.script_lines.specs.Body.{no_commit, with_part, with_range}
 use Rattle.damon_control.specs.Live.{CallValue, CommitCall, LiveValue, ShowCall}
 use Rattle.damon_control.specs.LiveText.{IsLiveText, SayCall, SayController}
 use Rattle.damon_control.specs.Sound.{IsLiveSound, IsSpelledCall}
 use Rattle.damon_control.specs.Text.{EachSays}
-use Rattle.damon_control.specs.WriteBack.{SpellsRanges}
 use Rattle.damon_control.proofs.SetupLimits.{SaySetup-InOrder, SaySetup-IsSetup}
-use Rattle.damon_control.proofs.SpaceLimits.{checked-IsSpace}
 
 call_spelled : (version : Version) (lines : List (List ℕ)) (call : CallValue) → SayCall version lines call → IsSpelledCall call
 call_spelled version lines ShowCall says = tt
@@ -38,7 +30,7 @@ controllers_spelled version (group ∷ groups) [] each = absurd each
 -- a text says a live script within its limits
 pub IsLiveText-IsLiveSound : MakesEach → MakesInOrder → (text : List ℕ) (v : LiveValue) → IsLiveText text v → IsLiveSound v
 IsLiveText-IsLiveSound each order text v says = record {
-  space = checked-IsSpace v.setup.space says.says_setup.targets;
+  space = says.says_setup.space;
   setup = SaySetup-IsSetup each says.setup v.seed v.setup says.says_setup;
   order = SaySetup-InOrder order says.setup v.seed v.setup says.says_setup;
   limits = says.limits;

@@ -9,7 +9,6 @@ use Rattle.damon_control.specs.declared.grammar.Grammar.TheVariants.{OfScript, O
 use Rattle.script_lines.specs.declared.kind.ScriptKind.{ScriptKind}
 use Rattle.script_lines.specs.declared.kind.ScriptKind.TheVariants.{Form}
 use Rattle.script_lines.specs.Head.{scheme_line}
-use Rattle.script_lines.specs.Laws.{GivesScheme}
 use Rattle.script_lines.specs.Refusal.{◌>>=◌, only_if}
 use Rattle.script_lines.specs.Words.{same_word}
 use Rattle.script_lines.specs.WrittenLine.{change_text}

@@ -1,33 +1,26 @@
 -- What is written of a setup and of a commit is read back as the same.
-use Rattle.std.proofs.Common.{◌≡◌, ◌∷◌, [], ◌&&◌, ◌+◌, ◌*◌, ◌%◌, ◌^◌, ◌<◌, ◌≤◌, ◌==◌, inl, inr, ℕ, true, false, nat_le, nat_lt, List, ◌++◌, length, map, codes, Ok, Err, Some, None, refl, sym, ap, subst, ◌∙◌, append_assoc, arith, decimal}
-use Rattle.std.specs.Prelude.{All, IfSome, IsSome, Option, Result}
-use Rattle.std.specs.Result.{result_and}
-use Rattle.std.specs.List.{fold, AllByRecursion}
-use Rattle.std.proofs.lemmas.Bool.Decides.{nat_tests}
+use Rattle.std.proofs.Common.{◌≡◌, ◌∷◌, [], ◌+◌, ◌^◌, ◌<◌, inl, inr, ℕ, List, ◌++◌, length, map, codes, Ok, Some, None, refl, sym, ap, ◌∙◌, append_assoc, arith, decimal}
+use Rattle.std.specs.Prelude.{All, IfSome, IsSome, Option}
+use Rattle.std.specs.List.{AllByRecursion}
 use Rattle.std.proofs.lemmas.List.{append-nil, length-append, length-map}
 use Rattle.std.proofs.lemmas.List.Elements.{All-append, All-cons, All-head, All-nil, All-tail}
 use Rattle.damon_types.specs.declared.attrs.Attrs.{Attrs}
 use Rattle.damon_types.specs.declared.range.RangeSpec.{RangeSpec}
 use Rattle.damon_types.specs.declared.scheme.CostPart.{CostPart}
-use Rattle.damon_types.specs.declared.scheme.Quota.{Quota}
 use Rattle.damon_types.specs.declared.scheme.Scheme.{Scheme}
 use Rattle.damon_types.specs.declared.scheme.SlotChange.{SlotChange}
 use Rattle.damon_types.specs.declared.scheme.Version.{Version}
-use Rattle.damon_types.specs.declared.scheme.Version.TheVariants.{One, Two}
-use Rattle.damon_types.specs.declared.space.Target.{Target}
 use Rattle.damon_types.specs.Scheme.{checked_scheme, checked_time}
-use Rattle.damon_types.specs.Space.{IsSpace, IsTarget, checked, checked_target, checked_targets_from, pages_of}
 use Rattle.line_text.specs.Laws.{PutsPartsTogether, TakesApartPieces}
 use Rattle.line_text.specs.Parts.{IsPiece, joined, parts}
-use Rattle.live_commit.specs.Checked.{checked_limits}
 use Rattle.live_commit.specs.Commit.{CommitValue}
-use Rattle.live_commit.specs.Setup.{IsSetup, SetupValue}
+use Rattle.live_commit.specs.Setup.{SetupValue}
 use Rattle.live_commit.specs.Slots.{checked_after, checked_slot}
 use Rattle.damon_control.specs.declared.grammar.Grammar.{Grammar}
 use Rattle.damon_control.specs.declared.grammar.Grammar.TheVariants.{OfScript, OfLive, OfJournal}
 use Rattle.script_lines.specs.declared.part.Part.{Part}
 use Rattle.script_lines.specs.declared.part.Part.TheVariants.{Attrs as AttrsPart, Range as RangePart, Slot, Metric, Cost}
-use Rattle.script_lines.specs.Body.{with_part, no_commit}
+use Rattle.script_lines.specs.Body.{no_commit}
 use Rattle.script_lines.specs.Fits.{FitsAttrs, FitsCost, FitsRange, FitsChange}
 use Rattle.script_lines.specs.Laws.{GivesScheme, IsPart}
 use Rattle.script_lines.specs.Refusal.{◌>>=◌}
@@ -50,39 +43,12 @@ use Rattle.damon_control.proofs.PartLemmas.{parts-some, reads_line, reads_more}
 use Rattle.damon_control.proofs.Steps.{bind-Ok}
 use Rattle.damon_control.proofs.WrittenLemmas.{lines_text-append}
 use Rattle.damon_control.proofs.WrittenRanges.{checked_written, ranges_again}
-use Rattle.damon_control.specs.CommitLines.{come_in_order}
 use Rattle.damon_control.proofs.PartsInOrder.{TimesAreIn, cost_is_in, parts_in, times_are_in}
 use Rattle.damon_control.proofs.SlotLines.{both_ok, each_gives_said, second_ok, set_sound}
 use Rattle.script_lines.specs.SchemeLine.{SchemesAreSaid}
+use Rattle.damon_control.proofs.SetupChecks.{checked_parts}
 
--- ---- the limits of a setup, as checks
-
-limits_checked : (s : SetupValue) → IsSetup s → checked_limits s.unit s.cap s.attrs ≡ Ok tt
-limits_checked s is =
-    let unit : (nat_le 1 s.unit && nat_le s.unit 1048576) ≡ true = grind (arith, nat_tests, is.unit_some, is.unit_most) in
-    let cap : (nat_le 3 s.cap && nat_le s.cap 4096) ≡ true = grind (arith, nat_tests, is.cap_some, is.cap_most) in
-    let min : nat_lt s.attrs.min 3 ≡ false = grind (arith, nat_tests, is.attrs.min) in
-    let max : nat_lt s.attrs.max s.attrs.min ≡ false = grind (arith, nat_tests, is.attrs.max) in
-    let aggr : (nat_le 1 s.attrs.aggr && nat_le s.attrs.aggr 1000) ≡ true = grind (arith, nat_tests, is.attrs.aggr_some, is.attrs.aggr_most) in
-    let most : nat_lt s.cap s.attrs.max ≡ false = grind (arith, nat_tests, is.max_cap) in
-    rw (unit, cap, min, max, aggr, most) refl
-
-target_checked : (i : ℕ) (t : Target) → IsTarget t → checked_target i t ≡ Ok tt
-target_checked i t is =
-    let pages : (nat_le 1 t.pages && nat_le t.pages 1048576) ≡ true = grind (arith, nat_tests, is.some, is.few) in
-    let base : ((t.base % 4096 == 0) && nat_le (t.base + 4096 * t.pages) 9223372036854775808) ≡ true = grind (arith, nat_tests, is.aligned, is.end) in
-    rw (pages, base) refl
-
-targets_checked : (i : ℕ) (ts : List Target) → All IsTarget ts → checked_targets_from i ts ≡ Ok tt
-targets_checked i [] each = refl
-targets_checked i (t ∷ ts) each = rw (target_checked i t (All-head IsTarget t ts each)) (targets_checked (i + 1) ts (All-tail IsTarget t ts each))
-
-space_checked : (ts : List Target) → IsSpace ts → checked ts ≡ Ok tt
-space_checked ts is =
-    let some : (length ts == 0) ≡ false = grind (arith, nat_tests, is.some) in
-    let few : nat_lt 64 (length ts) ≡ false = grind (arith, nat_tests, is.few) in
-    let total : nat_le (pages_of ts) 1048576 ≡ true = grind (arith, nat_tests, is.total) in
-    rw (some, few, targets_checked 0 ts is.each, total) refl
+-- ---- the lines of a setup
 
 -- changes that are accepted after others are written as they are
 changes_give : ChangesAreReadBack → (version : Version) (before changes : List SlotChange) → checked_after version before changes ≡ Ok tt → All (λ c. IsSome c.scheme) changes → All FitsChange changes
@@ -113,6 +79,7 @@ written-SaySetup said back g seed s is =
     let specs = map (spec_of s.space) s.ranges in
     let count : length specs ≡ length s.ranges = length-map s.ranges (spec_of s.space) in
     let changes = map change_text s.slots in
+    let slots = checked_parts s.version [] s.slots setup.set setup.slots in
     let says : SaySetup (written_setup seed s) seed s = record {
       specs = specs;
       schemes = changes;
@@ -120,14 +87,20 @@ written-SaySetup said back g seed s is =
           ap (λ (rs : List (List ℕ)). number_lines seed s.unit s.cap s.attrs ++ (map spelled_target s.space ++ (rs ++ changes))) (map_both spelled_range (spec_of s.space) s.ranges)
           ∙ ap (λ ls. number_lines seed s.unit s.cap s.attrs ++ ls) (sym (append_assoc (map spelled_target s.space) (map spelled_range specs) changes));
       seed_fits = is.seed_fits;
-      limits = limits_checked s setup;
-      targets = space_checked s.space is.space;
+      space = is.space;
+      unit_some = setup.unit_some;
+      unit_most = setup.unit_most;
+      cap_some = setup.cap_some;
+      cap_most = setup.cap_most;
+      attrs = setup.attrs;
+      max_cap = setup.max_cap;
       ranges = checked_written s.space s.unit s.cap is.space setup.unit_some 0 0 0 None s.ranges tt is.order setup.within setup.wide setup.classes (omega (arith, setup.ranges_most, setup.max_cap));
       some_range = omega (arith, count, setup.ranges_some);
       few_ranges = omega (arith, count, setup.ranges_most);
       watched = ranges_again s.space s.unit is.space setup.unit_some s.ranges setup.within setup.wide;
+      apart = slots.apart;
       set = setup.set;
-      slots = setup.slots;
+      accepted = slots.accepted;
       changes = is.changes;
       give = each_gives_said said s.version changes s.slots (changes_give back s.version [] s.slots setup.slots setup.set is.changes);
     } in

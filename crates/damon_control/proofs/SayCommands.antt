@@ -13,6 +13,7 @@ use Rattle.script_lines.specs.Lines.{lines_text}
 use Rattle.script_lines.specs.Words.{alone, begins_with}
 use Rattle.damon_control.proofs.SayPlaces.{SayBody, Says, TextLaws, all_lines-more, each_more, read_to, work-more}
 use Rattle.damon_control.proofs.Steps.{bind-Ok, either_way, only_if-Ok}
+use Rattle.damon_control.proofs.Leads.{lines_joined}
 
 pub more_command : (lines front : List (List ℕ)) (b : Body) (group : List (List ℕ)) (command : CommandValue) (next : Place OfScript) → SayBody front b → lines ≡ front ++ group → SayCommand b.said.setup group command
     → with_command b command ≡ Ok next → Says OfScript lines next
@@ -44,7 +45,8 @@ in_body laws lines b line next before e =
       commands = before.commands;
       spelled =
           ap lines_text ((λ i. before.spelled i ++ laws.lines.word (codes "end") line read i ∷ [])
-          ∙ ap (λ ls. header_of OfScript b.said.setup.version ∷ ls) (append_assoc before.setup (codes "begin" ∷ all_lines before.commands) (codes "end" ∷ [])));
+          ∙ ap (λ ls. header_of OfScript b.said.setup.version ∷ ls) (append_assoc before.setup (codes "begin" ∷ all_lines before.commands) (codes "end" ∷ [])))
+          ∙ lines_joined (header_of OfScript b.said.setup.version ∷ (before.setup ++ codes "begin" ∷ (all_lines before.commands ++ codes "end" ∷ [])));
       says_setup = before.says_setup;
       say_commands = before.say_commands;
       work = subst (λ n. n ≤ MAX_WORK) before.sum before.work;

@@ -34,11 +34,15 @@ use Rattle.damon_control.proofs.SayPlaces.{IsTextOf, SayCommit, SayRanges, SaySc
 use Rattle.damon_control.proofs.Steps.{bind-Ok, either_way}
 use Rattle.damon_control.specs.Written.{number_lines}
 use Rattle.script_lines.specs.Fits.{FitsChange}
-use Rattle.std.specs.Prelude.{IsSome}
+use Rattle.std.specs.Prelude.{IsSome, All, IfSome}
 use Rattle.std.proofs.lemmas.List.Elements.{All-append, All-from_recursion, All-nil}
 use Rattle.damon_control.proofs.SlotLines.{gives_said}
 use Rattle.damon_control.proofs.SchemesFit.{gives_fits}
 use Rattle.damon_control.proofs.CommitFields.{commit_said}
+use Rattle.damon_types.specs.Scheme.{checked_in}
+use Rattle.damon_control.proofs.SetupChecks.{checked_parts, said_slots}
+use Rattle.damon_control.proofs.SetupLimits.{checked-Limits}
+use Rattle.damon_control.proofs.SpaceLimits.{checked-IsSpace}
 
 -- the lines of a setup up to its schemes, from `seed` on
 abbrev setup_lines : ℕ → SetupValue → List RangeSpec → List (List ℕ)
@@ -138,6 +142,9 @@ at_schemes laws g lines f targets specs slots line next before e = either_way (b
     at_scheme = read_to (Says g (lines ++ line ∷ [])) (scheme_line_in g f.version slots line) (λ change. AtSchemes f targets specs (slots ++ change ∷ [])) next (λ change read.
         let said = scheme_in-Ok g f.version slots line change read in
         let gives = laws.lines.scheme f.version slots line change said in
+        let set : All (λ (c : SlotChange). IsSome c.scheme) (slots ++ change ∷ []) = All-append (λ (c : SlotChange). IsSome c.scheme) slots (change ∷ []) before.says.set (All-from_recursion (λ (c : SlotChange). IsSome c.scheme) (change ∷ []) ((rw gives.1 refl), tt)) in
+        let before_ok = said_slots before.others f.seed (setup_said f targets specs slots) before.says in
+        let slots_are = checked_parts f.version [] (slots ++ change ∷ []) set (laws.slots f.version slots change before_ok ∙ laws.lines.within.scheme f.version slots line change said) in
         record {
           others = before.others ++ line ∷ [];
           spelled = ap (λ ls. ls ++ line ∷ []) before.spelled;
@@ -148,14 +155,20 @@ at_schemes laws g lines f targets specs slots line next before e = either_way (b
                 ap (λ ls. ls ++ line ∷ []) before.says.spelled
                 ∙ append_assoc (setup_lines f.seed (setup_said f targets specs slots) before.says.specs) before.says.schemes (line ∷ []);
             seed_fits = before.says.seed_fits;
-            limits = before.says.limits;
-            targets = before.says.targets;
+            space = before.says.space;
+            unit_some = before.says.unit_some;
+            unit_most = before.says.unit_most;
+            cap_some = before.says.cap_some;
+            cap_most = before.says.cap_most;
+            attrs = before.says.attrs;
+            max_cap = before.says.max_cap;
             ranges = before.says.ranges;
             some_range = before.says.some_range;
             few_ranges = before.says.few_ranges;
             watched = before.says.watched;
-            set = All-append (λ (c : SlotChange). IsSome c.scheme) slots (change ∷ []) before.says.set (All-from_recursion (λ (c : SlotChange). IsSome c.scheme) (change ∷ []) ((rw gives.1 refl), tt));
-            slots = laws.slots f.version slots change before.says.slots ∙ laws.lines.within.scheme f.version slots line change said;
+            apart = slots_are.apart;
+            set = set;
+            accepted = slots_are.accepted;
             changes = All-append FitsChange slots (change ∷ []) before.says.changes (All-from_recursion FitsChange (change ∷ []) ((gives_fits f.version line change gives).0, tt));
             give = each_more SaysSlot before.says.schemes slots line change before.says.give (gives_said laws.lines.said f.version line change gives);
           };
@@ -165,7 +178,7 @@ at_schemes laws g lines f targets specs slots line next before e = either_way (b
 -- after its ranges a setup has no scheme yet
 ranges-SaySchemes : (g : Grammar) (lines : List (List ℕ)) (f : Frame) (targets : List Target) (specs : List RangeSpec) → SayRanges g lines f targets specs → 1 ≤ length specs
     → SaySchemes g lines f.seed (setup_said f targets specs [])
-ranges-SaySchemes g lines f targets specs before some = record {
+ranges-SaySchemes g lines f targets specs before some = let limits = checked-Limits f.unit f.cap f.attrs before.frame.limits in record {
   others = setup_lines f.seed (setup_said f targets specs []) specs;
   spelled = before.spelled;
   says = record {
@@ -173,14 +186,20 @@ ranges-SaySchemes g lines f targets specs before some = record {
     schemes = [];
     spelled = sym (append-nil (setup_lines f.seed (setup_said f targets specs []) specs));
     seed_fits = before.frame.seed_fits;
-    limits = before.frame.limits;
-    targets = before.targets_sound;
+    space = checked-IsSpace targets before.targets_sound;
+    unit_some = limits.unit_some;
+    unit_most = limits.unit_most;
+    cap_some = limits.cap_some;
+    cap_most = limits.cap_most;
+    attrs = limits.attrs;
+    max_cap = limits.max_cap;
     ranges = before.sound;
     some_range = some;
     few_ranges = before.few;
     watched = refl;
+    apart = λ i j d less below. absurd (omega (arith, below));
     set = All-nil (λ (c : SlotChange). IsSome c.scheme);
-    slots = refl;
+    accepted = All-nil (λ (c : SlotChange). IfSome c.scheme (λ s. checked_in f.version c.slot s ≡ Ok tt));
     changes = All-nil FitsChange;
     give = tt;
   };

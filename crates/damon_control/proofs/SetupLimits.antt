@@ -1,16 +1,12 @@
 -- What lines say is a setup within its limits.
-use Rattle.std.proofs.Common.{◌≡◌, ℕ, ◌≤◌, List, [], ◌∷◌, length, Ok, Err, refl, ap, subst, ◌∙◌, sym, arith}
-use Rattle.std.specs.Prelude.{nat_lt, if◌then◌else◌, IsSome, Result}
-use Rattle.std.specs.List.{AllByRecursion}
+use Rattle.std.proofs.Common.{◌≡◌, ℕ, ◌≤◌, List, length, Ok, Err, refl, ap, subst, ◌∙◌, sym, arith}
+use Rattle.std.specs.Prelude.{nat_lt, if◌then◌else◌, Result}
 use Rattle.std.specs.Result.{result_and}
 use Rattle.std.proofs.lemmas.Bool.Decides.{nat_tests}
-use Rattle.std.proofs.lemmas.List.Elements.{All-from_recursion}
 use Rattle.damon_types.specs.Faults.{fault_as}
 use Rattle.damon_types.specs.declared.attrs.Attrs.{Attrs}
 use Rattle.damon_types.specs.declared.attrs.AttrsFault.{AttrsFault}
 use Rattle.damon_types.specs.declared.range.Range.{Range}
-use Rattle.damon_types.specs.declared.scheme.SlotChange.{SlotChange}
-use Rattle.damon_types.specs.declared.scheme.Version.{Version}
 use Rattle.damon_types.specs.Attrs.{IsAttrs, checked_attrs}
 use Rattle.damon_types.specs.Ranges.{InOrder}
 use Rattle.live_commit.specs.declared.fault.SetupFault.TheVariants.{BadAttrs, OverCap}
@@ -18,9 +14,9 @@ use Rattle.live_commit.specs.declared.fault.SetupFault.{SetupFault}
 use Rattle.live_commit.specs.Checked.{checked_cap, checked_limits, checked_unit}
 use Rattle.live_commit.specs.Setup.{IsSetup, SetupValue}
 use Rattle.target_ranges.specs.Laws.{MakesEach, MakesInOrder}
-use Rattle.script_lines.specs.Laws.{GivesScheme}
-use Rattle.damon_control.specs.Text.{EachSays, SaySetup}
-use Rattle.damon_control.proofs.SpaceLimits.{AreMade, accepted-AreMade, checked-IsSpace}
+use Rattle.damon_control.specs.Text.{SaySetup}
+use Rattle.damon_control.proofs.SpaceLimits.{AreMade, accepted-AreMade}
+use Rattle.damon_control.proofs.SetupChecks.{said_slots}
 
 -- two checks that find nothing
 both_ok : (r s : Result (Unit {0}) SetupFault) → result_and r s ≡ Ok tt → (r ≡ Ok tt) × (s ≡ Ok tt)
@@ -77,29 +73,28 @@ checked-Limits unit cap a ok =
 -- lines say a setup within its limits
 pub SaySetup-IsSetup : MakesEach → (lines : List (List ℕ)) (seed : ℕ) (setup : SetupValue) → SaySetup lines seed setup → IsSetup setup
 SaySetup-IsSetup makes lines seed setup says =
-    let limits = checked-Limits setup.unit setup.cap setup.attrs says.limits in
     let made : AreMade setup.space setup.unit setup.ranges =
     subst (λ (gs : List Range). AreMade setup.space setup.unit gs) says.watched (accepted-AreMade setup.space setup.unit setup.cap says.specs says.ranges)
     in
     let count : length setup.ranges ≡ length says.specs = ap (λ (gs : List Range). length gs) (sym says.watched) ∙ makes setup.space says.specs in
     record {
-      unit_some = limits.unit_some;
-      unit_most = limits.unit_most;
-      cap_some = limits.cap_some;
-      cap_most = limits.cap_most;
-      attrs = limits.attrs;
-      max_cap = limits.max_cap;
+      unit_some = says.unit_some;
+      unit_most = says.unit_most;
+      cap_some = says.cap_some;
+      cap_most = says.cap_most;
+      attrs = says.attrs;
+      max_cap = says.max_cap;
       ranges_some = omega (arith, count, says.some_range);
       ranges_most = omega (arith, count, says.few_ranges);
       wide = made.wide;
       classes = made.classes;
       within = made.within;
       set = says.set;
-      slots = says.slots;
+      slots = said_slots lines seed setup says;
     }
 
 -- its ranges are in order
 pub SaySetup-InOrder : MakesInOrder → (lines : List (List ℕ)) (seed : ℕ) (setup : SetupValue) → SaySetup lines seed setup → InOrder setup.ranges
 SaySetup-InOrder orders lines seed setup says =
     subst (λ (gs : List Range). InOrder gs) says.watched
-    (orders setup.space setup.unit setup.cap says.specs (checked-IsSpace setup.space says.targets) says.ranges)
+    (orders setup.space setup.unit setup.cap says.specs says.space says.ranges)

@@ -1,6 +1,6 @@
 -- Lines of slots, as they are read and as a text says them.
 use Rattle.std.proofs.Common.{◌≡◌, inl, inr, ◌∷◌, [], ◌++◌, ℕ, List, length, Option, Some, None, Ok, Err, refl, sym, subst}
-use Rattle.std.specs.Prelude.{All, IfSome, IsSome, MatchOption, codes, Result, if◌then◌else◌}
+use Rattle.std.specs.Prelude.{All, IfSome, IsSome, MatchOption, codes, Result, if◌then◌else◌, Bool, true, false}
 use Rattle.std.specs.Fmt.{decimal}
 use Rattle.std.specs.Result.{result_and}
 use Rattle.std.proofs.lemmas.List.Elements.{All-head, All-tail}
@@ -29,6 +29,10 @@ both_ok (Err e) s ok = absurd cc
 pub scheme_accepted : (index : ℕ) (r : Result (Unit {0}) SchemeFault) → (fault_as (BadScheme index) r) ≡ Ok tt → r ≡ Ok tt
 scheme_accepted index (Ok t) ok = refl
 scheme_accepted index (Err why) ok = absurd cc
+
+pub free_accepted : (index : ℕ) (set : Bool) → (if set then Err (RepeatedSlot index) else Ok (tt {0})) ≡ Ok tt → set ≡ false
+free_accepted index true ok = absurd cc
+free_accepted index false ok = refl
 
 -- a change that is accepted gives its slot a scheme within the limits of the version
 pub set_sound : (version : Version) (before : List SlotChange) (c : SlotChange) (s : Scheme) → c.scheme ≡ Some s → checked_slot version (length before) before c ≡ Ok tt

@@ -14,7 +14,6 @@ use Rattle.damon_control.specs.Script.{ScriptValue}
 use Rattle.damon_control.specs.Sound.{IsSound}
 use Rattle.damon_control.specs.Text.{EachSays, IsText, SayCommand}
 use Rattle.damon_control.proofs.SetupLimits.{SaySetup-InOrder, SaySetup-IsSetup}
-use Rattle.damon_control.proofs.SpaceLimits.{checked-IsSpace}
 
 -- what is known of the pages of bytes, and of the ranges that are made
 pub record PageLaws : Type 0 where
@@ -63,7 +62,7 @@ commands_within laws setup (group ∷ groups) [] each = absurd each
 -- a text says a script within its limits
 pub IsText-IsSound : PageLaws → (text : List ℕ) (s : ScriptValue) → IsText text s → IsSound s
 IsText-IsSound laws text s says = record {
-  space = checked-IsSpace s.setup.space says.says_setup.targets;
+  space = says.says_setup.space;
   setup = SaySetup-IsSetup laws.each says.setup s.seed s.setup says.says_setup;
   order = SaySetup-InOrder laws.order says.setup s.seed s.setup says.says_setup;
   commands = commands_within laws s.setup says.commands s.commands says.say_commands;

@@ -80,10 +80,14 @@ begun seed setup = record { said = record { seed = seed; setup = setup; commands
 abbrev pub opened : Frame → List Target → List RangeSpec → List SlotChange → Body
 opened f targets ranges slots = begun f.seed (setup_said f targets ranges slots)
 
+-- the first line of a script
+abbrev pub script_header : Version → List ℕ
+script_header One = codes "damon script 1"
+script_header Two = codes "damon script 2"
+
 -- the first line of a text
 abbrev pub header_of : Grammar → Version → List ℕ
-header_of OfScript One = codes "damon script 1"
-header_of OfScript Two = codes "damon script 2"
+header_of OfScript version = script_header version
 header_of OfLive One = codes "damon live 1"
 header_of OfLive Two = codes "damon live 2"
 header_of OfJournal One = codes "damon journal 1"
