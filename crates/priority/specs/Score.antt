@@ -30,11 +30,13 @@ pub record Scoring : Type 0 where
   pub weights : Weights
   pub prefer : Prefer
 
--- the mean of a row's pages as a part of all pages, its count as a part of the passes, and its age, by the weights
+-- the score of a row by these
 abbrev pub score_by : Scoring → Row → ℕ
 score_by by row =
     weighted_mean by.weights (scaled row.pages by.total) (preferred by.prefer (scaled row.count by.aggr)) (min row.age MAX_SCORE)
 
--- the score of a row for a scheme, where all ranges have `total` pages and an aggregation has `aggr` passes
+-- The score of a row for a scheme, where all ranges have `total` pages and an aggregation has `aggr` passes: the mean, by the weights,
+-- of its pages as a part of all pages, its count as a part of the passes, and its age.
 abbrev pub score_of : Row → ℕ → ℕ → Scheme → ℕ
-score_of row total aggr scheme = score_by (record { total = total; aggr = aggr; weights = scheme.weights; prefer = scheme.prefer }) row
+score_of row total aggr scheme =
+    weighted_mean scheme.weights (scaled row.pages total) (preferred scheme.prefer (scaled row.count aggr)) (min row.age MAX_SCORE)
