@@ -21,7 +21,7 @@ abbrev pub EachRunChoosesBest : Type 0
 EachRunChoosesBest = (text : List ℕ) (s : ScriptValue) → IsText text s → ChoosesBestFrom s.setup (script_events s)
 
 -- the same of the generated script of each number
-pub record GeneratedRunsAreBound : Type 0 where
+pub record GeneratedRunsAreRight : Type 0 where
   pub bound : (n : ℕ) → IsBoundAlong (gen n)
   pub choices : (n : ℕ) → ChoosesBestAlong (gen n)
 

@@ -4,7 +4,7 @@ ghost use Rattle.damon_core.specs.Reached.{Reached};
 ghost use Rattle.damon_core.specs.State.{State};
 ghost use Rattle.damon_app.specs.Heating.{AddUp};
 ghost use Rattle.damon_app.specs.Runs.{EachRunChoosesBest, EachRunFollowsGoals, EachRunIsAccounted, EachRunIsBound};
-ghost use Rattle.damon_app.specs.Runs.{GeneratedRunsAreBound};
+ghost use Rattle.damon_app.specs.Runs.{GeneratedRunsAreRight};
 
 // The states along each run are bound.
 pub(crate) fn each_run_is_bound()
@@ -28,7 +28,7 @@ pub(crate) fn each_run_chooses_best()
 
 // Both hold of generated scripts too.
 pub(crate) fn generated_runs_are_bound()
-    ensures { GeneratedRunsAreBound }
+    ensures { GeneratedRunsAreRight }
 {
     trace_gen::generated_scripts_are_sound();
     script_run::each_script_is_bound();

@@ -13,7 +13,7 @@ ghost use Rattle.damon_app.specs.Request.{AskToReplay, ReadsInput, ReadsJournal,
 ghost use Rattle.damon_app.specs.Contexts.{Administers};
 ghost use Rattle.damon_app.specs.Generated.{gen_text};
 ghost use Rattle.damon_app.specs.Runs.{EachRunChoosesBest, EachRunFollowsGoals, EachRunIsAccounted, EachRunIsBound};
-ghost use Rattle.damon_app.specs.Runs.{GeneratedRunsAreBound};
+ghost use Rattle.damon_app.specs.Runs.{GeneratedRunsAreRight};
 ghost use Rattle.damon_journal.specs.Status.{EndsRun, IsRead, IsUnwritten, status_of};
 ghost use Rattle.damon_journal.specs.Verified.{IsOfNoLawfulRun};
 ghost use Rattle.damon_app.specs.Replay.{IsBegun, IsExpected, MayCome, Reports, TellsFault, TellsJournal, TellsReport};
@@ -76,7 +76,7 @@ pub fn replay_main<S: Source, K: Sink>(
     // within what is left of its quota, which is the best choice. Both hold of generated scripts too.
     ensures bound { EachRunIsBound }
     ensures choices { EachRunChoosesBest }
-    ensures generated { GeneratedRunsAreBound }
+    ensures generated { GeneratedRunsAreRight }
 
     // The same holds of every script under `reclaim` and under `tune`. Under `reclaim` each page is resident
     // or out, and out exactly where a `pageout` scheme was applied to it and since then it was neither

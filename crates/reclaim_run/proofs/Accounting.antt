@@ -4,9 +4,9 @@ use Rattle.damon_core.specs.After.{after}
 use Rattle.damon_core.specs.Event.{Event, touch, prepare, clear, load, observe, aggregate, commit, show}
 use Rattle.damon_core.specs.Reached.{AllFit, Reached, run}
 use Rattle.damon_core.specs.State.{State, opening}
-use Rattle.script_run.specs.BoundAlong.{EachRunIsBound}
+use Rattle.script_run.specs.BoundAlong.{EachRunWithCallbacksIsBound}
 use Rattle.script_run.specs.Callbacks.{FitAlways, FitByHit}
-use Rattle.script_run.specs.Choices.{EachRunChoosesBest}
+use Rattle.script_run.specs.Choices.{EachRunWithCallbacksChoosesBest}
 use Rattle.reclaim_module.proofs.Lemmas.{balance, others_are_resident, out_by_last, page_out_slot_by_slot, since_last, touches_are_within}
 use Rattle.reclaim_run.specs.Along.{EachReclaimedRun, IsAccounted}
 use Rattle.reclaim_run.specs.Reclaimed.{pages_in, reclaim_callbacks, share_after}
@@ -38,7 +38,7 @@ reached_is_accounted s reached = record {
   counts = balance (pages_in s) s.notes (touches_are_within s reached);
 }
 
-pub each_is_accounted : EachRunIsBound → EachRunChoosesBest → EachReclaimedRun
+pub each_is_accounted : EachRunWithCallbacksIsBound → EachRunWithCallbacksChoosesBest → EachReclaimedRun
 each_is_accounted bound choices s sound =
     let all = bound reclaim_callbacks reclaim_fits s sound in
     record {

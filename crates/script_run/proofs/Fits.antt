@@ -32,9 +32,9 @@ use Rattle.script_run.specs.Part as part
 use Rattle.script_run.specs.declared.part.Until.{Until}
 use Rattle.damon_control.specs.Script.{ScriptValue}
 use Rattle.damon_control.specs.Sound.{IsSound}
-use Rattle.script_run.specs.BoundAlong.{EachRunIsBound}
+use Rattle.script_run.specs.BoundAlong.{EachRunWithCallbacksIsBound}
 use Rattle.script_run.specs.Callbacks.{Callbacks, FitAlways, FitByHit, no_callbacks, put_after}
-use Rattle.script_run.specs.Choices.{EachRunChoosesBest}
+use Rattle.script_run.specs.Choices.{EachRunWithCallbacksChoosesBest}
 use Rattle.script_run.specs.Course.{Course, course_after, going_with, onward-moment, onward-state, Reached-onward, with_puts, with_puts-append}
 use Rattle.script_run.specs.Going.{onward}
 use Rattle.script_run.specs.RunWith.{start_with, unfold_with}
@@ -238,7 +238,7 @@ script_fits c always in_phase s sound =
     (parts_within s.setup.cap (pages_of s.setup.space) s.commands sound.commands))
 
 -- each state to which a prefix of them leads is bound
-pub bound_along : ((s : State) → Reached s → IsInPhase s) → ((s : State) → ReachedByHit s → Bound s) → EachRunIsBound
+pub bound_along : ((s : State) → Reached s → IsInPhase s) → ((s : State) → ReachedByHit s → Bound s) → EachRunWithCallbacksIsBound
 bound_along in_phase bound c always s sound =
     let fits = script_fits c always in_phase s sound in
     record {
@@ -254,7 +254,7 @@ bound_along in_phase bound c always s sound =
     }
 
 -- each aggregation among them applies each active scheme to the best choice
-pub choices_along : ((s : State) → Reached s → IsInPhase s) → ((s : State) → Reached s → ServesBest s) → EachRunChoosesBest
+pub choices_along : ((s : State) → Reached s → IsInPhase s) → ((s : State) → Reached s → ServesBest s) → EachRunWithCallbacksChoosesBest
 choices_along in_phase best c always s sound events rest words is =
     let fits = script_fits c always in_phase s sound in
     best (run (opening s.setup) events) (record {

@@ -25,8 +25,8 @@ abbrev pub IsBoundWith : Callbacks → ScriptValue → Type 0
 IsBoundWith c s = IsBoundFrom s.setup (unfold_with c s)
 
 -- the same for each script within its limits, with callbacks whose events fit where they are put in
-abbrev pub EachRunIsBound : Type 0
-EachRunIsBound = (c : Callbacks) → FitAlways c → (s : ScriptValue) → IsSound s → IsBoundWith c s
+abbrev pub EachRunWithCallbacksIsBound : Type 0
+EachRunWithCallbacksIsBound = (c : Callbacks) → FitAlways c → (s : ScriptValue) → IsSound s → IsBoundWith c s
 
 -- the same for each script within its limits, without callbacks
 abbrev pub EachScriptIsBound : Type 0

@@ -27,8 +27,8 @@ abbrev pub ChoosesBestWith : Callbacks → ScriptValue → Type 0
 ChoosesBestWith c s = ChoosesBestFrom s.setup (unfold_with c s)
 
 -- the same for each script within its limits, with callbacks whose events fit where they are put in
-abbrev pub EachRunChoosesBest : Type 0
-EachRunChoosesBest = (c : Callbacks) → FitAlways c → (s : ScriptValue) → IsSound s → ChoosesBestWith c s
+abbrev pub EachRunWithCallbacksChoosesBest : Type 0
+EachRunWithCallbacksChoosesBest = (c : Callbacks) → FitAlways c → (s : ScriptValue) → IsSound s → ChoosesBestWith c s
 
 -- the same for each script within its limits, without callbacks
 abbrev pub EachChoiceIsBest : Type 0

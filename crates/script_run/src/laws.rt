@@ -1,6 +1,6 @@
 // What holds of the events of each script.
-ghost use Rattle.script_run.specs.BoundAlong.{EachRunIsBound, EachScriptIsBound};
-ghost use Rattle.script_run.specs.Choices.{EachChoiceIsBest, EachRunChoosesBest};
+ghost use Rattle.script_run.specs.BoundAlong.{EachRunWithCallbacksIsBound, EachScriptIsBound};
+ghost use Rattle.script_run.specs.Choices.{EachChoiceIsBest, EachRunWithCallbacksChoosesBest};
 ghost use Rattle.script_run.specs.Reaching.{ReachTheirPhase};
 ghost use Rattle.script_run.specs.ScriptEvents.{EventsAreAlone};
 ghost use Rattle.script_run.specs.TextReport.{ReportsAreText};
@@ -10,8 +10,8 @@ ghost use Rattle.script_run.specs.TextReport.{ReportsAreText};
 /// prefix of them leads is bound, and each aggregation applies each set and active scheme to the best
 /// choice. No code is run for it.
 pub fn each_run_with_callbacks_is_bound()
-    ensures bound { EachRunIsBound }
-    ensures choices { EachRunChoosesBest }
+    ensures bound { EachRunWithCallbacksIsBound }
+    ensures choices { EachRunWithCallbacksChoosesBest }
 {
     damon_core::reached_states_are_bound();
 }
