@@ -1,5 +1,6 @@
 -- Which commits are accepted, and the first check of the others that fails.
 use Rattle.std.specs.Prelude.{ℕ, ◌+◌, ◌==◌, nat_le, nat_lt, List, length, Option, Some, None, Result, Ok, Err, if◌then◌else◌}
+use Rattle.std.specs.Option.{option_map_or}
 use Rattle.std.specs.Result.{result_and}
 use Rattle.damon_types.specs.declared.attrs.Attrs.{Attrs}
 use Rattle.damon_types.specs.declared.range.RangeSpec.{RangeSpec}
@@ -44,13 +45,11 @@ checked_new_ranges space unit cap (Some specs) =
 
 -- the number of ranges after a commit, where there are `now` before it
 abbrev pub ranges_after : Option (List RangeSpec) → ℕ → ℕ
-ranges_after None now = now
-ranges_after (Some specs) now = length specs
+ranges_after ranges now = option_map_or (λ specs. length specs) ranges now
 
 -- the most regions that are allowed after a commit, where at most `now` are allowed before it
 abbrev pub max_after : Option Attrs → ℕ → ℕ
-max_after None now = now
-max_after (Some a) now = a.max
+max_after attrs now = option_map_or (λ a. a.max) attrs now
 
 -- the ranges are no more than the regions that are allowed
 abbrev pub checked_number : ℕ → ℕ → Result (Unit {0}) CommitFault
@@ -87,6 +86,6 @@ abbrev pub checked_commit : List Target → View → CommitValue → Result (Uni
 checked_commit space v c =
     result_and (checked_phase v.phase v.rows)
     (result_and (checked_new_ranges space v.unit v.cap c.ranges)
-    (result_and (checked_number (ranges_after c.ranges v.ranges) (max_after c.attrs v.max))
+    (result_and (checked_number (option_map_or (λ specs. length specs) c.ranges v.ranges) (option_map_or (λ a. a.max) c.attrs v.max))
     (result_and (checked_new_attrs v.cap c.attrs)
     (result_and (checked_new_slot v.version c.slot) (checked_cost v.version c.cost)))))

@@ -6,6 +6,7 @@ use Rattle.damon_types.specs.declared.range.TheConstants.{MAX_CLASS}
 use Rattle.damon_types.specs.declared.space.TheConstants.{PAGE_SIZE}
 use Rattle.damon_types.specs.declared.space.Target.{Target}
 use Rattle.damon_types.specs.declared.range.RangeSpec.{RangeSpec}
+use Rattle.damon_types.specs.Faults.{fault_as}
 use Rattle.target_ranges.specs.declared.fault.RangeFault.{RangeFault}
 use Rattle.target_ranges.specs.declared.fault.RangeWhy.{RangeWhy}
 use Rattle.target_ranges.specs.declared.fault.RangeWhy.TheVariants.{TooMany, NoSuchTarget, Unaligned, Reversed, OutsideSpan, TooSmall, BadClass, Overlap}
@@ -40,14 +41,13 @@ checked_next ts unit cap before s = checked_range ts unit cap (length before) (l
 
 -- the reason against the spec with this index, as a fault of the list
 abbrev pub fault_at : ℕ → Result (Unit {0}) RangeWhy → Result (Unit {0}) RangeFault
-fault_at index (Ok t) = Ok t
-fault_at index (Err why) = Err (record { index = index; why = why })
+fault_at index r = fault_as (λ why. record { index = index; why = why }) r
 
 -- the first spec that is rejected, where the first of these specs has this index and this spec before it
 abbrev pub checked_from : List Target → ℕ → ℕ → ℕ → Option RangeSpec → List RangeSpec → Result (Unit {0}) RangeFault
 checked_from ts unit cap index before [] = Ok tt
 checked_from ts unit cap index before (s ∷ specs) =
-    result_and (fault_at index (checked_range ts unit cap index before s))
+    result_and (fault_as (λ why. record { index = index; why = why }) (checked_range ts unit cap index before s))
     (checked_from ts unit cap (index + 1) (Some s) specs)
 
 -- the first spec that is rejected
