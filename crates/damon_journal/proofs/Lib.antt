@@ -14,7 +14,10 @@ pub mod Streams
 pub mod Untouched
 pub mod Fitting
 pub mod Quiet
+pub mod WovenList
 pub mod WovenTouches
+pub mod WovenCounts
+pub mod WovenRuns
 pub mod Weaving
 pub mod Growing
 pub mod Longer

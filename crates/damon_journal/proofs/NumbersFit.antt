@@ -99,16 +99,12 @@ entries_fit v known (e ∷ es) passes r far fit most =
 
 -- ---- the tags
 
-IsSmall : ℕ → Type 0
-IsSmall n = n < 2 ^ 64
-
-clears_small : (page pass : ℕ) (picks : List ℕ) → pass < 2 ^ 64 → AllByRecursion IsSmall (clear_passes_of page (clear_steps pass picks))
-unfolding IsSmall
-clears_small page pass [] below = tt
-clears_small page pass (p ∷ picks) below = by_test (p == page) (clears_small page pass picks below)
+clears_named : (P : ℕ → Type 0) (page pass : ℕ) (picks : List ℕ) → P pass → AllByRecursion P (clear_passes_of page (clear_steps pass picks))
+clears_named P page pass [] here = tt
+clears_named P page pass (p ∷ picks) here = by_test (p == page) (clears_named P page pass picks here)
   where
-    by_test : (b : Bool) → AllByRecursion IsSmall (clear_passes_of page (clear_steps pass picks)) → AllByRecursion IsSmall (cond b (pass ∷ []) [] ++ clear_passes_of page (clear_steps pass picks))
-    by_test true rest = (below, rest)
+    by_test : (b : Bool) → AllByRecursion P (clear_passes_of page (clear_steps pass picks)) → AllByRecursion P (cond b (pass ∷ []) [] ++ clear_passes_of page (clear_steps pass picks))
+    by_test true rest = (here, rest)
     by_test false rest = rest
 
 loads_clear_nothing : (page pass : ℕ) (picks : List ℕ) (bits : List Bool) → clear_passes_of page (load_steps pass picks bits) ≡ []
@@ -116,33 +112,51 @@ loads_clear_nothing page pass [] bits = refl
 loads_clear_nothing page pass (p ∷ picks) [] = refl
 loads_clear_nothing page pass (p ∷ picks) (b ∷ bits) = loads_clear_nothing page pass picks bits
 
-entry_small : (v : LiveValue) (page : ℕ) (r : Replayed) (e : Entry) → EntryNumbersFit e → AllByRecursion IsSmall (clear_passes_of page (entry_steps v r e))
-entry_small v page r (Prepare pass position) fits = clears_small page pass _ fits.0
-entry_small v page r (Check pass) fits = subst (AllByRecursion IsSmall) (sym (loads_clear_nothing page pass r.state.core.picks (take (row_count r.state.core) r.bits))) tt
-entry_small v page r (Void pass) fits = tt
-entry_small v page r (Aggregate tick position) fits = tt
-entry_small v page r (Call controller index answer) fits = tt
+-- the pass that an entry prepares is one of these
+abbrev pub Prepares : (ℕ → Type 0) → Entry → Type 0
+Prepares P (Prepare pass position) = P pass
+Prepares P _ = Unit {0}
 
-steps_small : (v : LiveValue) (page : ℕ) (es : List Entry) (r : Replayed) → AllByRecursion EntryNumbersFit es → AllByRecursion IsSmall (clear_passes_of page (steps_from v r es))
-steps_small v page [] r fit = tt
-steps_small v page (e ∷ es) r fit =
-    subst (AllByRecursion IsSmall) (sym (flat_append (clear_of page) (entry_steps v r e) (steps_from v (carried v r e) es)))
-    (all_append IsSmall (clear_passes_of page (entry_steps v r e)) (clear_passes_of page (steps_from v (carried v r e) es)) (entry_small v page r e fit.0) (steps_small v page es (carried v r e) fit.1))
+entry_named : (P : ℕ → Type 0) (v : LiveValue) (page : ℕ) (r : Replayed) (e : Entry) → Prepares P e → AllByRecursion P (clear_passes_of page (entry_steps v r e))
+entry_named P v page r (Prepare pass position) here = clears_named P page pass _ here
+entry_named P v page r (Check pass) here = subst (AllByRecursion P) (sym (loads_clear_nothing page pass r.state.core.picks (take (row_count r.state.core) r.bits))) tt
+entry_named P v page r (Void pass) here = tt
+entry_named P v page r (Aggregate tick position) here = tt
+entry_named P v page r (Call controller index answer) here = tt
 
-small_among : (xs : List ℕ) (x : ℕ) → AllByRecursion IsSmall xs → Contains xs x → IsSmall x
-small_among [] x all (k, within, is) = absurd (omega (arith, within))
-small_among (y ∷ ys) x all there = ⊎_elim (λ (same : y ≡ x). subst IsSmall same all.0) (λ (later : Contains ys x). small_among ys x all.1 later) (cases y ys x there)
+-- the passes of clears are those that entries prepare
+pub steps_named : (P : ℕ → Type 0) (v : LiveValue) (page : ℕ) (es : List Entry) (r : Replayed) → AllByRecursion (Prepares P) es → AllByRecursion P (clear_passes_of page (steps_from v r es))
+steps_named P v page [] r each = tt
+steps_named P v page (e ∷ es) r each =
+    subst (AllByRecursion P) (sym (flat_append (clear_of page) (entry_steps v r e) (steps_from v (carried v r e) es)))
+    (all_append P (clear_passes_of page (entry_steps v r e)) (clear_passes_of page (steps_from v (carried v r e) es)) (entry_named P v page r e each.0) (steps_named P v page es (carried v r e) each.1))
+
+pub all_among : (P : ℕ → Type 0) (xs : List ℕ) (x : ℕ) → AllByRecursion P xs → Contains xs x → P x
+all_among P [] x all (k, within, is) = absurd (omega (arith, within))
+all_among P (y ∷ ys) x all there = ⊎_elim (λ (same : y ≡ x). subst P same all.0) (λ (later : Contains ys x). all_among P ys x all.1 later) (cases y ys x there)
 
 -- each receipt among all of them
-each_tag : (rs : List Receipt) → ((page tag : ℕ) → Contains (touches_of rs) (touch page tag) → tag < 2 ^ 64) → AllByRecursion (λ r. r.tag < 2 ^ 64) rs
-each_tag [] known = tt
-each_tag (r ∷ rs) known = (known r.page r.tag (0, omega arith, refl), each_tag rs (λ page tag there. known page tag (Contains-append_right (touch r.page r.tag ∷ []) (touches_of rs) (touch page tag) there)))
+pub each_tag : (P : ℕ → Type 0) (rs : List Receipt) → ((page tag : ℕ) → Contains (touches_of rs) (touch page tag) → P tag) → AllByRecursion (λ r. P r.tag) rs
+each_tag P [] known = tt
+each_tag P (r ∷ rs) known = (known r.page r.tag (0, omega arith, refl), each_tag P rs (λ page tag there. known page tag (Contains-append_right (touch r.page r.tag ∷ []) (touches_of rs) (touch page tag) there)))
+
+IsSmall : ℕ → Type 0
+IsSmall n = n < 2 ^ 64
+
+small_passes : (es : List Entry) → AllByRecursion EntryNumbersFit es → AllByRecursion (Prepares IsSmall) es
+unfolding IsSmall
+small_passes [] fit = tt
+small_passes (Prepare pass position ∷ es) fit = (fit.0.0, small_passes es fit.1)
+small_passes (Check pass ∷ es) fit = (tt, small_passes es fit.1)
+small_passes (Void pass ∷ es) fit = (tt, small_passes es fit.1)
+small_passes (Aggregate tick position ∷ es) fit = (tt, small_passes es fit.1)
+small_passes (Call controller index answer ∷ es) fit = (tt, small_passes es fit.1)
 
 all_tags : (all : List (List Receipt)) → ((page tag : ℕ) → Received all page tag → tag < 2 ^ 64) → TagsFit all
 all_tags [] known = tt
 all_tags (rs ∷ all) known =
     let parts = touches-append rs (all_of all) in (
-      each_tag rs (λ page tag there. known page tag (subst (λ l. Contains l (touch page tag)) (sym parts) (Contains-append_left (touches_of rs) (touches_of (all_of all)) (touch page tag) there))),
+      each_tag (λ tag. tag < 2 ^ 64) rs (λ page tag there. known page tag (subst (λ l. Contains l (touch page tag)) (sym parts) (Contains-append_left (touches_of rs) (touches_of (all_of all)) (touch page tag) there))),
       all_tags all (λ page tag there. known page tag (subst (λ l. Contains l (touch page tag)) (sym parts) (Contains-append_right (touches_of rs) (touches_of (all_of all)) (touch page tag) there))),
     )
 
@@ -159,6 +173,6 @@ lawful_fit commits in_phase v j all can limits call lawful few =
       numbers = numbers;
       tags = all_tags all (λ page tag there. ⊎_elim
           (λ (none : tag ≡ 0). omega (arith, none))
-          (λ (named : Contains (clear_passes_of page (steps v j)) tag). small_among (clear_passes_of page (steps v j)) tag (steps_small v page j.entries (begun v j.bits) numbers) named)
+          (λ (named : Contains (clear_passes_of page (steps v j)) tag). all_among IsSmall (clear_passes_of page (steps v j)) tag (steps_named IsSmall v page j.entries (begun v j.bits) (small_passes j.entries numbers)) named)
           (lawful.receipts.name page tag there));
     }

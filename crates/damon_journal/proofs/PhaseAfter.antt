@@ -133,3 +133,39 @@ entry_counts v r (Aggregate tick pos) some few max fits =
     counted_as r.state.core (carried v r (Aggregate tick pos)).state.core Due Idle (2 * r.state.core.attrs.max) 0 fits.0 refl (omega arith) (omega (arith, max))
 entry_counts v r (Call controller index answer) some few max fits =
     subst (λ o. IsCounted r.state.core (run r.state (option_map_or (λ (call : CallValue). call_event call ∷ []) o [])).core 0 0) (sym fits.1.1) (counts_call r.state fits.1.0)
+
+-- ---- the passes alone
+
+-- whether an entry ends a pass, as a number
+abbrev pub ends_pass : Entry → ℕ
+ends_pass (Check pass) = 1
+ends_pass (Void pass) = 1
+ends_pass _ = 0
+
+-- how an entry changes the passes that were begun, and those that have ended
+pub record MovesPasses (old new : Core) (e : Entry) : Type 0 where
+  pub begun : new.ticks + passes_open new.phase ≡ old.ticks + passes_open old.phase + prepares e
+  pub ended : new.ticks ≡ old.ticks + ends_pass e
+
+pub entry_moves : (v : LiveValue) (r : Replayed) (e : Entry) → 0 < row_count r.state.core → EntryFits v r e → MovesPasses r.state.core (carried v r e).state.core e
+entry_moves v r (Prepare pass pos) some fits =
+    let c = r.state.core in
+    let ws = drawn (row_count c) (words_after v.seed r.drawn) in
+    let armed : IsArmedAt c.ticks (carried v r (Prepare pass pos)).state = all_clears_arm (record c { picks = picks_of c.regions.rows ws }) (row_count c) r.state.notes refl some in
+    let closed : passes_open c.phase ≡ 0 = ap passes_open fits.0 in
+    let opened : passes_open (carried v r (Prepare pass pos)).state.core.phase ≡ 1 = ap passes_open armed.0 in
+    record { begun = omega (arith, armed.1, closed, opened); ended = omega (arith, armed.1) }
+entry_moves v r (Check pass) some fits = record { begun = (counts_check v r pass some fits).passes; ended = check_ticks v r pass some fits }
+entry_moves v r (Void pass) some fits =
+    let c = r.state.core in
+    let s : Phase → State = λ ph. run (at c ph r.state.notes) (entry_events v r (Void pass)) in
+    record { begun = (counts_void v r pass fits).passes; ended = subst (λ ph. (s ph).core.ticks ≡ c.ticks + 1) (sym fits.0) refl }
+entry_moves v r (Aggregate tick pos) some fits =
+    let due : passes_open r.state.core.phase ≡ 0 = ap passes_open fits.0 in
+    record { begun = omega (arith, due); ended = omega arith }
+entry_moves v r (Call controller index answer) some fits =
+    subst (λ o. MovesPasses r.state.core (run r.state (option_map_or (λ (call : CallValue). call_event call ∷ []) o [])).core (Call controller index answer)) (sym fits.1.1) (by_call r.state fits.1.0)
+  where
+    by_call : (s : State) (call : CallValue) → MovesPasses s.core (run s (call_event call ∷ [])).core (Call controller index answer)
+    by_call s ShowCall = record { begun = omega arith; ended = omega arith }
+    by_call s (CommitCall parts) = record { begun = (counts_call s (CommitCall parts)).passes; ended = omega (arith, commit_ticks (check_of parts s.core) parts s) }

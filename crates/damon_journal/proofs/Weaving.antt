@@ -1,6 +1,6 @@
 -- The woven events of a lawful journal: they fit, the results of their loads are right, and they lead where the replay does.
 use Rattle.std.proofs.Common.{◌≡◌, ℕ, suc, ◌+◌, ◌<◌, Bool, true, false, cond, List, [], ◌∷◌, ◌++◌, length, take, Option, Some, None, Ok, Err, refl, sym, ap, ◌∙◌, subst, arith}
-use Rattle.std.specs.Prelude.{◌&&◌, ◌==◌, filter, filter_map, map, nat_le, not, reverse, Result}
+use Rattle.std.specs.Prelude.{filter, filter_map, map, nat_le, reverse, Result}
 use Rattle.std.specs.List.{AllByRecursion}
 use Rattle.std.specs.Option.{option_map_or}
 use Rattle.std.proofs.lemmas.List.Elements.{Contains-append_left, Contains-append_right, filter-append}
@@ -23,26 +23,26 @@ use Rattle.damon_core.specs.Note.{Note, set, dropped}
 use Rattle.damon_core.specs.Commit.{becomes_void, check_of, committed, committed_core, if_accepted, with_cost, with_metric, with_slot}
 use Rattle.damon_core.specs.State.{Core, State, opening, row_count, set_note}
 use Rattle.damon_core.specs.After.{after, phase_after_pass}
-use Rattle.damon_core.specs.Event.{Event, prepare, load, observe}
+use Rattle.damon_core.specs.Event.{prepare, load, observe}
 use Rattle.damon_core.specs.InPhase.{IsInPhase}
 use Rattle.damon_core.specs.Makes.{AllFit-append, run-append}
 use Rattle.damon_core.specs.Pass.{IsInPass, PagesRiseFrom}
 use Rattle.damon_core.specs.Several.{clears}
-use Rattle.damon_core.specs.Reached.{AllByHit, AllFit, CanOpen, Reached, ReachedByHit, run}
+use Rattle.damon_core.specs.Reached.{AllByHit, AllFit, Reached, ReachedByHit, run}
 use Rattle.damon_control.specs.Live.{CallValue, CommitCall, LiveValue, ShowCall}
 use Rattle.damon_journal.specs.declared.entry.CallAnswer.{CallAnswer}
 use Rattle.damon_journal.specs.declared.entry.Entry.{Entry}
 use Rattle.damon_journal.specs.declared.entry.Entry.TheVariants.{Prepare, Check, Void, Aggregate, Call}
 use Rattle.damon_journal.specs.declared.entry.Receipt.{Receipt}
-use Rattle.damon_journal.specs.Lawful.{all_of, IsLawful}
-use Rattle.damon_journal.specs.Replay.{EntriesFit, EntryFits, JournalValue, Replayed, begun, call_at, call_event, carried, entry_events, replay_from}
+use Rattle.damon_journal.specs.Replay.{EntriesFit, EntryFits, Replayed, call_at, call_event, carried, entry_events, replay_from}
 use Rattle.damon_journal.specs.Steps.{entry_steps, steps_from}
-use Rattle.damon_journal.specs.Woven.{WovenRuns, hit_at, is_no_touch, late, touch_events, touches_after, touches_before, untouched, woven_from}
+use Rattle.damon_journal.specs.Woven.{is_no_touch, untouched}
 use Rattle.damon_journal.specs.Words.{words_after}
 use Rattle.damon_journal.proofs.Untouched.{AllFit-untouched, run-untouched}
 use Rattle.damon_journal.proofs.Fitting.{at, carried_reached, entry_fits, entry_own, length-taken, length-words, run_space}
 use Rattle.damon_journal.proofs.Quiet.{HitsReceived, IsArmedBy, Quiet, all_clears_quiet, all_loads_by_hit, all_right, tagged, told_by_pages, touched_core}
-use Rattle.damon_journal.proofs.WovenTouches.{no_loads, AllByHit-append, clears_load_nothing, calls_load_nothing, some_touches, before_are, after_are, touched_by}
+use Rattle.damon_journal.proofs.WovenList.{hit_at, touches_after, touches_before, woven_from}
+use Rattle.damon_journal.proofs.WovenTouches.{no_loads, AllByHit-append, clears_load_nothing, calls_load_nothing, before_are, after_are, touched_by}
 
 -- what is known of states that are reached
 pub record PassLaws : Type 0 where
@@ -218,7 +218,7 @@ pub record IsWoven (v : LiveValue) (rs : List Receipt) (r : Replayed) (s : State
   pub by_hit : AllByHit s (woven_from v rs r es)
   pub same : untouched (run s (woven_from v rs r es)) ≡ (replay_from v r es).state
 
-weave : PassLaws → (v : LiveValue) (rs : List Receipt) → AllByRecursion (λ x. x.page < pages_of v.setup.space) rs → (es : List Entry) (r : Replayed) (s : State) → EntriesFit v r es → IsBefore v r s → HitsReceived (steps_from v r es) rs → IsWoven v rs r s es
+pub weave : PassLaws → (v : LiveValue) (rs : List Receipt) → AllByRecursion (λ x. x.page < pages_of v.setup.space) rs → (es : List Entry) (r : Replayed) (s : State) → EntriesFit v r es → IsBefore v r s → HitsReceived (steps_from v r es) rs → IsWoven v rs r s es
 weave laws v rs within [] r s fits h received = record { fit = tt; by_hit = tt; same = h.same }
 weave laws v rs within (e ∷ es) r s fits h received =
     let some : 0 < row_count r.state.core = (laws.in_phase r.state h.reached).some in
@@ -271,41 +271,5 @@ set_untouched (change ∷ changes) = by_scheme change.scheme (set_untouched chan
     by_scheme None same = same
     by_scheme (Some scheme) same = with_one (set change.slot scheme) refl same
 
-opening_untouched : (v : SetupValue) → untouched (opening v) ≡ opening v
+pub opening_untouched : (v : SetupValue) → untouched (opening v) ≡ opening v
 opening_untouched v = ap (λ ns. record (opening v) { notes = ns }) (set_untouched v.slots)
-
--- what holds of all events holds of the first ones
-front_fits : (s : State) (es fs : List Event) → AllFit s (es ++ fs) → AllFit s es
-front_fits s [] fs fit = tt
-front_fits s (e ∷ es) fs fit = (fit.0, front_fits (after s e) es fs fit.1)
-
-front_by_hit : (s : State) (es fs : List Event) → AllByHit s (es ++ fs) → AllByHit s es
-front_by_hit s [] fs right = tt
-front_by_hit s (e ∷ es) fs right = (right.0, front_by_hit (after s e) es fs right.1)
-
-pub weaves : PassLaws → (v : LiveValue) (j : JournalValue) (all : List (List Receipt)) → CanOpen v.setup → IsLawful v j all → WovenRuns v j all
-weaves laws v j all can lawful =
-    let rs = all_of all in
-    let s = opening v.setup in
-    let r = begun v j.bits in
-    let b = touch_events (late 0 [] [] rs) in
-    let rest = woven_from v rs r j.entries in
-    let before = touched_by s b (some_touches (pages_of v.setup.space) (λ x. (x.tag == 0) && not (hit_at [] [] x.page)) rs lawful.receipts.within) in
-    let reached : Reached s = record { setup = v.setup; events = []; can_open = can; fit = tt; is = refl } in
-    let first : IsBefore v r (run s b) = record { reached = reached; space = refl; same = before.same ∙ opening_untouched v.setup; ready = λ may. absurd may } in
-    let others = weave laws v rs lawful.receipts.within j.entries r (run s b) lawful.journal.fit first lawful.receipts.hits in
-    let fit = AllFit-append s b rest before.fit others.fit in
-    let by_hit = AllByHit-append s b rest before.by_hit others.by_hit in
-    record {
-      fit = fit;
-      by_hit = by_hit;
-      bound = λ events more split. laws.bound (run s events) (record {
-        setup = v.setup;
-        events = events;
-        can_open = can;
-        fit = front_fits s events more (subst (AllFit s) split fit);
-        by_hit = front_by_hit s events more (subst (AllByHit s) split by_hit);
-        is = refl;
-      });
-      same = ap untouched (run-append s b rest) ∙ others.same;
-    }

@@ -14,7 +14,8 @@ use Rattle.damon_journal.specs.declared.entry.Entry.{Entry}
 use Rattle.damon_journal.specs.declared.entry.Entry.TheVariants.{Prepare, Check, Void, Aggregate, Call}
 use Rattle.damon_journal.specs.declared.entry.Receipt.{Receipt}
 use Rattle.damon_journal.specs.Replay.{Replayed, call_event}
-use Rattle.damon_journal.specs.Woven.{hit_at, touch_events, touches_after, touches_before, untouched}
+use Rattle.damon_journal.specs.Woven.{untouched}
+use Rattle.damon_journal.proofs.WovenList.{hit_at, touch_events, touches_after, touches_before}
 
 -- ---- events that load nothing
 

@@ -11,7 +11,7 @@ use Rattle.damon_journal.specs.declared.entry.Receipt.{Receipt}
 use Rattle.damon_journal.specs.Replay.{IsJournalOf, JournalValue, check_sizes, replay}
 use Rattle.damon_journal.specs.Steps.{steps}
 use Rattle.damon_journal.specs.Text.{journal_text}
-use Rattle.damon_journal.specs.Woven.{woven}
+use Rattle.damon_journal.specs.Woven.{AreWoven}
 use Rattle.damon_journal.specs.Words.{words_at}
 
 -- its live script
@@ -47,7 +47,7 @@ pub record Comes : Type 0 where
   pub counts : map (λ r. r.count) (replay one_page one_pass).state.core.regions.rows ≡ 1 ∷ []
   pub sizes : check_sizes one_page one_pass ≡ 1 ∷ []
   pub steps_are : steps one_page one_pass ≡ Clear 0 1 ∷ Load 0 3 ∷ []
-  pub woven_are : woven one_page one_pass two_receipts ≡ touch 0 ∷ prepare (words_at 42 0 1) ∷ clear ∷ show ∷ touch 0 ∷ load true ∷ observe ∷ []
+  pub woven : AreWoven one_page one_pass two_receipts (touch 0 ∷ prepare (words_at 42 0 1) ∷ clear ∷ show ∷ touch 0 ∷ load true ∷ observe ∷ [])
   pub text :
       journal_text one_page one_pass two_receipts
       ≡ codes "damon journal 1\nseed 42\nunit 1\ncap 3\nattrs 3 3 5\ntarget 0x0 1\nrange 0 0x0 0x1000 0\nbegin\nprepare 1 at 0\ncall 0 0 show\nanswer shown tick=0 rows=1\ncheck 1 1\nreceipts\nseen 0 0 0x0 1\nseen 1 0 0x0 0\nsettled\nshow tick=1 phase=idle rows=1\nrow 0 0x0-0x1000 count=1 last=0 age=0\nend ticks=1 rows=1 checks=1 hits=1\n"

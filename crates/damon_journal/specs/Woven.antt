@@ -1,53 +1,40 @@
--- One list of events for a journal and receipts: the touches stand where the loads found them.
-use Rattle.std.specs.Prelude.{◌≡◌, ℕ, Bool, true, false, ◌&&◌, ◌||◌, ◌==◌, not, List, [], ◌∷◌, ◌++◌, filter, map, take}
+-- One list of events for a journal and receipts: touches stand among the events of the journal, so that its loads find them.
+use Rattle.std.specs.Prelude.{◌≡◌, ℕ, Bool, true, false, ◌==◌, List, [], ◌∷◌, ◌++◌, filter, length}
 use Rattle.damon_core.specs.Bound.{Bound}
 use Rattle.damon_core.specs.Event.{Event, touch}
 use Rattle.damon_core.specs.Note.{Note, touched}
 use Rattle.damon_core.specs.Reached.{AllByHit, AllFit, run}
-use Rattle.damon_core.specs.State.{State, opening, row_count}
+use Rattle.damon_core.specs.State.{State, opening}
 use Rattle.damon_control.specs.Live.{LiveValue}
 use Rattle.damon_journal.specs.declared.entry.Entry.{Entry}
-use Rattle.damon_journal.specs.declared.entry.Entry.TheVariants.{Check, Void}
 use Rattle.damon_journal.specs.declared.entry.Receipt.{Receipt}
-use Rattle.damon_journal.specs.Lawful.{all_of}
+use Rattle.damon_journal.specs.Few.{receipts_of}
 use Rattle.damon_journal.specs.Replay.{JournalValue, Replayed, begun, carried, entry_events, replay}
 
--- the touches of receipts
-abbrev pub touch_events : List Receipt → List Event
-touch_events rs = map (λ r. touch r.page) rs
+-- the events of entries
+abbrev pub events_from : LiveValue → Replayed → List Entry → List Event
+events_from v r [] = []
+events_from v r (e ∷ es) = entry_events v r e ++ events_from v (carried v r e) es
 
--- whether a pick of this page was a hit
-abbrev pub hit_at : List ℕ → List Bool → ℕ → Bool
-hit_at (p ∷ ps) (bit ∷ bits) page = ((p == page) && bit) || hit_at ps bits page
-hit_at _ _ page = false
+-- the events of a journal
+abbrev pub events_of : LiveValue → JournalValue → List Event
+events_of v j = events_from v (begun v j.bits) j.entries
 
--- the receipts of a pass whose pages were hits, given its picks and their results
-abbrev pub early : ℕ → List ℕ → List Bool → List Receipt → List Receipt
-early pass picks bits rs = filter (λ r. (r.tag == pass) && hit_at picks bits r.page) rs
+-- whether an event is no touch
+abbrev pub is_no_touch_event : Event → Bool
+is_no_touch_event (touch page) = false
+is_no_touch_event _ = true
 
--- the other receipts of the pass
-abbrev pub late : ℕ → List ℕ → List Bool → List Receipt → List Receipt
-late pass picks bits rs = filter (λ r. (r.tag == pass) && not (hit_at picks bits r.page)) rs
+-- whether an event is a touch of this page
+abbrev pub is_touch_of : ℕ → Event → Bool
+is_touch_of page (touch p) = p == page
+is_touch_of page _ = false
 
--- the touches before the events of an entry: the early ones of a pass, before its loads
-abbrev pub touches_before : List Receipt → Replayed → Entry → List Event
-touches_before rs r (Check pass) = touch_events (early pass r.state.core.picks (take (row_count r.state.core) r.bits) rs)
-touches_before rs r _ = []
-
--- the touches after the events of an entry: the late ones of a pass, after its end; in a void pass all are late
-abbrev pub touches_after : List Receipt → Replayed → Entry → List Event
-touches_after rs r (Check pass) = touch_events (late pass r.state.core.picks (take (row_count r.state.core) r.bits) rs)
-touches_after rs r (Void pass) = touch_events (late pass [] [] rs)
-touches_after rs r _ = []
-
--- the events of entries with the touches
-abbrev pub woven_from : LiveValue → List Receipt → Replayed → List Entry → List Event
-woven_from v rs r [] = []
-woven_from v rs r (e ∷ es) = touches_before rs r e ++ (entry_events v r e ++ (touches_after rs r e ++ woven_from v rs (carried v r e) es))
-
--- the events of a journal with the touches; those before the first clear of their page come first
-abbrev pub woven : LiveValue → JournalValue → List (List Receipt) → List Event
-woven v j all = let rs = all_of all in touch_events (late 0 [] [] rs) ++ woven_from v rs (begun v j.bits) j.entries
+-- The events of a journal with touches among them: without the touches they are those of the journal, in order, and each page is
+-- touched as often as it has receipts.
+pub record AreWoven (v : LiveValue) (j : JournalValue) (all : List (List Receipt)) (events : List Event) : Type 0 where
+  pub others : filter is_no_touch_event events ≡ events_of v j
+  pub touches : (page : ℕ) → length (filter (is_touch_of page) events) ≡ receipts_of all page
 
 -- whether a note is no touch
 abbrev pub is_no_touch : Note → Bool
@@ -58,10 +45,12 @@ is_no_touch _ = true
 abbrev pub untouched : State → State
 untouched s = record s { notes = filter is_no_touch s.notes }
 
--- The woven events fit; each load has the result of its page, which is the kept one; each state to which a prefix of them leads is
--- bound; and they lead to the state of the replay, but for the touches.
+-- There are events in which the journal is woven with all touches. They fit; each load has the result of its page, which is the kept
+-- one; each state to which a prefix of them leads is bound; and they lead to the state of the replay, but for the touches.
 pub record WovenRuns (v : LiveValue) (j : JournalValue) (all : List (List Receipt)) : Type 0 where
-  pub fit : AllFit (opening v.setup) (woven v j all)
-  pub by_hit : AllByHit (opening v.setup) (woven v j all)
-  pub bound : (events rest : List Event) → woven v j all ≡ events ++ rest → Bound (run (opening v.setup) events)
-  pub same : untouched (run (opening v.setup) (woven v j all)) ≡ (replay v j).state
+  pub events : List Event
+  pub woven : AreWoven v j all events
+  pub fit : AllFit (opening v.setup) events
+  pub by_hit : AllByHit (opening v.setup) events
+  pub bound : (first rest : List Event) → events ≡ first ++ rest → Bound (run (opening v.setup) first)
+  pub same : untouched (run (opening v.setup) events) ≡ (replay v j).state

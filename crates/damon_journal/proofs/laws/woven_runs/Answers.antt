@@ -1,4 +1,5 @@
-use Rattle.damon_journal.proofs.Weaving.{PassLaws, weaves}
+use Rattle.damon_journal.proofs.Weaving.{PassLaws}
+use Rattle.damon_journal.proofs.WovenRuns.{weaves}
 use Rattle.damon_journal.proofs.laws.woven_runs.Goals as goal
 
 pub returns : goal.returns
