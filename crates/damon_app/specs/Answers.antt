@@ -18,7 +18,7 @@ use Rattle.text_io.specs.Taken.{WritesPart}
 use Rattle.damon_app.specs.Request.{ReadsInput, ReadsJournal}
 use Rattle.text_io.specs.Ends.{Ends}
 use Rattle.damon_journal.specs.Status.{IsRead, IsUnwritten}
-use Rattle.damon_journal.specs.Verified.{IsVerified}
+use Rattle.damon_journal.specs.Verified.{IsRunText, IsVerified}
 use Rattle.damon_app.specs.StatusOf.{status_of_text}
 use Rattle.damon_app.specs.Replay.{IsBegun, IsExpected, IsOfInput, MayCome, TellsFault, TellsJournal, TellsReport, report_of}
 use Rattle.damon_journal.specs.Aggregated.{aggregated}
@@ -28,14 +28,14 @@ use Rattle.damon_journal.specs.Replay.{replay}
 use Rattle.damon_app.specs.declared.request.Columns.{Columns}
 use Rattle.damon_app.specs.Contexts.{Administers}
 use Rattle.damon_app.specs.Generated.{gen_text}
-use Rattle.damon_app.specs.Heating.{Heats, IsRun, heat_text}
+use Rattle.damon_app.specs.Heating.{Heats, heat_text}
 use Rattle.damon_app.specs.Verifying.{counts_line}
 
 -- the bytes of an input call for this text
 abbrev pub CallsFor : Request → List ℕ → List ℕ → Type 0
 CallsFor (Report run) bytes text = (s : ScriptValue) × IsText bytes s × (report_of run s ≡ text)
 CallsFor Verify bytes text = (counts : Lawful) × IsVerified bytes counts × (counts_line counts ≡ text)
-CallsFor (Heat columns) bytes text = (said : JournalRead) × IsRun bytes said × (heat_text columns said ≡ text)
+CallsFor (Heat columns) bytes text = (said : JournalRead) × IsRunText bytes said × (heat_text columns said ≡ text)
 CallsFor Admin bytes text = (lines : List ContextLine) × (lines_said bytes ≡ Ok lines) × (output_of lines ≡ text)
 CallsFor (Generate n) bytes text = ⊥
 
@@ -102,7 +102,7 @@ pub record IsRunTaken (limit : ℕ) (source source' : Ends) (r : ReplayerView) :
   pub said : JournalRead
   pub leads : Leads (aggregated said.live said.journal) (replay said.live said.journal).state r
   pub taken : (columns : Columns) → IsTaken limit (Heat columns) source source' (heat_text columns said)
-  pub lawful : (columns : Columns) → IsRun (taken columns).bytes said
+  pub lawful : (columns : Columns) → IsRunText (taken columns).bytes said
 
 -- what a status says where no journal was read, whatever the number of columns
 abbrev pub IsRunRefused : ℕ → Ends → Ends → Status → Type 0

@@ -5,10 +5,8 @@ use Rattle.std.specs.Io.KnownBytes.{Appends}
 use Rattle.damon_core.specs.State.{State}
 use Rattle.damon_journal.specs.Aggregated.{aggregated}
 use Rattle.damon_journal.specs.Place.{JournalRead}
-use Rattle.damon_journal.specs.Reading.{read_journal}
 use Rattle.damon_journal.specs.Replayer.{Leads, ReplayerView}
-use Rattle.damon_journal.specs.Rules.{IsTextOfLawful}
-use Rattle.damon_journal.specs.Woven.{WovenRuns}
+use Rattle.damon_journal.specs.Verified.{IsRunText}
 use Rattle.damon_types.specs.RowPages.{row_pages, working_set}
 use Rattle.heat_report.specs.Freq.{freqs}
 use Rattle.heat_report.specs.Heat.{target_heats, target_total}
@@ -62,13 +60,6 @@ pub record IsWrittenNext (n : ℕ) (old new : HeatProgress) (states : List State
 abbrev pub WritesNext : ℕ → HeatProgress → HeatProgress → Type 0
 WritesNext n old new = (states : List State) (last : State) → Leads states last old.replay → IsWrittenNext n old new states last
 
--- The bytes are the text of a lawful journal, with receipts, that is read as this. Woven together the journal and the receipts are
--- one run of the monitor.
-pub record IsRun (bytes : List ℕ) (said : JournalRead) : Type 0 where
-  pub read : read_journal bytes ≡ Ok said
-  pub lawful : IsTextOfLawful bytes said
-  pub woven : WovenRuns said.live said.journal said.receipts
-
 -- the heat tables of a journal: those of the states of its replay directly after each aggregation
 abbrev pub heat_text : Columns → JournalRead → List ℕ
 heat_text columns said = tables_text (columns_in columns) (aggregated said.live said.journal)
@@ -76,10 +67,10 @@ heat_text columns said = tables_text (columns_in columns) (aggregated said.live 
 -- The bytes are the text of a lawful journal, and the sink gained exactly its heat tables, whose numbers add up.
 pub record Heats (columns : Columns) (bytes : List ℕ) (old new : Option (List ℕ)) : Type 0 where
   pub said : JournalRead
-  pub run : IsRun bytes said
+  pub run : IsRunText bytes said
   pub tables : Appends old new (heat_text columns said)
   pub sums : AllByRecursion (AddUp (columns_in columns)) (aggregated said.live said.journal)
 
 -- the bytes are the text of a lawful journal, and the sink gained a prefix of its heat tables
 abbrev pub HeatsPrefix : Columns → List ℕ → Option (List ℕ) → Option (List ℕ) → Type 0
-HeatsPrefix columns bytes old new = (said : JournalRead) × IsRun bytes said × WritesPart old new (heat_text columns said)
+HeatsPrefix columns bytes old new = (said : JournalRead) × IsRunText bytes said × WritesPart old new (heat_text columns said)

@@ -2,12 +2,17 @@
 use Rattle.std.proofs.Common.{◌∷◌, [], ℕ, List}
 use Rattle.std.specs.List.{AllByRecursion}
 use Rattle.damon_types.specs.declared.scheme.Version.{Version}
+use Rattle.live_commit.specs.Setup.{SetupValue}
 use Rattle.target_ranges.specs.Laws.{MakesEach, MakesInOrder}
+use Rattle.damon_control.specs.JournalHead.{HeadsAreWritable}
 use Rattle.damon_control.specs.Live.{CallValue, CommitCall, LiveValue, ShowCall}
 use Rattle.damon_control.specs.LiveText.{IsLiveText, SayCall, SayController}
 use Rattle.damon_control.specs.Spellable.{FitsCall, IsLiveSpellable}
-use Rattle.damon_control.specs.Text.{EachSays}
-use Rattle.damon_control.proofs.LiveLimits.{IsLiveText-IsLiveSound}
+use Rattle.damon_control.specs.Text.{EachSays, SaySetup}
+use Rattle.damon_control.specs.WriteBack.{IsWritable}
+use Rattle.damon_control.proofs.SayPlaces.{TextLaws}
+use Rattle.damon_control.proofs.Says.{head_of-SaysHead}
+use Rattle.damon_control.proofs.SetupLimits.{SaySetup-InOrder, SaySetup-IsSetup}
 
 -- ---- the calls
 
@@ -30,17 +35,24 @@ controllers_fit version (group ∷ groups) [] each = absurd each
 
 -- ---- the setup
 
+-- lines say a seed and a setup within their types
+setup_writable : MakesEach → MakesInOrder → (lines : List (List ℕ)) (seed : ℕ) (setup : SetupValue) → SaySetup lines seed setup → IsWritable seed setup
+setup_writable each order lines seed setup says = record {
+  seed_fits = says.seed_fits;
+  space = says.space;
+  setup = SaySetup-IsSetup each lines seed setup says;
+  order = SaySetup-InOrder order lines seed setup says;
+  changes = says.changes;
+}
+
+-- what is read as a head can be written
+pub head_writable : MakesEach → MakesInOrder → TextLaws → HeadsAreWritable
+head_writable each order laws text h e = let says = head_of-SaysHead laws text h e in setup_writable each order says.setup h.seed h.setup says.says_setup
+
 -- a text says a live script that a text can spell
 pub IsLiveText-IsLiveSpellable : MakesEach → MakesInOrder → (text : List ℕ) (v : LiveValue) → IsLiveText text v → IsLiveSpellable v
 IsLiveText-IsLiveSpellable each order text v says =
-    let sound = IsLiveText-IsLiveSound each order text v says in
     record {
-      setup = record {
-        seed_fits = says.says_setup.seed_fits;
-        space = sound.space;
-        setup = sound.setup;
-        order = sound.order;
-        changes = says.says_setup.changes;
-      };
+      setup = setup_writable each order says.setup v.seed v.setup says.says_setup;
       calls = controllers_fit v.setup.version says.controllers v.controllers says.say_controllers;
     }

@@ -15,10 +15,10 @@ use Rattle.script_lines.specs.declared.part.Part.{Part}
 use Rattle.script_lines.specs.declared.part.Part.TheVariants.{Attrs, Cost, Metric, Range, Slot}
 use Rattle.script_lines.specs.Body.{no_commit, with_part, with_range}
 use Rattle.script_lines.specs.Fits.{FitsAttrs, FitsChange, FitsCost, FitsRange}
-use Rattle.script_lines.specs.Laws.{EmptiesSlot, GivesScheme, IsPart, may_come}
+use Rattle.script_lines.specs.Laws.{EmptiesSlot, GivesScheme, IsPart, ReadsOnlyParts, may_come}
 use Rattle.script_lines.specs.SchemeLine.{SchemesAreSaid, named}
 use Rattle.script_lines.specs.Spelling.{spelled_attrs, spelled_cost, spelled_range}
-use Rattle.damon_control.specs.CommitLines.{come_in_order}
+use Rattle.damon_control.specs.CommitLines.{PartsKeepSpelling, come_in_order}
 use Rattle.damon_control.specs.Text.{AreCommit, EachSays, SaysSlot}
 use Rattle.damon_control.specs.WriteBack.{FitsCommit, IsSpelledIn, SpellsRanges}
 use Rattle.damon_control.specs.Written.{part_given, parts_of, ranges_given}
@@ -86,6 +86,12 @@ part_in One line c (Cost cost) may is spelled = absurd cc
 abbrev Spells : Version → CommitValue → Type 0
 Spells version c = FitsCommit c × SpellsRanges c × IsSpelledIn version c
 
+-- a part that is read after those of a commit that can be spelled
+pub parts_keep : ReadsOnlyParts → PartsKeepSpelling
+parts_keep laws version c line part read fits =
+    let is = laws version c line part read in
+    (part_fits version line c part is.1 fits.0, part_spelled c part fits.1, part_in version line c part is.0 is.1 fits.2)
+
 parts_fit : (version : Version) (c : CommitValue) (lines : List (List ℕ)) (parts : List Part) → EachSays (IsPart version) lines parts → come_in_order version c parts ≡ true → Spells version c → Spells version (fold with_part c parts)
 parts_fit version c [] [] each order fits = fits
 parts_fit version c [] (part ∷ parts) each order fits = absurd each
@@ -98,7 +104,7 @@ nothing_spelled : (version : Version) → IsSpelledIn version no_commit
 nothing_spelled One = (refl, tt)
 nothing_spelled Two = tt
 
-no_commit-fits : (version : Version) → Spells version no_commit
+pub no_commit-fits : (version : Version) → Spells version no_commit
 no_commit-fits version = (record { attrs_fit = tt; ranges_fit = tt; slot_fits = tt; metric_fits = tt; cost_fits = tt }, tt, nothing_spelled version)
 
 -- ---- the lines of each field

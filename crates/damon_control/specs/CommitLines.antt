@@ -1,11 +1,13 @@
 -- The lines of a commit, one by one: each part is a line, and a part more is a line more.
-use Rattle.std.specs.Prelude.{◌≡◌, Bool, true, ◌&&◌, List, [], ◌∷◌, ◌++◌, Ok}
+use Rattle.std.specs.Prelude.{◌≡◌, ℕ, Bool, true, ◌&&◌, List, [], ◌∷◌, ◌++◌, Ok}
 use Rattle.std.specs.List.{fold}
 use Rattle.damon_types.specs.declared.scheme.Version.{Version}
 use Rattle.live_commit.specs.Commit.{CommitValue}
 use Rattle.script_lines.specs.declared.part.Part.{Part}
 use Rattle.script_lines.specs.Body.{no_commit, part_line, with_part}
 use Rattle.script_lines.specs.Laws.{may_come}
+use Rattle.damon_control.specs.Live.{CommitCall}
+use Rattle.damon_control.specs.Spellable.{FitsCall}
 use Rattle.damon_control.specs.WriteBack.{FitsCommit, IsSpelledIn, SpellsRanges}
 use Rattle.damon_control.specs.Written.{part_text, parts_of, written_commit}
 
@@ -38,3 +40,9 @@ abbrev pub ReadsPartsBack : Type 0
 ReadsPartsBack =
     (version : Version) (commit : CommitValue) → FitsCommit commit → SpellsRanges commit → IsSpelledIn version commit
     → IsReadInParts version commit
+
+-- a part that is read after those of a commit that a text of the version can spell makes another one
+abbrev pub PartsKeepSpelling : Type 0
+PartsKeepSpelling =
+    (version : Version) (commit : CommitValue) (line : List ℕ) (part : Part) → part_line version commit line ≡ Ok part
+    → FitsCall version (CommitCall commit) → FitsCall version (CommitCall (with_part commit part))

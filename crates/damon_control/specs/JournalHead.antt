@@ -30,6 +30,10 @@ head_lines seed setup = header_of OfJournal setup.version ∷ (written_setup see
 abbrev pub ReadsOnlyHeads : Type 0
 ReadsOnlyHeads = (text : List ℕ) (h : HeadValue) → head_of text ≡ Ok h → text ≡ lines_text (head_lines h.seed h.setup)
 
+-- what a head says is a seed and a setup within their types
+abbrev pub HeadsAreWritable : Type 0
+HeadsAreWritable = (text : List ℕ) (h : HeadValue) → head_of text ≡ Ok h → IsWritable h.seed h.setup
+
 -- the text of a seed and a setup within their types is read as the head that says them
 abbrev pub ReadsHeadsBack : Type 0
 ReadsHeadsBack = (seed : ℕ) (setup : SetupValue) → IsWritable seed setup → head_of (lines_text (head_lines seed setup)) ≡ Ok (record { seed = seed; setup = setup })

@@ -1,11 +1,14 @@
 // Laws of the definitions that the contracts cite: a text is read as a script exactly where it says that
 // script. These functions do nothing.
-ghost use Rattle.damon_control.specs.CommitLines.{ReadsPartsBack, WritesPartsInTurn};
-ghost use Rattle.damon_control.specs.JournalHead.{ReadsHeadsBack, ReadsOnlyHeads};
+ghost use Rattle.damon_types.specs.declared.scheme.Version.{Version};
+ghost use Rattle.script_lines.specs.Body.{no_commit};
+ghost use Rattle.damon_control.specs.CommitLines.{PartsKeepSpelling, ReadsPartsBack, WritesPartsInTurn};
+ghost use Rattle.damon_control.specs.JournalHead.{HeadsAreWritable, ReadsHeadsBack, ReadsOnlyHeads};
 ghost use Rattle.damon_control.specs.LineLaws.{LineLaws};
+ghost use Rattle.damon_control.specs.Live.{CommitCall};
 ghost use Rattle.damon_control.specs.LiveText.{LiveTextsAreRead};
 ghost use Rattle.damon_control.specs.Sound.{LiveScriptsAreSound, ScriptsAreSound};
-ghost use Rattle.damon_control.specs.Spellable.{LiveScriptsAreSpellable};
+ghost use Rattle.damon_control.specs.Spellable.{FitsCall, LiveScriptsAreSpellable};
 ghost use Rattle.damon_control.specs.Text.{TextsAreRead};
 ghost use Rattle.damon_control.specs.WriteBack.{CommitsAreReadBack, LiveSetupsAreReadBack, SetupsAreReadBack};
 
@@ -114,6 +117,7 @@ pub fn commits_are_read_back()
 /// written, and `begin`.
 pub fn journal_heads_are_exactly_read()
     ensures spelled { ReadsOnlyHeads }
+    ensures writable { HeadsAreWritable }
     ensures back { ReadsHeadsBack }
 {
     lines_have_laws();
@@ -121,13 +125,17 @@ pub fn journal_heads_are_exactly_read()
     next_decides();
     fault_stays();
     slots_are_checked_in_turn();
+    made_in_order();
 }
 
 /// The lines of a commit are those of its parts: a part that may come after the others is one line
-/// more, and each line that is written is read as its part, in order.
+/// more, and each line that is written is read as its part, in order. A text can spell a commit without
+/// parts, and one of parts that are read one after another.
 pub fn commits_are_read_in_parts()
     ensures turn { WritesPartsInTurn }
     ensures back { ReadsPartsBack }
+    ensures none { (version : Version) → FitsCall version (CommitCall no_commit) }
+    ensures more { PartsKeepSpelling }
 {
     lines_have_laws();
     written_changes_are_read_back();

@@ -1,10 +1,11 @@
 -- Lines that are read as entries are the lines of the journal that was read.
-use Rattle.std.proofs.Common.{◌≡◌, ℕ, ◌+◌, ◌≤◌, ◌<◌, ◌&&◌, ◌==◌, Bool, true, false, List, [], ◌∷◌, ◌++◌, codes, length, map, take, Some, None, Ok, Err, refl, sym, ap, ◌∙◌, subst, append_assoc, drop_of_length-le, arith}
+use Rattle.std.proofs.Common.{◌≡◌, ⊎_elim, ℕ, ◌+◌, ◌≤◌, ◌<◌, ◌&&◌, ◌==◌, Bool, true, false, List, [], ◌∷◌, ◌++◌, codes, length, map, take, Some, None, Ok, Err, refl, sym, ap, ◌∙◌, subst, append_assoc, drop_of_length-le, arith}
 use Rattle.std.proofs.lemmas.Bool.Decides.{nat_tests}
 use Rattle.std.proofs.Math.Seq.{take-length}
 use Rattle.std.specs.Prelude.{Option, Result, option_map, if◌then◌else◌}
 use Rattle.std.specs.List.{list_all}
 use Rattle.std.specs.Option.{option_or}
+use Rattle.damon_types.specs.declared.scheme.Version.{Version}
 use Rattle.damon_types.specs.declared.space.Target.{Target}
 use Rattle.damon_types.specs.Space.{page_of, pages_of}
 use Rattle.line_text.specs.Laws.{StripsOnlyFront}
@@ -20,9 +21,11 @@ use Rattle.script_lines.specs.Laws.{ReadsOnlyParts}
 use Rattle.script_lines.specs.Words.{same_word}
 use Rattle.damon_core.specs.State.{row_count}
 use Rattle.damon_control.specs.declared.live.TheConstants.{MAX_WORKERS}
-use Rattle.damon_control.specs.CommitLines.{WritesPartsInTurn}
+use Rattle.damon_control.specs.CommitLines.{PartsKeepSpelling, WritesPartsInTurn}
 use Rattle.damon_control.specs.Live.{CallValue, CommitCall, LiveValue, ShowCall}
 use Rattle.damon_control.specs.JournalHead.{head_lines}
+use Rattle.damon_control.specs.Spellable.{FitsCall}
+use Rattle.damon_control.specs.WriteBack.{IsWritable}
 use Rattle.damon_control.specs.Written.{part_text, written_commit}
 use Rattle.damon_journal.specs.declared.entry.Entry.{Entry}
 use Rattle.damon_journal.specs.declared.entry.Entry.TheVariants.{Prepare, Check, Void, Aggregate, Call}
@@ -33,14 +36,14 @@ use Rattle.damon_journal.specs.Lawful.{all_of}
 use Rattle.damon_journal.specs.Phases.{IsFree, IsIdle}
 use Rattle.damon_journal.specs.Place.{AtAnswer, AtLast, InBlock, InEntries, InHead, InReceipts, JournalPlace, JournalRead}
 use Rattle.damon_journal.specs.Replay.{EntryFits, IsJournalOf, JournalValue, Replayed, bits_taken, call_answer, carried, replay}
-use Rattle.damon_journal.specs.Rules.{CallsInTurn}
+use Rattle.damon_journal.specs.Rules.{CallsInTurn, CanCall}
 use Rattle.damon_journal.specs.SeenLine.{has_receipt}
 use Rattle.damon_journal.specs.Spelled.{answered_lines, bit_digit, call_front, call_lines, check_front, spelled_aggregate, spelled_answer, spelled_check, spelled_prepare, spelled_void}
 use Rattle.damon_journal.specs.Steps.{steps}
 use Rattle.damon_journal.specs.Text.{entry_lines, journal_lines, last_text, seen_lines}
 use Rattle.damon_journal.proofs.Common.{both_are, if_other, if_some, is_line, map_some, or_cases, then_some}
 use Rattle.damon_journal.proofs.Leading.{so_some}
-use Rattle.damon_journal.proofs.Longer.{added-keeps, added-last, called_in, length-added, lengthened}
+use Rattle.damon_journal.proofs.Longer.{added-keeps, added-last, added-of, called_in, length-added, lengthened}
 use Rattle.damon_journal.proofs.SeenSay.{AreSeen, none_seen}
 use Rattle.damon_journal.proofs.Turns.{AreInTurn, IsNoCall, turn_called, turn_same}
 
@@ -49,6 +52,8 @@ pub record SayLaws : Type 0 where
   pub strips : StripsOnlyFront
   pub parts : ReadsOnlyParts
   pub more : WritesPartsInTurn
+  pub none : (version : Version) → FitsCall version (CommitCall no_commit)
+  pub keep : PartsKeepSpelling
   pub below : (ts : List Target) (target addr page : ℕ) → page_of ts target addr ≡ Some page → page < pages_of ts
 
 -- ---- entries that are no calls
@@ -129,6 +134,10 @@ said_fits strips v r (Checking k) line said phase e = absurd cc
 
 -- ---- what lines say that lead from the first entry to a place
 
+-- a text can spell the seed, the setup and the calls
+abbrev pub CanSpell : LiveValue → Type 0
+CanSpell v = IsWritable v.seed v.setup × CanCall v
+
 -- the entries of a journal, all carried out; `head` is the lines of its head
 pub record SayJournal (head : List (List ℕ)) (lines : List (List ℕ)) (v : LiveValue) (j : JournalValue) : Type 0 where
   pub spelled : lines ≡ journal_lines v j
@@ -136,9 +145,10 @@ pub record SayJournal (head : List (List ℕ)) (lines : List (List ℕ)) (v : Li
   pub head_is : head_lines v.seed v.setup ≡ head
   pub four : length v.controllers ≡ 4
   pub turn : AreInTurn v j.entries
+  pub can : CanSpell v
 
--- and some lines of a call
-pub record SayCallOf (head : List (List ℕ)) (lines more : List (List ℕ)) (v : LiveValue) (j : JournalValue) (c : ℕ) : Type 0 where
+-- and some lines of a call, of which a text can spell what was read so far
+pub record SayCallOf (head : List (List ℕ)) (lines more : List (List ℕ)) (v : LiveValue) (j : JournalValue) (c : ℕ) (call : CallValue) : Type 0 where
   pub spelled : lines ≡ journal_lines v j ++ more
   pub journal : IsJournalOf v j
   pub head_is : head_lines v.seed v.setup ≡ head
@@ -146,6 +156,8 @@ pub record SayCallOf (head : List (List ℕ)) (lines more : List (List ℕ)) (v 
   pub turn : AreInTurn v j.entries
   pub free : IsFree (replay v j).state.core.phase
   pub few : c < 4
+  pub can : CanSpell v
+  pub fits : FitsCall v.setup.version call
 
 -- and those of receipts
 pub record SaySeen (head : List (List ℕ)) (lines more : List (List ℕ)) (v : LiveValue) (j : JournalValue) (all : List (List Receipt)) : Type 0 where
@@ -153,6 +165,7 @@ pub record SaySeen (head : List (List ℕ)) (lines more : List (List ℕ)) (v : 
   pub journal : IsJournalOf v j
   pub head_is : head_lines v.seed v.setup ≡ head
   pub turn : CallsInTurn j.entries
+  pub can : CanSpell v
   pub workers : length all ≤ MAX_WORKERS
   pub idle : IsIdle (replay v j).state.core.phase
   pub seen : AreSeen (pages_of v.setup.space) (steps v j) all
@@ -171,8 +184,8 @@ front_of c v = call_front c (length (calls_so_far v c))
 -- what lines say that lead to this place
 abbrev pub SaysEntries : List (List ℕ) → List (List ℕ) → JournalPlace → Type 0
 SaysEntries head lines (InEntries v j) = SayJournal head lines v j
-SaysEntries head lines (InBlock v j c commit) = SayCallOf head lines ((front_of c v ++ codes "commit") ∷ written_commit commit) v j c
-SaysEntries head lines (AtAnswer v j c call) = SayCallOf head lines (call_lines c (length (calls_so_far v c)) call) v j c
+SaysEntries head lines (InBlock v j c commit) = SayCallOf head lines ((front_of c v ++ codes "commit") ∷ written_commit commit) v j c (CommitCall commit)
+SaysEntries head lines (AtAnswer v j c call) = SayCallOf head lines (call_lines c (length (calls_so_far v c)) call) v j c call
 SaysEntries head lines (InReceipts v j all) = SaySeen head lines [] v j all
 SaysEntries head lines (AtLast said wanted) = SayLast head lines said wanted
 SaysEntries head lines (InHead p) = ⊥
@@ -210,6 +223,7 @@ entry_says laws head lines v j line next before e =
       head_is = before.head_is;
       four = before.four;
       turn = turn_same v j.entries some.0.0 fits.no_call before.turn;
+      can = before.can;
     })
 
 -- the first line of a call of this controller
@@ -227,6 +241,8 @@ call_says laws head lines v j c line next few free before e =
       turn = before.turn;
       free = free;
       few = few;
+      can = before.can;
+      fits = tt;
     }))
     (λ other.
     let is = so_some (same_word word.0 (codes "commit")) (InBlock v j c no_commit) next other in
@@ -238,6 +254,8 @@ call_says laws head lines v j c line next few free before e =
       turn = before.turn;
       free = free;
       few = few;
+      can = before.can;
+      fits = laws.none v.setup.version;
     }))
     word.2
 
@@ -273,6 +291,7 @@ in_entries laws head lines v j line next before e =
           journal = before.journal;
           head_is = before.head_is;
           turn = before.turn.turn;
+          can = before.can;
           workers = omega arith;
           idle = is_idle-IsIdle (replay v j).state.core.phase both.1;
           seen = none_seen (pages_of v.setup.space) (steps v j);
@@ -282,7 +301,7 @@ in_entries laws head lines v j line next before e =
 
 -- a line of the block of a commit: `apply`, or a part
 pub in_block : SayLaws → (head lines : List (List ℕ)) (v : LiveValue) (j : JournalValue) (c : ℕ) (commit : CommitValue) (line : List ℕ) (next : JournalPlace)
-    → SayCallOf head lines ((front_of c v ++ codes "commit") ∷ written_commit commit) v j c → after_block v j c commit line ≡ Some next → SaysEntries head (lines ++ line ∷ []) next
+    → SayCallOf head lines ((front_of c v ++ codes "commit") ∷ written_commit commit) v j c (CommitCall commit) → after_block v j c commit line ≡ Some next → SaysEntries head (lines ++ line ∷ []) next
 in_block laws head lines v j c commit line next before e =
     if_other (same_word line (codes "apply")) (AtAnswer v j c (CommitCall commit)) next (after_part v j c commit line (part_line v.setup.version commit line)) applied (by (part_line v.setup.version commit line) refl) e
   where
@@ -298,6 +317,8 @@ in_block laws head lines v j c commit line next before e =
       turn = before.turn;
       free = before.free;
       few = before.few;
+      can = before.can;
+      fits = before.fits;
     })
 
     by : (r : Result Part ScriptKind) → part_line v.setup.version commit line ≡ r → after_part v j c commit line r ≡ Some next → SaysEntries head (lines ++ line ∷ []) next
@@ -316,11 +337,23 @@ in_block laws head lines v j c commit line next before e =
           turn = before.turn;
           free = before.free;
           few = before.few;
+          can = before.can;
+          fits = laws.keep v.setup.version commit line part read before.fits;
         })
+
+-- a text can spell each call, and one call more
+added_can : (v : LiveValue) (c : ℕ) (call : CallValue) → CanSpell v → FitsCall v.setup.version call → CanSpell (with_call_of v c call)
+added_can v c call can fits = (
+  can.0,
+  λ k i x is. ⊎_elim
+      (λ before. can.1 k i x before)
+      (λ (last : (k ≡ c) × (i ≡ length (calls_so_far v c)) × (call ≡ x)). subst (FitsCall v.setup.version) last.2 fits)
+      (added-of v.controllers c call k i x is),
+)
 
 -- the answer of a call, with which its entry is whole
 pub at_answer : (head lines : List (List ℕ)) (v : LiveValue) (j : JournalValue) (c : ℕ) (call : CallValue) (line : List ℕ) (next : JournalPlace)
-    → SayCallOf head lines (call_lines c (length (calls_so_far v c)) call) v j c → after_answer v j c call line ≡ Some next → SaysEntries head (lines ++ line ∷ []) next
+    → SayCallOf head lines (call_lines c (length (calls_so_far v c)) call) v j c call → after_answer v j c call line ≡ Some next → SaysEntries head (lines ++ line ∷ []) next
 at_answer head lines v j c call line next before e =
     let i = length (calls_so_far v c) in
     let answer = call_answer call (replay v j).state.core in
@@ -338,4 +371,5 @@ at_answer head lines v j c call line next before e =
       head_is = before.head_is;
       four = length-added v.controllers c call ∙ before.four;
       turn = turn_called v j.entries c call answer (omega (arith, before.four, before.few)) before.turn;
+      can = added_can v c call before.can before.fits;
     })

@@ -1,30 +1,37 @@
 -- What is read from a text is lawful, and the text is its text.
-use Rattle.std.proofs.Common.{◌≡◌, ℕ, List, [], ◌∷◌, ◌++◌, codes, Ok, refl, sym, ap, ◌∙◌, subst, append_assoc, append-nil, arith}
+use Rattle.std.proofs.Common.{◌≡◌, ℕ, zero, suc, List, [], ◌∷◌, ◌++◌, codes, Ok, refl, sym, ap, ◌∙◌, subst, append_assoc, append-nil, arith}
 use Rattle.damon_types.specs.Space.{pages_of}
 use Rattle.line_text.specs.Laws.{PutsPartsTogether, TakesApartPieces}
 use Rattle.line_text.specs.Parts.{joined, parts}
 use Rattle.script_lines.specs.Lines.{lines_text}
+use Rattle.damon_core.specs.InPhase.{IsInPhase}
+use Rattle.damon_core.specs.Reached.{CanOpen, Reached}
+use Rattle.damon_core.specs.State.{State}
 use Rattle.damon_control.specs.declared.grammar.Grammar.TheVariants.{OfJournal}
-use Rattle.damon_control.specs.JournalHead.{ReadsOnlyHeads, head_lines}
+use Rattle.damon_control.specs.JournalHead.{HeadsAreWritable, ReadsOnlyHeads, head_lines}
 use Rattle.damon_control.specs.Script.{AtHeader, HeadValue, head_of, reads}
+use Rattle.damon_journal.specs.Lawful.{IsLawful}
 use Rattle.damon_journal.specs.Place.{AtLast, InEntries, InHead, JournalRead, uncalled}
 use Rattle.damon_journal.specs.Replay.{replay}
 use Rattle.damon_journal.specs.Room.{nothing_said}
-use Rattle.damon_journal.specs.Rules.{IsTextOfLawful, ReadsOnlyLawful}
+use Rattle.damon_journal.specs.Rules.{CanCall, KeepsRules, ReadsOnlyLawful}
 use Rattle.damon_journal.specs.Steps.{steps}
-use Rattle.damon_journal.specs.Text.{journal_lines, last_text, seen_lines, settled_lines}
+use Rattle.damon_journal.specs.Text.{journal_lines, journal_text, last_text, seen_lines, settled_lines}
 use Rattle.damon_journal.proofs.Appended.{lines_text-append}
 use Rattle.damon_journal.proofs.Common.{Pieces, joined_before, parts-some, parts_before, pieces_front}
-use Rattle.damon_journal.proofs.EntriesSay.{SayLast, SayLaws}
+use Rattle.damon_journal.proofs.EntriesSay.{CanSpell, SayLast, SayLaws}
 use Rattle.damon_journal.proofs.HeadSay.{head_led}
 use Rattle.damon_journal.proofs.Leading.{Led, said_led}
 use Rattle.damon_journal.proofs.LinesSay.{lines_say}
+use Rattle.damon_journal.proofs.NumbersFit.{read_fit}
 use Rattle.damon_journal.proofs.SeenSay.{all_seen}
+use Rattle.damon_journal.proofs.Sizes.{CommitLaws}
 
 -- the laws of the crates below
 pub record FirstLaws : Type 0 where
   pub say : SayLaws
   pub heads : ReadsOnlyHeads
+  pub writable : HeadsAreWritable
   pub together : PutsPartsTogether
   pub apart : TakesApartPieces
 
@@ -38,8 +45,15 @@ record SayText (text : List ℕ) (said : JournalRead) : Type 0 where
   head_is : lines_text front ≡ lines_text (head_lines head.seed head.setup)
   says : SayLast (head_lines head.seed head.setup) body said (last ∷ [])
 
+-- what was read is lawful, and this is its text
+record IsReadText (text : List ℕ) (said : JournalRead) : Type 0 where
+  lawful : IsLawful said.live said.journal said.receipts
+  can : CanSpell said.live
+  rules : KeepsRules said.journal said.receipts
+  spelled : text ≡ journal_text said.live said.journal said.receipts
+
 -- that text is the one of what was read, which is lawful
-text_of_lawful : PutsPartsTogether → (text : List ℕ) (said : JournalRead) → SayText text said → IsTextOfLawful text said
+text_of_lawful : PutsPartsTogether → (text : List ℕ) (said : JournalRead) → SayText text said → IsReadText text said
 text_of_lawful together text said is =
     let v = said.live in
     let j = said.journal in
@@ -66,9 +80,18 @@ text_of_lawful together text said is =
         idle = is.says.seen.idle;
         receipts = all_seen (pages_of v.setup.space) (steps v j) said.receipts is.says.seen.seen is.says.received;
       };
+      can = is.says.seen.can;
       rules = record { turn = is.says.seen.turn; workers = is.says.seen.workers };
       spelled = is.whole ∙ ap (λ t. t ++ is.last) lines ∙ append_assoc (lines_text all) (lines_text shown) is.last ∙ ap (λ t. lines_text all ++ t) ends;
     }
+
+-- there is no call yet
+no_call : (h : HeadValue) → CanCall (uncalled h)
+no_call h zero i call is = absurd cc
+no_call h (suc zero) i call is = absurd cc
+no_call h (suc (suc zero)) i call is = absurd cc
+no_call h (suc (suc (suc zero))) i call is = absurd cc
+no_call h (suc (suc (suc (suc c)))) i call is = absurd cc
 
 -- a text that is read, with its lines
 read_says : FirstLaws → (text : List ℕ) (said : JournalRead) → Led (InHead AtHeader) (parts 10 text) said → SayText text said
@@ -91,10 +114,18 @@ read_says laws text said led =
           ∙ joined_before (head.front ++ head.body) (led.last ∷ []) (omega arith);
       head_is = sym nothing ∙ laws.heads (lines_text head.front ++ []) h is_head;
       says = lines_say laws.say (head_lines h.seed h.setup) [] (InEntries (uncalled h) nothing_said) head.body (AtLast said (led.last ∷ []))
-          (record { spelled = refl; journal = record { fit = tt; none_left = refl }; head_is = refl; four = refl; turn = record { turn = tt; next = refl } })
+          (record { spelled = refl; journal = record { fit = tt; none_left = refl }; head_is = refl; four = refl; turn = record { turn = tt; next = refl }; can = (laws.writable (lines_text head.front ++ []) h is_head, no_call h) })
           head.lead;
     }
 
 -- each text that is read is the text of a lawful journal
-pub first_law : FirstLaws → ReadsOnlyLawful
-first_law laws text said e = text_of_lawful laws.together text said (read_says laws text said (said_led 1 (InHead AtHeader) (parts 10 text) said (parts-some 10 text) e))
+pub first_law : FirstLaws → CommitLaws → ((s : State) → Reached s → IsInPhase s) → ReadsOnlyLawful
+first_law laws commits in_phase text said few e =
+    let is = text_of_lawful laws.together text said (read_says laws text said (said_led 1 (InHead AtHeader) (parts 10 text) said (parts-some 10 text) e)) in
+    let opens : CanOpen said.live.setup = record { space = is.can.0.space; sound = is.can.0.setup; order = is.can.0.order } in
+    let fit = read_fit commits in_phase text said.live said.journal said.receipts opens is.can.1 is.rules.turn is.lawful is.spelled few in
+    record {
+      lawful = is.lawful;
+      spellable = record { setup = is.can.0; calls = is.can.1; rules = is.rules; numbers = fit.numbers; tags = fit.tags };
+      spelled = is.spelled;
+    }

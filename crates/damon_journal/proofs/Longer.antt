@@ -1,5 +1,5 @@
 -- A journal with one entry more, whose script may have got more calls.
-use Rattle.std.proofs.Common.{◌≡◌, ℕ, zero, suc, ◌<◌, Bool, List, [], ◌∷◌, ◌++◌, length, take, refl, sym, ap, ◌∙◌, subst, append_assoc, append-nil, arith}
+use Rattle.std.proofs.Common.{◌≡◌, ◌⊎◌, inl, inr, ⊎_elim, ℕ, zero, suc, ◌<◌, Bool, List, [], ◌∷◌, ◌++◌, length, take, refl, sym, ap, ◌∙◌, subst, append_assoc, append-nil, arith}
 use Rattle.std.specs.Prelude.{Option, Some, slice_get, slice_index_or}
 use Rattle.std.specs.Option.{option_map_or}
 use Rattle.damon_core.specs.Reached.{run}
@@ -46,6 +46,26 @@ pub added-last : (lists : List (List CallValue)) (k : ℕ) (call : CallValue) �
 added-last [] k call below = absurd (omega (arith, below))
 added-last (l ∷ lists) zero call below = slice_get-last l call
 added-last (l ∷ lists) (suc k) call below = added-last lists k call (omega (arith, below))
+
+-- an item of a list with one more behind is one of the list, or that one
+slice_get-more : {A : Type 0} (xs : List A) (y : A) (i : ℕ) (x : A) → slice_get (xs ++ y ∷ []) i ≡ Some x → (slice_get xs i ≡ Some x) ⊎ ((i ≡ length xs) × (y ≡ x))
+slice_get-more [] y zero x is = inr (refl, cc)
+slice_get-more [] y (suc i) x is = absurd (none_there i is)
+  where
+    none_there : (k : ℕ) → slice_get [] k ≡ Some x → ⊥
+    none_there k there = cc
+slice_get-more (z ∷ xs) y zero x is = inl is
+slice_get-more (z ∷ xs) y (suc i) x is = ⊎_elim (λ before. inl before) (λ (last : (i ≡ length xs) × (y ≡ x)). inr (ap suc last.0, last.1)) (slice_get-more xs y i x is)
+
+-- a call is one of those before, or the one that was added
+pub added-of : (lists : List (List CallValue)) (k : ℕ) (call : CallValue) (c i : ℕ) (x : CallValue) → called_in (added_to k call lists) c i ≡ Some x
+    → (called_in lists c i ≡ Some x) ⊎ ((c ≡ k) × (i ≡ length (slice_index_or lists k [])) × (call ≡ x))
+added-of [] zero call c i x is = inl is
+added-of [] (suc k) call c i x is = inl is
+added-of (l ∷ lists) zero call zero i x is = ⊎_elim (λ before. inl before) (λ (last : (i ≡ length l) × (call ≡ x)). inr (refl, last.0, last.1)) (slice_get-more l call i x is)
+added-of (l ∷ lists) zero call (suc c) i x is = inl is
+added-of (l ∷ lists) (suc k) call zero i x is = inl is
+added-of (l ∷ lists) (suc k) call (suc c) i x is = ⊎_elim (λ before. inl before) (λ (last : (c ≡ k) × (i ≡ length (slice_index_or lists k [])) × (call ≡ x)). inr (ap suc last.0, last.1, last.2)) (added-of lists k call c i x is)
 
 -- there are as many controllers as before
 pub length-added : (lists : List (List CallValue)) (k : ℕ) (call : CallValue) → length (added_to k call lists) ≡ length lists

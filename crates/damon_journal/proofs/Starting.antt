@@ -1,5 +1,5 @@
 -- A journal of which nothing is carried out yet.
-use Rattle.std.proofs.Common.{◌≡◌, ℕ, ◌≤◌, List, refl, sym, ap, ◌∙◌, subst, arith}
+use Rattle.std.proofs.Common.{◌≡◌, ℕ, ◌≤◌, List, length, refl, sym, ap, ◌∙◌, subst, arith}
 use Rattle.live_commit.specs.Setup.{SetupValue}
 use Rattle.damon_core.specs.Reached.{CanOpen}
 use Rattle.damon_control.specs.declared.reader.TheConstants.{MAX_BYTES}
@@ -19,6 +19,7 @@ use Rattle.damon_journal.specs.Room.{nothing_said}
 use Rattle.damon_journal.specs.Rules.{ReadsOnlyLawful}
 use Rattle.damon_journal.specs.Verified.{IsReadAs}
 use Rattle.damon_journal.specs.Woven.{WovenRuns}
+use Rattle.damon_journal.proofs.Judged.{run_text}
 
 -- the state before the first entry
 pub record IsNew (k : Kept) (r : ReplayingView) : Type 0 where
@@ -52,22 +53,19 @@ pub starts_on_way : (k : Kept) (r : ReplayingView) → IsNew k r → IsOfJournal
 starts_on_way k r new of = (aggregated of.0 of.1, (replay of.0 of.1).state, starts k r new of.0 of.1 of.2 of.3)
 
 -- what was read is a lawful journal, so it is of a script
-pub of_lawful : ReadsOnlyLawful → (text : List ℕ) (counts : Lawful) (k : Kept) → IsReadAs (read_journal text) counts k → IsOfJournal k
-of_lawful law text counts k has = (has.read.live, has.read.journal, (law text has.read has.is).lawful.journal, has.kept_is)
+pub of_lawful : ReadsOnlyLawful → (text : List ℕ) (counts : Lawful) (k : Kept) → length text ≤ MAX_BYTES → IsReadAs (read_journal text) counts k → IsOfJournal k
+of_lawful law text counts k few has = (has.read.live, has.read.journal, (law text has.read few has.is).lawful.journal, has.kept_is)
 
 -- and is carried out from its start
 pub reads_run : ReadsOnlyLawful → ((v : LiveValue) (j : JournalValue) (all : List (List Receipt)) → CanOpen v.setup → IsLawful v j all → WovenRuns v j all)
-    → (text : List ℕ) (counts : Lawful) (k : Kept) (r : ReplayerView) → IsReadAs (read_journal text) counts k
+    → (text : List ℕ) (counts : Lawful) (k : Kept) (r : ReplayerView) → length text ≤ MAX_BYTES → IsReadAs (read_journal text) counts k
     → ((v : LiveValue) (j : JournalValue) → IsJournalOf v j → IsKept v j k → Leads (aggregated v j) (replay v j).state r) → r.monitor.core.space ≡ k.setup.space → ReadsRun text r
-reads_run law weaves text counts k r has leads space =
+reads_run law weaves text counts k r few has leads space =
     let said = has.read in
-    let lawful = law text said has.is in
+    let run = run_text law weaves text said few has.is has.opens in
     record {
       said = said;
-      read = has.is;
-      lawful = lawful;
-      opens = has.opens;
-      woven = weaves said.live said.journal said.receipts has.opens lawful.lawful;
-      leads = leads said.live said.journal lawful.lawful.journal has.kept_is;
+      run = run;
+      leads = leads said.live said.journal run.lawful.lawful.journal has.kept_is;
       space = space ∙ sym (ap (λ (v : SetupValue). v.space) has.kept_is.setup);
     }

@@ -1,7 +1,7 @@
 -- A journal that is carried out from one aggregation to the next.
-use Rattle.std.specs.Prelude.{◌≡◌, ℕ, ◌+◌, ◌*◌, ◌-◌, ◌^◌, ◌≤◌, Bool, List, [], ◌∷◌, drop, length, map, Option, Some, None, Ok}
+use Rattle.std.specs.Prelude.{◌≡◌, ℕ, ◌+◌, ◌*◌, ◌-◌, ◌^◌, ◌≤◌, Bool, List, [], ◌∷◌, drop, length, map, Option, Some, None}
 use Rattle.rand_pcg.specs.Lcg.{Lcg}
-use Rattle.damon_core.specs.Reached.{CanOpen, Reached}
+use Rattle.damon_core.specs.Reached.{Reached}
 use Rattle.damon_core.specs.Stands.{MonitorView, Stands}
 use Rattle.damon_core.specs.State.{State}
 use Rattle.damon_control.specs.declared.reader.TheConstants.{MAX_BYTES}
@@ -12,11 +12,9 @@ use Rattle.damon_journal.specs.Aggregated.{aggregated, aggregated_from}
 use Rattle.damon_journal.specs.Growth.{replay_with}
 use Rattle.damon_journal.specs.Kept.{calls_from, kept_call}
 use Rattle.damon_journal.specs.Place.{JournalRead}
-use Rattle.damon_journal.specs.Reading.{read_journal}
 use Rattle.damon_journal.specs.Replay.{EntriesFit, JournalValue, replay, replay_from}
 use Rattle.damon_journal.specs.Replaying.{IsReplayOf, ReplayingView}
-use Rattle.damon_journal.specs.Rules.{IsTextOfLawful}
-use Rattle.damon_journal.specs.Woven.{WovenRuns}
+use Rattle.damon_journal.specs.Verified.{IsRunText}
 
 -- A monitor, the random words to come and how many were drawn, the number of entries that are carried out, how many are left, and what
 -- is kept of these: the results of their checks, and their calls, with the index of each entry.
@@ -70,14 +68,11 @@ IsOnWay r = (states : List State) × (last : State) × Leads states last r
 abbrev pub StandsForReached : MonitorView → Type 0
 StandsForReached m = (s : State) × Reached s × Stands m s
 
--- The text is that of a lawful journal with lawful receipts, which is carried out from its start: it leads through the states after its
--- aggregations to its last state. Woven together the journal and the receipts are one run of the monitor.
+-- The text is that of a run, whose journal is carried out from its start: it leads through the states after its aggregations to its last
+-- state.
 pub record ReadsRun (text : List ℕ) (r : ReplayerView) : Type 0 where
   pub said : JournalRead
-  pub read : read_journal text ≡ Ok said
-  pub lawful : IsTextOfLawful text said
-  pub opens : CanOpen said.live.setup
-  pub woven : WovenRuns said.live said.journal said.receipts
+  pub run : IsRunText text said
   pub leads : Leads (aggregated said.live said.journal) (replay said.live said.journal).state r
   pub space : r.monitor.core.space ≡ said.live.setup.space
 

@@ -4,6 +4,7 @@ use Rattle.std.specs.List.{AllByRecursion}
 use Rattle.live_commit.specs.declared.fault.CommitFault.{CommitFault}
 use Rattle.live_commit.specs.declared.fault.CommitFault.TheVariants.{Busy, BadRange, RangesOverMax, OverCap, BadCost}
 use Rattle.damon_control.specs.declared.live.TheConstants.{MAX_WORKERS}
+use Rattle.damon_control.specs.declared.reader.TheConstants.{MAX_BYTES}
 use Rattle.damon_control.specs.Live.{CallValue, LiveValue}
 use Rattle.damon_control.specs.Spellable.{FitsCall}
 use Rattle.damon_control.specs.WriteBack.{IsWritable}
@@ -90,15 +91,16 @@ pub record IsSpellable (v : LiveValue) (j : JournalValue) (all : List (List Rece
 
 -- ---- the laws
 
--- what was read is lawful and keeps the rules, and this is its text
+-- what was read is lawful, a text can spell it, and this is its text
 pub record IsTextOfLawful (text : List ℕ) (said : JournalRead) : Type 0 where
   pub lawful : IsLawful said.live said.journal said.receipts
-  pub rules : KeepsRules said.journal said.receipts
+  pub spellable : IsSpellable said.live said.journal said.receipts
   pub spelled : text ≡ journal_text said.live said.journal said.receipts
 
--- each text that is read is the text of a lawful journal, which is what was read
+-- each text that is read, of at most as many bytes as a text may have, is the text of a lawful journal that a text can spell, which is
+-- what was read
 abbrev pub ReadsOnlyLawful : Type 0
-ReadsOnlyLawful = (text : List ℕ) (said : JournalRead) → read_journal text ≡ Ok said → IsTextOfLawful text said
+ReadsOnlyLawful = (text : List ℕ) (said : JournalRead) → length text ≤ MAX_BYTES → read_journal text ≡ Ok said → IsTextOfLawful text said
 
 -- the text is read as the same seed, setup and journal, and the same receipts but for workers without any at the end
 pub record IsReadBack (v : LiveValue) (j : JournalValue) (all : List (List Receipt)) : Type 0 where

@@ -62,7 +62,8 @@ pub fn one_pass_by_hand()
     ensures { Comes }
 {}
 
-/// Each text that is read as a journal is the text of a lawful one, which is what was read.
+/// Each text that is read as a journal, of at most as many bytes as a text may have, is the text of a lawful
+/// one that a text can spell, which is what was read.
 pub fn read_journals_are_lawful()
     ensures law { ReadsOnlyLawful }
 {
@@ -73,6 +74,10 @@ pub fn read_journals_are_lawful()
     commits_are_read_in_parts();
     journal_heads_are_exactly_read();
     pages_rise();
+    damon_core::reached_states_are_bound();
+    live_commit::accepted_commits_are_within();
+    target_ranges::accepted_has_room();
+    target_ranges::made_in_order();
 }
 
 /// The text of each lawful journal that a text can spell is read as that journal and its receipts. With

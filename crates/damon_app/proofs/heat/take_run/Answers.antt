@@ -2,8 +2,8 @@ use Rattle.std.proofs.Common.{◌≡◌, Err, ap, refl, sym, ◌∙◌, subst}
 use Rattle.std.proofs.lemmas.Result.{err_from_is_err_and}
 use Rattle.text_io.specs.declared.input.TheConstants.{INPUT_LIMIT}
 use Rattle.damon_journal.specs.Reading.{read_journal}
+use Rattle.damon_journal.specs.Verified.{IsRunText}
 use Rattle.damon_app.specs.declared.request.Request.TheVariants.{Heat}
-use Rattle.damon_app.specs.Heating.{IsRun}
 use Rattle.damon_app.specs.StatusOf.{status_of_journal}
 use Rattle.damon_app.proofs.Answering.{not_read, not_verified}
 use Rattle.damon_app.proofs.Counting.{EndsAtFault-error, EndsAtFault-none, EndsAtFault-not}
@@ -33,7 +33,7 @@ pub returns-clause-taken : goal.returns-clause-taken
 returns-clause-taken g c =
     let read = c.in_ok-bytes.ensures in
     let run = c.in_ok-replayer.ensures.lawful in
-    let is : IsRun c.in_ok-bytes.bytes.items run.said = subst (λ bs. IsRun bs run.said) c.deref.ensures.value (record { read = run.read; lawful = run.lawful; woven = run.woven }) in
+    let is : IsRunText c.in_ok-bytes.bytes.items run.said = subst (λ bs. IsRunText bs run.said) c.deref.ensures.value run.run in
     record {
       said = run.said;
       leads = run.leads;
@@ -43,7 +43,7 @@ returns-clause-taken g c =
         end = read.end;
         few = read.limit;
         wanted = (run.said, is, refl);
-        status = ap (λ bs. status_of_journal (read_journal bs)) (sym c.deref.ensures.value) ∙ ap status_of_journal run.read;
+        status = ap (λ bs. status_of_journal (read_journal bs)) (sym c.deref.ensures.value) ∙ ap status_of_journal run.run.read;
         reads = EndsAtFault-not (λ e. cc e) (λ no. no) read.reads;
         calls = read.calls;
       };

@@ -41,14 +41,14 @@ returns-in_err-line-clause-refused g c =
 pub returns-clause-taken : goal.returns-clause-taken
 returns-clause-taken g c =
     let read = c.in_ok-bytes.ensures in
-    let said = c.in_ok-counts.ensures.read in
+    let said = c.in_ok-counts.ensures.lawful.run in
     record {
       bytes = c.in_ok-bytes.bytes.items;
       all = read.all;
       end = read.end;
       few = read.limit;
       wanted = (c.in_ok-counts.counts, subst (λ bs. IsVerified bs c.in_ok-counts.counts) c.deref.ensures.value c.in_ok-counts.ensures.lawful, sym c.in_ok-line.ensures);
-      status = ap (λ bs. status_of_journal (read_journal bs)) (sym c.deref.ensures.value) ∙ ap status_of_journal said.is;
+      status = ap (λ bs. status_of_journal (read_journal bs)) (sym c.deref.ensures.value) ∙ ap status_of_journal said.read;
       reads = EndsAtFault-not (λ e. cc e) (λ no. no) read.reads;
       calls = read.calls;
     }
