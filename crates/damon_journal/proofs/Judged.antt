@@ -8,6 +8,7 @@ use Rattle.damon_journal.specs.declared.kept.Kept.{Kept}
 use Rattle.damon_journal.specs.declared.lawful.Lawful.{Lawful}
 use Rattle.damon_journal.specs.declared.lawful.VerifyFault.{VerifyFault}
 use Rattle.damon_journal.specs.declared.lawful.VerifyFault.TheVariants.{Memory, Unlawful}
+use Rattle.damon_journal.specs.Few.{HitsAreFew}
 use Rattle.damon_journal.specs.Lawful.{IsLawful}
 use Rattle.damon_journal.specs.LinesLeft.{IsFault}
 use Rattle.damon_journal.specs.Place.{JournalRead}
@@ -17,15 +18,24 @@ use Rattle.damon_journal.specs.Rules.{ReadsLawfulBack, ReadsOnlyLawful}
 use Rattle.damon_journal.specs.Verified.{IsOfNoLawfulRun, IsReadAs, IsRunText, IsVerified}
 use Rattle.damon_journal.specs.Woven.{WovenRuns}
 
+-- something holds of each lawful journal with lawful receipts of a setup within its limits
+abbrev pub OfLawful : (LiveValue → JournalValue → List (List Receipt) → Type 0) → Type 0
+OfLawful P = (v : LiveValue) (j : JournalValue) (all : List (List Receipt)) → CanOpen v.setup → IsLawful v j all → P v j all
+
 -- a text that is read is that of a lawful journal, which with its receipts is one run
-pub run_text : ReadsOnlyLawful → ((v : LiveValue) (j : JournalValue) (all : List (List Receipt)) → CanOpen v.setup → IsLawful v j all → WovenRuns v j all) → (text : List ℕ) (said : JournalRead) → length text ≤ MAX_BYTES → read_journal text ≡ Ok said → CanOpen said.live.setup → IsRunText text said
-run_text law weaves text said few read opens =
-    let is = law text said few read in
-    record { read = read; lawful = is; woven = weaves said.live said.journal said.receipts opens is.lawful }
+pub run_text : ReadsOnlyLawful → OfLawful WovenRuns → OfLawful HitsAreFew → (text : List ℕ) (said : JournalRead) → length text ≤ MAX_BYTES → read_journal text ≡ Ok said → CanOpen said.live.setup → IsRunText text said
+run_text law weaves few text said short read opens =
+    let is = law text said short read in
+    record {
+      read = read;
+      lawful = is;
+      woven = weaves said.live said.journal said.receipts opens is.lawful;
+      few = few said.live said.journal said.receipts opens is.lawful;
+    }
 
 -- and so it is verified
-pub read_is_lawful : ReadsOnlyLawful → ((v : LiveValue) (j : JournalValue) (all : List (List Receipt)) → CanOpen v.setup → IsLawful v j all → WovenRuns v j all) → (text : List ℕ) (counts : Lawful) (kept : Kept) → length text ≤ MAX_BYTES → IsReadAs (read_journal text) counts kept → IsVerified text counts
-read_is_lawful law weaves text counts kept few has = record { said = has.read; run = run_text law weaves text has.read few has.is has.opens; counted = has.counted }
+pub read_is_lawful : ReadsOnlyLawful → OfLawful WovenRuns → OfLawful HitsAreFew → (text : List ℕ) (counts : Lawful) (kept : Kept) → length text ≤ MAX_BYTES → IsReadAs (read_journal text) counts kept → IsVerified text counts
+read_is_lawful law weaves few text counts kept short has = record { said = has.read; run = run_text law weaves few text has.read short has.is has.opens; counted = has.counted }
 
 -- a text that has a rejected line is of no lawful journal that a text can spell
 pub rejected_is_unlawful : ReadsLawfulBack → (text : List ℕ) (line : ℕ) → read_journal text ≡ Err line → IsOfNoLawfulRun text

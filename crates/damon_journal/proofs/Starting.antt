@@ -9,6 +9,7 @@ use Rattle.damon_journal.specs.declared.kept.Kept.{Kept}
 use Rattle.damon_journal.specs.declared.kept.Keeping.TheVariants.{Everything}
 use Rattle.damon_journal.specs.declared.lawful.Lawful.{Lawful}
 use Rattle.damon_journal.specs.Aggregated.{aggregated, aggregated_from}
+use Rattle.damon_journal.specs.Few.{HitsAreFew}
 use Rattle.damon_journal.specs.Kept.{IsKept, IsOfJournal}
 use Rattle.damon_journal.specs.Lawful.{IsLawful}
 use Rattle.damon_journal.specs.Reading.{read_journal}
@@ -19,7 +20,7 @@ use Rattle.damon_journal.specs.Room.{nothing_said}
 use Rattle.damon_journal.specs.Rules.{ReadsOnlyLawful}
 use Rattle.damon_journal.specs.Verified.{IsReadAs}
 use Rattle.damon_journal.specs.Woven.{WovenRuns}
-use Rattle.damon_journal.proofs.Judged.{run_text}
+use Rattle.damon_journal.proofs.Judged.{OfLawful, run_text}
 
 -- the state before the first entry
 pub record IsNew (k : Kept) (r : ReplayingView) : Type 0 where
@@ -57,12 +58,11 @@ pub of_lawful : ReadsOnlyLawful → (text : List ℕ) (counts : Lawful) (k : Kep
 of_lawful law text counts k few has = (has.read.live, has.read.journal, (law text has.read few has.is).lawful.journal, has.kept_is)
 
 -- and is carried out from its start
-pub reads_run : ReadsOnlyLawful → ((v : LiveValue) (j : JournalValue) (all : List (List Receipt)) → CanOpen v.setup → IsLawful v j all → WovenRuns v j all)
-    → (text : List ℕ) (counts : Lawful) (k : Kept) (r : ReplayerView) → length text ≤ MAX_BYTES → IsReadAs (read_journal text) counts k
+pub reads_run : ReadsOnlyLawful → OfLawful WovenRuns → OfLawful HitsAreFew → (text : List ℕ) (counts : Lawful) (k : Kept) (r : ReplayerView) → length text ≤ MAX_BYTES → IsReadAs (read_journal text) counts k
     → ((v : LiveValue) (j : JournalValue) → IsJournalOf v j → IsKept v j k → Leads (aggregated v j) (replay v j).state r) → r.monitor.core.space ≡ k.setup.space → ReadsRun text r
-reads_run law weaves text counts k r few has leads space =
+reads_run law weaves few text counts k r short has leads space =
     let said = has.read in
-    let run = run_text law weaves text said few has.is has.opens in
+    let run = run_text law weaves few text said short has.is has.opens in
     record {
       said = said;
       run = run;

@@ -1,5 +1,5 @@
 -- How many hits a page has.
-use Rattle.std.specs.Prelude.{ℕ, ◌==◌, ◌%◌, ◌&&◌, Bool, false, List, filter, length}
+use Rattle.std.specs.Prelude.{ℕ, ◌≤◌, ◌==◌, ◌%◌, ◌&&◌, Bool, false, List, filter, length}
 use Rattle.page_words.specs.declared.view.Entry.{Entry as Step}
 use Rattle.page_words.specs.declared.view.Entry.TheVariants.{Load}
 use Rattle.damon_control.specs.Live.{LiveValue}
@@ -20,3 +20,7 @@ hits_of v j page = length (filter (is_hit_of page) (steps v j))
 -- the receipts of a page
 abbrev pub receipts_of : List (List Receipt) → ℕ → ℕ
 receipts_of all page = length (filter (λ r. r.page == page) (all_of all))
+
+-- each page was found touched by at most as many loads as it has receipts
+abbrev pub HitsAreFew : LiveValue → JournalValue → List (List Receipt) → Type 0
+HitsAreFew v j all = (page : ℕ) → hits_of v j page ≤ receipts_of all page

@@ -6,6 +6,7 @@ use Rattle.damon_journal.specs.declared.entry.Receipt.{Receipt}
 use Rattle.damon_journal.specs.declared.kept.Kept.{Kept}
 use Rattle.damon_journal.specs.declared.lawful.Lawful.{Lawful}
 use Rattle.damon_journal.specs.Counted.{CountsOf}
+use Rattle.damon_journal.specs.Few.{HitsAreFew}
 use Rattle.damon_journal.specs.Kept.{IsKept}
 use Rattle.damon_journal.specs.Lawful.{IsLawful}
 use Rattle.damon_journal.specs.Place.{JournalRead}
@@ -16,11 +17,12 @@ use Rattle.damon_journal.specs.Text.{journal_text}
 use Rattle.damon_journal.specs.Woven.{WovenRuns}
 
 -- The text is read as this, which is lawful, and of which it is the text. Woven together the journal and the receipts are one run of the
--- monitor, of which the headline holds: each state along it is bound.
+-- monitor, of which the headline holds: each state along it is bound. Each page has at most as many hits as receipts.
 pub record IsRunText (text : List ℕ) (said : JournalRead) : Type 0 where
   pub read : read_journal text ≡ Ok said
   pub lawful : IsTextOfLawful text said
   pub woven : WovenRuns said.live said.journal said.receipts
+  pub few : HitsAreFew said.live said.journal said.receipts
 
 -- the text is that of a run with these counts
 pub record IsVerified (text : List ℕ) (counts : Lawful) : Type 0 where

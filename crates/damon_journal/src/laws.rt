@@ -1,10 +1,10 @@
 // Laws of the definitions. No function here does anything.
-ghost use Rattle.std.specs.Prelude.{List, ℕ, ◌≡◌, ◌≤◌, Err};
+ghost use Rattle.std.specs.Prelude.{List, ℕ, ◌≡◌, Err};
 ghost use Rattle.damon_control.specs.Live.{LiveValue};
 ghost use Rattle.damon_core.specs.Reached.{CanOpen};
 ghost use Rattle.damon_journal.specs.declared.entry.Receipt.{Receipt as receipt};
 ghost use Rattle.damon_journal.specs.Examples.{Comes};
-ghost use Rattle.damon_journal.specs.Few.{hits_of, receipts_of};
+ghost use Rattle.damon_journal.specs.Few.{HitsAreFew};
 ghost use Rattle.damon_journal.specs.Growth.{GrowsByEntries, GrowsByOthers};
 ghost use Rattle.damon_journal.specs.Lawful.{IsLawful, SettledReceiptsAreLawful};
 ghost use Rattle.damon_journal.specs.Limits.{LawfulNumbersFit};
@@ -52,7 +52,7 @@ pub fn journals_grow()
 /// receipts.
 pub fn hits_are_few()
     ensures { (v : LiveValue) (j : JournalValue) (all : List (List receipt)) → CanOpen v.setup
-        → IsLawful v j all → (page : ℕ) → hits_of v j page ≤ receipts_of all page }
+        → IsLawful v j all → HitsAreFew v j all }
 {
     damon_core::reached_states_are_bound();
 }

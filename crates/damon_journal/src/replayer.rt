@@ -15,7 +15,9 @@ ghost use Rattle.damon_journal.specs.Verified.{IsOfNoLawfulRun};
 use crate::bits::{BitList, BitPlace, BitRun};
 use crate::kept::{Keeping, Kept, KeptCall};
 use crate::lawful::VerifyFault;
-use crate::laws::{read_journals_are_lawful, rejected_texts_are_unlawful, woven_runs};
+use crate::laws::{
+    hits_are_few, read_journals_are_lawful, rejected_texts_are_unlawful, woven_runs,
+};
 use crate::replaying::Replaying;
 use crate::verifying::read_text;
 use damon_control::MAX_BYTES;
@@ -70,6 +72,7 @@ impl Replayer {
         // For their clauses alone: what is read is lawful and so one run, and what is rejected is not lawful.
         read_journals_are_lawful();
         woven_runs();
+        hits_are_few();
         rejected_texts_are_unlawful();
         let (_counts, kept) = read_text(alloc, bytes, Keeping::Everything)?;
         let replayer = start(alloc, kept)?;

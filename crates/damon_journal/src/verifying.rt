@@ -12,7 +12,9 @@ use crate::fold::Fold;
 use crate::journal_lines::JournalLines;
 use crate::kept::{Keeping, Kept};
 use crate::lawful::{Lawful, VerifyFault};
-use crate::laws::{read_journals_are_lawful, rejected_texts_are_unlawful, woven_runs};
+use crate::laws::{
+    hits_are_few, read_journals_are_lawful, rejected_texts_are_unlawful, woven_runs,
+};
 use crate::seen_part::take_receipts;
 use damon_control::MAX_BYTES;
 use std::alloc::Global;
@@ -33,9 +35,10 @@ pub fn verify(alloc: Global, bytes: &[u8]) -> Result<Lawful, VerifyFault>
     // It is accepted exactly where it is read line by line; else its first rejected line is named.
     ensures line { IfErr result (λ fault. IsFault fault (read_journal bytes.now)) }
 {
-    // For their clauses alone: what is read is lawful and so one run, and what is rejected is not lawful.
+    // For their clauses alone: what is read is lawful and so one run with few hits, and what is rejected is not lawful.
     read_journals_are_lawful();
     woven_runs();
+    hits_are_few();
     rejected_texts_are_unlawful();
     let (counts, _kept) = read_text(alloc, bytes, Keeping::Nothing)?;
     Ok(counts)

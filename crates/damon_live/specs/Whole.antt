@@ -2,9 +2,11 @@
 use Rattle.std.specs.Prelude.{◌≡◌, ℕ, ◌<◌, ◌≤◌, List, All, map}
 use Rattle.std.specs.List.{range_with_len}
 use Rattle.damon_types.specs.Space.{pages_of}
+use Rattle.damon_core.specs.Reached.{CanOpen}
 use Rattle.damon_control.specs.Live.{LiveValue}
 use Rattle.damon_control.specs.declared.live.LiveScript.{LiveScript}
 use Rattle.damon_journal.specs.declared.entry.Receipt.{Receipt}
+use Rattle.damon_journal.specs.Few.{HitsAreFew}
 use Rattle.damon_journal.specs.Lawful.{IsLawful}
 use Rattle.damon_journal.specs.Phases.{IsIdle}
 use Rattle.damon_journal.specs.Replay.{JournalValue, replay}
@@ -16,11 +18,14 @@ use Rattle.damon_live.specs.Machine.{passes_made}
 abbrev pub pages_touched : List Receipt → List ℕ
 pages_touched rs = map (λ r. r.page) rs
 
--- The journal and the receipts of a whole run: they are lawful, and woven together they are one run of the monitor; all passes were
--- made; each controller made all its calls, in order and once each; and each worker touched the pages of its trace, in order.
+-- The journal and the receipts of a whole run: the setup is within its limits; they are lawful, and woven together they are one run of the
+-- monitor; each page has at most as many hits as receipts; all passes were made; each controller made all its calls, in order and once
+-- each; and each worker touched the pages of its trace, in order.
 pub record IsWholeRun (v : LiveValue) (j : JournalValue) (all : List (List Receipt)) : Type 0 where
+  pub opens : CanOpen v.setup
   pub lawful : IsLawful v j all
   pub woven : WovenRuns v j all
+  pub few : HitsAreFew v j all
   pub passes : passes_made j ≡ v.passes
   pub calls : (c : ℕ) → indexes c j.entries ≡ range_with_len 0 (calls_asked c v)
   pub traces : map pages_touched all ≡ v.workers

@@ -81,6 +81,7 @@ pub(crate) fn end_run<N: Named>(
     words.settle(seat);
     damon_journal::settled_receipts_are_lawful();
     damon_journal::woven_runs();
+    damon_journal::hits_are_few();
     Ended {
         journal,
         receipts,

@@ -3,7 +3,7 @@ use Rattle.damon_journal.proofs.Judged.{fault_is_unlawful, read_is_lawful}
 use Rattle.damon_journal.proofs.verifying.verify.Goals as goal
 
 pub returns-clause-lawful : goal.returns-clause-lawful
-returns-clause-lawful c = read_is_lawful c.read_journals_are_lawful.ensures.law c.woven_runs.ensures c.args.bytes.now _ _ c.requires c.in_ok-counts.ensures.read
+returns-clause-lawful c = read_is_lawful c.read_journals_are_lawful.ensures.law c.woven_runs.ensures c.hits_are_few.ensures c.args.bytes.now _ _ c.requires c.in_ok-counts.ensures.read
 
 pub returns-in_err-counts-clause-line : goal.returns-in_err-counts-clause-line
 returns-in_err-counts-clause-line c =
