@@ -1,5 +1,5 @@
 -- The clauses of the top call in one record, for the private functions below it. No public clause cites this file.
-use Rattle.std.specs.Prelude.{◌≡◌, ◌≢◌, ◌↔◌, ℕ, ◌≤◌, ◌+◌, Bool, true, List, length, Ok, IfNone, IfSome, IsSome}
+use Rattle.std.specs.Prelude.{◌≡◌, ◌≢◌, ◌↔◌, ℕ, ◌≤◌, ◌+◌, Bool, true, List, length, None, Ok, IfNone, IfSome, IsSome}
 use Rattle.std.specs.Io.KnownBytes.{Appends, Consumes, IsAtEnd}
 use Rattle.damon_types.specs.Calls.{EndsAtFault, Rose}
 use Rattle.text_io.specs.Ends.{Ends}
@@ -25,7 +25,8 @@ pub record IsEnding (limit : ℕ) (asked : Bool) (source source' sink sink' : En
   pub part : IfSome e.script (λ v. WritesPart sink.bytes sink'.bytes (journal_text v e.journal e.receipts))
   pub back : IfSome e.script (λ v. IsReadBack v e.journal e.receipts)
   pub unwritten : IfNone e.script same
-  pub early : IsUnwritten e.status → same
+  pub early : IsUnwritten e.status → e.script ≡ None
+  pub comes : (line : ℕ) → e.status ≢ statuses.Unlawful line
   pub end : asked ≡ true → IsRead e.status → IsAtEnd source'.bytes
   pub complete : IsExpected asked e.status limit source.bytes (Rose source.calls source'.calls) (Rose sink.calls sink'.calls)
   pub usage : (e.status ≡ statuses.Usage) ↔ (asked ≢ true)

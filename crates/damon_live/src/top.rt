@@ -1,4 +1,4 @@
-ghost use Rattle.std.specs.Prelude.{◌≡◌, ◌≢◌, ◌↔◌, ◌≤◌, ◌<◌, ◌+◌, true, Ok, Some, IfErr, IfNone, IfOk, IfSome, IsErrOf, IsSome, OnOk};
+ghost use Rattle.std.specs.Prelude.{ℕ, ◌≡◌, ◌≢◌, ◌↔◌, ◌≤◌, ◌<◌, ◌+◌, true, None, Ok, Some, IfErr, IfNone, IfOk, IfSome, IsErrOf, IsSome, OnOk};
 ghost use Rattle.std.specs.List.{AllByRecursion};
 ghost use Rattle.std.specs.Io.KnownBytes.{Appends, IsAtEnd};
 ghost use Rattle.damon_types.specs.Calls.{EndsAtFault, Rose};
@@ -58,13 +58,14 @@ pub fn live_main<R: Threads + Wait + Sync, S: Source, K: Sink, P: Pace + Sync>(
     pace: &P,
 ) -> LiveEnd
     // Where a script was carried out, it is the one that was read, and the journal and the receipts are those
-    // of a whole run of it; else both are empty.
+    // of a whole run of it; else both are empty. A status that comes before the run comes with no script.
     ensures run { IfSome (ending result).script (λ v.
         IsWholeRun v (ending result).journal (ending result).receipts) }
     ensures script { IfSome (ending result).script (λ v.
         IfSome (S.left source.old) (λ bytes. live_of bytes ≡ Ok v)) }
     ensures ran { HasRun result.status → IsSome (ending result).script }
     ensures none { IfNone (ending result).script (NothingRan (ending result)) }
+    ensures early { IsUnwritten result.status → (ending result).script ≡ None }
 
     // What was written is the text of the journal and the receipts that are returned, in any case a prefix
     // of it, and nothing where no script was carried out.
@@ -75,7 +76,6 @@ pub fn live_main<R: Threads + Wait + Sync, S: Source, K: Sink, P: Pace + Sync>(
         WritesPart (K.taken sink.old) (K.taken sink.new)
         (journal_text v (ending result).journal (ending result).receipts)) }
     ensures unwritten { IfNone (ending result).script (sink.new ≡ sink.old) }
-    ensures early { IsUnwritten result.status → sink.new ≡ sink.old }
 
     // The text of the run is read as a journal: the one that is returned, with its receipts.
     ensures back { IfSome (ending result).script (λ v.
@@ -86,7 +86,8 @@ pub fn live_main<R: Threads + Wait + Sync, S: Source, K: Sink, P: Pace + Sync>(
         (Rose (S.calls source.old) (S.calls source.new))
         (Rose (K.calls sink.old) (K.calls sink.new)) }
 
-    // When each other status comes; memory may run out at any time.
+    // When each other status comes; memory may run out at any time, and `Unlawful` never comes.
+    ensures comes { (line : ℕ) → result.status ≢ Status.Unlawful line }
     ensures usage { (result.status ≡ Status.Usage) ↔ (asks_run words.now ≢ true) }
     ensures too_long { result.status ≢ Status.Memory → IsSome (S.left source.old) →
         (result.status ≡ Status.TooLong) ↔ GaveOver INPUT_LIMIT (S.left source.old) (S.left source.new) }
