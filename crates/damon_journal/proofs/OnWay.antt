@@ -382,6 +382,7 @@ nothing_left states last r h none =
     let ends : last ≡ (replay v h.journal).state = h.to ∙ ap (λ es. (replay_from v at es).state) empty in
     record {
       none = no_states;
+      all = none;
       stands = subst (Stands r.monitor) (sym ends) h.carried_out.stands;
       reached = subst Reached (sym ends) h.carried_out.reached;
       leads = subst (λ ss. Leads ss last r) no_states h;

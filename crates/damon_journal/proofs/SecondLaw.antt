@@ -25,14 +25,16 @@ use Rattle.damon_control.specs.JournalHead.{ReadsHeadsBack, head_lines}
 use Rattle.damon_control.specs.Live.{LiveValue}
 use Rattle.damon_control.specs.Script.{AtHeader}
 use Rattle.damon_control.specs.WriteBack.{IsWritable}
+use Rattle.damon_journal.specs.declared.entry.CallAnswer.{CallAnswer}
 use Rattle.damon_journal.specs.declared.entry.Entry.{Entry}
+use Rattle.damon_journal.specs.declared.entry.Entry.TheVariants.{Call}
 use Rattle.damon_journal.specs.declared.entry.Receipt.{Receipt}
 use Rattle.damon_journal.specs.EntryLine.{after_call, after_entry, is_idle, said_entry, where_so}
 use Rattle.damon_journal.specs.Growth.{longer}
 use Rattle.damon_journal.specs.Lawful.{AreReceipts, IsLawful, Received, all_of, touches_of}
 use Rattle.damon_journal.specs.Place.{AtLast, InEntries, InHead, InReceipts, JournalPlace, JournalRead}
 use Rattle.damon_journal.specs.Reading.{line_after, said_from}
-use Rattle.damon_journal.specs.Replay.{JournalValue, replay}
+use Rattle.damon_journal.specs.Replay.{JournalValue, call_at, replay}
 use Rattle.damon_journal.specs.Room.{nothing_said}
 use Rattle.damon_journal.specs.Rules.{CallsInTurn, CanCall, IsReadBack, TagsFit}
 use Rattle.damon_journal.specs.SeenLine.{after_receipt, has_receipt, is_receipt, is_tag, was_cleared}
@@ -156,6 +158,7 @@ record BodyLeads (v : LiveValue) (j : JournalValue) (all : List (List Receipt)) 
   later : LiveValue
   seed : later.seed ≡ v.seed
   setup : later.setup ≡ v.setup
+  calls : (c i : ℕ) (answer : CallAnswer) → Contains j.entries (Call c i answer) → call_at later c i ≡ call_at v c i
   behind : List (List Receipt)
   pads : Pads behind all
   last : last_text (replay later j).state ≡ last_text (replay v j).state
@@ -187,6 +190,7 @@ body_leads laws v j all lawful can =
       later = w;
       seed = refl;
       setup = refl;
+      calls = entries.calls;
       behind = seen.behind;
       pads = seen.pads;
       last = ap last_text entries.state;
@@ -241,5 +245,6 @@ second_law laws v j all lawful can =
       seed = body.seed;
       setup = body.setup;
       journal = refl;
+      calls = body.calls;
       receipts = body.pads;
     }

@@ -58,14 +58,15 @@ pub of_lawful : ReadsOnlyLawful → (text : List ℕ) (counts : Lawful) (k : Kep
 of_lawful law text counts k few has = (has.read.live, has.read.journal, (law text has.read few has.is).lawful.journal, has.kept_is)
 
 -- and is carried out from its start
-pub reads_run : ReadsOnlyLawful → OfLawful WovenRuns → OfLawful HitsAreFew → (text : List ℕ) (counts : Lawful) (k : Kept) (r : ReplayerView) → length text ≤ MAX_BYTES → IsReadAs (read_journal text) counts k
+pub reads_run : ReadsOnlyLawful → OfLawful WovenRuns → OfLawful HitsAreFew → (text : List ℕ) (counts : Lawful) (k : Kept) (r : ReplayerView) → length text ≤ MAX_BYTES → IsReadAs (read_journal text) counts k → r.done ≡ 0
     → ((v : LiveValue) (j : JournalValue) → IsJournalOf v j → IsKept v j k → Leads (aggregated v j) (replay v j).state r) → r.monitor.core.space ≡ k.setup.space → ReadsRun text r
-reads_run law weaves few text counts k r short has leads space =
+reads_run law weaves few text counts k r short has fresh leads space =
     let said = has.read in
     let run = run_text law weaves few text said short has.is has.opens in
     record {
       said = said;
       run = run;
+      fresh = fresh;
       leads = leads said.live said.journal run.lawful.lawful.journal has.kept_is;
       space = space ∙ sym (ap (λ (v : SetupValue). v.space) has.kept_is.setup);
     }

@@ -68,11 +68,12 @@ IsOnWay r = (states : List State) × (last : State) × Leads states last r
 abbrev pub StandsForReached : MonitorView → Type 0
 StandsForReached m = (s : State) × Reached s × Stands m s
 
--- The text is that of a run, whose journal is carried out from its start: it leads through the states after its aggregations to its last
+-- The text is that of a run, of whose journal nothing is carried out yet: it leads through the states after its aggregations to its last
 -- state.
 pub record ReadsRun (text : List ℕ) (r : ReplayerView) : Type 0 where
   pub said : JournalRead
   pub run : IsRunText text said
+  pub fresh : r.done ≡ 0
   pub leads : Leads (aggregated said.live said.journal) (replay said.live said.journal).state r
   pub space : r.monitor.core.space ≡ said.live.setup.space
 
@@ -86,9 +87,10 @@ pub record ReachesNext (tick : ℕ) (states : List State) (last : State) (r : Re
   pub reached : Reached state
   pub leads : Leads rest last r
 
--- no state was left, and the last one is reached
+-- no state was left, all entries are carried out, and the last state is reached
 pub record ReachesLast (states : List State) (last : State) (r : ReplayerView) : Type 0 where
   pub none : states ≡ []
+  pub all : r.left ≡ 0
   pub stands : Stands r.monitor last
   pub reached : Reached last
   pub leads : Leads [] last r

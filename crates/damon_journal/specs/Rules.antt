@@ -1,6 +1,6 @@
 -- What a text asks of a journal besides that it is lawful, and how texts and lawful journals belong together.
 use Rattle.std.specs.Prelude.{◌≡◌, ℕ, ◌+◌, ◌^◌, ◌≤◌, ◌<◌, zero, suc, List, [], ◌∷◌, ◌++◌, length, replicate, slice_index_or, Some, Ok}
-use Rattle.std.specs.List.{AllByRecursion}
+use Rattle.std.specs.List.{AllByRecursion, Contains}
 use Rattle.live_commit.specs.declared.fault.CommitFault.{CommitFault}
 use Rattle.live_commit.specs.declared.fault.CommitFault.TheVariants.{Busy, BadRange, RangesOverMax, OverCap, BadCost}
 use Rattle.damon_control.specs.declared.live.TheConstants.{MAX_WORKERS}
@@ -102,13 +102,17 @@ pub record IsTextOfLawful (text : List ℕ) (said : JournalRead) : Type 0 where
 abbrev pub ReadsOnlyLawful : Type 0
 ReadsOnlyLawful = (text : List ℕ) (said : JournalRead) → length text ≤ MAX_BYTES → read_journal text ≡ Ok said → IsTextOfLawful text said
 
--- the text is read as the same seed, setup and journal, and the same receipts but for workers without any at the end
+-- The text is read as the same seed, setup and journal, with the same calls of it, and as the same receipts but for workers without any at
+-- the end.
 pub record IsReadBack (v : LiveValue) (j : JournalValue) (all : List (List Receipt)) : Type 0 where
   pub said : JournalRead
   pub read : read_journal (journal_text v j all) ≡ Ok said
   pub seed : said.live.seed ≡ v.seed
   pub setup : said.live.setup ≡ v.setup
   pub journal : said.journal ≡ j
+  pub calls :
+      (controller index : ℕ) (answer : CallAnswer) → Contains j.entries (Call controller index answer)
+      → call_at said.live controller index ≡ call_at v controller index
   pub receipts : (n : ℕ) × (said.receipts ++ replicate n [] ≡ all)
 
 -- the text of each lawful journal that a text can spell is read back

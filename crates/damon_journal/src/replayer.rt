@@ -223,6 +223,7 @@ fn start(alloc: Global, kept: Kept) -> Result<Replayer, AllocError>
     requires lawful { IsOfJournal kept }
     ensures leads { IfOk result (λ r. (v : LiveValue) (j : JournalValue) → IsJournalOf v j
         → IsKept v j kept → Leads (aggregated v j) (replay v j).state r) }
+    ensures fresh { IfOk result (λ r. r.done ≡ 0) }
     ensures space { IfOk result (λ r. r.monitor.core.space ≡ kept.setup.space) }
 {
     let Kept {
