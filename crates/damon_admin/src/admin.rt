@@ -92,8 +92,8 @@ impl Admin {
     }
 
     /// Does the next line of the input, and appends to `out` what its context writes at it. False where no
-    /// line is left. Takes memory. If memory runs out, nothing of the line's text is appended, and
-    /// every later call fails.
+    /// line is left. Takes memory. If memory runs out, nothing of the line's text is appended, the line
+    /// counts as not done, and every later call fails.
     pub fn next(&mut self, alloc: Global, out: &mut Vec<u8>) -> Result<bool, AllocError>
         ensures line { result ≡ Ok true → DoesLine self.old self.new out.old.items out.new.items }
         ensures end { result ≡ Ok false → self.old.left ≡ [] }
@@ -101,7 +101,7 @@ impl Admin {
         ensures silent { result ≡ Ok false → out.new.items ≡ out.old.items }
         ensures last { self.old.left ≡ [] → self.old.failed ≡ false → result ≡ Ok false }
         ensures err { OnErr result (out.new.items ≡ out.old.items) }
-        ensures fails { OnErr result (self.new.failed ≡ true) }
+        ensures stays { OnErr result (self.new ≡ record self.old { failed = true }) }
         ensures failed { self.old.failed ≡ true → OnOk result ⊥ }
     {
         if self.failed {
@@ -119,7 +119,7 @@ impl Admin {
         ensures silent { result ≡ Ok false → out.new.items ≡ out.old.items }
         ensures last { self.old.left ≡ [] → result ≡ Ok false }
         ensures err { OnErr result (out.new.items ≡ out.old.items) }
-        ensures fails { OnErr result (self.new.failed ≡ true) }
+        ensures stays { OnErr result (self.new ≡ record self.old { failed = true }) }
     {
         // What was read in `new` is read again, so no line is refused.
         let Ok(Some(taken)) = take_line(rest_from(&self.input, self.at), 0) else {
