@@ -3,12 +3,13 @@ use Rattle.std.specs.Prelude.{◌≡◌, ◌⊎◌, ℕ, List, Some}
 use Rattle.damon_control.specs.Script.{ScriptValue}
 use Rattle.damon_control.specs.Text.{IsText}
 use Rattle.script_run.specs.BoundAlong.{IsBoundAlong, IsBoundFrom, IsBoundWith}
+use Rattle.script_run.specs.PutIn.{PutsAreAccepted}
 use Rattle.script_run.specs.Choices.{ChoosesBestAlong, ChoosesBestFrom, ChoosesBestWith}
 use Rattle.script_run.specs.ScriptEvents.{script_events}
 use Rattle.quota_goal.specs.declared.goals.Goal.{Goal}
 use Rattle.trace_gen.specs.Gen.{gen}
 use Rattle.reclaim_run.specs.Along.{IsReclaimedRun}
-use Rattle.tune_run.specs.Along.{AreBelowTops, AreTunedWithin, AtEachEvent, FollowTheScore, PutsAreAccepted, StayBelowTops, StayWithTheScores, first_tuner}
+use Rattle.tune_run.specs.Along.{AreBelowTops, AreTunedWithin, AtEachEvent, FollowTheScore, StayBelowTops, StayWithTheScores, first_tuner}
 use Rattle.tune_run.specs.Callbacks.{tune_callbacks}
 use Rattle.damon_app.specs.GoalWords.{goals_of}
 
@@ -45,7 +46,7 @@ CanFollow goals = (words : List (List ℕ)) × (goals_of words ≡ Some goals)
 pub record IsTunedRun (goals : List Goal) (s : ScriptValue) : Type 0 where
   pub bound : IsBoundWith (tune_callbacks goals) s
   pub choices : ChoosesBestWith (tune_callbacks goals) s
-  pub accepted : AtEachEvent goals s (PutsAreAccepted goals)
+  pub accepted : PutsAreAccepted (tune_callbacks goals) s
   pub first : AreBelowTops (first_tuner goals s)
   pub tops : AtEachEvent goals s (StayBelowTops goals)
   pub bounds : AtEachEvent goals s (AreTunedWithin goals)

@@ -10,6 +10,7 @@ use Rattle.script_run.specs.Choices.{EachRunWithCallbacksChoosesBest}
 use Rattle.reclaim_module.proofs.Lemmas.{balance, others_are_resident, out_by_last, page_out_slot_by_slot, since_last, touches_are_within}
 use Rattle.reclaim_run.specs.Along.{EachReclaimedRun, IsAccounted}
 use Rattle.reclaim_run.specs.Reclaimed.{pages_in, reclaim_callbacks, share_after}
+use Rattle.reclaim_run.proofs.Accepting.{shares_accepted}
 
 -- the commit of a metric fits in each state
 shares_fit : (s t : State) (e : Event) → FitByHit t (share_after s e)
@@ -44,6 +45,7 @@ each_is_accounted bound choices s sound =
     record {
       bound = all;
       choices = choices reclaim_callbacks reclaim_fits s sound;
+      accepted = shares_accepted s sound;
       moments = λ events rest is.
           reached_is_accounted (run (opening s.setup) events) (record {
             setup = s.setup;

@@ -7,6 +7,7 @@ use Rattle.damon_control.specs.Script.{ScriptValue}
 use Rattle.damon_control.specs.Sound.{IsSound}
 use Rattle.script_run.specs.BoundAlong.{IsBoundWith}
 use Rattle.script_run.specs.Choices.{ChoosesBestWith}
+use Rattle.script_run.specs.PutIn.{PutsAreAccepted}
 use Rattle.script_run.specs.RunWith.{unfold_with}
 use Rattle.reclaim_module.specs.Out.{IsOutSinceLast, is_out}
 use Rattle.reclaim_module.specs.SlotBySlot.{PagesOutSlotBySlot}
@@ -21,11 +22,12 @@ pub record IsAccounted (s : State) : Type 0 where
   pub counts : (figures_in s).counts.pageouts
       ≡ (figures_in s).out + ((figures_in s).counts.refaults + (figures_in s).counts.prefetches)
 
--- Along the run of the script under proactive reclaim: each state is bound, and its pages are accounted for; each aggregation
--- applies each active scheme to the best choice, and pages out, slot by slot, what of it is resident.
+-- Along the run of the script under proactive reclaim: each state is bound, and its pages are accounted for; each commit of the share is
+-- accepted; each aggregation applies each active scheme to the best choice, and pages out, slot by slot, what of it is resident.
 pub record IsReclaimedRun (s : ScriptValue) : Type 0 where
   pub bound : IsBoundWith reclaim_callbacks s
   pub choices : ChoosesBestWith reclaim_callbacks s
+  pub accepted : PutsAreAccepted reclaim_callbacks s
   pub moments : (events rest : List Event) → unfold_with reclaim_callbacks s ≡ events ++ rest
       → IsAccounted (run (opening s.setup) events)
   pub pageouts : (events rest : List Event) (words : List ℕ)

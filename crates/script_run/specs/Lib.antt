@@ -9,6 +9,7 @@ pub mod Callbacks
 pub mod Calls
 pub mod Course
 pub mod RunWith
+pub mod PutIn
 pub mod Alone
 pub mod Player
 pub mod Kept

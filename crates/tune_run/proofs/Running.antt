@@ -22,6 +22,7 @@ use Rattle.damon_control.specs.Script.{ScriptValue}
 use Rattle.damon_control.specs.Sound.{IsSound}
 use Rattle.script_run.specs.Course.{Course, course_after, going_with}
 use Rattle.script_run.specs.Going.{onward}
+use Rattle.script_run.specs.PutIn.{AllAccepted}
 use Rattle.script_run.specs.RunWith.{start_with}
 use Rattle.quota_goal.specs.declared.goals.Goal.{Goal}
 use Rattle.quota_goal.specs.declared.moment.Moment.{Moment}
@@ -29,7 +30,7 @@ use Rattle.quota_goal.specs.declared.moment.Moment.TheVariants.{Metric}
 use Rattle.quota_goal.specs.Goals.{IsGoal}
 use Rattle.quota_goal.specs.Next.{next}
 use Rattle.quota_goal.specs.Tuned.{TunerView, bytes_at, top_after, tunable_bytes}
-use Rattle.tune_run.specs.Along.{AllAccepted, AreBelowTops, AreTunedWithin, DoFollow, FollowTheScore, LiesBetween, put_in, scored_goals, tuner_then}
+use Rattle.tune_run.specs.Along.{AreBelowTops, AreTunedWithin, DoFollow, FollowTheScore, LiesBetween, put_in, scored_goals, tuner_then}
 use Rattle.tune_run.specs.Callbacks.{moment_after, schemes_in, tune_callbacks, tuned_by, tuner_in}
 use Rattle.tune_run.specs.Tops.{top_of, tops_kept, tops_of}
 use Rattle.tune_run.proofs.Accepting.{free_again, opening_takes}

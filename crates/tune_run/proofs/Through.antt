@@ -17,7 +17,7 @@ use Rattle.damon_core.specs.State.{State}
 use Rattle.quota_goal.specs.declared.goals.Goal.{Goal}
 use Rattle.quota_goal.specs.declared.moment.Moment.{Moment}
 use Rattle.quota_goal.specs.Tuned.{TunerView, after_change, change_at, retuned, scheme_at, tuned_at}
-use Rattle.tune_run.specs.Along.{AllAccepted, IsAccepted}
+use Rattle.script_run.specs.PutIn.{AllAccepted, IsAccepted}
 use Rattle.tune_run.specs.Callbacks.{change_alone, changes_at, commits_of, schemes_in, tuner_in}
 use Rattle.tune_run.proofs.Accepting.{TakesChanges, event_takes}
 use Rattle.tune_run.proofs.Changes.{change_to, later_stay, next_is, slot_is}

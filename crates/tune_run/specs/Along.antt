@@ -1,12 +1,11 @@
 -- What holds along each run with quotas that follow goals.
-use Rattle.std.specs.Prelude.{◌≡◌, ℕ, ◌<◌, ◌≤◌, min, ◌&&◌, ◌==◌, List, [], ◌∷◌, ◌++◌, filter, map, Option, Some, IfSome, Ok}
+use Rattle.std.specs.Prelude.{◌≡◌, ℕ, ◌<◌, ◌≤◌, min, ◌&&◌, ◌==◌, List, [], ◌∷◌, ◌++◌, filter, map, Option, Some, IfSome}
 use Rattle.std.specs.List.{AllByRecursion}
 use Rattle.std.specs.Option.{is_some, option_and_then}
 use Rattle.damon_core.specs.After.{after}
-use Rattle.damon_core.specs.Commit.{check_of}
 use Rattle.damon_core.specs.Event.{Event, commit}
 use Rattle.damon_core.specs.Reached.{run}
-use Rattle.damon_core.specs.State.{State, opening}
+use Rattle.damon_core.specs.State.{opening}
 use Rattle.damon_control.specs.Script.{ScriptValue}
 use Rattle.damon_control.specs.Sound.{IsSound}
 use Rattle.script_run.specs.Callbacks.{put_after, remembered}
@@ -50,22 +49,6 @@ tuner_then goals r e = tuner_past goals r e (put_in goals r e)
 -- the moment at which an event scores goals
 abbrev pub moment_of : Course → Event → Option Moment
 moment_of r e = moment_after (after r.moment.state e) e
-
--- ---- each commit that is put in is accepted
-
--- an event is a commit that is accepted
-abbrev pub IsAccepted : State → Event → Type 0
-IsAccepted s (commit parts) = check_of parts s.core ≡ Ok tt
-IsAccepted s _ = ⊥
-
--- each of these events is a commit that is accepted where it is made
-abbrev pub AllAccepted : State → List Event → Type 0
-AllAccepted s [] = Unit {0}
-AllAccepted s (e ∷ es) = IsAccepted s e × AllAccepted (after s e) es
-
--- each commit that is put in after an event of the script is accepted
-abbrev pub PutsAreAccepted : List Goal → Course → Event → Type 0
-PutsAreAccepted goals r e = AllAccepted (after r.moment.state e) (put_in goals r e)
 
 -- ---- bytes and tops
 

@@ -1,5 +1,6 @@
 // What holds of the runs of all scripts with quotas that follow goals. No function here does anything.
 ghost use Rattle.std.specs.Prelude.{◌≡◌, List, is_ok};
+ghost use Rattle.std.specs.List.{AllByRecursion};
 ghost use Rattle.damon_control.specs.Script.{ScriptValue};
 ghost use Rattle.damon_control.specs.Sound.{IsSound};
 ghost use Rattle.damon_core.specs.After.{after};
@@ -8,10 +9,12 @@ ghost use Rattle.damon_core.specs.Event.{commit};
 ghost use Rattle.damon_core.specs.State.{State};
 ghost use Rattle.live_commit.specs.Commit.{CommitValue};
 ghost use Rattle.quota_goal.specs.declared.goals.Goal.{Goal};
+ghost use Rattle.quota_goal.specs.Goals.{IsGoal};
 ghost use Rattle.script_run.specs.BoundAlong.{IsBoundWith};
 ghost use Rattle.script_run.specs.Callbacks.{FitAlways};
 ghost use Rattle.script_run.specs.Choices.{ChoosesBestWith};
-ghost use Rattle.tune_run.specs.Along.{AreBelowTops, AreTunedWithin, AtEachEventOfAll, FollowTheScore, PutsAreAccepted, StayBelowTops, StayWithTheScores, first_tuner};
+ghost use Rattle.script_run.specs.PutIn.{PutsAreAccepted};
+ghost use Rattle.tune_run.specs.Along.{AreBelowTops, AreTunedWithin, AtEachEventOfAll, FollowTheScore, StayBelowTops, StayWithTheScores, first_tuner};
 ghost use Rattle.tune_run.specs.Callbacks.{tune_callbacks};
 ghost use Rattle.tune_run.specs.Tops.{was_accepted};
 
@@ -41,7 +44,8 @@ pub fn tuned_runs_are_bound()
 /// not rise at or above it; so once the one goal of a slot was scored, its bytes do not fall as long as the
 /// scores stay below the target, and do not rise as long as they stay at or above it.
 pub fn bytes_follow_their_goals()
-    ensures accepted { AtEachEventOfAll PutsAreAccepted }
+    ensures accepted { (goals : List Goal) (s : ScriptValue) → AllByRecursion IsGoal goals → IsSound s
+        → PutsAreAccepted (tune_callbacks goals) s }
     ensures first { (goals : List Goal) (s : ScriptValue) → IsSound s
         → AreBelowTops (first_tuner goals s) }
     ensures tops { AtEachEventOfAll StayBelowTops }
