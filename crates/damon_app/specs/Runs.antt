@@ -8,7 +8,7 @@ use Rattle.script_run.specs.Choices.{ChoosesBestAlong, ChoosesBestFrom, ChoosesB
 use Rattle.script_run.specs.ScriptEvents.{script_events}
 use Rattle.quota_goal.specs.declared.goals.Goal.{Goal}
 use Rattle.trace_gen.specs.Gen.{gen}
-use Rattle.reclaim_run.specs.Along.{IsReclaimedRun}
+use Rattle.reclaim_run.specs.Along.{CountThePages, IsReclaimedRun}
 use Rattle.tune_run.specs.Along.{AreBelowTops, AreTunedWithin, AtEachEvent, FollowTheScore, StayBelowTops, StayWithTheScores, first_tuner}
 use Rattle.tune_run.specs.Callbacks.{tune_callbacks}
 use Rattle.damon_app.specs.GoalWords.{goals_of}
@@ -30,10 +30,12 @@ pub record GeneratedRunsAreRight : Type 0 where
 abbrev pub CanRun : ScriptValue → Type 0
 CanRun s = ((text : List ℕ) × IsText text s) ⊎ ((n : ℕ) × (s ≡ gen n))
 
--- Each such script that is run over a model of resident pages: each state along its run is bound, and its pages are accounted for; each
--- aggregation makes the best choices, and pages out, slot by slot, what is resident of the pages that a `pageout` scheme is applied to.
-abbrev pub EachRunIsAccounted : Type 0
-EachRunIsAccounted = (s : ScriptValue) → CanRun s → IsReclaimedRun s
+-- Each such script that is run over a model of resident pages: each state along its run is bound, and each page that went out is out or
+-- came back; each aggregation makes the best choices, and pages out, slot by slot, what is resident of the pages that a `pageout` scheme
+-- is applied to. The figures count the pages, whatever has happened.
+pub record EachRunIsAccounted : Type 0 where
+  pub runs : (s : ScriptValue) → CanRun s → IsReclaimedRun s
+  pub figures : CountThePages
 
 -- goals that the program can be asked to follow: those that words say
 abbrev pub CanFollow : List Goal → Type 0

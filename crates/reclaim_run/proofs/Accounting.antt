@@ -1,5 +1,5 @@
 -- Each moment of a run under proactive reclaim.
-use Rattle.std.proofs.Common.{List, [], ◌∷◌, ◌++◌, refl, subst, arith}
+use Rattle.std.proofs.Common.{List, [], ◌∷◌, ◌++◌, refl, subst}
 use Rattle.damon_core.specs.After.{after}
 use Rattle.damon_core.specs.Event.{Event, touch, prepare, clear, load, observe, aggregate, commit, show}
 use Rattle.damon_core.specs.Reached.{AllFit, Reached, run}
@@ -7,8 +7,8 @@ use Rattle.damon_core.specs.State.{State, opening}
 use Rattle.script_run.specs.BoundAlong.{EachRunWithCallbacksIsBound}
 use Rattle.script_run.specs.Callbacks.{FitAlways, FitByHit}
 use Rattle.script_run.specs.Choices.{EachRunWithCallbacksChoosesBest}
-use Rattle.reclaim_module.proofs.Lemmas.{balance, others_are_resident, out_by_last, page_out_slot_by_slot, since_last, touches_are_within}
-use Rattle.reclaim_run.specs.Along.{EachReclaimedRun, IsAccounted}
+use Rattle.reclaim_module.proofs.Lemmas.{balance, page_out_slot_by_slot, touches_are_within}
+use Rattle.reclaim_run.specs.Along.{EachReclaimedRun, IsBalanced}
 use Rattle.reclaim_run.specs.Reclaimed.{pages_in, reclaim_callbacks, share_after}
 use Rattle.reclaim_run.proofs.Accepting.{shares_accepted}
 
@@ -31,13 +31,8 @@ fit_front : (s : State) (es fs : List Event) → AllFit s (es ++ fs) → AllFit 
 fit_front s [] fs fit = tt
 fit_front s (e ∷ es) fs fit = (fit.0, fit_front (after s e) es fs fit.1)
 
-reached_is_accounted : (s : State) → Reached s → IsAccounted s
-reached_is_accounted s reached = record {
-  pages = omega (arith, others_are_resident (pages_in s) s.notes);
-  since = since_last s.notes;
-  out = out_by_last s.notes;
-  counts = balance (pages_in s) s.notes (touches_are_within s reached);
-}
+reached_is_balanced : (s : State) → Reached s → IsBalanced s
+reached_is_balanced s reached = balance (pages_in s) s.notes (touches_are_within s reached)
 
 pub each_is_accounted : EachRunWithCallbacksIsBound → EachRunWithCallbacksChoosesBest → EachReclaimedRun
 each_is_accounted bound choices s sound =
@@ -46,8 +41,8 @@ each_is_accounted bound choices s sound =
       bound = all;
       choices = choices reclaim_callbacks reclaim_fits s sound;
       accepted = shares_accepted s sound;
-      moments = λ events rest is.
-          reached_is_accounted (run (opening s.setup) events) (record {
+      balance = λ events rest is.
+          reached_is_balanced (run (opening s.setup) events) (record {
             setup = s.setup;
             events = events;
             can_open = record { space = sound.space; sound = sound.setup; order = sound.order };
