@@ -5,13 +5,12 @@ use Rattle.std.proofs.lemmas.List.{map-append}
 use Rattle.std.proofs.lemmas.Grind.{flat_map-append}
 use Rattle.std.specs.Prelude.{flat_map}
 use Rattle.std.specs.Io.KnownBytes.{Appends}
-use Rattle.std.specs.List.{AllByRecursion}
 use Rattle.damon_core.specs.State.{State}
 use Rattle.damon_journal.specs.Replayer.{Leads, ReplayerView}
 use Rattle.damon_types.specs.RowPages.{working_set}
 use Rattle.heat_report.specs.Text.{last_line}
 use Rattle.text_io.specs.Taken.{WritesPart}
-use Rattle.damon_app.specs.Heating.{AddUp, WritesNext, tables_of, tables_text}
+use Rattle.damon_app.specs.Heating.{WritesNext, tables_of, tables_text}
 use Rattle.damon_app.proofs.Known.{WritesPart-after, WritesPart-longer, WritesPart-whole}
 
 -- the working set of a state's report
@@ -28,14 +27,9 @@ first_part n before piece state rest states first tables old new part =
     ∙ ap (λ t. t ++ left) (sym tables) in
     subst (WritesPart old new) (sym text) (WritesPart-longer old new piece left part)
 
--- what holds of all states that are done, and of one more
-all_done : (P : State → Type 0) (done : List State) (one : State) → AllByRecursion P done → P one → AllByRecursion P (done ++ one ∷ [])
-all_done P [] one all here = (here, tt)
-all_done P (s ∷ done) one all here = (all.0, all_done P done one all.1 here)
-
 module _ (n : ℕ) (states : List State) (last : State) where
-  -- Of the states that a replay leads through, these are done: what the sink took, and then the piece, are their tables, which add
-  -- up, and the sizes are their working sets.
+  -- Of the states that a replay leads through, these are done: what the sink took, and then the piece, are their tables, and the
+  -- sizes are their working sets.
   pub record AreWritten (r : ReplayerView) (sizes piece : List ℕ) (old new : Option (List ℕ)) : Type 0 where
     pub done : List State
     pub rest : List State
@@ -45,11 +39,10 @@ module _ (n : ℕ) (states : List State) (last : State) where
     pub taken : Appends old new written
     pub tables : written ++ piece ≡ flat_map (tables_of n) done
     pub sizes_are : sizes ≡ map size_of done
-    pub sums : AllByRecursion (AddUp n) done
 
   -- at first none is done
   pub written_first : (r : ReplayerView) (sizes piece : List ℕ) (old : Option (List ℕ)) → sizes ≡ [] → piece ≡ [] → Leads states last r → AreWritten r sizes piece old old
-  written_first r sizes piece old none empty leads = record { done = []; rest = states; are = refl; leads = leads; written = []; taken = Appends-nil old; tables = empty; sizes_are = none; sums = tt }
+  written_first r sizes piece old none empty leads = record { done = []; rest = states; are = refl; leads = leads; written = []; taken = Appends-nil old; tables = empty; sizes_are = none }
 
   module _ (r : ReplayerView) (sizes piece : List ℕ) (old new : Option (List ℕ)) (told : AreWritten r sizes piece old new) where
     -- one more state was written
@@ -73,7 +66,6 @@ module _ (n : ℕ) (states : List State) (last : State) where
               ∙ ap (λ t. flat_map (tables_of n) told.done ++ t) (sym (append-nil (tables_of n on.state)))
               ∙ sym (flat_map-append (tables_of n) told.done one);
           sizes_are = on.sizes ∙ ap (λ l. l ++ size_of on.state ∷ []) told.sizes_are ∙ sym (map-append size_of told.done one);
-          sums = all_done (AddUp n) told.done on.state told.sums on.sums;
         }
 
     -- nothing has changed
@@ -87,7 +79,6 @@ module _ (n : ℕ) (states : List State) (last : State) where
       taken = subst (λ t. Appends old t told.written) (sym same) told.taken;
       tables = ap (λ t. told.written ++ t) same_piece ∙ told.tables;
       sizes_are = same_sizes ∙ told.sizes_are;
-      sums = told.sums;
     }
 
     -- the tables of all states are those that are done, and more
@@ -114,10 +105,6 @@ module _ (n : ℕ) (states : List State) (last : State) where
     -- nothing of the piece was
     pub told_kept : WritesPart old new (tables_text n states)
     told_kept = subst (WritesPart old new) (sym (all_tables ∙ append_assoc told.written piece more_tables)) (WritesPart-longer old new told.written (piece ++ more_tables) (WritesPart-whole old new told.written told.taken))
-
-    -- where none is left, all add up
-    pub told_sums : told.rest ≡ [] → AllByRecursion (AddUp n) states
-    told_sums none = subst (AllByRecursion (AddUp n)) (sym (told.are ∙ ap (λ l. told.done ++ l) none ∙ append-nil told.done)) told.sums
 
     -- after the last state the piece ends with the last line
     module _ (none : told.rest ≡ []) (piece' : List ℕ) (more : piece' ≡ piece ++ last_line sizes) where

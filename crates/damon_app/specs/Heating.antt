@@ -7,7 +7,8 @@ use Rattle.damon_journal.specs.Aggregated.{aggregated}
 use Rattle.damon_journal.specs.Place.{JournalRead}
 use Rattle.damon_journal.specs.Replayer.{Leads, ReplayerView}
 use Rattle.damon_journal.specs.Verified.{IsRunText}
-use Rattle.damon_types.specs.RowPages.{row_pages, working_set}
+use Rattle.damon_types.specs.Ranges.{page_total}
+use Rattle.damon_types.specs.RowPages.{working_set}
 use Rattle.heat_report.specs.Freq.{freqs}
 use Rattle.heat_report.specs.Heat.{target_heats, target_total}
 use Rattle.heat_report.specs.Text.{last_line, report_text}
@@ -31,11 +32,11 @@ abbrev pub tables_text : ℕ → List State → List ℕ
 tables_text n states = flat_map (tables_of n) states ++ last_line (map (λ s. working_set s.core.report.rows) states)
 
 -- The numbers of these tables add up: the heat of the columns of each target sums to the sum of pages × count over its rows, and the
--- numbers of `freq` sum to the pages of all rows.
+-- numbers of `freq` sum to the pages of all ranges.
 pub record AddUp (n : ℕ) (s : State) : Type 0 where
   pub heat : (target : ℕ) → target < length s.core.space
       → sum (target_heats s.core.report.rows s.core.space target n) ≡ target_total s.core.report.rows target
-  pub freq : sum (freqs s.core.attrs.aggr s.core.report.rows) ≡ row_pages s.core.report.rows
+  pub freq : sum (freqs s.core.attrs.aggr s.core.report.rows) ≡ page_total s.core.regions.ranges
 
 -- How far the tables of a replay are: what is left of it, the working sets of the reports so far, the text that is not handed over
 -- yet, and what the sink took.
@@ -45,8 +46,8 @@ pub record HeatProgress : Type 0 where
   pub piece : List ℕ
   pub taken : Option (List ℕ)
 
--- the first of the states to come was written: its tables, which add up, followed the piece, of which the front may have been handed
--- over, and its working set the others
+-- the first of the states to come was written: its tables followed the piece, of which the front may have been handed over, and its
+-- working set the others
 pub record IsWrittenNext (n : ℕ) (old new : HeatProgress) (states : List State) (last : State) : Type 0 where
   pub state : State
   pub rest : List State
@@ -54,7 +55,6 @@ pub record IsWrittenNext (n : ℕ) (old new : HeatProgress) (states : List State
   pub leads : Leads rest last new.replay
   pub sizes : new.sizes ≡ old.sizes ++ working_set state.core.report.rows ∷ []
   pub handed : HandsOver old.taken new.taken (old.piece ++ tables_of n state) new.piece
-  pub sums : AddUp n state
 
 -- whatever states the replay leads through, the first was written
 abbrev pub WritesNext : ℕ → HeatProgress → HeatProgress → Type 0

@@ -1,7 +1,6 @@
 // The heat tables of a journal.
 ghost use Rattle.std.specs.Prelude.{◌≡◌, ℕ, ◌≤◌, ◌<◌, ◌++◌, ◌∷◌, [], List, Ok, true, false, flat_map, IfErr, IfOk, IsErrOf, OnErr, OnOk};
 ghost use Rattle.std.specs.Io.KnownBytes.{Appends};
-ghost use Rattle.std.specs.List.{AllByRecursion};
 ghost use Rattle.damon_types.specs.Calls.{EndsAtFault};
 ghost use Rattle.damon_types.specs.RowPages.{working_set};
 ghost use Rattle.damon_core.specs.Stands.{Stands};
@@ -10,7 +9,7 @@ ghost use Rattle.damon_journal.specs.Replayer.{Leads, StandsForReached};
 ghost use Rattle.damon_journal.specs.Status.{EndsRun, status_of};
 ghost use Rattle.text_io.specs.Taken.{WritesPart};
 ghost use Rattle.damon_app.specs.Answers.{IsOutcome, IsRunRefused, IsRunTaken};
-ghost use Rattle.damon_app.specs.Heating.{AddUp, WritesNext, columns_in, tables_of, tables_text};
+ghost use Rattle.damon_app.specs.Heating.{WritesNext, columns_in, tables_of, tables_text};
 ghost use Rattle.damon_app.specs.declared.request.Request.TheVariants.{Heat as heat};
 
 use crate::laws::heat_tables_add_up;
@@ -37,6 +36,8 @@ pub(crate) fn show_heat<S: Source, K: Sink>(
         (record { bytes = K.taken sink.new; calls = K.calls sink.new })
         (sink.new ≡ sink.old) (status_of result) }
 {
+    // For its clause alone: the numbers of the tables add up.
+    heat_tables_add_up();
     let mut replayer = take_run(alloc, source)?;
     write_tables_in(alloc, columns, &mut replayer, sink)?;
     Ok(())
@@ -65,8 +66,6 @@ fn write_tables_in<K: Sink>(
 ) -> Result<(), Status>
     ensures all { OnOk result ((states : List State) (last : State) → Leads states last replayer.old
         → Appends (K.taken sink.old) (K.taken sink.new) (tables_text (columns_in columns) states)) }
-    ensures sums { OnOk result ((states : List State) (last : State) → Leads states last replayer.old
-        → AllByRecursion (AddUp (columns_in columns)) states) }
     ensures answers { IfErr result EndsRun }
     ensures writes { EndsAtFault (IsErrOf result Status.WriteFault)
         (K.calls sink.old) (K.calls sink.new) }
@@ -90,8 +89,6 @@ fn write_tables<const N: usize, K: Sink>(
     requires few { N ≤ 4096 }
     ensures all { OnOk result ((states : List State) (last : State) → Leads states last replayer.old
         → Appends (K.taken sink.old) (K.taken sink.new) (tables_text N states)) }
-    ensures sums { OnOk result ((states : List State) (last : State) → Leads states last replayer.old
-        → AllByRecursion (AddUp N) states) }
     ensures answers { IfErr result EndsRun }
     ensures writes { EndsAtFault (IsErrOf result Status.WriteFault)
         (K.calls sink.old) (K.calls sink.new) }
@@ -141,8 +138,6 @@ fn write_next<const N: usize, K: Sink>(
         → WritesPart (K.taken sink.old) (K.taken sink.new)
         (piece.old.items ++ flat_map (tables_of N) states)) }
 {
-    // For its clause alone: the numbers of the tables add up.
-    heat_tables_add_up();
     let Some(tick) = replayer.next() else {
         return Ok(false);
     };

@@ -1,7 +1,10 @@
 // What holds of all runs of the program. The functions do nothing.
 ghost use Rattle.std.specs.Prelude.{ℕ, ◌≤◌};
-ghost use Rattle.damon_core.specs.Reached.{Reached};
-ghost use Rattle.damon_core.specs.State.{State};
+ghost use Rattle.std.specs.List.{AllByRecursion};
+ghost use Rattle.damon_core.specs.Reached.{CanOpen};
+ghost use Rattle.damon_control.specs.Live.{LiveValue};
+ghost use Rattle.damon_journal.specs.Aggregated.{aggregated};
+ghost use Rattle.damon_journal.specs.Replay.{IsJournalOf, JournalValue};
 ghost use Rattle.damon_app.specs.Heating.{AddUp};
 ghost use Rattle.damon_app.specs.Runs.{EachRunChoosesBest, EachRunFollowsGoals, EachRunIsAccounted, EachRunIsBound};
 ghost use Rattle.damon_app.specs.Runs.{GeneratedRunsAreRight};
@@ -57,10 +60,12 @@ pub(crate) fn each_run_follows_goals()
     tune_run::bytes_follow_their_goals();
 }
 
-// The numbers of the heat tables of each state to which events lead add up.
+// The numbers of the heat tables of a journal add up.
 pub(crate) fn heat_tables_add_up()
-    ensures { (n : ℕ) (s : State) → 1 ≤ n → Reached s → AddUp n s }
+    ensures { (n : ℕ) (v : LiveValue) (j : JournalValue) → 1 ≤ n → CanOpen v.setup → IsJournalOf v j
+        → AllByRecursion (AddUp n) (aggregated v j) }
 {
+    damon_journal::aggregations_report_all_pages();
     damon_core::reported_rows_tile();
     heat_report::tiled_rows_lie_in();
     heat_report::heat_is_of_rows();

@@ -1,17 +1,22 @@
 -- The rows that are reported: they tile ranges of the space, and their counts are bounded.
-use Rattle.std.proofs.Common.{◌≡◌, ℕ, ◌+◌, ◌==◌, ◌≤◌, ◌<◌, true, false, cond, List, [], ◌∷◌, Ok, Option, Some, None, refl, sym, subst, arith}
+use Rattle.std.proofs.Common.{◌≡◌, ℕ, ◌+◌, ◌==◌, ◌≤◌, ◌<◌, true, false, cond, List, [], ◌∷◌, ◌++◌, Ok, Option, Some, None, refl, sym, ap, ◌∙◌, subst, arith}
+use Rattle.std.specs.Prelude.{sum_by}
 use Rattle.std.specs.List.{AllByRecursion}
 use Rattle.std.specs.Option.{unwrap_or}
+use Rattle.std.proofs.lemmas.List.Sums.{sum_by-append, sum_by-cons}
 use Rattle.std.proofs.lemmas.List.Elements.{All-from_recursion}
 use Rattle.damon_types.specs.declared.attrs.TheConstants.{MAX_AGGR}
+use Rattle.damon_types.specs.declared.range.Range.{Range}
 use Rattle.damon_types.specs.declared.range.RangeSpec.{RangeSpec}
 use Rattle.damon_types.specs.declared.row.Row.{Row}
 use Rattle.damon_types.specs.declared.space.Target.{Target}
-use Rattle.damon_types.specs.Span.{spans}
+use Rattle.damon_types.specs.Ranges.{end_of, page_total}
+use Rattle.damon_types.specs.RowPages.{row_pages}
+use Rattle.damon_types.specs.Span.{Span, span_of, spans}
 use Rattle.damon_types.specs.Within.{AreWithin, LiesInTarget}
 use Rattle.region_list.specs.Division.{divided}
 use Rattle.region_list.specs.Regions.{RegionList}
-use Rattle.region_list.specs.Tiling.{Tiling}
+use Rattle.region_list.specs.Tiling.{Chain, Tiling}
 use Rattle.aggregator.specs.Aged.{aged}
 use Rattle.aggregator.specs.Cleared.{cleared}
 use Rattle.aggregator.specs.Threshold.{threshold}
@@ -194,4 +199,29 @@ report_kept = let rows = rows_kept any_result in record {
 }
 
 pub reached_reported : (s : State) → Reached s → IsReported s.core
-reached_reported s reached = (reached_keeps HasReport (report_kept) s reached).reported
+reached_reported s reached = (reached_keeps HasReport report_kept s reached).reported
+
+-- ---- the pages of a report
+
+chain_total : (unit t from to : ℕ) (ss : List Span) → Chain unit t from to ss → from + sum_by (λ s. s.pages) ss ≡ to
+chain_total unit t from to [] is = omega (arith, is)
+chain_total unit t from to (s ∷ ss) is = omega (arith, sum_by-cons (λ (x : Span). x.pages) s ss, chain_total unit t (from + s.pages) to ss is.3)
+
+tiles_total : (unit : ℕ) (gs : List Range) (ss : List Span) → Tiling unit gs ss → sum_by (λ s. s.pages) ss ≡ page_total gs
+tiles_total unit [] ss is = ap (λ l. sum_by (λ (s : Span). s.pages) l) is
+tiles_total unit (g ∷ gs) ss is =
+    let front = is.0 in
+    let back = is.1 in
+    let split : sum_by (λ (s : Span). s.pages) ss ≡ sum_by (λ (s : Span). s.pages) (front ++ back) = ap (λ l. sum_by (λ (s : Span). s.pages) l) is.2 in
+    omega (arith, split, sum_by-append (λ (s : Span). s.pages) front back, chain_total unit g.target g.first (end_of g) front is.3, tiles_total unit gs back is.4, sum_by-cons (λ (h : Range). h.pages) g gs)
+
+row_total : (rows : List Row) → row_pages rows ≡ sum_by (λ s. s.pages) (spans rows)
+row_total [] = refl
+row_total (r ∷ rows) = omega (arith, sum_by-cons (λ (x : Row). x.pages) r rows, sum_by-cons (λ (s : Span). s.pages) (span_of r) (spans rows), row_total rows)
+
+-- an aggregation reports all pages of the ranges
+pub reports_all : (s : State) (ws : List ℕ) → Reached s → s.core.phase ≡ Due → row_pages (aggregated ws s).core.report.rows ≡ page_total s.core.regions.ranges
+reports_all s ws reached due =
+    let h = reached_keeps HasReport report_kept s reached in
+    let kept = served_kept s h.rows.wide h.rows.order (rows_of s h.rows) in
+    row_total (served s).rows ∙ tiles_total s.core.regions.unit s.core.regions.ranges (spans (served s).rows) kept.tiling

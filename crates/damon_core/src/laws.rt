@@ -13,7 +13,7 @@ ghost use Rattle.damon_core.specs.Bound.{Bound};
 ghost use Rattle.damon_core.specs.Choosing.{ServesBest};
 ghost use Rattle.damon_core.specs.InPhase.{IsInPhase};
 ghost use Rattle.damon_core.specs.Pass.{IsInPass, PagesRiseFrom};
-ghost use Rattle.damon_core.specs.Reported.{IsReported};
+ghost use Rattle.damon_core.specs.Reported.{IsReported, ReportsAllPages};
 ghost use Rattle.damon_core.specs.Steps.{EndsPass, TakesItsSteps, is_step};
 ghost use Rattle.damon_core.specs.VersionOne.{AreOfVersionOne};
 
@@ -51,9 +51,10 @@ pub fn a_pass_takes_its_steps_amid_events()
 
 /// In each state to which fitting events lead, the rows that the last aggregation reported tile ranges
 /// of the space, in order, none of their counts is above the most passes of an aggregation, and an
-/// aggregation has a pass.
+/// aggregation has a pass. Directly after an aggregation they have all pages of the ranges.
 pub fn reported_rows_tile()
-    ensures { (s : State) → Reached s → IsReported s.core }
+    ensures tile { (s : State) → Reached s → IsReported s.core }
+    ensures all { ReportsAllPages }
 {}
 
 /// Neither an aggregation nor the slots that a setup sets touch or clear a page: the word of each page

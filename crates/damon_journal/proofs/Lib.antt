@@ -15,6 +15,7 @@ pub mod Untouched
 pub mod Fitting
 pub mod Quiet
 pub mod WovenList
+pub mod AggregatedPages
 pub mod WovenTouches
 pub mod WovenCounts
 pub mod WovenRuns

@@ -3,6 +3,7 @@ ghost use Rattle.std.specs.Prelude.{List, ℕ, ◌≡◌, Err};
 ghost use Rattle.damon_control.specs.Live.{LiveValue};
 ghost use Rattle.damon_core.specs.Reached.{CanOpen};
 ghost use Rattle.damon_journal.specs.declared.entry.Receipt.{Receipt as receipt};
+ghost use Rattle.damon_journal.specs.Aggregated.{EachReportsAll};
 ghost use Rattle.damon_journal.specs.Examples.{Comes};
 ghost use Rattle.damon_journal.specs.Few.{HitsAreFew};
 ghost use Rattle.damon_journal.specs.Growth.{GrowsByEntries, GrowsByOthers};
@@ -47,6 +48,15 @@ pub fn journals_grow()
     ensures entry { GrowsByEntries }
     ensures other { GrowsByOthers }
 {}
+
+/// The states directly after the aggregations of a journal are reached, and the rows that these report have all
+/// pages of the ranges that are watched then.
+pub fn aggregations_report_all_pages()
+    ensures { EachReportsAll }
+{
+    damon_core::reported_rows_tile();
+    damon_core::reached_states_are_bound();
+}
 
 /// Where a journal and receipts are lawful, a page was found touched by at most as many loads as it has
 /// receipts.

@@ -75,8 +75,9 @@ pub use entry::{CallAnswer, Entry, Receipt, Receipts};
 pub use journal::Journal;
 pub use lawful::{Lawful, VerifyFault};
 pub use laws::{
-    hits_are_few, journals_grow, lawful_journals_are_read, lawful_numbers_fit, one_pass_by_hand,
-    read_journals_are_lawful, rejected_texts_are_unlawful, settled_receipts_are_lawful, woven_runs,
+    aggregations_report_all_pages, hits_are_few, journals_grow, lawful_journals_are_read,
+    lawful_numbers_fit, one_pass_by_hand, read_journals_are_lawful, rejected_texts_are_unlawful,
+    settled_receipts_are_lawful, woven_runs,
 };
 pub use receipt_list::ReceiptList;
 pub use replayer::Replayer;

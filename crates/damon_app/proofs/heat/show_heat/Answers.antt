@@ -1,11 +1,13 @@
-use Rattle.std.proofs.Common.{◌≡◌, refl}
+use Rattle.std.proofs.Common.{◌≡◌, ◌≤◌, refl, arith}
 use Rattle.std.proofs.lemmas.Result.{err_from_is_err_and}
 use Rattle.text_io.specs.Ends.{Ends}
 use Rattle.text_io.specs.declared.input.TheConstants.{INPUT_LIMIT}
 use Rattle.damon_journal.specs.Aggregated.{aggregated}
 use Rattle.damon_journal.specs.Replay.{replay}
+use Rattle.damon_app.specs.declared.request.Columns.{Columns}
+use Rattle.damon_app.specs.declared.request.Columns.TheVariants.{Eight, Sixteen, SixtyFour}
 use Rattle.damon_app.specs.declared.request.Request.TheVariants.{Heat}
-use Rattle.damon_app.specs.Heating.{heat_text}
+use Rattle.damon_app.specs.Heating.{columns_in, heat_text}
 use Rattle.damon_app.proofs.Answering.{left_alone, not_written, written}
 use Rattle.damon_app.proofs.Counting.{EndsAtFault-error, EndsAtFault-not}
 use Rattle.damon_app.proofs.heat.show_heat.Goals as goal
@@ -34,6 +36,11 @@ returns-in_err-write_tables_in g c =
     (c.write_tables_in.new.sink ≡ c.args.sink.now) (heat_text c.args.columns run.said) (run.taken c.args.columns) c.in_err-write_tables_in.field-0.0
     failed.answers (EndsAtFault-error failed.writes) (failed.part states last run.leads))
 
+some_columns : (columns : Columns) → 1 ≤ columns_in columns
+some_columns Eight = omega arith
+some_columns Sixteen = omega arith
+some_columns SixtyFour = omega arith
+
 pub returns : goal.returns
 returns g c =
     let run = c.in_ok-replayer.ensures.taken in
@@ -46,4 +53,4 @@ returns g c =
     (record { bytes = g.K.Sink.taken c.args.sink.now; calls = g.K.Sink.calls c.args.sink.now })
     (record { bytes = g.K.Sink.taken c.write_tables_in.new.sink; calls = g.K.Sink.calls c.write_tables_in.new.sink })
     (c.write_tables_in.new.sink ≡ c.args.sink.now) (heat_text c.args.columns run.said) (run.taken c.args.columns) (EndsAtFault-not (λ e. cc e) (λ no. no) c.in_ok-write_tables_in.ensures.writes) tables
-    (record { said = run.said; run = run.lawful c.args.columns; tables = tables; sums = c.in_ok-write_tables_in.ensures.sums states last run.leads })
+    (record { said = run.said; run = run.lawful c.args.columns; tables = tables; sums = sums })

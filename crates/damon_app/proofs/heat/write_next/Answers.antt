@@ -30,7 +30,6 @@ returns-clause-on g c ok states last leads =
       leads = on.leads;
       sizes = c.in_ok-write_one.ensures.sizes on.state stands;
       handed = (front, all, left ∙ c.in_ok-write_one.ensures.tables on.state stands on.tick_is);
-      sums = c.heat_tables_add_up.ensures g.row.N on.state c.requires.some on.reached;
     }
 
 pub returns-in_default-clause-writes : goal.returns-in_default-clause-writes

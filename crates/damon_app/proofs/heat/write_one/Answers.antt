@@ -10,13 +10,13 @@ use Rattle.damon_app.proofs.heat.write_one.Goals as goal
 
 pub write_report-requires-clause-aggr : goal.write_report-requires-clause-aggr
 write_report-requires-clause-aggr g c =
-    let told = c.reported_rows_tile.ensures c.requires.state.0 c.requires.state.1 in
+    let told = c.reported_rows_tile.ensures.tile c.requires.state.0 c.requires.state.1 in
     let core = c.requires.state.2.same in
     subst (λ (a : Attrs). 1 ≤ a.aggr) (sym c.attrs.ensures.attrs) (subst (λ (k : Core). 1 ≤ k.attrs.aggr) (sym core) told.aggr)
 
 pub write_report-requires-clause-rows : goal.write_report-requires-clause-rows
 write_report-requires-clause-rows g c =
-    let told = c.reported_rows_tile.ensures c.requires.state.0 c.requires.state.1 in
+    let told = c.reported_rows_tile.ensures.tile c.requires.state.0 c.requires.state.1 in
     let core = c.requires.state.2.same in
     let rows = ap (λ (r : ReportValue). r.rows) c.report.ensures.report in
     let lie = c.tiled_rows_lie_in.ensures.lie told.unit c.requires.state.0.core.space told.ranges c.requires.state.0.core.report.rows told.order told.within told.tiles in
@@ -26,7 +26,7 @@ write_report-requires-clause-rows g c =
 
 pub write_report-requires-clause-counts : goal.write_report-requires-clause-counts
 write_report-requires-clause-counts g c =
-    let told = c.reported_rows_tile.ensures c.requires.state.0 c.requires.state.1 in
+    let told = c.reported_rows_tile.ensures.tile c.requires.state.0 c.requires.state.1 in
     let core = c.requires.state.2.same in
     let rows = ap (λ (r : ReportValue). r.rows) c.report.ensures.report in
     let Few : List Row → Type 0 = AllByRecursion (λ r. r.count ≤ MAX_AGGR) in

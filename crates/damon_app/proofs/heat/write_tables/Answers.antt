@@ -4,7 +4,7 @@ use Rattle.std.proofs.lemmas.Result.{err_from_is_err_and}
 use Rattle.text_io.specs.Taken.{WritesPart}
 use Rattle.damon_app.specs.Heating.{tables_text}
 use Rattle.damon_app.proofs.Known.{WritesPart-whole}
-use Rattle.damon_app.proofs.Heating.{written_first, told_kept, told_last, told_sums, written_next, told_part, told_same, told_whole}
+use Rattle.damon_app.proofs.Heating.{written_first, told_kept, told_last, written_next, told_part, told_same, told_whole}
 use Rattle.damon_app.proofs.Counting.{EndsAtFault-as, EndsAtFault-none, EndsAtFault-not, EndsAtFault-passed, EndsAtFault-then, no_fault_of_memory}
 use Rattle.damon_app.proofs.heat.write_tables.Goals as goal
 
@@ -82,13 +82,6 @@ returns-clause-all g c states last leads =
     told_whole g.row.N states last c.reports.replayer c.write_next.new.sizes c.write_next.new.piece.items (taken c.args.sink.now) (taken c.write_next.new.sink) told
     (c.in_ok-write_next.ensures.end (ap (λ b. Ok b) c.if-branch.false) told.rest last told.leads) c.write_last.new.out.items c.in_ok-write_last.ensures.ok
     (taken c.write_all.new.sink) (subst (Appends (taken c.write_next.new.sink) (taken c.write_all.new.sink)) c.deref.ensures.value c.in_ok-write_all.ensures.all)
-
-pub returns-clause-sums : goal.returns-clause-sums
-returns-clause-sums g c states last leads =
-    let taken = g.K.Sink.taken in
-    let told = c.reports.invariant.told states last leads in
-    let none = c.in_ok-write_next.ensures.end (ap (λ b. Ok b) c.if-branch.false) told.rest last told.leads in
-    told_sums g.row.N states last c.reports.replayer c.reports.sizes c.reports.piece.items (taken c.args.sink.now) (taken c.reports.sink) told none
 
 pub returns-clause-part : goal.returns-clause-part
 returns-clause-part g c states last leads =
