@@ -2,6 +2,7 @@ use Rattle.std.proofs.Common.{◌≡◌, ◌≤◌, refl, arith}
 use Rattle.std.proofs.lemmas.Result.{err_from_is_err_and}
 use Rattle.text_io.specs.Ends.{Ends}
 use Rattle.text_io.specs.declared.input.TheConstants.{INPUT_LIMIT}
+use Rattle.damon_core.specs.Reached.{CanOpen}
 use Rattle.damon_journal.specs.Aggregated.{aggregated}
 use Rattle.damon_journal.specs.Replay.{replay}
 use Rattle.damon_app.specs.declared.request.Columns.{Columns}
@@ -44,6 +45,9 @@ some_columns SixtyFour = omega arith
 pub returns : goal.returns
 returns g c =
     let run = c.in_ok-replayer.ensures.taken in
+    let is = (run.lawful c.args.columns).lawful in
+    let can : CanOpen run.said.live.setup = record { space = is.spellable.setup.space; sound = is.spellable.setup.setup; order = is.spellable.setup.order } in
+    let sums = c.heat_tables_add_up.ensures (columns_in c.args.columns) run.said.live run.said.journal (some_columns c.args.columns) can is.lawful.journal in
     let states = aggregated run.said.live run.said.journal in
     let last = (replay run.said.live run.said.journal).state in
     let tables = c.in_ok-write_tables_in.ensures.all states last run.leads in
