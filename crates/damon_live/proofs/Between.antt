@@ -32,7 +32,7 @@ use Rattle.sampler.specs.Seeds.{words_from}
 use Rattle.damon_journal.specs.Words.{words_after, words_at}
 use Rattle.damon_journal.specs.Growth.{GrowsByOthers}
 use Rattle.damon_live.specs.Called.{IsCalled}
-use Rattle.damon_live.proofs.Draws.{rest_after}
+use Rattle.sampler.proofs.Lemmas.{drawn_rest-append}
 use Rattle.damon_live.specs.Machine.{IsBetweenEntries, IsLoadable, IsRun, entries_owed, with_one, words_owed}
 
 -- the monitor made an aggregation with the next words of the source
@@ -63,7 +63,7 @@ aggregated_run v table m now seat j next ks g left count tick more grow h a due 
       reached = subst Reached state (Reached-run r.state (entry_events v r e) h.reached made.0);
       stands = subst (Stands now) state made.1;
       drawn = sum ∙ (ap (λ k. k + n) h.drawn ∙ (ap (λ (c : Core). r.drawn + 2 * c.attrs.max) same ∙ sym (ap (λ (x : Replayed). x.drawn) grown.is)));
-      words = a.rest ∙ (ap (drawn_rest n) h.words ∙ (sym (rest_after count n (words_after v.seed 0)) ∙ ap (words_after v.seed) (sym sum)));
+      words = a.rest ∙ (ap (drawn_rest n) h.words ∙ (sym (drawn_rest-append count n (words_after v.seed 0)) ∙ ap (words_after v.seed) (sym sum)));
       place = h.place;
       pages = ap pages_of a.space ∙ h.pages;
       steps_are = h.steps_are ∙ (sym (append-nil (steps v j)) ∙ sym grown.steps_are);

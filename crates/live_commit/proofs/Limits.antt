@@ -53,6 +53,7 @@ pub record AreLimits (unit cap : ℕ) (a : Attrs) : Type 0 where
   pub cap_some : 3 ≤ cap
   pub cap_most : cap ≤ 4096
   pub attrs : IsAttrs a
+  pub checked : checked_attrs a ≡ Ok tt
   pub max_cap : a.max ≤ cap
 
 pub limits_kept : (unit cap : ℕ) (a : Attrs) → checked_limits unit cap a ≡ Ok tt → AreLimits unit cap a
@@ -62,12 +63,14 @@ limits_kept unit cap a ok =
     let third = both_ok (fault_as BadAttrs (checked_attrs a)) (if nat_lt cap a.max then Err (OverCap a.max cap) else Ok tt) second.1 in
     let units = unit_kept unit first.0 in
     let caps = cap_kept cap second.0 in
+    let attrs = attrs_checked (checked_attrs a) third.0 in
     record {
       unit_some = units.0;
       unit_most = units.1;
       cap_some = caps.0;
       cap_most = caps.1;
-      attrs = attrs_kept a (attrs_checked (checked_attrs a) third.0);
+      attrs = attrs_kept a attrs;
+      checked = attrs;
       max_cap = max_kept a.max cap third.1;
     }
 

@@ -19,6 +19,7 @@ use Rattle.damon_core.specs.Note.{Note, turned, ran}
 use Rattle.damon_core.specs.Serve.{Serving, nothing_served, run_served, serve_scheme, serve_slot, serve_slots, with_turn}
 use Rattle.damon_core.specs.Slots.{charged_of, cost_of, is_active_in, scheme_of, slot_count, start_of}
 use Rattle.damon_core.specs.State.{State}
+use Rattle.page_bits.proofs.Lemmas.{count_none, count_same}
 use Rattle.reclaim_module.specs.Counts.{pageouts_of}
 use Rattle.reclaim_module.specs.Out.{holds_pageout, holds_willneed, is_in, is_out}
 use Rattle.page_bits.specs.Runs.{count_pages}
@@ -26,7 +27,6 @@ use Rattle.reclaim_module.specs.Pages.{ReclaimView, out_count}
 use Rattle.reclaim_module.specs.SlotBySlot.{PagesOutResident, PagesOutSlotBySlot, SlotsPageOut}
 use Rattle.reclaim_module.specs.Stands.{ReclaimStands}
 use Rattle.reclaim_module.proofs.Balancing.{one_held, sixteen}
-use Rattle.reclaim_module.proofs.Counting.{count_none, count_same}
 use Rattle.reclaim_module.proofs.Moving.{out_count_is, resident_count_is}
 use Rattle.reclaim_module.proofs.Serving.{AreOf, all_append, of_slot, slot_same}
 use Rattle.reclaim_module.proofs.Standing.{still_by, still_out, still_pageouts}

@@ -12,6 +12,7 @@ use Rattle.damon_types.specs.declared.scheme.Scheme.{Scheme}
 use Rattle.scheme_engine.specs.declared.applied.AppliedRun.{AppliedRun}
 use Rattle.damon_core.specs.Note.{Note, touched, cleared, checked, finished, voided, set as set_note, dropped, metric, turned, ran, cost}
 use Rattle.damon_core.specs.Slots.{scheme_of}
+use Rattle.page_bits.proofs.Lemmas.{count_adds, count_none, count_same}
 use Rattle.reclaim_module.specs.Calls.{after_action, after_touch, all_resident, paged_out, prefetched}
 use Rattle.reclaim_module.specs.Counts.{pageouts_of, prefetches_of, refaults_of}
 use Rattle.reclaim_module.specs.Out.{is_in, is_out, is_paged_out, is_pageout, is_prefetched, is_touch_of, is_willneed, holds_pageout, holds_willneed}
@@ -19,7 +20,7 @@ use Rattle.page_bits.specs.Runs.{in_run}
 use Rattle.reclaim_module.specs.Pages.{ReclaimView, is_out_in}
 use Rattle.page_bits.specs.Sets.{each_page, with_run}
 use Rattle.reclaim_module.specs.Stands.{MovesNothing, ReclaimStands, after_runs}
-use Rattle.reclaim_module.proofs.Counting.{at_page, count_adds, count_none, count_same}
+use Rattle.reclaim_module.proofs.Counting.{at_page}
 use Rattle.reclaim_module.proofs.Moving.{each_page_is, each_page_same, length_with_run}
 
 or_false : (b : Bool) → (b || false) ≡ b
