@@ -13,6 +13,7 @@ use Rattle.damon_types.specs.declared.scheme.Version.TheVariants.{One, Two}
 use Rattle.damon_types.specs.declared.space.Target.{Target}
 use Rattle.damon_types.specs.Scheme.{checked_in}
 use Rattle.damon_types.specs.Space.{checked}
+use Rattle.damon_types.proofs.Lemmas.{both_ok}
 use Rattle.line_text.specs.Laws.{TakesApartPieces}
 use Rattle.line_text.specs.Parts.{parts}
 use Rattle.live_commit.specs.declared.fault.SetupFault.TheVariants.{BadScheme, RepeatedSlot}
@@ -47,7 +48,7 @@ use Rattle.damon_control.proofs.OneSpelling.{IsSpelledFor, scheme_in-Ok, scheme_
 use Rattle.live_commit.proofs.Lemmas.{limits_kept}
 use Rattle.damon_control.proofs.SpaceLimits.{accepted-FitsRange, checked-IsSpace, checked_before}
 use Rattle.damon_control.specs.CommitLines.{come_in_order}
-use Rattle.damon_control.proofs.SlotLines.{both_ok, free_accepted, said_gives, scheme_accepted}
+use Rattle.damon_control.proofs.SlotLines.{free_accepted, said_gives, scheme_accepted}
 use Rattle.script_lines.specs.SchemeLine.{SchemesAreSaid}
 use Rattle.damon_control.proofs.SetupChecks.{said_limits, said_slots, space_checked}
 

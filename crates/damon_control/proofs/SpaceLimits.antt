@@ -15,6 +15,7 @@ use Rattle.damon_types.specs.declared.space.SpaceFault.TheVariants.{NoTarget, To
 use Rattle.damon_types.specs.declared.space.Target.{Target}
 use Rattle.damon_types.specs.Space.{IsSpace, IsTarget, checked, checked_targets_from, checked_target, offset, pages_of}
 use Rattle.damon_types.specs.Within.{LiesInTarget}
+use Rattle.damon_types.proofs.Lemmas.{both_ok}
 use Rattle.target_ranges.specs.Checked.{checked_range, checked_ranges}
 use Rattle.target_ranges.specs.Made.{ranges_of}
 use Rattle.target_ranges.proofs.Lemmas.{each_made, is_good, made_wide, made_within}
@@ -30,11 +31,6 @@ allowed : {E : Type 0} (test : Bool) (e : E) → ◌≡◌ {A = Result (Unit {0}
 allowed true e ok = refl
 allowed false e ok = absurd cc
 
--- two checks that find nothing
-both_accept : (r s : Result (Unit {0}) SpaceFault) → result_and r s ≡ Ok tt → (r ≡ Ok tt) × (s ≡ Ok tt)
-both_accept (Ok t) s ok = (refl, ok)
-both_accept (Err e) s ok = absurd cc
-
 -- ---- targets
 
 accepted-IsTarget : (i : ℕ) (t : Target) → checked_target i t ≡ Ok tt → IsTarget t
@@ -48,7 +44,7 @@ accepted-IsTarget i t ok = record {
 pub each_target : (i : ℕ) (ts : List Target) → checked_targets_from i ts ≡ Ok tt → AllByRecursion IsTarget ts
 each_target i [] ok = tt
 each_target i (t ∷ ts) ok =
-    let both = both_accept (checked_target i t) (checked_targets_from (i + 1) ts) ok in
+    let both = both_ok (checked_target i t) (checked_targets_from (i + 1) ts) ok in
     (accepted-IsTarget i t both.0, each_target (i + 1) ts both.1)
 
 pub target_there : (ts : List Target) (i : ℕ) (t : Target) → AllByRecursion IsTarget ts → slice_get ts i ≡ Some t → IsTarget t
@@ -67,7 +63,7 @@ targets_accepted : (ts : List Target) → checked ts ≡ Ok tt → Accepted ts
 targets_accepted ts ok =
     let some = passed (length ts == 0) NoTarget _ ok in
     let few = passed (nat_lt 64 (length ts)) (TooManyTargets (length ts)) _ some.1 in
-    let both = both_accept (checked_targets_from 0 ts) _ few.1 in
+    let both = both_ok (checked_targets_from 0 ts) _ few.1 in
     record { some = some.0; few = few.0; each = both.0; total = allowed (nat_le (pages_of ts) 1048576) (TooManyPages (pages_of ts)) both.1 }
 
 -- accepted targets are a space
@@ -88,7 +84,7 @@ each_accepted ts ok = each_target 0 ts (targets_accepted ts ok).each
 each_before : (i : ℕ) (front back : List Target) → checked_targets_from i (front ++ back) ≡ Ok tt → checked_targets_from i front ≡ Ok tt
 each_before i [] back ok = refl
 each_before i (t ∷ front) back ok =
-    let both = both_accept (checked_target i t) (checked_targets_from (i + 1) (front ++ back)) ok in
+    let both = both_ok (checked_target i t) (checked_targets_from (i + 1) (front ++ back)) ok in
     rw both.0 (each_before (i + 1) front back both.1)
 
 accepted-checked : (ts : List Target) → Accepted ts → checked ts ≡ Ok tt

@@ -7,6 +7,7 @@ use Rattle.damon_types.specs.declared.attrs.Attrs.{Attrs}
 use Rattle.damon_types.specs.declared.range.RangeSpec.{RangeSpec}
 use Rattle.damon_types.specs.declared.scheme.CostPart.{CostPart}
 use Rattle.damon_types.specs.declared.scheme.SlotChange.{SlotChange}
+use Rattle.damon_types.proofs.Lemmas.{both_ok}
 use Rattle.target_ranges.specs.Made.{range_of}
 use Rattle.live_commit.specs.declared.fault.CommitFault.{CommitFault}
 use Rattle.live_commit.specs.declared.phase.Phase.{Phase}
@@ -25,11 +26,6 @@ use Rattle.script_run.specs.Going.{onward}
 use Rattle.script_run.specs.PutIn.{AllAccepted, PutsAreAccepted}
 use Rattle.script_run.specs.RunWith.{start_with}
 use Rattle.reclaim_run.specs.Reclaimed.{figures_in, metric_commit, pages_in, reclaim_callbacks, share_after, thousandths}
-
--- two checks that succeed
-both_ok : {E : Type 0} (r s : Result (Unit {0}) E) → result_and r s ≡ Ok tt → (r ≡ Ok tt) × (s ≡ Ok tt)
-both_ok (Ok t) s ok = (refl, ok)
-both_ok (Err e) s ok = absurd cc
 
 -- ---- there are no more ranges than regions allowed
 

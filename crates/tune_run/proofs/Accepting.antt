@@ -17,6 +17,7 @@ use Rattle.damon_types.specs.declared.scheme.SlotChange.{SlotChange}
 use Rattle.damon_types.specs.declared.scheme.Version.{Version}
 use Rattle.damon_types.specs.declared.scheme.Version.TheVariants.{One, Two}
 use Rattle.damon_types.specs.Scheme.{checked_in}
+use Rattle.damon_types.proofs.Lemmas.{both_ok, fault_as_ok}
 use Rattle.target_ranges.specs.Made.{range_of}
 use Rattle.live_commit.specs.declared.fault.SetupFault.TheVariants.{BadScheme as BadSlot, RepeatedSlot}
 use Rattle.live_commit.specs.declared.fault.CommitFault.{CommitFault}
@@ -40,18 +41,9 @@ use Rattle.tune_run.specs.Callbacks.{change_alone}
 use Rattle.tune_run.specs.Tops.{was_accepted}
 use Rattle.tune_run.proofs.Staying.{scheme_stays}
 
--- two checks that succeed
-pub both_ok : {E : Type 0} (r s : Result (Unit {0}) E) → result_and r s ≡ Ok tt → (r ≡ Ok tt) × (s ≡ Ok tt)
-both_ok (Ok t) s ok = (refl, ok)
-both_ok (Err e) s ok = absurd (cc)
-
 and_ok : {E : Type 0} (r s : Result (Unit {0}) E) → r ≡ Ok tt → s ≡ Ok tt → result_and r s ≡ Ok tt
 and_ok (Ok t) s first second = second
 and_ok (Err e) s first second = absurd (cc)
-
-fault_as_ok : {E : Type 0} (fault : E → CommitFault) (r : Result (Unit {0}) E) → fault_as fault r ≡ Ok tt → r ≡ Ok tt
-fault_as_ok fault (Ok t) ok = refl
-fault_as_ok fault (Err why) ok = absurd (cc)
 
 -- ---- what tells afterwards that a commit was accepted
 
