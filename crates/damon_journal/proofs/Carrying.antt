@@ -20,6 +20,7 @@ use Rattle.damon_core.specs.Reached.{CanOpen, Reached, run}
 use Rattle.damon_core.specs.Several.{clears}
 use Rattle.damon_core.specs.State.{Core, row_count}
 use Rattle.damon_core.specs.Stands.{MonitorView, Stands, last_pass}
+use Rattle.damon_core.proofs.Lemmas.{phase_kept}
 use Rattle.damon_control.specs.Live.{CallValue, LiveValue}
 use Rattle.damon_journal.specs.declared.entry.Entry.{Entry}
 use Rattle.damon_journal.specs.declared.entry.CallAnswer.{CallAnswer}
@@ -207,19 +208,6 @@ carries_known grow old new call answer made drawn words free told v j controller
       drawn = drawn ∙ none_more;
       rest = ap words_from words;
     })
-
--- what is the same of an armed and of a void pass stays as it is in a commit
-pub kept_if_void : (f : Phase → ℕ) → f Armed ≡ f VoidPhase → (old new : List Row) (ph : Phase) → f (phase_after_commit ph old new) ≡ f ph
-kept_if_void f same old new Armed = elim (becomes_void Armed old new) as (λ b. f (cond b VoidPhase Armed) ≡ f Armed) [ true ↦ sym same | false ↦ refl ]
-kept_if_void f same old new Idle = refl
-kept_if_void f same old new (Clearing k) = refl
-kept_if_void f same old new (Checking k) = refl
-kept_if_void f same old new VoidPhase = refl
-kept_if_void f same old new Due = refl
-
-phase_kept : (f : Phase → ℕ) → f Armed ≡ f VoidPhase → (parts : CommitValue) (r : Result (Unit {0}) CommitFault) (c : Core) → f (if_accepted r (committed_core parts c) c).phase ≡ f c.phase
-phase_kept f same parts (Ok t) c = kept_if_void f same c.regions.rows (committed_core parts c).regions.rows c.phase
-phase_kept f same parts (Err fault) c = refl
 
 -- a commit leaves the pass that was prepared last
 pub pass_kept : (parts : CommitValue) (old new : Core) → new ≡ core_after_commit parts old → new.ticks ≡ old.ticks → last_pass new.phase new.ticks ≡ last_pass old.phase old.ticks

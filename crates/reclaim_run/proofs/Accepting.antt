@@ -19,6 +19,7 @@ use Rattle.damon_core.specs.Commit.{check_of, committed, committed_core, if_acce
 use Rattle.damon_core.specs.Event.{Event, touch, prepare, clear, load, observe, aggregate, commit, show}
 use Rattle.damon_core.specs.Reached.{run}
 use Rattle.damon_core.specs.State.{Core, State, opening, row_count}
+use Rattle.damon_core.proofs.Lemmas.{few_after}
 use Rattle.damon_control.specs.Script.{ScriptValue}
 use Rattle.damon_control.specs.Sound.{IsSound}
 use Rattle.script_run.specs.Course.{going_with, onward-state, with_puts}
@@ -34,15 +35,6 @@ RangesAreFew s = length s.core.regions.ranges ≤ s.core.attrs.max
 
 number_fits : (ranges max : ℕ) → checked_number ranges max ≡ Ok tt → ranges ≤ max
 number_fits ranges max ok = grind (arith, nat_tests)
-
-few_after : (c : Core) (attrs : Option Attrs) (ranges : Option (List RangeSpec)) (slot : Option SlotChange) (metric : Option ℕ) (cost : Option CostPart)
-    → ranges_after ranges (length c.regions.ranges) ≤ max_after attrs c.attrs.max
-    → (let parts : CommitValue = record { attrs = attrs; ranges = ranges; slot = slot; metric = metric; cost = cost } in
-    length (committed_core parts c).regions.ranges ≤ (committed_core parts c).attrs.max)
-few_after c None None slot metric cost few = few
-few_after c None (Some specs) slot metric cost few = subst (λ n. n ≤ c.attrs.max) (sym (length-map specs (range_of c.space))) few
-few_after c (Some a) None slot metric cost few = few
-few_after c (Some a) (Some specs) slot metric cost few = subst (λ n. n ≤ a.max) (sym (length-map specs (range_of c.space))) few
 
 few_committed : (parts : CommitValue) (s : State) (check : Result (Unit {0}) CommitFault) → check_of parts s.core ≡ check → RangesAreFew s → RangesAreFew (if_accepted check (committed parts s) s)
 few_committed parts s (Err fault) is few = few
