@@ -8,6 +8,7 @@ use Rattle.damon_types.specs.declared.space.Target.{Target}
 use Rattle.damon_types.specs.Space.{IsTarget, offset, place_of}
 use Rattle.live_commit.specs.Setup.{SetupValue}
 use Rattle.target_ranges.specs.Made.{IsPlaced, range_of, ranges_of}
+use Rattle.target_ranges.proofs.Lemmas.{IsGood, base_of_there, good_from}
 use Rattle.damon_control.specs.declared.grammar.Grammar.TheVariants.{OfJournal}
 use Rattle.damon_control.specs.JournalHead.{ReadsHeadsBack, ReadsOnlyHeads, head_lines}
 use Rattle.damon_control.specs.Script.{AtEnd, Place, header_of}
@@ -22,8 +23,8 @@ use Rattle.damon_control.proofs.OneSpelling.{each_is_written}
 use Rattle.damon_control.proofs.ReadWritten.{written-SaySetup}
 use Rattle.damon_control.proofs.SayPlaces.{TextLaws}
 use Rattle.damon_control.proofs.Says.{head_of-SaysHead}
-use Rattle.damon_control.proofs.SpaceLimits.{IsAccepted, base_of_there, each_accepted, each_range, target_there}
-use Rattle.damon_control.proofs.WrittenRanges.{place_there}
+use Rattle.damon_control.proofs.SpaceLimits.{each_accepted, target_there}
+use Rattle.damon_types.proofs.Lemmas.{place_from_held}
 use Rattle.damon_control.proofs.SetupChecks.{space_checked}
 
 -- ---- a text that is read is the written one
@@ -35,13 +36,13 @@ spec_back ts s each placed =
     let target = target_there ts s.target t each placed.there in
     let base = base_of_there ts s.target t placed.there in
     let first = (range_of ts s).first in
-    let place = place_there 0 ts s.target first t placed.there (omega arith) (omega (arith, base, placed.low, placed.high, placed.some, placed.begins, placed.ends, target.aligned)) in
+    let place = place_from_held 0 s.target ts s.target first t refl placed.there (omega arith) (omega (arith, base, placed.low, placed.high, placed.some, placed.begins, placed.ends, target.aligned)) in
     let addr : t.base + 4096 * (first - offset ts s.target) ≡ s.from = omega (arith, base, placed.low, placed.begins, target.aligned) in
     let from : (place_of ts first).addr ≡ s.from = ap (λ (p : PagePlace). p.addr) place ∙ addr in
     let to : (place_of ts first).addr + 4096 * ((s.to - s.from) / 4096) ≡ s.to = omega (arith, from, placed.begins, placed.ends, placed.some) in
     λ i. record { target = s.target; from = from i; to = to i; class = s.class }
 
-ranges_back : (ts : List Target) (unit : ℕ) (specs : List RangeSpec) → AllByRecursion IsTarget ts → AllByRecursion (IsAccepted ts unit) specs → map (λ g. spelled_range (spec_of ts g)) (ranges_of ts specs) ≡ map spelled_range specs
+ranges_back : (ts : List Target) (unit : ℕ) (specs : List RangeSpec) → AllByRecursion IsTarget ts → AllByRecursion (IsGood ts unit) specs → map (λ g. spelled_range (spec_of ts g)) (ranges_of ts specs) ≡ map spelled_range specs
 ranges_back ts unit [] each accepted = refl
 ranges_back ts unit (s ∷ specs) each accepted =
     λ i. spelled_range (spec_back ts s each accepted.0.placed i) ∷ ranges_back ts unit specs each accepted.1 i
@@ -52,7 +53,7 @@ regroup a b c d = simp append_assoc
 -- lines that say a setup, its schemes in their one spelling, are those that are written of it
 setup_written : (lines : List (List ℕ)) (seed : ℕ) (s : SetupValue) (says : SaySetup lines seed s) → says.schemes ≡ map change_text s.slots → lines ≡ written_setup seed s
 setup_written lines seed s says schemes =
-    let each = each_range s.space s.unit s.cap 0 None says.specs says.ranges in
+    let each = good_from s.space s.unit s.cap 0 None says.specs says.ranges in
     let ranges : map spelled_range says.specs ≡ map (λ g. spelled_range (spec_of s.space g)) s.ranges =
     sym (ranges_back s.space s.unit says.specs (each_accepted s.space (space_checked s.space says.space)) each) ∙ ap (map (λ (g : Range). spelled_range (spec_of s.space g))) says.watched
     in

@@ -13,6 +13,7 @@ use Rattle.damon_types.specs.declared.scheme.Version.TheVariants.{One, Two}
 use Rattle.damon_types.specs.declared.space.Target.{Target}
 use Rattle.damon_types.specs.Scheme.{checked_in}
 use Rattle.damon_types.specs.Space.{checked}
+use Rattle.damon_types.proofs.Lemmas.{both_ok}
 use Rattle.line_text.specs.Laws.{TakesApartPieces}
 use Rattle.line_text.specs.Parts.{parts}
 use Rattle.live_commit.specs.declared.fault.SetupFault.TheVariants.{BadScheme, RepeatedSlot}
@@ -44,10 +45,10 @@ use Rattle.script_lines.specs.Words.{begins_with}
 use Rattle.damon_control.proofs.Leads.{leads, leads-line, leads-read, lines_apart}
 use Rattle.damon_control.proofs.LineWords.{begins_other, both_true, leads-IsPiece, part_begins, range_begins, scheme_begins, target_begins}
 use Rattle.damon_control.proofs.OneSpelling.{IsSpelledFor, scheme_in-Ok, scheme_in-read}
-use Rattle.damon_control.proofs.SetupLimits.{checked-Limits}
+use Rattle.live_commit.proofs.Lemmas.{limits_kept}
 use Rattle.damon_control.proofs.SpaceLimits.{accepted-FitsRange, checked-IsSpace, checked_before}
 use Rattle.damon_control.specs.CommitLines.{come_in_order}
-use Rattle.damon_control.proofs.SlotLines.{both_ok, free_accepted, said_gives, scheme_accepted}
+use Rattle.damon_control.proofs.SlotLines.{free_accepted, said_gives, scheme_accepted}
 use Rattle.script_lines.specs.SchemeLine.{SchemesAreSaid}
 use Rattle.damon_control.proofs.SetupChecks.{said_limits, said_slots, space_checked}
 
@@ -86,7 +87,7 @@ header_read OfJournal Two = refl
 frame_leads : LinesReadBack → (g : Grammar) (f : Frame) (lines : List (List ℕ)) → f.seed < 2 ^ 64 → checked_limits f.unit f.cap f.attrs ≡ Ok tt
     → leads g AtHeader (header_of g f.version ∷ (codes "seed " ++ decimal f.seed) ∷ (codes "unit " ++ decimal f.unit) ∷ (codes "cap " ++ decimal f.cap) ∷ spelled_attrs f.attrs ∷ lines) ≡ leads g (AtTargets f []) lines
 frame_leads back g f lines small sound =
-    let limits = checked-Limits f.unit f.cap f.attrs sound in
+    let limits = limits_kept f.unit f.cap f.attrs sound in
     let most : f.attrs.max ≤ 4096 = omega (arith, limits.max_cap, limits.cap_most) in
     let least : f.attrs.min ≤ 4096 = omega (arith, limits.attrs.max, most) in
     let fits : FitsAttrs f.attrs = (omega (arith, least), omega (arith, most), omega (arith, limits.attrs.aggr_most)) in

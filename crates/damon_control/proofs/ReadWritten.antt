@@ -11,6 +11,7 @@ use Rattle.damon_types.specs.declared.scheme.Scheme.{Scheme}
 use Rattle.damon_types.specs.declared.scheme.SlotChange.{SlotChange}
 use Rattle.damon_types.specs.declared.scheme.Version.{Version}
 use Rattle.damon_types.specs.Scheme.{checked_scheme, checked_time}
+use Rattle.damon_types.proofs.Lemmas.{both_ok}
 use Rattle.line_text.specs.Laws.{PutsPartsTogether, TakesApartPieces}
 use Rattle.line_text.specs.Parts.{IsPiece, joined, parts}
 use Rattle.live_commit.specs.Commit.{CommitValue}
@@ -44,7 +45,7 @@ use Rattle.damon_control.proofs.Steps.{bind-Ok}
 use Rattle.damon_control.proofs.WrittenLemmas.{lines_text-append}
 use Rattle.damon_control.proofs.WrittenRanges.{checked_written, ranges_again}
 use Rattle.damon_control.proofs.PartsInOrder.{TimesAreIn, cost_is_in, parts_in, times_are_in}
-use Rattle.damon_control.proofs.SlotLines.{both_ok, each_gives_said, second_ok, set_sound}
+use Rattle.damon_control.proofs.SlotLines.{each_gives_said, second_ok, set_sound}
 use Rattle.script_lines.specs.SchemeLine.{SchemesAreSaid}
 use Rattle.damon_control.proofs.SetupChecks.{checked_parts}
 

@@ -41,7 +41,7 @@ use Rattle.damon_control.proofs.SchemesFit.{gives_fits}
 use Rattle.damon_control.proofs.CommitFields.{commit_said}
 use Rattle.damon_types.specs.Scheme.{checked_in}
 use Rattle.damon_control.proofs.SetupChecks.{checked_parts, said_slots}
-use Rattle.damon_control.proofs.SetupLimits.{checked-Limits}
+use Rattle.live_commit.proofs.Lemmas.{limits_kept}
 use Rattle.damon_control.proofs.SpaceLimits.{checked-IsSpace}
 
 -- the lines of a setup up to its schemes, from `seed` on
@@ -178,7 +178,7 @@ at_schemes laws g lines f targets specs slots line next before e = either_way (b
 -- after its ranges a setup has no scheme yet
 ranges-SaySchemes : (g : Grammar) (lines : List (List ℕ)) (f : Frame) (targets : List Target) (specs : List RangeSpec) → SayRanges g lines f targets specs → 1 ≤ length specs
     → SaySchemes g lines f.seed (setup_said f targets specs [])
-ranges-SaySchemes g lines f targets specs before some = let limits = checked-Limits f.unit f.cap f.attrs before.frame.limits in record {
+ranges-SaySchemes g lines f targets specs before some = let limits = limits_kept f.unit f.cap f.attrs before.frame.limits in record {
   others = setup_lines f.seed (setup_said f targets specs []) specs;
   spelled = before.spelled;
   says = record {

@@ -13,12 +13,13 @@ use Rattle.damon_types.specs.declared.space.Target.{Target}
 use Rattle.damon_types.specs.Faults.{fault_as}
 use Rattle.damon_types.specs.Scheme.{checked_in}
 use Rattle.damon_types.specs.Space.{IsSpace, IsTarget, checked, checked_target, checked_targets_from, pages_of}
+use Rattle.damon_types.proofs.Lemmas.{both_ok, or_true}
 use Rattle.live_commit.specs.declared.fault.SetupFault.TheVariants.{BadScheme, RepeatedSlot}
 use Rattle.live_commit.specs.Checked.{checked_limits}
 use Rattle.live_commit.specs.Setup.{SetupValue}
 use Rattle.live_commit.specs.Slots.{checked_after, checked_set, checked_slot, checked_slots, has_scheme, is_set}
 use Rattle.damon_control.specs.Text.{SaySetup}
-use Rattle.damon_control.proofs.SlotLines.{both_ok, free_accepted, scheme_accepted}
+use Rattle.damon_control.proofs.SlotLines.{free_accepted, scheme_accepted}
 
 -- ---- the numbers and the targets
 
@@ -83,10 +84,6 @@ set_more slot before c has =
 
 has_some : (c : SlotChange) → IsSome c.scheme → has_scheme c ≡ true
 has_some c some = some
-
-or_true : (t : Bool) → (t || true) ≡ true
-or_true true = refl
-or_true false = refl
 
 -- numbers that are not the same
 differ : (m n : ℕ) → m ≢ n → (m == n) ≡ false

@@ -10,6 +10,7 @@ use Rattle.damon_types.specs.declared.scheme.Version.{Version}
 use Rattle.damon_types.specs.declared.scheme.SchemeFault.{SchemeFault}
 use Rattle.damon_types.specs.Faults.{fault_as}
 use Rattle.damon_types.specs.Scheme.{checked_in, checked_scheme, checked_time}
+use Rattle.damon_types.proofs.Lemmas.{both_ok}
 use Rattle.live_commit.specs.declared.fault.SetupFault.{SetupFault}
 use Rattle.live_commit.specs.declared.fault.SetupFault.TheVariants.{BadScheme, RepeatedSlot}
 use Rattle.live_commit.specs.Slots.{checked_after, checked_slot, is_set}
@@ -21,10 +22,6 @@ use Rattle.damon_control.specs.Text.{EachSays, SaysSlot}
 use Rattle.damon_control.proofs.PartsInOrder.{HasTimeIn}
 
 -- ---- what is known of changes that are accepted
-
-pub both_ok : (r s : Result (Unit {0}) SetupFault) → result_and r s ≡ Ok tt → (r ≡ Ok tt) × (s ≡ Ok tt)
-both_ok (Ok t) s ok = (refl, ok)
-both_ok (Err e) s ok = absurd cc
 
 pub scheme_accepted : (index : ℕ) (r : Result (Unit {0}) SchemeFault) → (fault_as (BadScheme index) r) ≡ Ok tt → r ≡ Ok tt
 scheme_accepted index (Ok t) ok = refl

@@ -14,29 +14,8 @@ use Rattle.damon_types.specs.Within.{LiesInTarget}
 use Rattle.target_ranges.specs.Checked.{checked_from, checked_within, overlaps}
 use Rattle.target_ranges.specs.Made.{page_count, range_of, ranges_of}
 use Rattle.damon_control.specs.Written.{spec_of}
-use Rattle.damon_control.proofs.SpaceLimits.{base_of_there, offset-next, offset-suc}
-
--- the place of a page of target j, the first target of which is numbered i
-pub place_there : (i : ℕ) (ts : List Target) (j page : ℕ) (t : Target) → slice_get ts j ≡ Some t → offset ts j ≤ page → page < offset ts j + t.pages
-    → place_from i ts page ≡ record { target = i + j; addr = t.base + 4096 * (page - offset ts j) }
-place_there i [] j page t is from to = absurd cc
-place_there i (u ∷ us) zero page t is from to =
-    let same : u ≡ t = cc in
-    let pages = ap (λ (t : Target). t.pages) same in
-    let base = ap (λ (t : Target). t.base) same in
-    let below : page < u.pages = omega (arith, to, pages) in
-    let first : nat_lt page u.pages ≡ true = grind (arith, nat_tests) in
-    let target : i ≡ i + 0 = omega arith in
-    let addr : u.base + 4096 * page ≡ t.base + 4096 * (page - 0) = omega (arith, base) in
-    rw first (λ k. record { target = target k; addr = addr k })
-place_there i (u ∷ us) (suc j) page t is from to =
-    let more = offset-suc u us j in
-    let past : u.pages ≤ page = omega (arith, from, more) in
-    let later : nat_lt page u.pages ≡ false = grind (arith, nat_tests) in
-    let found = place_there (i + 1) us j (page - u.pages) t is (omega (arith, from, more)) (omega (arith, from, to, more)) in
-    let target : i + 1 + j ≡ i + suc j = omega arith in
-    let addr : t.base + 4096 * (page - u.pages - offset us j) ≡ t.base + 4096 * (page - offset (u ∷ us) (suc j)) = omega (arith, more) in
-    rw later (found ∙ (λ k. record { target = target k; addr = addr k }))
+use Rattle.damon_types.proofs.Lemmas.{offset-next, place_from_held}
+use Rattle.target_ranges.proofs.Lemmas.{base_of_there}
 
 -- a range in a target of a space, and its addresses
 record IsThere (ts : List Target) (g : Range) : Type 0 where
@@ -62,7 +41,7 @@ range_there ts g space lies some =
       from = lies.from;
       to = to;
       some = some;
-      addr = ap (λ (p : Place). p.addr) (place_there 0 ts g.target g.first t there lies.from (omega (arith, to, some)));
+      addr = ap (λ (p : Place). p.addr) (place_from_held 0 g.target ts g.target g.first t refl there lies.from (omega (arith, to, some)));
     }
 
 -- ---- the ranges are accepted

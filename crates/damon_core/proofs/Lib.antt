@@ -1,29 +1,32 @@
-pub mod Opening
-pub mod SlotNotes
-pub mod SlotFacts
-pub mod Setting
-pub mod Serving
-pub mod Served
-pub mod Keeping
-pub mod Shown
-pub mod Tallying
-pub mod Standing
-pub mod Running
-pub mod Counting
-pub mod RowFacts
-pub mod Between
-pub mod Adapting
-pub mod Committing
-pub mod Rows
-pub mod Hits
-pub mod Passes
-pub mod Picks
-pub mod Bounding
-pub mod Choosing
-pub mod CommitStanding
-pub mod Preparing
-pub mod VersionOne
-pub mod Reported
-pub mod Stepping
+mod Opening
+mod SlotNotes
+mod SlotFacts
+mod Setting
+mod Serving
+mod Served
+mod Keeping
+mod Shown
+mod Tallying
+mod Standing
+mod Running
+mod Counting
+mod RowFacts
+mod Between
+mod Adapting
+mod Committing
+mod Rows
+mod Hits
+mod Passes
+mod Picks
+mod Bounding
+mod Choosing
+mod CommitStanding
+mod Preparing
+mod VersionOne
+mod Reported
+mod Stepping
 mod Examples
 mod ReportedExamples
+mod SchemesStay
+mod Committed
+pub mod Lemmas

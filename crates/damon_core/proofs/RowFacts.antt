@@ -11,6 +11,7 @@ use Rattle.damon_types.specs.Ranges.{end_of, page_total}
 use Rattle.damon_types.specs.Span.{Span, span_of, spans}
 use Rattle.damon_types.specs.Space.{pages_of}
 use Rattle.damon_types.specs.Within.{LiesInTarget, AreWithin}
+use Rattle.damon_types.proofs.Lemmas.{all_append}
 use Rattle.region_list.specs.Tiles.{Tiles, LiesIn}
 use Rattle.region_list.specs.Tiling.{Chain, Tiling}
 use Rattle.region_list.specs.Division.{divided, range_rows, rows_from, range_row_count}
@@ -58,10 +59,6 @@ pub length-picks_of : (rows : List Row) (ws : List ℕ) → length ws ≡ length
 length-picks_of [] ws same = refl
 length-picks_of (r ∷ rows) [] same = absurd (omega arith)
 length-picks_of (r ∷ rows) (w ∷ ws) same = ap suc (length-picks_of rows ws (omega arith))
-
-all_append : (P : Row → Type 0) (xs ys : List Row) → AllByRecursion P xs → AllByRecursion P ys → AllByRecursion P (xs ++ ys)
-all_append P [] ys all more = more
-all_append P (x ∷ xs) ys all more = (all.0, all_append P xs ys all.1 more)
 
 counts-rows_from : (t size end n at : ℕ) → AllByRecursion (λ r. r.count ≤ 0) (rows_from t size end n at)
 counts-rows_from t size end zero at = tt

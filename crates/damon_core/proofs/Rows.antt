@@ -55,16 +55,6 @@ pub length-counted_from : (k : ℕ) (notes : List Note) (n : ℕ) (rows : List R
 length-counted_from k notes n [] = refl
 length-counted_from k notes n (r ∷ rows) = ap suc (length-counted_from (k + 1) notes n rows)
 
--- a chain over at least one page has a row
-chain_some : (unit t from to : ℕ) (ss : List Span) → from < to → Chain unit t from to ss → 0 < length ss
-chain_some unit t from to [] further chain = absurd (omega (arith, chain))
-chain_some unit t from to (s ∷ ss) further chain = omega arith
-
--- a tiling of at least one range has a row
-pub tiling_some : (unit : ℕ) (gs : List Range) (ss : List Span) → 1 ≤ unit → 1 ≤ length gs → AllByRecursion (λ g. unit ≤ g.pages) gs → Tiling unit gs ss → 0 < length ss
-tiling_some unit [] ss some any wide tiling = absurd (omega arith)
-tiling_some unit (g ∷ gs) ss some any wide tiling = omega (arith, ap length tiling.2, length-append tiling.0 tiling.1, chain_some unit g.target g.first (end_of g) tiling.0 (omega (arith, wide.0)) tiling.3)
-
 within_after_clear : (k rows : ℕ) → k < rows → IsPickWithin (phase_cleared (k + 1) rows) rows
 within_after_clear k rows below = elim (k + 1 == rows) as (λ b. (k + 1 == rows) ≡ b → IsPickWithin (phase_cleared (k + 1) rows) rows) [
   | true ↦ λ is. rw is tt

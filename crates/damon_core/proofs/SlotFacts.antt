@@ -5,6 +5,7 @@ use Rattle.std.specs.List.{AllByRecursion}
 use Rattle.damon_types.specs.declared.scheme.CostPart.{CostPart}
 use Rattle.damon_types.specs.declared.scheme.Scheme.{Scheme}
 use Rattle.damon_types.specs.declared.scheme.SlotChange.{SlotChange}
+use Rattle.damon_types.proofs.Lemmas.{all_weaker}
 use Rattle.live_commit.specs.Commit.{CommitValue}
 use Rattle.scheme_engine.specs.Kept.{CountsWithin, StartBy}
 use Rattle.scheme_engine.specs.Slots.{SetScheme, SlotValue, changed, costed, empty_slot, metered}
@@ -27,10 +28,6 @@ one_of_all P (x ∷ xs) (suc i) d other all = one_of_all P xs i d other all.1
 pub all_mapped : (P : SlotValue → Type 0) (f : SlotValue → SlotValue) → ((s : SlotValue) → P s → P (f s)) → (xs : List SlotValue) → AllByRecursion P xs → AllByRecursion P (map f xs)
 all_mapped P f keeps [] all = tt
 all_mapped P f keeps (x ∷ xs) all = (keeps x all.0, all_mapped P f keeps xs all.1)
-
-pub all_weaker : (P Q : SlotValue → Type 0) → ((s : SlotValue) → P s → Q s) → (xs : List SlotValue) → AllByRecursion P xs → AllByRecursion Q xs
-all_weaker P Q weaker [] all = tt
-all_weaker P Q weaker (x ∷ xs) all = (weaker x all.0, all_weaker P Q weaker xs all.1)
 
 pub all_replicate : (P : SlotValue → Type 0) → (n : ℕ) (x : SlotValue) → P x → AllByRecursion P (replicate n x)
 all_replicate P zero x here = tt

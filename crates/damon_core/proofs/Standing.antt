@@ -6,6 +6,7 @@ use Rattle.std.proofs.lemmas.Bool.Decides.{nat_tests}
 use Rattle.std.proofs.lemmas.List.{length-replicate, length-set, take_all}
 use Rattle.std.proofs.lemmas.List.Sums.{sum_by_more}
 use Rattle.damon_types.specs.declared.row.Row.{Row}
+use Rattle.damon_types.proofs.Lemmas.{or_false}
 use Rattle.live_commit.specs.declared.phase.Phase.{Phase}
 use Rattle.live_commit.specs.declared.phase.Phase.TheVariants.{Idle, Clearing, Armed, Checking, Void, Due}
 use Rattle.sampler.specs.Counted.{raised}
@@ -84,10 +85,6 @@ by_load_is Due s hit fits = absurd fits
 
 and_same : (n : ℕ) (b c : Bool) → (((n == n) && b) || c) ≡ (b || c)
 and_same n b c = let e : (n == n) ≡ true = grind (arith, nat_tests) in rw e refl
-
-or_false : (b : Bool) → (b || false) ≡ b
-or_false true = refl
-or_false false = refl
 
 -- the bit of a load is the check's, and the other bits stay
 set_hit : (notes : List Note) (n i k : ℕ) (h : Bool) (bits : List Bool) → i < length bits → was_hit notes n i ≡ false → bit_at bits k ≡ was_hit notes n k → bit_at (set bits i h) k ≡ (((n == n) && ((i == k) && h)) || was_hit notes n k)

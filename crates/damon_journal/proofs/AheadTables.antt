@@ -6,6 +6,7 @@ use Rattle.std.proofs.lemmas.List.FromFn.{fill_by_all}
 use Rattle.std.proofs.lemmas.Grind.{get_or-set_at}
 use Rattle.std.specs.Prelude.{◌≢◌, All, if◌then◌else◌, slice_get, slice_set, Some, replicate}
 use Rattle.std.specs.List.{list_any}
+use Rattle.damon_types.proofs.Lemmas.{or_false}
 use Rattle.damon_journal.specs.declared.entry.Receipt.{Receipt}
 use Rattle.damon_journal.specs.Ahead.{AreNamedEarly, IsAhead, IsUnset, ShowsTag, is_named, is_picked, named_by_none, receipts_of}
 use Rattle.damon_journal.specs.SeenLine.{is_receipt}
@@ -113,10 +114,6 @@ names_next xs picked before now indexes k i hit below index within hit_is left =
     by j d false same =
         let other : j ≢ i = λ is. absurd (grind (arith, nat_tests, same, is)) in
         ap (λ b. b || (list_any (λ m. m == j) (drop (k + 1) indexes) && get_or picked (get_or xs j d).1.page false)) (get_or-set_other now i j (get_or now i false || hit) false other)
-
-or_false : (b : Bool) → (b || false) ≡ b
-or_false true = refl
-or_false false = refl
 
 -- all are named
 pub names_all : (pass : ℕ) (xs : List (ℕ × Receipt)) (picked before now : List Bool) (indexes : List ℕ) (k i : ℕ) (d : ℕ × Receipt) → AreOfTag pass xs indexes → length indexes ≤ k → i < length xs

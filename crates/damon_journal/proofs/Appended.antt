@@ -26,11 +26,6 @@ drop-at (y ∷ ys) (suc i) x is =
     let next : suc (i + 1) ≡ suc i + 1 = omega arith in
     drop-at ys i x is ∙ ap (λ k. x ∷ drop k (y ∷ ys)) next
 
--- what holds of each item of two lists
-pub all-append : {A : Type 0} (P : A → Type 0) (xs ys : List A) → AllByRecursion P (xs ++ ys) → AllByRecursion P xs × AllByRecursion P ys
-all-append P [] ys all = (tt, all)
-all-append P (x ∷ xs) ys all = let rest = all-append P xs ys all.1 in ((all.0, rest.0), rest.1)
-
 -- a line of which the front was written before, and then other lines
 pub front_line : (text front word more : List ℕ) → ((text ++ front) ++ (word ++ 10 ∷ [])) ++ more ≡ text ++ ((front ++ word) ++ 10 ∷ more)
 front_line text front word more = simp append_assoc refl

@@ -1,11 +1,12 @@
 -- An entry that the monitor carries out is one entry more of the journal.
-use Rattle.std.proofs.Common.{◌≡◌, ℕ, zero, suc, ◌+◌, ◌*◌, Bool, true, false, cond, List, [], ◌∷◌, ◌++◌, length, take, refl, sym, ap, ◌∙◌, subst, arith}
+use Rattle.std.proofs.Common.{◌≡◌, ℕ, ◌+◌, ◌*◌, Bool, true, false, cond, List, [], ◌∷◌, ◌++◌, length, take, refl, sym, ap, ◌∙◌, subst, arith}
 use Rattle.std.specs.Prelude.{◌==◌, Ok, Err, Result, map, nat_le, Some}
 use Rattle.std.specs.Option.{option_map_or}
 use Rattle.std.proofs.lemmas.Bool.Decides.{nat_tests}
 use Rattle.std.proofs.lemmas.List.{drop_all, take_all}
-use Rattle.rand_core.specs.Stream.{Stream, next_u32}
+use Rattle.rand_core.specs.Stream.{Stream}
 use Rattle.sampler.specs.Draws.{drawn, drawn_rest}
+use Rattle.sampler.proofs.Lemmas.{drawn_rest-append}
 use Rattle.damon_types.specs.declared.row.Row.{Row}
 use Rattle.live_commit.specs.declared.fault.CommitFault.{CommitFault}
 use Rattle.live_commit.specs.declared.phase.Phase.{Phase}
@@ -19,6 +20,7 @@ use Rattle.damon_core.specs.Reached.{CanOpen, Reached, run}
 use Rattle.damon_core.specs.Several.{clears}
 use Rattle.damon_core.specs.State.{Core, row_count}
 use Rattle.damon_core.specs.Stands.{MonitorView, Stands, last_pass}
+use Rattle.damon_core.proofs.Lemmas.{phase_kept}
 use Rattle.damon_control.specs.Live.{CallValue, LiveValue}
 use Rattle.damon_journal.specs.declared.entry.Entry.{Entry}
 use Rattle.damon_journal.specs.declared.entry.CallAnswer.{CallAnswer}
@@ -32,13 +34,6 @@ use Rattle.damon_journal.specs.Steps.{entry_steps, steps}
 use Rattle.sampler.specs.Seeds.{words_from}
 use Rattle.damon_journal.specs.Words.{words_after, words_at}
 use Rattle.damon_journal.proofs.Longer.{added-keeps, added-last, lengthened}
-
--- what is left after some words and then others
-rest_after : (n m : ℕ) (s : Stream) → drawn_rest (n + m) s ≡ drawn_rest m (drawn_rest n s)
-rest_after zero m s = let none : 0 + m ≡ m = omega arith in ap (λ k. drawn_rest k s) none
-rest_after (suc n) m s =
-    let one : suc n + m ≡ suc (n + m) = omega arith in
-    ap (λ k. drawn_rest k s) one ∙ rest_after n m (next_u32 s).1
 
 -- what the calls of an entry did: its events were made, and its words were drawn
 pub record HasMade (w : LiveValue) (r : Replayed) (e : Entry) (old new : ReplayingView) : Type 0 where
@@ -67,7 +62,7 @@ carried_by v w j e bits old new seed setup h journal is steps_are fits has =
         words =
             has.rest
             ∙ (ap (drawn_rest n) h.words
-            ∙ (sym (rest_after old.drawn n (words_after v.seed 0))
+            ∙ (sym (drawn_rest-append old.drawn n (words_after v.seed 0))
             ∙ (ap (words_after v.seed) (sym has.drawn) ∙ ap (λ k. words_after k new.drawn) seed)));
       };
       is = is;
@@ -213,19 +208,6 @@ carries_known grow old new call answer made drawn words free told v j controller
       drawn = drawn ∙ none_more;
       rest = ap words_from words;
     })
-
--- what is the same of an armed and of a void pass stays as it is in a commit
-pub kept_if_void : (f : Phase → ℕ) → f Armed ≡ f VoidPhase → (old new : List Row) (ph : Phase) → f (phase_after_commit ph old new) ≡ f ph
-kept_if_void f same old new Armed = elim (becomes_void Armed old new) as (λ b. f (cond b VoidPhase Armed) ≡ f Armed) [ true ↦ sym same | false ↦ refl ]
-kept_if_void f same old new Idle = refl
-kept_if_void f same old new (Clearing k) = refl
-kept_if_void f same old new (Checking k) = refl
-kept_if_void f same old new VoidPhase = refl
-kept_if_void f same old new Due = refl
-
-phase_kept : (f : Phase → ℕ) → f Armed ≡ f VoidPhase → (parts : CommitValue) (r : Result (Unit {0}) CommitFault) (c : Core) → f (if_accepted r (committed_core parts c) c).phase ≡ f c.phase
-phase_kept f same parts (Ok t) c = kept_if_void f same c.regions.rows (committed_core parts c).regions.rows c.phase
-phase_kept f same parts (Err fault) c = refl
 
 -- a commit leaves the pass that was prepared last
 pub pass_kept : (parts : CommitValue) (old new : Core) → new ≡ core_after_commit parts old → new.ticks ≡ old.ticks → last_pass new.phase new.ticks ≡ last_pass old.phase old.ticks

@@ -3,6 +3,7 @@ use Rattle.std.proofs.Common.{◌≡◌, ◌+◌, ◌≤◌, ℕ, zero, suc, Lis
 use Rattle.std.specs.List.{AllByRecursion}
 use Rattle.std.proofs.lemmas.List.{drop_all}
 use Rattle.damon_types.specs.declared.space.Target.{Target}
+use Rattle.damon_types.proofs.Lemmas.{all_parts}
 use Rattle.script_lines.specs.Lines.{lines_text}
 use Rattle.damon_control.specs.Live.{LiveValue}
 use Rattle.damon_journal.specs.declared.entry.Receipt.{Receipt}
@@ -11,7 +12,7 @@ use Rattle.damon_journal.specs.Replay.{JournalValue}
 use Rattle.damon_journal.specs.Spelled.{spelled_seen}
 use Rattle.damon_journal.specs.Text.{entries_lines, seen_lines}
 use Rattle.damon_journal.specs.TextParts.{entries_left, replay_to, without_first}
-use Rattle.damon_journal.proofs.Appended.{all-append, lines_added, lines_text-append}
+use Rattle.damon_journal.proofs.Appended.{lines_added, lines_text-append}
 
 -- lines were appended after others, and other text is left after them
 pub lines_passed : (before text : List ℕ) (a b : List (List ℕ)) (last : List ℕ) → text ≡ before ++ lines_text a → text ++ (lines_text b ++ last) ≡ before ++ (lines_text (a ++ b) ++ last)
@@ -25,7 +26,7 @@ pub all_from : (P : Receipt → Type 0) (all : List (List Receipt)) (worker : �
 all_from P [] zero holds = holds
 all_from P [] (suc worker) holds = holds
 all_from P (own ∷ all) zero holds = holds
-all_from P (own ∷ all) (suc worker) holds = all_from P all worker (all-append P own (all_of all) holds).1
+all_from P (own ∷ all) (suc worker) holds = all_from P all worker (all_parts P own (all_of all) holds).1
 
 -- none of the receipts are taken yet
 pub without_none : (all : List (List Receipt)) → without_first 0 all ≡ all

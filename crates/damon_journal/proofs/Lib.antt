@@ -10,7 +10,6 @@ pub mod SeenText
 pub mod SpelledCalls
 pub mod EntriesText
 pub mod LeftText
-pub mod Streams
 pub mod Untouched
 pub mod Fitting
 pub mod Quiet

@@ -14,6 +14,7 @@ use Rattle.damon_control.specs.Live.{CallValue, LiveValue, count_all}
 use Rattle.damon_control.specs.JournalHead.{head_lines}
 use Rattle.damon_control.specs.LiveText.{KeepsLimits}
 use Rattle.script_lines.specs.Lines.{lines_text}
+use Rattle.damon_types.proofs.Lemmas.{all_append}
 use Rattle.damon_journal.specs.declared.entry.Entry.{Entry}
 use Rattle.damon_journal.specs.declared.entry.Entry.TheVariants.{Prepare, Check, Void, Aggregate, Call}
 use Rattle.damon_journal.specs.declared.entry.Receipt.{Receipt}
@@ -29,7 +30,6 @@ use Rattle.damon_journal.specs.Steps.{clear_steps, entry_steps, load_steps, step
 use Rattle.damon_journal.proofs.AnswersFit.{answer_fits}
 use Rattle.damon_journal.proofs.Fitting.{carried_reached}
 use Rattle.damon_journal.proofs.PhaseAfter.{entry_counts, splits_open}
-use Rattle.damon_journal.proofs.Quiet.{all_append}
 use Rattle.damon_journal.proofs.Settling.{cases, flat_append, touches-append}
 use Rattle.damon_journal.proofs.Sizes.{CommitLaws, IsWithin, opening_within, run_within}
 use Rattle.std.proofs.lemmas.List.Elements.{Contains-append_left, Contains-append_right}

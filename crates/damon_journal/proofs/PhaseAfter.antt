@@ -16,6 +16,7 @@ use Rattle.damon_core.specs.Note.{Note}
 use Rattle.damon_core.specs.Reached.{run}
 use Rattle.damon_core.specs.Several.{clears}
 use Rattle.damon_core.specs.State.{Core, State, row_count}
+use Rattle.damon_core.proofs.Lemmas.{kept_if_void}
 use Rattle.damon_control.specs.Live.{CallValue, CommitCall, LiveValue, ShowCall}
 use Rattle.damon_journal.specs.declared.entry.Entry.{Entry}
 use Rattle.damon_journal.specs.declared.entry.Entry.TheVariants.{Prepare, Check, Void, Aggregate, Call}
@@ -23,7 +24,6 @@ use Rattle.damon_journal.specs.Counted.{prepares}
 use Rattle.damon_journal.specs.Phases.{passes_open}
 use Rattle.damon_journal.specs.Replay.{EntryFits, Replayed, call_event, carried, entry_events, words_taken}
 use Rattle.damon_journal.specs.Words.{words_after}
-use Rattle.damon_journal.proofs.Carrying.{kept_if_void}
 use Rattle.damon_journal.proofs.Fitting.{at, clearing_on, length-taken}
 use Rattle.damon_journal.proofs.Ticks.{check_ticks}
 use Rattle.damon_journal.proofs.Weaving.{all_loads_end}

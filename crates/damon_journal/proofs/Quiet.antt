@@ -16,19 +16,12 @@ use Rattle.damon_core.specs.Event.{load, observe}
 use Rattle.damon_core.specs.Pass.{PagesRiseFrom}
 use Rattle.damon_core.specs.Several.{clears}
 use Rattle.damon_core.specs.Reached.{AllByHit, run}
+use Rattle.damon_types.proofs.Lemmas.{all_append, or_false, or_true}
 use Rattle.damon_journal.specs.declared.entry.Receipt.{Receipt}
 use Rattle.damon_journal.specs.Lawful.{touches_of}
 use Rattle.damon_journal.specs.Steps.{load_steps}
 use Rattle.damon_journal.proofs.WovenList.{hit_at, touch_events}
 use Rattle.damon_journal.proofs.Fitting.{at, clearing_on}
-
-or_true : (b : Bool) → b || true ≡ true
-or_true true = refl
-or_true false = refl
-
-or_false : (b : Bool) → b || false ≡ b
-or_false true = refl
-or_false false = refl
 
 true_not_false : true ≡ false → ⊥
 true_not_false e = cc (e)
@@ -36,10 +29,6 @@ true_not_false e = cc (e)
 index_front : (front : List ℕ) (p : ℕ) (ps : List ℕ) → slice_index (front ++ p ∷ ps) (length front) ≡ p
 index_front [] p ps = refl
 index_front (q ∷ front) p ps = index_front front p ps
-
-pub all_append : {A : Type 0} (P : A → Type 0) (xs ys : List A) → AllByRecursion P xs → AllByRecursion P ys → AllByRecursion P (xs ++ ys)
-all_append P [] ys all more = more
-all_append P (x ∷ xs) ys all more = (all.0, all_append P xs ys all.1 more)
 
 -- ---- after the clears
 

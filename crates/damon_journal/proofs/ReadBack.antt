@@ -7,10 +7,10 @@ use Rattle.std.specs.List.{AllByRecursion}
 use Rattle.damon_types.specs.declared.space.TheConstants.{PAGE_SIZE}
 use Rattle.damon_types.specs.declared.space.Target.{Target}
 use Rattle.damon_types.specs.Space.{IsSpace, IsTarget, offset, page_in, page_of, pages_of, place_of}
+use Rattle.damon_types.proofs.Lemmas.{all_parts}
 use Rattle.damon_journal.specs.declared.entry.Receipt.{Receipt}
 use Rattle.damon_journal.specs.Lawful.{all_of}
 use Rattle.damon_journal.specs.Rules.{ReadsLawfulBack, TagsFit}
-use Rattle.damon_journal.proofs.Appended.{all-append}
 use Rattle.damon_journal.proofs.Common.{both_are, if_some}
 use Rattle.damon_journal.proofs.Pieces.{ReceiptsFit, body_pieces}
 use Rattle.damon_journal.proofs.SecondLaw.{SecondLaws, second_law}
@@ -53,7 +53,7 @@ worker_fits pages (r ∷ rs) within tags = ((within.0, tags.0), worker_fits page
 receipts_fit : (space : List Target) (all : List (List Receipt)) → AllByRecursion (λ r. r.page < pages_of space) (all_of all) → TagsFit all → ReceiptsFit space all
 receipts_fit space [] within tags = tt
 receipts_fit space (rs ∷ all) within tags =
-    let apart = all-append (λ r. r.page < pages_of space) rs (all_of all) within in
+    let apart = all_parts (λ r. r.page < pages_of space) rs (all_of all) within in
     (worker_fits (pages_of space) rs apart.0 tags.0, receipts_fit space all apart.1 tags.1)
 
 -- the text of each lawful journal that a text can spell is read back

@@ -9,6 +9,7 @@ use Rattle.std.specs.Option.{option_or}
 use Rattle.std.specs.List.{AllByRecursion, Contains, list_all, list_any}
 use Rattle.std.specs.Cmp.Derive.{both_true}
 use Rattle.damon_types.specs.Space.{pages_of}
+use Rattle.damon_types.proofs.Lemmas.{all_parts}
 use Rattle.line_text.specs.Laws.{PutsPartsTogether, TakesApartPieces}
 use Rattle.line_text.specs.Parts.{parts}
 use Rattle.live_commit.specs.declared.phase.Phase.TheVariants.{Idle}
@@ -41,7 +42,7 @@ use Rattle.damon_journal.specs.SeenLine.{after_receipt, has_receipt, is_receipt,
 use Rattle.damon_journal.specs.Steps.{steps}
 use Rattle.damon_journal.specs.Text.{journal_lines, journal_text, last_text, seen_lines, settled_lines}
 use Rattle.damon_journal.proofs.AllRead.{journal_read, no_calls}
-use Rattle.damon_journal.proofs.Appended.{all-append, lines_text-append}
+use Rattle.damon_journal.proofs.Appended.{lines_text-append}
 use Rattle.damon_journal.proofs.Common.{Pieces, both_pieces, or_first, or_second, parts-some, parts_before, then_some}
 use Rattle.damon_journal.proofs.EntriesRead.{EntryLaws, so_far}
 use Rattle.damon_journal.proofs.HeadRead.{head_read}
@@ -123,7 +124,7 @@ workers_read : (v : LiveValue) (j : JournalValue) (all : List (List Receipt)) �
     → AllByRecursion (λ r. r.page < pages_of v.setup.space) (all_of some) → TagsFit some → AllByRecursion (λ rs. AllByRecursion (IsRead v.setup.space v j) rs) some
 workers_read v j all are [] among within tags = tt
 workers_read v j all are (rs ∷ some) among within tags =
-    let apart = all-append (λ r. r.page < pages_of v.setup.space) rs (all_of some) within in
+    let apart = all_parts (λ r. r.page < pages_of v.setup.space) rs (all_of some) within in
     let split : touches_of (rs ++ all_of some) ≡ touches_of rs ++ touches_of (all_of some) = map-append (λ r. touch r.page r.tag) rs (all_of some) in (
       worker_read v j all are rs (λ t has. among t (subst (λ l. Contains l t) (sym split) (Contains-append_left (touches_of rs) (touches_of (all_of some)) t has))) apart.0 tags.0,
       workers_read v j all are some (λ t has. among t (subst (λ l. Contains l t) (sym split) (Contains-append_right (touches_of rs) (touches_of (all_of some)) t has))) apart.1 tags.1,

@@ -4,9 +4,10 @@ use Rattle.std.specs.Prelude.{slice_get}
 use Rattle.std.specs.List.{AllByRecursion}
 use Rattle.std.proofs.lemmas.List.{drop-map}
 use Rattle.damon_types.specs.Listed.{Listed}
+use Rattle.damon_types.proofs.Lemmas.{all_parts}
 use Rattle.damon_journal.specs.declared.entry.Receipt.{Receipt}
 use Rattle.damon_journal.specs.Lawful.{all_of, receipts_said}
-use Rattle.damon_journal.proofs.Appended.{all-append, drop-at}
+use Rattle.damon_journal.proofs.Appended.{drop-at}
 
 -- the receipts of this worker come first, and then those of the next ones
 pub next_worker : (receipts : Listed (Listed Receipt)) (worker : ℕ) (own : Listed Receipt) → slice_get receipts.list worker ≡ Some own
@@ -19,4 +20,4 @@ next_worker receipts worker own is =
 -- what holds of all their receipts
 pub all_next : (P : Receipt → Type 0) (left more : List (List Receipt)) (own : List Receipt) → left ≡ own ∷ more
     → AllByRecursion P (all_of left) → AllByRecursion P own × AllByRecursion P (all_of more)
-all_next P left more own is all = all-append P own (all_of more) (subst (λ rs. AllByRecursion P (all_of rs)) is all)
+all_next P left more own is all = all_parts P own (all_of more) (subst (λ rs. AllByRecursion P (all_of rs)) is all)

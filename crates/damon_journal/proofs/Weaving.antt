@@ -25,7 +25,7 @@ use Rattle.damon_core.specs.State.{Core, State, opening, row_count, set_note}
 use Rattle.damon_core.specs.After.{after, phase_after_pass}
 use Rattle.damon_core.specs.Event.{prepare, load, observe}
 use Rattle.damon_core.specs.InPhase.{IsInPhase}
-use Rattle.damon_core.specs.Makes.{AllFit-append, run-append}
+use Rattle.damon_core.specs.Makes.{AllByHit-append, AllFit-append, run-append}
 use Rattle.damon_core.specs.Pass.{IsInPass, PagesRiseFrom}
 use Rattle.damon_core.specs.Several.{clears}
 use Rattle.damon_core.specs.Reached.{AllByHit, AllFit, Reached, ReachedByHit, run}
@@ -42,7 +42,7 @@ use Rattle.damon_journal.proofs.Untouched.{AllFit-untouched, run-untouched}
 use Rattle.damon_journal.proofs.Fitting.{at, carried_reached, entry_fits, entry_own, length-taken, length-words, run_space}
 use Rattle.damon_journal.proofs.Quiet.{HitsReceived, IsArmedBy, Quiet, all_clears_quiet, all_loads_by_hit, all_right, tagged, told_by_pages, touched_core}
 use Rattle.damon_journal.proofs.WovenList.{hit_at, touches_after, touches_before, woven_from}
-use Rattle.damon_journal.proofs.WovenTouches.{no_loads, AllByHit-append, clears_load_nothing, calls_load_nothing, before_are, after_are, touched_by}
+use Rattle.damon_journal.proofs.WovenTouches.{no_loads, clears_load_nothing, calls_load_nothing, before_are, after_are, touched_by}
 
 -- what is known of states that are reached
 pub record PassLaws : Type 0 where

@@ -12,6 +12,7 @@ use Rattle.damon_core.specs.State.{State, row_count}
 use Rattle.damon_control.specs.Live.{LiveValue}
 use Rattle.page_words.specs.Clears.{clear_passes_of}
 use Rattle.page_words.specs.Views.{touch as touch_of}
+use Rattle.damon_types.proofs.Lemmas.{and_false}
 use Rattle.damon_journal.specs.declared.entry.Entry.{Entry}
 use Rattle.damon_journal.specs.declared.entry.Entry.TheVariants.{Prepare, Check, Void, Aggregate, Call}
 use Rattle.damon_journal.specs.declared.entry.Receipt.{Receipt}
@@ -164,10 +165,6 @@ none_between tag n = grind (arith, nat_tests)
 
 tag_known : (tag high : ℕ) → tag ≤ high → one (tag == 0) + one (is_between 0 high tag) ≡ 1
 tag_known tag high below = grind (arith, nat_tests)
-
-and_false : (b : Bool) → b && false ≡ false
-and_false true = refl
-and_false false = refl
 
 and_true : (b : Bool) → b && true ≡ b
 and_true true = refl

@@ -4,7 +4,7 @@ use Rattle.std.specs.Prelude.{◌&&◌, ◌==◌, not}
 use Rattle.damon_types.specs.Space.{pages_of}
 use Rattle.damon_core.specs.After.{after}
 use Rattle.damon_core.specs.Event.{Event}
-use Rattle.damon_core.specs.Makes.{AllFit-append, run-append}
+use Rattle.damon_core.specs.Makes.{AllByHit-append, AllFit-append, run-append}
 use Rattle.damon_core.specs.Reached.{AllByHit, AllFit, CanOpen, Reached, run}
 use Rattle.damon_core.specs.State.{State, opening}
 use Rattle.damon_control.specs.Live.{LiveValue}
@@ -15,7 +15,7 @@ use Rattle.damon_journal.specs.Woven.{WovenRuns, untouched}
 use Rattle.damon_journal.proofs.Weaving.{IsBefore, PassLaws, opening_untouched, weave}
 use Rattle.damon_journal.proofs.WovenCounts.{woven_is}
 use Rattle.damon_journal.proofs.WovenList.{hit_at, late, touch_events, woven, woven_from}
-use Rattle.damon_journal.proofs.WovenTouches.{AllByHit-append, some_touches, touched_by}
+use Rattle.damon_journal.proofs.WovenTouches.{some_touches, touched_by}
 
 -- what holds of all events holds of the first ones
 front_fits : (s : State) (es fs : List Event) → AllFit s (es ++ fs) → AllFit s es

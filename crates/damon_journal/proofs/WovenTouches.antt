@@ -37,10 +37,6 @@ pub no_loads : (s : State) (es : List Event) → AllByRecursion IsNoLoad es → 
 no_loads s [] none = tt
 no_loads s (e ∷ es) none = (no_load s e none.0, no_loads (after s e) es none.1)
 
-pub AllByHit-append : (s : State) (es fs : List Event) → AllByHit s es → AllByHit (run s es) fs → AllByHit s (es ++ fs)
-AllByHit-append s [] fs right more = more
-AllByHit-append s (e ∷ es) fs right more = (right.0, AllByHit-append (after s e) es fs right.1 more)
-
 touches_load_nothing : (rs : List Receipt) → AllByRecursion IsNoLoad (touch_events rs)
 touches_load_nothing [] = tt
 touches_load_nothing (r ∷ rs) = (tt, touches_load_nothing rs)

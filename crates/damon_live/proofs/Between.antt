@@ -22,6 +22,7 @@ use Rattle.damon_core.specs.Makes.{Makes, Reached-run}
 use Rattle.damon_core.specs.Reached.{Reached, run}
 use Rattle.damon_core.specs.State.{Core}
 use Rattle.damon_core.specs.Stands.{MonitorView, Stands}
+use Rattle.damon_core.proofs.Lemmas.{phase_kept}
 use Rattle.damon_control.specs.Live.{CallValue, CommitCall, LiveValue, ShowCall}
 use Rattle.damon_journal.specs.declared.entry.CallAnswer.{CallAnswer}
 use Rattle.damon_journal.specs.declared.entry.Entry.TheVariants.{Aggregate, Call}
@@ -32,7 +33,7 @@ use Rattle.sampler.specs.Seeds.{words_from}
 use Rattle.damon_journal.specs.Words.{words_after, words_at}
 use Rattle.damon_journal.specs.Growth.{GrowsByOthers}
 use Rattle.damon_live.specs.Called.{IsCalled}
-use Rattle.damon_live.proofs.Draws.{rest_after}
+use Rattle.sampler.proofs.Lemmas.{drawn_rest-append}
 use Rattle.damon_live.specs.Machine.{IsBetweenEntries, IsLoadable, IsRun, entries_owed, with_one, words_owed}
 
 -- the monitor made an aggregation with the next words of the source
@@ -63,7 +64,7 @@ aggregated_run v table m now seat j next ks g left count tick more grow h a due 
       reached = subst Reached state (Reached-run r.state (entry_events v r e) h.reached made.0);
       stands = subst (Stands now) state made.1;
       drawn = sum ∙ (ap (λ k. k + n) h.drawn ∙ (ap (λ (c : Core). r.drawn + 2 * c.attrs.max) same ∙ sym (ap (λ (x : Replayed). x.drawn) grown.is)));
-      words = a.rest ∙ (ap (drawn_rest n) h.words ∙ (sym (rest_after count n (words_after v.seed 0)) ∙ ap (words_after v.seed) (sym sum)));
+      words = a.rest ∙ (ap (drawn_rest n) h.words ∙ (sym (drawn_rest-append count n (words_after v.seed 0)) ∙ ap (words_after v.seed) (sym sum)));
       place = h.place;
       pages = ap pages_of a.space ∙ h.pages;
       steps_are = h.steps_are ∙ (sym (append-nil (steps v j)) ∙ sym grown.steps_are);
@@ -124,19 +125,6 @@ free_after_commit parts (Err fault) c free = free
 pub picks_after_commit : (parts : CommitValue) (r : Result (Unit {0}) CommitFault) (c : Core) → IsLoadable (if_accepted r (committed_core parts c) c).phase → IsLoadable c.phase × ((if_accepted r (committed_core parts c) c).picks ≡ c.picks)
 picks_after_commit parts (Ok t) c may = (loadable_if_void c.phase (becomes_void c.phase c.regions.rows (committed_core parts c).regions.rows) may, refl)
 picks_after_commit parts (Err fault) c may = (may, refl)
-
--- what is the same of an armed and of a void pass
-kept_if_void : (f : Phase → ℕ) → f Armed ≡ f VoidPhase → (old new : List Row) (ph : Phase) → f (phase_after_commit ph old new) ≡ f ph
-kept_if_void f same old new Armed = elim (becomes_void Armed old new) as (λ b. f (cond b VoidPhase Armed) ≡ f Armed) [ true ↦ sym same | false ↦ refl ]
-kept_if_void f same old new Idle = refl
-kept_if_void f same old new (Clearing k) = refl
-kept_if_void f same old new (Checking k) = refl
-kept_if_void f same old new VoidPhase = refl
-kept_if_void f same old new Due = refl
-
-phase_kept : (f : Phase → ℕ) → f Armed ≡ f VoidPhase → (parts : CommitValue) (r : Result (Unit {0}) CommitFault) (c : Core) → f (if_accepted r (committed_core parts c) c).phase ≡ f c.phase
-phase_kept f same parts (Ok t) c = kept_if_void f same c.regions.rows (committed_core parts c).regions.rows c.phase
-phase_kept f same parts (Err fault) c = refl
 
 by_commit : (parts : CommitValue) (m now : MonitorView) (f : Phase → ℕ) → f Armed ≡ f VoidPhase → now.core ≡ core_after_commit parts m.core → f now.core.phase ≡ f m.core.phase
 by_commit parts m now f same core = ap (λ (c : Core). f c.phase) core ∙ phase_kept f same parts (check_of parts m.core) m.core

@@ -31,7 +31,7 @@ use Rattle.damon_journal.specs.Words.{words_after, words_at}
 use Rattle.damon_journal.specs.Growth.{GrowsByOthers}
 use Rattle.damon_live.specs.Machine.{HasRoom, call_in, passes_made, calls_left, IsBetweenEntries, IsRun, entries_owed, with_one, words_owed}
 use Rattle.std.proofs.lemmas.List.Sums.{sum_by_push}
-use Rattle.damon_live.proofs.Draws.{rest_after}
+use Rattle.sampler.proofs.Lemmas.{drawn_rest-append}
 use Rattle.damon_live.proofs.Stepping.{all_cleared}
 
 -- what the calls of a preparation did to the monitor, the seat and the source of random words
@@ -81,7 +81,7 @@ prepared_run v table m now seat new j next ks g left count pass more grow h p id
       reached = subst Reached state (Reached-run r.state (entry_events v r e) h.reached made.0);
       stands = stands;
       drawn = sum ∙ (ap (λ k. k + n) h.drawn ∙ (ap (λ (c : Core). r.drawn + row_count c) same ∙ sym (ap (λ (x : Replayed). x.drawn) grown.is)));
-      words = p.rest ∙ (ap (drawn_rest n) h.words ∙ (sym (rest_after count n (words_after v.seed 0)) ∙ ap (words_after v.seed) (sym sum)));
+      words = p.rest ∙ (ap (drawn_rest n) h.words ∙ (sym (drawn_rest-append count n (words_after v.seed 0)) ∙ ap (words_after v.seed) (sym sum)));
       place = ap (λ (s : MonitorSeatView). s.table) p.seat_is ∙ h.place;
       pages = ap (λ (c : Core). pages_of c.space) (shows ∙ ap (λ (c : Core). record c { phase = Armed }) p.begin_core) ∙ h.pages;
       steps_are = entries ∙ (ap (λ es. es ++ clear_steps pass p.mid.core.picks) h.steps_are ∙ (ap (λ ps. steps v j ++ clear_steps pass ps) replayed ∙ sym grown.steps_are));

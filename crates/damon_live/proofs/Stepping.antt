@@ -10,6 +10,7 @@ use Rattle.page_words.specs.declared.view.Entry.TheVariants.{Clear, Load}
 use Rattle.page_words.specs.Clears.{clear_of, clear_passes_of, last_clear_of, last_of, pass_of}
 use Rattle.page_words.specs.Seats.{MonitorSeatView}
 use Rattle.damon_journal.specs.Steps.{clear_steps, load_steps}
+use Rattle.damon_types.proofs.Lemmas.{all_at}
 
 -- ---- lists
 
@@ -17,11 +18,6 @@ get_below : (xs : List ℕ) (k x : ℕ) → slice_get xs k ≡ Some x → k < le
 get_below [] k x here = absurd (cc here)
 get_below (y ∷ ys) zero x here = omega arith
 get_below (y ∷ ys) (suc k) x here = omega (arith, get_below ys k x here)
-
-pub all_at : (P : ℕ → Type 0) (xs : List ℕ) (k x : ℕ) → AllByRecursion P xs → slice_get xs k ≡ Some x → P x
-all_at P [] k x all here = absurd (cc here)
-all_at P (y ∷ ys) zero x all here = let e : y ≡ x = cc here in subst P e all.0
-all_at P (y ∷ ys) (suc k) x all here = all_at P ys k x all.1 here
 
 pub index_here : (xs : List ℕ) (k x : ℕ) → slice_get xs k ≡ Some x → slice_index xs k ≡ x
 index_here [] k x here = absurd (cc here)

@@ -21,7 +21,8 @@ offset-next [] i t is = absurd (cc)
 offset-next (u ∷ us) zero t is = let same : u ≡ t = cc in omega (arith, ap (λ (t : Target). t.pages) same, offset-suc u us 0)
 offset-next (u ∷ us) (suc i) t is = omega (arith, offset-suc u us i, offset-suc u us (suc i), offset-next us i t is)
 
-offset-le : (ts : List Target) (i j : ℕ) → i ≤ j → offset ts i ≤ offset ts j
+-- the offsets rise with the number of the target
+pub offset-le : (ts : List Target) (i j : ℕ) → i ≤ j → offset ts i ≤ offset ts j
 offset-le [] zero zero le = omega arith
 offset-le [] zero (suc j) le = omega arith
 offset-le [] (suc i) zero le = omega arith
@@ -30,7 +31,8 @@ offset-le (t ∷ ts) zero j le = omega arith
 offset-le (t ∷ ts) (suc i) zero le = absurd (omega arith)
 offset-le (t ∷ ts) (suc i) (suc j) le = omega (arith, offset-suc t ts i, offset-suc t ts j, offset-le ts i j (omega arith))
 
-place_from_held : (n m : ℕ) (ts : List Target) (i page : ℕ) (t : Target) → m ≡ n + i → slice_get ts i ≡ Some t → offset ts i ≤ page → page < offset ts i + t.pages → place_from n ts page ≡ record { target = m; addr = t.base + 4096 * (page - offset ts i) }
+-- the place of a page of a target, where the first target has number n
+pub place_from_held : (n m : ℕ) (ts : List Target) (i page : ℕ) (t : Target) → m ≡ n + i → slice_get ts i ≡ Some t → offset ts i ≤ page → page < offset ts i + t.pages → place_from n ts page ≡ record { target = m; addr = t.base + 4096 * (page - offset ts i) }
 place_from_held n m [] i page t sum is from to = absurd (cc)
 place_from_held n m (u ∷ us) zero page t sum is from to =
     let same : u ≡ t = cc in

@@ -3,13 +3,9 @@ use Rattle.std.proofs.Common.{◌≡◌, ◌≢◌, inl, inr, ℕ, zero, suc, �
 use Rattle.std.specs.Prelude.{nat_lt, slice_index}
 use Rattle.std.proofs.lemmas.Bool.{cases_eq}
 use Rattle.std.proofs.lemmas.Bool.Decides.{nat_tests}
-use Rattle.rand_core.specs.Steps.{steps_u32, stream_of}
 use Rattle.rand_core.specs.Stream.{Stream, next_u32}
-use Rattle.rand_core.proofs.StepsLemmas.{next_u32-stream_of}
-use Rattle.rand_pcg.specs.Lcg.{Lcg, advance, next}
-use Rattle.rand_pcg.specs.Pcg.{multiplier_64, pcg32}
-use Rattle.rand_pcg.proofs.LcgLemmas.{advance_more, advance_zero}
 use Rattle.sampler.specs.Draws.{drawn, drawn_rest}
+use Rattle.sampler.proofs.Lemmas.{drawn_rest-append}
 use Rattle.damon_world.specs.Drawing.{AreDrawn, word_at}
 
 -- words of which each is the one at its place
@@ -22,13 +18,6 @@ all_drawn s (w ∷ words) (suc n) len each =
     let first : w ≡ (next_u32 s).0 = each 0 (omega arith) (omega arith) in
     ap (λ x. x ∷ words) first ∙ ap (λ ws. (next_u32 s).0 ∷ ws) rest
 
--- what is left after some words, and then others
-pub rest_after : (n m : ℕ) (s : Stream) → drawn_rest m (drawn_rest n s) ≡ drawn_rest (n + m) s
-rest_after zero m s = let none : 0 + m ≡ m = omega arith in sym (ap (λ k. drawn_rest k s) none)
-rest_after (suc n) m s =
-    let one : suc n + m ≡ suc (n + m) = omega arith in
-    rest_after n m (next_u32 s).1 ∙ sym (ap (λ k. drawn_rest k s) one)
-
 -- the same place, written otherwise
 pub rest_at : (s : Stream) (n m : ℕ) → n ≡ m → drawn_rest n s ≡ drawn_rest m s
 rest_at s n m is = ap (λ k. drawn_rest k s) is
@@ -39,7 +28,7 @@ word_next w s here there p at next = ap (λ (x : ℕ × Stream). x.0) next ∙ a
 
 pub rest_next : (w : ℕ) (s here there : Stream) (p : ℕ) → here ≡ drawn_rest p s → (w, there) ≡ next_u32 here → there ≡ drawn_rest (p + 1) s
 rest_next w s here there p at next =
-    ap (λ (x : ℕ × Stream). x.1) next ∙ ap (λ t. (next_u32 t).1) at ∙ rest_after p 1 s
+    ap (λ (x : ℕ × Stream). x.1) next ∙ ap (λ t. (next_u32 t).1) at ∙ sym (drawn_rest-append p 1 s)
 
 -- one word more is at its place
 pub drawn_more : (s : Stream) (words : List ℕ) (from to w : ℕ) → to < length words → w ≡ word_at s to → AreDrawn s words from to → AreDrawn s (set words to w) from (to + 1)
@@ -56,20 +45,6 @@ drawn_apart s words from to at w apart each p after before =
     let beside : p ≢ at = elim apart [ inl low ↦ λ is. absurd (omega arith) | inr high ↦ λ is. absurd (omega arith) ] in
     let kept : slice_index (set words at w) p ≡ slice_index words p = rw get_or-set_other refl in
     kept ∙ each p after before
-
--- the random words of a generator
-abbrev pub words_from : Lcg → Stream
-words_from g = stream_of (steps_u32 pcg32) g
-
--- the words after a jump are those after as many words
-pub words_jumped : (n : ℕ) (g : Lcg) → words_from (advance 64 multiplier_64 n g) ≡ drawn_rest n (words_from g)
-words_jumped zero g = ap words_from (advance_zero 64 multiplier_64 g)
-words_jumped (suc n) g =
-    let one : suc n ≡ n + 1 = omega arith in
-    ap (λ k. words_from (advance 64 multiplier_64 k g)) one
-    ∙ (ap words_from (sym (advance_more 64 multiplier_64 n g))
-    ∙ (words_jumped n (next 64 multiplier_64 g)
-    ∙ sym (ap (λ (x : ℕ × Stream). drawn_rest n x.1) (next_u32-stream_of (steps_u32 pcg32) g))))
 
 -- words that are drawn up to a place, and from there on
 pub drawn_joined : (s : Stream) (words : List ℕ) (from between to : ℕ) → AreDrawn s words from between → AreDrawn s words between to → AreDrawn s words from to

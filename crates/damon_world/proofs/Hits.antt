@@ -18,7 +18,7 @@ by_hit-choice : (b : Bool) (s : State) → ByHit s (cond b observe (load (next_h
 by_hit-choice true s = tt
 by_hit-choice false s = refl
 
-by_hit-in : (ph : Phase) (s : State) (t : Stream) → ByHit s (event_in ph s t)
+pub by_hit-in : (ph : Phase) (s : State) (t : Stream) → ByHit s (event_in ph s t)
 by_hit-in Idle s t = tt
 by_hit-in (Clearing k) s t = tt
 by_hit-in Armed s t = refl

@@ -6,3 +6,4 @@ pub mod Committing
 pub mod Advancing
 pub mod Passing
 pub mod Hits
+pub mod Lemmas

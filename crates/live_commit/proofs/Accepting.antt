@@ -17,6 +17,7 @@ use Rattle.damon_types.specs.declared.scheme.TheConstants.{MAX_SLOT}
 use Rattle.damon_types.specs.declared.space.Target.{Target}
 use Rattle.damon_types.specs.Attrs.{IsAttrs, checked_attrs}
 use Rattle.damon_types.specs.Scheme.{checked_in, checked_scheme, checked_time}
+use Rattle.damon_types.proofs.Lemmas.{both_ok, fault_as_ok}
 use Rattle.target_ranges.specs.declared.fault.RangeFault.{RangeFault}
 use Rattle.target_ranges.specs.Checked.{checked_ranges}
 use Rattle.live_commit.specs.declared.fault.SetupFault.TheVariants.{BadScheme as BadSlot, RepeatedSlot}
@@ -30,13 +31,7 @@ use Rattle.live_commit.specs.Accepts.{checked_commit, checked_cost, checked_new_
 use Rattle.live_commit.specs.Commit.{CommitValue}
 use Rattle.live_commit.specs.Setup.{SetupValue, IsSetup}
 use Rattle.live_commit.specs.Slots.{checked_after, checked_set, checked_slot, is_set}
-use Rattle.live_commit.proofs.Changes.{both_ok}
 use Rattle.live_commit.proofs.Limits.{attrs_kept}
-
--- a check that gives the commit no fault succeeded
-fault_as_ok : {E : Type 0} (fault : E → CommitFault) (r : Result (Unit {0}) E) → fault_as fault r ≡ Ok tt → r ≡ Ok tt
-fault_as_ok fault (Ok t) ok = refl
-fault_as_ok fault (Err why) ok = absurd (cc)
 
 phase_allows : (phase : Phase) (rows : ℕ) → checked_phase phase rows ≡ Ok tt → AllowsCommit phase
 phase_allows Idle rows ok = tt

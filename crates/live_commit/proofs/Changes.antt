@@ -10,17 +10,9 @@ use Rattle.damon_types.specs.declared.scheme.SchemeFault.{SchemeFault}
 use Rattle.damon_types.specs.declared.scheme.Version.{Version}
 use Rattle.damon_types.specs.declared.scheme.SlotChange.{SlotChange}
 use Rattle.damon_types.specs.Scheme.{checked_in}
+use Rattle.damon_types.proofs.Lemmas.{and_ok, both_ok}
 use Rattle.live_commit.specs.declared.fault.SetupFault.TheVariants.{BadScheme, RepeatedSlot}
 use Rattle.live_commit.specs.Slots.{checked_after, checked_set, checked_slot, checked_slots, has_scheme, kept_slots, is_set}
-
--- two checks that succeed
-pub both_ok : {E : Type 0} (r s : Result (Unit {0}) E) → result_and r s ≡ Ok tt → (r ≡ Ok tt) × (s ≡ Ok tt)
-both_ok (Ok t) s ok = (refl, ok)
-both_ok (Err e) s ok = absurd (cc)
-
-and_ok : {E : Type 0} (r : Result (Unit {0}) E) → result_and r (Ok tt) ≡ r
-and_ok (Ok t) = refl
-and_ok (Err e) = refl
 
 -- a change that is accepted is accepted at any index
 free_at : (i j : ℕ) (set : Bool) (checked : Result (Unit {0}) SchemeFault) → result_and (fault_as (BadScheme i) checked) (if set then Err (RepeatedSlot i) else Ok (tt {0})) ≡ Ok tt → result_and (fault_as (BadScheme j) checked) (if set then Err (RepeatedSlot j) else Ok (tt {0})) ≡ Ok tt

@@ -11,12 +11,12 @@ use Rattle.damon_types.specs.declared.attrs.AttrsFault.{AttrsFault}
 use Rattle.damon_types.specs.declared.scheme.Version.{Version}
 use Rattle.damon_types.specs.declared.scheme.SlotChange.{SlotChange}
 use Rattle.damon_types.specs.Attrs.{IsAttrs, checked_attrs}
+use Rattle.damon_types.proofs.Lemmas.{both_ok, fault_as_ok}
 use Rattle.target_ranges.specs.declared.fault.RangeFault.{RangeFault}
 use Rattle.live_commit.specs.declared.fault.SetupFault.TheVariants.{BadAttrs, BadRange, OverCap}
 use Rattle.live_commit.specs.Slots.{checked_slots}
 use Rattle.target_ranges.specs.Checked.{checked_ranges}
 use Rattle.live_commit.specs.Checked.{checked_cap, checked_count, checked_limits, checked_setup, checked_unit, checked_watched}
-use Rattle.live_commit.proofs.Changes.{both_ok}
 
 unit_kept : (unit : ℕ) → checked_unit unit ≡ Ok tt → (1 ≤ unit) × (unit ≤ 1048576)
 unit_kept unit ok = (grind (arith, nat_tests), grind (arith, nat_tests))
@@ -30,10 +30,6 @@ max_kept max cap ok = grind (arith, nat_tests)
 count_kept : (ranges max : ℕ) → checked_count ranges max ≡ Ok tt → ranges ≤ max
 count_kept ranges max ok = grind (arith, nat_tests)
 
-attrs_checked : (r : Result (Unit {0}) AttrsFault) → (fault_as BadAttrs r) ≡ Ok tt → r ≡ Ok tt
-attrs_checked (Ok t) ok = refl
-attrs_checked (Err why) ok = absurd (cc)
-
 pub attrs_kept : (a : Attrs) → checked_attrs a ≡ Ok tt → IsAttrs a
 attrs_kept a ok = record {
   min = grind (arith, nat_tests);
@@ -42,10 +38,6 @@ attrs_kept a ok = record {
   aggr_most = grind (arith, nat_tests);
 }
 
-ranges_checked : (r : Result (Unit {0}) RangeFault) → (fault_as (λ (f : RangeFault). BadRange f.index f.why) r) ≡ Ok tt → r ≡ Ok tt
-ranges_checked (Ok t) ok = refl
-ranges_checked (Err fault) ok = absurd (cc)
-
 -- the limits of the numbers
 pub record AreLimits (unit cap : ℕ) (a : Attrs) : Type 0 where
   pub unit_some : 1 ≤ unit
@@ -53,6 +45,7 @@ pub record AreLimits (unit cap : ℕ) (a : Attrs) : Type 0 where
   pub cap_some : 3 ≤ cap
   pub cap_most : cap ≤ 4096
   pub attrs : IsAttrs a
+  pub checked : checked_attrs a ≡ Ok tt
   pub max_cap : a.max ≤ cap
 
 pub limits_kept : (unit cap : ℕ) (a : Attrs) → checked_limits unit cap a ≡ Ok tt → AreLimits unit cap a
@@ -62,12 +55,14 @@ limits_kept unit cap a ok =
     let third = both_ok (fault_as BadAttrs (checked_attrs a)) (if nat_lt cap a.max then Err (OverCap a.max cap) else Ok tt) second.1 in
     let units = unit_kept unit first.0 in
     let caps = cap_kept cap second.0 in
+    let attrs = fault_as_ok BadAttrs (checked_attrs a) third.0 in
     record {
       unit_some = units.0;
       unit_most = units.1;
       cap_some = caps.0;
       cap_most = caps.1;
-      attrs = attrs_kept a (attrs_checked (checked_attrs a) third.0);
+      attrs = attrs_kept a attrs;
+      checked = attrs;
       max_cap = max_kept a.max cap third.1;
     }
 
@@ -77,7 +72,7 @@ watched_kept space unit cap max specs ok =
     let some : 1 ≤ length specs = grind (arith, nat_tests) in
     let rest : result_and (fault_as (λ (f : RangeFault). BadRange f.index f.why) (checked_ranges space unit cap specs)) (checked_count (length specs) max) ≡ Ok tt = grind (arith, nat_tests) in
     let both = both_ok (fault_as (λ (f : RangeFault). BadRange f.index f.why) (checked_ranges space unit cap specs)) (checked_count (length specs) max) rest in
-    (some, count_kept (length specs) max both.1, ranges_checked (checked_ranges space unit cap specs) both.0)
+    (some, count_kept (length specs) max both.1, fault_as_ok (λ (f : RangeFault). BadRange f.index f.why) (checked_ranges space unit cap specs) both.0)
 
 -- the three checks of a setup
 pub record AreChecked (version : Version) (space : List Target) (unit cap : ℕ) (a : Attrs) (specs : List RangeSpec) (slots : List SlotChange) : Type 0 where

@@ -1,8 +1,9 @@
-pub mod Counting
-pub mod Ones
-pub mod One
-pub mod Digits
-pub mod Masking
-pub mod PutMore
-pub mod Setting
+mod Counting
+mod Ones
+mod One
+mod Digits
+mod Masking
+mod PutMore
+mod Setting
+pub mod Lemmas
 mod Examples

@@ -4,6 +4,7 @@ use Rattle.std.specs.List.{AllByRecursion}
 use Rattle.damon_types.specs.declared.range.Range.{Range}
 use Rattle.damon_types.specs.declared.row.Row.{Row}
 use Rattle.damon_types.specs.Ranges.{end_of}
+use Rattle.damon_types.proofs.Lemmas.{all_append}
 use Rattle.range_update.specs.Updated.{covering_row, covers, piece_of, piece, boundaries, kept, pieces, range_pieces, all_pieces}
 
 -- the count of a row is at most n
@@ -21,10 +22,6 @@ piece_few n t from to (r ∷ rows) all = by_row n t from to (covers from r) r (c
 pieces_few : (n t end from : ℕ) (rows : List Row) (ks : List ℕ) → AllByRecursion (IsFew n) rows → AllByRecursion (IsFew n) (pieces rows t end from ks)
 pieces_few n t end from rows [] all = (piece_few n t from end rows all, tt)
 pieces_few n t end from rows (k ∷ ks) all = (piece_few n t from k rows all, pieces_few n t end k rows ks all)
-
-all_append : (P : Row → Type 0) (xs ys : List Row) → AllByRecursion P xs → AllByRecursion P ys → AllByRecursion P (xs ++ ys)
-all_append P [] ys all more = more
-all_append P (x ∷ xs) ys all more = (all.0, all_append P xs ys all.1 more)
 
 -- the counts of all pieces
 pub all_pieces_few : (n unit : ℕ) (rows : List Row) (gs : List Range) → AllByRecursion (IsFew n) rows → AllByRecursion (IsFew n) (all_pieces unit rows gs)

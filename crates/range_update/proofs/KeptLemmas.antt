@@ -7,6 +7,7 @@ use Rattle.std.proofs.lemmas.Bool.Decides.{nat_tests}
 use Rattle.damon_types.specs.declared.range.Range.{Range}
 use Rattle.damon_types.specs.declared.row.Row.{Row}
 use Rattle.damon_types.specs.Ranges.{end_of}
+use Rattle.damon_types.proofs.Lemmas.{and_false}
 use Rattle.range_update.specs.Order.{row_end, RowsInOrder}
 use Rattle.range_update.specs.Updated.{boundaries, may_keep, kept, pieces, all_pieces}
 use Rattle.range_update.specs.Kept.{is_in, is_boundary, greatest_below, AscendingFrom, IsKept, ArePieces}
@@ -23,10 +24,6 @@ boundaries_sorted p (r ∷ rows) order = (order.0, (omega arith, boundaries_sort
 or_assoc : (a b c : Bool) → (a || (b || c)) ≡ ((a || b) || c)
 or_assoc true b c = refl
 or_assoc false b c = refl
-
-and_false : (a : Bool) → (a && false) ≡ false
-and_false true = refl
-and_false false = refl
 
 one_boundary : (x : ℕ) (rows : List Row) → is_in x (boundaries rows) ≡ list_any (λ r. (r.start == x) || (row_end r == x)) rows
 one_boundary x [] = refl

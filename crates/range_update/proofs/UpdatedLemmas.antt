@@ -9,7 +9,7 @@ use Rattle.damon_types.specs.Span.{span_of, spans}
 use Rattle.region_list.specs.Tiling.{Tiling}
 use Rattle.region_list.proofs.Lemmas.{counts_shrunk, length_shrunk, tiling_shrunk}
 use Rattle.range_update.specs.Updated.{all_pieces, updated}
-use Rattle.range_update.proofs.RangeLemmas.{tiling_weaker, tiling_some}
+use Rattle.region_list.proofs.Lemmas.{tiling_some, tiling_weaker}
 use Rattle.range_update.proofs.CountLemmas.{all_pieces_few}
 use Rattle.range_update.proofs.SizeLemmas.{all_pieces_tiling}
 

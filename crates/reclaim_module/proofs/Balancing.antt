@@ -19,13 +19,14 @@ use Rattle.damon_core.specs.Note.{Note, touched, cleared, checked, finished, voi
 use Rattle.damon_core.specs.Serve.{Serving, nothing_served, run_served, serve_scheme, serve_slot, serve_slots, with_turn}
 use Rattle.damon_core.specs.Slots.{charged_of, cost_of, is_active_in, scheme_of, slot_count, start_of}
 use Rattle.damon_core.specs.State.{State}
+use Rattle.page_bits.proofs.Lemmas.{count_adds, count_none, count_run_le}
 use Rattle.reclaim_module.specs.Calls.{after_action}
 use Rattle.reclaim_module.specs.Counts.{pageouts_of, prefetches_of, refaults_of}
 use Rattle.reclaim_module.specs.Out.{is_in, is_out, is_paged_out, is_pageout, is_prefetched, is_touch_of, is_willneed, holds_pageout, holds_willneed}
 use Rattle.page_bits.specs.Runs.{count_pages, in_run}
 use Rattle.reclaim_module.specs.Pages.{ReclaimView, is_out_in}
 use Rattle.reclaim_module.specs.Stands.{TouchesWithin, action_in, after_applied}
-use Rattle.reclaim_module.proofs.Counting.{count_adds, count_all, count_evens, count_none, count_run_le}
+use Rattle.reclaim_module.proofs.Counting.{count_all, count_evens}
 use Rattle.reclaim_module.proofs.Moving.{count_le, one_counts, one_page}
 use Rattle.reclaim_module.proofs.Standing.{touched_other, touched_same}
 

@@ -9,6 +9,7 @@ use Rattle.damon_types.specs.declared.scheme.TheConstants.{MAX_SLOT}
 use Rattle.damon_types.specs.declared.space.Target.{Target}
 use Rattle.damon_types.specs.Space.{pages_of}
 use Rattle.damon_types.specs.Span.{spans}
+use Rattle.damon_types.proofs.Lemmas.{all_append, all_weaker}
 use Rattle.region_list.specs.Regions.{RegionList}
 use Rattle.quota_charge.specs.Quota.{left_of, has_ended}
 use Rattle.scheme_engine.specs.declared.applied.AppliedRun.{AppliedRun}
@@ -19,6 +20,8 @@ use Rattle.damon_core.specs.Note.{Note, turned, ran}
 use Rattle.damon_core.specs.Serve.{Serving, nothing_served, run_served, serve_scheme, serve_slot, serve_slots, with_turn}
 use Rattle.damon_core.specs.Slots.{charged_of, cost_of, is_active_in, scheme_of, slot_count, start_of}
 use Rattle.damon_core.specs.State.{State}
+use Rattle.damon_core.proofs.Lemmas.{slots_same}
+use Rattle.page_bits.proofs.Lemmas.{count_none, count_same}
 use Rattle.reclaim_module.specs.Counts.{pageouts_of}
 use Rattle.reclaim_module.specs.Out.{holds_pageout, holds_willneed, is_in, is_out}
 use Rattle.page_bits.specs.Runs.{count_pages}
@@ -26,9 +29,8 @@ use Rattle.reclaim_module.specs.Pages.{ReclaimView, out_count}
 use Rattle.reclaim_module.specs.SlotBySlot.{PagesOutResident, PagesOutSlotBySlot, SlotsPageOut}
 use Rattle.reclaim_module.specs.Stands.{ReclaimStands}
 use Rattle.reclaim_module.proofs.Balancing.{one_held, sixteen}
-use Rattle.reclaim_module.proofs.Counting.{count_none, count_same}
 use Rattle.reclaim_module.proofs.Moving.{out_count_is, resident_count_is}
-use Rattle.reclaim_module.proofs.Serving.{AreOf, all_append, of_slot, slot_same}
+use Rattle.reclaim_module.proofs.Serving.{AreOf, of_slot}
 use Rattle.reclaim_module.proofs.Standing.{still_by, still_out, still_pageouts}
 
 -- Notes that tell the same of the pages that are out, of how many went out, and of the schemes.
@@ -148,21 +150,8 @@ slots_resident (suc n) slot space aggr tick regions notes =
 pub page_out_slot_by_slot : (s : State) → PagesOutSlotBySlot s
 page_out_slot_by_slot s = slots_resident slot_count 0 s.core.space s.core.attrs.aggr s.core.ticks (merged_regions s.core) s.notes
 
--- the schemes stay
-slots_same : (n slot : ℕ) (space : List Target) (aggr tick : ℕ) (regions : RegionList) (notes : List Note) (i : ℕ) → scheme_of (serve_slots n slot space aggr tick regions notes).notes i ≡ scheme_of notes i
-slots_same zero slot space aggr tick regions notes i = refl
-slots_same (suc n) slot space aggr tick regions notes i =
-    let first = serve_slot slot space aggr tick regions notes in
-    slots_same n (slot + 1) space aggr tick (record regions { rows = first.rows }) first.notes i
-    ∙ slot_same slot space aggr tick regions notes i
-
 pub schemes_stay : (words : List ℕ) (s : State) (slot : ℕ) → scheme_of (aggregated words s).notes slot ≡ scheme_of s.notes slot
 schemes_stay words s slot = slots_same slot_count 0 s.core.space s.core.attrs.aggr s.core.ticks (merged_regions s.core) s.notes slot
-
--- the runs are of the slots that are served
-all_weaker : (P Q : AppliedRun → Type 0) → ((run : AppliedRun) → P run → Q run) → (runs : List AppliedRun) → AllByRecursion P runs → AllByRecursion Q runs
-all_weaker P Q weaker [] all = tt
-all_weaker P Q weaker (run ∷ runs) all = (weaker run all.0, all_weaker P Q weaker runs all.1)
 
 slot_runs : (slot : ℕ) (space : List Target) (aggr tick : ℕ) (regions : RegionList) (notes : List Note) → AreOf slot (serve_slot slot space aggr tick regions notes).runs
 slot_runs slot space aggr tick regions notes =

@@ -1,5 +1,4 @@
 mod Counting
-mod Runs
 mod Moving
 mod Standing
 mod Serving

@@ -8,9 +8,9 @@ use Rattle.std.proofs.lemmas.List.FromFn.{fill_by_all}
 use Rattle.std.proofs.lemmas.List.Sums.{sum_by-cons, sum_by-set}
 use Rattle.page_bits.specs.Runs.{count_pages, in_run}
 use Rattle.page_bits.specs.Sets.{each_page, with_run}
+use Rattle.page_bits.proofs.Lemmas.{before_run, behind_run, count_adds, count_more, count_none, count_same}
 use Rattle.reclaim_module.specs.Pages.{is_out_in, out_count}
-use Rattle.reclaim_module.proofs.Counting.{at_page, count_adds, count_more, count_none, count_same, length_pages}
-use Rattle.reclaim_module.proofs.Runs.{before_run, behind_run}
+use Rattle.reclaim_module.proofs.Counting.{at_page, length_pages}
 
 -- a list by what it says of each page
 pub each_page_is : (f : ℕ → Bool) (xs : List Bool) (n : ℕ) → length xs ≡ n → ((p : ℕ) → p < n → is_out_in xs p ≡ f p) → xs ≡ each_page n f

@@ -25,10 +25,10 @@ use Rattle.damon_core.specs.Reached.{AllFit, Reached, run}
 use Rattle.damon_core.specs.Serve.{Serving, nothing_served, run_served, serve_scheme, serve_slot, serve_slots, with_turn}
 use Rattle.damon_core.specs.Slots.{charged_of, cost_of, is_active_in, scheme_of, slot_count, start_of}
 use Rattle.damon_core.specs.State.{Core, State, opening, opening_notes, row_count}
+use Rattle.page_bits.proofs.Lemmas.{count_none}
 use Rattle.reclaim_module.specs.Counts.{pageouts_of}
 use Rattle.reclaim_module.specs.Stands.{IsTouchWithin, LeavesPages, MovesNothing, TouchesWithin}
 use Rattle.reclaim_module.proofs.Balancing.{aggregated_few}
-use Rattle.reclaim_module.proofs.Counting.{count_none}
 use Rattle.reclaim_module.proofs.Serving.{opening_is_still, other_keeps}
 use Rattle.reclaim_module.proofs.Standing.{still_by, still_pageouts}
 

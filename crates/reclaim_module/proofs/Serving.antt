@@ -13,6 +13,7 @@ use Rattle.std.proofs.lemmas.List.{take_more}
 use Rattle.damon_types.specs.declared.space.Target.{Target}
 use Rattle.damon_types.specs.Space.{pages_of}
 use Rattle.damon_types.specs.Span.{Span, spans}
+use Rattle.damon_types.proofs.Lemmas.{all_append}
 use Rattle.region_list.specs.Regions.{RegionList}
 use Rattle.priority.specs.declared.candidates.Candidate.{Candidate}
 use Rattle.scheme_filter.specs.declared.runs.Run.{Run}
@@ -34,6 +35,7 @@ use Rattle.damon_core.specs.Note.{Note, cleared, checked, finished, voided, set 
 use Rattle.damon_core.specs.Serve.{Serving, nothing_served, run_served, serve_scheme, serve_slot, serve_slots, with_turn}
 use Rattle.damon_core.specs.Slots.{charged_of, cost_of, is_active_in, scheme_of, slot_count, start_of}
 use Rattle.damon_core.specs.State.{State, opening_notes, set_note as note_of_change}
+use Rattle.damon_core.proofs.Lemmas.{slot_same, turn_same}
 use Rattle.reclaim_module.specs.Calls.{after_action}
 use Rattle.reclaim_module.specs.Pages.{ReclaimView}
 use Rattle.reclaim_module.specs.Stands.{LeavesPages, MovesNothing, ReclaimStands, action_in, after_applied, after_event, after_runs}
@@ -59,10 +61,6 @@ pub applied_next : (notes : List Note) (runs : List AppliedRun) (i : ℕ) (none 
 applied_next notes runs i none r here =
     ap (λ all. after_applied notes all r) (take_more runs i none here)
     ∙ applied-append notes (take i runs) (get_or runs i none ∷ []) r
-
-pub all_append : {X : Type 0} (P : X → Type 0) (xs ys : List X) → AllByRecursion P xs → AllByRecursion P ys → AllByRecursion P (xs ++ ys)
-all_append P [] ys all more = more
-all_append P (x ∷ xs) ys all more = (all.0, all_append P xs ys all.1 more)
 
 all_reverse : {X : Type 0} (P : X → Type 0) (xs : List X) → AllByRecursion P xs → AllByRecursion P (reverse xs)
 all_reverse P [] all = tt
@@ -106,12 +104,6 @@ module _ (slot tick : ℕ) (quota : Option Quota) (notes : List Note) where
     | false ↦ s
   ]
 
-  turn_same : (i : ℕ) → scheme_of (with_turn slot tick quota notes) i ≡ scheme_of notes i
-  turn_same i = elim (option_map_or (λ (q : Quota). has_ended q (start_of notes slot) tick) quota false) as (λ b. scheme_of (if b then turned slot tick ∷ notes else notes) i ≡ scheme_of notes i) [
-    | true ↦ refl
-    | false ↦ refl
-  ]
-
 -- one slot
 module _ (slot : ℕ) (space : List Target) (aggr tick : ℕ) (regions : RegionList) (notes : List Note) where
   scheme_stands : (scheme : Scheme) (r : ReclaimView) → scheme_of notes slot ≡ Some scheme → ReclaimStands r notes → ReclaimStands (after_applied notes (serve_scheme slot space aggr tick regions notes scheme).runs r) (serve_scheme slot space aggr tick regions notes scheme).notes
@@ -130,17 +122,6 @@ module _ (slot : ℕ) (space : List Target) (aggr tick : ℕ) (regions : RegionL
         | false ↦ turned_to
       ]
 
-  scheme_same : (scheme : Scheme) (i : ℕ) → scheme_of (serve_scheme slot space aggr tick regions notes scheme).notes i ≡ scheme_of notes i
-  scheme_same scheme i =
-      let now = with_turn slot tick scheme.quota notes in
-      let left = left_of scheme.quota (cost_of now slot) (charged_of now slot) in
-      let o = outcome_of slot space aggr scheme left regions in
-      let idle : Serving = record { rows = regions.rows; notes = now; runs = []; choices = no_choice slot ∷ [] } in
-      elim (is_active_in now slot scheme) as (λ b. scheme_of (if b then run_served slot tick left now o else idle).notes i ≡ scheme_of notes i) [
-        | true ↦ turn_same slot tick scheme.quota notes i
-        | false ↦ turn_same slot tick scheme.quota notes i
-      ]
-
   slot_stands : (r : ReclaimView) → ReclaimStands r notes → ReclaimStands (after_applied notes (serve_slot slot space aggr tick regions notes).runs r) (serve_slot slot space aggr tick regions notes).notes
   slot_stands r s =
       let by : Option Scheme → Serving = λ held. option_map_or (serve_scheme slot space aggr tick regions notes) held (nothing_served regions notes) in
@@ -148,14 +129,6 @@ module _ (slot : ℕ) (space : List Target) (aggr tick : ℕ) (regions : RegionL
         | None ↦ λ none. s
         | Some scheme ↦ λ held. scheme_stands scheme r held s
       ] refl
-
-  pub slot_same : (i : ℕ) → scheme_of (serve_slot slot space aggr tick regions notes).notes i ≡ scheme_of notes i
-  slot_same i =
-      let by : Option Scheme → Serving = λ held. option_map_or (serve_scheme slot space aggr tick regions notes) held (nothing_served regions notes) in
-      elim (scheme_of notes slot) as (λ held. scheme_of (by held).notes i ≡ scheme_of notes i) [
-        | None ↦ refl
-        | Some scheme ↦ scheme_same scheme i
-      ]
 
 -- all slots
 slots_stand : (n slot : ℕ) (space : List Target) (aggr tick : ℕ) (regions : RegionList) (notes : List Note) (r : ReclaimView) → ReclaimStands r notes → ReclaimStands (after_applied notes (serve_slots n slot space aggr tick regions notes).runs r) (serve_slots n slot space aggr tick regions notes).notes

@@ -9,9 +9,11 @@ use Rattle.std.proofs.lemmas.List.Folds.{list_any-append}
 use Rattle.damon_types.specs.declared.scheme.Action.{Action}
 use Rattle.damon_types.specs.declared.scheme.Action.TheVariants.{Stat, Willneed, Cold, Pageout, Hugepage, Nohugepage, LruPrio, LruDeprio}
 use Rattle.damon_types.specs.declared.scheme.Scheme.{Scheme}
+use Rattle.damon_types.proofs.Lemmas.{and_false, or_false}
 use Rattle.scheme_engine.specs.declared.applied.AppliedRun.{AppliedRun}
 use Rattle.damon_core.specs.Note.{Note, touched, cleared, checked, finished, voided, set as set_note, dropped, metric, turned, ran, cost}
 use Rattle.damon_core.specs.Slots.{scheme_of}
+use Rattle.page_bits.proofs.Lemmas.{count_adds, count_none, count_same}
 use Rattle.reclaim_module.specs.Calls.{after_action, after_touch, all_resident, paged_out, prefetched}
 use Rattle.reclaim_module.specs.Counts.{pageouts_of, prefetches_of, refaults_of}
 use Rattle.reclaim_module.specs.Out.{is_in, is_out, is_paged_out, is_pageout, is_prefetched, is_touch_of, is_willneed, holds_pageout, holds_willneed}
@@ -19,20 +21,12 @@ use Rattle.page_bits.specs.Runs.{in_run}
 use Rattle.reclaim_module.specs.Pages.{ReclaimView, is_out_in}
 use Rattle.page_bits.specs.Sets.{each_page, with_run}
 use Rattle.reclaim_module.specs.Stands.{MovesNothing, ReclaimStands, after_runs}
-use Rattle.reclaim_module.proofs.Counting.{at_page, count_adds, count_none, count_same}
+use Rattle.reclaim_module.proofs.Counting.{at_page}
 use Rattle.reclaim_module.proofs.Moving.{each_page_is, each_page_same, length_with_run}
-
-or_false : (b : Bool) → (b || false) ≡ b
-or_false true = refl
-or_false false = refl
 
 and_true : (b : Bool) → (b && true) ≡ b
 and_true true = refl
 and_true false = refl
-
-and_false : (b : Bool) → (b && false) ≡ false
-and_false true = refl
-and_false false = refl
 
 -- a model of n pages stands for notes
 stands_by : (n : ℕ) (r : ReclaimView) (notes : List Note) → length r.out ≡ n → r.out ≡ each_page n (is_out notes) → r.counts.pageouts ≡ pageouts_of n notes → r.counts.refaults ≡ refaults_of notes → r.counts.prefetches ≡ prefetches_of n notes → ReclaimStands r notes

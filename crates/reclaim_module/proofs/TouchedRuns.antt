@@ -3,12 +3,12 @@ use Rattle.std.proofs.Common.{◌≡◌, ℕ, ◌+◌, ◌<◌, ◌≤◌, Bool,
 use Rattle.std.specs.Prelude.{◌||◌, nat_lt, slice_set, if◌then◌else◌}
 use Rattle.std.proofs.lemmas.Bool.{false≢true}
 use Rattle.std.proofs.lemmas.Bool.Decides.{nat_tests}
+use Rattle.page_bits.proofs.Lemmas.{before_run, behind_run, both_bits, count_adds, count_none, run_joins}
 use Rattle.reclaim_module.specs.Calls.{after_touch, touched_run}
 use Rattle.page_bits.specs.Runs.{count_pages, in_run}
 use Rattle.page_bits.specs.Sets.{each_page, with_run}
 use Rattle.reclaim_module.specs.Pages.{ReclaimView, is_out_in}
-use Rattle.reclaim_module.proofs.Counting.{at_page, count_adds, count_none}
-use Rattle.reclaim_module.proofs.Runs.{before_run, behind_run, both_bits, run_joins}
+use Rattle.reclaim_module.proofs.Counting.{at_page}
 use Rattle.reclaim_module.proofs.Moving.{each_page_again, each_page_same, length_with_run, one_comes_back, one_counts}
 
 -- a model by its parts

@@ -7,6 +7,7 @@ use Rattle.damon_types.specs.declared.attrs.Attrs.{Attrs}
 use Rattle.damon_types.specs.declared.range.RangeSpec.{RangeSpec}
 use Rattle.damon_types.specs.declared.scheme.CostPart.{CostPart}
 use Rattle.damon_types.specs.declared.scheme.SlotChange.{SlotChange}
+use Rattle.damon_types.proofs.Lemmas.{both_ok}
 use Rattle.target_ranges.specs.Made.{range_of}
 use Rattle.live_commit.specs.declared.fault.CommitFault.{CommitFault}
 use Rattle.live_commit.specs.declared.phase.Phase.{Phase}
@@ -18,6 +19,7 @@ use Rattle.damon_core.specs.Commit.{check_of, committed, committed_core, if_acce
 use Rattle.damon_core.specs.Event.{Event, touch, prepare, clear, load, observe, aggregate, commit, show}
 use Rattle.damon_core.specs.Reached.{run}
 use Rattle.damon_core.specs.State.{Core, State, opening, row_count}
+use Rattle.damon_core.proofs.Lemmas.{few_after}
 use Rattle.damon_control.specs.Script.{ScriptValue}
 use Rattle.damon_control.specs.Sound.{IsSound}
 use Rattle.script_run.specs.Course.{going_with, onward-state, with_puts}
@@ -26,11 +28,6 @@ use Rattle.script_run.specs.PutIn.{AllAccepted, PutsAreAccepted}
 use Rattle.script_run.specs.RunWith.{start_with}
 use Rattle.reclaim_run.specs.Reclaimed.{figures_in, metric_commit, pages_in, reclaim_callbacks, share_after, thousandths}
 
--- two checks that succeed
-both_ok : {E : Type 0} (r s : Result (Unit {0}) E) → result_and r s ≡ Ok tt → (r ≡ Ok tt) × (s ≡ Ok tt)
-both_ok (Ok t) s ok = (refl, ok)
-both_ok (Err e) s ok = absurd cc
-
 -- ---- there are no more ranges than regions allowed
 
 abbrev RangesAreFew : State → Type 0
@@ -38,15 +35,6 @@ RangesAreFew s = length s.core.regions.ranges ≤ s.core.attrs.max
 
 number_fits : (ranges max : ℕ) → checked_number ranges max ≡ Ok tt → ranges ≤ max
 number_fits ranges max ok = grind (arith, nat_tests)
-
-few_after : (c : Core) (attrs : Option Attrs) (ranges : Option (List RangeSpec)) (slot : Option SlotChange) (metric : Option ℕ) (cost : Option CostPart)
-    → ranges_after ranges (length c.regions.ranges) ≤ max_after attrs c.attrs.max
-    → (let parts : CommitValue = record { attrs = attrs; ranges = ranges; slot = slot; metric = metric; cost = cost } in
-    length (committed_core parts c).regions.ranges ≤ (committed_core parts c).attrs.max)
-few_after c None None slot metric cost few = few
-few_after c None (Some specs) slot metric cost few = subst (λ n. n ≤ c.attrs.max) (sym (length-map specs (range_of c.space))) few
-few_after c (Some a) None slot metric cost few = few
-few_after c (Some a) (Some specs) slot metric cost few = subst (λ n. n ≤ a.max) (sym (length-map specs (range_of c.space))) few
 
 few_committed : (parts : CommitValue) (s : State) (check : Result (Unit {0}) CommitFault) → check_of parts s.core ≡ check → RangesAreFew s → RangesAreFew (if_accepted check (committed parts s) s)
 few_committed parts s (Err fault) is few = few

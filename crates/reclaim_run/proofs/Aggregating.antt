@@ -4,6 +4,7 @@ use Rattle.std.specs.List.{AllByRecursion}
 use Rattle.std.proofs.lemmas.Nat.{mul-le}
 use Rattle.damon_types.specs.declared.scheme.TheConstants.{MAX_SLOT}
 use Rattle.damon_types.specs.Space.{IsSpace, pages_of}
+use Rattle.damon_types.proofs.Lemmas.{all_weaker}
 use Rattle.scheme_engine.specs.declared.applied.AppliedRun.{AppliedRun}
 use Rattle.scheme_engine.specs.Slots.{SlotValue}
 use Rattle.damon_core.specs.After.{after}
@@ -21,11 +22,6 @@ use Rattle.reclaim_module.specs.Stands.{after_applied, after_event}
 use Rattle.reclaim_run.specs.Stands.{Models}
 use Rattle.reclaim_module.proofs.Lemmas.{applied_alike, few_went_out, runs_of_slots, schemes_stay, space_stays}
 use Rattle.reclaim_run.proofs.Following.{models_follow}
-
--- what holds of each holds of each alike
-all_weaker : (P Q : AppliedRun → Type 0) → ((run : AppliedRun) → P run → Q run) → (runs : List AppliedRun) → AllByRecursion P runs → AllByRecursion Q runs
-all_weaker P Q weaker [] all = tt
-all_weaker P Q weaker (run ∷ runs) all = (weaker run all.0, all_weaker P Q weaker runs all.1)
 
 -- half of 17 times the pages of a space in each of fewer than 2^40 passes
 few_fit : (n pages ticks : ℕ) → 2 * n ≤ 17 * pages * ticks → pages ≤ 1048576 → ticks < 2 ^ 40 → n < 2 ^ 64

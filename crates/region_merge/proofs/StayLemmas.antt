@@ -4,14 +4,11 @@ use Rattle.std.specs.Prelude.{◌&&◌}
 use Rattle.std.proofs.lemmas.List.{append_cancel_left, drop-take, length-append, length-drop, length-take-le, take-append-drop}
 use Rattle.damon_types.specs.declared.range.Range.{Range}
 use Rattle.damon_types.specs.declared.row.Row.{Row}
+use Rattle.damon_types.proofs.Lemmas.{and_false}
 use Rattle.region_list.specs.Rows.{row_at}
 use Rattle.region_list.specs.Shrink.{in_one_range}
 use Rattle.region_merge.specs.Merged.{is_within, may_join, merged_from, merged}
 use Rattle.region_merge.proofs.StepLemmas.{next_row}
-
-and_false : (a : Bool) → (a && false) ≡ false
-and_false true = refl
-and_false false = refl
 
 module _ (gs : List Range) (threshold limit : ℕ) where
   stays_at : (rows : List Row) (j : ℕ) → suc j < length rows → is_within threshold limit (row_at rows j) (row_at rows (suc j)) ≡ false

@@ -8,6 +8,7 @@ use Rattle.std.proofs.Math.Nat.{mul-le-mul_right, div-le_of_le-mul}
 use Rattle.damon_types.specs.declared.range.Range.{Range}
 use Rattle.damon_types.specs.declared.row.Row.{Row}
 use Rattle.damon_types.specs.Span.{span_of, spans}
+use Rattle.damon_types.proofs.Lemmas.{all_append}
 use Rattle.region_list.specs.Tiling.{Chain, Tiling}
 use Rattle.region_list.specs.Refined.{IsRefined}
 use Rattle.region_list.proofs.Lemmas.{refined_tiling}
@@ -120,10 +121,6 @@ split_some limits three words count i (r ∷ rows) some =
     let new = parts limits three count first second r in
     let rest = split_from limits three words (count + length new - 1) (i + 1) rows in
     omega (arith, length-append new rest, parts_some limits three count first second r)
-
-all_append : {X : Type 0} (P : X → Type 0) (xs ys : List X) → AllByRecursion P xs → AllByRecursion P ys → AllByRecursion P (xs ++ ys)
-all_append P [] ys front back = back
-all_append P (x ∷ xs) ys front back = (front.0, all_append P xs ys front.1 back)
 
 pub split_counts : (limits : SplitLimits) (most : ℕ) (three : Bool) (words : List ℕ) (count i : ℕ) (rows : List Row) → AllByRecursion (λ r. r.count ≤ most) rows → AllByRecursion (λ r. r.count ≤ most) (split_from limits three words count i rows)
 split_counts limits most three words count i [] few = few

@@ -1,4 +1,5 @@
-pub mod Picking
-pub mod Raised
-pub mod Loading
-pub mod Words
+mod Picking
+mod Raised
+mod Loading
+mod Words
+pub mod Lemmas

@@ -1,8 +1,14 @@
 -- Random words one after another.
 use Rattle.std.proofs.Common.{◌≡◌, ℕ, zero, suc, ◌+◌, ◌<◌, [], ◌∷◌, ◌++◌, length, Some, refl, ap, sym, ◌∙◌, arith}
 use Rattle.std.specs.Prelude.{slice_get}
+use Rattle.rand_core.specs.Steps.{steps_u32}
 use Rattle.rand_core.specs.Stream.{Stream, next_u32}
+use Rattle.rand_core.proofs.StepsLemmas.{next_u32-stream_of}
+use Rattle.rand_pcg.specs.Lcg.{Lcg, advance, next}
+use Rattle.rand_pcg.specs.Pcg.{multiplier_64, pcg32}
+use Rattle.rand_pcg.proofs.LcgLemmas.{advance_more, advance_zero}
 use Rattle.sampler.specs.Draws.{drawn, drawn_rest}
+use Rattle.sampler.specs.Seeds.{words_from}
 
 -- one word
 pub drawn-one : (w : ℕ) (s t : Stream) → (w, t) ≡ next_u32 s → w ∷ [] ≡ drawn 1 s
@@ -43,3 +49,13 @@ drawn-next n k s here left w below at next =
 pub drawn_rest-next : (k j : ℕ) (s here left : Stream) (w : ℕ) → j ≡ k + 1 → here ≡ drawn_rest k s → (w, left) ≡ next_u32 here → left ≡ drawn_rest j s
 drawn_rest-next k j s here left w more at next =
     drawn_rest-one w here left next ∙ ap (drawn_rest 1) at ∙ sym (drawn_rest-append k 1 s) ∙ ap (λ i. drawn_rest i s) (sym more)
+
+-- the words after a jump are those after as many words
+pub words_jumped : (n : ℕ) (g : Lcg) → words_from (advance 64 multiplier_64 n g) ≡ drawn_rest n (words_from g)
+words_jumped zero g = ap words_from (advance_zero 64 multiplier_64 g)
+words_jumped (suc n) g =
+    let one : suc n ≡ n + 1 = omega arith in
+    ap (λ k. words_from (advance 64 multiplier_64 k g)) one
+    ∙ (ap words_from (sym (advance_more 64 multiplier_64 n g))
+    ∙ (words_jumped n (next 64 multiplier_64 g)
+    ∙ sym (ap (λ (x : ℕ × Stream). drawn_rest n x.1) (next_u32-stream_of (steps_u32 pcg32) g))))

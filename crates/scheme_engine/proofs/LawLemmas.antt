@@ -13,6 +13,7 @@ use Rattle.damon_types.specs.declared.scheme.Action.{Action}
 use Rattle.damon_types.specs.declared.scheme.Scheme.{Scheme}
 use Rattle.damon_types.specs.declared.space.Target.{Target}
 use Rattle.damon_types.specs.Span.{span_of, spans}
+use Rattle.damon_types.proofs.Lemmas.{all_append}
 use Rattle.region_list.specs.Refined.{IsRefined}
 use Rattle.region_list.specs.Regions.{RegionList}
 use Rattle.region_list.specs.Rows.{row_at}
@@ -163,11 +164,6 @@ rows_some_left action regions passes cs some = by (changes_rows action) refl
     by : (v : Bool) → changes_rows action ≡ v → 0 < length (rows_after action regions passes cs)
     by true is = rw is (defined_some regions passes cs regions.rows some)
     by false is = rw is some
-
--- no count rises
-all_append : {X : Type 0} (P : X → Type 0) (xs ys : List X) → AllByRecursion P xs → AllByRecursion P ys → AllByRecursion P (xs ++ ys)
-all_append P [] ys front back = back
-all_append P (x ∷ xs) ys front back = (front.0, all_append P xs ys front.1 back)
 
 row_count : (regions : RegionList) (passes : ℕ → Bool) (cs : List Candidate) (r : Row) (most : ℕ) → r.count ≤ most → AllByRecursion (λ q. q.count ≤ most) (option_map_or (row_after regions passes r) (candidate_at cs r) (r ∷ []))
 row_count regions passes cs r most few = row_holds regions passes cs r (λ rows. AllByRecursion (λ q. q.count ≤ most) rows) (record { whole = (few, tt); new = (few, tt); cut = λ at left right. (few, (few, tt)) })

@@ -11,6 +11,7 @@ use Rattle.std.proofs.lemmas.Map.Keys.{IsDistinct-head, IsDistinct-tail}
 use Rattle.damon_types.specs.declared.row.Row.{Row}
 use Rattle.damon_types.specs.declared.scheme.Action.{Action}
 use Rattle.damon_types.specs.Span.{span_of}
+use Rattle.damon_types.proofs.Lemmas.{and_false}
 use Rattle.region_list.specs.Regions.{RegionList}
 use Rattle.scheme_filter.specs.Passes.{passes}
 use Rattle.priority.specs.declared.candidates.Candidate.{Candidate}
@@ -61,10 +62,6 @@ pub rows_stay : (action : Action) (cs : List Candidate) (rows : List Row) → ch
 rows_stay action [] rows stays = refl
 rows_stay action (c ∷ cs) rows stays =
     ap (λ rs. fold (rows_renewed action) rs cs) (none_new action rows c (λ r. not_changed action c r stays)) ∙ rows_stay action cs rows stays
-
-and_false : (v : Bool) → (v && false) ≡ false
-and_false true = refl
-and_false false = refl
 
 or_and : (v : Bool) → ((v && true) || false) ≡ v
 or_and true = refl

@@ -20,12 +20,13 @@ use Rattle.damon_core.specs.Bound.{Bound}
 use Rattle.damon_core.specs.Choosing.{ServesBest}
 use Rattle.damon_core.specs.InPhase.{IsInPhase}
 use Rattle.damon_core.specs.Pass.{IsPickWithin}
-use Rattle.damon_core.specs.Makes.{AllFit-append}
+use Rattle.damon_core.specs.Makes.{AllByHit-append, AllFit-append}
 use Rattle.damon_core.specs.Reached.{AllByHit, AllFit, CanOpen, Reached, ReachedByHit, run}
 use Rattle.sampler.specs.Draws.{drawn}
 use Rattle.damon_world.specs.Moment.{Moment, along, event_in, moved, next_event}
 use Rattle.damon_world.specs.Plays.{Reached-along, along-state}
 use Rattle.damon_world.specs.Touches.{touches}
+use Rattle.damon_world.proofs.Lemmas.{by_hit-in}
 use Rattle.script_lines.specs.Command.{CommandValue, Touch, Sweep, Step, Arm, Finish, Show, Commit}
 use Rattle.script_run.specs.Part.{Part}
 use Rattle.script_run.specs.Part as part
@@ -43,7 +44,7 @@ use Rattle.script_run.specs.Kept.{ArePartsWithin, IsPartWithin}
 use Rattle.script_run.specs.Parts.{commands_are_parts, part_events, part_of, parts_events, parts_of}
 use Rattle.script_lines.specs.Limits.{AreCommandsWithin, IsCommandWithin}
 use Rattle.script_run.specs.Way.{Reached-start}
-use Rattle.script_run.proofs.Hits.{AllByHit-append, AllByHit-prefix, by_hit-in}
+use Rattle.script_run.proofs.Hits.{AllByHit-prefix}
 
 length-drawn : (n : ℕ) (s : Stream) → length (drawn n s) ≡ n
 length-drawn zero s = refl

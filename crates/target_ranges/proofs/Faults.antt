@@ -6,20 +6,12 @@ use Rattle.std.specs.Result.{result_and}
 use Rattle.std.proofs.lemmas.List.{length-take-le, take_more}
 use Rattle.damon_types.specs.declared.space.Target.{Target}
 use Rattle.damon_types.specs.declared.range.RangeSpec.{RangeSpec}
+use Rattle.damon_types.proofs.Lemmas.{and_ok, both_ok}
 use Rattle.target_ranges.specs.declared.fault.RangeFault.{RangeFault}
 use Rattle.target_ranges.specs.declared.fault.RangeWhy.{RangeWhy}
 use Rattle.target_ranges.specs.Checked.{checked_from, checked_next, checked_range, checked_ranges, fault_at}
 use Rattle.target_ranges.proofs.Accepted.{accepted}
 use Rattle.target_ranges.proofs.Last.{last_or_push}
-
--- two checks that find nothing
-both_ok : {E : Type 0} (r s : Result (Unit {0}) E) → result_and r s ≡ Ok tt → (r ≡ Ok tt) × (s ≡ Ok tt)
-both_ok (Ok tt) s ok = (refl, ok)
-both_ok (Err e) s ok = absurd (cc)
-
-and_ok : {E : Type 0} (r : Result (Unit {0}) E) → result_and r (Ok tt) ≡ r
-and_ok (Ok tt) = refl
-and_ok (Err e) = refl
 
 no_fault : (index : ℕ) (r : Result (Unit {0}) RangeWhy) → fault_at index r ≡ Ok tt → r ≡ Ok tt
 no_fault index (Ok tt) ok = refl

@@ -13,12 +13,13 @@ use Rattle.damon_types.specs.declared.range.RangeSpec.{RangeSpec}
 use Rattle.damon_types.specs.Ranges.{OrderedFrom, InOrder, Follows, IsRange, end_of}
 use Rattle.damon_types.specs.Space.{pages_of, offset}
 use Rattle.damon_types.specs.Within.{LiesInTarget}
-use Rattle.target_ranges.specs.Checked.{checked_from, checked_ranges, overlaps}
+use Rattle.target_ranges.specs.Checked.{checked_from, checked_range, checked_ranges, overlaps}
 use Rattle.target_ranges.specs.Laws.{MakesEach, MakesInOrder, MakesWide, MakesWithin}
 use Rattle.target_ranges.specs.Made.{IsPlaced, page_count, range_of, ranges_of}
 use Rattle.target_ranges.proofs.Accepted.{accepted}
 use Rattle.target_ranges.proofs.Faults.{first_accepted, checked_ranges-room}
-use Rattle.target_ranges.proofs.Offsets.{offset-next, offset-le, offset-total, base_of_there}
+use Rattle.damon_types.proofs.Lemmas.{offset-le, offset-next}
+use Rattle.target_ranges.proofs.Offsets.{base_of_there, offset-total}
 
 -- the pages up to an address between, and from there on
 pages_add : (base from to : ℕ) → from % 4096 ≡ 0 → to % 4096 ≡ 0 → base ≤ from → from < to → (from - base) / 4096 + (to - from) / 4096 ≡ (to - base) / 4096
@@ -85,12 +86,16 @@ pub record IsGood (ts : List Target) (unit : ℕ) (s : RangeSpec) : Type 0 where
   pub wide : unit ≤ page_count s
   pub class : s.class ≤ 15
 
-good_from : (ts : List Target) (unit room index : ℕ) (before : Option RangeSpec) (specs : List RangeSpec) → checked_from ts unit room index before specs ≡ Ok tt → AllByRecursion (IsGood ts unit) specs
+pub is_good : (ts : List Target) (unit room index : ℕ) (before : Option RangeSpec) (s : RangeSpec) → checked_range ts unit room index before s ≡ Ok tt → IsGood ts unit s
+is_good ts unit room index before s ok =
+    let here = (accepted ts unit room index before s ok).1 in
+    record { placed = here.placed; wide = here.wide; class = here.class }
+
+pub good_from : (ts : List Target) (unit room index : ℕ) (before : Option RangeSpec) (specs : List RangeSpec) → checked_from ts unit room index before specs ≡ Ok tt → AllByRecursion (IsGood ts unit) specs
 good_from ts unit room index before [] ok = tt
 good_from ts unit room index before (s ∷ specs) ok =
     let first = first_accepted ts unit room index before s specs ok in
-    let here = (accepted ts unit room index before s first.0).1 in
-    (record { placed = here.placed; wide = here.wide; class = here.class }, good_from ts unit room (index + 1) (Some s) specs first.1)
+    (is_good ts unit room index before s first.0, good_from ts unit room (index + 1) (Some s) specs first.1)
 
 pub all_good : (ts : List Target) (unit room : ℕ) (specs : List RangeSpec) → checked_ranges ts unit room specs ≡ Ok tt → All (IsGood ts unit) specs
 all_good ts unit room specs ok = All-from_recursion (IsGood ts unit) specs (good_from ts unit room 0 None specs ok)

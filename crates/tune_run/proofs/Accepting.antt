@@ -17,6 +17,7 @@ use Rattle.damon_types.specs.declared.scheme.SlotChange.{SlotChange}
 use Rattle.damon_types.specs.declared.scheme.Version.{Version}
 use Rattle.damon_types.specs.declared.scheme.Version.TheVariants.{One, Two}
 use Rattle.damon_types.specs.Scheme.{checked_in}
+use Rattle.damon_types.proofs.Lemmas.{both_ok, fault_as_ok}
 use Rattle.target_ranges.specs.Made.{range_of}
 use Rattle.live_commit.specs.declared.fault.SetupFault.TheVariants.{BadScheme as BadSlot, RepeatedSlot}
 use Rattle.live_commit.specs.declared.fault.CommitFault.{CommitFault}
@@ -35,23 +36,14 @@ use Rattle.damon_core.specs.Note.{Note, set}
 use Rattle.damon_core.specs.Reached.{Reached, run}
 use Rattle.damon_core.specs.Slots.{scheme_of}
 use Rattle.damon_core.specs.State.{Core, State, opening, row_count, set_note}
+use Rattle.damon_core.proofs.Lemmas.{few_after, scheme_stays}
 use Rattle.quota_goal.specs.Tuned.{with_bytes}
 use Rattle.tune_run.specs.Callbacks.{change_alone}
 use Rattle.tune_run.specs.Tops.{was_accepted}
-use Rattle.tune_run.proofs.Staying.{scheme_stays}
-
--- two checks that succeed
-pub both_ok : {E : Type 0} (r s : Result (Unit {0}) E) → result_and r s ≡ Ok tt → (r ≡ Ok tt) × (s ≡ Ok tt)
-both_ok (Ok t) s ok = (refl, ok)
-both_ok (Err e) s ok = absurd (cc)
 
 and_ok : {E : Type 0} (r s : Result (Unit {0}) E) → r ≡ Ok tt → s ≡ Ok tt → result_and r s ≡ Ok tt
 and_ok (Ok t) s first second = second
 and_ok (Err e) s first second = absurd (cc)
-
-fault_as_ok : {E : Type 0} (fault : E → CommitFault) (r : Result (Unit {0}) E) → fault_as fault r ≡ Ok tt → r ≡ Ok tt
-fault_as_ok fault (Ok t) ok = refl
-fault_as_ok fault (Err why) ok = absurd (cc)
 
 -- ---- what tells afterwards that a commit was accepted
 
@@ -182,15 +174,6 @@ metric_sound version (Some value) notes sound = sound
 cost_sound : (version : Version) (part : Option CostPart) (notes : List Note) → AreSound version notes → AreSound version (with_cost part notes)
 cost_sound version None notes sound = sound
 cost_sound version (Some part) notes sound = sound
-
-few_after : (c : Core) (attrs : Option Attrs) (ranges : Option (List RangeSpec)) (slot : Option SlotChange) (metric : Option ℕ) (cost : Option CostPart)
-    → ranges_after ranges (length c.regions.ranges) ≤ max_after attrs c.attrs.max
-    → (let parts : CommitValue = record { attrs = attrs; ranges = ranges; slot = slot; metric = metric; cost = cost } in
-    length (committed_core parts c).regions.ranges ≤ (committed_core parts c).attrs.max)
-few_after c None None slot metric cost few = few
-few_after c None (Some specs) slot metric cost few = subst (λ n. n ≤ c.attrs.max) (sym (length-map specs (range_of c.space))) few
-few_after c (Some a) None slot metric cost few = few
-few_after c (Some a) (Some specs) slot metric cost few = subst (λ n. n ≤ a.max) (sym (length-map specs (range_of c.space))) few
 
 commit_takes : (parts : CommitValue) (s : State) (check : Result (Unit {0}) CommitFault) → check_of parts s.core ≡ check → TakesChanges s
     → TakesChanges (if_accepted check (committed parts s) s)

@@ -19,6 +19,7 @@ use Rattle.damon_core.specs.Event.{Event, touch, prepare, clear, load, observe, 
 use Rattle.damon_core.specs.Reached.{run}
 use Rattle.damon_core.specs.Slots.{scheme_of, slot_count}
 use Rattle.damon_core.specs.State.{State}
+use Rattle.damon_core.proofs.Lemmas.{IsNoCommit}
 use Rattle.quota_goal.specs.declared.goals.Goal.{Goal}
 use Rattle.quota_goal.specs.declared.moment.Moment.{Moment}
 use Rattle.quota_goal.specs.Tuned.{TunerView, after_change, change_at, given, least_of, nexts, other_than, scheme_at, top_after, top_at, tunable_bytes, with_bytes}
@@ -30,7 +31,7 @@ use Rattle.tune_run.proofs.Bytes.{bytes_are}
 use Rattle.tune_run.proofs.Changes.{later_stay, next_is, retuned_is, slot_is}
 use Rattle.tune_run.proofs.Committing.{accepted_stands, next_stands, refused_stands}
 use Rattle.tune_run.proofs.Least.{Bounds, least_below}
-use Rattle.tune_run.proofs.Staying.{IsNoCommit, schemes_stay}
+use Rattle.tune_run.proofs.Staying.{schemes_stay}
 
 -- ---- changes of the script
 

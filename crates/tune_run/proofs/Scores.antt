@@ -13,6 +13,7 @@ use Rattle.damon_core.specs.Event.{Event, touch, prepare, clear, load, observe, 
 use Rattle.damon_core.specs.Reached.{run}
 use Rattle.damon_core.specs.Slots.{slot_count}
 use Rattle.damon_core.specs.State.{State}
+use Rattle.damon_core.proofs.Lemmas.{IsNoCommit}
 use Rattle.damon_world.specs.Plays.{along-state}
 use Rattle.script_run.specs.Course.{Course, course_after, going_with}
 use Rattle.script_run.specs.Going.{onward}
@@ -30,7 +31,7 @@ use Rattle.tune_run.proofs.Bytes.{bytes_tuned, none_tunable}
 use Rattle.tune_run.proofs.Committing.{accepted_stands, refused_stands}
 use Rattle.tune_run.proofs.Least.{Bounds}
 use Rattle.tune_run.proofs.Running.{by_count, bytes_then, course_carries, no_scheme}
-use Rattle.tune_run.proofs.Staying.{IsNoCommit, schemes_stay}
+use Rattle.tune_run.proofs.Staying.{schemes_stay}
 
 -- ---- one goal
 

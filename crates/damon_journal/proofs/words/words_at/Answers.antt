@@ -6,7 +6,7 @@ use Rattle.rand_pcg.specs.Pcg.{multiplier_64}
 use Rattle.sampler.specs.Draws.{drawn, drawn_rest}
 use Rattle.sampler.specs.Seeds.{seeded, words_from}
 use Rattle.damon_journal.specs.Words.{words_after}
-use Rattle.damon_journal.proofs.Streams.{drawn-append, drawn-one, drawn_rest-append, drawn_rest-one, words_jumped}
+use Rattle.sampler.proofs.Lemmas.{drawn-append, drawn-one, drawn_rest-append, drawn_rest-one, words_jumped}
 use Rattle.damon_journal.proofs.words.words_at.Goals as goal
 
 pub loop-index-init : goal.loop-index-init

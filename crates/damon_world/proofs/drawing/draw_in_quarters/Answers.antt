@@ -1,7 +1,8 @@
-use Rattle.std.proofs.Common.{◌≡◌, inl, inr, ◌+◌, ◌*◌, ◌/◌, ◌<◌, length, length-set, set, refl, ap, ◌∙◌, arith}
+use Rattle.std.proofs.Common.{◌≡◌, inl, inr, ◌+◌, ◌*◌, ◌/◌, ◌<◌, length, length-set, set, refl, sym, ap, ◌∙◌, arith}
 use Rattle.sampler.specs.Draws.{drawn_rest}
+use Rattle.sampler.proofs.Lemmas.{drawn_rest-append}
 use Rattle.damon_world.specs.Drawing.{AreDrawn}
-use Rattle.damon_world.proofs.Drawn.{all_drawn, drawn_apart, drawn_joined, drawn_more, drawn_to, quarters_drawn, rest_after, rest_at, rest_next, word_next}
+use Rattle.damon_world.proofs.Drawn.{all_drawn, drawn_apart, drawn_joined, drawn_more, drawn_to, quarters_drawn, rest_at, rest_next, word_next}
 use Rattle.damon_world.proofs.drawing.draw_in_quarters.Goals as goal
 
 pub loop-index-init : goal.loop-index-init
@@ -11,8 +12,8 @@ loop-index-init g c =
     let q = length words / 4 in
     let first = c.after-first.ensures in
     let second : g.R.Rng.stream c.after-second.result ≡ drawn_rest q s = c.after-second.ensures ∙ ap (drawn_rest q) first in
-    let third : g.R.Rng.stream c.after-third.result ≡ drawn_rest (q + q) s = c.after-third.ensures ∙ ap (drawn_rest q) second ∙ rest_after q q s in
-    let fourth : g.R.Rng.stream c.after-fourth.result ≡ drawn_rest (q + q + q) s = c.after-fourth.ensures ∙ ap (drawn_rest q) third ∙ rest_after (q + q) q s in
+    let third : g.R.Rng.stream c.after-third.result ≡ drawn_rest (q + q) s = c.after-third.ensures ∙ ap (drawn_rest q) second ∙ sym (drawn_rest-append q q s) in
+    let fourth : g.R.Rng.stream c.after-fourth.result ≡ drawn_rest (q + q + q) s = c.after-fourth.ensures ∙ ap (drawn_rest q) third ∙ sym (drawn_rest-append (q + q) q s) in
     record {
       len = refl;
       quarters = omega arith;

@@ -5,7 +5,8 @@ use Rattle.damon_types.specs.Span.{spans}
 use Rattle.region_list.specs.Rows.{RowList}
 use Rattle.region_list.specs.Tiling.{Tiling}
 use Rattle.range_update.specs.Updated.{range_pieces, all_pieces}
-use Rattle.range_update.proofs.RangeLemmas.{drop_next, end_at, ordered_after}
+use Rattle.region_list.proofs.Lemmas.{ordered_after}
+use Rattle.range_update.proofs.RangeLemmas.{drop_next, end_at}
 use Rattle.range_update.proofs.OrderLemmas.{IsReady, ready_start, ready_next}
 use Rattle.range_update.proofs.SizeLemmas.{all_pieces_few, all_pieces_tiling}
 use Rattle.range_update.proofs.ranges.cut_ranges.Goals as goal

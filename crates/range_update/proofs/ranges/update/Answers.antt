@@ -1,5 +1,5 @@
 use Rattle.damon_types.specs.Span.{spans}
-use Rattle.range_update.proofs.RangeLemmas.{tiling_weaker}
+use Rattle.region_list.proofs.Lemmas.{tiling_weaker}
 use Rattle.range_update.proofs.OrderLemmas.{rows_in_order}
 use Rattle.range_update.proofs.ranges.update.Goals as goal
 

@@ -10,7 +10,7 @@ use Rattle.region_list.specs.Regions.{RegionList}
 use Rattle.region_list.specs.Tiling.{Tiling}
 use Rattle.region_list.specs.Division.{divided}
 use Rattle.live_commit.specs.SetupView.{value_of}
-use Rattle.region_list.proofs.Lemmas.{counts_shrunk}
+use Rattle.region_list.proofs.Lemmas.{counts_shrunk, tiling_some}
 use Rattle.damon_core.specs.State.{Core, opening, opening_core, opening_rows}
 use Rattle.damon_core.specs.Kept.{IsMonitor, RowsLieIn, SamplingView}
 use Rattle.damon_core.specs.declared.report.Report.{Report}
@@ -22,7 +22,6 @@ use Rattle.damon_core.specs.Stands.{bit_at, last_pass}
 use Rattle.damon_core.specs.Totals.{checks_made, hits_made}
 use Rattle.damon_core.proofs.Keeping.{reached_of}
 use Rattle.damon_core.proofs.Opening.{opening_holds}
-use Rattle.damon_core.proofs.Rows.{tiling_some}
 use Rattle.damon_core.proofs.Shown.{shown}
 use Rattle.damon_core.proofs.SlotFacts.{serving_opens}
 use Rattle.damon_core.proofs.RowFacts.{counts-divided}

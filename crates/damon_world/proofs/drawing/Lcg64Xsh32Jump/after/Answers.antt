@@ -1,7 +1,8 @@
 use Rattle.std.proofs.Common.{rules, ◌≡◌, ap, ◌∙◌}
 use Rattle.rand_pcg.specs.Lcg.{advance}
 use Rattle.rand_pcg.specs.Pcg.{multiplier_64}
-use Rattle.damon_world.proofs.Drawn.{words_from, words_jumped}
+use Rattle.sampler.specs.Seeds.{words_from}
+use Rattle.sampler.proofs.Lemmas.{words_jumped}
 use Rattle.damon_world.proofs.drawing.Lcg64Xsh32Jump.after.Goals as goal
 
 pub returns : goal.returns
