@@ -41,7 +41,7 @@ range_there ts g space lies some =
       from = lies.from;
       to = to;
       some = some;
-      addr = ap (λ (p : Place). p.addr) (place_from_held 0 g.target ts g.target g.first t refl there lies.from (omega (arith, to, some)));
+      addr = ap (λ (p : Place). p.addr) (place_from_held 0 g.target ts g.target g.first t (omega arith) there lies.from (omega (arith, to, some)));
     }
 
 -- ---- the ranges are accepted

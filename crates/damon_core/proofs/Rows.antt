@@ -19,7 +19,7 @@ use Rattle.live_commit.specs.declared.phase.Phase.{Phase}
 use Rattle.live_commit.specs.declared.phase.Phase.TheVariants.{Idle, Clearing, Armed, Checking, Void, Due}
 use Rattle.live_commit.specs.Commit.{CommitValue}
 use Rattle.live_commit.specs.Setup.{SetupValue}
-use Rattle.region_list.proofs.Lemmas.{length_shrunk, tiles, tiling_divided, tiling_shrunk}
+use Rattle.region_list.proofs.Lemmas.{length_shrunk, tiles, tiling_divided, tiling_shrunk, tiling_some}
 use Rattle.damon_core.specs.Note.{Note}
 use Rattle.damon_core.specs.State.{State, row_count, opening, opening_rows}
 use Rattle.damon_core.specs.Event.{IsLoading, load_index}
