@@ -27,7 +27,6 @@ pub mod LeadingLive
 mod LiveExamples
 pub mod EntryLemmas
 pub mod WorkLemmas
-pub mod Appending
 pub mod WrittenLemmas
 pub mod WrittenRanges
 pub mod ReadWritten

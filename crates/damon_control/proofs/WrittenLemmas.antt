@@ -1,6 +1,7 @@
 -- What appending lines one after another makes.
-use Rattle.std.proofs.Common.{◌≡◌, ℕ, zero, suc, ◌+◌, List, [], ◌∷◌, ◌++◌, map, drop, Some, refl, sym, ap, ◌∙◌, append_assoc, arith}
-use Rattle.std.proofs.lemmas.List.{map-append}
+use Rattle.std.proofs.Common.{◌≡◌, ℕ, zero, suc, ◌+◌, ◌-◌, List, [], ◌∷◌, ◌++◌, map, drop, take, length, Some, refl, sym, ap, ◌∙◌, append_assoc, arith}
+use Rattle.std.proofs.Math.Seq.{take-append_seam}
+use Rattle.std.proofs.lemmas.List.{length-append, map-append}
 use Rattle.std.specs.Prelude.{slice_get}
 use Rattle.damon_types.specs.declared.range.RangeSpec.{RangeSpec}
 use Rattle.script_lines.specs.declared.part.Part.{Part}
@@ -49,3 +50,9 @@ parts_added text before a b is =
 pub range_parts : (ranges : List RangeSpec) → map part_text (map (λ r. RangePart r) ranges) ≡ map spelled_range ranges
 range_parts [] = refl
 range_parts (r ∷ ranges) = ap (λ ls. spelled_range r ∷ ls) (range_parts ranges)
+
+-- a line without the LF at its end
+pub without_end : (n : ℕ) (text line : List ℕ) → n ≡ length text → text ≡ line ++ 10 ∷ [] → take (n - 1) text ≡ line
+without_end n text line count is =
+    let size : n - 1 ≡ length line = omega (arith, count, ap length is, length-append line (10 ∷ [])) in
+    (λ i. take (size i) (is i)) ∙ take-append_seam line (10 ∷ [])

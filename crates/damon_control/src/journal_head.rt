@@ -5,7 +5,7 @@ ghost use Rattle.damon_types.specs.declared.scheme.SlotChange.{SlotChange as cha
 ghost use Rattle.damon_types.specs.declared.space.Target.{Target as target};
 ghost use Rattle.live_commit.specs.SetupView.{value_of};
 ghost use Rattle.script_lines.specs.declared.setup.Frame.{Frame as frame};
-ghost use Rattle.script_lines.specs.Kept.{KeepsFront};
+ghost use Rattle.line_text.specs.Appended.{KeepsFront};
 ghost use Rattle.script_lines.specs.Lines.{lines_text};
 ghost use Rattle.damon_control.specs.JournalHead.{head_at, head_lines, head_said};
 ghost use Rattle.damon_control.specs.Left.{FaultOf, IsShort, MovesTo, first_begins, reads_left};
@@ -19,6 +19,7 @@ use crate::reader::{make_setup, read_head};
 use crate::spelling::write_setup_lines;
 use crate::{MAX_BYTES, ReadFail, ScriptFault};
 use damon_types::Version;
+use line_text::end_line;
 use live_commit::Setup;
 use script_lines::alone;
 use std::alloc::{AllocError, Global};
@@ -96,18 +97,18 @@ pub fn write_journal_head(
 }
 
 // Appends the first line.
-#[tactic(auto, using(crate::proofs::Appending::appends))]
+#[tactic(auto, using(line_text::proofs::Appending::appends))]
 fn write_header(out: &mut Vec<u8>, version: Version) -> Result<(), AllocError>
     ensures ok { OnOk result (out.new.items
         ≡ out.old.items ++ lines_text (header_of of_journal version ∷ [])) }
     ensures kept { KeepsFront out.old.items out.new.items }
 {
     out.extend_from_slice(header_of(Grammar::OfJournal, version))?;
-    out.extend_from_slice(b"\n")
+    end_line(out)
 }
 
 // Appends the last line.
-#[tactic(auto, using(crate::proofs::Appending::appends))]
+#[tactic(auto, using(line_text::proofs::Appending::appends))]
 fn write_begin(out: &mut Vec<u8>) -> Result<(), AllocError>
     ensures ok { OnOk result (out.new.items ≡ out.old.items ++ lines_text (codes "begin" ∷ [])) }
     ensures kept { KeepsFront out.old.items out.new.items }

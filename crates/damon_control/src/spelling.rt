@@ -1,10 +1,10 @@
 // Appending the lines of a setup and of a commit, each in its one spelling.
-ghost use Rattle.std.specs.Prelude.{◌≡◌, ◌+◌, ◌≤◌, ◌<◌, [], ◌∷◌, ◌++◌, map, length, codes, OnErr, OnOk, take, All, option_map};
+ghost use Rattle.std.specs.Prelude.{◌≡◌, ◌+◌, ◌≤◌, ◌<◌, [], ◌∷◌, ◌++◌, map, length, codes, OnErr, OnOk, All, option_map};
 ghost use Rattle.std.specs.Fmt.{decimal};
 ghost use Rattle.damon_types.specs.Space.{pages_of};
 ghost use Rattle.live_commit.specs.Commit.{commit_value};
 ghost use Rattle.live_commit.specs.SetupView.{value_of};
-ghost use Rattle.script_lines.specs.Kept.{KeepsFront};
+ghost use Rattle.line_text.specs.Appended.{KeepsFront};
 ghost use Rattle.script_lines.specs.Spelling.{spelled_range, spelled_target};
 ghost use Rattle.script_lines.specs.Lines.{lines_text};
 ghost use Rattle.damon_control.specs.WriteBack.{SpellsRanges};
@@ -15,6 +15,7 @@ ghost use Rattle.script_lines.specs.declared.part.Part.TheVariants.{Attrs as att
 use damon_types::{
     Attrs, CostPart, PAGE_SIZE, Range, RangeSpec, RangeSpecs, Ranges, SlotChange, Space,
 };
+use line_text::whole_or_nothing;
 use live_commit::{Commit, Setup};
 use script_lines::{
     Part, write_attrs, write_change_line, write_cost, write_number_line, write_range, write_target,
@@ -67,7 +68,7 @@ pub fn write_commit(
 
 /// Appends the line of one part of a commit, with its LF. When out of memory, a prefix was
 /// appended.
-#[tactic(auto, using(crate::proofs::Appending::appends))]
+#[tactic(auto, using(line_text::proofs::Appending::appends))]
 pub fn write_part(alloc: Global, out: &mut Vec<u8>, part: &Part) -> Result<(), AllocError>
     ensures ok { OnOk result (out.new.items
         ≡ out.old.items ++ lines_text (part_text part.now ∷ [])) }
@@ -82,22 +83,6 @@ pub fn write_part(alloc: Global, out: &mut Vec<u8>, part: &Part) -> Result<(), A
     }
 }
 
-// Removes what was appended after the first `before` bytes if writing failed.
-fn whole_or_nothing(
-    out: &mut Vec<u8>,
-    before: usize,
-    written: Result<(), AllocError>,
-) -> Result<(), AllocError>
-    ensures same { result ≡ written }
-    ensures ok { OnOk result (out.new.items ≡ out.old.items) }
-    ensures err { OnErr result (out.new.items ≡ take before out.old.items) }
-{
-    if written.is_err() {
-        out.truncate(before);
-    }
-    written
-}
-
 // Appends the lines of a seed and a setup.
 pub fn write_setup_lines(out: &mut Vec<u8>, seed: u64, setup: &Setup) -> Result<(), AllocError>
     ensures ok { OnOk result (out.new.items ≡ out.old.items ++ setup_text seed (value_of setup.now)) }
@@ -110,7 +95,7 @@ pub fn write_setup_lines(out: &mut Vec<u8>, seed: u64, setup: &Setup) -> Result<
 }
 
 // Appends the lines before the targets.
-#[tactic(auto, using(crate::proofs::Appending::appends))]
+#[tactic(auto, using(line_text::proofs::Appending::appends))]
 fn write_numbers(
     out: &mut Vec<u8>,
     seed: u64,
@@ -193,7 +178,7 @@ fn write_parts(out: &mut Vec<u8>, commit: &Commit) -> Result<(), AllocError>
 }
 
 // Appends the line of new attributes, if there are some.
-#[tactic(auto, using(crate::proofs::Appending::appends))]
+#[tactic(auto, using(line_text::proofs::Appending::appends))]
 fn write_new_attrs(out: &mut Vec<u8>, attrs: &Option<Attrs>) -> Result<(), AllocError>
     ensures ok { OnOk result (out.new.items ≡ out.old.items
         ++ lines_text (map part_text (part_given (λ a. attrs_part a) attrs.now))) }
@@ -230,7 +215,7 @@ fn write_specs(out: &mut Vec<u8>, specs: &[RangeSpec]) -> Result<(), AllocError>
 }
 
 // Appends the line of a new slot change, if there is one.
-#[tactic(auto, using(crate::proofs::Appending::appends))]
+#[tactic(auto, using(line_text::proofs::Appending::appends))]
 fn write_new_slot(out: &mut Vec<u8>, slot: &Option<SlotChange>) -> Result<(), AllocError>
     ensures ok { OnOk result (out.new.items ≡ out.old.items
         ++ lines_text (map part_text (part_given (λ c. slot_part c) slot.now))) }
@@ -243,7 +228,7 @@ fn write_new_slot(out: &mut Vec<u8>, slot: &Option<SlotChange>) -> Result<(), Al
 }
 
 // Appends the line of a new metric, if there is one.
-#[tactic(auto, using(crate::proofs::Appending::appends))]
+#[tactic(auto, using(line_text::proofs::Appending::appends))]
 fn write_new_metric(out: &mut Vec<u8>, metric: Option<u32>) -> Result<(), AllocError>
     ensures ok { OnOk result (out.new.items ≡ out.old.items
         ++ lines_text (map part_text (part_given (λ m. metric_part m) metric))) }
@@ -256,7 +241,7 @@ fn write_new_metric(out: &mut Vec<u8>, metric: Option<u32>) -> Result<(), AllocE
 }
 
 // Appends the line of a new cost, if there is one.
-#[tactic(auto, using(crate::proofs::Appending::appends))]
+#[tactic(auto, using(line_text::proofs::Appending::appends))]
 fn write_new_cost(out: &mut Vec<u8>, cost: Option<CostPart>) -> Result<(), AllocError>
     ensures ok { OnOk result (out.new.items ≡ out.old.items
         ++ lines_text (map part_text (part_given (λ p. cost_part p) cost))) }

@@ -1,7 +1,7 @@
 use Rattle.std.proofs.Common.{[], ◌∷◌, ◌++◌, ap, ◌∙◌}
 use Rattle.script_lines.specs.Lines.{lines_text}
 use Rattle.script_lines.specs.WrittenLine.{change_text}
-use Rattle.damon_control.proofs.Appending.{without_end}
+use Rattle.damon_control.proofs.WrittenLemmas.{without_end}
 use Rattle.damon_control.proofs.head.spell.Goals as goal
 
 pub returns : goal.returns

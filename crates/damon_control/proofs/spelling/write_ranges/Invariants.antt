@@ -1,5 +1,5 @@
 use Rattle.std.proofs.Common.{◌≡◌, ◌++◌, drop, map}
-use Rattle.script_lines.specs.Kept.{KeepsFront}
+use Rattle.line_text.specs.Appended.{KeepsFront}
 use Rattle.script_lines.specs.Spelling.{spelled_range}
 use Rattle.script_lines.specs.Lines.{lines_text}
 use Rattle.damon_control.specs.Written.{spec_of}
