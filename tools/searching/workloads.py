@@ -12,8 +12,7 @@ from typing import Iterator, NamedTuple
 from common import UsageError, opened
 from scripts.grammar import first_word, words_of
 from scripts.setup import Script
-from tracing.commits import Commits
-from tracing.commits import written as commit_lines
+from tracing.commits import Commits, commit_lines
 from tracing.intervals import Runs, runs_of
 from units import PAGE_BITS
 
