@@ -7,6 +7,7 @@ from typing import Iterable, Sequence
 from reports.events import Aggregation, Commit, Event, Show, Snapshot, Tuned
 from reports.memory import Memory
 from reports.pages import PageRuns, key, size, union
+from scripts.reading import commits_in
 
 
 @dataclass(frozen=True)
@@ -167,15 +168,4 @@ def note_applied(slots: dict[int, Slot], found: Snapshot) -> None:
 
 def commits_of(lines: Iterable[str]) -> list[tuple[str, ...]]:
     """The lines of each commit of a script, without `commit` and `apply`."""
-    result: list[tuple[str, ...]] = []
-    parts: list[str] | None = None
-    for line in lines:
-        text = line.rstrip("\n")
-        if text == "commit":
-            parts = []
-        elif text == "apply" and parts is not None:
-            result.append(tuple(parts))
-            parts = None
-        elif parts is not None:
-            parts.append(text)
-    return result
+    return [commit.parts for commit in commits_in(lines)]

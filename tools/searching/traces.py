@@ -8,6 +8,7 @@ from typing import Iterable, Iterator
 
 from common import UsageError
 from scripts.grammar import HEADER
+from scripts.reading import ARM, FINISH
 from tracing.accesses import TraceError
 from tracing.areas import Lookup, chosen, group_pages
 from tracing.intervals import Recording, Runs, pairs
@@ -16,7 +17,7 @@ from tracing.script import places, touches
 
 from .plan import OF_TRACES, Plan
 from .truth import Range, Truths
-from .workloads import ARM, FINISH, Key, Numbers, Workload
+from .workloads import Key, Numbers, Workload
 
 ENDING = b"show\nend\n"
 
