@@ -5,8 +5,7 @@ from bisect import bisect_right
 from dataclasses import dataclass
 from typing import Iterable, Mapping
 
-MOST_TARGETS = 64
-MOST_PAGES = 1 << 20
+from units import MOST_PAGES, MOST_TARGETS
 
 
 @dataclass(frozen=True)
@@ -30,7 +29,7 @@ class Choice:
     left_out: list[Area]
 
 
-def grouped(uses: Mapping[int, int], gap: int, unit: int) -> list[Area]:
+def group_pages(uses: Mapping[int, int], gap: int, unit: int) -> list[Area]:
     """The areas of the touched pages, by address.
 
     `uses` has the number of accesses of each touched page. Pages with at most `gap` untouched pages
