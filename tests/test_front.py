@@ -10,7 +10,7 @@ from test_picture import SVG, paths_of, texts_of, titles_of
 from tool_runs import Refusals, need_program, run
 
 from drawing.front import Scale, round_step
-from reports.table import Axis, Mark, axis_of, front_of, table_of
+from searching.marks import Axis, Mark, axis_of, front_of, table_of
 
 TOOL = "picture.py"
 RUNS = """\

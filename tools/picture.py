@@ -19,7 +19,7 @@ from drawing.picture import picture
 from reports.events import Report, ReportError
 from reports.heat import Heat, HeatError, heats_of
 from reports.places import Place, PlaceError, check_places, places_of
-from reports.table import TableError, axis_of, table_of
+from searching.marks import TableError, axis_of, table_of
 
 TOOL = "picture.py"
 EXAMPLE = """\

@@ -5,7 +5,7 @@ from dataclasses import dataclass
 from typing import Sequence
 
 from reports.events import Aggregation
-from reports.pages import PAGE_BITS
+from units import PAGE_BITS
 
 from .canvas import LEFT, NAME, RIGHT, Canvas, short, size_words, x_of
 from .grid import Columns

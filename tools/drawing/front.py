@@ -5,8 +5,8 @@ import math
 from dataclasses import dataclass
 from typing import Iterable
 
-from reports.table import Axis, Mark, Table, front_of
-from scripts.wording import counted
+from searching.marks import Axis, Mark, Table, front_of
+from wording import counted
 
 from .canvas import LEFT, NAME, RIGHT, Canvas, short
 from .legend import NOTES, SCALE, TITLE

@@ -1,7 +1,7 @@
 """The title, the scale of colours, and the marks of slots, of what is not watched and of commits."""
 from __future__ import annotations
 
-from scripts.wording import counted
+from wording import counted
 
 from .canvas import LEFT, Canvas, short
 from .grid import LEVELS

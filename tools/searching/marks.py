@@ -6,8 +6,8 @@ import math
 from dataclasses import dataclass
 from typing import Iterable, Sequence
 
-from searching.measures import LESS, MEASURES, MORE
-from searching.table import DONE_RUNS, MEAN, RUNS, SPREAD, STATUS
+from .measures import LESS, MEASURES, MORE
+from .table import DONE_RUNS, MEAN, RUNS, SPREAD, STATUS
 
 ERRORS = {"working_set_error"}
 """Measures of which the distance from 0 is drawn."""
