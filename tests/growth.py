@@ -95,9 +95,7 @@ def draw_axes(canvas: Canvas) -> None:
         canvas.text(RIGHT + 8, y + 4, part, "small soft")
         canvas.text(x, BOTTOM + 18, part, "small middle soft")
     canvas.text((LEFT + RIGHT) / 2, BOTTOM + 38, "size, as a part of the greatest", "small middle")
-    middle = (TOP + BOTTOM) / 2
-    canvas.put(f'<text x="{short(RIGHT + 62)}" y="{short(middle)}" class="small middle" '
-               f'transform="rotate(-90 {short(RIGHT + 62)} {short(middle)})">time less the start, as a part of that of the greatest size</text>')
+    canvas.upwards(RIGHT + 62, (TOP + BOTTOM) / 2, "time less the start, as a part of that of the greatest size", "small middle")
 
 
 def draw_names(canvas: Canvas, growths: list[Growth]) -> None:
