@@ -10,6 +10,7 @@ import random
 import subprocess
 import sys
 import unittest
+from functools import lru_cache
 from pathlib import Path
 
 TOP = Path(__file__).resolve().parent.parent
@@ -17,6 +18,7 @@ TOOLS = TOP / "tools"
 KEPT = TOP / "examples/shop.trace.xz"
 PROGRAM = Path(os.environ.get("DAMON") or TOP / "crates/damon/out/damon")
 SECONDS = 300
+DEBIANS_PYTHON = "/usr/bin/python3"
 if str(TOOLS) not in sys.path:
     sys.path.insert(0, str(TOOLS))
 
@@ -25,6 +27,15 @@ def need_program() -> None:
     """Fails where there is no program; called once for each file of tests."""
     if not PROGRAM.is_file():
         raise RuntimeError(f"there is no program {PROGRAM}: `rt ci` builds it, and so does ./damon")
+
+
+@lru_cache(maxsize=None)
+def interpreter_with(module: str) -> str | None:
+    """An interpreter that has a module: this one, or Debian's own; None if neither has it."""
+    for path in (sys.executable, DEBIANS_PYTHON):
+        if Path(path).is_file() and subprocess.run([path, "-c", f"import {module}"], capture_output=True).returncode == 0:
+            return path
+    return None
 
 
 def run(name: str, *words: str, text: bytes = b"", program: Path = PROGRAM) -> subprocess.CompletedProcess[bytes]:

@@ -18,9 +18,9 @@ EXACT_HEADER = "exact counts 1"
 """The first line of exact counts."""
 
 ADDRESS = r"0x([0-9a-f]+)"
-ROW = re.compile(rf"(row (\d+) {ADDRESS}-{ADDRESS} count=(\d+))(?: last=\d+ age=\d+)?\n?")
+ROW = re.compile(rf"row (\d+) {ADDRESS}-{ADDRESS} count=(\d+)(?: last=(\d+) age=(\d+))?\n?")
 SNAPSHOT = re.compile(r"(show|aggregate) tick=(\d+)(?: (?:phase=\w+|threshold=\d+))? rows=(\d+)")
-APPLY = re.compile(rf"apply (\d+) (\w+) (\d+) {ADDRESS}-{ADDRESS} score=\d+")
+APPLY = re.compile(rf"apply (\d+) (\w+) (\d+) {ADDRESS}-{ADDRESS} score=(\d+)")
 SLOT = re.compile(r"slot (\d+) (?:left=(\d+|none) taken=\d+ lowest=(?:\d+|none)|(inactive))")
 SCHEME = re.compile(r"scheme (\d+) \w+ active=(yes|no) .*")
 COMMIT = re.compile(r"commit tick=(\d+) ((?:ok|refused) .*)")
@@ -41,6 +41,9 @@ class Region(NamedTuple):
     start: int
     end: int
     hits: int
+    last: int | None = None
+    age: int | None = None
+    """These two are None in exact counts, which do not have them."""
 
 
 class Applied(NamedTuple):
@@ -51,6 +54,7 @@ class Applied(NamedTuple):
     target: int
     start: int
     end: int
+    score: int
 
 
 @dataclass
@@ -143,8 +147,10 @@ class KeptRegions(dict[str, Region]):
         """The region of a row, which is kept from now on."""
         if len(self) >= MOST_KEPT:
             self.clear()
-        result = Region(int(match[2]), int(match[3], 16), int(match[4], 16), int(match[5]))
-        self[match[1]] = result
+        target, start, end, hits, last, age = match.groups()
+        ages = (int(last), int(age)) if age else (None, None)
+        result = Region(int(target), int(start, 16), int(end, 16), int(hits), *ages)
+        self[match[0]] = result
         return result
 
 
@@ -157,7 +163,7 @@ def text_events(lines: Iterable[str]) -> Iterator[Event]:
         if match := ROW.fullmatch(line):
             if current is None:
                 raise ReportError(f"line {number}: a row that belongs to no aggregation and no show")
-            current.regions.append(kept.get(match[1]) or kept.added(match))
+            current.regions.append(kept.get(line) or kept.added(match))
         elif not is_part(text := line.rstrip("\n"), current):
             since = current.tick if isinstance(current, Aggregation) else since
             head = head_of(text, number, since)
@@ -176,7 +182,8 @@ def is_part(text: str, current: Snapshot | None) -> bool:
     """Takes a line about a slot into the snapshot that it belongs to; says whether it was one."""
     if isinstance(current, Aggregation):
         if match := APPLY.fullmatch(text):
-            current.applied.append(Applied(int(match[1]), match[2], int(match[3]), int(match[4], 16), int(match[5], 16)))
+            current.applied.append(Applied(int(match[1]), match[2], int(match[3]), int(match[4], 16), int(match[5], 16),
+                                           int(match[6])))
         elif match := SLOT.fullmatch(text):
             current.active[int(match[1])] = match[3] is None
             if match[2] not in (None, "none"):
@@ -239,13 +246,15 @@ def json_event(members: dict[str, Any], since: int) -> Event | None:
         return Commit(tick, members["answer"])
     if kind not in ("show", "aggregate"):
         raise ValueError(f"no such kind: {kind}")
-    regions = [Region(row["target"], int(row["start"], 16), int(row["end"], 16), row["count"]) for row in members["rows"]]
+    regions = [Region(row["target"], int(row["start"], 16), int(row["end"], 16), row["count"], row["last"], row["age"])
+               for row in members["rows"]]
     slots = members["slots" if kind == "show" else "choices"]
     active = {slot["slot"]: slot["active"] for slot in slots}
     passes = max(1, tick - since)
     if kind == "show":
         return Show(tick, passes, len(regions), regions, active)
-    applied = [Applied(run["slot"], run["action"], run["target"], int(run["start"], 16), int(run["end"], 16))
+    applied = [Applied(run["slot"], run["action"], run["target"], int(run["start"], 16), int(run["end"], 16),
+                       run["score"])
                for run in members["applied"]]
     left = {slot["slot"]: slot["left"] for slot in slots if slot["left"] is not None}
     return Aggregation(tick, passes, len(regions), regions, active, applied, left)

@@ -1,0 +1,1 @@
+"""From reports of damon to one page for a browser."""

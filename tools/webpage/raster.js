@@ -1,0 +1,141 @@
+/* From rows to points of the screen: the mean share of each point, and the marks of schemes.
+
+   A hot row is two jumps in the sums of a column of points, at its top and at its bottom, each divided
+   between two points; the sums of the jumps are the means. So a drawing takes as long as there are
+   rows and points, and not as long as rows have points. */
+"use strict";
+
+/** Which columns of points each visible snapshot has: from the first one to before the second one, and at least one. */
+function columnsOf(report, time, width) {
+  const first = Math.max(0, firstAbove(report.edges, time[0], 0, report.count + 1) - 1);
+  const after = Math.min(report.count, firstAbove(report.edges, time[1], first, report.count + 1));
+  const place = tick => Math.round(width * (tick - time[0]) / (time[1] - time[0]));
+  const found = [];
+  for (let snapshot = first; snapshot < after; snapshot++) {
+    const from = Math.min(Math.max(0, place(report.edges[snapshot])), width - 1);
+    const to = Math.min(Math.max(from + 1, place(report.edges[snapshot + 1])), width);
+    found.push([snapshot, from, to]);
+  }
+  return found;
+}
+
+/** The points of a target that are drawn: its pages, and how many columns and lines of points show them. */
+class Frame {
+  constructor(target, time, pages, width, height) {
+    Object.assign(this, { target, time, pages, width, height });
+    this.scale = height / (pages[1] - pages[0]);
+  }
+
+  /** Where a page is in lines of points from the top; what is a point high or higher begins and ends between two points. */
+  line(page, isLarge) {
+    const line = (this.pages[1] - page) * this.scale;
+    return Math.min(this.height, Math.max(0, isLarge ? Math.round(line) : line));
+  }
+
+  isLarge(start, end) {
+    return (end - start) * this.scale >= 1;
+  }
+}
+
+/** The sums of one column of points, as jumps from each point to the next. */
+class Sums {
+  constructor(frame, report) {
+    this.frame = frame;
+    this.report = report;
+    this.hits = new Float64Array(frame.height + 2);
+    this.watched = new Float64Array(frame.height + 2);
+    this.isEmpty = true;
+  }
+
+  clear() {
+    this.hits.fill(0);
+    this.watched.fill(0);
+    this.isEmpty = true;
+  }
+
+  /** Adds a value to all points between two pages. */
+  addBetween(sums, start, end, value) {
+    const isLarge = this.frame.isLarge(start, end), top = this.frame.line(end, isLarge), bottom = this.frame.line(start, isLarge);
+    const first = top | 0, last = bottom | 0;
+    sums[first] += value * (first + 1 - top);
+    sums[first + 1] += value * (top - first);
+    sums[last] -= value * (last + 1 - bottom);
+    sums[last + 1] -= value * (bottom - last);
+  }
+
+  /** Adds the rows of a snapshot, with a weight. */
+  add(snapshot, weight) {
+    const { frame, report } = this, { start, end, count } = report.rows, passes = report.snapshots.passes[snapshot];
+    const [first, after] = report.rowsOf(snapshot, frame.target);
+    // Rows that follow each other without a gap are watched as one.
+    let from = -1, to = -1;
+    for (let row = Math.max(first, firstAbove(start, frame.pages[0], first, after) - 1); row < after; row++) {
+      if (start[row] >= frame.pages[1]) break;
+      if (end[row] <= frame.pages[0]) continue;
+      if (start[row] !== to) {
+        if (from >= 0) this.addBetween(this.watched, from, to, weight);
+        from = start[row];
+      }
+      to = end[row];
+      if (count[row]) this.addBetween(this.hits, start[row], end[row], weight * count[row] / passes);
+    }
+    if (from >= 0) this.addBetween(this.watched, from, to, weight);
+    this.isEmpty = false;
+  }
+
+  /** Writes the means into columns of points, from the first one to before the second one. */
+  write(shares, from, to) {
+    const { width, height } = this.frame;
+    let hits = 0, watched = 0;
+    for (let line = 0, at = from; line < height; line++, at += width) {
+      hits += this.hits[line];
+      watched += this.watched[line];
+      // Sums of jumps are not exactly 0 where they should be.
+      const share = watched < 1e-9 ? NaN : hits < 1e-9 * watched ? 0 : Math.min(1, hits / watched);
+      for (let column = 0; column < to - from; column++) shares[at + column] = share;
+    }
+  }
+}
+
+/** The mean share of each point of a frame, line by line from the top; NaN where nothing is watched. */
+function sharesOf(report, frame) {
+  const shares = new Float32Array(frame.width * frame.height).fill(NaN);
+  const sums = new Sums(frame, report);
+  let column = -1;
+  const flush = () => {
+    if (!sums.isEmpty) sums.write(shares, column, column + 1);
+    sums.clear();
+  };
+  for (const [snapshot, from, to] of columnsOf(report, frame.time, frame.width)) {
+    if (from !== column) flush();
+    column = from;
+    // Snapshots that share a column of points count by their time.
+    sums.add(snapshot, report.edges[snapshot + 1] - report.edges[snapshot]);
+    if (to > from + 1) {
+      flush();
+      sums.add(snapshot, 1);
+      sums.write(shares, from + 1, to);
+      sums.clear();
+    }
+  }
+  flush();
+  return shares;
+}
+
+/** Of each point the slots whose schemes were applied there: a bit for each colour. */
+function marksOf(report, frame, colours) {
+  const marks = new Uint8Array(frame.width * frame.height);
+  const { start, end, slot } = report.runs;
+  for (const [snapshot, from, to] of columnsOf(report, frame.time, frame.width)) {
+    const [first, after] = report.runsOf(snapshot, frame.target);
+    for (let run = first; run < after; run++) {
+      if (end[run] <= frame.pages[0] || start[run] >= frame.pages[1]) continue;
+      const isLarge = frame.isLarge(start[run], end[run]), bit = 1 << colours.get(slot[run]);
+      const top = Math.floor(frame.line(end[run], isLarge)), bottom = Math.ceil(frame.line(start[run], isLarge));
+      for (let line = top; line < Math.min(frame.height, Math.max(top + 1, bottom)); line++) {
+        for (let at = line * frame.width + from; at < line * frame.width + to; at++) marks[at] |= bit;
+      }
+    }
+  }
+  return marks;
+}
