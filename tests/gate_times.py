@@ -1,7 +1,7 @@
 #!/usr/bin/env python3
 """Runs the gate, or another command that proves crates, and prints where its processor time went.
 
-    tests/gate_times.py [COMMAND WORD ...]
+    tests/gate_times.py [--costs FILE] [COMMAND WORD ...]
 
 Without words it runs `rt ci` at the top of the checkout, which proves everything from nothing: with `--anew`, if
 this version of the toolchain has that option, and as it is, if it does so by itself. The processes of the prover
@@ -14,11 +14,16 @@ below this one are looked at twice a second, and the time of each is counted for
     edits    the must-fail edits themselves
 
 A kind of which nothing was seen has no column. What a process did after the last look at it is not counted, so
-each number is a little low.
+each number is a little low. The last column is the greatest memory that all processes of one kind of a crate held
+at one look.
+
+With --costs the time and the memory of each crate's proof are also written to FILE, as `build.py` reads them to
+plan a build: `tests/gate_times.py --costs building/costs.csv`.
 
 The output of the command goes to standard error, the table to standard output. The exit status is that of
 the command.
 """
+import argparse
 import os
 import subprocess
 import sys
@@ -30,6 +35,7 @@ from typing import Dict, Iterator, List, NamedTuple, Optional, Tuple
 TOP = Path(__file__).resolve().parent.parent
 KINDS = ("proof", "tests", "base", "edits")
 TICKS = os.sysconf("SC_CLK_TCK")
+PAGE = os.sysconf("SC_PAGE_SIZE")
 
 
 class Job(NamedTuple):
@@ -45,10 +51,20 @@ class Process(NamedTuple):
     begun: int
     # Of processor time.
     seconds: float
+    # Bytes that it holds.
+    memory: int = 0
 
 
 # For each crate and kind, the seconds of processor time.
 Table = Dict[str, Dict[str, float]]
+
+
+class Times(NamedTuple):
+    """What was seen of a command: its exit status, the seconds of processor time, and the greatest memory of each kind in bytes."""
+
+    status: int
+    seconds: Table
+    memory: Table
 
 
 def gate() -> List[str]:
@@ -61,7 +77,7 @@ def gate() -> List[str]:
 def process_of(pid: int) -> Process:
     # The name in parentheses may hold spaces.
     fields = Path(f"/proc/{pid}/stat").read_text().rpartition(")")[2].split()
-    return Process(int(fields[1]), int(fields[19]), (int(fields[11]) + int(fields[12])) / TICKS)
+    return Process(int(fields[1]), int(fields[19]), (int(fields[11]) + int(fields[12])) / TICKS, int(fields[21]) * PAGE)
 
 
 def job_of(words: List[str], folder: str) -> Optional[Job]:
@@ -96,39 +112,61 @@ def is_below(pid: int, top: int, parents: Dict[int, int]) -> bool:
     return False
 
 
-def times_of(command: List[str]) -> Tuple[int, Table]:
-    """Runs a command, and gives its exit status and the times of the prover below it."""
+def times_of(command: List[str]) -> Times:
+    """Runs a command, and gives its exit status and what was seen of the prover below it."""
     seconds: Dict[Tuple[int, int], Tuple[Job, float]] = {}
+    memory: Table = defaultdict(lambda: defaultdict(float))
     with subprocess.Popen(command, cwd=TOP, stdout=sys.stderr) as run:
         while run.poll() is None:
             seen = list(processes())
             parents = {pid: process.parent for pid, process, _ in seen}
+            held: Dict[Job, int] = defaultdict(int)
             for pid, process, job in seen:
                 if job and is_below(pid, run.pid, parents):
                     seconds[pid, process.begun] = (job, process.seconds)
+                    held[job] += process.memory
+            for job, much in held.items():
+                memory[job.crate][job.kind] = max(memory[job.crate][job.kind], much)
             time.sleep(0.5)
     table: Table = defaultdict(lambda: defaultdict(float))
     for job, used in seconds.values():
         table[job.crate][job.kind] += used
-    return run.returncode, table
+    return Times(run.returncode, table, memory)
 
 
-def lines_of(table: Table) -> Iterator[str]:
+def lines_of(table: Table, memory: Table) -> Iterator[str]:
     """The table as lines, the crate that took longest first."""
     sums = {kind: sum(kinds.get(kind, 0) for kinds in table.values()) for kind in KINDS}
     shown = [kind for kind in KINDS if sums[kind]] or [KINDS[0]]
-    yield f"{'crate':16}" + "".join(f"{kind:>8}" for kind in shown) + f"{'all':>8}   (seconds of processor time)"
+    most = {crate: max(kinds.values(), default=0) / 1e9 for crate, kinds in memory.items()}
+    yield f"{'crate':16}" + "".join(f"{kind:>8}" for kind in shown) + f"{'all':>8}{'GB':>6}   (seconds of processor time, greatest memory)"
     for crate, kinds in sorted(table.items(), key=lambda item: -sum(item[1].values())):
-        yield f"{crate:16}" + "".join(f"{kinds.get(kind, 0):8.0f}" for kind in shown) + f"{sum(kinds.values()):8.0f}"
-    yield f"{'all crates':16}" + "".join(f"{sums[kind]:8.0f}" for kind in shown) + f"{sum(sums.values()):8.0f}"
+        row = "".join(f"{kinds.get(kind, 0):8.0f}" for kind in shown)
+        yield f"{crate:16}{row}{sum(kinds.values()):8.0f}{most.get(crate, 0):6.1f}"
+    row = "".join(f"{sums[kind]:8.0f}" for kind in shown)
+    yield f"{'all crates':16}{row}{sum(sums.values()):8.0f}{max(most.values(), default=0):6.1f}"
 
 
-def main(command: List[str]) -> int:
+def costs_of(table: Table, memory: Table) -> Iterator[str]:
+    """The lines of the file of costs: a crate's name, the seconds of its proof, and the gigabytes that it held."""
+    yield "crate,seconds,gigabytes"
+    for crate in sorted(table):
+        if table[crate].get("proof"):
+            yield f"{crate},{table[crate]['proof']:.0f},{memory[crate].get('proof', 0) / 1e9:.1f}"
+
+
+def main(words: List[str]) -> int:
+    parser = argparse.ArgumentParser(description="Runs the gate, and prints where its processor time and memory went.")
+    parser.add_argument("--costs", type=Path, help="write the costs of the proofs to this file, as build.py reads them")
+    parser.add_argument("command", nargs=argparse.REMAINDER, help="a command that proves crates (rt ci)")
+    given = parser.parse_args(words)
     begun = time.monotonic()
-    status, table = times_of(command or gate())
-    print(*lines_of(table), sep="\n")
+    times = times_of(given.command or gate())
+    print(*lines_of(times.seconds, times.memory), sep="\n")
     print(f"{(time.monotonic() - begun) / 60:.1f} minutes on {os.cpu_count()} processors")
-    return status
+    if given.costs:
+        given.costs.write_text("".join(f"{line}\n" for line in costs_of(times.seconds, times.memory)))
+    return times.status
 
 
 if __name__ == "__main__":

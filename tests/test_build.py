@@ -72,6 +72,7 @@ class Building(unittest.TestCase):
         self.top = Path(folder.name)
         for file in ("damon", "build.py"):
             shutil.copy2(TOP / file, self.top / file)
+        shutil.copytree(TOP / "building", self.top / "building", ignore=shutil.ignore_patterns("__pycache__", "costs.csv"))
         (self.top / "crates.txt").write_text("".join(f"{name}: {uses}\n" for name, uses in CRATES.items()))
         for name in CRATES:
             source = self.top / "crates" / name / "src/lib.rt"
@@ -124,8 +125,23 @@ class Building(unittest.TestCase):
     def test_it_says_how_far_it_is(self) -> None:
         said = self.run_it("build.py", "--jobs", "4").stderr
         self.assertEqual(sorted(self.names_in(said)), sorted(set(CRATES) - {"other"}))
-        self.assertTrue(said.startswith("crate 1 of 5: low, "), said)
-        self.assertIn("crate 5 of 5: damon, ", said)
+        lines = said.splitlines()
+        self.assertRegex(lines[0], r"^building damon: 5 crates are proved first, in about 0 minutes; .* cd crates/damon && rt try ")
+        self.assertRegex(lines[1], r"^crate 1 of 5: low, \d s \(20% after 0:0\d min of about 0\)$")
+        self.assertRegex(lines[5], r"^crate 5 of 5: damon, \d s \(100% after 0:0\d min of about 0\)$")
+
+    def test_the_wait_is_told_by_what_was_measured(self) -> None:
+        costs = "crate,seconds,gigabytes\nlow,600,1.0\nleft,300,1.0\nright,1200,1.0\nhigh,60,1.0\ndamon,60,1.0\n"
+        (self.top / "building/costs.csv").write_text(costs)
+        # The longest chain, low, right, high and then damon on both processors, decides how long two processors take.
+        self.assertIn("in about 32 minutes", self.run_it("build.py", "--jobs", "2").stderr)
+
+    def test_crates_with_too_little_memory_are_proved_one_after_another(self) -> None:
+        huge = "crate,seconds,gigabytes\n" + "".join(f"{name},10,900000.0\n" for name in CRATES)
+        (self.top / "building/costs.csv").write_text(huge)
+        self.assertEqual(self.run_it("build.py", "--jobs", "4").returncode, 0)
+        runs = sorted(self.runs().values(), key=lambda run: run.begun)
+        self.assertTrue(all(first.ended <= second.begun for first, second in zip(runs, runs[1:])))
 
     def test_a_crate_that_is_not_proved_ends_the_build_with_its_log(self) -> None:
         done = self.run_it("build.py", "--jobs", "4", BAD_CRATE="left")
@@ -137,12 +153,35 @@ class Building(unittest.TestCase):
     def test_only_what_changed_and_what_stands_on_it_is_built_again(self) -> None:
         self.run_it("build.py", "--jobs", "4")
         (self.top / "notes").unlink()
-        source = self.top / "crates/right/src/lib.rt"
-        later = (self.top / "crates/high/out/rlib/stamp").stat().st_mtime + 5
-        os.utime(source, (later, later))
+        (self.top / "crates/right/src/lib.rt").write_text("// another line\n")
         said = self.run_it("build.py", "--jobs", "4").stderr
         self.assertEqual(set(self.runs()), {"right", "high", "damon"})
         self.assertIn("crate 3 of 3: damon, ", said)
+
+    def test_files_that_are_newer_but_the_same_are_not_built_again(self) -> None:
+        self.run_it("damon", "gen", "1")
+        (self.top / "notes").unlink()
+        later = (self.top / "crates/damon/out/damon").stat().st_mtime + 5
+        for source in self.top.glob("crates/*/src/lib.rt"):
+            os.utime(source, (later, later))
+        again = self.run_it("damon", "gen", "2")
+        self.assertEqual((again.returncode, again.stdout, again.stderr), (0, "ran gen 2\n", ""))
+        self.assertFalse((self.top / "notes").exists())
+
+    def test_a_build_that_was_broken_off_goes_on_where_it_was(self) -> None:
+        self.run_it("build.py", "--jobs", "4", BAD_CRATE="high")
+        (self.top / "notes").unlink()
+        self.run_it("build.py", "--jobs", "4")
+        self.assertEqual(set(self.runs()), {"high", "damon"})
+
+    def test_a_file_that_is_removed_counts(self) -> None:
+        more = self.top / "crates/left/src/more.rt"
+        more.write_text("// more\n")
+        self.run_it("build.py", "--jobs", "4")
+        (self.top / "notes").unlink()
+        more.unlink()
+        self.run_it("build.py", "--jobs", "4")
+        self.assertEqual(set(self.runs()), {"left", "high", "damon"})
 
     def test_without_rt_nothing_is_done(self) -> None:
         done = self.run_it("build.py", PATH=str(self.top))
@@ -186,13 +225,13 @@ class Building(unittest.TestCase):
         self.assertEqual((done.returncode, done.stdout), (0, "ran gen 1\n"), done.stderr)
         # The link of a link has the name of the other program, which these small crates do not have.
         failed = self.run_it(f"{elsewhere.relative_to(self.top)}/damond", "run")
-        self.assertIn("building damond: ", failed.stderr)
-        self.assertEqual((failed.returncode, failed.stdout), (1, ""))
+        self.assertEqual((failed.returncode, failed.stdout, failed.stderr), (1, "", "build.py: crates.txt has no crate damond\n"))
         self.assertEqual(sorted(path.name for path in elsewhere.iterdir()), ["damon", "damond"])
 
     def test_an_old_program_is_not_run_when_a_proof_fails(self) -> None:
         self.run_it("damon", "gen", "1")
         source = self.top / "crates/left/src/lib.rt"
+        source.write_text("// a line that does not prove\n")
         later = (self.top / "crates/damon/out/damon").stat().st_mtime + 5
         os.utime(source, (later, later))
         failed = self.run_it("damon", "gen", "1", BAD_CRATE="left")

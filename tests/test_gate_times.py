@@ -9,11 +9,11 @@ import sys
 import tempfile
 import unittest
 from pathlib import Path
-from typing import Dict, Iterator, Tuple
+from typing import Iterator, Tuple
 from unittest import mock
 
 import gate_times
-from gate_times import Job, Process, job_of, lines_of, times_of
+from gate_times import Job, Process, Table, costs_of, job_of, lines_of, times_of
 
 PROVER = "/opt/kit/bin/rattle"
 
@@ -42,32 +42,38 @@ class Times(unittest.TestCase):
         begun = iter(range(100))
 
         def processes() -> Iterator[Tuple[int, Process, Job]]:
-            yield 7, Process(1, next(begun), 2.0), Job("low", "proof")
+            number = next(begun)
+            yield 7, Process(1, number, 2.0, 1_000 * (number % 2 + 1)), Job("low", "proof")
+            yield 8, Process(1, 0, 1.0, 500), Job("low", "proof")
 
         # Long enough for two looks.
         command = [sys.executable, "-c", "import time; time.sleep(0.8)"]
         with mock.patch.object(gate_times, "processes", processes), mock.patch.object(gate_times, "is_below", return_value=True):
-            _, table = times_of(command)
-        self.assertEqual(table["low"]["proof"], 2.0 * next(begun))
-        self.assertGreater(table["low"]["proof"], 2.0)
+            times = times_of(command)
+        self.assertEqual(times.seconds["low"]["proof"], 2.0 * next(begun) + 1.0)
+        self.assertGreater(times.seconds["low"]["proof"], 3.0)
+        # The memory is that of both processes, at the look where it was greatest.
+        self.assertEqual(times.memory["low"]["proof"], 2_500)
 
 
 class Printing(unittest.TestCase):
     def test_a_kind_that_was_not_seen_has_no_column(self) -> None:
-        table: Dict[str, Dict[str, float]] = {"low": {"proof": 12.0, "edits": 3.0}, "high": {"proof": 20.0}}
-        self.assertEqual(list(lines_of(table)), [
-            "crate              proof   edits     all   (seconds of processor time)",
-            "high                  20       0      20",
-            "low                   12       3      15",
-            "all crates            32       3      35",
+        table: Table = {"low": {"proof": 12.0, "edits": 3.0}, "high": {"proof": 20.0}}
+        memory: Table = {"low": {"proof": 1.5e9, "edits": 0.4e9}, "high": {"proof": 2.25e9}}
+        self.assertEqual(list(lines_of(table, memory)), [
+            "crate              proof   edits     all    GB   (seconds of processor time, greatest memory)",
+            "high                  20       0      20   2.2",
+            "low                   12       3      15   1.5",
+            "all crates            32       3      35   2.2",
         ])
+        self.assertEqual(list(costs_of(table, memory)), ["crate,seconds,gigabytes", "high,20,2.2", "low,12,1.5"])
 
     def test_a_command_without_proofs_gives_its_status_and_an_empty_table(self) -> None:
         said = io.StringIO()
         with contextlib.redirect_stdout(said):
             status = gate_times.main([sys.executable, "-c", "raise SystemExit(3)"])
         self.assertEqual(status, 3)
-        self.assertIn("all crates             0       0", said.getvalue())
+        self.assertIn("all crates             0       0   0.0", said.getvalue())
 
 
 class Gate(unittest.TestCase):

@@ -1,0 +1,1 @@
+"""What `build.py` plans a build by."""
