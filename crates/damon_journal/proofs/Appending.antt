@@ -3,7 +3,7 @@ use Rattle.std.proofs.Common.{◌≡◌, ℕ, List, ◌++◌, length, take, drop
 use Rattle.std.proofs.Math.Seq.{take-append_seam, take-length}
 use Rattle.std.proofs.lemmas.List.{append_assoc, take-append-le, take-append-drop, length-append}
 use Rattle.std.proofs.lemmas.Result.{IfOk-equal}
-use Rattle.script_lines.specs.Kept.{KeepsFront}
+use Rattle.line_text.specs.Appended.{KeepsFront}
 
 -- a text keeps itself
 pub keeps_self : (a : List ℕ) → KeepsFront a a

@@ -1,7 +1,7 @@
 // The lines of entries.
 ghost use Rattle.std.specs.Prelude.{◌≡◌, ◌++◌, ◌∷◌, [], codes, map, option_map, slice_get, slice_index_or, OnOk};
 ghost use Rattle.std.specs.Option.{option_copied};
-ghost use Rattle.script_lines.specs.Kept.{KeepsFront};
+ghost use Rattle.line_text.specs.Appended.{KeepsFront};
 ghost use Rattle.script_lines.specs.Lines.{lines_text};
 ghost use Rattle.damon_control.specs.LiveView.{call_value, calls_of, live_said};
 ghost use Rattle.damon_journal.specs.Replay.{call_at};

@@ -2,7 +2,7 @@
 ghost use Rattle.std.specs.Prelude.{◌≡◌, ◌<◌, ◌++◌, take, OnErr, OnOk};
 ghost use Rattle.std.specs.List.{AllByRecursion};
 ghost use Rattle.damon_types.specs.Space.{pages_of};
-ghost use Rattle.script_lines.specs.Kept.{KeepsFront};
+ghost use Rattle.line_text.specs.Appended.{KeepsFront};
 ghost use Rattle.damon_core.specs.Stands.{Stands};
 ghost use Rattle.damon_control.specs.LiveView.{live_said};
 ghost use Rattle.damon_control.specs.Sound.{SpellsCalls};

@@ -1,5 +1,5 @@
 use Rattle.std.proofs.Common.{◌≡◌, ◌≤◌, ◌-◌, ◌++◌, drop, length, map}
-use Rattle.script_lines.specs.Kept.{KeepsFront}
+use Rattle.line_text.specs.Appended.{KeepsFront}
 use Rattle.damon_journal.specs.Results.{loads_in}
 use Rattle.damon_journal.specs.Spelled.{bit_digit}
 use Rattle.damon_journal.proofs.entry_lines.write_bits.Given as goal

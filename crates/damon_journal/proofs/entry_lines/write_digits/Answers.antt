@@ -1,6 +1,6 @@
 use Rattle.std.proofs.Common.{◌<◌, ◌+◌, ◌++◌, ◌∷◌, [], length, map, refl, sym, subst, arith}
 use Rattle.std.proofs.lemmas.List.{length-drop}
-use Rattle.script_lines.specs.Kept.{KeepsFront}
+use Rattle.line_text.specs.Appended.{KeepsFront}
 use Rattle.damon_journal.specs.Spelled.{bit_digit}
 use Rattle.damon_journal.proofs.Appending.{keeps-append, keeps_through}
 use Rattle.damon_journal.proofs.LoadRuns.{digit_more}

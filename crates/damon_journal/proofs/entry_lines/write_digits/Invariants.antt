@@ -1,6 +1,6 @@
 use Rattle.std.proofs.Common.{◌≡◌, ◌≤◌, ◌+◌, ◌++◌, drop, length, map}
 use Rattle.std.specs.Prelude.{vec_capacity}
-use Rattle.script_lines.specs.Kept.{KeepsFront}
+use Rattle.line_text.specs.Appended.{KeepsFront}
 use Rattle.damon_journal.specs.Spelled.{bit_digit}
 use Rattle.damon_journal.proofs.entry_lines.write_digits.Given as goal
 

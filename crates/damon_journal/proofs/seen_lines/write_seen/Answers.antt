@@ -1,6 +1,6 @@
 use Rattle.std.proofs.Common.{◌∙◌, ◌-◌, ◌++◌, drop, sym, ap, subst, arith}
 use Rattle.std.proofs.lemmas.List.{length-drop, take_all}
-use Rattle.script_lines.specs.Kept.{KeepsFront}
+use Rattle.line_text.specs.Appended.{KeepsFront}
 use Rattle.damon_journal.specs.Spelled.{spelled_seen}
 use Rattle.damon_journal.proofs.Appending.{keeps-append, keeps_through}
 use Rattle.damon_journal.proofs.SeenGroups.{group_passed}

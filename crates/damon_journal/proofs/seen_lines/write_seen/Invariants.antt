@@ -1,5 +1,5 @@
 use Rattle.std.proofs.Common.{◌≡◌, ◌-◌, ◌≤◌, ◌++◌, drop, length, map}
-use Rattle.script_lines.specs.Kept.{KeepsFront}
+use Rattle.line_text.specs.Appended.{KeepsFront}
 use Rattle.script_lines.specs.Lines.{lines_text}
 use Rattle.damon_journal.specs.Spelled.{spelled_seen}
 use Rattle.damon_journal.proofs.seen_lines.write_seen.Given as goal

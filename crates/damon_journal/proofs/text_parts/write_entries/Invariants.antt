@@ -1,6 +1,6 @@
 use Rattle.std.proofs.Common.{◌≡◌, ◌-◌, ◌++◌, drop, length}
 use Rattle.std.specs.Prelude.{sum}
-use Rattle.script_lines.specs.Kept.{KeepsFront}
+use Rattle.line_text.specs.Appended.{KeepsFront}
 use Rattle.script_lines.specs.Lines.{lines_text}
 use Rattle.damon_control.specs.LiveView.{live_said}
 use Rattle.damon_journal.specs.Results.{loads_in}

@@ -1,5 +1,5 @@
 use Rattle.std.proofs.Common.{◌≡◌, ◌++◌, length}
-use Rattle.script_lines.specs.Kept.{KeepsFront}
+use Rattle.line_text.specs.Appended.{KeepsFront}
 use Rattle.damon_journal.specs.TextParts.{IsPlaceOf, steps_left, text_left}
 use Rattle.damon_journal.proofs.text_parts.write_to.Given as goal
 
