@@ -131,8 +131,10 @@ def plot(times: Dict[str, List[Tuple[int, float]]]) -> str:
         shapes.append(f'<text x="{left + width + 16}" y="{row}" fill="{colour}">{name}</text>')
     shapes.append(f'<text x="{left + width / 2:.0f}" y="{top + height + 40}" text-anchor="middle">size, as a part of the greatest</text>')
     middle = top + height / 2
-    shapes.append(f'<text x="16" y="{middle:.0f}" text-anchor="middle" transform="rotate(-90 16 {middle:.0f})">time, as a part of that of the greatest size</text>')
-    head = f'<svg xmlns="http://www.w3.org/2000/svg" width="{left + width + 150}" height="{top + height + 56}" font-family="sans-serif" font-size="12">'
+    shapes.append(f'<text x="16" y="{middle:.0f}" text-anchor="middle" transform="rotate(-90 16 {middle:.0f})">'
+                  "time, as a part of that of the greatest size</text>")
+    head = (f'<svg xmlns="http://www.w3.org/2000/svg" width="{left + width + 150}" height="{top + height + 56}" '
+            'font-family="sans-serif" font-size="12">')
     return "\n".join([head, '<rect width="100%" height="100%" fill="white"/>', *shapes, "</svg>", ""])
 
 
