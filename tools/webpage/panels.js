@@ -201,7 +201,7 @@ class Panel {
     const [low, high] = this.page.view.pages[this.number], bounds = this.page.view.bounds(this.number);
     const isWhole = low <= bounds[0] && high >= bounds[1];
     this.shown.text(isWhole ? "" : `shown: ${addresses(this.target, Math.floor(low), Math.ceil(high))}`);
-    this.section.attr("data-shown", addresses(this.target, Math.floor(low), Math.ceil(high)));
+    this.section.attr("data-pages", `${this.target.low + low} ${this.target.low + high}`);
   }
 }
 
