@@ -22,7 +22,6 @@ between `<!-- headline -->` and `<!-- end -->`.
 """
 import re
 import sys
-from pathlib import Path
 from typing import Dict, Iterable, List, NamedTuple, Set
 
 from sources import TOP, Definition, Repository

@@ -176,6 +176,20 @@ class Building(unittest.TestCase):
         self.assertEqual((again.returncode, again.stdout, again.stderr), (0, "ran gen 2\n", ""))
         self.assertFalse((self.top / "notes").exists())
 
+    def test_a_link_from_elsewhere_runs_the_program_of_the_checkout(self) -> None:
+        elsewhere = self.top / "home of a user/bin"
+        elsewhere.mkdir(parents=True)
+        (self.top / "damond").symlink_to("damon")
+        for link, target in (("damon", self.top / "damon"), ("damond", self.top / "damond")):
+            (elsewhere / link).symlink_to(target)
+        done = self.run_it(f"{elsewhere.relative_to(self.top)}/damon", "gen", "1")
+        self.assertEqual((done.returncode, done.stdout), (0, "ran gen 1\n"), done.stderr)
+        # The link of a link has the name of the other program, which these small crates do not have.
+        failed = self.run_it(f"{elsewhere.relative_to(self.top)}/damond", "run")
+        self.assertIn("building damond: ", failed.stderr)
+        self.assertEqual((failed.returncode, failed.stdout), (1, ""))
+        self.assertEqual(sorted(path.name for path in elsewhere.iterdir()), ["damon", "damond"])
+
     def test_an_old_program_is_not_run_when_a_proof_fails(self) -> None:
         self.run_it("damon", "gen", "1")
         source = self.top / "crates/left/src/lib.rt"

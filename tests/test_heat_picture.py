@@ -44,7 +44,7 @@ all reports=2 least=4 median=4 greatest=5
 """
 """Of column 7 of target 0, which is its second page, and of column 2 of target 1 the pages were found accessed in each of
 four passes, and of column 3 in half of them; in the next two passes those of columns 0 and 1."""
-TOP_OF_PANELS, HEIGHT = 80, 355
+TOP_OF_PANELS, HEIGHT = 94, 355
 """Where the panel of target 1 is: its height is to that of target 0 as the square roots of their pages are."""
 
 
@@ -92,7 +92,7 @@ class Pictures(Places):
     def test_colours_are_shares_of_pages_and_passes(self) -> None:
         picture = drawn(TABLES, "--script", str(self.script), "--title", "a < b", "--label", "1=the heap")
         for text in ("a < b", "0x10000", "0x12000", "0x20000", "0x30000", "target 0", "8 KiB", "the heap", "target 1, 64 KiB",
-                     "count / passes:  0", "working set", "20 KiB", "often accessed", "sampling intervals"):
+                     "mean share of samples in which its pages were found accessed:  never", "addresses", "working set", "20 KiB", "often accessed", "sampling intervals"):
             self.assertIn(text, texts_of(picture))
         hot, half = paths_of(picture, "class", "h9"), paths_of(picture, "class", "h5")
         self.assertEqual((len(hot), len(half)), (2, 1))
@@ -112,7 +112,7 @@ class Pictures(Places):
 
     def test_without_places_colours_are_shares_of_the_greatest(self) -> None:
         picture = drawn(TABLES.replace(" 8 4 ", " 4 2 ").replace(" 1 4 4 ", " 1 2 2 "))
-        for text in ("column 0", "column 7", "target 0", "target 1", "heat, relative:  0"):
+        for text in ("column 0", "column 7", "target 0", "target 1", "heat beside the greatest one of its target:  none", "columns"):
             self.assertIn(text, texts_of(picture))
         self.assertNotIn("0x10000", texts_of(picture))
         self.assertIn("target 1: 8 columns", titles_of(picture))

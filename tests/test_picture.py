@@ -16,6 +16,7 @@ from tool_runs import PROGRAM, TOOLS, TOP, Refusals, need_program, random_trace,
 from drawing.charts import CHART, charts_of, quota_charts
 from drawing.grid import UNWATCHED, level, rectangles
 from drawing.history import commits_of, history_of
+from drawing.panels import ALONE
 from reports.events import Aggregation, Commit, Memory, Report, ReportError, Show, Tuned
 
 TOOL = "picture.py"
@@ -162,7 +163,8 @@ class Pictures(unittest.TestCase):
         self.assertEqual((ran.returncode, ran.stderr), (0, b""))
         picture = xml.fromstring(ran.stdout)
         for text in ("a < b", "0x10000", "0x14000", "0x20000", "0x22000", "the heap", "target 0", "16 KiB",
-                     "slot 0 pageout: 2 pages", "working set", "regions"):
+                     "share of samples in which it was found accessed:  never", "always", "addresses", "slot 0 pageout: 2 pages",
+                     "working set", "regions"):
             self.assertIn(text, texts_of(picture))
         self.assertIn(b"prefers-color-scheme:dark", ran.stdout)
         # Target 1 has the count 4 of 4 in the first four of six ticks; target 0 has 1 of 2 in the others.
@@ -264,7 +266,7 @@ class Commits(unittest.TestCase):
         # and before it the three at the top were not. Of the six ticks that are drawn, 3 are at the middle.
         parts = paths_of(picture, "fill", "url(#unwatched)")[0].split("z")[:-1]
         high, low = sorted((re.findall(r"[\d.]+", part) for part in parts), key=lambda place: float(place[1]))
-        height = 480 * 3 / 19
+        height = ALONE * 3 / 19
         self.assertEqual((low[0], low[2]), (x_of(3, 6), x_of(6, 6)))
         self.assertEqual((high[0], high[2]), (x_of(0, 6), x_of(3, 6)))
         for part in (low, high):

@@ -14,11 +14,11 @@ from comparing.accuracy import Accuracy
 from comparing.counts import Counts, applied_of, counts_of
 from comparing.paging import PAGEOUT, Ledger, Moment, Move, Owner, Paging, Use, Uses
 from reports.events import Aggregation, Report, ReportError
-from reports.pages import PAGE_BITS, Run, common, place, size
-from scripts.wording import counted
+from reports.pages import Run, common, place, size
+from units import PAGE
+from wording import counted
 
 TOOL = "compare.py"
-PAGE_BYTES = 1 << PAGE_BITS
 EXAMPLE = """\
 example:
   tools/compare.py exact.report sampled.report
@@ -113,7 +113,7 @@ def move_line(move: Move) -> str:
     target, start = place(stay.start)
     pages = stay.end - stay.start
     end = f"{'fetched ' if is_fetched else ''}back at tick {back.tick}" if back else "still out at the end"
-    return (f"move: slot {stay.slot}, target {target}, {start:#x}-{start + pages * PAGE_BYTES:#x}, {counted(pages, 'page')}, "
+    return (f"move: slot {stay.slot}, target {target}, {start:#x}-{start + pages * PAGE:#x}, {counted(pages, 'page')}, "
             f"out at tick {stay.since.tick}, {end}")
 
 
@@ -129,8 +129,8 @@ def lines_of(found: Comparison, within: int) -> list[str]:
 def check_exact(found: Aggregation, path: str) -> None:
     """Raises UsageError if a row of a report may be more than one page."""
     for region in found.regions:
-        if region.end - region.start != PAGE_BYTES:
-            pages = (region.end - region.start) // PAGE_BYTES
+        if region.end - region.start != PAGE:
+            pages = (region.end - region.start) // PAGE
             raise UsageError(f"{path} is not exact: it has a region of {pages} pages at tick {found.tick}; "
                              "the first report needs one page a region, as --exact makes it")
 

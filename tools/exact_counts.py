@@ -11,14 +11,14 @@ from typing import Sequence
 
 from common import UsageError, opened_text, parser, run
 from reports.events import Report, ReportError
-from reports.exact import exact_lines
-from scripts.wording import counted
 from tracing import reading
 from tracing.accesses import Trace, TraceError
 from tracing.areas import Choice, chosen, grouped
+from tracing.exact import exact_lines
 from tracing.intervals import Recording
 from tracing.notes import counted_accesses, lost_lines
 from tracing.reading import no_limit, read_trace, touched
+from wording import counted
 
 TOOL = "exact_counts.py"
 EXAMPLE = """\

@@ -11,15 +11,17 @@ import sys
 from typing import Iterable
 
 from common import STANDARD_INPUT, UsageError, opened_text, parser, run
-from drawing.front import front_picture
+from drawing.front import ColourError, colours_of, front_picture
 from drawing.heat import heat_picture
-from drawing.history import History, ScriptError, commits_of, history_of
+from drawing.charts import CHARTS, charts_of
+from drawing.history import Cut, History, ScriptError, commits_of, history_of
 from drawing.panels import spans_of
-from drawing.picture import picture
+from drawing.picture import View, picture
 from reports.events import Report, ReportError
 from reports.heat import Heat, HeatError, heats_of
+from reports.names import NamedArea, NamesError, named_areas_of, names_by_target
 from reports.places import Place, PlaceError, check_places, places_of
-from reports.table import TableError, axis_of, table_of
+from searching.marks import TableError, axis_of, table_of
 
 TOOL = "picture.py"
 EXAMPLE = """\
@@ -34,6 +36,12 @@ schemes were applied. Many columns or regions are drawn as averages.
 Beneath are the commits: a bar for one that was accepted, a cross for one that was refused, and a
 triangle for a metric. What a commit has is not in a report, so metrics and words need --script. A
 slot has a thin line while it waits, and a bar while it is active, by the end of each column.
+
+A part of a report is drawn with --target, --from and --to: whole aggregations, and what they have of
+these targets. --busy 0.02 folds the targets that were found accessed in less than 2 % of the samples
+of their memory into one strip. --names FILE names targets by address, with lines START-END NAME:
+  0x4d12000-0x4dce000 page cache
+A target has the name of the area that has most of it, unless a --label names it.
 
 Of a report of `damon reclaim` it also draws which pages are resident, above which is what is out, and
 the refaults. What is resident after an aggregation is drawn until the next one. The metrics that
@@ -56,7 +64,12 @@ With --front it draws the rows that tools/search.py wrote, of runs or of points:
 
 The axes are two of its measures, or other columns of numbers with :less or :more behind the name, which
 says what is better. In front are the rows that no other one beats: none is as good in both and better
-in one. Rows of points have lines that are as long as the spread of their runs.
+in one. Rows of points have lines that are as long as the spread of their runs. A label beside a mark in
+front has the settings in which rows differ; a * stands for several values.
+
+Rows of several workloads have a front for each, since no setting of one beats one of another; and one
+for all of them together, of the means over all workloads. --only workload=NAME draws one workload, and
+--colour age shows by the colours and forms of marks which age they have.
 """
 LABEL = re.compile(r"([0-9]{1,2})=(.*)")
 
@@ -83,6 +96,15 @@ def history_read(options: argparse.Namespace) -> History:
             return history_of(Report(stream).events(), commits)
         except (ReportError, ScriptError) as error:
             raise UsageError(str(error)) from None
+
+
+def names_read(path: str) -> list[NamedArea]:
+    """The areas of a file of names. Raises UsageError that names the file."""
+    with opened_text(path) as stream:
+        try:
+            return named_areas_of(stream)
+        except NamesError as error:
+            raise UsageError(f"{path}: {error}") from None
 
 
 def heats_read(path: str) -> list[Heat]:
@@ -114,36 +136,69 @@ def options_of() -> argparse.Namespace:
     add("--front", action="store_true", help="what is read are the rows that tools/search.py wrote")
     add("--x", metavar="NAME", help="with --front the measure to the right")
     add("--y", metavar="NAME", help="with --front the measure upwards")
+    add("--colour", metavar="SETTING", help="with --front the setting that colours and forms of marks show")
+    add("--only", action="append", default=[], metavar="NAME=VALUE", help="with --front the rows with this value, such as workload=shop.trace.xz; may be repeated")
     add("--script", metavar="FILE", help="the script of the report, which says what its commits have; with --heat the live script "
         "or the journal, which says where its targets are")
     add("--title", help="the title of the picture")
     add("--label", action="append", default=[], metavar="TARGET=TEXT", help="names a target; may be repeated")
+    add("--names", metavar="FILE", help="names targets by lines START-END NAME")
+    add("--target", action="append", default=[], type=int, metavar="N", help="draws this target alone; may be repeated")
+    add("--from", dest="since", type=int, metavar="TICK", help="draws what comes after this tick")
+    add("--to", dest="until", type=int, metavar="TICK", help="draws what comes before it")
+    add("--charts", metavar="NAME,..", help=f"the curves beneath, or `none`: {', '.join(CHARTS)}")
+    add("--busy", type=float, metavar="SHARE", help="folds targets that were found accessed in less than this share of their samples")
     add("--theme", choices=("auto", "light", "dark"), default="auto",
         help="the colours; auto, the default, follows what the reader prefers")
     options = result.parse_args()
     if options.front and (options.heat or options.label or options.script is not None):
         raise UsageError("--front takes no --heat, no --label and no --script")
+    parts = (options.names, options.since, options.until, options.charts, options.busy)
+    if (options.front or options.heat) and (options.target or any(part is not None for part in parts)):
+        raise UsageError("--names, --target, --from, --to, --charts and --busy are for reports")
     if options.front != (options.x is not None) or options.front != (options.y is not None):
         raise UsageError("--front needs --x and --y, and these need --front")
+    if not options.front and (options.colour is not None or options.only):
+        raise UsageError("--colour and --only are for --front")
     return options
 
 
-def check_labels(labels: Iterable[int], targets: Iterable[int], whose: str) -> None:
-    """Raises UsageError if a label names a target that is not there."""
+def check_targets(option: str, named: Iterable[int], targets: Iterable[int], whose: str) -> None:
+    """Raises UsageError if an option names a target that is not there."""
     known = list(targets)
-    for target in labels:
+    for target in named:
         if target not in known:
-            raise UsageError(f"--label names target {target}, and {whose} {', '.join(map(str, known))}")
+            raise UsageError(f"{option} names target {target}, and {whose} {', '.join(map(str, known))}")
 
 
 def report_drawn(options: argparse.Namespace) -> str:
     """The picture of a report. Raises UsageError."""
     labels = labels_of(options.label)
+    names = names_read(options.names) if options.names is not None else []
+    if options.busy is not None and not 0 <= options.busy <= 1:
+        raise UsageError("--busy is a share, from 0 to 1")
     history = history_read(options)
     if not history.snapshots:
         raise UsageError("the report has no aggregation, and no show after a pass: there is nothing to draw")
-    check_labels(labels, spans_of(history), "the report has")
-    return picture(history, options.title or "Accesses by time and address", labels, options.theme)
+    check_targets("--label", labels, spans_of(history), "the report has")
+    check_targets("--target", options.target, spans_of(history), "the report has")
+    history = Cut(options.since or 0, options.until, frozenset(options.target) or None).of(history)
+    if not spans_of(history):
+        raise UsageError("no aggregation has a region in this part: there is nothing to draw")
+    labels = {**names_by_target(names, spans_of(history)), **labels}
+    title = options.title or "Accesses by time and address"
+    return picture(history, View(title, labels, options.theme, charts_wanted(options.charts, history), options.busy or 0.0))
+
+
+def charts_wanted(text: str | None, history: History) -> list[str]:
+    """The kinds of charts that are drawn. Raises UsageError if the report does not have one of them."""
+    has = list(dict.fromkeys(chart.kind for chart in charts_of(history)))
+    if text is None or text == "none":
+        return [] if text else has
+    for kind in text.split(","):
+        if kind not in has:
+            raise UsageError(f"--charts names {kind!r}, and the report has {', '.join(has)}")
+    return text.split(",")
 
 
 def heat_drawn(options: argparse.Namespace) -> str:
@@ -153,7 +208,7 @@ def heat_drawn(options: argparse.Namespace) -> str:
     if not heats:
         raise UsageError("the tables have no aggregation: there is nothing to draw")
     places = places_read(options.script, heats) if options.script is not None else None
-    check_labels(labels, range(len(heats[0].heat)), "the tables have")
+    check_targets("--label", labels, range(len(heats[0].heat)), "the tables have")
     return heat_picture(heats, places, options.title or "Heat by time and address", labels, options.theme)
 
 
@@ -163,14 +218,27 @@ def front_drawn(options: argparse.Namespace) -> str:
         x, y = axis_of(options.x), axis_of(options.y)
     except TableError as error:
         raise UsageError(str(error)) from None
+    only = [only_of(word) for word in options.only]
     with opened_text(options.report) as stream:
         try:
-            table = table_of(stream, x, y)
+            table = table_of(stream, x, y, only)
         except TableError as error:
             raise UsageError(f"{options.report}: {error}") from None
     if not table.marks:
         raise UsageError(f"{options.report}: no row has numbers for both {x.name} and {y.name}: there is nothing to draw")
-    return front_picture(table, x, y, options.title or f"{y.name} and {x.name}", options.theme)
+    try:
+        colours = colours_of(table, options.colour or "")
+    except ColourError as error:
+        raise UsageError(str(error)) from None
+    return front_picture(table, x, y, options.title or f"{y.name} and {x.name}", options.theme, colours)
+
+
+def only_of(word: str) -> tuple[str, str]:
+    """An option --only as a column and its value. Raises UsageError."""
+    name, equals, value = word.partition("=")
+    if not equals:
+        raise UsageError(f"--only needs NAME=VALUE, and not {word!r}")
+    return name, value
 
 
 def work() -> None:

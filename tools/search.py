@@ -18,13 +18,13 @@ from typing import Iterator
 
 from common import UsageError, parser, run
 from scripts.judge import VARIABLE, is_there, program
-from scripts.wording import counted
 from searching.plan import Plan, plan_of
 from searching.points import Points
 from searching.remaining import Remaining
 from searching.runs import Inputs, first_cells
 from searching.table import STATUS, Rows, kept_rows, write_points
 from searching.workloads import Key, Workload, script_workload
+from wording import counted
 
 TOOL = "search.py"
 EXAMPLE = """\

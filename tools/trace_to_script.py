@@ -15,12 +15,11 @@ from common import UsageError, opened_text
 from scripts.grammar import MOST_CAP
 from scripts.judge import is_there
 from tracing import notes, reading
-from tracing.accesses import Trace, TraceError
+from tracing.accesses import TraceError
 from tracing.areas import Area, chosen, grouped
 from tracing.commits import PARTS, commits_of
 from tracing.early import check_lines
 from tracing.fit import fitted, too_much_at_all, too_much_to_fit
-from tracing.intervals import Recording
 from tracing.names import MapsError, Mapping, mappings
 from tracing.notes import Result
 from tracing.reading import read_trace, touched

@@ -4,8 +4,8 @@ from __future__ import annotations
 from dataclasses import dataclass
 
 from reports.events import Aggregation, ReportError
-
-from reports.pages import PAGE_BITS, TARGET_BITS, Run, Runs, append, key
+from reports.pages import TARGET_BITS, Run, Runs, append, key
+from units import PAGE_BITS
 
 
 @dataclass(frozen=True)

@@ -27,6 +27,10 @@ class Canvas:
     def text(self, x: float, y: float, words: str, kind: str = "") -> None:
         self.put(f'<text x="{x:g}" y="{y:g}" class="{kind}">{escape(words)}</text>')
 
+    def upwards(self, x: float, y: float, words: str, kind: str = "") -> None:
+        """Text that reads from below."""
+        self.put(f'<text x="{short(x)}" y="{short(y)}" class="{kind}" transform="rotate(-90 {short(x)} {short(y)})">{escape(words)}</text>')
+
     def rect(self, x: float, y: float, width: float, height: float, kind: str, hover: str = "") -> None:
         place = f'x="{short(x)}" y="{short(y)}" width="{short(width)}" height="{short(height)}" class="{kind}"'
         self.put(f"<rect {place}>{hover_of(hover)}</rect>" if hover else f"<rect {place}/>")

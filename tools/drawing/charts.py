@@ -2,10 +2,10 @@
 from __future__ import annotations
 
 from dataclasses import dataclass
-from typing import Sequence
+from typing import Iterable, Sequence
 
 from reports.events import Aggregation
-from reports.pages import PAGE_BITS
+from units import PAGE_BITS
 
 from .canvas import LEFT, NAME, RIGHT, Canvas, short, size_words, x_of
 from .grid import Columns
@@ -17,10 +17,16 @@ POINTS = 480
 """The most points of a curve."""
 
 
+WORKING_SET, REGIONS, RESIDENT, REFAULTS, QUOTA, OFTEN = "working-set", "regions", "resident", "refaults", "quota", "often"
+CHARTS = (WORKING_SET, REGIONS, RESIDENT, REFAULTS, QUOTA)
+"""The kinds of charts of a report."""
+
+
 @dataclass(frozen=True)
 class Chart:
     """A curve in steps: a value holds since the tick before its own. All values are at least 0, and there is at least one."""
 
+    kind: str
     name: str
     ticks: Sequence[int]
     values: Sequence[float]
@@ -32,10 +38,10 @@ class Chart:
     """What stands beneath the name."""
 
 
-def chart_of(name: str, ticks: Sequence[int], values: Sequence[int], is_pages: bool, note: str = "") -> Chart:
+def chart_of(kind: str, name: str, ticks: Sequence[int], values: Sequence[int], is_pages: bool, note: str = "") -> Chart:
     """A chart as high as its highest value."""
     most = max(values)
-    return Chart(name, ticks, values, pages_words(most) if is_pages else f"{most}", most or 1, note)
+    return Chart(kind, name, ticks, values, pages_words(most) if is_pages else f"{most}", most or 1, note)
 
 
 def pages_words(count: int) -> str:
@@ -43,45 +49,53 @@ def pages_words(count: int) -> str:
     return size_words(count << PAGE_BITS)
 
 
-def charts_of(history: History) -> list[Chart]:
-    """The working set and the number of regions, and what `damon reclaim` and `damon tune` add."""
+def charts_of(history: History, kinds: Iterable[str] = CHARTS) -> list[Chart]:
+    """The working set and the number of regions, and what `damon reclaim` and `damon tune` add; of these the ones of some kinds."""
     sets = [snapshot.working_set >> PAGE_BITS for snapshot in history.snapshots]
     counts = [len(snapshot.regions) for snapshot in history.snapshots]
-    return [chart_of("working set", history.ticks, sets, True), chart_of("regions", history.ticks, counts, False),
-            *memory_charts(history), *quota_charts(history)]
+    charts = [chart_of(WORKING_SET, "working set", history.ticks, sets, True),
+              chart_of(REGIONS, "regions", history.ticks, counts, False), *memory_charts(history), *quota_charts(history)]
+    wanted = set(kinds)
+    return [chart for chart in charts if chart.kind in wanted]
 
 
 def memory_charts(history: History) -> list[Chart]:
     """Of a report of `damon reclaim` the resident pages, above which are those that are out, and the refaults.
 
-    What is resident after an aggregation is drawn until the next one. All pages are resident at first.
+    What is resident after an aggregation is drawn until the next one. All pages are resident at first. Both are of all
+    targets, as the report does not say more.
     """
     if len(history.memory) < 2:
         return []
     *found, end = history.memory
-    ticks, pages = [one.tick for one in found], end.resident + end.out
-    resident = [pages, *(one.resident for one in found[:-1])]
-    refaults = [one.refaults for one in found]
-    each = [after - before for before, after in zip([0, *refaults], refaults)]
-    return [Chart("resident", ticks, resident, pages_words(pages), pages, f"{pages_words(end.out)} out at the end"),
-            chart_of("refaults", ticks, each, False, f"{end.refaults} in all")]
+    pages = end.resident + end.out
+    whose = "" if history.has_all else ", all targets"
+    shown = [(one.tick, before, one.refaults - since) for one, before, since in zip(
+        found, [pages, *(one.resident for one in found)], [0, *(one.refaults for one in found)])
+        if history.start < one.tick <= history.ticks[-1]]
+    if not shown:
+        return []
+    ticks, resident, refaults = ([row[place] for row in shown] for place in range(3))
+    return [Chart(RESIDENT, f"resident{whose}", ticks, resident, pages_words(pages), pages, f"{pages_words(end.out)} out at the end"),
+            chart_of(REFAULTS, f"refaults{whose}", ticks, refaults, False, f"{end.refaults} in all")]
 
 
 def quota_charts(history: History) -> list[Chart]:
     """Of a report of `damon tune` what was left of each quota with a goal before a choice: all of it where a window began."""
     found = [snapshot for snapshot in history.snapshots if isinstance(snapshot, Aggregation)]
     ticks = [one.tick for one in found]
-    return [chart_of(f"quota left, slot {slot}", ticks, [one.left.get(slot, 0) for one in found], True,
+    return [chart_of(QUOTA, f"quota left, slot {slot}", ticks, [one.left.get(slot, 0) for one in found], True,
                      f"{'none' if quota is None else size_words(quota)} at the end")
             for slot, quota in history.tuned if found]
 
 
 def draw_charts(canvas: Canvas, charts: Sequence[Chart], columns: Columns, top: float) -> float:
-    """Draws at least one chart, one beneath the other; gives where they end."""
+    """Draws the charts, one beneath the other, and gives where they end."""
     for chart in charts:
+        top += GAP
         draw_chart(canvas, chart, columns, top)
-        top += CHART + GAP
-    return top - GAP
+        top += CHART
+    return top
 
 
 def curve(chart: Chart, columns: Columns, top: float) -> list[tuple[float, float]]:
@@ -115,9 +129,9 @@ def draw_chart(canvas: Canvas, chart: Chart, columns: Columns, top: float) -> No
 
 def draw_time(canvas: Canvas, columns: Columns, top: float) -> None:
     """The axis of time: round numbers of ticks."""
-    last = columns.edges[-1]
-    step = round_step(last / 6)
-    for tick in range(0, last + 1, step):
+    first, last = columns.edges[0], columns.edges[-1]
+    step = round_step((last - first) / 6)
+    for tick in range(-(-first // step) * step, last + 1, step):
         x = x_of(tick, columns)
         canvas.path(f"M{short(x)} {short(top)}v5", "frame")
         canvas.text(x, top + 17, f"{tick}", "small middle soft")

@@ -39,11 +39,11 @@ class Cells:
     applied: dict[int, list[Rectangle]]
 
 
-def columns_of(ticks: Sequence[int]) -> Columns:
-    """Groups what was found at these ticks so that there are at most MOST_COLUMNS columns. There is at least one tick."""
+def columns_of(ticks: Sequence[int], start: int = 0) -> Columns:
+    """Groups what was found at these ticks so that there are at most MOST_COLUMNS columns. There is at least one tick, after `start`."""
     size = -(-len(ticks) // MOST_COLUMNS)
     groups = [slice(start, start + size) for start in range(0, len(ticks), size)]
-    return Columns([0, *(ticks[group][-1] for group in groups)], groups)
+    return Columns([start, *(ticks[group][-1] for group in groups)], groups)
 
 
 def rows_of(report: list[Snapshot], target: int, low: int, high: int, most: int) -> list[int]:

@@ -14,13 +14,13 @@ from reports.heat import Heat
 from reports.places import Place
 
 from .canvas import LEFT, NAME, RIGHT, Canvas, scaled_path, x_of
-from .charts import AXIS, chart_of, draw_charts, draw_time
+from .charts import AXIS, OFTEN, WORKING_SET, chart_of, draw_charts, draw_time
 from .grid import Columns, columns_of, level, rectangles
-from .legend import NOTES, TITLE, draw_scale
+from .legend import ALWAYS, NEVER, NOTES, TITLE, draw_scale
 from .panels import Panel, draw_labels, panels_of
 
-TOP, SPACE = 80.0, 22.0
-OFTEN = 5
+TOP, SPACE = 94.0, 8.0
+OFTEN_TENTHS = 5
 """In how many tenths of the passes a page was found accessed that counts as often accessed."""
 
 
@@ -77,8 +77,8 @@ def heat_picture(heats: Sequence[Heat], places: Sequence[Place] | None, title: s
     for panel in panels:
         draw_table(canvas, panel, tables[panel.target], columns)
     ticks = [found.tick for found in heats]
-    charts = [chart_of("working set", ticks, [found.working_set for found in heats], True),
-              chart_of("often accessed", ticks, [sum(found.freq[OFTEN:]) for found in heats], True)]
+    charts = [chart_of(WORKING_SET, "working set", ticks, [found.working_set for found in heats], True),
+              chart_of(OFTEN, "often accessed", ticks, [sum(found.freq[OFTEN_TENTHS:]) for found in heats], True)]
     bottom = draw_charts(canvas, charts, columns, panels[-1].bottom + SPACE)
     draw_heading(canvas, title, tables[0])
     draw_time(canvas, columns, bottom)
@@ -88,9 +88,12 @@ def heat_picture(heats: Sequence[Heat], places: Sequence[Place] | None, title: s
 def draw_heading(canvas: Canvas, title: str, table: Table) -> None:
     """The title, the scale of colours, and what a strip is."""
     canvas.text(LEFT, TITLE, title, "title")
-    draw_scale(canvas, "count / passes" if table.place else "heat, relative")
-    colour = "the mean count of its pages" if table.place else "its heat beside the greatest one of its target"
-    canvas.text(LEFT, NOTES + 9, f"a strip is one of the {table.columns} columns of a target; its colour is {colour}", "small soft")
+    if table.place:
+        draw_scale(canvas, "mean share of samples in which its pages were found accessed:", NEVER, ALWAYS)
+    else:
+        draw_scale(canvas, "heat beside the greatest one of its target:", "none", "as great")
+    canvas.text(LEFT, NOTES + 9, f"a strip is one of the {table.columns} columns of a target", "small soft")
+    canvas.text(LEFT - 8, TOP - 8, "addresses" if table.place else "columns", "small right soft")
 
 
 def draw_table(canvas: Canvas, panel: Panel, table: Table, columns: Columns) -> None:

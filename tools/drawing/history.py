@@ -1,7 +1,7 @@
 """What a picture shows of a report: the columns of time, the commits, and when slots were active."""
 from __future__ import annotations
 
-from dataclasses import dataclass
+from dataclasses import dataclass, replace
 from typing import Iterable, Sequence
 
 from reports.events import Aggregation, Commit, Event, Show, Snapshot, Tuned
@@ -78,10 +78,43 @@ class History:
     """Of a report of `damon reclaim`: what it says after each aggregation, and at the end."""
     tuned: list[Tuned]
     """Of a report of `damon tune`: what it says at the end of each slot with a goal."""
+    start: int = 0
+    """The tick at which the first snapshot begins."""
+    has_all: bool = True
+    """Whether all targets of the report are in it."""
 
     @property
     def ticks(self) -> list[int]:
         return [snapshot.tick for snapshot in self.snapshots]
+
+
+@dataclass(frozen=True)
+class Cut:
+    """A part of a report."""
+
+    since: int = 0
+    until: int | None = None
+    """The ticks between which it lies; None for the end."""
+    targets: frozenset[int] | None = None
+    """None for all."""
+
+    def of(self, history: History) -> History:
+        """This part of a history: whole snapshots, with what they have of these targets, and the commits among them."""
+        starts = [0, *history.ticks[:-1]]
+        kept = [(start, snapshot) for start, snapshot in zip(starts, history.snapshots)
+                if snapshot.tick > self.since and (self.until is None or start < self.until)]
+        start, end = (kept[0][0], kept[-1][1].tick) if kept else (0, 0)
+        snapshots = [self.targets_of(snapshot) for _, snapshot in kept]
+        changes = [change for change in history.changes if start <= change.tick <= end]
+        later = history.later + sum(change.tick > end for change in history.changes)
+        return replace(history, snapshots=snapshots, changes=changes, later=later, slots=slots_of(snapshots, start), start=start,
+                       has_all=self.targets is None)
+
+    def targets_of(self, snapshot: Snapshot) -> Snapshot:
+        if self.targets is None:
+            return snapshot
+        return replace(snapshot, regions=[found for found in snapshot.regions if found.target in self.targets],
+                       applied=[run for run in snapshot.applied if run.target in self.targets])
 
 
 class ScriptError(Exception):
@@ -137,10 +170,10 @@ def add_shows(snapshots: list[Snapshot], shows: Iterable[Snapshot]) -> None:
             snapshots.append(show)
 
 
-def slots_of(snapshots: Iterable[Snapshot]) -> dict[int, Slot]:
-    """The slots that were set, by number."""
+def slots_of(snapshots: Iterable[Snapshot], start: int = 0) -> dict[int, Slot]:
+    """The slots that were set, by number. The first snapshot begins at `start`."""
     slots: dict[int, Slot] = {}
-    before = 0
+    before = start
     for found in snapshots:
         for slot, active in found.active.items():
             spans = slots.setdefault(slot, Slot([], [], [])).spans

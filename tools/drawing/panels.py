@@ -8,8 +8,8 @@ from .grid import UNWATCHED, Cells, Columns, cells_of, columns_of, rows_of
 from .history import History
 from .style import SLOT_COLOURS
 
-PANELS = 480.0
-"""The height that the panels share, if none is too small."""
+PANELS, ALONE = 480.0, 300.0
+"""The height that several panels share, if none is too small, and that of a panel without others."""
 LEAST, GAP = 26.0, 8.0
 MOST_ROWS = 400
 """The most rows of all panels together."""
@@ -45,9 +45,10 @@ def spans_of(history: History) -> dict[int, tuple[int, int]]:
 def panels_of(spans: dict[int, tuple[int, int]], labels: dict[int, str], top: float) -> list[Panel]:
     """The panels from top to bottom. A height grows with the square root of the pages, so that small targets can be read."""
     roots = {target: (high - low) ** 0.5 for target, (low, high) in spans.items()}
+    shared = PANELS if len(spans) > 1 else ALONE
     panels = []
     for target, (low, high) in reversed(spans.items()):
-        height = max(LEAST, round(PANELS * roots[target] / sum(roots.values())))
+        height = max(LEAST, round(shared * roots[target] / sum(roots.values())))
         panels.append(Panel(target, low, high, top, height, labels.get(target, "")))
         top += height + GAP
     return panels
@@ -55,7 +56,7 @@ def panels_of(spans: dict[int, tuple[int, int]], labels: dict[int, str], top: fl
 
 def draw_panels(canvas: Canvas, history: History, panels: list[Panel]) -> bool:
     """Draws all panels, and says whether a cell of them is not watched."""
-    columns = columns_of(history.ticks)
+    columns = columns_of(history.ticks, history.start)
     shared = sum(panel.height for panel in panels)
     unwatched = False
     for panel in panels:
@@ -73,11 +74,19 @@ def applied_slots(history: History) -> list[int]:
 
 
 def draw_panel(canvas: Canvas, panel: Panel, cells: Cells, columns: Columns) -> None:
-    """Draws the heat of a target, what is not watched, the marks of schemes over it, and its labels."""
+    """Draws the cells of a target and its labels."""
     span = panel.high - panel.low
-    xs = [x_of(edge, columns) for edge in columns.edges]
     ys = [panel.bottom - panel.height * (row - panel.low) / span for row in cells.rows]
-    canvas.rect(LEFT, panel.top, RIGHT - LEFT, panel.height, "panel")
+    draw_cells(canvas, cells, columns, ys)
+    canvas.rect(LEFT, panel.top, RIGHT - LEFT, panel.height, "frame",
+                f"target {panel.target}: {panel.low:#x} to {panel.high:#x}")
+    draw_labels(canvas, panel)
+
+
+def draw_cells(canvas: Canvas, cells: Cells, columns: Columns, ys: list[float]) -> None:
+    """Draws the heat, what is not watched, and the marks of schemes over it; `ys` are the edges of rows, from the lowest up."""
+    xs = [x_of(edge, columns) for edge in columns.edges]
+    canvas.rect(LEFT, ys[-1], RIGHT - LEFT, ys[0] - ys[-1], "panel")
     canvas.put('<g class="crisp">')
     for step, found in sorted(cells.heat.items()):
         path = scaled_path(found, xs, ys)
@@ -88,9 +97,6 @@ def draw_panel(canvas: Canvas, panel: Panel, cells: Cells, columns: Columns) -> 
             colour = order % SLOT_COLOURS
             path = scaled_path(found, xs, ys)
             canvas.put(f'<path fill="url(#hatch{colour})" d="{path}"/><path class="mark s{colour}" d="{path}"/>')
-    canvas.rect(LEFT, panel.top, RIGHT - LEFT, panel.height, "frame",
-                f"target {panel.target}: {panel.low:#x} to {panel.high:#x}")
-    draw_labels(canvas, panel)
 
 
 def draw_labels(canvas: Canvas, panel: Panel) -> None:

@@ -1,6 +1,6 @@
 """Reads a report, as text or as JSON lines, one event at a time; `docs/FORMATS.md` has both forms.
 
-It also reads exact counts (`exact.py`), whose rows are runs of pages that share a count.
+It also reads exact counts, which tools/exact_counts.py writes, and whose rows are runs of pages that share a count.
 """
 from __future__ import annotations
 

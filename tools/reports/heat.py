@@ -5,7 +5,7 @@ import re
 from dataclasses import dataclass
 from typing import Iterable
 
-from scripts.wording import listed
+from wording import listed
 
 COLUMNS = (8, 16, 64)
 """The numbers of columns that a target may have."""

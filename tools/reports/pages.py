@@ -7,7 +7,8 @@ from __future__ import annotations
 
 from typing import Iterable, Sequence
 
-PAGE_BITS = 12
+from units import PAGE_BITS
+
 PAGE_END_BITS = 51
 """Addresses are at most 2^63, so a page has at most this many bits, and its end one more value."""
 TARGET_BITS = PAGE_END_BITS + 1

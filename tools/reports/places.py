@@ -5,10 +5,10 @@ import re
 from dataclasses import dataclass
 from typing import Iterable, Sequence
 
-from scripts.wording import counted
+from units import PAGE_BITS
+from wording import counted
 
 from .heat import Heat
-from .pages import PAGE_BITS
 
 HEADER = re.compile(r"damon (?:live|journal) [12]")
 TARGET = re.compile(r"target 0x([0-9a-f]+) ([1-9]\d*)")

@@ -3,7 +3,9 @@ from __future__ import annotations
 
 from dataclasses import dataclass
 
-from .grammar import PAGE, words_of
+from units import PAGE
+
+from .grammar import words_of
 from .schemes import Key, keys_of
 
 COLD_ACTIONS = ("pageout", "cold", "lru_deprio")

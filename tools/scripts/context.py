@@ -4,7 +4,9 @@ from __future__ import annotations
 from dataclasses import dataclass, field
 from functools import cached_property
 
-from .grammar import (AFTER_IN_SETUP, BODY, HEADERS, PAGE, Piece, after_in_commit, first_word, pass_work, words_of)
+from units import PAGE
+
+from .grammar import (AFTER_IN_SETUP, BODY, HEADERS, Piece, after_in_commit, first_word, pass_work, words_of)
 
 PARTS_OF_COMMIT = ("commit", "attrs", "range", "scheme", "drop", "metric", "cost")
 

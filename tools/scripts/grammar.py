@@ -10,18 +10,12 @@ from typing import NamedTuple
 HEADERS = {1: "damon script 1", 2: "damon script 2"}
 """The first line of each version."""
 HEADER = HEADERS[1]
-PAGE = 4096
 MOST_BYTES = 16_777_216
 MOST_WORK = 16_777_216
 MOST_CAP = 4096
 MOST_UNIT = 1 << 20
-MOST_PAGES = 1 << 20
-"""The most pages of a target, and of all targets together."""
-MOST_TARGETS = 64
 MOST_STEPS = 1_000_000
 MOST_FILTERS = 8
-ADDRESS_END = 1 << 63
-"""Where every target has ended."""
 LAST_SLOT = 15
 LAST_CLASS = 15
 LEAST_REGIONS = 3

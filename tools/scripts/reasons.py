@@ -7,14 +7,16 @@ from __future__ import annotations
 
 from typing import Callable, Optional
 
+from units import MOST_PAGES, MOST_TARGETS, PAGE, SPACE_END
+from wording import counted, listed
+
 from . import schemes
 from .context import Context, context_of
-from .grammar import (ADDRESS_END, FIELDS, HEADER, HEADERS, LAST_CLASS, LEAST_REGIONS, MOST_AGGR, MOST_CAP, MOST_PAGES,
-                      MOST_STEPS, MOST_TARGETS, MOST_UNIT, MOST_WORK, PAGE, Piece, first_word, pass_work, words_of)
+from .grammar import (FIELDS, HEADER, HEADERS, LAST_CLASS, LEAST_REGIONS, MOST_AGGR, MOST_CAP, MOST_STEPS, MOST_UNIT,
+                      MOST_WORK, Piece, first_word, pass_work, words_of)
 from .judge import Fault
 from .schemes import Finding, like
 from .spelling import misspelling
-from .wording import counted, listed
 
 Reason = tuple[str, Optional[Piece]]
 """A reason in words, and the part of the line that it is about, if there is one."""
@@ -155,8 +157,8 @@ def bad_target(context: Context, base: Piece, pages: Piece) -> Reason | None:
         return f"the base {base.text} is not a multiple of {PAGE}", base
     if not 1 <= count <= MOST_PAGES:
         return f"a target has from 1 to {MOST_PAGES} pages, and this one {count}", pages
-    if base.number() + PAGE * count > ADDRESS_END:
-        return f"the target ends at {base.number() + PAGE * count:#x}, above {ADDRESS_END:#x}", base
+    if base.number() + PAGE * count > SPACE_END:
+        return f"the target ends at {base.number() + PAGE * count:#x}, above {SPACE_END:#x}", base
     if before + count > MOST_PAGES:
         return f"with this target there are {before + count} pages in all, and at most {MOST_PAGES} are allowed", pages
     return None

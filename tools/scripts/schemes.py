@@ -5,9 +5,11 @@ from dataclasses import dataclass
 from difflib import get_close_matches
 from typing import Iterator
 
-from .grammar import (ACTIONS, FILTER_FIELDS, KEY_FIELDS, KEYS, LAST_CLASS, LAST_SLOT, MOST_FILTERS, PAGE, Field, Piece,
-                      n8, words_of)
-from .wording import counted, listed
+from units import PAGE
+from wording import counted, listed
+
+from .grammar import (ACTIONS, FILTER_FIELDS, KEY_FIELDS, KEYS, LAST_CLASS, LAST_SLOT, MOST_FILTERS, Field, Piece, n8,
+                      words_of)
 
 Finding = tuple[str, Piece]
 """A reason in words, and the part of the line that it is about."""

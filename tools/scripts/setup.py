@@ -4,8 +4,9 @@ from __future__ import annotations
 import re
 
 from common import UsageError
+from units import PAGE
 
-from .grammar import PAGE, first_word, words_of
+from .grammar import first_word, words_of
 
 BEGIN = b"\nbegin\n"
 METRIC = re.compile(rb"^metric ([0-9]{1,10})$", re.MULTILINE)

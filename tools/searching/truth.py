@@ -6,8 +6,8 @@ from __future__ import annotations
 
 from typing import Iterable, NamedTuple, Sequence
 
-from tracing.accesses import PAGE_BITS
 from tracing.intervals import Runs, touch_counts
+from units import PAGE_BITS
 
 UNTOUCHED, ACCESSED, HOT = b"\0", b"\1", b"\2"
 """What a page was in an aggregation. A hot one was accessed too."""

@@ -12,10 +12,10 @@ from typing import Iterator, NamedTuple
 from common import UsageError, opened
 from scripts.grammar import first_word, words_of
 from scripts.setup import Script
-from tracing.accesses import PAGE_BITS
 from tracing.commits import Commits
 from tracing.commits import written as commit_lines
 from tracing.intervals import Runs, runs_of
+from units import PAGE_BITS
 
 from .plan import SEED, Plan, Value
 from .truth import Range, Truths

@@ -4,10 +4,6 @@ from __future__ import annotations
 from itertools import islice
 from typing import Callable, Iterable, Iterator
 
-PAGE_BITS = 12
-"""A page has 2^12 = 4096 bytes."""
-ADDRESS_END = 1 << 47
-"""User space ends before this address."""
 BATCH = 1 << 16
 
 Pages = tuple[int, ...]

@@ -5,8 +5,7 @@ from bisect import bisect_right
 from dataclasses import dataclass
 from typing import Iterable, Mapping
 
-MOST_TARGETS = 64
-MOST_PAGES = 1 << 20
+from units import MOST_PAGES, MOST_TARGETS
 
 
 @dataclass(frozen=True)

@@ -4,9 +4,9 @@ from __future__ import annotations
 import re
 
 from common import UsageError
-from scripts.grammar import PAGE
 from scripts.judge import Fault, fault_of
 from scripts.reasons import reason_of
+from units import PAGE
 
 from .commits import written
 from .script import Settings, opening

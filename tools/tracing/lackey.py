@@ -9,7 +9,9 @@ from __future__ import annotations
 import re
 from typing import Callable, Iterable, Iterator
 
-from .accesses import ADDRESS_END, PAGE_BITS, Pages, Trace, TraceError, shown
+from units import PAGE_BITS, USER_END
+
+from .accesses import Pages, Trace, TraceError, shown
 
 LONGEST_ACCESS = 1 << 20
 """The most bytes of one access; lackey itself writes at most some hundred."""
@@ -70,7 +72,7 @@ def decode(line: bytes, letters: bytes) -> Pages:
         raise TraceError(f"an access of {size} bytes: {shown(line)}")
     if letter not in letters:
         return ()
-    if first + size > ADDRESS_END:
+    if first + size > USER_END:
         raise BeyondError(f"an address that is not below 2^47: {shown(line)}")
     return tuple(range(first >> PAGE_BITS, ((first + size - 1) >> PAGE_BITS) + 1))
 

@@ -8,7 +8,7 @@ from typing import Iterator
 from scripts.advice import Circumstances, advice
 from scripts.grammar import first_word, words_of
 from scripts.judge import is_there, program, refusals_of
-from scripts.wording import counted
+from wording import counted
 
 from .accesses import Trace
 from .areas import Choice

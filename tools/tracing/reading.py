@@ -7,7 +7,7 @@ from typing import BinaryIO, Callable
 
 from common import STANDARD_INPUT, UsageError, opened
 
-from .accesses import Trace, TraceError
+from .accesses import Trace
 from .clocks import CLOCKS
 from .forms import FORMS, LACKEY, found_form
 from .intervals import Recording, record

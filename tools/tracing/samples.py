@@ -14,7 +14,9 @@ from __future__ import annotations
 import re
 from typing import Callable, Iterable, Iterator, NamedTuple
 
-from .accesses import ADDRESS_END, PAGE_BITS, Pages, Trace, TraceError, shown
+from units import PAGE_BITS, USER_END
+
+from .accesses import Pages, Trace, TraceError, shown
 
 NANOSECONDS = 9
 """The digits of a second that are kept."""
@@ -99,7 +101,7 @@ class Samples(Trace):
                 raise TraceError(f"line {number}: {error}") from None
             if sample.address == 0:
                 self.unknown += 1
-            elif sample.address >= ADDRESS_END:
+            elif sample.address >= USER_END:
                 self.beyond_end += 1
             else:
                 page = sample.address >> PAGE_BITS

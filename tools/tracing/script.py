@@ -10,8 +10,8 @@ from typing import Iterator
 
 from scripts.grammar import HEADER, LEAST_REGIONS, MOST_AGGR, MOST_BYTES, MOST_CAP, MOST_UNIT, MOST_WORK
 from scripts.grammar import pass_work as work_of_call
+from units import PAGE_BITS
 
-from .accesses import PAGE_BITS
 from .areas import Area, Lookup
 from .commits import Commits
 from .commits import written as commit_lines

@@ -6,8 +6,8 @@ import math
 from dataclasses import dataclass
 from typing import Iterable, Sequence
 
-from searching.measures import LESS, MEASURES, MORE
-from searching.table import DONE_RUNS, MEAN, RUNS, SPREAD, STATUS
+from .measures import LESS, MEASURES, MORE
+from .table import DONE_RUNS, MEAN, RUNS, SPREAD, STATUS
 
 ERRORS = {"working_set_error"}
 """Measures of which the distance from 0 is drawn."""
@@ -29,15 +29,30 @@ class Axis:
         return f"{self.name}{', distance from 0' if self.name in ERRORS else ''} ({LESS if self.less else MORE} is better)"
 
 
+WORKLOAD = "workload"
+"""The column of what was run."""
+TOGETHER = "all of them together"
+
+
 @dataclass(frozen=True)
 class Mark:
-    """A row."""
+    """A row, or the mean of the rows that have the same settings and each another workload."""
 
     x: float
     y: float
     spreads: tuple[float, float]
-    settings: str
-    """Those in which rows differ."""
+    names: tuple[str, ...]
+    """The settings in which rows differ."""
+    values: tuple[str, ...]
+    """Their values."""
+
+    @property
+    def settings(self) -> str:
+        return ", ".join(f"{name} {value}" for name, value in zip(self.names, self.values) if value)
+
+    def value(self, name: str) -> str:
+        """The value of a setting; nothing if rows do not differ in it."""
+        return self.values[self.names.index(name)] if name in self.names else ""
 
 
 @dataclass(frozen=True)
@@ -50,6 +65,36 @@ class Table:
     same: str
     """The settings that all rows share."""
 
+    def by_workload(self) -> dict[str, list[Mark]]:
+        """The marks of each workload, and after several the means of the settings that all of them have. One is no better or
+        worse than one of another workload: they are different questions."""
+        found: dict[str, list[Mark]] = {}
+        for mark in self.marks:
+            found.setdefault(mark.value(WORKLOAD), []).append(mark)
+        return {**found, TOGETHER: means_of(found)} if len(found) > 1 else found
+
+
+def own_settings(marks: Sequence[Mark]) -> set[str]:
+    """The settings that go with the workload, where there are several: each workload has one value, such as its own `unit`."""
+    if WORKLOAD not in marks[0].names:
+        return set()
+    values = {(name, workload, mark.value(name)) for mark in marks for name in mark.names for workload in [mark.value(WORKLOAD)]}
+    workloads = len({mark.value(WORKLOAD) for mark in marks})
+    return {name for name in marks[0].names if sum(name == other for other, _, _ in values) == workloads}
+
+
+def means_of(found: dict[str, list[Mark]]) -> list[Mark]:
+    """The means over all workloads, for the settings with which each was run once."""
+    every = [mark for marks in found.values() for mark in marks]
+    own = own_settings(every)
+    alike: dict[tuple[str, ...], list[Mark]] = {}
+    for mark in every:
+        alike.setdefault(tuple("" if name in own else value for name, value in zip(mark.names, mark.values)), []).append(mark)
+    place = every[0].names.index(WORKLOAD)
+    return [Mark(sum(one.x for one in marks) / len(marks), sum(one.y for one in marks) / len(marks), (0.0, 0.0), marks[0].names,
+                 (*values[:place], TOGETHER, *values[place + 1 :]))
+            for values, marks in alike.items() if len({one.value(WORKLOAD) for one in marks}) == len(marks) == len(found)]
+
 
 def axis_of(text: str) -> Axis:
     """An axis `NAME`, `NAME:less` or `NAME:more`. Raises TableError."""
@@ -61,8 +106,8 @@ def axis_of(text: str) -> Axis:
     return Axis(name, better == LESS)
 
 
-def table_of(lines: Iterable[str], x: Axis, y: Axis) -> Table:
-    """The rows of a file. Raises TableError with the number of the first faulty line."""
+def table_of(lines: Iterable[str], x: Axis, y: Axis, only: Sequence[tuple[str, str]] = ()) -> Table:
+    """The rows of a file that have these values in these columns. Raises TableError with the number of the first faulty line."""
     rows = csv.reader(lines, strict=True)
     try:
         header: list[str] = next(rows, [])
@@ -73,11 +118,24 @@ def table_of(lines: Iterable[str], x: Axis, y: Axis) -> Table:
     for number, row in enumerate(found, 2):
         if len(row) != len(header):
             raise TableError(f"line {number}: {len(row)} cells, and the first line has {len(header)}")
+    for name, value in only:
+        found = chosen(found, header, name, value)
     settings = settings_in(header)
     differ = [place for place in settings if len({row[place] for row in found}) > 1]
-    marks = [mark for row in found if (mark := mark_of(row, header, columns, words(header, row, differ)))]
+    marks = [mark for row in found if (mark := mark_of(row, header, columns, differ))]
     same = words(header, found[0], [place for place in settings if place not in differ]) if found else ""
     return Table(marks, len(found) - len(marks), same)
+
+
+def chosen(rows: list[list[str]], header: Sequence[str], name: str, value: str) -> list[list[str]]:
+    """The rows with this value. Raises TableError if there is none."""
+    if name not in header:
+        raise TableError(f"line 1: there is no column {name!r}")
+    place = header.index(name)
+    kept = [row for row in rows if row[place] == value]
+    if not kept:
+        raise TableError(f"no row has the {name} {value!r}: there are {', '.join(sorted({row[place] for row in rows}))}")
+    return kept
 
 
 def column_of(header: Sequence[str], axis: Axis) -> int:
@@ -96,18 +154,20 @@ def settings_in(header: Sequence[str]) -> list[int]:
 
 
 def words(header: Sequence[str], row: Sequence[str], places: Iterable[int]) -> str:
-    return ", ".join(f"{header[place]} {row[place]}" for place in places)
+    """The columns at these places with what they have, but for empty cells."""
+    return ", ".join(f"{header[place]} {row[place]}" for place in places if row[place])
 
 
-def mark_of(row: Sequence[str], header: Sequence[str], columns: Sequence[int], settings: str) -> Mark | None:
-    """The mark of a row; None if one of its numbers is missing."""
+def mark_of(row: Sequence[str], header: Sequence[str], columns: Sequence[int], differ: Sequence[int]) -> Mark | None:
+    """The mark of a row whose settings at some places are those in which rows differ; None if one of its numbers is missing."""
     numbers = [number_of(row[column]) for column in columns]
     if None in numbers:
         return None
     x, y = (abs(number or 0.0) if header[column].removesuffix(MEAN) in ERRORS else number or 0.0
             for number, column in zip(numbers, columns))
     spreads = [spread_of(row, header, column) for column in columns]
-    return Mark(x, y, (spreads[0], spreads[1]), settings)
+    names, values = (tuple(cells[place] for place in differ) for cells in (header, row))
+    return Mark(x, y, (spreads[0], spreads[1]), names, values)
 
 
 def spread_of(row: Sequence[str], header: Sequence[str], column: int) -> float:

@@ -10,11 +10,11 @@ from __future__ import annotations
 from bisect import bisect_right
 from typing import Iterable, Iterator, Sequence
 
-from tracing.accesses import PAGE_BITS
-from tracing.areas import Area
-from tracing.intervals import PageCount, Runs, touch_counts
+from reports.events import EXACT_HEADER
+from units import PAGE_BITS
 
-from .events import EXACT_HEADER
+from .areas import Area
+from .intervals import PageCount, Runs, touch_counts
 
 
 def counts_in(area: Area, counts: Sequence[PageCount]) -> list[PageCount]:
