@@ -51,6 +51,9 @@ class Known:
 
 
 class Arrays(unittest.TestCase):
+    known: Known
+    counts: bytes
+
     @classmethod
     def setUpClass(cls) -> None:
         cls.known = Known()
@@ -124,6 +127,7 @@ class Arrays(unittest.TestCase):
             self.assertEqual(stays[-1][1], None)
             self.assertEqual([back for _, back in stays[:-1]], read)
             for (_, back), (out, _) in zip(stays, stays[1:]):
+                assert back is not None
                 self.assertLessEqual(back, out)
         self.assertIn("slot 0 pageout: 160 refaults of these: 71.4 %; 4.0 an aggregation", lines)
 

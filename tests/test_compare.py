@@ -12,16 +12,20 @@ import tempfile
 import unittest
 from collections import Counter
 from pathlib import Path
+from typing import Any, Sequence
 
 from tool_runs import PROGRAM, TOOLS, Refusals, need_program, random_trace, report_of, run, script_of
 
 from comparing.counts import applied_of, counts_of
 from comparing.paging import Moment, Paging
-from reports.events import Aggregation, Memory, Report
+from reports.events import Aggregation, Report
+from reports.memory import Memory
 from reports.pages import common, union, without
 
 TOOL = "compare.py"
 Page = tuple[int, int]
+PageCounts = dict[str, Any]
+"""An aggregation: its tick, the count of each page, and the pages that schemes were applied to."""
 SingleMove = tuple[int, Page, int, "int | None", bool]
 """A slot, a page that it put out, the ticks at which it went and came back, and whether it was fetched back."""
 EXACT = """\
@@ -66,9 +70,9 @@ def compared(exact: str, found: str, *words: str) -> list[str]:
     return ran.stdout.decode().splitlines()
 
 
-def aggregations_of(report: str) -> list[dict]:
+def aggregations_of(report: str) -> list[PageCounts]:
     """The aggregations of a report, page by page. Shares nothing with the tools."""
-    result: list[dict] = []
+    result: list[PageCounts] = []
     is_inside = False
     for line in report.splitlines():
         word, *rest = line.split()
@@ -90,7 +94,7 @@ def percent(part: int, whole: int) -> list[str]:
     return [f"{100 * part / whole:.1f}"] if whole else []
 
 
-def found_numbers(exact: list[dict], found: list[dict], hot: float) -> list[list[str]]:
+def found_numbers(exact: list[PageCounts], found: list[PageCounts], hot: float) -> list[list[str]]:
     """The numbers of the first lines, counted page by page."""
     total: Counter[str] = Counter()
     before = 0
@@ -122,11 +126,11 @@ def found_numbers(exact: list[dict], found: list[dict], hot: float) -> list[list
     return [*numbers, [*averages[:2], *error, averages[2]]]
 
 
-def slot_numbers(exact: list[dict], found: list[dict], after: int) -> tuple[list[list[str]], set]:
+def slot_numbers(exact: list[PageCounts], found: list[PageCounts], after: int) -> tuple[list[list[object]], set[SingleMove]]:
     """The numbers of the lines of slots, and the moves of single pages, followed page by page."""
     out: dict[Page, tuple[int, int]] = {}
     moves: set[SingleMove] = set()
-    total: dict[tuple[int, str], Counter] = {}
+    total: dict[tuple[int, str], Counter[str]] = {}
     different: dict[int, set[Page]] = {}
     for number, (one, other) in enumerate(zip(exact, found)):
         for page, count in one["counts"].items():
@@ -152,7 +156,7 @@ def slot_numbers(exact: list[dict], found: list[dict], after: int) -> tuple[list
                     total[owner, "pageout"]["fetched"] += 1
                     moves.add((owner, page, found[since]["tick"], other["tick"], True))
     moves |= {(slot, page, found[since]["tick"], None, False) for page, (slot, since) in out.items()}
-    lines: list[list] = []
+    lines: list[list[object]] = []
     for (slot, action), sums in sorted(total.items()):
         if action != "pageout":
             lines.append([slot, sums["used"], sums["applied"], after, *percent(sums["used"], sums["applied"])])
@@ -204,7 +208,7 @@ def random_runs(seed: int) -> tuple[str, str]:
     return "".join(exact), "".join(found)
 
 
-def aggregation_text(tick: int, rows: list, applied: list) -> str:
+def aggregation_text(tick: int, rows: Sequence[tuple[int, ...]], applied: Sequence[tuple[int, str, int, int, int]]) -> str:
     lines = [f"aggregate tick={tick} threshold=0 rows={len(rows)}"]
     lines += [f"apply {slot} {action} {target} {low << 12:#x}-{high << 12:#x} score=9" for slot, action, target, low, high in applied]
     lines += [f"row {target} {low << 12:#x}-{high << 12:#x} count={count} last=0 age=0" for target, low, high, count in rows]

@@ -1,15 +1,14 @@
 #!/usr/bin/env python3
 """Tests of docs/report.schema.json: its shape, and the JSON lines of all cases against it.
 
-Lines are checked by an interpreter that has jsonschema: this one, or Debian's own, for which
-`apt-get install python3-jsonschema` installs it. Without one these tests are skipped, and say so.
+Lines are checked by an interpreter that has jsonschema: for Debian's `apt-get install python3-jsonschema` installs it.
+Without one these tests are skipped.
 """
 from __future__ import annotations
 
 import json
 import re
 import subprocess
-import sys
 import tempfile
 import unittest
 from itertools import accumulate
@@ -88,9 +87,7 @@ class Lines(unittest.TestCase):
     @classmethod
     def setUpClass(cls) -> None:
         if interpreter_with("jsonschema") is None:
-            print("skipped: jsonschema (Debian's python3-jsonschema) is not installed, so no JSON line was checked against the "
-                  "schema", file=sys.stderr)
-            raise unittest.SkipTest("jsonschema is not installed")
+            raise unittest.SkipTest("no python3 has jsonschema (Debian's python3-jsonschema): no JSON line was checked against the schema")
 
     def test_the_lines_of_all_cases(self) -> None:
         cases, faults = load([CASES])

@@ -14,7 +14,7 @@ from comparing.accuracy import Accuracy
 from comparing.counts import Counts, applied_of, counts_of
 from comparing.paging import PAGEOUT, Ledger, Moment, Move, Owner, Paging, Use, Uses
 from reports.events import Aggregation, Report, ReportError
-from reports.pages import Run, common, place, size
+from reports.pages import PageRun, common, place, size
 from units import PAGE
 from wording import counted
 
@@ -48,7 +48,7 @@ class Comparison:
         self.paging = Paging(within, keep_moves)
         self.uses = Uses(within)
 
-    def add(self, truth: Counts, found: Counts, tick: int, applied: dict[Owner, list[Run]]) -> None:
+    def add(self, truth: Counts, found: Counts, tick: int, applied: dict[Owner, list[PageRun]]) -> None:
         """Adds one aggregation of both reports. Raises UsageError if the exact one lacks a page."""
         if size(common(truth.watched, found.watched)) < size(found.watched):
             raise UsageError(f"at tick {tick} the second report has pages that the first does not have: "

@@ -4,7 +4,7 @@ from __future__ import annotations
 from dataclasses import dataclass
 
 from reports.events import Aggregation, ReportError
-from reports.pages import TARGET_BITS, Run, Runs, append, key
+from reports.pages import TARGET_BITS, PageRun, PageRuns, append, key
 from units import PAGE_BITS
 
 
@@ -12,18 +12,18 @@ from units import PAGE_BITS
 class Counts:
     """The pages of an aggregation by their counts."""
 
-    watched: Runs
-    accessed: Runs
+    watched: PageRuns
+    accessed: PageRuns
     """Those with a count above 0."""
-    hot: Runs
+    hot: PageRuns
     """Those with a count of at least a share of the passes."""
 
 
 def counts_of(found: Aggregation, share: float, target: int | None) -> Counts:
     """The sets of one target, or of all. Raises ReportError if the rows do not rise."""
-    watched: Runs = []
-    accessed: Runs = []
-    hot: Runs = []
+    watched: PageRuns = []
+    accessed: PageRuns = []
+    hot: PageRuns = []
     least = share * found.passes
     before = 0
     for number, first, after, hits in found.regions:
@@ -42,9 +42,9 @@ def counts_of(found: Aggregation, share: float, target: int | None) -> Counts:
     return Counts(watched, accessed, hot)
 
 
-def applied_of(found: Aggregation, target: int | None) -> dict[tuple[int, str], list[Run]]:
+def applied_of(found: Aggregation, target: int | None) -> dict[tuple[int, str], list[PageRun]]:
     """The pages that schemes were applied to, by slot and action, in the order of the report."""
-    result: dict[tuple[int, str], list[Run]] = {}
+    result: dict[tuple[int, str], list[PageRun]] = {}
     for run in found.applied:
         if target in (None, run.target):
             result.setdefault((run.slot, run.action), []).append((key(run.target, run.start), key(run.target, run.end)))

@@ -1,14 +1,16 @@
-"""The setup of a script that is there: it is taken apart, changed and put together again."""
+"""A script that is there: its setup is taken apart, changed and put together again."""
 from __future__ import annotations
 
 import re
+from typing import Iterator
 
 from common import UsageError
-from units import PAGE
 
 from .grammar import first_word, words_of
+from .reading import Commit, OtherLine, Pass, Setup, body_of
 
 BEGIN = b"\nbegin\n"
+ARMED = re.compile(rb"^arm\n", re.MULTILINE)
 METRIC = re.compile(rb"^metric ([0-9]{1,10})$", re.MULTILINE)
 ATTRS = re.compile(rb"^attrs [0-9]+ [0-9]+ ([0-9]{1,10})$", re.MULTILINE)
 
@@ -29,6 +31,18 @@ class Script:
             raise UsageError("there is no line `begin`: this is no script of damon")
         return Script(setup.decode("latin-1").split("\n"), body)
 
+    @property
+    def setup(self) -> Setup:
+        return Setup(self.lines)
+
+    def parts(self) -> Iterator[Commit | Pass | OtherLine]:
+        """The commits, the passes and the other lines of the body."""
+        return body_of(self.body.decode("latin-1").split("\n"))
+
+    def starts(self) -> list[int]:
+        """Where the line `arm` of each pass begins in the body."""
+        return [match.start() for match in ARMED.finditer(self.body)]
+
     def text(self) -> bytes:
         return "\n".join(self.lines).encode("latin-1") + BEGIN + self.body
 
@@ -47,7 +61,7 @@ class Script:
         self.lines[self.place(word)] = " ".join([word, *map(str, values)])
 
     def schemes(self) -> list[str]:
-        return [line for line in self.lines if first_word(line) == "scheme"]
+        return self.setup.with_word("scheme")
 
     def drop(self, slot: str) -> bool:
         """Removes the scheme of this slot; False if there is none."""
@@ -76,11 +90,10 @@ class Script:
         return max(map(int, [self.words("attrs")[2], *ATTRS.findall(self.body)]))
 
     def range_pages(self) -> list[int]:
-        ranges = [words_of(line) for line in self.lines if first_word(line) == "range"]
-        return [(words[3].number() - words[2].number()) // PAGE for words in ranges]
+        return [one.pages for one in self.setup.ranges]
 
     def targets(self) -> int:
-        return sum(first_word(line) == "target" for line in self.lines)
+        return len(self.setup.with_word("target"))
 
 
 def slot_of(line: str) -> str:
