@@ -425,8 +425,8 @@ class Parts(Shown):
         self.open(Pages.page("cut", "--most", "500", str(Pages.runs[0].path)))
         rows = [len(found.rows) for found in Pages.runs[0].found]
         step = next(step for step in range(1, 99) if sum(rows[::-step]) <= 500)
-        self.assertIn(f"of {len(rows)} aggregations this page has each {step}th one, {len(rows[::-step])} with {sum(rows[::-step])} rows",
-                      self.browser.text("#notes").replace("columns", "aggregations"))
+        self.assertIn(f"of {len(rows)} aggregations the page has one of each {step}: {len(rows[::-step])}, with {sum(rows[::-step])} rows",
+                      self.browser.text("#notes"))
         self.open(Pages.one())
         self.assertEqual(self.browser.text("#notes"), "")
 
@@ -471,7 +471,7 @@ class Keyboard(Shown):
         self.browser.do("script", "document.activeElement.blur(); window.scrollTo(0, 0)")
         for _ in range(13):
             self.browser.do("keys", "TAB")
-            order.append(self.browser.do("script", "return document.activeElement.id || document.activeElement.ariaLabel || document.activeElement.innerText"))
+            order.append(self.browser.do("script", "const one = document.activeElement; return one.id || one.ariaLabel || one.innerText"))
         self.assertEqual(order[:10], ["play", "back", "cursor", "forth", "closer", "farther", "whole", "unfold", "fold", "difference"])
         self.assertEqual(order[10:12], ["target 4", "target 4 taller"])
 

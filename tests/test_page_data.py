@@ -58,7 +58,7 @@ def luminance(colour: str) -> float:
     """How light a colour is, from 0 to 1, as the guidelines for contrast (WCAG) have it."""
     parts = [int(colour[at : at + 2], 16) / 255 for at in (1, 3, 5)]
     linear = [part / 12.92 if part <= 0.03928 else ((part + 0.055) / 1.055) ** 2.4 for part in parts]
-    return 0.2126 * linear[0] + 0.7152 * linear[1] + 0.0722 * linear[2]
+    return float(0.2126 * linear[0] + 0.7152 * linear[1] + 0.0722 * linear[2])
 
 
 @unittest.skipIf(d3_is_missing(), "D3 (Debian's node-d3) is not installed")
@@ -143,7 +143,7 @@ class Data(unittest.TestCase):
 
     def test_exact_counts_have_no_ages(self) -> None:
         parts = parts_of(made(text="exact counts 1\naggregate tick=2 rows=1\nrow 0 0x10000-0x12000 count=2\n"))
-        self.assertEqual((parts.meta["reports"][0]["hasAges"], parts.columns(0, "rows")["age"], parts.columns(0, "rows")["count"]), (False, [], [2]))
+        self.assertEqual((parts.meta["reports"][0]["hasAges"], parts.columns(0, "rows")["age"], parts.columns(0, "rows")["count"]), (False, [0], [2]))
 
 
 @unittest.skipIf(d3_is_missing(), "D3 (Debian's node-d3) is not installed")

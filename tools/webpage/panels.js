@@ -189,10 +189,12 @@ class Panel {
       lane.setHeight(isFolded ? FOLDED_HEIGHT : this.isTall ? Math.max(MOST_HEIGHT, this.height) : this.height);
       lane.root.attr("tabindex", isFolded ? -1 : 0);
     }
-    this.taller.attr("hidden", isFolded ? "" : null).text(this.isTall ? "lower" : "taller").attr("aria-label", `${this.target.name} ${this.isTall ? "lower" : "taller"}`);
-    const { target } = this, share = this.page.greatest[this.number];
+    const { target } = this, other = this.isTall ? "lower" : "taller";
+    this.taller.attr("hidden", isFolded ? "" : null).text(other).attr("aria-label", `${target.name} ${other}`);
+    const share = this.page.greatest[this.number];
     const busy = share ? `at most ${d3.format(".0%")(share)} of passes` : "never found accessed";
-    this.facts.text(`target ${target.number}, ${addresses(target, 0, target.high - target.low)}, ${sizeWords(target.high - target.low)}, ${busy}`);
+    const pages = target.high - target.low;
+    this.facts.text(`target ${target.number}, ${addresses(target, 0, pages)}, ${sizeWords(pages)}, ${busy}`);
   }
 
   /** Which lanes there are, and what is shown of the addresses. */

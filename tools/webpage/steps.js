@@ -33,7 +33,8 @@ class Steps {
       if (this.view.cursor === this.view.stops.length - 1) this.view.moveCursor(0);
       this.timer = setInterval(() => this.step(), 1000 / STEPS_A_SECOND);
     }
-    this.button.attr("aria-pressed", String(isPlaying)).html(`<span aria-hidden="true">${isPlaying ? "&#9632;" : "&#9654;"}</span> ${isPlaying ? "stop" : "play"}`);
+    const [sign, word] = isPlaying ? ["&#9632;", "stop"] : ["&#9654;", "play"];
+    this.button.attr("aria-pressed", String(isPlaying)).html(`<span aria-hidden="true">${sign}</span> ${word}`);
     this.update();
   }
 
