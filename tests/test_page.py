@@ -29,6 +29,15 @@ FEW = {1: 16, 2: 9}
 """How many rows a table has at first, by the number of reports."""
 
 
+PLAY = """
+const done = arguments[0], play = document.querySelector('#play'), position = document.querySelector('#position'), seen = [];
+new MutationObserver(() => seen.push(`${play.ariaPressed} ${position.innerText.split('aggregation ')[1]}`)).observe(position, { childList: true });
+document.body.dispatchEvent(new KeyboardEvent('keydown', { key: ' ', bubbles: true }));
+setInterval(() => play.ariaPressed === 'false' && done(seen), 20);
+"""
+"""Plays, and gives what was said at each step."""
+
+
 @dataclass(frozen=True)
 class Run:
     """A report that a page shows."""
@@ -327,9 +336,10 @@ class Cursor(Shown):
 
     def test_it_plays_to_the_end(self) -> None:
         self.open(Pages.one())
-        self.browser.do("keys", "END", "ARROW_LEFT", "ARROW_LEFT", "ARROW_LEFT", " ")
-        self.assertEqual(self.browser.do("script", "return document.querySelector('#play').ariaPressed"), "true")
-        self.browser.do("wait", "const done = arguments[0]; setInterval(() => document.querySelector('#play').ariaPressed === 'false' && done(), 20)")
+        self.browser.do("keys", "END", "ARROW_LEFT", "ARROW_LEFT", "ARROW_LEFT")
+        seen = self.browser.do("wait", PLAY)
+        count = len(Pages.runs[0].found)
+        self.assertEqual([*dict.fromkeys(seen)], [f"true {place} of {count}" for place in range(count - 3, count)] + [f"false {count} of {count}"])
         self.assertEqual(self.table("age1.report"), self.rows_of(Pages.runs[0].found[-1], FEW[1]))
 
     def test_facts_at_the_cursor(self) -> None:
