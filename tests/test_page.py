@@ -315,6 +315,13 @@ class Cursor(Shown):
         self.browser.do("click", ".more")
         self.assertEqual(self.table("age1.report"), self.rows_of(found, 1000))
 
+    def test_what_schemes_took(self) -> None:
+        self.open(Pages.one())
+        number, found = max(enumerate(Pages.runs[0].found), key=lambda pair: len(pair[1].runs))
+        self.browser.do("keys", *["ARROW_RIGHT"] * number)
+        self.browser.do("click", ".taken")
+        self.assertEqual(self.table("age1.report"), [cells for cells in self.rows_of(found, 1000) if cells[6]][: FEW[1]])
+
     def test_the_slider_has_the_same_cursor(self) -> None:
         self.open(Pages.one())
         self.browser.do("script", "document.querySelector('#cursor').focus()")

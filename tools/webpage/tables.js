@@ -33,6 +33,7 @@ class Tables {
   constructor(page) {
     this.page = page;
     this.isLong = false;
+    this.isTaken = false;
     this.root = d3.select("#tables");
   }
 
@@ -79,11 +80,13 @@ class Tables {
   }
 
   drawRows(section, report, snapshot) {
-    const rows = hottest(report, snapshot), shown = this.isLong ? rows : rows.slice(0, this.few);
-    const { hasAges } = report.meta, hasRuns = report.meta.actions.length > 0;
+    const { hasAges } = report.meta, hasRuns = report.meta.actions.length > 0, isTaken = hasRuns && this.isTaken;
+    const rows = hottest(report, snapshot).filter(row => !isTaken || report.runsAt(snapshot, row).length);
+    const shown = this.isLong ? rows : rows.slice(0, this.few);
     const heads = ["area", "addresses", "pages", "count", ...(hasAges ? ["last", "age"] : []), ...(hasRuns ? ["scheme"] : [])];
     const passes = passWords(report.snapshots.passes[snapshot]);
-    const caption = `the ${shown.length} hottest of ${counted(rows.length, "row")}, by count of ${passes} and size`;
+    const which = `${counted(rows.length, "row")}${isTaken ? " that schemes took" : ""}`;
+    const caption = `the ${shown.length} hottest of ${which}, by count of ${passes} and size`;
     const body = this.addTable(section, caption, heads);
     for (const row of shown) {
       const { start, end, count, last, age } = report.rows, target = report.rows.target[row];
@@ -97,6 +100,9 @@ class Tables {
       if (hasRuns) line.append("td").attr("class", "words").text([...schemes].join("; "));
     }
     this.addMore(section, rows.length);
+    if (hasRuns) {
+      this.addButton(section, "taken", "only what schemes took", () => { this.isTaken = !this.isTaken; }).attr("aria-pressed", String(isTaken));
+    }
   }
 
   /** Where the shares of two reports differ most, by share and size. */
@@ -142,11 +148,16 @@ class Tables {
 
   addMore(section, count) {
     if (count <= this.few) return;
-    const words = this.isLong ? `the first ${this.few}` : `all ${count}`;
-    section.append("button").attr("type", "button").attr("class", "more").text(words).on("click", () => {
-      this.isLong = !this.isLong;
+    this.addButton(section, "more", this.isLong ? `the first ${this.few}` : `all ${count}`, () => { this.isLong = !this.isLong; });
+  }
+
+  /** A button that changes what tables show, and keeps the focus as they are made anew. */
+  addButton(section, kind, words, change) {
+    const place = this.root.selectAll(`.${kind}`).size();
+    return section.append("button").attr("type", "button").attr("class", kind).text(words).on("click", () => {
+      change();
       this.draw();
-      this.root.select(".more").node()?.focus();
+      this.root.selectAll(`.${kind}`).nodes()[place]?.focus();
     });
   }
 }
