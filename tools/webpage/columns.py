@@ -4,6 +4,7 @@ from __future__ import annotations
 import math
 from array import array
 from dataclasses import asdict, dataclass
+from itertools import chain
 from typing import Any, Iterable, Mapping, Sequence
 
 from drawing.charts import REFAULTS, memory_charts
@@ -43,7 +44,8 @@ def targets_of(histories: Iterable[History], areas: Sequence[NamedArea], labels:
     """The targets of all reports, by number. A label comes before the name of an area."""
     spans: dict[int, tuple[int, int]] = {}
     for history in histories:
-        for number, (low, high) in spans_of(history).items():
+        runs = ((run.target, (run.start, run.end)) for snapshot in history.snapshots for run in snapshot.applied)
+        for number, (low, high) in chain(spans_of(history).items(), runs):
             first, after = spans.get(number, (low, high))
             spans[number] = (min(first, low), max(after, high))
     names = {**names_by_target(areas, spans), **labels}

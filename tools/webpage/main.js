@@ -100,7 +100,10 @@ class Page {
   }
 
   draw() {
-    const isWhole = this.changed.has("view") || this.changed.has("mode");
+    // What changes from now on is drawn with another frame.
+    const changed = this.changed;
+    this.changed = new Set();
+    const isWhole = changed.has("view") || changed.has("mode");
     if (isWhole) {
       document.body.classList.toggle("difference", this.view.isDifference);
       drawLegend(this);
@@ -114,9 +117,11 @@ class Page {
       lane.draw();
       lane.isStale = false;
     }
-    if (this.changed.has("cursor")) for (const lane of this.lanes) lane.drawCursor();
-    if (this.changed.has("cursor") || this.changed.has("mode") || this.tables.root.node().childElementCount === 0) this.tables.draw();
-    this.changed.clear();
+    if (changed.has("cursor")) {
+      for (const lane of this.lanes) lane.drawCursor();
+      this.focusedLane()?.followCursor();
+    }
+    if (changed.has("cursor") || changed.has("mode") || this.tables.root.node().childElementCount === 0) this.tables.draw();
     document.body.dataset.drawn = Number(document.body.dataset.drawn ?? 0) + 1;
   }
 }

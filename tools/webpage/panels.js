@@ -90,6 +90,11 @@ class HeatLane extends Lane {
     this.page.hover.hide();
   }
 
+  /** The region that was asked for last, at the new place of the cursor. */
+  followCursor() {
+    if (this.probed !== undefined) this.moveProbe(0);
+  }
+
   /** The region above or below the one that is shown, at the cursor; the hottest one at first. */
   moveProbe(step) {
     const report = this.reports[this.reports.length - 1], snapshot = report.at(this.view.tick);
