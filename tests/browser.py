@@ -47,8 +47,9 @@ class Browser:
         return found["answer"]
 
     def text(self, selector: str) -> str:
-        """The text of an element as it is shown."""
-        return str(self.do("script", f"return document.querySelector({json.dumps(selector)})?.innerText ?? ''"))
+        """The text of an element as it is shown; none if it is not."""
+        return str(self.do("script", f"const one = document.querySelector({json.dumps(selector)});"
+                           "return one?.checkVisibility() ? one.innerText : ''"))
 
     def texts(self, selector: str) -> list[str]:
         """The texts of all elements that fit."""

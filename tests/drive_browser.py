@@ -67,8 +67,9 @@ class Driver:
         return self.browser.execute_async_script(text)
 
     def place(self, selector: str, x: float, y: float) -> tuple[Any, int, int]:
-        """An element, and a place in it as the actions take it: from its middle."""
+        """An element, which is brought into the window, and a place in it as the actions take it: from its middle."""
         element = self.browser.find_element("css selector", selector)
+        self.browser.execute_script("arguments[0].scrollIntoView({ block: 'center' })", element)
         size = element.size
         return element, round(x - size["width"] / 2), round(y - size["height"] / 2)
 
@@ -109,8 +110,8 @@ class Driver:
         self.browser.save_screenshot(path)
 
     def log(self) -> list[str]:
-        """What the page wrote to the console since it was asked last."""
-        return [entry["message"] for entry in self.browser.get_log("browser")]
+        """The errors that the page wrote to the console since it was asked last."""
+        return [entry["message"] for entry in self.browser.get_log("browser") if entry["level"] == "SEVERE"]
 
 
 def main() -> None:

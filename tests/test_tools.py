@@ -5,8 +5,11 @@ from __future__ import annotations
 import unittest
 from pathlib import Path
 
+from page_parts import parts_of
 from pages import Page
 from tool_runs import TOP, need_program
+
+from webpage.d3 import BUNDLE
 
 
 def setUpModule() -> None:
@@ -16,14 +19,20 @@ def setUpModule() -> None:
 class Tutorial(Page):
     """The commands of docs/TUTORIAL.md work as printed, but for those that need valgrind, perf or gnuplot, or make another run each time."""
 
+    HAS_D3 = BUNDLE.is_file()
+
     def test_commands_and_outputs(self) -> None:
-        skipped = ("valgrind", "perf script", "out/shop.trace", "gnuplot", "./damond run")
+        skipped = ["valgrind", "perf script", "out/shop.trace", "gnuplot", "./damond run", *([] if self.HAS_D3 else ["tools/page.py"])]
         self.follow("docs/TUTORIAL.md", lambda block: any(word in block for word in skipped), self.compare_pictures)
 
     def compare_pictures(self, folder: Path) -> None:
         for picture in ("shop", "exact", "patient", "page-cache", "reclaim", "tune", "heat"):
             made = (folder / f"{picture}.svg").read_bytes()
             self.assertEqual(made == (TOP / f"docs/pictures/{picture}.svg").read_bytes(), True, picture)
+        if self.HAS_D3:
+            # Another version of D3 or of zlib would make other bytes.
+            made_page, kept = (parts_of((place / "policies.html").read_text()) for place in (folder, TOP / "docs/pictures"))
+            self.assertEqual((made_page.meta == kept.meta, made_page.block == kept.block, made_page.rest == kept.rest), (True, True, True))
 
 
 class Search(Page):

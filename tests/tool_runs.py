@@ -21,7 +21,6 @@ PROGRAM = Path(os.environ.get("DAMON") or TOP / "crates/damon/out/damon")
 DAMOND = Path(os.environ.get("DAMOND") or TOP / "crates/damond/out/damond")
 DEBIANS_PYTHON = "/usr/bin/python3"
 SECONDS = 300
-DEBIANS_PYTHON = "/usr/bin/python3"
 if str(TOOLS) not in sys.path:
     sys.path.insert(0, str(TOOLS))
 
@@ -39,15 +38,6 @@ def interpreter_with(module: str) -> str | None:
     on_path = [shutil.which("python3", path=folder) for folder in os.environ.get("PATH", "").split(os.pathsep)]
     for path in dict.fromkeys(filter(None, (sys.executable, *on_path, DEBIANS_PYTHON))):
         if Path(path).exists() and subprocess.run([path, "-c", f"import {module}"], capture_output=True).returncode == 0:
-            return path
-    return None
-
-
-@lru_cache(maxsize=None)
-def interpreter_with(module: str) -> str | None:
-    """An interpreter that has a module: this one, or Debian's own; None if neither has it."""
-    for path in (sys.executable, DEBIANS_PYTHON):
-        if Path(path).is_file() and subprocess.run([path, "-c", f"import {module}"], capture_output=True).returncode == 0:
             return path
     return None
 

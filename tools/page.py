@@ -10,11 +10,11 @@ import sys
 from pathlib import Path
 
 from common import STANDARD_INPUT, UsageError, opened_text, parser, run
-from drawing.history import History, ScriptError, commits_of, history_of
-from picture import check_labels, labels_of
+from drawing.history import Cut, ScriptError, commits_of, history_of
+from drawing.naming import check_targets, labels_of, names_read
 from reports.events import Report, ReportError
 from webpage.block import Block
-from webpage.columns import packed_report, targets_of
+from webpage.columns import Shown, packed_report, targets_of
 from webpage.d3 import D3Error, bundle
 from webpage.document import page
 
@@ -35,6 +35,9 @@ are folded at first.
 Two reports stand beside each other with one cursor, and a switch shows their difference:
   tools/page.py out/eager.report out/patient.report > both.html
 
+A part of them is shown with --target, --from and --to. Of more rows than --most the page has each
+second aggregation, or fewer, and says so.
+
 A report has what its commits were answered, and not what they have: that is in the script (--script,
 once for each report). Scales, axes and zoom are those of D3: `apt-get install node-d3` on Debian.
 """
@@ -48,6 +51,10 @@ def options_of() -> argparse.Namespace:
     add("--script", action="append", default=[], metavar="FILE", help="the script of the report, and then that of the second one")
     add("--title", help="the title of the page")
     add("--label", action="append", default=[], metavar="TARGET=TEXT", help="names a target; may be repeated")
+    add("--names", metavar="FILE", help="names targets by lines START-END NAME")
+    add("--target", action="append", default=[], type=int, metavar="N", help="shows this target alone; may be repeated")
+    add("--from", dest="since", type=int, metavar="TICK", help="shows what comes after this tick")
+    add("--to", dest="until", type=int, metavar="TICK", help="shows what comes before it")
     add("--most", type=int, default=MOST_ROWS, metavar="ROWS",
         help=f"the most rows of a report that the page has, {MOST_ROWS} by default; of more it has each second aggregation, or fewer")
     add("--theme", choices=("auto", "light", "dark"), default="auto",
@@ -63,44 +70,39 @@ def options_of() -> argparse.Namespace:
     return options
 
 
-def history_read(report: str, script: str | None) -> History:
-    """The report, and the commits of its script if that is named. Raises UsageError."""
+def report_read(path: str, script: str | None, part: Cut) -> Shown:
+    """A part of a report, with the commits of its script if that is named. Raises UsageError."""
     commits = None
     if script is not None:
         with opened_text(script) as stream:
             commits = commits_of(stream)
-    with opened_text(report) as stream:
+    with opened_text(path) as stream:
+        report = Report(stream)
         try:
-            history = history_of(Report(stream).events(), commits)
+            history = part.of(history_of(report.events(), commits))
         except (ReportError, ScriptError) as error:
-            raise UsageError(f"{report}: {error}") from None
-    if not history.snapshots:
-        raise UsageError(f"{report}: the report has no aggregation, and no show after a pass: there is nothing to show")
-    return history
+            raise UsageError(f"{path}: {error}") from None
+    if not any(snapshot.regions for snapshot in history.snapshots):
+        raise UsageError(f"{path}: no aggregation has a region, and no show after a pass: there is nothing to show")
+    return Shown("standard input" if path == STANDARD_INPUT else Path(path).name, history, not report.has_runs)
 
 
 def work() -> None:
     options = options_of()
     labels = labels_of(options.label)
+    areas = names_read(options.names) if options.names is not None else []
     try:
         d3 = bundle(options.d3)
     except D3Error as error:
         raise UsageError(str(error)) from None
-    scripts = [*options.script, None, None]
-    histories = [history_read(report, script) for report, script in zip(options.reports, scripts)]
-    targets = targets_of(histories, labels)
-    check_labels(labels, [target.number for target in targets], "the reports have")
+    part = Cut(options.since or 0, options.until, frozenset(options.target) or None)
+    reports = [report_read(path, script, part) for path, script in zip(options.reports, [*options.script, None, None])]
+    targets = targets_of((report.history for report in reports), areas, labels)
+    check_targets("--label", labels, [target.number for target in targets], "the reports have")
     block = Block()
-    meta = {
-        "targets": [vars(target) for target in targets],
-        "reports": [packed_report(block, name_of(path), history, targets, options.most)
-                    for path, history in zip(options.reports, histories)],
-    }
+    meta = {"targets": [vars(target) for target in targets],
+            "reports": [packed_report(block, report, targets, options.most) for report in reports]}
     sys.stdout.write(page(options.title or "Accesses by time and address", meta, block, d3, options.theme))
-
-
-def name_of(path: str) -> str:
-    return "standard input" if path == STANDARD_INPUT else Path(path).name
 
 
 if __name__ == "__main__":

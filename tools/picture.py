@@ -6,20 +6,19 @@ docs/TUTORIAL.md shows its use.
 from __future__ import annotations
 
 import argparse
-import re
 import sys
-from typing import Iterable
 
 from common import STANDARD_INPUT, UsageError, opened_text, parser, run
 from drawing.front import ColourError, colours_of, front_picture
 from drawing.heat import heat_picture
 from drawing.charts import CHARTS, charts_of
 from drawing.history import Cut, History, ScriptError, commits_of, history_of
+from drawing.naming import check_targets, labels_of, names_read
 from drawing.panels import spans_of
 from drawing.picture import View, picture
 from reports.events import Report, ReportError
 from reports.heat import Heat, HeatError, heats_of
-from reports.names import NamedArea, NamesError, named_areas_of, names_by_target
+from reports.names import names_by_target
 from reports.places import Place, PlaceError, check_places, places_of
 from searching.marks import TableError, axis_of, table_of
 
@@ -71,18 +70,6 @@ Rows of several workloads have a front for each, since no setting of one beats o
 for all of them together, of the means over all workloads. --only workload=NAME draws one workload, and
 --colour age shows by the colours and forms of marks which age they have.
 """
-LABEL = re.compile(r"([0-9]{1,2})=(.*)")
-
-
-def labels_of(words: list[str]) -> dict[int, str]:
-    """The options --label as names by target. Raises UsageError."""
-    labels = {}
-    for word in words:
-        match = LABEL.fullmatch(word)
-        if not match:
-            raise UsageError(f"--label needs TARGET=TEXT, and not {word!r}")
-        labels[int(match[1])] = match[2]
-    return labels
 
 
 def history_read(options: argparse.Namespace) -> History:
@@ -96,15 +83,6 @@ def history_read(options: argparse.Namespace) -> History:
             return history_of(Report(stream).events(), commits)
         except (ReportError, ScriptError) as error:
             raise UsageError(str(error)) from None
-
-
-def names_read(path: str) -> list[NamedArea]:
-    """The areas of a file of names. Raises UsageError that names the file."""
-    with opened_text(path) as stream:
-        try:
-            return named_areas_of(stream)
-        except NamesError as error:
-            raise UsageError(f"{path}: {error}") from None
 
 
 def heats_read(path: str) -> list[Heat]:
@@ -161,14 +139,6 @@ def options_of() -> argparse.Namespace:
     if not options.front and (options.colour is not None or options.only):
         raise UsageError("--colour and --only are for --front")
     return options
-
-
-def check_targets(option: str, named: Iterable[int], targets: Iterable[int], whose: str) -> None:
-    """Raises UsageError if an option names a target that is not there."""
-    known = list(targets)
-    for target in named:
-        if target not in known:
-            raise UsageError(f"{option} names target {target}, and {whose} {', '.join(map(str, known))}")
 
 
 def report_drawn(options: argparse.Namespace) -> str:

@@ -41,9 +41,9 @@ class Region(NamedTuple):
     start: int
     end: int
     hits: int
-    last: int | None = None
-    age: int | None = None
-    """These two are None in exact counts, which do not have them."""
+    last: int = 0
+    age: int = 0
+    """Exact counts have neither."""
 
 
 class Applied(NamedTuple):
@@ -54,7 +54,7 @@ class Applied(NamedTuple):
     target: int
     start: int
     end: int
-    score: int
+    score: int = 0
 
 
 @dataclass
@@ -147,9 +147,7 @@ class KeptRegions(dict[str, Region]):
         """The region of a row, which is kept from now on."""
         if len(self) >= MOST_KEPT:
             self.clear()
-        target, start, end, hits, last, age = match.groups()
-        ages = (int(last), int(age)) if age else (None, None)
-        result = Region(int(target), int(start, 16), int(end, 16), int(hits), *ages)
+        result = Region(int(match[1]), int(match[2], 16), int(match[3], 16), int(match[4]), int(match[5] or 0), int(match[6] or 0))
         self[match[0]] = result
         return result
 

@@ -44,15 +44,20 @@ class Report {
     this.snapshots = columns(meta.snapshots);
     this.rows = columns(meta.rows);
     this.runs = columns(meta.runs);
-    this.curves = meta.curves.map(curve => ({ ...curve, ticks: column(curve.ticks), values: column(curve.values) }));
+    this.curves = meta.curves.map(curve => ({ ...curve, start: meta.start, ticks: column(curve.ticks), values: column(curve.values) }));
     this.count = this.snapshots.tick.length;
     this.edges = new Float64Array(this.count + 1);
+    this.edges[0] = meta.start;
     this.edges.set(this.snapshots.tick, 1);
     this.rowStarts = startsOf(this.snapshots.rows, this.rows.target, this.width);
     this.runStarts = startsOf(this.snapshots.runs, this.runs.target, this.width);
   }
 
-  get last() {
+  get start() {
+    return this.edges[0];
+  }
+
+  get end() {
     return this.edges[this.count];
   }
 
@@ -71,7 +76,7 @@ class Report {
   /** The snapshot whose column has this tick, from after the tick of the one before it; -1 if there is none. */
   at(tick) {
     const found = firstAbove(this.snapshots.tick, Math.ceil(tick) - 1, 0, this.count);
-    return found < this.count && tick >= 0 ? found : -1;
+    return found < this.count && tick >= this.start ? found : -1;
   }
 
   /** The row that has a page of a target; -1 if it is not watched. */

@@ -4,13 +4,15 @@ from __future__ import annotations
 import math
 from array import array
 from dataclasses import asdict, dataclass
+from itertools import chain
 from typing import Any, Iterable, Mapping, Sequence
 
-from drawing.charts import memory_charts
+from drawing.charts import REFAULTS, memory_charts
 from drawing.history import Change, History
 from drawing.panels import spans_of
 from reports.events import Aggregation, Applied, Region, Snapshot
-from reports.pages import PAGE_BITS
+from reports.names import NamedArea, names_by_target
+from units import PAGE_BITS
 
 from .block import Block
 
@@ -38,15 +40,17 @@ class Curve:
     values: Sequence[float]
 
 
-def targets_of(histories: Iterable[History], names: Mapping[int, str]) -> list[Target]:
-    """The targets of all reports, by number."""
-    pages: dict[int, tuple[int, int]] = {}
+def targets_of(histories: Iterable[History], areas: Sequence[NamedArea], labels: Mapping[int, str]) -> list[Target]:
+    """The targets of all reports, by number. A label comes before the name of an area."""
+    spans: dict[int, tuple[int, int]] = {}
     for history in histories:
-        for number, (low, high) in spans_of(history).items():
-            first, after = pages.get(number, (low, high))
-            pages[number] = (min(first, low), max(after, high))
+        runs = ((run.target, (run.start, run.end)) for snapshot in history.snapshots for run in snapshot.applied)
+        for number, (low, high) in chain(spans_of(history).items(), runs):
+            first, after = spans.get(number, (low, high))
+            spans[number] = (min(first, low), max(after, high))
+    names = {**names_by_target(areas, spans), **labels}
     return [Target(number, names.get(number, f"target {number}"), low >> PAGE_BITS, high >> PAGE_BITS)
-            for number, (low, high) in sorted(pages.items())]
+            for number, (low, high) in sorted(spans.items())]
 
 
 def kept_of(snapshots: Sequence[Snapshot], most: int) -> tuple[list[Snapshot], int]:
@@ -58,16 +62,28 @@ def kept_of(snapshots: Sequence[Snapshot], most: int) -> tuple[list[Snapshot], i
     return list(snapshots[::-step])[::-1], step
 
 
-def packed_report(block: Block, name: str, history: History, targets: Sequence[Target], most: int) -> dict[str, Any]:
+@dataclass(frozen=True)
+class Shown:
+    """A report that a page shows."""
+
+    name: str
+    history: History
+    has_ages: bool
+    """Whether its rows have a last count and an age; those of exact counts have not."""
+
+
+def packed_report(block: Block, shown: Shown, targets: Sequence[Target], most: int) -> dict[str, Any]:
     """Puts the columns of a report into the block, of at most so many rows; gives what the page has of it besides."""
+    history = shown.history
     snapshots, step = kept_of(history.snapshots, most)
     places = {target.number: (place, target.low << PAGE_BITS) for place, target in enumerate(targets)}
     actions = sorted({run.action for snapshot in snapshots for run in snapshot.applied})
     return {
-        "name": name,
+        "name": shown.name,
+        "start": history.start,
         "step": step,
         "found": {"snapshots": len(history.snapshots), "rows": sum(len(snapshot.regions) for snapshot in history.snapshots)},
-        "hasAges": all(found.age is not None for snapshot in snapshots for found in snapshot.regions[:1]),
+        "hasAges": shown.has_ages,
         "snapshots": packed_snapshots(block, snapshots),
         "rows": packed_rows(block, snapshots, places),
         "runs": packed_runs(block, snapshots, places, actions),
@@ -110,9 +126,8 @@ def packed_rows(block: Block, snapshots: Sequence[Snapshot], places: Places) -> 
         start.extend([(address - first) >> PAGE_BITS for address, (_, first) in zip(starts, of)])
         end.extend([(address - first) >> PAGE_BITS for address, (_, first) in zip(ends, of)])
         count.extend(hits)
-        if ages[0] is not None:
-            last.extend(lasts)
-            age.extend(ages)
+        last.extend(lasts)
+        age.extend(ages)
     columns = {"target": target, "start": start, "end": end, "count": count, "last": last, "age": age}
     return {name: block.put(values) for name, values in columns.items()}
 
@@ -147,5 +162,5 @@ def curves_of(history: History) -> list[Curve]:
         left = [snapshot.left.get(slot, NAN) for snapshot in snapshots]
         curves.append(Curve(f"quota left, slot {slot}", "pages", ticks, left))
     for chart in memory_charts(history):
-        curves.append(Curve(chart.name, "refaults" if chart.name == "refaults" else "pages", chart.ticks, chart.values))
+        curves.append(Curve(chart.name, "refaults" if chart.kind == REFAULTS else "pages", chart.ticks, chart.values))
     return curves

@@ -15,7 +15,7 @@ function stepsOf(curve, x, width) {
     if (group) for (const value of [group.first, group.least, group.most, group.last]) points.push([group.place, value]);
   };
   for (let at = first; at < after; at++) {
-    const from = x(at ? ticks[at - 1] : 0), to = x(ticks[at]), value = values[at], place = Math.round(from);
+    const from = x(at ? ticks[at - 1] : curve.start), to = x(ticks[at]), value = values[at], place = Math.round(from);
     if (!isDense) {
       points.push([from, value], [to, value]);
     } else if (group?.place === place) {
@@ -130,7 +130,7 @@ class TimeLane extends Lane {
     super(page.view, parent, AXIS_HEIGHT);
     this.isTop = isTop;
     this.axis = this.svg.append("g").attr("class", "axis").attr("transform", `translate(${GUTTER.left},${isTop ? AXIS_HEIGHT - 1 : 1})`);
-    this.name = this.svg.append("text").attr("class", "name").attr("x", GUTTER.left - 8).attr("y", isTop ? 12 : 18).text("intervals");
+    this.name = this.svg.append("text").attr("class", "name").attr("x", GUTTER.left - 26).attr("y", isTop ? 12 : 18).text("intervals");
     followGestures(this, page.view);
     this.root.on("click", first => page.view.moveCursorTo(this.tickAt(eventOf(first).clientX)));
   }

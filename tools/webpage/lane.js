@@ -57,8 +57,7 @@ class Lane {
 
   /** The column of the cursor, from the stop before it. */
   drawCursor() {
-    const { view, x } = this, before = view.cursor ? view.stops[view.cursor - 1] : 0;
-    const from = Math.max(0, x(before)), to = Math.min(this.width, x(view.tick));
+    const { view, x } = this, from = Math.max(0, x(view.tickBefore)), to = Math.min(this.width, x(view.tick));
     this.cursor.attr("x", GUTTER.left + from).attr("y", 0.5).attr("width", Math.max(1, to - from)).attr("height", Math.max(0, this.height - 1))
       .attr("display", to < from ? "none" : null);
   }

@@ -24,18 +24,26 @@ class Page {
   /** What stands above: the names, what is left out, and the scales. */
   introduce() {
     const { reports, view } = this, pages = d3.sum(view.targets, target => target.high - target.low);
-    const nounOf = ({ snapshots }) => (snapshots.isAggregation.includes(0) ? "column" : "aggregation");
-    const facts = reports.map(report => [report.meta, nounOf(report)]).map(([meta, noun]) => `${meta.name}: ${counted(meta.found.snapshots, noun)} with ${counted(meta.found.rows, "row")}`);
-    d3.select("#what").text(`${facts.join("; ")}; ${counted(view.targets.length, "target")} with ${counted(pages, "page")}, ${counted(view.end, "sampling interval")}`);
-    for (const { meta, count, rows } of reports) {
-      if (meta.step > 1) {
-        d3.select("#notes").append("li").attr("class", "left-out").text(`Left out of ${meta.name} for its size: of ${counted(meta.found.snapshots, "column")} `
-          + `this page has each ${meta.step}th one, ${count} with ${counted(rows.target.length, "row")}. Such a column stands for ${meta.step}, and shows the last of them. The curves have all.`);
-      }
-      if (meta.later) d3.select("#notes").append("li").text(`${counted(meta.later, "commit")} of ${meta.name} came after the last column.`);
-    }
+    const facts = reports.map(report => {
+      const { name, found } = report.meta;
+      return `${name}: ${counted(found.snapshots, nounOf(report))} with ${counted(found.rows, "row")}`;
+    });
+    const memory = `${counted(view.targets.length, "target")} with ${counted(pages, "page")}`;
+    d3.select("#what").text([...facts, memory, counted(view.end - view.start, "sampling interval")].join("; "));
+    for (const report of reports) this.note(report);
     d3.select("#names").selectAll("p").data(reports).enter().append("p").text(report => report.meta.name);
     d3.select("#switch").attr("hidden", reports.length > 1 ? null : "");
+  }
+
+  /** What a page does not show of a report. */
+  note(report) {
+    const { meta, count, rows } = report, notes = d3.select("#notes");
+    if (meta.step > 1) {
+      notes.append("li").attr("class", "left-out").text(`Left out of ${meta.name} for its size: of ${counted(meta.found.snapshots, nounOf(report))} `
+        + `the page has one of each ${meta.step}: ${d3.format(",")(count)}, with ${counted(rows.target.length, "row")}. `
+        + "Its column stands for all of them, and shows the last one. The curves have all.");
+    }
+    if (meta.later) notes.append("li").text(`${counted(meta.later, "commit")} of ${meta.name} came after the last column.`);
   }
 
   listen() {
@@ -92,7 +100,10 @@ class Page {
   }
 
   draw() {
-    const isWhole = this.changed.has("view") || this.changed.has("mode");
+    // What changes from now on is drawn with another frame.
+    const changed = this.changed;
+    this.changed = new Set();
+    const isWhole = changed.has("view") || changed.has("mode");
     if (isWhole) {
       document.body.classList.toggle("difference", this.view.isDifference);
       drawLegend(this);
@@ -106,11 +117,18 @@ class Page {
       lane.draw();
       lane.isStale = false;
     }
-    if (this.changed.has("cursor")) for (const lane of this.lanes) lane.drawCursor();
-    if (this.changed.has("cursor") || this.changed.has("mode") || this.tables.root.node().childElementCount === 0) this.tables.draw();
-    this.changed.clear();
+    if (changed.has("cursor")) {
+      for (const lane of this.lanes) lane.drawCursor();
+      this.focusedLane()?.followCursor();
+    }
+    if (changed.has("cursor") || changed.has("mode") || this.tables.root.node().childElementCount === 0) this.tables.draw();
     document.body.dataset.drawn = Number(document.body.dataset.drawn ?? 0) + 1;
   }
+}
+
+/** What the columns of a report are: a show before a commit has one too. */
+function nounOf(report) {
+  return report.snapshots.isAggregation.includes(0) ? "column" : "aggregation";
 }
 
 /** An axis for each report that stands beside another one. */

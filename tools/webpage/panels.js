@@ -90,6 +90,11 @@ class HeatLane extends Lane {
     this.page.hover.hide();
   }
 
+  /** The region that was asked for last, at the new place of the cursor. */
+  followCursor() {
+    if (this.probed !== undefined) this.moveProbe(0);
+  }
+
   /** The region above or below the one that is shown, at the cursor; the hottest one at first. */
   moveProbe(step) {
     const report = this.reports[this.reports.length - 1], snapshot = report.at(this.view.tick);
@@ -189,10 +194,12 @@ class Panel {
       lane.setHeight(isFolded ? FOLDED_HEIGHT : this.isTall ? Math.max(MOST_HEIGHT, this.height) : this.height);
       lane.root.attr("tabindex", isFolded ? -1 : 0);
     }
-    this.taller.attr("hidden", isFolded ? "" : null).text(this.isTall ? "lower" : "taller").attr("aria-label", `${this.target.name} ${this.isTall ? "lower" : "taller"}`);
-    const { target } = this, share = this.page.greatest[this.number];
+    const { target } = this, other = this.isTall ? "lower" : "taller";
+    this.taller.attr("hidden", isFolded ? "" : null).text(other).attr("aria-label", `${target.name} ${other}`);
+    const share = this.page.greatest[this.number];
     const busy = share ? `at most ${d3.format(".0%")(share)} of passes` : "never found accessed";
-    this.facts.text(`target ${target.number}, ${addresses(target, 0, target.high - target.low)}, ${sizeWords(target.high - target.low)}, ${busy}`);
+    const pages = target.high - target.low;
+    this.facts.text(`target ${target.number}, ${addresses(target, 0, pages)}, ${sizeWords(pages)}, ${busy}`);
   }
 
   /** Which lanes there are, and what is shown of the addresses. */
@@ -201,7 +208,7 @@ class Panel {
     const [low, high] = this.page.view.pages[this.number], bounds = this.page.view.bounds(this.number);
     const isWhole = low <= bounds[0] && high >= bounds[1];
     this.shown.text(isWhole ? "" : `shown: ${addresses(this.target, Math.floor(low), Math.ceil(high))}`);
-    this.section.attr("data-shown", addresses(this.target, Math.floor(low), Math.ceil(high)));
+    this.section.attr("data-pages", `${this.target.low + low} ${this.target.low + high}`);
   }
 }
 

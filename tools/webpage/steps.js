@@ -33,7 +33,8 @@ class Steps {
       if (this.view.cursor === this.view.stops.length - 1) this.view.moveCursor(0);
       this.timer = setInterval(() => this.step(), 1000 / STEPS_A_SECOND);
     }
-    this.button.attr("aria-pressed", String(isPlaying)).html(`<span aria-hidden="true">${isPlaying ? "&#9632;" : "&#9654;"}</span> ${isPlaying ? "stop" : "play"}`);
+    const [sign, word] = isPlaying ? ["&#9632;", "stop"] : ["&#9654;", "play"];
+    this.button.attr("aria-pressed", String(isPlaying)).html(`<span aria-hidden="true">${sign}</span> ${word}`);
     this.update();
   }
 
@@ -54,7 +55,7 @@ class Steps {
     if (event.ctrlKey || event.altKey || event.metaKey) return;
     // What has the focus keeps the keys that it has a use for.
     if (target === this.slider.node() && /^(Arrow|Home|End|Page)/.test(event.key)) return;
-    if (event.key === " " && target.closest("button, input, summary")) return;
+    if (event.key === " " && target.closest?.("button, input, summary")) return;
     const action = this.actionOf(event.key, event.shiftKey ? FAR : 1);
     if (!action) return;
     event.preventDefault();
@@ -70,6 +71,7 @@ class Steps {
       End: () => view.moveCursor(view.stops.length - 1),
       " ": () => this.play(!this.isPlaying),
       "+": () => this.zoom(2),
+      "=": () => this.zoom(2),
       "-": () => this.zoom(0.5),
       0: () => view.showWhole(),
       d: view.reports.length > 1 ? () => this.page.switchMode(!view.isDifference) : null,

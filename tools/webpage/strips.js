@@ -51,10 +51,12 @@ class StripLane extends Lane {
   drawSlot(slot, middle) {
     const { x, width } = this, colour = this.page.colours.get(slot.number);
     const seen = slot.spans.filter(([start, end]) => x(end) >= 0 && x(start) <= width);
-    for (const [start, end, isActive] of thinned(seen, ([start, end, isActive]) => `${Math.round(2 * x(start))} ${Math.round(2 * x(end))} ${isActive}`)) {
+    const placeOf = ([start, end, isActive]) => `${Math.round(2 * x(start))} ${Math.round(2 * x(end))} ${isActive}`;
+    for (const [start, end, isActive] of thinned(seen, placeOf)) {
       const from = Math.max(0, x(start)), to = Math.min(width, x(end)), high = isActive ? 8 : 1;
-      this.marks.append("rect").attr("class", isActive ? "active" : "waiting").style("fill", colour === undefined ? null : `var(--slot${colour})`)
-        .attr("x", GUTTER.left + from).attr("y", middle - high / 2).attr("width", Math.max(0.5, to - from)).attr("height", high)
+      const bar = this.marks.append("rect").attr("class", isActive ? "active" : "waiting");
+      bar.style("fill", colour === undefined ? null : `var(--slot${colour})`);
+      bar.attr("x", GUTTER.left + from).attr("y", middle - high / 2).attr("width", Math.max(0.5, to - from)).attr("height", high)
         .append("title").text(`slot ${slot.number}: ${isActive ? "active" : "inactive"} from tick ${start} to ${end}`);
     }
   }

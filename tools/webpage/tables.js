@@ -33,6 +33,7 @@ class Tables {
   constructor(page) {
     this.page = page;
     this.isLong = false;
+    this.isTaken = false;
     this.root = d3.select("#tables");
   }
 
@@ -69,7 +70,8 @@ class Tables {
     for (const slot of report.meta.slots) {
       const span = slot.spans.find(([start, end]) => start < tick && tick <= end);
       if (!span) continue;
-      const pages = d3.sum(runsIn(report, snapshot).filter(run => report.runs.slot[run] === slot.number), run => report.runs.end[run] - report.runs.start[run]);
+      const runs = runsIn(report, snapshot).filter(run => report.runs.slot[run] === slot.number);
+      const pages = d3.sum(runs, run => report.runs.end[run] - report.runs.start[run]);
       facts.append("li").text(`slot ${slot.number} ${slot.action}: ${span[2] ? `active, applied to ${counted(pages, "page")}` : "inactive"}`);
     }
     for (const change of report.meta.changes.filter(one => before < one.tick && one.tick <= tick)) {
@@ -78,9 +80,13 @@ class Tables {
   }
 
   drawRows(section, report, snapshot) {
-    const rows = hottest(report, snapshot), shown = this.isLong ? rows : rows.slice(0, this.few), { hasAges } = report.meta, hasRuns = report.meta.actions.length > 0;
+    const { hasAges } = report.meta, hasRuns = report.meta.actions.length > 0, isTaken = hasRuns && this.isTaken;
+    const rows = hottest(report, snapshot).filter(row => !isTaken || report.runsAt(snapshot, row).length);
+    const shown = this.isLong ? rows : rows.slice(0, this.few);
     const heads = ["area", "addresses", "pages", "count", ...(hasAges ? ["last", "age"] : []), ...(hasRuns ? ["scheme"] : [])];
-    const caption = `the ${shown.length} hottest of ${counted(rows.length, "row")}, by count of ${passWords(report.snapshots.passes[snapshot])} and size`;
+    const passes = passWords(report.snapshots.passes[snapshot]);
+    const which = `${counted(rows.length, "row")}${isTaken ? " that schemes took" : ""}`;
+    const caption = `the ${shown.length} hottest of ${which}, by count of ${passes} and size`;
     const body = this.addTable(section, caption, heads);
     for (const row of shown) {
       const { start, end, count, last, age } = report.rows, target = report.rows.target[row];
@@ -90,9 +96,13 @@ class Tables {
       line.append("td").text(end[row] - start[row]);
       line.append("td").text(count[row]).append("span").attr("class", "swatch").style("background", `var(--${level ? `heat${level}` : "panel"})`);
       if (hasAges) for (const value of [last[row], age[row]]) line.append("td").text(value);
-      if (hasRuns) line.append("td").attr("class", "words").text([...new Set(report.runsAt(snapshot, row).map(run => runWords(report, run)))].join("; "));
+      const schemes = new Set(report.runsAt(snapshot, row).map(run => runWords(report, run)));
+      if (hasRuns) line.append("td").attr("class", "words").text([...schemes].join("; "));
     }
     this.addMore(section, rows.length);
+    if (hasRuns) {
+      this.addButton(section, "taken", "only what schemes took", () => { this.isTaken = !this.isTaken; }).attr("aria-pressed", String(isTaken));
+    }
   }
 
   /** Where the shares of two reports differ most, by share and size. */
@@ -138,10 +148,16 @@ class Tables {
 
   addMore(section, count) {
     if (count <= this.few) return;
-    section.append("button").attr("type", "button").attr("class", "more").text(this.isLong ? `the first ${this.few}` : `all ${count}`).on("click", () => {
-      this.isLong = !this.isLong;
+    this.addButton(section, "more", this.isLong ? `the first ${this.few}` : `all ${count}`, () => { this.isLong = !this.isLong; });
+  }
+
+  /** A button that changes what tables show, and keeps the focus as they are made anew. */
+  addButton(section, kind, words, change) {
+    const place = this.root.selectAll(`.${kind}`).size();
+    return section.append("button").attr("type", "button").attr("class", kind).text(words).on("click", () => {
+      change();
       this.draw();
-      this.root.select(".more").node()?.focus();
+      this.root.selectAll(`.${kind}`).nodes()[place]?.focus();
     });
   }
 }

@@ -15,12 +15,13 @@ class View {
   constructor(reports, targets) {
     this.reports = reports;
     this.targets = targets;
-    this.end = Math.max(...reports.map(report => report.last));
+    this.start = Math.min(...reports.map(report => report.start));
+    this.end = Math.max(...reports.map(report => report.end));
     this.stops = stopsOf(reports);
     this.cursor = 0;
     this.isDifference = false;
     this.listeners = [];
-    this.time = [0, this.end];
+    this.time = [this.start, this.end];
     this.pages = targets.map(target => [0, target.high - target.low]);
   }
 
@@ -37,8 +38,13 @@ class View {
     return this.stops[this.cursor];
   }
 
+  /** The one before it. */
+  get tickBefore() {
+    return this.cursor ? this.stops[this.cursor - 1] : this.start;
+  }
+
   showTime(span) {
-    this.time = clamped(span, [0, this.end], LEAST_TICKS);
+    this.time = clamped(span, [this.start, this.end], LEAST_TICKS);
     this.tell("view");
   }
 
@@ -52,7 +58,7 @@ class View {
   }
 
   showWhole() {
-    this.time = [0, this.end];
+    this.time = [this.start, this.end];
     this.pages = this.targets.map((_, target) => this.bounds(target));
     this.tell("view");
   }
@@ -60,7 +66,7 @@ class View {
   /** Whether nothing is left out of the time, and of the addresses of a target. */
   isWhole(target = null) {
     const [from, to] = this.time;
-    const isTime = from <= 0 && to >= this.end;
+    const isTime = from <= this.start && to >= this.end;
     return isTime && (target === null || this.pages[target][1] - this.pages[target][0] >= this.bounds(target)[1]);
   }
 
@@ -80,9 +86,9 @@ class View {
   /** Puts the cursor at a stop, and moves the time so that its column is seen. */
   moveCursor(stop) {
     this.cursor = Math.min(Math.max(stop, 0), this.stops.length - 1);
-    const [from, to] = this.time, before = this.cursor ? this.stops[this.cursor - 1] : 0;
-    if (this.tick > to || before < from) {
-      const middle = (before + this.tick) / 2;
+    const [from, to] = this.time;
+    if (this.tick > to || this.tickBefore < from) {
+      const middle = (this.tickBefore + this.tick) / 2;
       this.showTime([middle - (to - from) / 2, middle + (to - from) / 2]);
     }
     this.tell("cursor");

@@ -1,0 +1,128 @@
+#!/usr/bin/env python3
+"""Measures tools/page.py: how long a page of many rows takes to be made, to open and to zoom.
+
+    tests/measure_page.py TURNS
+
+makes reports of about 1,000, 100,000 and 1,000,000 rows by `damon replay`, a page of each, and opens it TURNS
+times in headless Chromium. It writes a line of a table for each report: its rows and aggregations; the sizes
+of the report and of the page; the time to make the page, and the greatest resident set; the time from
+the beginning of the navigation until the page is drawn; and of 40 turns of the wheel over its largest
+target, half of them closer and half back, how long the script takes for a frame, at the median and at most.
+Of times the least of the turns is taken.
+"""
+from __future__ import annotations
+
+import os
+import random
+import subprocess
+import sys
+import tempfile
+import time
+from dataclasses import dataclass
+from pathlib import Path
+from typing import Iterator
+
+from browser import Browser, what_is_missing
+from speed_workloads import PAGE, aggregations
+from tool_runs import PROGRAM, TOOLS, need_program
+
+TARGETS, PAGES = 10, 1000
+ZOOM = """
+const done = arguments[0], lane = [...document.querySelectorAll('.target .lane')].sort((one, other) => other.clientHeight - one.clientHeight)[0];
+const { left, top, width, height } = lane.getBoundingClientRect(), times = [];
+const draw = page => { const start = performance.now(); page(); times.push(performance.now() - start); };
+const frame = window.requestAnimationFrame;
+window.requestAnimationFrame = listener => frame(now => draw(() => listener(now)));
+const turn = count => {
+  if (count === 40) { window.requestAnimationFrame = frame; return done(times); }
+  lane.dispatchEvent(new WheelEvent('wheel', { deltaY: count < 20 ? -80 : 80, clientX: left + width / 2, clientY: top + height / 2,
+    bubbles: true, cancelable: true, view: window }));
+  frame(() => setTimeout(() => turn(count + 1), 0));
+};
+turn(0);
+"""
+
+
+def long_script(count: int) -> bytes:
+    """So many aggregations of 100 regions in ten targets, with six sweeps in each pass and a scheme."""
+    source = random.Random(5)
+    bases = [0x10000000 * number for number in range(1, TARGETS + 1)]
+    lines = ["damon script 1", "seed 5", "unit 1", "cap 100", "attrs 100 100 2", *(f"target {base:#x} {PAGES}" for base in bases)]
+    lines += [f"range {number} {base:#x} {base + PAGES * PAGE:#x} 0" for number, base in enumerate(bases)]
+    lines += ["scheme 0 pageout count=0,0 age=5,4294967295 quota=409600,20 prefer=cold", "begin"]
+    for tick in range(2 * count):
+        lines.append("arm")
+        for _ in range(6):
+            number, first = source.randrange(TARGETS - 1), (tick // 100 * 37 + source.randrange(200)) % (PAGES - 60)
+            start = bases[number] + first * PAGE
+            lines.append(f"sweep {number} {start:#x} {start + 50 * PAGE:#x}")
+        lines.append("finish")
+    return "\n".join([*lines, "end", ""]).encode()
+
+
+@dataclass(frozen=True)
+class Made:
+    """A page, with how it came to be."""
+
+    path: Path
+    rows: int
+    aggregations: int
+    report_bytes: int
+    seconds: float
+    resident: int
+    """In KiB."""
+
+
+def made(script: bytes, folder: Path) -> Made:
+    """The page of the report of a script."""
+    report, page = folder / "report", folder / "page.html"
+    with report.open("wb") as out:
+        subprocess.run([PROGRAM, "replay"], input=script, stdout=out, check=True)
+    with page.open("wb") as out:
+        start = time.perf_counter()
+        process = subprocess.Popen([sys.executable, TOOLS / "page.py", "--most", "3000000", report], stdout=out)
+        _, status, usage = os.wait4(process.pid, 0)
+        seconds = time.perf_counter() - start
+    if status != 0:
+        raise RuntimeError("no page was made")
+    with report.open() as lines:
+        words = [line[:4] for line in lines]
+    return Made(page, words.count("row "), words.count("aggr"), report.stat().st_size, seconds, usage.ru_maxrss)
+
+
+def opened(browser: Browser, page: Path) -> tuple[float, list[float]]:
+    """How many milliseconds a page takes until it is drawn, and each frame of a zoom."""
+    browser.do("open", str(page))
+    drawn = browser.do("script", "return performance.getEntriesByName('drawn')[0].startTime")
+    return float(drawn), [float(each) for each in browser.do("wait", ZOOM)]
+
+
+def scripts() -> Iterator[bytes]:
+    """The smallest one first; the last two have as many rows, in many small aggregations and in few large ones."""
+    yield from map(long_script, (10, 1000, 10_000))
+    yield aggregations(270)
+
+
+def main() -> None:
+    need_program()
+    if missing := what_is_missing():
+        sys.exit(missing)
+    print("| rows | aggregations | report | page | made in | memory | opened in | a frame of a zoom, median and most |")
+    print("|---|---|---|---|---|---|---|---|", flush=True)
+    browser = Browser()
+    try:
+        for script in scripts():
+            with tempfile.TemporaryDirectory() as folder:
+                page = made(script, Path(folder))
+                turns = [opened(browser, page.path) for _ in range(int(sys.argv[1]))]
+                frames = sorted(min(found) for found in zip(*(times for _, times in turns)))
+                cells = [f"{page.rows:,}", f"{page.aggregations:,}", f"{page.report_bytes / 1e6:.2f} MB", f"{page.path.stat().st_size / 1e6:.2f} MB",
+                         f"{page.seconds:.1f} s", f"{page.resident / 1024:.0f} MiB", f"{min(drawn for drawn, _ in turns) / 1000:.2f} s",
+                         f"{frames[len(frames) // 2]:.0f} and {frames[-1]:.0f} ms"]
+                print(f"| {' | '.join(cells)} |", flush=True)
+    finally:
+        browser.close()
+
+
+if __name__ == "__main__":
+    main()
