@@ -16,6 +16,7 @@ A line is printed for each run, with its allocations and how its refusals ended.
 ended well and those that did not.
 """
 import argparse
+import json
 import lzma
 import os
 import random
@@ -109,6 +110,9 @@ def runs() -> Iterator[Run]:
         yield Run(f"damon verify < {file.name}", DAMON, ["verify"], file.read_bytes())
     for file in sorted((TOP / "examples").glob("*.journal.xz")):
         yield Run(f"damon heat 64 < {file.stem}", DAMON, ["heat", "64"], lzma.decompress(file.read_bytes()))
+    for line in (TOP / "tests/cases/worked.jsonl").read_text().splitlines():
+        case = json.loads(line)
+        yield Run(f"damon {' '.join(case['words'])} < case {case['name']}", DAMON, case["words"], case["input"].encode("latin-1"))
     yield Run("damon gen 6", DAMON, ["gen", "6"], b"")
 
 

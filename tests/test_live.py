@@ -128,6 +128,16 @@ class Refusals(unittest.TestCase):
             with self.subTest(line=line):
                 self.refused(script, 3, line)
 
+    def test_the_most_touches_and_calls(self) -> None:
+        # The line before the one that is named was taken, so as many as the limit says may stand there.
+        head = HEAD.replace("target 0x0 64", "target 0x0 1048576")
+        touches = f"{head}passes 1\nworker\nsweep 0 0x0 0x100000000\ntouch 0 0x0\n"
+        self.refused(touches, 3, "line 11: too much work")
+        two_workers = f"{head}passes 1\nworker\nsweep 0 0x0 0xfffff000\nworker\ntouch 0 0x0\ntouch 0 0x0\n"
+        self.refused(two_workers, 3, "line 13: too much work")
+        calls = f"{HEAD}passes 1\ncontroller\n" + "show\n" * 65537
+        self.refused(calls, 3, "line 65546: too much work")
+
     def test_a_long_input(self) -> None:
         self.refused("x" * 16_777_217, 4, "input is longer than 16777216 bytes")
 

@@ -10,13 +10,13 @@ abbrev pub max_age : ℕ
 max_age = 2 ^ 32 - 1
 
 -- whether exactly one of a count and the last count is 0: the row came into use, or fell out of it
-abbrev pub is_turned : ℕ → ℕ → Bool
-is_turned count last = if count == 0 then not (last == 0) else (last == 0)
+abbrev pub came_or_went : ℕ → ℕ → Bool
+came_or_went count last = if count == 0 then not (last == 0) else (last == 0)
 
 -- in version Two a row that came into use, or fell out of it, begins anew
 abbrev pub is_anew : Version → ℕ → ℕ → Bool
 is_anew One count last = false
-is_anew Two count last = is_turned count last
+is_anew Two count last = came_or_went count last
 
 -- a row gets age 0 where its count and last count differ by more than the threshold, and in version Two where exactly one
 -- of them is 0; else its age rises by one, up to the greatest

@@ -2,7 +2,7 @@ ghost use Rattle.std.specs.Prelude.{◌≡◌, ◌+◌, ◌||◌, List, length, 
 ghost use Rattle.std.specs.Int.{abs_diff};
 ghost use Rattle.damon_types.specs.declared.row.Row.{Row as row};
 ghost use Rattle.region_list.specs.Columns.{AreValues};
-ghost use Rattle.aggregator.specs.Aged.{aged, is_anew, is_turned as is_turned_count, max_age};
+ghost use Rattle.aggregator.specs.Aged.{aged, is_anew, came_or_went as came_or_went_count, max_age};
 
 use damon_types::Version;
 use region_list::{Regions, ValuePass};
@@ -68,13 +68,13 @@ fn begins_anew(version: Version, count: u32, last: u32) -> bool
 {
     match version {
         Version::One => false,
-        Version::Two => is_turned(count, last),
+        Version::Two => came_or_went(count, last),
     }
 }
 
 // Whether exactly one of the counts is 0.
-fn is_turned(count: u32, last: u32) -> bool
-    ensures { result ≡ is_turned_count count last }
+fn came_or_went(count: u32, last: u32) -> bool
+    ensures { result ≡ came_or_went_count count last }
 {
     if count == 0 { last != 0 } else { last == 0 }
 }

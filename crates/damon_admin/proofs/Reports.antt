@@ -10,7 +10,7 @@ use Rattle.damon_types.specs.declared.space.Target.{Target}
 use Rattle.scheme_engine.specs.declared.applied.AppliedRun.{AppliedRun}
 use Rattle.scheme_engine.specs.declared.applied.SlotChoice.{SlotChoice}
 use Rattle.scheme_engine.specs.declared.slot.SlotView.{SlotView}
-use Rattle.scheme_engine.specs.Slots.{SlotValue, view_of}
+use Rattle.scheme_engine.specs.Slots.{SlotValue, slot_view}
 use Rattle.live_commit.specs.declared.fault.CommitFault.{CommitFault}
 use Rattle.damon_core.specs.declared.changed.Changed.{Changed}
 use Rattle.damon_core.specs.After.{after}
@@ -41,7 +41,7 @@ slot_ended slot v =
 
 slots_ended : (slot : ℕ) (ss : List SlotValue) → IsEnded (shown_slots slot ss)
 slots_ended slot [] = none_ended
-slots_ended slot (s ∷ ss) = both_ended (shown_slot slot s) (shown_slots (slot + 1) ss) (by (view_of s)) (slots_ended (slot + 1) ss)
+slots_ended slot (s ∷ ss) = both_ended (shown_slot slot s) (shown_slots (slot + 1) ss) (by (slot_view s)) (slots_ended (slot + 1) ss)
   where
     by : (v : Option SlotView) → IsEnded (option_map_or (scheme_line slot) v [])
     by None = none_ended

@@ -4,14 +4,18 @@ use Rattle.std.specs.Prelude.{sum}
 use Rattle.damon_types.specs.declared.row.Row.{Row}
 use Rattle.damon_types.specs.declared.scheme.Version.TheVariants.{One}
 use Rattle.damon_types.specs.declared.space.Target.{Target}
+use Rattle.damon_types.specs.declared.range.Range.{Range}
 use Rattle.heat_report.specs.Heat.{target_heats, target_total}
 use Rattle.live_commit.specs.declared.phase.Phase.TheVariants.{Idle}
 use Rattle.damon_core.specs.State.{State}
 use Rattle.damon_app.specs.Heating.{AddUp}
 
--- a target of three pages
+-- a target of three pages, all of them watched as one range
 abbrev space : List Target
 space = record { base = 0; pages = 3 } ∷ []
+
+abbrev watched : List Range
+watched = record { target = 0; first = 0; pages = 3; class = 0 } ∷ []
 
 -- a state directly after an aggregation of four passes that reported these rows
 abbrev reported : List Row → State
@@ -20,7 +24,7 @@ reported rows = record {
     version = One;
     space = space;
     attrs = record { min = 3; max = 3; aggr = 4 };
-    regions = record { ranges = []; rows = []; unit = 1; cap = 3; max = 3 };
+    regions = record { ranges = watched; rows = []; unit = 1; cap = 3; max = 3 };
     phase = Idle;
     picks = [];
     ticks = 4;
@@ -54,3 +58,10 @@ twice =
 
 pages_in_two_rows : AddUp 8 (reported twice) → ⊥
 pages_in_two_rows up = let heat : 6 ≡ 14 = up.heat 0 (omega arith) in absurd (omega (arith, heat))
+
+-- a page of the range is in no row, so the numbers of `freq` do not have all pages
+abbrev short : List Row
+short = record { target = 0; start = 0; pages = 2; count = 2; last = 0; age = 0 } ∷ []
+
+page_in_no_row : AddUp 8 (reported short) → ⊥
+page_in_no_row up = let freq : 2 ≡ 3 = up.freq in absurd (omega (arith, freq))

@@ -2,7 +2,7 @@
 use Rattle.std.specs.Prelude.{ℕ, List, codes, slice_index_or}
 use Rattle.std.specs.Option.{option_map_or}
 use Rattle.std.specs.Fmt.{decimal}
-use Rattle.scheme_engine.specs.Slots.{SlotValue, empty_slot, view_of}
+use Rattle.scheme_engine.specs.Slots.{SlotValue, empty_slot, slot_view}
 use Rattle.damon_core.specs.State.{row_count}
 use Rattle.damon_control.specs.Script.{ScriptValue}
 use Rattle.snapshot_print.specs.Fields.{◌then◌}
@@ -12,7 +12,7 @@ use Rattle.trace_gen.specs.Gen.{gen}
 
 -- the pages to which the scheme of a slot was applied, 0 where no scheme is set
 abbrev pub applied_in : List SlotValue → ℕ → ℕ
-applied_in slots slot = option_map_or (λ v. v.applied) (view_of (slice_index_or slots slot empty_slot)) 0
+applied_in slots slot = option_map_or (λ v. v.applied) (slot_view (slice_index_or slots slot empty_slot)) 0
 
 -- the number of a generated script, the ticks of its run, and its regions
 abbrev pub run_part : ℕ → Printed → List ℕ

@@ -97,7 +97,7 @@ pub fn write_journal_head(
 }
 
 // Appends the first line.
-#[tactic(auto, using(line_text::proofs::Appending::appends))]
+#[tactic(auto, using(line_text::proofs::Lemmas::appends))]
 fn write_header(out: &mut Vec<u8>, version: Version) -> Result<(), AllocError>
     ensures ok { OnOk result (out.new.items
         ≡ out.old.items ++ lines_text (header_of of_journal version ∷ [])) }
@@ -108,7 +108,7 @@ fn write_header(out: &mut Vec<u8>, version: Version) -> Result<(), AllocError>
 }
 
 // Appends the last line.
-#[tactic(auto, using(line_text::proofs::Appending::appends))]
+#[tactic(auto, using(line_text::proofs::Lemmas::appends))]
 fn write_begin(out: &mut Vec<u8>) -> Result<(), AllocError>
     ensures ok { OnOk result (out.new.items ≡ out.old.items ++ lines_text (codes "begin" ∷ [])) }
     ensures kept { KeepsFront out.old.items out.new.items }

@@ -68,7 +68,7 @@ pub fn write_commit(
 
 /// Appends the line of one part of a commit, with its LF. When out of memory, a prefix was
 /// appended.
-#[tactic(auto, using(line_text::proofs::Appending::appends))]
+#[tactic(auto, using(line_text::proofs::Lemmas::appends))]
 pub fn write_part(alloc: Global, out: &mut Vec<u8>, part: &Part) -> Result<(), AllocError>
     ensures ok { OnOk result (out.new.items
         ≡ out.old.items ++ lines_text (part_text part.now ∷ [])) }
@@ -95,7 +95,7 @@ pub fn write_setup_lines(out: &mut Vec<u8>, seed: u64, setup: &Setup) -> Result<
 }
 
 // Appends the lines before the targets.
-#[tactic(auto, using(line_text::proofs::Appending::appends))]
+#[tactic(auto, using(line_text::proofs::Lemmas::appends))]
 fn write_numbers(
     out: &mut Vec<u8>,
     seed: u64,
@@ -178,7 +178,7 @@ fn write_parts(out: &mut Vec<u8>, commit: &Commit) -> Result<(), AllocError>
 }
 
 // Appends the line of new attributes, if there are some.
-#[tactic(auto, using(line_text::proofs::Appending::appends))]
+#[tactic(auto, using(line_text::proofs::Lemmas::appends))]
 fn write_new_attrs(out: &mut Vec<u8>, attrs: &Option<Attrs>) -> Result<(), AllocError>
     ensures ok { OnOk result (out.new.items ≡ out.old.items
         ++ lines_text (map part_text (part_given (λ a. attrs_part a) attrs.now))) }
@@ -215,7 +215,7 @@ fn write_specs(out: &mut Vec<u8>, specs: &[RangeSpec]) -> Result<(), AllocError>
 }
 
 // Appends the line of a new slot change, if there is one.
-#[tactic(auto, using(line_text::proofs::Appending::appends))]
+#[tactic(auto, using(line_text::proofs::Lemmas::appends))]
 fn write_new_slot(out: &mut Vec<u8>, slot: &Option<SlotChange>) -> Result<(), AllocError>
     ensures ok { OnOk result (out.new.items ≡ out.old.items
         ++ lines_text (map part_text (part_given (λ c. slot_part c) slot.now))) }
@@ -228,7 +228,7 @@ fn write_new_slot(out: &mut Vec<u8>, slot: &Option<SlotChange>) -> Result<(), Al
 }
 
 // Appends the line of a new metric, if there is one.
-#[tactic(auto, using(line_text::proofs::Appending::appends))]
+#[tactic(auto, using(line_text::proofs::Lemmas::appends))]
 fn write_new_metric(out: &mut Vec<u8>, metric: Option<u32>) -> Result<(), AllocError>
     ensures ok { OnOk result (out.new.items ≡ out.old.items
         ++ lines_text (map part_text (part_given (λ m. metric_part m) metric))) }
@@ -241,7 +241,7 @@ fn write_new_metric(out: &mut Vec<u8>, metric: Option<u32>) -> Result<(), AllocE
 }
 
 // Appends the line of a new cost, if there is one.
-#[tactic(auto, using(line_text::proofs::Appending::appends))]
+#[tactic(auto, using(line_text::proofs::Lemmas::appends))]
 fn write_new_cost(out: &mut Vec<u8>, cost: Option<CostPart>) -> Result<(), AllocError>
     ensures ok { OnOk result (out.new.items ≡ out.old.items
         ++ lines_text (map part_text (part_given (λ p. cost_part p) cost))) }

@@ -11,7 +11,7 @@ use Rattle.scheme_engine.specs.Slots.{SetScheme}
 use Rattle.scheme_engine.proofs.Lemmas.{outcome_best, outcome_tiled}
 use Rattle.damon_core.specs.Note.{Note}
 use Rattle.damon_core.specs.Aggregate.{merged_regions}
-use Rattle.damon_core.specs.Choosing.{AreSlotsServed, IsSlotServed, ServesBest, left_then}
+use Rattle.damon_core.specs.Choosing.{EachSlotServed, IsSlotServed, ServesBest, left_then}
 use Rattle.damon_core.specs.Serve.{Serving, nothing_served, run_served, serve_scheme, serve_slot, with_turn}
 use Rattle.damon_core.specs.Slots.{is_active_in, scheme_of, slot_count}
 use Rattle.damon_core.specs.State.{State}
@@ -49,6 +49,10 @@ slot_served_best slot space aggr tick regions notes tiled = record {
     choices = ap (λ (y : Serving). y.choices) (by_active slot space aggr tick regions notes scheme true is on);
   };
 }
+
+abbrev AreSlotsServed : ℕ → ℕ → List Target → ℕ → ℕ → RegionList → List Note → Type 0
+AreSlotsServed n slot space aggr tick regions notes =
+    EachSlotServed (λ i rs ns y. IsSlotServed i space aggr tick rs ns y) n slot space aggr tick regions notes
 
 slots_served_best : (n slot : ℕ) (space : List Target) (aggr tick : ℕ) (regions : RegionList) (notes : List Note) → AreTiled regions → AreSlotsServed n slot space aggr tick regions notes
 slots_served_best zero slot space aggr tick regions notes tiled = tt

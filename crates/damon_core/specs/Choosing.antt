@@ -33,14 +33,16 @@ pub record IsSlotServed (slot : ℕ) (space : List Target) (aggr tick : ℕ) (re
   pub inactive : (scheme : Scheme) → scheme_of notes slot ≡ Some scheme → is_active_in notes slot scheme ≡ false → (y.runs ≡ []) × (y.choices ≡ no_choice slot ∷ [])
   pub active : (scheme : Scheme) → scheme_of notes slot ≡ Some scheme → is_active_in notes slot scheme ≡ true → AppliesBest slot space aggr tick regions notes scheme y
 
--- n slots from this one on are served so in order, each over the rows and the notes as the slots before it leave them
-abbrev pub AreSlotsServed : ℕ → ℕ → List Target → ℕ → ℕ → RegionList → List Note → Type 0
-AreSlotsServed zero slot space aggr tick regions notes = Unit {0}
-AreSlotsServed (suc n) slot space aggr tick regions notes =
+-- n slots from this one on are served in order, each over the rows and the notes as the slots before it leave them, and of each
+-- this holds: of the slot, the rows and the notes before it, and of what serving it does
+abbrev pub EachSlotServed : (ℕ → RegionList → List Note → Serving → Type 0) → ℕ → ℕ → List Target → ℕ → ℕ → RegionList → List Note → Type 0
+EachSlotServed is zero slot space aggr tick regions notes = Unit {0}
+EachSlotServed is (suc n) slot space aggr tick regions notes =
     let first = serve_slot slot space aggr tick regions notes in
-    IsSlotServed slot space aggr tick regions notes first
-    × AreSlotsServed n (slot + 1) space aggr tick (record regions { rows = first.rows }) first.notes
+    is slot regions notes first × EachSlotServed is n (slot + 1) space aggr tick (record regions { rows = first.rows }) first.notes
 
 -- what an aggregation of a state does for its slots, over its merged rows
 abbrev pub ServesBest : State → Type 0
-ServesBest s = AreSlotsServed slot_count 0 s.core.space s.core.attrs.aggr s.core.ticks (merged_regions s.core) s.notes
+ServesBest s =
+    let c = s.core in
+    EachSlotServed (λ slot regions notes y. IsSlotServed slot c.space c.attrs.aggr c.ticks regions notes y) slot_count 0 c.space c.attrs.aggr c.ticks (merged_regions c) s.notes

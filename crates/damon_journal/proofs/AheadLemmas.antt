@@ -9,7 +9,7 @@ use Rattle.page_words.specs.Clears.{clear_of, clear_passes_of}
 use Rattle.damon_journal.specs.declared.entry.Receipt.{Receipt}
 use Rattle.damon_journal.specs.Ahead.{is_picked}
 use Rattle.damon_journal.specs.SeenLine.{is_below, is_risen, is_tag, was_cleared}
-use Rattle.damon_journal.specs.Steps.{clear_steps, load_steps}
+use Rattle.page_words.specs.PassSteps.{clear_steps, load_steps}
 
 -- ---- clears
 

@@ -31,7 +31,8 @@ use Rattle.damon_journal.specs.Phases.{IsFree}
 use Rattle.damon_journal.specs.Place.{AtAnswer, InBlock, InEntries, InReceipts, JournalPlace}
 use Rattle.damon_journal.specs.Replay.{EntryFits, IsJournalOf, JournalValue, Replayed, bits_taken, call_answer, call_at, call_event, carried, replay}
 use Rattle.damon_journal.specs.Spelled.{answered_lines, bit_digit, call_front, call_lines, check_front, spelled_aggregate, spelled_answer, spelled_check, spelled_prepare, spelled_void}
-use Rattle.damon_journal.specs.Steps.{entry_steps, load_steps, steps}
+use Rattle.page_words.specs.PassSteps.{load_steps}
+use Rattle.damon_journal.specs.Steps.{entry_steps, steps}
 use Rattle.damon_journal.specs.Text.{entry_lines}
 use Rattle.damon_journal.proofs.Common.{or_first, same_line}
 use Rattle.damon_journal.proofs.Leading.{found, leads_by, leads_to}

@@ -28,7 +28,8 @@ use Rattle.damon_journal.specs.Replay.{JournalValue, Replayed, carried, replay}
 use Rattle.damon_journal.specs.Replaying.{IsCarried, IsReplayOf, ReplayingView}
 use Rattle.damon_journal.specs.SeenLine.{has_receipt, is_tag}
 use Rattle.damon_journal.specs.Spelled.{check_front, spelled_aggregate, spelled_prepare, spelled_void}
-use Rattle.damon_journal.specs.Steps.{clear_steps, load_steps, steps}
+use Rattle.page_words.specs.PassSteps.{clear_steps, load_steps}
+use Rattle.damon_journal.specs.Steps.{steps}
 use Rattle.damon_journal.proofs.AheadLemmas.{named_same, tag_more}
 use Rattle.damon_journal.proofs.KeptEntries.{kept_more}
 

@@ -19,7 +19,8 @@ use Rattle.damon_journal.specs.declared.entry.Receipt.{Receipt}
 use Rattle.damon_journal.specs.Few.{hits_of, is_hit_of, receipts_of}
 use Rattle.damon_journal.specs.Lawful.{IsLawful, all_of, touches_of}
 use Rattle.damon_journal.specs.Replay.{EntriesFit, EntryFits, JournalValue, Replayed, begun, carried, entry_events}
-use Rattle.damon_journal.specs.Steps.{clear_steps, entry_steps, load_steps, steps, steps_from}
+use Rattle.page_words.specs.PassSteps.{clear_steps, load_steps}
+use Rattle.damon_journal.specs.Steps.{entry_steps, steps, steps_from}
 use Rattle.damon_journal.proofs.Fitting.{carried_reached}
 use Rattle.damon_journal.proofs.Pigeons.{Rise, rise_later, risen_are_few}
 use Rattle.damon_journal.proofs.Settling.{cases, head, tail}

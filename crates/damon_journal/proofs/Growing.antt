@@ -10,7 +10,8 @@ use Rattle.damon_journal.specs.declared.entry.Entry.{Entry}
 use Rattle.damon_journal.specs.declared.entry.Entry.TheVariants.{Prepare, Check, Void, Aggregate, Call}
 use Rattle.damon_journal.specs.Growth.{GrowsByEntries, GrowsByOthers, IsGrown, longer, replay_with}
 use Rattle.damon_journal.specs.Replay.{EntriesFit, EntryFits, IsJournalOf, JournalValue, Replayed, begun, carried, check_size, check_sizes_from, replay, replay_from}
-use Rattle.damon_journal.specs.Steps.{entry_steps, load_steps, steps, steps_from}
+use Rattle.page_words.specs.PassSteps.{load_steps}
+use Rattle.damon_journal.specs.Steps.{entry_steps, steps, steps_from}
 
 pub take_front : (n : ℕ) (xs ys : List Bool) → n ≤ length xs → take n (xs ++ ys) ≡ take n xs
 take_front zero xs ys few = refl

@@ -4,7 +4,7 @@ use Rattle.page_words.specs.declared.view.Entry.{Entry as Step}
 use Rattle.damon_journal.specs.declared.entry.Receipt.{Receipt}
 use Rattle.damon_journal.specs.Ahead.{AheadView, IsPrepared, is_named, named_by}
 use Rattle.damon_journal.specs.SeenLine.{is_tag}
-use Rattle.damon_journal.specs.Steps.{clear_steps, load_steps}
+use Rattle.page_words.specs.PassSteps.{clear_steps, load_steps}
 use Rattle.damon_journal.proofs.AheadLemmas.{named_same, tag_more}
 
 -- names that agree with a test at each index

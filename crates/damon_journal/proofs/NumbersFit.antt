@@ -26,7 +26,8 @@ use Rattle.damon_journal.specs.Replay.{EntriesFit, EntryFits, IsJournalOf, Journ
 use Rattle.damon_journal.specs.Rules.{AnswerFits, CallsInTurn, CanCall, EntryNumbersFit, InTurn, TagsFit, one_more}
 use Rattle.damon_journal.specs.Spelled.{answered_lines, call_lines, spelled_answer}
 use Rattle.damon_journal.specs.Text.{entries_lines, entry_lines, journal_lines, journal_text, last_text, seen_lines, settled_lines}
-use Rattle.damon_journal.specs.Steps.{clear_steps, entry_steps, load_steps, steps, steps_from}
+use Rattle.page_words.specs.PassSteps.{clear_steps, load_steps}
+use Rattle.damon_journal.specs.Steps.{entry_steps, steps, steps_from}
 use Rattle.damon_journal.proofs.AnswersFit.{answer_fits}
 use Rattle.damon_journal.proofs.Fitting.{carried_reached}
 use Rattle.damon_journal.proofs.PhaseAfter.{entry_counts, splits_open}

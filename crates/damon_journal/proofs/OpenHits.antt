@@ -10,7 +10,7 @@ use Rattle.page_words.specs.declared.view.Entry.TheVariants.{Load}
 use Rattle.damon_journal.specs.declared.entry.Receipt.{Receipt}
 use Rattle.damon_journal.specs.Folding.{open_hits}
 use Rattle.damon_journal.specs.SeenLine.{has_receipt, is_receipt}
-use Rattle.damon_journal.specs.Steps.{load_steps}
+use Rattle.page_words.specs.PassSteps.{load_steps}
 
 -- whether a pick is a hit that no receipt tells of
 abbrev pub is_open : List Receipt → ℕ → List ℕ → List Bool → ℕ → Bool

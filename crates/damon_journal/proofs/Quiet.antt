@@ -19,7 +19,7 @@ use Rattle.damon_core.specs.Reached.{AllByHit, run}
 use Rattle.damon_types.proofs.Lemmas.{all_append, or_false, or_true}
 use Rattle.damon_journal.specs.declared.entry.Receipt.{Receipt}
 use Rattle.damon_journal.specs.Lawful.{touches_of}
-use Rattle.damon_journal.specs.Steps.{load_steps}
+use Rattle.page_words.specs.PassSteps.{load_steps}
 use Rattle.damon_journal.proofs.WovenList.{hit_at, touch_events}
 use Rattle.damon_journal.proofs.Fitting.{at, clearing_on}
 

@@ -15,7 +15,8 @@ use Rattle.damon_journal.specs.declared.entry.Entry.TheVariants.{Prepare, Check,
 use Rattle.damon_journal.specs.declared.entry.Receipt.{Receipt}
 use Rattle.damon_journal.specs.Lawful.{AreReceipts, all_of, gathers, touches_of}
 use Rattle.damon_journal.specs.Replay.{JournalValue, Replayed, begun, carried}
-use Rattle.damon_journal.specs.Steps.{clear_steps, entry_steps, load_steps, steps, steps_from}
+use Rattle.page_words.specs.PassSteps.{clear_steps, load_steps}
+use Rattle.damon_journal.specs.Steps.{entry_steps, steps, steps_from}
 
 cut_at : {A : Type 0} (xs : List A) (x : A) → Contains xs x → (before : List A) × (after : List A) × (xs ≡ before ++ x ∷ after)
 cut_at [] x (k, l, e) = absurd (omega arith)

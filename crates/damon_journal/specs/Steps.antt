@@ -1,21 +1,12 @@
 -- The atomic steps that a journal names.
-use Rattle.std.specs.Prelude.{ℕ, ◌+◌, ◌*◌, Bool, List, [], ◌∷◌, ◌++◌, cond, map, take}
+use Rattle.std.specs.Prelude.{List, [], ◌∷◌, ◌++◌, take}
 use Rattle.page_words.specs.declared.view.Entry.{Entry as Step}
-use Rattle.page_words.specs.declared.view.Entry.TheVariants.{Clear, Load}
+use Rattle.page_words.specs.PassSteps.{clear_steps, load_steps}
 use Rattle.damon_core.specs.State.{row_count}
 use Rattle.damon_control.specs.Live.{LiveValue}
 use Rattle.damon_journal.specs.declared.entry.Entry.{Entry}
 use Rattle.damon_journal.specs.declared.entry.Entry.TheVariants.{Prepare, Check}
 use Rattle.damon_journal.specs.Replay.{JournalValue, Replayed, begun, carried}
-
--- the clears of a pass
-abbrev pub clear_steps : ℕ → List ℕ → List Step
-clear_steps pass picks = map (λ page. Clear page pass) picks
-
--- the loads of a pass: each word names the pass, and its lowest bit is the result
-abbrev pub load_steps : ℕ → List ℕ → List Bool → List Step
-load_steps pass (page ∷ picks) (bit ∷ bits) = Load page (2 * pass + cond bit 1 0) ∷ load_steps pass picks bits
-load_steps pass _ _ = []
 
 -- the steps of an entry
 abbrev pub entry_steps : LiveValue → Replayed → Entry → List Step

@@ -14,7 +14,7 @@ ghost use Rattle.damon_journal.specs.Replay.{JournalValue};
 ghost use Rattle.damon_journal.specs.Room.{nothing_said};
 ghost use Rattle.damon_journal.specs.SeenLine.{is_receipt};
 ghost use Rattle.damon_journal.specs.Spelled.{spelled_aggregate, spelled_prepare, spelled_void};
-ghost use Rattle.damon_journal.specs.Steps.{load_steps};
+ghost use Rattle.page_words.specs.PassSteps.{load_steps};
 
 use crate::ahead::Ahead;
 use crate::journal_lines::JournalLines;

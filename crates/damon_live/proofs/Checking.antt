@@ -18,7 +18,8 @@ use Rattle.damon_control.specs.Live.{LiveValue}
 use Rattle.damon_journal.specs.Phases.{passes_open}
 use Rattle.damon_journal.specs.declared.entry.Entry.TheVariants.{Check, Void}
 use Rattle.damon_journal.specs.Replay.{EntryFits, JournalValue, Replayed, carried, check_sizes, entry_events, replay}
-use Rattle.damon_journal.specs.Steps.{load_steps, steps}
+use Rattle.page_words.specs.PassSteps.{load_steps}
+use Rattle.damon_journal.specs.Steps.{steps}
 use Rattle.damon_journal.specs.Growth.{GrowsByEntries, GrowsByOthers, longer, replay_with}
 use Rattle.damon_live.specs.Machine.{IsBetweenEntries, IsLoadable, IsRun, entries_owed, with_one}
 use Rattle.damon_live.specs.Passes.{AreLoaded}

@@ -1,4 +1,3 @@
-pub mod Stepping
 pub mod Preparing
 pub mod Checking
 pub mod Between

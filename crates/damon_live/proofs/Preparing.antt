@@ -25,14 +25,15 @@ use Rattle.damon_journal.specs.declared.entry.Entry.TheVariants.{Prepare}
 use Rattle.damon_journal.specs.Counted.{prepares}
 use Rattle.damon_journal.specs.Replay.{EntryFits, JournalValue, Replayed, carried, check_sizes, entry_events, replay}
 use Rattle.damon_journal.specs.Room.{JournalView}
-use Rattle.damon_journal.specs.Steps.{clear_steps, steps}
+use Rattle.page_words.specs.PassSteps.{clear_steps}
+use Rattle.damon_journal.specs.Steps.{steps}
 use Rattle.sampler.specs.Seeds.{words_from}
 use Rattle.damon_journal.specs.Words.{words_after, words_at}
 use Rattle.damon_journal.specs.Growth.{GrowsByOthers}
 use Rattle.damon_live.specs.Machine.{HasRoom, call_in, passes_made, calls_left, IsBetweenEntries, IsRun, entries_owed, with_one, words_owed}
 use Rattle.std.proofs.lemmas.List.Sums.{sum_by_push}
 use Rattle.sampler.proofs.Lemmas.{drawn_rest-append}
-use Rattle.damon_live.proofs.Stepping.{all_cleared}
+use Rattle.page_words.proofs.Lemmas.{all_cleared}
 
 -- what the calls of a preparation did to the monitor, the seat and the source of random words
 pub record IsPrepared (m now : MonitorView) (seat new : MonitorSeatView) (g left : Lcg) (pass : ℕ) : Type 0 where

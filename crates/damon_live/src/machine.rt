@@ -19,7 +19,7 @@ ghost use Rattle.damon_live.specs.declared.top.TheConstants.{MAX_RESULTS};
 use crate::calls::make_call;
 use crate::kept::{Kept1, KeptParts};
 use crate::named::Named;
-use crate::passes::{clear_all, load_all};
+use crate::passes::load_all;
 use damon_control::{LiveScript, MAX_CALLS};
 use damon_core::Monitor;
 use damon_journal::{Journal, journals_grow};
@@ -144,7 +144,7 @@ impl<'a, N: Named> Machine<'a, N> {
         let rows = self.monitor.rows().len();
         self.monitor.prepare_from(&mut self.words);
         self.drawn += u64::from(rows);
-        clear_all(words, &mut self.seat, self.monitor.picks(), pass);
+        words.clear_each(&mut self.seat, self.monitor.picks().pages(), pass);
         self.monitor.cleared_next(rows);
         self.journal.prepare(pass, at);
         self.passes += 1;

@@ -8,12 +8,13 @@ use Rattle.damon_types.specs.declared.filter.FilterKind.TheVariants.{Addr, Class
 use Rattle.damon_types.specs.declared.scheme.Action.TheVariants.{Pageout}
 use Rattle.damon_types.specs.declared.scheme.Prefer.TheVariants.{Hot}
 use Rattle.damon_types.specs.declared.scheme.Scheme.{Scheme}
-use Rattle.damon_types.specs.declared.scheme.SchemeFault.TheVariants.{SlotOutOfRange, PatternReversed, ZeroReset, MarksOutOfOrder, BadFilter}
+use Rattle.damon_types.specs.declared.scheme.SchemeFault.TheVariants.{SlotOutOfRange, PatternReversed, ZeroReset, MarksOutOfOrder, BadFilter, TimeInOne}
 use Rattle.damon_types.specs.declared.scheme.Span.{Span}
+use Rattle.damon_types.specs.declared.scheme.Version.TheVariants.{One, Two}
 use Rattle.damon_types.specs.declared.space.Target.{Target}
 use Rattle.damon_types.specs.declared.space.SpaceFault.TheVariants.{NoTarget, TooManyPages, BadPages, BadBase}
 use Rattle.damon_types.specs.Attrs.{checked_attrs}
-use Rattle.damon_types.specs.Scheme.{checked_scheme}
+use Rattle.damon_types.specs.Scheme.{checked_in, checked_scheme}
 use Rattle.damon_types.specs.Space.{checked, page_of}
 use Rattle.damon_types.specs.Calls.{EndsAtFault, after_call, no_calls}
 
@@ -25,6 +26,9 @@ no_target_is_refused = refl
 
 pages_come_before_the_base : checked (target 0x10001 0 ∷ []) ≡ Err (BadPages 0)
 pages_come_before_the_base = refl
+
+only_base_is_a_byte_off : checked (target 0x10001 3 ∷ []) ≡ Err (BadBase 0)
+only_base_is_a_byte_off = refl
 
 base_off_a_page_is_refused : checked (target 0 1 ∷ target 1 1 ∷ target 0 0 ∷ []) ≡ Err (BadBase 1)
 base_off_a_page_is_refused = refl
@@ -43,6 +47,9 @@ last_byte_of_a_target = refl
 
 byte_after_a_target : page_of (target 0x10000 3 ∷ []) 0 0x13000 ≡ None
 byte_after_a_target = refl
+
+no_page_of_a_second_target : page_of (target 0x10000 3 ∷ []) 1 0x10000 ≡ None
+no_page_of_a_second_target = refl
 
 page_of_the_second_target : page_of (target 0x10000 3 ∷ target 0x1000 2 ∷ []) 1 0x2000 ≡ Some 4
 page_of_the_second_target = refl
@@ -106,6 +113,19 @@ no_page_is_refused = refl
 
 byte_off_a_page_is_refused : checked_scheme 0 (scheme (span 1 2) 1 5 (filter (Addr 0 4095) ∷ [])) ≡ Err (BadFilter 0)
 byte_off_a_page_is_refused = refl
+
+-- a quota with a time and this reset interval, and nothing else that may be refused
+abbrev timed : ℕ → Scheme
+timed reset = record (scheme (span 1 2) 1 5 []) { quota = Some (record { bytes = 0; reset = reset; time = Some 7 }) }
+
+no_time_in_one : checked_in One 0 (timed 1) ≡ Err TimeInOne
+no_time_in_one = refl
+
+time_comes_last : checked_in One 0 (timed 0) ≡ Err ZeroReset
+time_comes_last = refl
+
+time_in_two : checked_in Two 0 (timed 1) ≡ Ok tt
+time_in_two = refl
 
 -- ---- how often a stream was called
 

@@ -1,14 +1,15 @@
-pub mod Hex
-pub mod HexPairs
-pub mod Values
-pub mod Pieces
-pub mod Separators
-pub mod FewParts
-pub mod Plain
-pub mod Numbers
-pub mod Addresses
-pub mod LeadingLemmas
-pub mod LeadingBack
+mod Hex
+mod HexPairs
+mod Values
+mod Pieces
+mod Separators
+mod FewParts
+mod Plain
+mod Numbers
+mod Addresses
+mod LeadingLemmas
+mod LeadingBack
 mod Examples
-pub mod HexValues
-pub mod Appending
+mod HexValues
+mod Appending
+pub mod Lemmas

@@ -1,5 +1,6 @@
 -- Commits with the first check that fails, worked out by hand.
-use Rattle.std.proofs.Common.{◌≡◌, ℕ, ◌+◌, ◌*◌, List, [], ◌∷◌, Ok, Err, Some, None, refl}
+use Rattle.std.proofs.Common.{◌≡◌, ℕ, ◌+◌, ◌*◌, List, [], ◌∷◌, Ok, Err, Option, Some, None, refl}
+use Rattle.damon_types.specs.declared.attrs.Attrs.{Attrs}
 use Rattle.damon_types.specs.declared.attrs.AttrsFault.TheVariants.{MinTooSmall}
 use Rattle.damon_types.specs.declared.range.RangeSpec.{RangeSpec}
 use Rattle.damon_types.specs.declared.scheme.SchemeFault.TheVariants.{SlotOutOfRange}
@@ -73,6 +74,9 @@ number_comes_before_the_attributes = refl
 attributes_come_before_the_cap : checked_commit space (view Idle) (attrs 2 9) ≡ Err (BadAttrs (MinTooSmall 2))
 attributes_come_before_the_cap = refl
 
+two_rows_at_least_are_too_few : checked_commit space (view Idle) (attrs 2 5) ≡ Err (BadAttrs (MinTooSmall 2))
+two_rows_at_least_are_too_few = refl
+
 cap_is_below_the_new_max : checked_commit space (view Idle) (attrs 3 9) ≡ Err (OverCap 9 8)
 cap_is_below_the_new_max = refl
 
@@ -97,3 +101,30 @@ cost_in_two = refl
 
 no_such_slot : checked_commit space view_two (cost 16) ≡ Err (BadCost 16)
 no_such_slot = refl
+
+-- one target of 3 pages, watched whole: three rows of one page in one range
+abbrev three_pages : List Target
+three_pages = record { base = 65536; pages = 3 } ∷ []
+
+abbrev three_rows : Phase → View
+three_rows phase = record { version = One; phase = phase; rows = 3; ranges = 1; unit = 1; cap = 8; max = 8 }
+
+-- the same range again, and slot 16 emptied
+abbrev emptied_slot_16 : Option Attrs → CommitValue
+emptied_slot_16 attrs = record {
+  attrs = attrs;
+  ranges = Some (record { target = 0; from = 65536; to = 77824; class = 0 } ∷ []);
+  slot = Some (record { slot = 16; scheme = None });
+  metric = None;
+  cost = None;
+}
+
+slot_comes_last : checked_commit three_pages (three_rows Idle) (emptied_slot_16 None) ≡ Err (BadScheme (SlotOutOfRange 16))
+slot_comes_last = refl
+
+attributes_come_before_the_slot :
+    checked_commit three_pages (three_rows Idle) (emptied_slot_16 (Some (record { min = 2; max = 8; aggr = 5 }))) ≡ Err (BadAttrs (MinTooSmall 2))
+attributes_come_before_the_slot = refl
+
+phase_comes_first : checked_commit three_pages (three_rows (Checking 1)) (emptied_slot_16 None) ≡ Err (Busy 4)
+phase_comes_first = refl

@@ -5,4 +5,6 @@ mod Views
 mod Stepping
 mod Seating
 mod AtSeats
+mod StepsOfPass
+pub mod Lemmas
 mod Examples

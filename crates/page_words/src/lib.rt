@@ -10,7 +10,9 @@
 //! [`PageWords`]: `touch`, `clear` and `load` while threads run, and `settle` at the end.
 //!
 //! A touch, a clear and a load are one atomic step each; a split and a gather are one load of word 0
-//! each. No call waits, and none but `PageWords::new` takes memory.
+//! each. `clear_each` and `load_each` make one such step for each page of a pass, and before them they read
+//! each word once more, without a seat and without a use of what they read. No call waits, and none but
+//! `PageWords::new` takes memory.
 //!
 //! Nothing is claimed about progress, fairness, or the order of steps of different threads. A seat
 //! knows its own steps in order, and of other seats what the rule says of the words that it finds.
@@ -18,6 +20,8 @@
 
 /// A law of the definitions.
 mod laws;
+/// The clears and the loads of a pass.
+mod pass_steps;
 /// The rule of the table, and what each atomic step tells.
 mod rule;
 /// The seats of threads.

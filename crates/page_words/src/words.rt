@@ -104,10 +104,8 @@ impl PageWords {
         steps::touch(&self.table, &mut seat.seat, page)
     }
 
-    /// Reads the word of a page and tells nothing of it, which is no step of a seat. A processor waits for
-    /// the words of many reads at once, but for those of clears one by one: so a pass whose pages lie far
-    /// apart takes half the time where their words are read first.
-    pub fn peek(&self, page: u32)
+    // Reads the word of a page and tells nothing of it, which is no step of a seat.
+    pub(crate) fn peek(&self, page: u32)
         requires { page < self.now.words }
     {
         let _word = self.table.shared.peek(page as usize);

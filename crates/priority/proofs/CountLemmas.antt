@@ -7,7 +7,7 @@ use Rattle.std.proofs.lemmas.List.Elements.{filter_passes}
 use Rattle.std.proofs.lemmas.List.Sorted.{All-permutation, Contains-permutation, list_any-IsPermutation, sum_by-IsPermutation}
 use Rattle.std.proofs.lemmas.List.Sums.{sum_by-cons}
 use Rattle.priority.specs.declared.candidates.Candidate.{Candidate}
-use Rattle.priority.specs.Chosen.{exceeds_of, lowest_of, taken_of}
+use Rattle.priority.specs.Chosen.{leaves_pages, lowest_of, taken_of}
 use Rattle.priority.specs.Share.{has_share}
 use Rattle.priority.proofs.DropLemmas.{all_pass}
 use Rattle.priority.proofs.LowestLemmas.{IsLowest, lowest_is, lowest_one}
@@ -41,5 +41,5 @@ taken_filter (c ∷ cs) = by (has_share c) refl (taken_filter cs)
 pub taken_permuted : (cs ds : List Candidate) → IsPermutation cs ds → taken_of cs ≡ taken_of ds
 taken_permuted cs ds same = sym (sum_by-IsPermutation (λ (c : Candidate). c.share) cs ds same)
 
-pub exceeds_permuted : (cs ds : List Candidate) → IsPermutation cs ds → exceeds_of cs ≡ exceeds_of ds
+pub exceeds_permuted : (cs ds : List Candidate) → IsPermutation cs ds → leaves_pages cs ≡ leaves_pages ds
 exceeds_permuted = list_any-IsPermutation (λ (c : Candidate). nat_lt c.share c.passing)

@@ -11,7 +11,7 @@ use Rattle.priority.specs.declared.candidates.Candidate.{Candidate}
 use Rattle.priority.specs.Score.{score_of}
 use Rattle.priority.specs.Order.{in_order}
 use Rattle.priority.specs.Share.{has_share, with_shares}
-use Rattle.priority.specs.Chosen.{exceeds_of, lowest_of, taken_of}
+use Rattle.priority.specs.Chosen.{leaves_pages, lowest_of, taken_of}
 use Rattle.priority.specs.Best.{IsBest}
 use Rattle.priority.specs.Histogram.{sum_from}
 
@@ -57,7 +57,7 @@ three_taken = refl
 three_lowest : lowest_of (with_shares (Some 3) three) ≡ Some 50
 three_lowest = refl
 
-three_exceed : exceeds_of (with_shares (Some 3) three) ≡ true
+three_exceed : leaves_pages (with_shares (Some 3) three) ≡ true
 three_exceed = refl
 
 -- a candidate of which no page is taken does not count for the lowest score
@@ -69,7 +69,7 @@ none_lowest : lowest_of (with_shares (Some 0) three) ≡ None
 none_lowest = refl
 
 -- six pages are left, or there is no quota: all are taken
-six_exceed : exceeds_of (with_shares (Some 6) three) ≡ false
+six_exceed : leaves_pages (with_shares (Some 6) three) ≡ false
 six_exceed = refl
 
 no_quota : in_order (with_shares None three) ≡ two_pages 4 90 2 ∷ two_pages 0 50 2 ∷ two_pages 2 50 2 ∷ []

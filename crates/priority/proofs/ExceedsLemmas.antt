@@ -8,18 +8,18 @@ use Rattle.std.proofs.lemmas.List.Folds.{list_any_none}
 use Rattle.std.proofs.lemmas.List.Sums.{sum_by-cons}
 use Rattle.priority.specs.declared.candidates.Candidate.{Candidate}
 use Rattle.priority.specs.Candidates.{DistinctStarts, IsCandidate}
-use Rattle.priority.specs.Chosen.{exceeds_of, taken_of}
+use Rattle.priority.specs.Chosen.{leaves_pages, taken_of}
 use Rattle.priority.specs.Kept.{passing_from}
 use Rattle.priority.specs.Share.{with_share, with_shares}
 use Rattle.priority.proofs.BestLemmas.{all_before}
 use Rattle.priority.proofs.TakenLemmas.{taken_is}
 use Rattle.priority.proofs.WalkLemmas.{passing_of}
 
-all_taken : (cs : List Candidate) → exceeds_of cs ≡ false → sum_by passing_of cs ≤ taken_of cs
+all_taken : (cs : List Candidate) → leaves_pages cs ≡ false → sum_by passing_of cs ≤ taken_of cs
 all_taken [] none = omega arith
 all_taken (c ∷ cs) none = by (all_taken cs) (nat_lt c.share c.passing) refl none
   where
-    by : (exceeds_of cs ≡ false → sum_by passing_of cs ≤ taken_of cs) → (v : Bool) → nat_lt c.share c.passing ≡ v → (v || exceeds_of cs) ≡ false → sum_by passing_of (c ∷ cs) ≤ taken_of (c ∷ cs)
+    by : (leaves_pages cs ≡ false → sum_by passing_of cs ≤ taken_of cs) → (v : Bool) → nat_lt c.share c.passing ≡ v → (v || leaves_pages cs) ≡ false → sum_by passing_of (c ∷ cs) ≤ taken_of (c ∷ cs)
     by rest true test is = cc is
     by rest false test is =
         let most : c.passing ≤ c.share = grind (arith, nat_tests) in
@@ -29,20 +29,20 @@ passing_same : (left : Option ℕ) (all cs : List Candidate) → sum_by passing_
 passing_same left all [] = refl
 passing_same left all (c ∷ cs) = omega (arith, sum_by-cons passing_of c cs, sum_by-cons passing_of (with_share left all c) (map (with_share left all) cs), passing_same left all cs)
 
-pub exceeds_is : (n : ℕ) (cs : List Candidate) → DistinctStarts cs → nat_lt n (sum_by passing_of cs) ≡ exceeds_of (with_shares (Some n) cs)
+pub exceeds_is : (n : ℕ) (cs : List Candidate) → DistinctStarts cs → nat_lt n (sum_by passing_of cs) ≡ leaves_pages (with_shares (Some n) cs)
 exceeds_is n cs distinct = by (cases_lt n (sum_by passing_of cs))
   where
     shares : List Candidate
     shares = with_shares (Some n) cs
 
-    some : n < sum_by passing_of cs → (v : Bool) → exceeds_of shares ≡ v → v ≡ true
+    some : n < sum_by passing_of cs → (v : Bool) → leaves_pages shares ≡ v → v ≡ true
     some less true is = refl
     some less false is = absurd (omega (arith, less, all_taken shares is, passing_same (Some n) cs cs, taken_is n cs distinct))
 
-    by : (n < sum_by passing_of cs) ⊎ (sum_by passing_of cs ≤ n) → nat_lt n (sum_by passing_of cs) ≡ exceeds_of shares
+    by : (n < sum_by passing_of cs) ⊎ (sum_by passing_of cs ≤ n) → nat_lt n (sum_by passing_of cs) ≡ leaves_pages shares
     by (inl less) =
         let test : nat_lt n (sum_by passing_of cs) ≡ true = grind (arith, nat_tests) in
-        test ∙ sym (some less (exceeds_of shares) refl)
+        test ∙ sym (some less (leaves_pages shares) refl)
     by (inr more) =
         let test : nat_lt n (sum_by passing_of cs) ≡ false = grind (arith, nat_tests) in
         let Short : Candidate → Bool = λ c. nat_lt c.share c.passing in
@@ -59,7 +59,7 @@ passing_all (c ∷ cs) =
     omega (arith, sum_by-cons (λ (x : Candidate). if nat_le 0 x.score then x.passing else 0) c cs, sum_by-cons passing_of c cs, ap (λ v. if v then c.passing else 0) test, passing_all cs)
 
 -- a candidate has a passing page
-pub exceeds_some : (cs : List Candidate) (n : ℕ) → DistinctStarts cs → All IsCandidate cs → n ≡ length cs → not (n == 0) ≡ exceeds_of (with_shares (Some 0) cs)
+pub exceeds_some : (cs : List Candidate) (n : ℕ) → DistinctStarts cs → All IsCandidate cs → n ≡ length cs → not (n == 0) ≡ leaves_pages (with_shares (Some 0) cs)
 exceeds_some [] n distinct each size =
     let test : (n == 0) ≡ true = grind (arith, nat_tests, size) in
     ap not test
@@ -70,7 +70,7 @@ exceeds_some (c ∷ cs) n distinct each size =
     ap not test ∙ sym more ∙ exceeds_is 0 (c ∷ cs) distinct
 
 -- without a quota all pages are taken
-pub exceeds_none : (cs : List Candidate) → exceeds_of (with_shares None cs) ≡ false
+pub exceeds_none : (cs : List Candidate) → leaves_pages (with_shares None cs) ≡ false
 exceeds_none cs =
     list_any_none (λ (c : Candidate). nat_lt c.share c.passing) (with_shares None cs)
     (All-map (λ c. nat_lt c.share c.passing ≡ false) (with_share None cs) cs (λ k d within. let r = slice_index_or cs k d in let test : nat_lt r.passing r.passing ≡ false = grind (arith, nat_tests) in test))

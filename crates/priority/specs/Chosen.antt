@@ -12,5 +12,5 @@ abbrev pub lowest_of : List Candidate → Option ℕ
 lowest_of cs = reduce min (map (λ c. c.score) (filter (λ c. nat_lt 0 c.share) cs))
 
 -- whether a passing page of a candidate is not taken
-abbrev pub exceeds_of : List Candidate → Bool
-exceeds_of cs = list_any (λ c. nat_lt c.share c.passing) cs
+abbrev pub leaves_pages : List Candidate → Bool
+leaves_pages cs = list_any (λ c. nat_lt c.share c.passing) cs

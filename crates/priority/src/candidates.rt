@@ -3,7 +3,7 @@ ghost use Rattle.priority.specs.declared.scoring.TheConstants.{MAX_SCORE};
 ghost use Rattle.priority.specs.Candidates.{IsCandidate, DistinctStarts};
 ghost use Rattle.priority.specs.Order.{InPriority, in_order, is_before};
 ghost use Rattle.priority.specs.Share.{has_share, with_shares};
-ghost use Rattle.priority.specs.Chosen.{exceeds_of, lowest_of, taken_of};
+ghost use Rattle.priority.specs.Chosen.{leaves_pages, lowest_of, taken_of};
 ghost use Rattle.priority.specs.Best.{IsBest, IsCertified};
 
 use crate::choice::{Chosen, choose_among};
@@ -150,7 +150,7 @@ impl Candidates {
         ensures within { IfSome left (λ most. taken_of self.new.list ≤ most) }
         ensures taken { result.taken ≡ taken_of (with_shares left self.old.list) }
         ensures lowest { result.lowest ≡ lowest_of (with_shares left self.old.list) }
-        ensures exceeds { result.exceeds ≡ exceeds_of (with_shares left self.old.list) }
+        ensures exceeds { result.exceeds ≡ leaves_pages (with_shares left self.old.list) }
     {
         choose_among(&mut self.items, left)
     }

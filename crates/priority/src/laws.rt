@@ -5,7 +5,7 @@ ghost use Rattle.priority.specs.declared.candidates.Candidate.{Candidate as cand
 ghost use Rattle.priority.specs.Candidates.{DistinctStarts, starts};
 ghost use Rattle.priority.specs.Order.{InPriority, in_order};
 ghost use Rattle.priority.specs.Share.{has_share, with_shares};
-ghost use Rattle.priority.specs.Chosen.{exceeds_of, lowest_of, taken_of};
+ghost use Rattle.priority.specs.Chosen.{leaves_pages, lowest_of, taken_of};
 ghost use Rattle.priority.specs.Best.{IsBest, IsCertified, IsChoice, shares_of};
 
 /// The shares of candidates, no two of which start at the same page, are the best choice: no other
@@ -55,7 +55,7 @@ pub fn lowest_is_least()
 pub fn counts_keep_in_any_order()
     ensures taken { (cs ds : List candidate) → IsPermutation cs ds → taken_of cs ≡ taken_of ds }
     ensures lowest { (cs ds : List candidate) → IsPermutation cs ds → lowest_of cs ≡ lowest_of ds }
-    ensures exceeds { (cs ds : List candidate) → IsPermutation cs ds → exceeds_of cs ≡ exceeds_of ds }
+    ensures exceeds { (cs ds : List candidate) → IsPermutation cs ds → leaves_pages cs ≡ leaves_pages ds }
 {}
 
 /// Candidates of which no page is taken count neither for the pages that are taken nor for the lowest

@@ -2,7 +2,7 @@
 ghost use Rattle.std.specs.Prelude.{◌≡◌, ◌≤◌, ◌<◌, ◌^◌, ℕ, length, All, IfSome, Some, sum};
 ghost use Rattle.std.specs.Vec.{vec_capacity};
 ghost use Rattle.priority.specs.Candidates.{AreCandidates, IsCandidate};
-ghost use Rattle.priority.specs.Chosen.{exceeds_of};
+ghost use Rattle.priority.specs.Chosen.{leaves_pages};
 ghost use Rattle.priority.specs.Histogram.{sum_from};
 ghost use Rattle.priority.specs.Kept.{SameChoice, later_of, passing_from, passing_of_all, up_to};
 ghost use Rattle.priority.specs.Share.{with_shares};
@@ -18,7 +18,7 @@ pub(crate) fn drop_late(items: &mut Vec<Candidate>, left: u64) -> bool
     requires few { length items.old.items < 2 ^ 32 }
     requires sound { AreCandidates items.old.items }
     ensures same { SameChoice (Some left) items.old.items items.new.items }
-    ensures exceeds { result ≡ exceeds_of (with_shares (Some left) items.old.items) }
+    ensures exceeds { result ≡ leaves_pages (with_shares (Some left) items.old.items) }
     ensures sound { AreCandidates items.new.items }
     ensures len { length items.new.items ≤ length items.old.items }
     ensures capacity { vec_capacity items.new ≡ vec_capacity items.old }

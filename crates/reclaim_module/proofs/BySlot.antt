@@ -26,7 +26,8 @@ use Rattle.reclaim_module.specs.Counts.{pageouts_of}
 use Rattle.reclaim_module.specs.Out.{holds_pageout, holds_willneed, is_in, is_out}
 use Rattle.page_bits.specs.Runs.{count_pages}
 use Rattle.reclaim_module.specs.Pages.{ReclaimView, out_count}
-use Rattle.reclaim_module.specs.SlotBySlot.{PagesOutResident, PagesOutSlotBySlot, SlotsPageOut}
+use Rattle.damon_core.specs.Choosing.{EachSlotServed}
+use Rattle.reclaim_module.specs.SlotBySlot.{PagesOutResident, PagesOutSlotBySlot}
 use Rattle.reclaim_module.specs.Stands.{ReclaimStands}
 use Rattle.reclaim_module.proofs.Balancing.{one_held, sixteen}
 use Rattle.reclaim_module.proofs.Moving.{out_count_is, resident_count_is}
@@ -141,6 +142,10 @@ slot_resident pages slot space aggr tick regions notes =
     ]
 
 -- all slots
+abbrev SlotsPageOut : ℕ → ℕ → List Target → ℕ → ℕ → RegionList → List Note → Type 0
+SlotsPageOut n slot space aggr tick regions notes =
+    EachSlotServed (λ i rs ns y. PagesOutResident (pages_of space) i ns y) n slot space aggr tick regions notes
+
 slots_resident : (n slot : ℕ) (space : List Target) (aggr tick : ℕ) (regions : RegionList) (notes : List Note) → SlotsPageOut n slot space aggr tick regions notes
 slots_resident zero slot space aggr tick regions notes = tt
 slots_resident (suc n) slot space aggr tick regions notes =

@@ -1,11 +1,10 @@
 -- What an aggregation pages out, slot by slot.
-use Rattle.std.specs.Prelude.{◌≡◌, ℕ, zero, suc, ◌+◌, true, false, not, ◌&&◌, ◌||◌, List}
-use Rattle.damon_types.specs.declared.space.Target.{Target}
+use Rattle.std.specs.Prelude.{◌≡◌, ℕ, ◌+◌, true, false, not, ◌&&◌, ◌||◌, List}
 use Rattle.damon_types.specs.Space.{pages_of}
-use Rattle.region_list.specs.Regions.{RegionList}
 use Rattle.damon_core.specs.Aggregate.{merged_regions}
+use Rattle.damon_core.specs.Choosing.{EachSlotServed}
 use Rattle.damon_core.specs.Note.{Note}
-use Rattle.damon_core.specs.Serve.{Serving, serve_slot}
+use Rattle.damon_core.specs.Serve.{Serving}
 use Rattle.damon_core.specs.Slots.{scheme_of, slot_count}
 use Rattle.damon_core.specs.State.{State}
 use Rattle.reclaim_module.specs.Counts.{pageouts_of}
@@ -23,14 +22,8 @@ pub record PagesOutResident (pages slot : ℕ) (notes : List Note) (y : Serving)
       → (page : ℕ) → is_out notes page ≡ false → is_out y.notes page ≡ false
   pub same : holds_pageout (scheme_of notes slot) ≡ false → pageouts_of pages y.notes ≡ pageouts_of pages notes
 
--- n slots from this one on do so in order, each after the slots before it
-abbrev pub SlotsPageOut : ℕ → ℕ → List Target → ℕ → ℕ → RegionList → List Note → Type 0
-SlotsPageOut zero slot space aggr tick regions notes = Unit {0}
-SlotsPageOut (suc n) slot space aggr tick regions notes =
-    let first = serve_slot slot space aggr tick regions notes in
-    PagesOutResident (pages_of space) slot notes first
-    × SlotsPageOut n (slot + 1) space aggr tick (record regions { rows = first.rows }) first.notes
-
 -- What an aggregation of a state pages out is, slot by slot, what is resident of the pages that a `pageout` scheme is applied to.
 abbrev pub PagesOutSlotBySlot : State → Type 0
-PagesOutSlotBySlot s = SlotsPageOut slot_count 0 s.core.space s.core.attrs.aggr s.core.ticks (merged_regions s.core) s.notes
+PagesOutSlotBySlot s =
+    let c = s.core in
+    EachSlotServed (λ slot regions notes y. PagesOutResident (pages_of c.space) slot notes y) slot_count 0 c.space c.attrs.aggr c.ticks (merged_regions c) s.notes

@@ -12,7 +12,7 @@ use Rattle.damon_types.specs.declared.scheme.TheConstants.{MAX_SLOT}
 use Rattle.damon_types.specs.declared.space.Target.{Target}
 use Rattle.damon_types.specs.Space.{IsSpace, pages_of}
 use Rattle.scheme_engine.specs.declared.slot.SlotView.{SlotView}
-use Rattle.scheme_engine.specs.Slots.{SlotValue, empty_slot, view_of}
+use Rattle.scheme_engine.specs.Slots.{SlotValue, empty_slot, slot_view}
 use Rattle.damon_core.specs.Note.{Note}
 use Rattle.damon_core.specs.Slots.{scheme_of, set_scheme_of, slot_count, slot_of, slots_of}
 use Rattle.reclaim_module.specs.Stands.{action_in}
@@ -38,11 +38,11 @@ slot_at slots notes slot few is =
 abbrev shown_action : Option SlotView → Action
 shown_action shown = option_map_or (λ (v : SlotView). v.action) shown Stat
 
-pub action_shown : (slots : List SlotValue) (notes : List Note) (slot : ℕ) (shown : Option SlotView) → slot ≤ MAX_SLOT → shown ≡ view_of (slice_index_or slots slot empty_slot) → slots ≡ slots_of notes → option_map_or (λ (v : SlotView). v.action) shown Stat ≡ action_in notes slot
+pub action_shown : (slots : List SlotValue) (notes : List Note) (slot : ℕ) (shown : Option SlotView) → slot ≤ MAX_SLOT → shown ≡ slot_view (slice_index_or slots slot empty_slot) → slots ≡ slots_of notes → option_map_or (λ (v : SlotView). v.action) shown Stat ≡ action_in notes slot
 action_shown slots notes slot shown few is same =
-    ap shown_action (is ∙ ap view_of (slot_at slots notes slot few same))
+    ap shown_action (is ∙ ap slot_view (slot_at slots notes slot few same))
     ∙ by (scheme_of notes slot) where
-      by : (held : Option Scheme) → shown_action (view_of (record (slot_of notes slot) { set = option_map (λ scheme. set_scheme_of notes slot scheme) held })) ≡ option_map_or (λ (scheme : Scheme). scheme.action) held Stat
+      by : (held : Option Scheme) → shown_action (slot_view (record (slot_of notes slot) { set = option_map (λ scheme. set_scheme_of notes slot scheme) held })) ≡ option_map_or (λ (scheme : Scheme). scheme.action) held Stat
       by None = refl
       by (Some scheme) = refl
 

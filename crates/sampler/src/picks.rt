@@ -73,6 +73,13 @@ impl Picks {
         self.pages.len() as u32
     }
 
+    /// The pages of the picks, in order.
+    pub fn pages(&self) -> &[u32]
+        ensures { result.now ≡ self.now.pages }
+    {
+        &self.pages
+    }
+
     /// The number of the page of pick `k`, which is below the number of picks.
     pub fn page(&self, k: u32) -> u32
         requires { k < length self.now.pages }

@@ -20,7 +20,7 @@ use Rattle.scheme_engine.specs.declared.applied.AppliedRun.{AppliedRun}
 use Rattle.scheme_engine.specs.declared.cut.Part.{Part}
 use Rattle.scheme_engine.specs.Candidates.{passing_pages}
 use Rattle.scheme_engine.specs.Taken.{applied_runs, candidate_runs, span_at, taken_pages, taken_runs, applied_run}
-use Rattle.scheme_engine.specs.Outcome.{changes_rows, cut_place, renewed}
+use Rattle.scheme_engine.specs.Outcome.{changes_rows, taken_until, renewed}
 use Rattle.scheme_engine.specs.Applying.{IsCandidateOf, first_pages, end_of_runs, index_of, makes_new, part_of, row_renewed, rows_renewed}
 use Rattle.scheme_engine.proofs.PlaceLemmas.{Ascend, ends_before, found_by_start, has_pages, no_span, place_by_start, row_by_start, span_read}
 use Rattle.scheme_engine.proofs.TakenLemmas.{ends_agree, page_end_or, taken_are_first}
@@ -173,12 +173,12 @@ pub end_is : (passes : ℕ → Bool) (c : Candidate) (row : Row) → end_of_runs
 end_is passes c row = ends_agree passes 0 c.share row.start row.pages
 
 -- the part that the code returns
-pub part_is : (action : Action) (passes : ℕ → Bool) (rows : List Row) (c : Candidate) (index pages : ℕ) (row : Row) → Found passes rows c index row → 0 < c.share → pages ≡ cut_place passes c.share (span_of row) → cond (changes_rows action && nat_lt c.share c.passing) (Some (record { index = index; pages = pages })) None ≡ part_of action passes (spans rows) c
+pub part_is : (action : Action) (passes : ℕ → Bool) (rows : List Row) (c : Candidate) (index pages : ℕ) (row : Row) → Found passes rows c index row → 0 < c.share → pages ≡ taken_until passes c.share (span_of row) → cond (changes_rows action && nat_lt c.share c.passing) (Some (record { index = index; pages = pages })) None ≡ part_of action passes (spans rows) c
 part_is action passes rows c index pages row found some is =
     let one : nat_lt 0 c.share ≡ true = grind (arith, nat_tests) in
-    let part : ℕ → Span → Part = λ i s. record { index = i; pages = cut_place passes c.share s } in
+    let part : ℕ → Span → Part = λ i s. record { index = i; pages = taken_until passes c.share s } in
     let test : Option Part → Option Part = λ o. cond (changes_rows action && nat_lt c.share c.passing) o None in
-    let here : (n : ℕ) → n ≡ cut_place passes c.share (span_of row) → test (Some (record { index = index; pages = n })) ≡ test (Some (part index (span_of row))) = λ n same. ap (λ m. test (Some (record { index = index; pages = m }))) same in
+    let here : (n : ℕ) → n ≡ taken_until passes c.share (span_of row) → test (Some (record { index = index; pages = n })) ≡ test (Some (part index (span_of row))) = λ n same. ap (λ m. test (Some (record { index = index; pages = m }))) same in
     here pages is
     ∙ ap (λ s. test (Some (part index s))) (sym found.span)
     ∙ ap (λ o. test (option_map (λ i. part i (span_at (spans rows) c)) o)) (sym found.place)

@@ -28,7 +28,7 @@ use Rattle.scheme_engine.specs.declared.cut.Part.{Part}
 use Rattle.scheme_engine.specs.Applying.{cut_rows, next_part, row_renewed, rows_cut, rows_renewed}
 use Rattle.scheme_engine.specs.Candidates.{candidate_of, candidates_of}
 use Rattle.scheme_engine.specs.Kept.{AreTiled}
-use Rattle.scheme_engine.specs.Outcome.{changes_rows, chosen_of, cut_in_two, cut_place, may_cut, renewed, row_after, rows_after}
+use Rattle.scheme_engine.specs.Outcome.{changes_rows, chosen_of, cut_in_two, taken_until, may_cut_row, renewed, row_after, rows_after}
 use Rattle.scheme_engine.proofs.CutLemmas.{length-cut_rows}
 use Rattle.scheme_engine.proofs.GatherLemmas.{IsOfRow, candidate_is}
 use Rattle.scheme_engine.proofs.PlaceLemmas.{Ascend, rows_ascend}
@@ -108,12 +108,12 @@ record HoldsOfRow (regions : RegionList) (r : Row) (P : List Row → Type 0) : T
 row_holds : (regions : RegionList) (passes : ℕ → Bool) (cs : List Candidate) (r : Row) (P : List Row → Type 0) → HoldsOfRow regions r P → P (option_map_or (row_after regions passes r) (candidate_at cs r) (r ∷ []))
 row_holds regions passes cs r P holds = by (candidate_at cs r)
   where
-    cases : (c : Candidate) (u v w : Bool) → (c.share == c.passing) ≡ u → nat_lt 0 c.share ≡ v → may_cut regions (cut_place passes c.share (span_of r)) r ≡ w → P (row_after regions passes r c)
+    cases : (c : Candidate) (u v w : Bool) → (c.share == c.passing) ≡ u → nat_lt 0 c.share ≡ v → may_cut_row regions (taken_until passes c.share (span_of r)) r ≡ w → P (row_after regions passes r c)
     cases c true v w one two three = rw one holds.new
     cases c false false w one two three = rw (one, two) holds.whole
     cases c false true false one two three = rw (one, two, three) holds.whole
     cases c false true true one two three =
-        rw (one, two, three) (holds.cut (cut_place passes c.share (span_of r)) (grind (arith, nat_tests)) (grind (arith, nat_tests)))
+        rw (one, two, three) (holds.cut (taken_until passes c.share (span_of r)) (grind (arith, nat_tests)) (grind (arith, nat_tests)))
 
     by : (o : Option Candidate) → P (option_map_or (row_after regions passes r) o (r ∷ []))
     by None = holds.whole
@@ -191,7 +191,7 @@ rows_few action passes regions cs are few = by (fold (next_part action passes (s
     new : List Row
     new = fold (rows_renewed action) regions.rows cs
 
-    cut : (q : Part) (v : Bool) → fold (next_part action passes (spans regions.rows)) None cs ≡ Some q → may_cut (record regions { rows = new }) q.pages (row_at new q.index) ≡ v → length (rows_after action regions passes cs) ≤ regions.max
+    cut : (q : Part) (v : Bool) → fold (next_part action passes (spans regions.rows)) None cs ≡ Some q → may_cut_row (record regions { rows = new }) q.pages (row_at new q.index) ≡ v → length (rows_after action regions passes cs) ≤ regions.max
     cut q true is may =
         let fits = part_fits action passes regions.rows cs q are is in
         let room : length new < regions.max = grind (arith, nat_tests) in

@@ -16,7 +16,7 @@ use Rattle.region_list.specs.Regions.{RegionList}
 use Rattle.scheme_filter.specs.Passes.{passes}
 use Rattle.priority.specs.declared.candidates.Candidate.{Candidate}
 use Rattle.priority.specs.Candidates.{DistinctStarts, starts}
-use Rattle.scheme_engine.specs.Outcome.{changes_rows, cut_in_two, cut_place, may_cut, renewed, row_after}
+use Rattle.scheme_engine.specs.Outcome.{changes_rows, cut_in_two, taken_until, may_cut_row, renewed, row_after}
 use Rattle.scheme_engine.specs.Applying.{row_renewed, rows_renewed}
 use Rattle.scheme_engine.specs.Kept.{IsInPart}
 use Rattle.scheme_engine.proofs.ApplyLemmas.{no_candidate, none_new, not_changed}
@@ -154,10 +154,10 @@ row_not_cut regions passes cs r distinct none = by (candidate_at cs r) refl
     by (Some c) is = rw (is, whole_some cs r c distinct is) (one c is (c.share == c.passing) (nat_lt 0 c.share) refl refl)
 
 -- a row of which a candidate is taken in part
-pub row_cut : (regions : RegionList) (passes : ℕ → Bool) (cs : List Candidate) (r : Row) (c : Candidate) → DistinctStarts cs → candidate_at cs r ≡ Some c → IsInPart c → (row_defined regions passes cs r ≡ cond (may_cut regions (cut_place passes c.share (span_of r)) r) (cut_in_two (cut_place passes c.share (span_of r)) r) (r ∷ [])) × (row_new cs r ≡ r)
+pub row_cut : (regions : RegionList) (passes : ℕ → Bool) (cs : List Candidate) (r : Row) (c : Candidate) → DistinctStarts cs → candidate_at cs r ≡ Some c → IsInPart c → (row_defined regions passes cs r ≡ cond (may_cut_row regions (taken_until passes c.share (span_of r)) r) (cut_in_two (taken_until passes c.share (span_of r)) r) (r ∷ [])) × (row_new cs r ≡ r)
 row_cut regions passes cs r c distinct is part =
     let other : (c.share == c.passing) ≡ false = grind (arith, nat_tests, part.0, part.1) in
     let some : nat_lt 0 c.share ≡ true = lt-ltb 0 c.share part.0 in
-    let here : row_after regions passes r c ≡ cond (may_cut regions (cut_place passes c.share (span_of r)) r) (cut_in_two (cut_place passes c.share (span_of r)) r) (r ∷ []) = rw (other, some) refl in
+    let here : row_after regions passes r c ≡ cond (may_cut_row regions (taken_until passes c.share (span_of r)) r) (cut_in_two (taken_until passes c.share (span_of r)) r) (r ∷ []) = rw (other, some) refl in
     let old : whole_at cs r ≡ false = whole_some cs r c distinct is ∙ other in
     (ap (λ o. option_map_or (row_after regions passes r) o (r ∷ [])) is ∙ here, rw old refl)

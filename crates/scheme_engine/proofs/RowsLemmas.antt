@@ -21,7 +21,7 @@ use Rattle.priority.specs.Candidates.{DistinctStarts}
 use Rattle.priority.specs.Order.{InPriority}
 use Rattle.priority.specs.Share.{with_shares}
 use Rattle.scheme_engine.specs.declared.cut.Part.{Part}
-use Rattle.scheme_engine.specs.Outcome.{changes_rows, cut_in_two, cut_place, may_cut, renewed, row_after, rows_after}
+use Rattle.scheme_engine.specs.Outcome.{changes_rows, cut_in_two, taken_until, may_cut_row, renewed, row_after, rows_after}
 use Rattle.scheme_engine.specs.Applying.{IsCandidateOf, IsPartOf, cut_rows, index_of, next_part, part_of, rows_cut, rows_renewed}
 use Rattle.scheme_engine.specs.Kept.{IsInPart, OneInPart}
 use Rattle.scheme_engine.specs.Taken.{span_at}
@@ -110,7 +110,7 @@ rows_none action passes regions cs are none = by (changes_rows action) refl
         let one : nat_lt 0 c.share ≡ true = lt-ltb 0 c.share part.0 in
         let two : nat_lt c.share c.passing ≡ true = lt-ltb c.share c.passing part.1 in
         let none_here : part_of action passes (spans regions.rows) c ≡ None = ap (part_of action passes (spans regions.rows)) (sym at.is) ∙ no_parts at.place at.within in
-        let some_here : part_of action passes (spans regions.rows) c ≡ Some (record { index = is.index; pages = cut_place passes c.share (span_at (spans regions.rows) c) }) = rw (changes, one, two, index_is are is) refl in
+        let some_here : part_of action passes (spans regions.rows) c ≡ Some (record { index = is.index; pages = taken_until passes c.share (span_at (spans regions.rows) c) }) = rw (changes, one, two, index_is are is) refl in
         absurd (cc (none_here, some_here))
 
     by : (v : Bool) → changes_rows action ≡ v → fold (rows_renewed action) regions.rows cs ≡ rows_after action regions passes cs
@@ -133,7 +133,7 @@ pub record PartFacts (action : Action) (passes : ℕ → Bool) (rows : List Row)
   pub within : q.index < length rows
   pub start : (get_or cs place no_candidate).start ≡ (row_at rows q.index).start
   pub passing : (get_or cs place no_candidate).passing ≡ length (passing_pages passes (span_of (row_at rows q.index)))
-  pub pages : q.pages ≡ cut_place passes (get_or cs place no_candidate).share (span_of (row_at rows q.index))
+  pub pages : q.pages ≡ taken_until passes (get_or cs place no_candidate).share (span_of (row_at rows q.index))
 
 pub part_facts : (action : Action) (passes : ℕ → Bool) (rows : List Row) (cs : List Candidate) (q : Part) → AreChosen passes rows cs → fold (next_part action passes (spans rows)) None cs ≡ Some q → PartFacts action passes rows cs q
 part_facts action passes rows cs q are some = by (part_from action passes (spans rows) cs None q some)
@@ -147,8 +147,8 @@ part_facts action passes rows cs q are some = by (part_from action passes (spans
     facts j inside is true true false changes one two has = let none : None ≡ Some q = sym (rw (changes, one, two) refl) ∙ has in absurd (cc none)
     facts j inside is true true true changes one two has =
         let c = get_or cs j no_candidate in
-        let found : Some (record { index = is.index; pages = cut_place passes c.share (span_at ss c) }) ≡ Some q = sym (rw (changes, one, two, index_is are is) refl) ∙ has in
-        let same : record { index = is.index; pages = cut_place passes c.share (span_at ss c) } ≡ q = cc in
+        let found : Some (record { index = is.index; pages = taken_until passes c.share (span_at ss c) }) ≡ Some q = sym (rw (changes, one, two, index_is are is) refl) ∙ has in
+        let same : record { index = is.index; pages = taken_until passes c.share (span_at ss c) } ≡ q = cc in
         let index : q.index ≡ is.index = ap (λ (p : Part). p.index) (sym same) in
         let at : is.index < length rows = omega (arith, slice_get_within ss is.index is.span is.at, length-map rows span_of) in
         let within : q.index < length rows = omega (arith, index, at) in
@@ -164,7 +164,7 @@ part_facts action passes rows cs q are some = by (part_from action passes (spans
           within = within;
           start = is.start ∙ ap (λ (s : Span). s.start) read;
           passing = is.passing ∙ ap (λ s. length (passing_pages passes s)) read;
-          pages = ap (λ (p : Part). p.pages) (sym same) ∙ ap (cut_place passes c.share) (placed ∙ read);
+          pages = ap (λ (p : Part). p.pages) (sym same) ∙ ap (taken_until passes c.share) (placed ∙ read);
         }
 
     by : (None ≡ Some q) ⊎ HasPart action passes ss cs q → PartFacts action passes rows cs q
@@ -202,7 +202,7 @@ at_others P n i here rest k within = by (cases_eq k i)
 -- with a part the rows are those of the definition
 pub rows_some : (action : Action) (passes : ℕ → Bool) (regions : RegionList) (cs : List Candidate) (q : Part) → AreChosen passes regions.rows cs → fold (next_part action passes (spans regions.rows)) None cs ≡ Some q → rows_cut (record regions { rows = fold (rows_renewed action) regions.rows cs }) q ≡ rows_after action regions passes cs
 rows_some action passes regions cs q are some =
-    ap (λ rs. rows_cut (record regions { rows = rs }) q) new ∙ by (may_cut regions q.pages r) refl ∙ sym (rw facts.changes refl)
+    ap (λ rs. rows_cut (record regions { rows = rs }) q) new ∙ by (may_cut_row regions q.pages r) refl ∙ sym (rw facts.changes refl)
   where
     rows : List Row
     rows = regions.rows
@@ -219,11 +219,11 @@ rows_some action passes regions cs q are some =
     new : fold (rows_renewed action) regions.rows cs ≡ map (row_new cs) regions.rows
     new = rows_new action cs regions.rows facts.changes
 
-    here : (row_defined regions passes cs r ≡ cond (may_cut regions (cut_place passes c.share (span_of r)) r) (cut_in_two (cut_place passes c.share (span_of r)) r) (r ∷ [])) × (row_new cs r ≡ r)
+    here : (row_defined regions passes cs r ≡ cond (may_cut_row regions (taken_until passes c.share (span_of r)) r) (cut_in_two (taken_until passes c.share (span_of r)) r) (r ∷ [])) × (row_new cs r ≡ r)
     here = row_cut regions passes cs r c are.distinct (at_found cs r facts.place are.distinct facts.inside facts.start) facts.part
 
-    defined : row_defined regions passes cs r ≡ cond (may_cut regions q.pages r) (cut_in_two q.pages r) (r ∷ [])
-    defined = here.0 ∙ ap (λ n. cond (may_cut regions n r) (cut_in_two n r) (r ∷ [])) (sym facts.pages)
+    defined : row_defined regions passes cs r ≡ cond (may_cut_row regions q.pages r) (cut_in_two q.pages r) (r ∷ [])
+    defined = here.0 ∙ ap (λ n. cond (may_cut_row regions n r) (cut_in_two n r) (r ∷ [])) (sym facts.pages)
 
     read : row_at (map (row_new cs) regions.rows) q.index ≡ r
     read = get_or-map (row_new cs) regions.rows q.index no_row no_row facts.within ∙ here.1
@@ -246,10 +246,10 @@ rows_some action passes regions cs q are some =
     others k within other = row_not_cut regions passes cs (row_at regions.rows k) are.distinct (λ d at. ((is_at are at).share, not_in_part k within other d at))
 
     -- the test of the cut
-    test : may_cut (record regions { rows = map (row_new cs) regions.rows }) q.pages (row_at (map (row_new cs) regions.rows) q.index) ≡ may_cut regions q.pages r
-    test = ap (may_cut (record regions { rows = map (row_new cs) regions.rows }) q.pages) read ∙ ap (λ n. nat_lt n regions.max && (nat_le regions.unit q.pages && nat_le regions.unit (r.pages - q.pages))) (length-map regions.rows (row_new cs))
+    test : may_cut_row (record regions { rows = map (row_new cs) regions.rows }) q.pages (row_at (map (row_new cs) regions.rows) q.index) ≡ may_cut_row regions q.pages r
+    test = ap (may_cut_row (record regions { rows = map (row_new cs) regions.rows }) q.pages) read ∙ ap (λ n. nat_lt n regions.max && (nat_le regions.unit q.pages && nat_le regions.unit (r.pages - q.pages))) (length-map regions.rows (row_new cs))
 
-    by : (v : Bool) → may_cut regions q.pages r ≡ v → rows_cut (record regions { rows = map (row_new cs) regions.rows }) q ≡ flat_map (row_defined regions passes cs) regions.rows
+    by : (v : Bool) → may_cut_row regions q.pages r ≡ v → rows_cut (record regions { rows = map (row_new cs) regions.rows }) q ≡ flat_map (row_defined regions passes cs) regions.rows
     by true is =
         let cut : row_defined regions passes cs r ≡ cut_in_two q.pages (row_new cs r) = defined ∙ rw is refl ∙ ap (cut_in_two q.pages) (sym here.1) in
         rw (test ∙ is) (sym (flat_map_cut (row_defined regions passes cs) (row_new cs) q.index q.pages regions.rows facts.within cut others))

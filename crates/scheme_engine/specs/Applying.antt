@@ -13,7 +13,7 @@ use Rattle.priority.specs.declared.candidates.Candidate.{Candidate}
 use Rattle.scheme_engine.specs.declared.cut.Part.{Part}
 use Rattle.scheme_engine.specs.Candidates.{passing_pages}
 use Rattle.scheme_engine.specs.Taken.{span_at}
-use Rattle.scheme_engine.specs.Outcome.{changes_rows, cut_in_two, cut_place, may_cut, renewed}
+use Rattle.scheme_engine.specs.Outcome.{changes_rows, cut_in_two, taken_until, may_cut_row, renewed}
 
 -- the runs of the first n pages of runs
 abbrev pub first_pages : ℕ → List Run → List Run
@@ -55,7 +55,7 @@ index_of ss c = position (λ s. s.start == c.start) ss
 abbrev pub part_of : Action → (ℕ → Bool) → List Span → Candidate → Option Part
 part_of action passes ss c =
     if changes_rows action && (nat_lt 0 c.share && nat_lt c.share c.passing)
-    then option_map (λ i. record { index = i; pages = cut_place passes c.share (span_at ss c) }) (index_of ss c)
+    then option_map (λ i. record { index = i; pages = taken_until passes c.share (span_at ss c) }) (index_of ss c)
     else None
 
 -- the last such row among the candidates so far, and then this one
@@ -68,7 +68,7 @@ cut_rows i at rows = take i rows ++ (cut_in_two at (row_at rows i) ++ drop (i + 
 
 -- the rows with one of them cut in two where it may be cut
 abbrev pub rows_cut : RegionList → Part → List Row
-rows_cut regions p = if may_cut regions p.pages (row_at regions.rows p.index) then cut_rows p.index p.pages regions.rows else regions.rows
+rows_cut regions p = if may_cut_row regions p.pages (row_at regions.rows p.index) then cut_rows p.index p.pages regions.rows else regions.rows
 
 -- a part names one of the rows, and is no longer than it
 pub record IsPartOf (rows : List Row) (p : Part) : Type 0 where

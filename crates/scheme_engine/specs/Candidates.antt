@@ -30,5 +30,5 @@ abbrev pub candidates_of : List Target → List Range → ℕ → Scheme → Lis
 candidates_of space ranges aggr scheme rows = filter_map (candidate_of space ranges aggr scheme) rows
 
 -- how many rows match a scheme
-abbrev pub tried_of : Scheme → List Row → ℕ
-tried_of scheme rows = count_by (is_match scheme.pattern) rows
+abbrev pub matching_rows : Scheme → List Row → ℕ
+matching_rows scheme rows = count_by (is_match scheme.pattern) rows

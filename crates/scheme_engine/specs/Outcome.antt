@@ -11,11 +11,11 @@ use Rattle.damon_types.specs.Span.{Span, span_of, spans}
 use Rattle.region_list.specs.Regions.{RegionList}
 use Rattle.scheme_filter.specs.Passes.{passes}
 use Rattle.priority.specs.declared.candidates.Candidate.{Candidate}
-use Rattle.priority.specs.Chosen.{taken_of, lowest_of, exceeds_of}
+use Rattle.priority.specs.Chosen.{taken_of, lowest_of, leaves_pages}
 use Rattle.priority.specs.Order.{in_order}
 use Rattle.priority.specs.Share.{with_shares}
 use Rattle.scheme_engine.specs.declared.applied.AppliedRun.{AppliedRun}
-use Rattle.scheme_engine.specs.Candidates.{candidates_of, tried_of}
+use Rattle.scheme_engine.specs.Candidates.{candidates_of, matching_rows}
 use Rattle.scheme_engine.specs.Taken.{applied_runs, taken_pages}
 
 -- the candidates of a scheme in priority order, each with its share of what is left of the quota
@@ -29,12 +29,12 @@ changes_rows Stat = false
 changes_rows _ = true
 
 -- after how many of its pages a row is cut, of which the first n passing pages are taken: after the last one taken
-abbrev pub cut_place : (ℕ → Bool) → ℕ → Span → ℕ
-cut_place passes n s = option_map_or (λ p. p + 1) (last_or None (taken_pages passes n s)) 0 - s.start
+abbrev pub taken_until : (ℕ → Bool) → ℕ → Span → ℕ
+taken_until passes n s = option_map_or (λ p. p + 1) (last_or None (taken_pages passes n s)) 0 - s.start
 
 -- Whether a row may be cut after `at` of its pages: there is room for one row more, and both sides have the minimum size.
-abbrev pub may_cut : RegionList → ℕ → Row → Bool
-may_cut regions at r =
+abbrev pub may_cut_row : RegionList → ℕ → Row → Bool
+may_cut_row regions at r =
     nat_lt (length regions.rows) regions.max && (nat_le regions.unit at && nat_le regions.unit (r.pages - at))
 
 -- a row that is taken whole
@@ -49,9 +49,9 @@ cut_in_two at r = record r { pages = at; age = 0 } ∷ record r { start = r.star
 -- it is cut after the last one taken, if it may be cut there.
 abbrev pub row_after : RegionList → (ℕ → Bool) → Row → Candidate → List Row
 row_after regions passes r c =
-    let at = cut_place passes c.share (span_of r) in
+    let at = taken_until passes c.share (span_of r) in
     if c.share == c.passing then renewed r ∷ []
-    else if nat_lt 0 c.share && may_cut regions at r then cut_in_two at r
+    else if nat_lt 0 c.share && may_cut_row regions at r then cut_in_two at r
     else r ∷ []
 
 -- the rows after an action: where it changes rows, each row by itself by the candidate that starts where it does, if there is one
@@ -78,9 +78,9 @@ outcome_of slot space aggr scheme left regions =
     let cs = chosen_of space aggr scheme left regions in
     record {
       runs = applied_runs slot passes (spans regions.rows) cs;
-      tried = tried_of scheme regions.rows;
+      tried = matching_rows scheme regions.rows;
       taken = taken_of cs;
       lowest = lowest_of cs;
-      exceeds = exceeds_of cs;
+      exceeds = leaves_pages cs;
       rows = rows_after scheme.action regions passes cs;
     }

@@ -64,8 +64,8 @@ abbrev pub turned_slot : ℕ → SlotValue → SlotValue
 turned_slot tick s = record s { window = window_at tick (quota_of s) s.window }
 
 -- what a slot shows, if it is set
-abbrev pub view_of : SlotValue → Option SlotView
-view_of s =
+abbrev pub slot_view : SlotValue → Option SlotView
+slot_view s =
     option_map
     (λ h. record { action = h.scheme.action; active = h.gauge.active; window = s.window; tried = h.tried; applied = h.applied; exceeds = h.exceeds })
     s.set

@@ -9,7 +9,7 @@ ghost use Rattle.scheme_match.specs.Match.{is_match};
 ghost use Rattle.scheme_filter.specs.Passes.{passes};
 ghost use Rattle.scheme_filter.specs.RangeRuns.{AreRunsOf};
 ghost use Rattle.priority.specs.Score.{score_by, score_of};
-ghost use Rattle.scheme_engine.specs.Candidates.{candidate_of, candidates_of, tried_of};
+ghost use Rattle.scheme_engine.specs.Candidates.{candidate_of, candidates_of, matching_rows};
 
 use crate::pages::Context;
 use damon_types::{Ranges, Row, Scheme};
@@ -35,7 +35,7 @@ pub(crate) fn gather(
       list = candidates_of context.now.space.now regions.now.ranges context.now.aggr scheme.now
           regions.now.rows;
     } }
-    ensures tried { result ≡ tried_of scheme.now regions.now.rows }
+    ensures tried { result ≡ matching_rows scheme.now regions.now.rows }
 {
     candidates.clear();
     let ranges = regions.ranges();

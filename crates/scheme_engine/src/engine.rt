@@ -4,7 +4,7 @@ ghost use Rattle.damon_types.specs.Within.{AreWithin};
 ghost use Rattle.scheme_engine.specs.Best.{AreServedBest};
 ghost use Rattle.scheme_engine.specs.Engine.{BeginBy, FitsSlot};
 ghost use Rattle.scheme_engine.specs.Served.{slots_served};
-ghost use Rattle.scheme_engine.specs.Slots.{changed, costed, empty_slot, metered, view_of};
+ghost use Rattle.scheme_engine.specs.Slots.{changed, costed, empty_slot, metered, slot_view};
 
 use crate::pages::Context;
 use crate::serve::serve;
@@ -97,7 +97,7 @@ impl Engine {
     /// What the slot with this number shows, at most [`MAX_SLOT`]; `None` exactly if it is empty.
     pub fn slot(&self, slot: u8) -> Option<SlotView>
         requires { slot ≤ MAX_SLOT }
-        ensures { result ≡ view_of (slice_index_or self.now.slots slot empty_slot) }
+        ensures { result ≡ slot_view (slice_index_or self.now.slots slot empty_slot) }
     {
         let slot = &self.slots[usize::from(slot)];
         slot.view()

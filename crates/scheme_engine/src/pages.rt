@@ -7,7 +7,7 @@ ghost use Rattle.scheme_filter.specs.Passes.{passes};
 ghost use Rattle.scheme_filter.specs.Runs.{run_end};
 ghost use Rattle.scheme_engine.specs.Candidates.{passing_pages};
 ghost use Rattle.scheme_engine.specs.Taken.{applied_run, taken_runs};
-ghost use Rattle.scheme_engine.specs.Outcome.{cut_place};
+ghost use Rattle.scheme_engine.specs.Outcome.{taken_until};
 ghost use Rattle.scheme_engine.specs.Applying.{end_of_runs, first_pages};
 
 use crate::{Applied, AppliedRun, RUNS_PER_ROW};
@@ -52,7 +52,7 @@ pub(crate) fn take_row(
           (span_of row.now));
     } }
     ensures few { length applied.new.runs ≤ length applied.old.runs + MAX_RUNS }
-    ensures pages { result ≡ cut_place (passes filters.now context.now.space.now ranges.now.list)
+    ensures pages { result ≡ taken_until (passes filters.now context.now.space.now ranges.now.list)
         candidate.now.share (span_of row.now) }
     ensures most { result ≤ row.now.pages }
 {
@@ -92,7 +92,7 @@ fn take_passing(
           (span_of row.now));
     } }
     ensures few { length applied.new.runs ≤ length applied.old.runs + MAX_RUNS }
-    ensures pages { result ≡ cut_place (passes filters.now context.now.space.now ranges.now.list)
+    ensures pages { result ≡ taken_until (passes filters.now context.now.space.now ranges.now.list)
         candidate.now.share (span_of row.now) }
     ensures most { result ≤ row.now.pages }
 {

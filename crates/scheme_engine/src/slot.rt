@@ -1,7 +1,7 @@
 ghost use Rattle.std.specs.Prelude.{◌≡◌, ◌+◌, ◌≤◌, ◌<◌, ◌^◌, Some, IsSome, IfSome};
 ghost use Rattle.scheme_engine.specs.Engine.{FitsSlot};
 ghost use Rattle.scheme_engine.specs.Served.{left_in, slot_counted};
-ghost use Rattle.scheme_engine.specs.Slots.{changed, costed, empty_slot, metered, quota_of, turned_slot, view_of};
+ghost use Rattle.scheme_engine.specs.Slots.{changed, costed, empty_slot, metered, quota_of, turned_slot, slot_view};
 
 use damon_types::{Action, MAX_SLOT, Quota, Scheme};
 use quota_charge::{Cost, Window};
@@ -121,7 +121,7 @@ impl Slot {
 
     // What the slot shows, if it is set.
     pub(crate) fn view(&self) -> Option<SlotView>
-        ensures { result ≡ view_of self.now }
+        ensures { result ≡ slot_view self.now }
     {
         let set = self.set?;
         Some(SlotView {

@@ -12,7 +12,7 @@ use line_text::{append_field, end_line};
 use std::alloc::AllocError;
 
 /// Appends a line of a word and a number.
-#[tactic(auto, using(line_text::proofs::Appending::appends))]
+#[tactic(auto, using(line_text::proofs::Lemmas::appends))]
 pub fn write_number_line(out: &mut Vec<u8>, name: &[u8], value: u64) -> Result<(), AllocError>
     ensures ok { OnOk result (out.new.items
         ≡ out.old.items ++ lines_text ((name.now ++ decimal value) ∷ [])) }
@@ -23,7 +23,7 @@ pub fn write_number_line(out: &mut Vec<u8>, name: &[u8], value: u64) -> Result<(
 }
 
 /// Appends `attrs MIN MAX AGGR`.
-#[tactic(auto, using(line_text::proofs::Appending::appends))]
+#[tactic(auto, using(line_text::proofs::Lemmas::appends))]
 pub fn write_attrs(out: &mut Vec<u8>, attrs: &Attrs) -> Result<(), AllocError>
     ensures ok { OnOk result (out.new.items
         ≡ out.old.items ++ lines_text (spelled_attrs attrs.now ∷ [])) }
@@ -36,7 +36,7 @@ pub fn write_attrs(out: &mut Vec<u8>, attrs: &Attrs) -> Result<(), AllocError>
 }
 
 /// Appends `target BASE PAGES`.
-#[tactic(auto, using(line_text::proofs::Appending::appends))]
+#[tactic(auto, using(line_text::proofs::Lemmas::appends))]
 pub fn write_target(out: &mut Vec<u8>, target: &Target) -> Result<(), AllocError>
     ensures ok { OnOk result (out.new.items
         ≡ out.old.items ++ lines_text (spelled_target target.now ∷ [])) }
@@ -48,7 +48,7 @@ pub fn write_target(out: &mut Vec<u8>, target: &Target) -> Result<(), AllocError
 }
 
 /// Appends `range TARGET FROM TO CLASS`.
-#[tactic(auto, using(line_text::proofs::Appending::appends))]
+#[tactic(auto, using(line_text::proofs::Lemmas::appends))]
 pub fn write_range(out: &mut Vec<u8>, range: &RangeSpec) -> Result<(), AllocError>
     ensures ok { OnOk result (out.new.items
         ≡ out.old.items ++ lines_text (spelled_range range.now ∷ [])) }
@@ -62,7 +62,7 @@ pub fn write_range(out: &mut Vec<u8>, range: &RangeSpec) -> Result<(), AllocErro
 }
 
 /// Appends the line of a slot change.
-#[tactic(auto, using(line_text::proofs::Appending::appends))]
+#[tactic(auto, using(line_text::proofs::Lemmas::appends))]
 pub fn write_change_line(out: &mut Vec<u8>, change: &SlotChange) -> Result<(), AllocError>
     ensures ok { OnOk result (out.new.items
         ≡ out.old.items ++ lines_text (change_text change.now ∷ [])) }
@@ -73,7 +73,7 @@ pub fn write_change_line(out: &mut Vec<u8>, change: &SlotChange) -> Result<(), A
 }
 
 /// Appends `cost SLOT NANOSECONDS`.
-#[tactic(auto, using(line_text::proofs::Appending::appends))]
+#[tactic(auto, using(line_text::proofs::Lemmas::appends))]
 pub fn write_cost(out: &mut Vec<u8>, cost: &CostPart) -> Result<(), AllocError>
     ensures ok { OnOk result (out.new.items
         ≡ out.old.items ++ lines_text (spelled_cost cost.now ∷ [])) }

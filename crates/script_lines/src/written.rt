@@ -17,7 +17,7 @@ use line_text::{address_before, append_field, end_line};
 use std::alloc::AllocError;
 
 // Appends a text and a word.
-#[tactic(auto, using(line_text::proofs::Appending::appends))]
+#[tactic(auto, using(line_text::proofs::Lemmas::appends))]
 fn write_word(out: &mut Vec<u8>, name: &[u8], word: &[u8]) -> Result<(), AllocError>
     ensures ok { OnOk result (out.new.items ≡ out.old.items ++ (name.now ++ word.now)) }
     ensures kept { KeepsFront out.old.items out.new.items }
@@ -27,7 +27,7 @@ fn write_word(out: &mut Vec<u8>, name: &[u8], word: &[u8]) -> Result<(), AllocEr
 }
 
 // Appends a text and an address.
-#[tactic(auto, using(line_text::proofs::Appending::appends))]
+#[tactic(auto, using(line_text::proofs::Lemmas::appends))]
 pub fn write_address(out: &mut Vec<u8>, name: &[u8], value: u64) -> Result<(), AllocError>
     ensures ok { OnOk result (out.new.items ≡ out.old.items ++ (name.now ++ spelled_address value)) }
     ensures kept { KeepsFront out.old.items out.new.items }
@@ -39,7 +39,7 @@ pub fn write_address(out: &mut Vec<u8>, name: &[u8], value: u64) -> Result<(), A
 }
 
 // Appends `scheme SLOT ACTION KEYS`, or `drop SLOT`.
-#[tactic(auto, using(line_text::proofs::Appending::appends))]
+#[tactic(auto, using(line_text::proofs::Lemmas::appends))]
 pub fn write_change(out: &mut Vec<u8>, change: &SlotChange) -> Result<(), AllocError>
     ensures ok { OnOk result (out.new.items ≡ out.old.items ++ change_text change.now) }
     ensures kept { KeepsFront out.old.items out.new.items }
@@ -51,7 +51,7 @@ pub fn write_change(out: &mut Vec<u8>, change: &SlotChange) -> Result<(), AllocE
 }
 
 // Appends `scheme SLOT ACTION KEYS`.
-#[tactic(auto, using(line_text::proofs::Appending::appends))]
+#[tactic(auto, using(line_text::proofs::Lemmas::appends))]
 fn write_scheme(out: &mut Vec<u8>, slot: u8, scheme: &Scheme) -> Result<(), AllocError>
     ensures ok { OnOk result (out.new.items
         ≡ out.old.items ++ spelled_scheme slot scheme.now.action (settings_given scheme.now)) }
@@ -81,7 +81,7 @@ fn write_keys(out: &mut Vec<u8>, scheme: &Scheme) -> Result<(), AllocError>
 }
 
 // Appends the keys of a pattern.
-#[tactic(auto, using(line_text::proofs::Appending::appends))]
+#[tactic(auto, using(line_text::proofs::Lemmas::appends))]
 fn write_pattern(out: &mut Vec<u8>, pattern: &Pattern) -> Result<(), AllocError>
     ensures ok { OnOk result (out.new.items
         ≡ out.old.items ++ keys_text (pattern_given pattern.now)) }
@@ -127,7 +127,7 @@ fn write_quota(out: &mut Vec<u8>, quota: Option<Quota>) -> Result<(), AllocError
 }
 
 // Appends the key of a time, if there is one.
-#[tactic(auto, using(line_text::proofs::Appending::appends))]
+#[tactic(auto, using(line_text::proofs::Lemmas::appends))]
 fn write_time(out: &mut Vec<u8>, time: Option<u64>) -> Result<(), AllocError>
     ensures ok { OnOk result (out.new.items ≡ out.old.items ++ keys_text (time_given time)) }
     ensures kept { KeepsFront out.old.items out.new.items }
@@ -139,7 +139,7 @@ fn write_time(out: &mut Vec<u8>, time: Option<u64>) -> Result<(), AllocError>
 }
 
 // Appends the key of a preference other than `hot`.
-#[tactic(auto, using(line_text::proofs::Appending::appends))]
+#[tactic(auto, using(line_text::proofs::Lemmas::appends))]
 fn write_prefer(out: &mut Vec<u8>, prefer: Prefer) -> Result<(), AllocError>
     ensures ok { OnOk result (out.new.items ≡ out.old.items ++ keys_text (prefer_given prefer)) }
     ensures kept { KeepsFront out.old.items out.new.items }
@@ -151,7 +151,7 @@ fn write_prefer(out: &mut Vec<u8>, prefer: Prefer) -> Result<(), AllocError>
 }
 
 // Appends the key of watermarks, if there are some.
-#[tactic(auto, using(line_text::proofs::Appending::appends))]
+#[tactic(auto, using(line_text::proofs::Lemmas::appends))]
 fn write_marks(out: &mut Vec<u8>, marks: Option<Marks>) -> Result<(), AllocError>
     ensures ok { OnOk result (out.new.items ≡ out.old.items ++ keys_text (marks_given marks)) }
     ensures kept { KeepsFront out.old.items out.new.items }
@@ -175,7 +175,7 @@ fn write_filters(out: &mut Vec<u8>, filters: &[Filter]) -> Result<(), AllocError
 }
 
 // Appends a space and a setting, unless its value is the default of its key.
-#[tactic(auto, using(line_text::proofs::Appending::appends))]
+#[tactic(auto, using(line_text::proofs::Lemmas::appends))]
 fn write_unless(out: &mut Vec<u8>, is_default: bool, setting: Setting) -> Result<(), AllocError>
     ensures ok { OnOk result (out.new.items
         ≡ out.old.items ++ keys_text (unless is_default setting)) }
@@ -189,7 +189,7 @@ fn write_unless(out: &mut Vec<u8>, is_default: bool, setting: Setting) -> Result
 }
 
 // Appends `KEY=VALUE`.
-#[tactic(auto, using(line_text::proofs::Appending::appends))]
+#[tactic(auto, using(line_text::proofs::Lemmas::appends))]
 fn write_setting(out: &mut Vec<u8>, setting: Setting) -> Result<(), AllocError>
     ensures ok { OnOk result (out.new.items ≡ out.old.items ++ spelled_setting setting) }
     ensures kept { KeepsFront out.old.items out.new.items }
@@ -220,7 +220,7 @@ fn write_setting(out: &mut Vec<u8>, setting: Setting) -> Result<(), AllocError>
 }
 
 // Appends a key and `LOW,HIGH`.
-#[tactic(auto, using(line_text::proofs::Appending::appends))]
+#[tactic(auto, using(line_text::proofs::Lemmas::appends))]
 fn write_span(out: &mut Vec<u8>, key: &[u8], span: Span) -> Result<(), AllocError>
     ensures ok { OnOk result (out.new.items ≡ out.old.items ++ (key.now ++ spelled_span span)) }
     ensures kept { KeepsFront out.old.items out.new.items }
@@ -230,7 +230,7 @@ fn write_span(out: &mut Vec<u8>, key: &[u8], span: Span) -> Result<(), AllocErro
 }
 
 // Appends a key and three numbers.
-#[tactic(auto, using(line_text::proofs::Appending::appends))]
+#[tactic(auto, using(line_text::proofs::Lemmas::appends))]
 fn write_three(
     out: &mut Vec<u8>,
     key: &[u8],
@@ -248,7 +248,7 @@ fn write_three(
 }
 
 // Appends `filter=ANSWER:[not-]KIND:VALUE`.
-#[tactic(auto, using(line_text::proofs::Appending::appends))]
+#[tactic(auto, using(line_text::proofs::Lemmas::appends))]
 fn write_filter(out: &mut Vec<u8>, filter: Filter) -> Result<(), AllocError>
     ensures ok { OnOk result (out.new.items
         ≡ out.old.items ++ (codes "filter=" ++ spelled_filter filter)) }
@@ -260,7 +260,7 @@ fn write_filter(out: &mut Vec<u8>, filter: Filter) -> Result<(), AllocError>
 }
 
 // Appends `KIND:VALUE`.
-#[tactic(auto, using(line_text::proofs::Appending::appends))]
+#[tactic(auto, using(line_text::proofs::Lemmas::appends))]
 fn write_kind(out: &mut Vec<u8>, kind: FilterKind) -> Result<(), AllocError>
     ensures ok { OnOk result (out.new.items
         ≡ out.old.items ++ (kind_name kind ++ colon ∷ kind_value kind)) }

@@ -4,7 +4,7 @@ use Rattle.std.specs.Prelude.{map, ◌||◌, Option}
 use Rattle.std.specs.Option.{option_map_or}
 use Rattle.scheme_engine.specs.declared.applied.SlotChoice.{SlotChoice}
 use Rattle.scheme_engine.specs.declared.slot.SlotView.{SlotView}
-use Rattle.scheme_engine.specs.Slots.{SlotValue, view_of}
+use Rattle.scheme_engine.specs.Slots.{SlotValue, slot_view}
 use Rattle.serde_json.specs.Data.{Data}
 use Rattle.serde_json.specs.Written.{has_float, items_have_float}
 use Rattle.serde_json.specs.View.{items_of}
@@ -28,7 +28,7 @@ in_slot slot (Some v) rest others = others
 
 pub in_slots : (slot : ℕ) (ss : List SlotValue) → items_have_float (items_of (set_slots_json slot ss)) ≡ false
 in_slots slot [] = refl
-in_slots slot (s ∷ ss) = in_slot slot (view_of s) (set_slots_json (slot + 1) ss) (in_slots (slot + 1) ss)
+in_slots slot (s ∷ ss) = in_slot slot (slot_view s) (set_slots_json (slot + 1) ss) (in_slots (slot + 1) ss)
 
 pub in_choice : (c : SlotChoice) → has_float (choice_json c) ≡ false
 in_choice c = neither _ _ (in_option c.left) (neither _ _ (in_option c.lowest) refl)

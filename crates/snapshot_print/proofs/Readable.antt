@@ -21,7 +21,7 @@ use Rattle.damon_types.specs.declared.space.Target.{Target}
 use Rattle.scheme_engine.specs.declared.applied.AppliedRun.{AppliedRun}
 use Rattle.scheme_engine.specs.declared.applied.SlotChoice.{SlotChoice}
 use Rattle.scheme_engine.specs.declared.slot.SlotView.{SlotView}
-use Rattle.scheme_engine.specs.Slots.{SlotValue, view_of}
+use Rattle.scheme_engine.specs.Slots.{SlotValue, slot_view}
 use Rattle.damon_core.specs.State.{row_count}
 use Rattle.snapshot_print.specs.Json.{action_or_null, aggregate_json, answer_json, applied_json, choice_json, count_or_null, end_json, row_json, set_slots_json, show_json, slot_json}
 use Rattle.snapshot_print.specs.Printed.{Printed}
@@ -152,7 +152,7 @@ with_slot slot (Some v) rest w others = one_more (slot_json slot v) (items_of re
 
 slots_are_read : (slot : ℕ) (ss : List SlotValue) → ItemsHaveWords (items_of (set_slots_json slot ss)) → AreItemsRead (items_of (set_slots_json slot ss))
 slots_are_read slot [] w = refl
-slots_are_read slot (s ∷ ss) w = with_slot slot (view_of s) (set_slots_json (slot + 1) ss) w (slots_are_read (slot + 1) ss)
+slots_are_read slot (s ∷ ss) w = with_slot slot (slot_view s) (set_slots_json (slot + 1) ss) w (slots_are_read (slot + 1) ss)
 
 slot_depth : (slot : ℕ) (v : Option SlotView) (rest : List Data) → items_depth (items_of rest) ≤ 1 → items_depth (items_of (shown slot v ++ rest)) ≤ 1
 slot_depth slot None rest others = others
@@ -160,7 +160,7 @@ slot_depth slot (Some v) rest others = omega (arith, others)
 
 slots_depth : (slot : ℕ) (ss : List SlotValue) → items_depth (items_of (set_slots_json slot ss)) ≤ 1
 slots_depth slot [] = omega arith
-slots_depth slot (s ∷ ss) = slot_depth slot (view_of s) (set_slots_json (slot + 1) ss) (slots_depth (slot + 1) ss)
+slots_depth slot (s ∷ ss) = slot_depth slot (slot_view s) (set_slots_json (slot + 1) ss) (slots_depth (slot + 1) ss)
 
 action_depth : (a : Option Action) → depth (action_or_null a) ≡ 0
 action_depth None = refl

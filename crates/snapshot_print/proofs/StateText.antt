@@ -16,7 +16,7 @@ use Rattle.scheme_engine.specs.declared.applied.AppliedRun.{AppliedRun}
 use Rattle.scheme_engine.specs.declared.applied.SlotChoice.{SlotChoice}
 use Rattle.scheme_engine.specs.Outcome.{chosen_of, outcome_of}
 use Rattle.scheme_engine.specs.Served.{choice_of, no_choice}
-use Rattle.scheme_engine.specs.Slots.{empty_slot, view_of}
+use Rattle.scheme_engine.specs.Slots.{empty_slot, slot_view}
 use Rattle.scheme_filter.specs.Passes.{passes}
 use Rattle.damon_core.specs.Aggregate.{aggregated, merged_regions, served}
 use Rattle.damon_core.specs.Note.{Note}
@@ -96,7 +96,7 @@ choice_is : (space : List Target) (notes : List Note) (runs : List AppliedRun) (
     → choice_lines_of space notes runs c ≡ choice_lines space (slots_of notes) (filter (λ r. r.slot == c.slot) runs) c
 choice_is space notes runs c below =
     by (scheme_of notes c.slot)
-    ∙ ap (λ s. option_map_or (λ action. flat_map (apply_line space c.slot action) own ++ slot_line c) (option_map (λ v. v.action) (view_of s)) []) (sym (slot_at notes c.slot below))
+    ∙ ap (λ s. option_map_or (λ action. flat_map (apply_line space c.slot action) own ++ slot_line c) (option_map (λ v. v.action) (slot_view s)) []) (sym (slot_at notes c.slot below))
   where
     own : List AppliedRun
     own = filter (λ r. r.slot == c.slot) runs
@@ -104,7 +104,7 @@ choice_is space notes runs c below =
     by : (held : Option Scheme)
         → option_map_or (λ (scheme : Scheme). flat_map (run_text space c.slot scheme.action) own ++ choice_text c) held []
         ≡ option_map_or (λ action. flat_map (apply_line space c.slot action) own ++ slot_line c)
-        (option_map (λ v. v.action) (view_of (record (slot_of notes c.slot) { set = option_map (λ scheme. set_scheme_of notes c.slot scheme) held }))) []
+        (option_map (λ v. v.action) (slot_view (record (slot_of notes c.slot) { set = option_map (λ scheme. set_scheme_of notes c.slot scheme) held }))) []
     by None = refl
     by (Some scheme) = ap (λ t. t ++ slot_line c) (flat_map-same (run_text space c.slot scheme.action) (apply_line space c.slot scheme.action) (run_is space c.slot scheme.action) own)
 

@@ -12,7 +12,7 @@ use Rattle.damon_types.specs.declared.space.Target.{Target}
 use Rattle.scheme_engine.specs.declared.applied.AppliedRun.{AppliedRun}
 use Rattle.scheme_engine.specs.declared.applied.SlotChoice.{SlotChoice}
 use Rattle.scheme_engine.specs.declared.slot.SlotView.{SlotView}
-use Rattle.scheme_engine.specs.Slots.{SlotValue, view_of}
+use Rattle.scheme_engine.specs.Slots.{SlotValue, slot_view}
 use Rattle.damon_core.specs.State.{row_count}
 use Rattle.snapshot_print.specs.Commit.{answer_text}
 use Rattle.snapshot_print.specs.Fields.{page_address, phase_name}
@@ -84,7 +84,7 @@ slot_json slot v = object_with (
 
 -- a slot in a show, where it is set
 abbrev pub set_slot_json : ℕ → SlotValue → List Data
-set_slot_json slot s = option_map_or (λ v. slot_json slot v ∷ []) (view_of s) []
+set_slot_json slot s = option_map_or (λ v. slot_json slot v ∷ []) (slot_view s) []
 
 -- the set slots among these, in slot order; the first of these slots has this number
 abbrev pub set_slots_json : ℕ → List SlotValue → List Data

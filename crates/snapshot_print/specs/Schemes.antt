@@ -9,7 +9,7 @@ use Rattle.damon_types.specs.declared.space.Target.{Target}
 use Rattle.scheme_engine.specs.declared.applied.AppliedRun.{AppliedRun}
 use Rattle.scheme_engine.specs.declared.applied.SlotChoice.{SlotChoice}
 use Rattle.scheme_engine.specs.declared.slot.SlotView.{SlotView}
-use Rattle.scheme_engine.specs.Slots.{SlotValue, empty_slot, view_of}
+use Rattle.scheme_engine.specs.Slots.{SlotValue, empty_slot, slot_view}
 use Rattle.snapshot_print.specs.Fields.{◌then◌, number_or_none, pages_part, yes_or_no}
 
 -- the number of a set slot, the action of its scheme, and whether it is active
@@ -31,7 +31,7 @@ scheme_line slot v = scheme_part slot v ++ statistics_part v
 
 -- the line of a slot in a show, where it is set
 abbrev pub shown_slot : ℕ → SlotValue → List ℕ
-shown_slot slot s = option_map_or (scheme_line slot) (view_of s) []
+shown_slot slot s = option_map_or (scheme_line slot) (slot_view s) []
 
 -- the lines of the set slots among these, in slot order; the first of these slots has this number
 abbrev pub shown_slots : ℕ → List SlotValue → List ℕ
@@ -67,7 +67,7 @@ slot_line c = codes "slot " then decimal c.slot then choice_part c then codes "\
 
 -- the action of the scheme in the slot with this number, if it is set
 abbrev pub action_in : List SlotValue → ℕ → Option Action
-action_in slots slot = option_map (λ v. v.action) (view_of (slice_index_or slots slot empty_slot))
+action_in slots slot = option_map (λ v. v.action) (slot_view (slice_index_or slots slot empty_slot))
 
 -- the lines of a choice with these runs, if its slot is set: the `apply` line of each run, and then its `slot` line
 abbrev pub choice_lines : List Target → List SlotValue → List AppliedRun → SlotChoice → List ℕ

@@ -6,7 +6,7 @@ ghost use Rattle.serde_json.specs.Data.{Data};
 ghost use Rattle.serde_json.specs.Events.{SendsItems, SendsValue};
 ghost use Rattle.serde_json.specs.View.{items_of};
 ghost use Rattle.serde_json.specs.Written.{compact_text};
-ghost use Rattle.scheme_engine.specs.Slots.{empty_slot, view_of};
+ghost use Rattle.scheme_engine.specs.Slots.{empty_slot, slot_view};
 ghost use Rattle.snapshot_print.specs.Json.{list_of, set_slot_json, set_slots_json, slot_json};
 ghost use Rattle.snapshot_print.specs.Kept.{KeepsFront};
 

@@ -1,7 +1,9 @@
 -- Lists of specs with their first faults, and the ranges that are made, worked out by hand.
-use Rattle.std.proofs.Common.{◌≡◌, ℕ, List, [], ◌∷◌, Ok, Err, refl}
+use Rattle.std.proofs.Common.{◌≡◌, ℕ, List, [], ◌∷◌, ◌++◌, Result, Ok, Err, refl}
 use Rattle.damon_types.specs.declared.space.Target.{Target}
 use Rattle.damon_types.specs.declared.range.RangeSpec.{RangeSpec}
+use Rattle.target_ranges.specs.declared.fault.RangeFault.{RangeFault}
+use Rattle.target_ranges.specs.declared.fault.RangeWhy.{RangeWhy}
 use Rattle.target_ranges.specs.declared.fault.RangeWhy.TheVariants.{TooMany, NoSuchTarget, Unaligned, Reversed, OutsideSpan, TooSmall, BadClass, Overlap}
 use Rattle.target_ranges.specs.Checked.{checked_ranges}
 use Rattle.target_ranges.specs.Made.{ranges_of}
@@ -48,3 +50,33 @@ one_too_many_is_refused = refl
 
 pages_are_counted_through : ranges_of targets (spec 0 69632 77824 ∷ spec 1 8192 20480 ∷ []) ≡ record { target = 0; first = 1; pages = 2; class = 7 } ∷ record { target = 1; first = 4; pages = 3; class = 7 } ∷ []
 pages_are_counted_through = refl
+
+-- one target of 3 pages, with ranges of at least two pages
+abbrev one_target : List Target
+one_target = record { base = 65536; pages = 3 } ∷ []
+
+-- the range from one address to another, and its first fault as the only range
+abbrev alone : ℕ → ℕ → ℕ → List RangeSpec
+alone target from to = record { target = target; from = from; to = to; class = 0 } ∷ []
+
+abbrev first_is : RangeWhy → Result (Unit {0}) RangeFault
+first_is why = Err (record { index = 0; why = why })
+
+start_is_a_byte_off : checked_ranges one_target 2 8 (alone 0 0x10001 0x12000) ≡ first_is Unaligned
+start_is_a_byte_off = refl
+
+ends_where_it_starts : checked_ranges one_target 2 8 (alone 0 0x12000 0x12000) ≡ first_is Reversed
+ends_where_it_starts = refl
+
+page_after_the_target : checked_ranges one_target 2 8 (alone 0 0x10000 0x14000) ≡ first_is OutsideSpan
+page_after_the_target = refl
+
+page_in_place_of_two : checked_ranges one_target 2 8 (alone 0 0x10000 0x11000) ≡ first_is TooSmall
+page_in_place_of_two = refl
+
+target_after_the_last : checked_ranges one_target 2 8 (alone 1 0x10000 0x12000) ≡ first_is NoSuchTarget
+target_after_the_last = refl
+
+second_shares_a_page :
+    checked_ranges one_target 2 8 (alone 0 0x10000 0x12000 ++ alone 0 0x11000 0x13000) ≡ Err (record { index = 1; why = Overlap })
+second_shares_a_page = refl

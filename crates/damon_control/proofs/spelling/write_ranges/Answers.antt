@@ -4,7 +4,7 @@ use Rattle.damon_types.specs.declared.range.RangeSpec.{RangeSpec}
 use Rattle.script_lines.specs.Spelling.{spelled_range}
 use Rattle.script_lines.specs.Lines.{lines_text}
 use Rattle.damon_control.specs.Written.{spec_of}
-use Rattle.line_text.proofs.Appending.{keeps_through}
+use Rattle.line_text.proofs.Lemmas.{keeps_through}
 use Rattle.damon_control.proofs.WrittenLemmas.{line_written}
 use Rattle.damon_control.proofs.spelling.write_ranges.Goals as goal
 

@@ -1,7 +1,7 @@
 use Rattle.std.proofs.Common.{◌∙◌, ◌+◌, ◌++◌, ap, drop, map}
 use Rattle.script_lines.specs.Spelling.{spelled_target}
 use Rattle.script_lines.specs.Lines.{lines_text}
-use Rattle.line_text.proofs.Appending.{keeps_through}
+use Rattle.line_text.proofs.Lemmas.{keeps_through}
 use Rattle.damon_control.proofs.WrittenLemmas.{line_written}
 use Rattle.damon_control.proofs.spelling.write_targets.Goals as goal
 

@@ -1,7 +1,7 @@
 use Rattle.std.proofs.Common.{ℕ, ◌<◌, ◌++◌, ◌∷◌, [], refl, sym, ap, ◌∙◌, arith}
 use Rattle.damon_journal.specs.Lawful.{touches_of}
 use Rattle.damon_live.specs.Whole.{pages_touched}
-use Rattle.damon_live.proofs.Stepping.{take_next}
+use Rattle.page_words.proofs.Lemmas.{take_next}
 use Rattle.damon_live.proofs.Working.{all_found, found_below}
 use Rattle.damon_live.proofs.work.touch_all.Goals as goal
 

@@ -2,7 +2,7 @@ use Rattle.std.proofs.Common.{length, arith}
 use Rattle.std.proofs.lemmas.Bool.Decides.{nat_tests}
 use Rattle.heat_report.specs.Text.{heat_line, heat_lines}
 use Rattle.heat_report.proofs.Texts.{lines_step}
-use Rattle.line_text.proofs.Appending.{keeps_through}
+use Rattle.line_text.proofs.Lemmas.{keeps_through}
 use Rattle.heat_report.proofs.text.append_heat_lines.Goals as goal
 
 pub loop-target-preserved : goal.loop-target-preserved

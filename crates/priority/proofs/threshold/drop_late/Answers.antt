@@ -3,7 +3,7 @@ use Rattle.std.specs.Prelude.{nat_lt, not}
 use Rattle.std.proofs.lemmas.Fn.{filter_same}
 use Rattle.priority.specs.declared.candidates.Candidate.{Candidate}
 use Rattle.priority.specs.Candidates.{AreCandidates}
-use Rattle.priority.specs.Chosen.{exceeds_of}
+use Rattle.priority.specs.Chosen.{leaves_pages}
 use Rattle.priority.specs.Kept.{SameChoice, passing_from, passing_of_all, up_to}
 use Rattle.priority.specs.Order.{is_before}
 use Rattle.priority.specs.Share.{with_shares}
@@ -22,7 +22,7 @@ returns-then-left-eq0-clause-exceeds c =
     let cs = c.args.items.now.items in
     ap not c.is_empty-exceeds.ensures
     ∙ exceeds_some cs _ c.requires.sound.distinct c.requires.sound.each (search rules)
-    ∙ ap (λ n. exceeds_of (with_shares (Some n) cs)) (sym c.if-left-eq0.true)
+    ∙ ap (λ n. leaves_pages (with_shares (Some n) cs)) (sym c.if-left-eq0.true)
 
 pub returns-then-left-eq0-clause-sound : goal.returns-then-left-eq0-clause-sound
 returns-then-left-eq0-clause-sound c = subst (λ cs. AreCandidates cs) (sym c.clear.ensures.items) sound_none
@@ -39,7 +39,7 @@ returns-clause-same c =
     subst (λ ds. SameChoice (Some c.args.left) cs ds) (sym (filtered c))
     (drop_same c.args.left c.in-Some.last cs c.requires.sound.distinct (enough cs c.deref-2.result.now c.args.left c.in-Some.last c.deref-2.ensures.value c.in-Some.ensures))
 
-exceeds : (cs items : List Candidate) (n from : ℕ) → AreCandidates cs → items ≡ cs → from ≡ passing_from items 0 → nat_lt n from ≡ exceeds_of (with_shares (Some n) cs)
+exceeds : (cs items : List Candidate) (n from : ℕ) → AreCandidates cs → items ≡ cs → from ≡ passing_from items 0 → nat_lt n from ≡ leaves_pages (with_shares (Some n) cs)
 exceeds cs items n from sound same is = ap (λ m. nat_lt n m) (is ∙ ap (λ xs. passing_from xs 0) same ∙ passing_all cs) ∙ exceeds_is n cs sound.distinct
 
 pub returns-clause-exceeds : goal.returns-clause-exceeds

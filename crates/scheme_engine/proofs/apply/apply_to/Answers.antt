@@ -9,7 +9,7 @@ use Rattle.region_list.specs.Tiles.{LiesIn}
 use Rattle.scheme_filter.specs.Passes.{passes}
 use Rattle.scheme_engine.specs.declared.applied.AppliedRun.{AppliedRun}
 use Rattle.scheme_engine.specs.Applied.{AppliedList}
-use Rattle.scheme_engine.specs.Outcome.{cut_place}
+use Rattle.scheme_engine.specs.Outcome.{taken_until}
 use Rattle.scheme_engine.specs.Taken.{applied_run, taken_runs}
 use Rattle.scheme_engine.proofs.ApplyLemmas.{found, is_found, no_part_0, no_share, none_new, not_whole, part_is, spans_stay}
 use Rattle.scheme_engine.proofs.PlaceLemmas.{row_held, rows_ascend}
@@ -77,7 +77,7 @@ returns c =
     let ascend = rows_ascend old.unit old.ranges (spans old.rows) c.len-count.ensures.unit c.len-count.ensures.order c.len-count.ensures.tiling in
     let is = found (test old.ranges) old.rows cand c.in_ok-index.index row ascend c.requires.row (sym c.find_near.ensures ∙ c.in_ok-index.was) c.row-row.ensures.row in
     let with : (ℕ → Bool) → Span → AppliedList = λ p s. record before { runs = before.runs ++ map (applied_run c.args.context.now.number cand) (taken_runs p cand.share s) } in
-    let pages = c.take_row-pages.ensures.pages ∙ ap (λ gs. cut_place (test gs) cand.share (span_of row)) c.ranges-2.ensures.list in
+    let pages = c.take_row-pages.ensures.pages ∙ ap (λ gs. taken_until (test gs) cand.share (span_of row)) c.ranges-2.ensures.list in
     record {
       runs = c.take_row-pages.ensures.runs ∙ ap (λ gs. with (test gs) (span_of row)) c.ranges-2.ensures.list ∙ ap (with (test old.ranges)) (sym is.span);
       few = c.take_row-pages.ensures.few;

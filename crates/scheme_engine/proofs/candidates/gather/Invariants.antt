@@ -2,7 +2,7 @@ use Rattle.std.proofs.Common.{◌≡◌, ◌+◌, ◌≤◌, ◌-◌, length, ta
 use Rattle.scheme_filter.specs.Passes.{passes}
 use Rattle.scheme_filter.specs.RangeRuns.{AreRunsOf}
 use Rattle.scheme_match.specs.Match.{is_match}
-use Rattle.scheme_engine.specs.Candidates.{candidates_of, tried_of}
+use Rattle.scheme_engine.specs.Candidates.{candidates_of, matching_rows}
 use Rattle.scheme_engine.proofs.GatherLemmas.{seen}
 use Rattle.scheme_engine.proofs.candidates.gather.Given as goal
 
@@ -12,7 +12,7 @@ invariant-parts l = record {
   long : length l.found ≡ 64;
   list : l.candidates.list ≡ candidates_of l.context.space.now l.regions.ranges l.context.aggr l.scheme (take l.from l.regions.rows);
   cap : l.candidates.cap ≡ l.fn.candidates.cap;
-  tried : l.tried ≡ tried_of l.scheme (take l.from l.regions.rows);
+  tried : l.tried ≡ matching_rows l.scheme (take l.from l.regions.rows);
   near : AreRunsOf (passes l.scheme.filters l.context.space.now l.ranges.list) l.near;
   few : l.tried ≤ l.from;
 }

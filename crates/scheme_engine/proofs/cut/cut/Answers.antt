@@ -4,7 +4,7 @@ use Rattle.std.proofs.lemmas.Option.{get_or_from_slice_get}
 use Rattle.damon_types.specs.declared.row.Row.{Row}
 use Rattle.region_list.specs.Rows.{cut_after, no_row, row_at, with_values}
 use Rattle.region_list.specs.Regions.{RegionList}
-use Rattle.scheme_engine.specs.Outcome.{may_cut}
+use Rattle.scheme_engine.specs.Outcome.{may_cut_row}
 use Rattle.scheme_engine.proofs.CutLemmas.{cut_and_renewed, length-cut_after}
 use Rattle.scheme_engine.proofs.cut.cut.Goals as goal
 use Rattle.scheme_engine.proofs.cut.cut.Goals.{else-room-gt0-via-then-room-gt0+then-part-unit+else-row-part, else-room-gt0-via-then-room-gt0+else-part-unit, else-room-gt0-via-else-room-gt0}
@@ -35,7 +35,7 @@ returns-then-row-part c =
     let r = c.args.regions.now in
     let is : row_at r.rows p.index ≡ c.row-row.result = get_or_from_slice_get r.rows p.index c.row-row.result no_row c.row-row.ensures.row in
     let pages = ap (λ (x : Row). x.pages) is in
-    let may : may_cut r p.pages (row_at r.rows p.index) ≡ true = grind (arith, nat_tests, c.if-room-gt0.true, c.room.ensures, c.if-part-unit.true, c.if-row-part.true, c.unit-unit.ensures, pages) in
+    let may : may_cut_row r p.pages (row_at r.rows p.index) ≡ true = grind (arith, nat_tests, c.if-room-gt0.true, c.room.ensures, c.if-part-unit.true, c.if-row-part.true, c.unit-unit.ensures, pages) in
     c.set_values.ensures
     ∙ ap (λ n. renewed n p.index c.row-row.result) c.cut.ensures
     ∙ ap (renewed (record r { rows = cut_after r.rows p.index p.pages }) p.index) (sym is)
@@ -48,7 +48,7 @@ returns-else-room-gt0 c =
     let r = c.args.regions.now in
     let is : row_at r.rows p.index ≡ c.row-row.result = get_or_from_slice_get r.rows p.index c.row-row.result no_row c.row-row.ensures.row in
     let pages = ap (λ (x : Row). x.pages) is in
-    let may : may_cut r p.pages (row_at r.rows p.index) ≡ false =
+    let may : may_cut_row r p.pages (row_at r.rows p.index) ≡ false =
     elim c.else-room-gt0.branch [
       | else-room-gt0-via-then-room-gt0+then-part-unit+else-row-part w ↦ grind (arith, nat_tests, w.if-row-part.false, c.unit-unit.ensures, pages)
       | else-room-gt0-via-then-room-gt0+else-part-unit w ↦ grind (arith, nat_tests, w.if-part-unit.false, c.unit-unit.ensures)

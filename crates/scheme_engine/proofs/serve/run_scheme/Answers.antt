@@ -5,7 +5,7 @@ use Rattle.damon_types.specs.declared.row.Row.{Row}
 use Rattle.region_list.specs.Regions.{RegionList}
 use Rattle.scheme_filter.specs.Passes.{passes}
 use Rattle.priority.specs.Candidates.{CandidateList}
-use Rattle.priority.specs.Chosen.{exceeds_of, lowest_of, taken_of}
+use Rattle.priority.specs.Chosen.{leaves_pages, lowest_of, taken_of}
 use Rattle.priority.specs.Share.{with_shares}
 use Rattle.priority.proofs.Lemmas.{exceeds_permuted, lowest_permuted, taken_permuted, taken_within}
 use Rattle.scheme_engine.specs.declared.applied.AppliedRun.{AppliedRun}
@@ -78,7 +78,7 @@ returns c =
       tried = c.gather-tried.ensures.tried;
       taken = taken ∙ taken_permuted _ _ are.same;
       lowest = told.lowest ∙ ap (λ ds. lowest_of (with_shares left ds)) gathered ∙ lowest_permuted _ _ are.same;
-      exceeds = told.exceeds ∙ ap (λ ds. exceeds_of (with_shares left ds)) gathered ∙ exceeds_permuted _ _ are.same;
+      exceeds = told.exceeds ∙ ap (λ ds. leaves_pages (with_shares left ds)) gathered ∙ exceeds_permuted _ _ are.same;
       within = subst (λ n. IfSome left (λ most. n ≤ most)) (sym taken) (taken_within left cs are.distinct);
       cap = search rules;
     }

@@ -14,7 +14,7 @@ use Rattle.damon_journal.specs.EntryLine.{n_bits_of}
 use Rattle.damon_journal.specs.Folding.{open_hits}
 use Rattle.damon_journal.specs.Kept.{GainsEntry}
 use Rattle.damon_journal.specs.Spelled.{check_front}
-use Rattle.damon_journal.specs.Steps.{load_steps}
+use Rattle.page_words.specs.PassSteps.{load_steps}
 use Rattle.damon_journal.proofs.EntriesSay.{n_bits_are}
 use Rattle.damon_journal.proofs.EntriesTaken.{SameRest, check_goes, check_stands, checked, said_check}
 use Rattle.damon_journal.proofs.OpenHits.{few_true, open_few}

@@ -11,7 +11,7 @@ use Rattle.damon_core.specs.Stands.{Stands}
 use Rattle.damon_journal.specs.Phases.{passes_open}
 use Rattle.damon_journal.specs.Replay.{JournalValue, replay}
 use Rattle.damon_journal.specs.Room.{JournalView}
-use Rattle.damon_journal.specs.Steps.{clear_steps}
+use Rattle.page_words.specs.PassSteps.{clear_steps}
 use Rattle.sampler.specs.Seeds.{words_from}
 use Rattle.damon_live.proofs.Preparing.{IsPrepared, armed_core, prepared_room, prepared_run}
 use Rattle.damon_live.specs.Machine.{IsRun, passes_made}
@@ -34,14 +34,14 @@ invariant_of-self g c =
     let number : pass ≡ m.core.ticks + 1 = ap (λ t. t + 1) c.ticks-pass.ensures in
     let sum : more ≡ s.drawn + row_count m.core = ap (λ k. s.drawn + k) (c.from.ensures ∙ count) in
     let clear : now.core ≡ cleared_core (row_count m.core) mid.core = c.cleared_next.ensures.core ∙ ap (λ k. cleared_core k mid.core) count in
-    let prepared : IsPrepared m now s.seat c.clear_all.new.seat s.words c.prepare_from.new.source pass = record {
+    let prepared : IsPrepared m now s.seat c.clear_each.new.seat s.words c.prepare_from.new.source pass = record {
       mid = mid;
       begin = c.prepare_from.ensures.event;
       begin_core = c.prepare_from.ensures.core;
       clear_all = subst (λ k. Makes Stands mid now (clears k)) count c.cleared_next.ensures.events;
       clear_core = clear;
-      seat_is = c.clear_all.ensures.seat ∙ ap (λ ps. record s.seat { entries = s.seat.entries ++ clear_steps pass ps }) c.picks.ensures.pages;
-      last = c.clear_all.ensures.last;
+      seat_is = c.clear_each.ensures.seat ∙ ap (λ ps. record s.seat { entries = s.seat.entries ++ clear_steps pass ps }) (c.pages.ensures ∙ c.picks.ensures.pages);
+      last = c.clear_each.ensures.last;
       rest = c.prepare_from.ensures.rest;
     } in
     let kept : c.prepare.new.self.checked ≡ s.journal.checked = ap (λ (j : JournalView). j.checked) c.prepare.ensures in
@@ -49,8 +49,8 @@ invariant_of-self g c =
       said = i.said;
       limits = i.limits;
       pages = i.pages;
-      out = ap (λ (x : MonitorSeatView). x.out) c.clear_all.ensures.seat ∙ i.out;
-      run = subst (λ ks. IsRun v table now c.clear_all.new.seat c.prepare.new.self.value ks c.prepare_from.new.source more) (sym kept) (prepared_run v table m now s.seat c.clear_all.new.seat s.journal.value c.prepare.new.self.value s.journal.checked s.words c.prepare_from.new.source s.drawn pass more c.journals_grow.ensures.other i.run prepared idle number sum (ap (λ (j : JournalView). j.value) c.prepare.ensures));
+      out = ap (λ (x : MonitorSeatView). x.out) c.clear_each.ensures.seat ∙ i.out;
+      run = subst (λ ks. IsRun v table now c.clear_each.new.seat c.prepare.new.self.value ks c.prepare_from.new.source more) (sym kept) (prepared_run v table m now s.seat c.clear_each.new.seat s.journal.value c.prepare.new.self.value s.journal.checked s.words c.prepare_from.new.source s.drawn pass more c.journals_grow.ensures.other i.run prepared idle number sum (ap (λ (j : JournalView). j.value) c.prepare.ensures));
       room = prepared_room v m now mid s.journal c.prepare.new.self (drawn (row_count m.core) (words_from s.words)) s.passes s.drawn _ _ more pass i.room idle left c.prepare_from.ensures.core clear (omega (arith, count, c.len-rows.ensures.few, c.len-rows.ensures.most, c.len-rows.ensures.small)) sum c.prepare.ensures;
     }
 

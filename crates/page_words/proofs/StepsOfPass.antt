@@ -1,28 +1,22 @@
 -- One clear more, and one load more.
 use Rattle.std.proofs.Common.{◌≡◌, ℕ, zero, suc, ◌+◌, ◌*◌, ◌%◌, ◌<◌, cond, Bool, true, false, List, [], ◌∷◌, ◌++◌, Some, length, set, take, refl, sym, ap, ◌∙◌, subst, append_assoc, arith}
-use Rattle.std.specs.Prelude.{◌==◌, if◌then◌else◌, slice_get, slice_index}
+use Rattle.std.specs.Prelude.{◌==◌, if◌then◌else◌, slice_get}
 use Rattle.std.specs.List.{AllByRecursion, flat_map}
 use Rattle.std.proofs.lemmas.Bool.Decides.{nat_tests}
 use Rattle.std.proofs.lemmas.List.{append-nil, length-take, take_more_set}
 use mathlib.Core.List.{map-append}
-use Rattle.page_words.specs.declared.view.Entry.{Entry as Step}
+use Rattle.page_words.specs.declared.view.Entry.{Entry}
 use Rattle.page_words.specs.declared.view.Entry.TheVariants.{Clear, Load}
 use Rattle.page_words.specs.Clears.{clear_of, clear_passes_of, last_clear_of, last_of, pass_of}
 use Rattle.page_words.specs.Seats.{MonitorSeatView}
-use Rattle.damon_journal.specs.Steps.{clear_steps, load_steps}
-use Rattle.damon_types.proofs.Lemmas.{all_at}
+use Rattle.page_words.specs.PassSteps.{clear_steps, load_steps}
 
 -- ---- lists
 
-get_below : (xs : List ℕ) (k x : ℕ) → slice_get xs k ≡ Some x → k < length xs
-get_below [] k x here = absurd (cc here)
-get_below (y ∷ ys) zero x here = omega arith
-get_below (y ∷ ys) (suc k) x here = omega (arith, get_below ys k x here)
-
-pub index_here : (xs : List ℕ) (k x : ℕ) → slice_get xs k ≡ Some x → slice_index xs k ≡ x
-index_here [] k x here = absurd (cc here)
-index_here (y ∷ ys) zero x here = cc here
-index_here (y ∷ ys) (suc k) x here = index_here ys k x here
+all_at : (P : ℕ → Type 0) (xs : List ℕ) (k x : ℕ) → AllByRecursion P xs → slice_get xs k ≡ Some x → P x
+all_at P [] k x all here = absurd (cc here)
+all_at P (y ∷ ys) zero x all here = let e : y ≡ x = cc here in subst P e all.0
+all_at P (y ∷ ys) (suc k) x all here = all_at P ys k x all.1 here
 
 -- one item more
 pub take_next : {A : Type 0} (xs : List A) (k : ℕ) (x : A) → slice_get xs k ≡ Some x → take (k + 1) xs ≡ take k xs ++ x ∷ []
@@ -32,7 +26,7 @@ take_next (y ∷ ys) (suc k) x here = let more : suc k + 1 ≡ suc (k + 1) = ome
 
 -- ---- clears
 
-pub clear_steps-next : (pass : ℕ) (picks : List ℕ) (k page : ℕ) → slice_get picks k ≡ Some page → clear_steps pass (take (k + 1) picks) ≡ clear_steps pass (take k picks) ++ Clear page pass ∷ []
+clear_steps-next : (pass : ℕ) (picks : List ℕ) (k page : ℕ) → slice_get picks k ≡ Some page → clear_steps pass (take (k + 1) picks) ≡ clear_steps pass (take k picks) ++ Clear page pass ∷ []
 clear_steps-next pass picks k page here = ap (clear_steps pass) (take_next picks k page here) ∙ map-append (λ p. Clear p pass) (take k picks) (page ∷ [])
 
 pub cleared_more : (old mid new : MonitorSeatView) (pass : ℕ) (picks : List ℕ) (k page : ℕ) → mid ≡ record old { entries = old.entries ++ clear_steps pass (take k picks) } → new ≡ record mid { entries = mid.entries ++ Clear page pass ∷ [] } → slice_get picks k ≡ Some page
@@ -55,13 +49,9 @@ loads_clear_nothing page n (p ∷ ps) [] = refl
 loads_clear_nothing page n (p ∷ ps) (b ∷ bs) = loads_clear_nothing page n ps bs
 
 -- loads leave the last clear of a page
-pub last_clear-loads : (page n : ℕ) (es : List Step) (ps : List ℕ) (bs : List Bool) → last_clear_of page (es ++ load_steps n ps bs) ≡ last_clear_of page es
+last_clear-loads : (page n : ℕ) (es : List Entry) (ps : List ℕ) (bs : List Bool) → last_clear_of page (es ++ load_steps n ps bs) ≡ last_clear_of page es
 last_clear-loads page n es ps bs =
     ap last_of (flat_append (clear_of page) es (load_steps n ps bs) ∙ (ap (λ l. clear_passes_of page es ++ l) (loads_clear_nothing page n ps bs) ∙ append-nil (clear_passes_of page es)))
-
-pub still_cleared : (n pass : ℕ) (es : List Step) (ps : List ℕ) (bs : List Bool) (qs : List ℕ) → AllByRecursion (λ p. last_clear_of p es ≡ pass) qs → AllByRecursion (λ p. last_clear_of p (es ++ load_steps n ps bs) ≡ pass) qs
-still_cleared n pass es ps bs [] all = tt
-still_cleared n pass es ps bs (q ∷ qs) all = (last_clear-loads q n es ps bs ∙ all.0, still_cleared n pass es ps bs qs all.1)
 
 clears_alike : (page n : ℕ) (ps : List ℕ) → AllByRecursion (λ m. m ≡ n) (clear_passes_of page (clear_steps n ps))
 clears_alike page n [] = tt
@@ -76,14 +66,14 @@ last_behind n [] ms all = last_alike n n ms refl all
 last_behind n (x ∷ []) ms all = last_alike n n ms refl all
 last_behind n (x ∷ y ∷ xs) ms all = last_behind n (y ∷ xs) ms all
 
-cleared_first : (n p : ℕ) (es : List Step) (ps : List ℕ) → last_clear_of p (es ++ clear_steps n (p ∷ ps)) ≡ n
+cleared_first : (n p : ℕ) (es : List Entry) (ps : List ℕ) → last_clear_of p (es ++ clear_steps n (p ∷ ps)) ≡ n
 cleared_first n p es ps =
     let here : (p == p) ≡ true = grind (arith, nat_tests) in
     ap last_of (flat_append (clear_of p) es (clear_steps n (p ∷ ps)) ∙ ap (λ b. clear_passes_of p es ++ ((if b then n ∷ [] else []) ++ clear_passes_of p (clear_steps n ps))) here)
     ∙ last_behind n (clear_passes_of p es) (clear_passes_of p (clear_steps n ps)) (clears_alike p n ps)
 
 -- the pages of a pass were last cleared in it
-pub all_cleared : (n : ℕ) (es : List Step) (ps : List ℕ) → AllByRecursion (λ p. last_clear_of p (es ++ clear_steps n ps) ≡ n) ps
+pub all_cleared : (n : ℕ) (es : List Entry) (ps : List ℕ) → AllByRecursion (λ p. last_clear_of p (es ++ clear_steps n ps) ≡ n) ps
 all_cleared n es [] = tt
 all_cleared n es (p ∷ ps) =
     (cleared_first n p es ps, subst (λ l. AllByRecursion (λ q. last_clear_of q l ≡ n) ps) (append_assoc es (Clear p n ∷ []) (clear_steps n ps)) (all_cleared n (es ++ Clear p n ∷ []) ps))
@@ -112,7 +102,7 @@ one_more_loaded old mid new picks hits k page word below each here names is so_f
     let ps = take k picks in
     let bs = take k hits in
     let last : last_clear_of page mid.entries ≡ pass = ap (λ (s : MonitorSeatView). last_clear_of page s.entries) was ∙ (last_clear-loads page pass old.entries ps bs ∙ all_at (λ p. last_clear_of p old.entries ≡ pass) picks k page cleared here) in
-    let step : Step = Load page (2 * pass + cond odd 1 0) in
+    let step : Entry = Load page (2 * pass + cond odd 1 0) in
     let same : length bs ≡ length ps = omega (arith, each, below, length-take k picks, length-take k hits) in
     let more : load_steps pass (take (k + 1) picks) (take (k + 1) (set hits k odd)) ≡ load_steps pass ps bs ++ step ∷ [] =
     ap (λ l. load_steps pass l (take (k + 1) (set hits k odd))) (take_next picks k page here)
