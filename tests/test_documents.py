@@ -11,7 +11,7 @@ from typing import Dict, Iterator, List, Tuple
 
 from sources import TOP, Repository
 
-PAGES = [TOP / "README.md", *sorted((TOP / "docs").glob("*.md")), *sorted((TOP / "examples").glob("*.md"))]
+PAGES = [TOP / "README.md", TOP / "CONTRIBUTING.md", *sorted((TOP / "docs").glob("*.md")), *sorted((TOP / "examples").glob("*.md"))]
 NAME = re.compile(r"`([^`]+)`")
 LINK = re.compile(r"\]\(([^)\s]+)\)")
 LOGIC = re.compile(r"\blogic ([0-9a-f]{16})\b")
