@@ -1,15 +1,18 @@
 #!/usr/bin/env python3
-"""Checks that docs/PROMISES.md names only contracts that the source has.
+"""Checks that docs/PROMISES.md names only contracts that the source has, and keeps the list of all of them.
 
-    tests/promises.py
+    tests/promises.py            exits with 1 where the page names what is not there, or the list is stale
+    tests/promises.py --write    writes the list, docs/generated/FUNCTIONS.md, again
 
-The heads of that page's tables say what is in them:
+The list has each exported function, method and law of each crate, with the names of its clauses and the comment above
+it. What has no comment says so: its trait's method, or another of its name, has one.
 
-    | clause | ..        a clause in each line, of the top call that the section's title names; the table has all of them
-    | law | ..           an exported function, with its crate
-    | .. | contract |    exported functions and methods of the crate that the section's title names, and
-                         in brackets the names of clauses that at least one of them has. A definition
-                         may be named in place of a function
+The heads of the page's tables say what is in them:
+
+    | clause | ..             a clause in each line, of the top call that the section's title names; the table has all of them
+    | law | ..                an exported function, with its crate
+    | crate | .. | contract | exported functions and methods of the crate that the line names, and in brackets the names
+                              of clauses that at least one of them has. A definition may be named in place of a function
 """
 import re
 import sys
@@ -18,45 +21,64 @@ from typing import Iterator, List
 from sources import TOP, Repository
 
 PAGE = TOP / "docs/PROMISES.md"
+LIST = TOP / "docs/generated/FUNCTIONS.md"
 TOP_CALLS = ("damon_app::replay_main", "damon_live::live_main")
 NAME = re.compile(r"`([^`]*)`")
 # Functions, and the bracket with clauses that may follow them.
 GROUP = re.compile(r"((?:[^`(]*`[^`]*`)+)\s*(?:\(([^)]*)\))?")
+# How a comment links a name.
+LINKED = re.compile(r"\[(`[^`\]]+`)\]")
+HEAD = """# Exported functions, methods and laws
+
+`tests/promises.py --write` writes this page from the sources: each exported function, method and law of each crate, with the
+names of its clauses and the comment above it. [`PROMISES.md`](../PROMISES.md) has what leads.
+"""
 
 
-def main() -> int:
+def main(words: List[str]) -> int:
     repository = Repository()
-    functions = {name.rpartition(".")[0] for name in repository.clauses}
-    known = {*functions, *repository.clauses, *(it.name for it in repository.definitions)}
-    named = list(names_in_page())
-    faults = [f"there is no {names[0]}" for names in named if not known & set(names)]
-    listed = {name for names in named for name in names}
-    there = {name for name in repository.clauses if name.startswith(tuple(call + "." for call in TOP_CALLS))}
-    faults += [f"{name} is missing" for name in sorted(there - listed)]
-    if not there or len(named) < len(there):
-        faults.append("too few names were found in its tables")
-    for fault in faults:
-        print(f"{PAGE.relative_to(TOP)}: {fault}")
+    if words == ["--write"]:
+        LIST.write_text(listed(repository))
+        return 0
+    if words:
+        sys.exit(__doc__)
+    faults = [f"{PAGE.relative_to(TOP)}: {fault}" for fault in faults_of(PAGE.read_text(), repository)]
+    if LIST.read_text() != listed(repository):
+        faults.append(f"{LIST.relative_to(TOP)} is stale: run tests/promises.py --write")
+    print(*faults, sep="\n", end="\n" if faults else "")
     return 1 if faults else 0
 
 
-def names_in_page() -> Iterator[List[str]]:
+def faults_of(page: str, repository: Repository) -> List[str]:
+    """What a page names that is not there, and the clauses of top calls that it lacks."""
+    known = {*repository.functions, *repository.clauses, *(it.name for it in repository.definitions)}
+    named = list(names_in(page))
+    faults = [f"there is no {names[0]}" for names in named if not known & set(names)]
+    given = {name for names in named for name in names}
+    there = {name for name in repository.clauses if name.startswith(tuple(call + "." for call in TOP_CALLS))}
+    faults += [f"{name} is missing" for name in sorted(there - given)]
+    if not there or len(named) < len(there):
+        faults.append("too few names were found in its tables")
+    return faults
+
+
+def names_in(page: str) -> Iterator[List[str]]:
     """Gives the names of each contract, of which at least one must be there."""
-    crate, head = "", ""
-    for line in PAGE.read_text().splitlines():
+    call, head = "", ""
+    for line in page.splitlines():
         cells = [cell.strip() for cell in line.strip("|").split("|")]
         if line.startswith("#"):
-            crate = next(iter(NAME.findall(line)), "")
+            call = next(iter(NAME.findall(line)), "")
         if not line.startswith("|"):
             head = ""
         elif not head:
-            head = "contract" if cells[-1] == "contract" else cells[0]
+            head = cells[0]
         elif head == "clause":
-            yield from ([f"{crate}.{name}"] for name in NAME.findall(cells[0]))
+            yield from ([f"{call}.{name}"] for name in NAME.findall(cells[0]))
         elif head == "law":
             yield from ([name] for name in NAME.findall(cells[0]))
-        elif head == "contract":
-            yield from names_in_cell(crate, cells[-1])
+        elif head == "crate" and NAME.findall(cells[0]):
+            yield from names_in_cell(NAME.findall(cells[0])[0], cells[-1])
 
 
 def names_in_cell(crate: str, cell: str) -> Iterator[List[str]]:
@@ -67,5 +89,24 @@ def names_in_cell(crate: str, cell: str) -> Iterator[List[str]]:
             yield [f"{crate}::{name}.{clause}" for name in names]
 
 
+def listed(repository: Repository) -> str:
+    """The page of all exported functions."""
+    lines = [HEAD]
+    for crate in repository.crates:
+        names = [name for name in repository.functions if name.startswith(f"{crate}::")]
+        if names:
+            lines += [f"## `{crate}`", "", "| function | clauses | in words |", "|---|---|---|"]
+            lines += [row(name, repository) for name in names]
+            lines.append("")
+    return "\n".join(lines)
+
+
+def row(name: str, repository: Repository) -> str:
+    clauses = [clause.rpartition(".")[2] for clause in repository.clauses if clause.rpartition(".")[0] == name]
+    shown = ", ".join("one without a name" if clause == "the clause" else f"`{clause}`" for clause in clauses)
+    words = LINKED.sub(r"\1", repository.functions[name].words).replace("|", "\\|")
+    return f"| `{name.partition('::')[2]}` | {shown or '-'} | {words or 'no comment of its own'} |"
+
+
 if __name__ == "__main__":
-    sys.exit(main())
+    sys.exit(main(sys.argv[1:]))

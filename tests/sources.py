@@ -47,6 +47,15 @@ class Constant(NamedTuple):
     value: str
 
 
+class Contract(NamedTuple):
+    """An exported function or method, by its name in the crate: its text from its head to its clauses, and the comment above it."""
+
+    call: str
+    text: str
+    words: str = ""
+    is_function: bool = True
+
+
 Named = Union[Definition, Constant]
 Scope = Dict[str, Named]
 # What each file makes known to others: its crate and its path there, and what it declares.
@@ -60,6 +69,7 @@ class Repository:
         self.top = top
         self.definitions: List[Definition] = []
         self.clauses: Dict[str, List[Named]] = {}
+        self.functions: Dict[str, Contract] = {}
         self._scopes: Dict[Tuple[str, str], Scope] = {}
         lines = (top / "crates.txt").read_text().splitlines()
         self.crates = [line.split(":")[0].split()[0] for line in lines if line]
@@ -75,6 +85,7 @@ class Repository:
             self._scopes[place] = {**scope_of(text, exports), **exports[place]}
         for crate in self.crates:
             self.clauses.update(exported_clauses(top / "crates" / crate, exports))
+            self.functions.update(exported_functions(top / "crates" / crate))
 
     def find(self, root: str) -> List[Named]:
         """What a root names: a definition, or what the clauses of a function name."""
@@ -242,19 +253,31 @@ def constants_of(crate: Path) -> Exports:
     return found
 
 
-def exported_clauses(crate: Path, exports: Exports) -> Dict[str, List[Named]]:
-    """For each clause of an exported function or method, what it names."""
+def exported_names(crate: Path) -> FrozenSet[str]:
+    """The functions and types that a crate exports."""
     root = (crate / "src/lib.rt").read_text() if (crate / "src/lib.rt").exists() else ""
     exported = set(re.findall(r"\w+", " ".join(re.findall(r"^pub use \w+::([^;]*);", root, re.M))))
-    exported |= set(re.findall(r"^pub (?:struct|enum|fn) (\w+)", root, re.M))
+    return frozenset(exported | set(re.findall(r"^pub (?:struct|enum|fn) (\w+)", root, re.M)))
+
+
+def exported_clauses(crate: Path, exports: Exports) -> Dict[str, List[Named]]:
+    """For each clause of an exported function or method, what it names."""
+    exported = exported_names(crate)
     clauses: Dict[str, List[Named]] = {}
     for file in sorted((crate / "src").rglob("*.rt")):
         text = file.read_text()
         scope = {**rust_constants(crate.name, text, exports), **scope_of(text, exports)}
-        for call, body in contracts(text, frozenset(exported)):
-            for name, clause in clauses_of(body):
-                clauses.setdefault(f"{crate.name}::{call}.{name}", []).extend(names_in_text(clause, scope))
+        for contract in contracts(text, exported):
+            for name, clause in clauses_of(contract.text):
+                clauses.setdefault(f"{crate.name}::{contract.call}.{name}", []).extend(names_in_text(clause, scope))
     return clauses
+
+
+def exported_functions(crate: Path) -> Dict[str, Contract]:
+    """The exported functions and methods of a crate, by their whole names."""
+    files = sorted((crate / "src").rglob("*.rt"))
+    found = [it for file in files for it in contracts(file.read_text(), exported_names(crate)) if it.is_function]
+    return {f"{crate.name}::{it.call}": it for it in found}
 
 
 def rust_constants(crate: str, text: str, exports: Exports) -> Scope:
@@ -266,9 +289,10 @@ def rust_constants(crate: str, text: str, exports: Exports) -> Scope:
     return {it.name: it for it in there if (it.crate, it.name) in named}
 
 
-def contracts(text: str, exported: FrozenSet[str]) -> Iterator[Tuple[str, str]]:
-    """Gives each exported function of a file with the text of its clauses, and each model's value."""
+def contracts(text: str, exported: FrozenSet[str]) -> Iterator[Contract]:
+    """Gives each exported function of a file, and each model's value."""
     owner: Optional[str] = None
+    words: List[str] = []
     all_public, lines = False, iter(text.splitlines())
     for line in lines:
         if line and not line[0].isspace():
@@ -277,12 +301,17 @@ def contracts(text: str, exported: FrozenSet[str]) -> Iterator[Tuple[str, str]]:
             owner, all_public = found[1] if found else None, line.startswith("pub trait") or " for " in line
         head = FUNCTION.match(line)
         if owner in exported and line.strip().startswith("ghost Value"):
-            yield str(owner), "ensures value " + line
+            yield Contract(str(owner), "ensures value " + line, is_function=False)
         elif head and (owner in exported if owner else head[3] in exported) and (head[2] or all_public):
             body = [line]
             while not is_whole(body):
                 body.append(next(lines))
-            yield (f"{owner}::{head[3]}" if owner else head[3]), "\n".join(body)
+            yield Contract(f"{owner}::{head[3]}" if owner else head[3], "\n".join(body), " ".join(words))
+        said = line.strip()
+        if said.startswith("///"):
+            words.append(said[3:].strip())
+        elif not said.startswith("#["):
+            words = []
 
 
 def is_whole(body: List[str]) -> bool:
