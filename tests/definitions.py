@@ -1,9 +1,9 @@
 #!/usr/bin/env python3
-"""Finds the definitions that a claim stands on, and keeps the lists of docs/DEFINITIONS.md.
+"""Finds the definitions that a claim stands on, and keeps the counts and lists of them in the documents.
 
     tests/definitions.py ROOT ...    prints the definitions that these roots need, and counts them
-    tests/definitions.py --write     writes the lists of docs/DEFINITIONS.md again
-    tests/definitions.py --check     exits with 1 where --write would change that page
+    tests/definitions.py --write     writes docs/DEFINITIONS.md, docs/generated/DEFINITIONS.md and docs/THEOREM.md again
+    tests/definitions.py --check     exits with 1 where --write would change one of these pages
 
 A ROOT is one of these:
 
@@ -14,10 +14,10 @@ A ROOT is one of these:
 
 What a definition is, and what it needs, is said in `sources.py`.
 
-In the page, everything between `<!-- NAME -->` and `<!-- end -->` is written by this script: the table
-`counts` of CLAIMS, the constants of the headline, where definitions are tried, and the lists of LISTS. A
-definition is listed once, in the first list whose roots need it. The list `internal` has the definitions
-that no exported clause needs. The number of definitions behind the headline also stands in docs/THEOREM.md,
+Everything between `<!-- NAME -->` and `<!-- end -->` is written by this script. docs/DEFINITIONS.md has the
+table `counts` of CLAIMS, the constants of the headline, and where definitions are tried; the page in
+docs/generated has the lists of LISTS. A definition is listed once, in the first list whose roots need it. The
+list `internal` has the definitions that no exported clause needs. The number of definitions behind the headline also stands in docs/THEOREM.md,
 between `<!-- headline -->` and `<!-- end -->`.
 """
 import re
@@ -28,6 +28,7 @@ from typing import Dict, Iterable, List, NamedTuple, Set
 from sources import TOP, Definition, Repository
 
 PAGE = TOP / "docs/DEFINITIONS.md"
+LISTED = TOP / "docs/generated/DEFINITIONS.md"
 THEOREM = TOP / "docs/THEOREM.md"
 MACHINE = ["Bound", "ServesBest", "opening", "damon_core/After.after", "damon_core/Event.Fits"]
 OK = ["damon_app::replay_main.ok"]
@@ -116,17 +117,21 @@ def internal(definitions: Iterable[Definition]) -> List[str]:
 
 
 def written(page: str, repository: Repository) -> str:
-    """The page of definitions with its lists written again."""
+    """The page of definitions with its tables written again."""
     blocks = {"counts": counts(repository), "constants": constants(repository), "tried": tried(repository)}
+    return with_blocks(page, blocks)
+
+
+def lists_written(page: str, repository: Repository) -> str:
+    """The page of lists with these written again."""
+    blocks: Dict[str, List[str]] = {}
     listed: Set[Definition] = set()
     for name, roots in LISTS.items():
         fresh = [it for it in repository.needed(roots) if it not in listed]
         listed.update(fresh)
         blocks[name] = table(fresh)
     blocks["internal"] = internal([it for it in repository.definitions if it not in listed])
-    for name, rows in blocks.items():
-        page = with_block(page, name, "\n".join(["", *rows, "", ""]))
-    return page
+    return with_blocks(page, blocks)
 
 
 def theorem_written(page: str, repository: Repository) -> str:
@@ -135,6 +140,12 @@ def theorem_written(page: str, repository: Repository) -> str:
     files = {(it.crate, it.file) for it in needed}
     size = f"**{len(needed)} definitions in {line_count(needed):,} lines, in {len(files)} files**\n"
     return with_block(page, "headline", size)
+
+
+def with_blocks(page: str, blocks: Dict[str, List[str]]) -> str:
+    for name, rows in blocks.items():
+        page = with_block(page, name, "\n".join(["", *rows, "", ""]))
+    return page
 
 
 def with_block(page: str, name: str, text: str) -> str:
@@ -153,7 +164,7 @@ def main(words: List[str]) -> None:
     if silent:
         sys.exit("these have no comment above them: " + ", ".join(silent))
     if words[0] in ("--write", "--check"):
-        for file, write in ((PAGE, written), (THEOREM, theorem_written)):
+        for file, write in ((PAGE, written), (LISTED, lists_written), (THEOREM, theorem_written)):
             old = file.read_text()
             new = write(old, repository)
             if words[0] == "--write":

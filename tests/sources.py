@@ -2,7 +2,8 @@
 
 A definition is an `abbrev`, an `unfoldable`, a `record` or a `data` in a file that `specs/Lib.antt` lists. The
 comment above it is its meaning in words; its lines are counted without that comment. It needs the definitions
-that its text names, and those that they need in turn.
+that its text names, and those that they need in turn. A line that is neither of a definition, nor of a law, an
+import or an operator's rank is an error: what is not known is not left out of a count.
 
 A constant is a `const` of the code that a definition or a clause cites by its name. Types of Rust and
 definitions of the toolchain are not looked at.
@@ -17,6 +18,8 @@ TOP = Path(__file__).resolve().parent.parent
 USE = re.compile(r"^\s*(?:ghost )?use Rattle\.(\w+)\.specs\.([\w.]+?)(?:\.\{([^}]*)\}| as (\w+))?;?$", re.M | re.S)
 RUST_USE = re.compile(r"^use (\w+)(?:::\w+)*::(?:\{([^}]*)\}|(\w+));", re.M)
 DEFINITION = re.compile(r"^(?:(?:unfoldable )?abbrev (?:pub )?|unfoldable (?:pub )?|(?:pub )?(?:record|data) )(\S+)")
+# What else a file of definitions may have at the beginning of a line: imports, ranks of operators, parameters, and laws.
+OTHER = re.compile(r"(?:use|infix[lr]?|unfolding|module) |}|pub (\S+) :|(\S+) :")
 CONSTANT = re.compile(r"^pub const (\w+): \w+ = ([^;]*);", re.M)
 FUNCTION = re.compile(r"^(\s*)(pub )?fn (\w+)")
 OWNER = re.compile(r"(?:impl(?:<[^>]*>)?|pub trait) (?:.* for )?(\w+)")
@@ -138,8 +141,14 @@ def read_specs(crate: Path, name: str) -> Tuple[List[Definition], str]:
     found: List[Tuple[str, str, List[str]]] = []
     words: List[str] = []
     lines: List[str] = []
+    name_above = ""
     for line in apart(text.splitlines()):
         head = DEFINITION.match(line)
+        other = OTHER.match(line)
+        if head or other:
+            name_above = head[1] if head else (other[1] or other[2] or name_above) if other else ""
+        elif not is_known(line, name_above):
+            sys.exit(f"{crate.name}/specs/{name}.antt has a line that is not known: {line}")
         if line.startswith("--"):
             words.append(line[2:].strip())
         elif head:
@@ -153,6 +162,15 @@ def read_specs(crate: Path, name: str) -> Tuple[List[Definition], str]:
         if not line.startswith(("--", "infix")):
             words = []
     return [Definition(crate.name, name, title, said, tuple(lines)) for title, said, lines in found], text
+
+
+def is_known(line: str, name: str) -> bool:
+    """Whether a line goes on with what has this name, in which `◌` stands for an argument, or says nothing."""
+    if not line.strip() or line.startswith("--"):
+        return True
+    if line[0].isspace():
+        return not line.strip().startswith(("abbrev ", "unfoldable "))
+    return name != "" and all(part in WORD.findall(line) for part in name.split("◌") if part)
 
 
 def apart(lines: Iterable[str]) -> Iterator[str]:

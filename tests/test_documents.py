@@ -11,7 +11,7 @@ from typing import Dict, Iterator, List, Tuple
 
 from sources import TOP, Repository
 
-PAGES = [TOP / "README.md", TOP / "CONTRIBUTING.md", *sorted((TOP / "docs").glob("*.md")), *sorted((TOP / "examples").glob("*.md"))]
+PAGES = [TOP / "README.md", TOP / "CONTRIBUTING.md", *sorted((TOP / "docs").rglob("*.md")), *sorted((TOP / "examples").glob("*.md"))]
 NAME = re.compile(r"`([^`]+)`")
 LINK = re.compile(r"\]\(([^)\s]+)\)")
 LOGIC = re.compile(r"\blogic ([0-9a-f]{16})\b")
@@ -127,7 +127,7 @@ class Pages(unittest.TestCase):
                     self.assertIn(anchor, anchors(target), f"{page.name}: {link}")
 
     def test_whose_the_rules_are_is_said_once(self) -> None:
-        found = {page.name: page.read_text().count("this project's own") for page in PAGES}
+        found = {page.name: page.read_text().count("this project's own") for page in PAGES if page.parent.name != "generated"}
         self.assertEqual({name: count for name, count in found.items() if count}, {"MONITOR.md": 1})
 
     def test_each_page_of_docs_is_on_the_map(self) -> None:
