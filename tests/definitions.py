@@ -17,8 +17,8 @@ What a definition is, and what it needs, is said in `sources.py`.
 Everything between `<!-- NAME -->` and `<!-- end -->` is written by this script. docs/DEFINITIONS.md has the
 table `counts` of CLAIMS, the constants of the headline, and where definitions are tried; the page in
 docs/generated has the lists of LISTS. A definition is listed once, in the first list whose roots need it. The
-list `internal` has the definitions that no exported clause needs. The number of definitions behind the headline also stands in docs/THEOREM.md,
-between `<!-- headline -->` and `<!-- end -->`.
+list `internal` has the definitions that no exported clause needs. The number of definitions behind the headline also stands in docs/THEOREM.md
+and in README.md, between `<!-- headline -->` and `<!-- end -->`.
 """
 import re
 import sys
@@ -30,6 +30,7 @@ from sources import TOP, Definition, Repository
 PAGE = TOP / "docs/DEFINITIONS.md"
 LISTED = TOP / "docs/generated/DEFINITIONS.md"
 THEOREM = TOP / "docs/THEOREM.md"
+README = TOP / "README.md"
 MACHINE = ["Bound", "ServesBest", "opening", "damon_core/After.after", "damon_core/Event.Fits"]
 OK = ["damon_app::replay_main.ok"]
 HEADLINE = [*OK, "damon_app::replay_main.bound", "damon_app::replay_main.choices"]
@@ -135,7 +136,7 @@ def lists_written(page: str, repository: Repository) -> str:
 
 
 def theorem_written(page: str, repository: Repository) -> str:
-    """The page of the theorem with the size of the headline written again."""
+    """The page of the theorem, or README, with the size of the headline written again."""
     needed = repository.needed(WHOLE.roots)
     files = {(it.crate, it.file) for it in needed}
     size = f"**{len(needed)} definitions in {line_count(needed):,} lines, in {len(files)} files**\n"
@@ -164,7 +165,7 @@ def main(words: List[str]) -> None:
     if silent:
         sys.exit("these have no comment above them: " + ", ".join(silent))
     if words[0] in ("--write", "--check"):
-        for file, write in ((PAGE, written), (LISTED, lists_written), (THEOREM, theorem_written)):
+        for file, write in ((PAGE, written), (LISTED, lists_written), (THEOREM, theorem_written), (README, theorem_written)):
             old = file.read_text()
             new = write(old, repository)
             if words[0] == "--write":
