@@ -1,5 +1,5 @@
 #!/usr/bin/env python3
-"""Tests of the commands of the tutorial and of the page about searches."""
+"""Tests of the commands of the tutorial and of the pages about choosing and about searches."""
 from __future__ import annotations
 
 import unittest
@@ -24,6 +24,13 @@ class Tutorial(Page):
         for picture in ("shop", "exact", "patient", "reclaim", "tune", "heat"):
             made = (folder / f"{picture}.svg").read_bytes()
             self.assertEqual(made == (TOP / f"docs/pictures/{picture}.svg").read_bytes(), True, picture)
+
+
+class Choosing(Page):
+    """The same of docs/CHOOSING.md."""
+
+    def test_commands_and_outputs(self) -> None:
+        self.follow("docs/CHOOSING.md", lambda block: False)
 
 
 class Search(Page):
