@@ -108,6 +108,25 @@ class Trusted(unittest.TestCase):
             self.assertFalse("rattle-kit-" in page.read_text(), page.name)
 
 
+class Manuals(unittest.TestCase):
+    """The manual pages list the statuses of docs/FORMATS.md; a journal that is not lawful is none of `damond run`."""
+
+    def test_statuses(self) -> None:
+        text = (TOP / "docs/FORMATS.md").read_text()
+        of_damond, of_damon = (self.statuses(text.split(f"\n## {head}\n")[1]) for head in ("Running `damond`", "Running the program"))
+        self.assertEqual(self.listed("damon.1"), of_damon)
+        self.assertEqual(self.listed("damond.1"), sorted({*of_damon, *of_damond} - {10}))
+
+    def statuses(self, section: str) -> List[int]:
+        """The numbers of the first table of statuses in a section."""
+        table = section.split("| status | number |")[1].split("\n\n")[0]
+        return [int(number) for number in re.findall(r"^\| \w+ \| (\d+) \|", table, re.M)]
+
+    def listed(self, page: str) -> List[int]:
+        section = (TOP / "docs" / page).read_text().split(".SH EXIT STATUS\n")[1].split("\n.SH")[0]
+        return [int(number) for number in re.findall(r"^\.B (\d+)$", section, re.M)]
+
+
 class Pages(unittest.TestCase):
     def test_the_headline_is_the_same_everywhere(self) -> None:
         said = {page.name: [line for line in page.read_text().splitlines() if line.startswith("> For every script")]

@@ -1,5 +1,5 @@
 #!/usr/bin/env python3
-"""Tests of the commands of the tutorial and of the page about searches."""
+"""Tests of the commands of the tutorial and of the pages about choosing and about searches."""
 from __future__ import annotations
 
 import unittest
@@ -33,6 +33,13 @@ class Tutorial(Page):
             # Another version of D3 or of zlib would make other bytes.
             made_page, kept = (parts_of((place / "policies.html").read_text()) for place in (folder, TOP / "docs/pictures"))
             self.assertEqual((made_page.meta == kept.meta, made_page.block == kept.block, made_page.rest == kept.rest), (True, True, True))
+
+
+class Choosing(Page):
+    """The same of docs/CHOOSING.md."""
+
+    def test_commands_and_outputs(self) -> None:
+        self.follow("docs/CHOOSING.md", lambda block: False)
 
 
 class Search(Page):
