@@ -6,12 +6,23 @@ at whole texts of runs whose order nobody gave.
 """
 import os
 import subprocess
+import sys
 import unittest
+<<<<<<< HEAD
 from typing import Dict, List, Tuple
 
 from tool_runs import DAMOND, TOP, need_program
 
+=======
+from contextlib import contextmanager
+from pathlib import Path
+from typing import Dict, Iterator, List, Tuple
+
+TOP = Path(__file__).resolve().parent.parent
+PROGRAM = Path(os.environ.get("DAMOND", TOP / "crates/damond/out/damond"))
+>>>>>>> d95cbe7fa02d7cb8e05f7b2ce109d440f0a4c632
 EXAMPLE = TOP / "examples/live.damon"
+WORKERS = TOP / "examples/workers.damon"
 PAGE = 4096
 HEAD = "damon live 1\nseed 1\nunit 1\ncap 8\nattrs 3 8 2\ntarget 0x0 64\nrange 0 0x0 0x40000 0\n"
 WORKER = "worker\nsweep 0 0x0 0x10000\ntouch 0 0x20000\nsweep 0 0x0 0x10000\n"
@@ -102,6 +113,50 @@ class Journals(unittest.TestCase):
             os.sched_setaffinity(0, before)
 
 
+<<<<<<< HEAD
+=======
+@contextmanager
+def busy_machine() -> Iterator[None]:
+    """Two busy processes for each processor."""
+    spinning = [subprocess.Popen([sys.executable, "-c", "while True: pass"]) for _ in range(2 * (os.cpu_count() or 1))]
+    try:
+        yield
+    finally:
+        for process in spinning:
+            process.kill()
+            process.wait()
+
+
+@unittest.skipUnless(PROGRAM.exists(), "damond is not built")
+class Found(unittest.TestCase):
+    """That passes find touches, however busy the machine is: they are spread over them."""
+
+    RUNS = 20
+
+    def hits(self, script: str) -> List[int]:
+        """How many hits each of some runs has."""
+        ends = [run(script)[1].rsplit("\n", 2)[1] for _ in range(self.RUNS)]
+        return [int(end.rpartition("hits=")[2]) for end in ends]
+
+    def test_on_a_busy_machine(self) -> None:
+        with busy_machine():
+            for script in (WORKERS, EXAMPLE):
+                with self.subTest(script=script.name):
+                    found = self.hits(script.read_text())
+                    self.assertEqual(sum(1 for hits in found if hits), self.RUNS, found)
+
+    def test_on_one_processor(self) -> None:
+        before = os.sched_getaffinity(0)
+        try:
+            os.sched_setaffinity(0, {min(before)})
+            found = self.hits(WORKERS.read_text())
+        finally:
+            os.sched_setaffinity(0, before)
+        self.assertGreater(min(found), 0, found)
+
+
+@unittest.skipUnless(PROGRAM.exists(), "damond is not built")
+>>>>>>> d95cbe7fa02d7cb8e05f7b2ce109d440f0a4c632
 class Refusals(unittest.TestCase):
     def refused(self, script: str, status: int, line: str, *words: str) -> None:
         self.assertEqual(run(script, *words), (status, "", line + "\n"))

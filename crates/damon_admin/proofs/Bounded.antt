@@ -18,7 +18,8 @@ use Rattle.damon_core.specs.Stands.{MonitorView}
 use Rattle.damon_control.specs.Script.{AtEnd, AtHeader, ScriptValue}
 use Rattle.damon_control.specs.Sound.{IsSound, ScriptsAreSound}
 use Rattle.script_run.specs.BoundAlong.{EachScriptIsBound}
-use Rattle.script_run.specs.Played.{played-state, up_to}
+use Rattle.script_run.specs.Played.{up_to}
+use Rattle.script_run.proofs.Lemmas.{played-state}
 use Rattle.script_run.specs.Player.{PlayerView}
 use Rattle.script_run.specs.Report.{last_state}
 use Rattle.script_run.specs.Unfold.{unfold_script}

@@ -12,4 +12,6 @@ pub mod Voices
 pub mod Bounded
 pub mod Going
 pub mod Gathering
+pub mod LineDone
+pub mod Lemmas
 mod Examples

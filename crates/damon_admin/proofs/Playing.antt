@@ -18,7 +18,8 @@ use Rattle.damon_control.specs.Script.{AtAttrs, AtCap, AtEnd, AtHeader, AtRanges
 use Rattle.script_run.specs.Callbacks.{no_callbacks}
 use Rattle.script_run.specs.Part.{Part}
 use Rattle.script_run.specs.Parts.{part_of}
-use Rattle.script_run.specs.Played.{HasPlayed, PlaysNextWith, commands_text, played-next, played-report, played-text, up_to}
+use Rattle.script_run.specs.Played.{HasPlayed, PlaysNextWith, commands_text, up_to}
+use Rattle.script_run.proofs.Lemmas.{played-next, played-report, played-text}
 use Rattle.script_run.specs.Player.{AnyState, PlayerView, WritesLast}
 use Rattle.damon_admin.specs.declared.stage.Stage.{Stage}
 use Rattle.damon_admin.specs.declared.stage.Stage.TheVariants as stage

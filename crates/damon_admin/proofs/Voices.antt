@@ -19,8 +19,10 @@ use Rattle.damon_control.specs.declared.fault.ScriptFault.{ScriptFault}
 use Rattle.damon_control.specs.declared.grammar.Grammar.TheVariants.{OfScript}
 use Rattle.damon_control.specs.Script.{AtEnd, AtHeader, Place, ScriptValue, script_of}
 use Rattle.script_run.specs.Going.{onward, plain}
-use Rattle.script_run.specs.Report.{events_text, events_text-append, last_state, report}
-use Rattle.script_run.specs.Unfold.{command_events, commands_events-more, start, unfold_script}
+use Rattle.script_run.specs.Report.{events_text, last_state, report}
+use Rattle.script_run.proofs.Lemmas.{events_text-append}
+use Rattle.script_run.specs.Unfold.{command_events, start, unfold_script}
+use Rattle.script_run.proofs.Lemmas.{commands_events-more}
 use Rattle.script_run.specs.Played.{commands_text, up_to}
 use Rattle.snapshot_print.specs.Printed.{printed_state}
 use Rattle.damon_admin.specs.Kept.{IsNext, gained}

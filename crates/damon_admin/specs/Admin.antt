@@ -1,6 +1,5 @@
 -- Several contexts that go on line by line.
 use Rattle.std.specs.Prelude.{◌≡◌, ℕ, Bool, false, List, [], ◌∷◌, ◌++◌, Result, Ok}
-use Rattle.std.proofs.Common.{◌∙◌, ap, append_assoc, sym}
 use Rattle.damon_core.specs.Bound.{Bound}
 use Rattle.damon_core.specs.Stands.{MonitorView, Stands}
 use Rattle.damon_control.specs.declared.fault.ScriptFault.{ScriptFault}
@@ -32,24 +31,6 @@ pub record DoesLine (old new : AdminView) (before after : List ℕ) : Type 0 whe
 -- what the lines that are left write
 abbrev pub left_text : AdminView → List ℕ
 left_text a = texts_from (all_lines a) a.done a.left
-
--- where a line was done, the lines are the same, and so is what was written with what is left to write
-pub line-done : (old new : AdminView) (before after : List ℕ) → DoesLine old new before after
-    → (all_lines new ≡ all_lines old) × (after ++ left_text new ≡ before ++ left_text old)
-line-done old new before after does =
-    let l = does.line in
-    let own = line_text (all_lines old) old.done l in
-    let all : all_lines new ≡ all_lines old =
-    ap (λ ls. ls ++ new.left) does.done
-    ∙ append_assoc old.done (l ∷ []) new.left
-    ∙ ap (λ ls. old.done ++ ls) (sym does.left) in (
-      all,
-      ap (λ t. t ++ left_text new) does.text
-          ∙ append_assoc before own (left_text new)
-          ∙ ap (λ ls. before ++ (own ++ texts_from ls new.done new.left)) all
-          ∙ ap (λ ls. before ++ (own ++ texts_from (all_lines old) ls new.left)) does.done
-          ∙ ap (λ ls. before ++ texts_from (all_lines old) old.done ls) (sym does.left),
-    )
 
 -- the script that the lines of a context say, or their fault
 abbrev pub script_in : ℕ → AdminView → Result ScriptValue ScriptFault

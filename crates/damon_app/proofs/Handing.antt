@@ -2,7 +2,8 @@
 use Rattle.std.proofs.Common.{◌≡◌, ℕ, List, [], ◌++◌, Option, sym, ap, ◌∙◌, subst, append-nil, append_assoc}
 use Rattle.std.proofs.KnownBytes.{Appends-nil, Appends-trans}
 use Rattle.std.specs.Io.KnownBytes.{Appends}
-use Rattle.damon_admin.specs.Admin.{AdminView, DoesLine, left_text, line-done}
+use Rattle.damon_admin.specs.Admin.{AdminView, DoesLine, left_text}
+use Rattle.damon_admin.proofs.Lemmas.{line-done}
 use Rattle.text_io.specs.Taken.{WritesPart}
 use Rattle.damon_app.specs.Pieces.{HandsOver}
 use Rattle.damon_app.proofs.Known.{WritesPart-after, WritesPart-longer}

@@ -8,7 +8,8 @@ use Rattle.snapshot_print.specs.Forms.{writing_of}
 use Rattle.script_run.specs.Callbacks.{Callbacks}
 use Rattle.script_run.specs.Player.{GoesOnWith, IsOverWith, PlayerOf, WritesLastWith}
 use Rattle.script_run.specs.RunWith.{report_with}
-use Rattle.script_run.specs.Way.{IsOnItsWayWith, way-finished-with, way-on-with, way-prefix-with}
+use Rattle.script_run.specs.Way.{IsOnItsWayWith}
+use Rattle.script_run.proofs.Lemmas.{way-finished-with, way-on-with, way-prefix-with}
 use Rattle.text_io.specs.Taken.{WritesPart}
 use Rattle.damon_app.proofs.Known.{WritesPart-longer}
 

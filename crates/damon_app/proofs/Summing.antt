@@ -2,7 +2,8 @@
 use Rattle.std.proofs.Common.{◌≡◌, ℕ, List, [], ◌++◌, ap, ◌∙◌}
 use Rattle.damon_core.specs.Stands.{MonitorView, Stands}
 use Rattle.damon_control.specs.Script.{ScriptValue}
-use Rattle.snapshot_print.specs.Printed.{printed_monitor, printed_monitor-stands}
+use Rattle.snapshot_print.specs.Printed.{printed_monitor}
+use Rattle.snapshot_print.proofs.Lemmas.{printed_monitor-stands}
 use Rattle.script_run.specs.Report.{last_state}
 use Rattle.trace_gen.specs.Gen.{gen}
 use Rattle.damon_app.specs.Generated.{gen_line, gen_text, summary_of}

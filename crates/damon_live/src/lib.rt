@@ -37,6 +37,8 @@ mod paces;
 mod passes;
 /// The passes and calls that are left.
 mod rest;
+/// Passes that are spread over touches.
+mod spread;
 /// A whole run in threads.
 mod threads;
 /// The top call.

@@ -17,6 +17,7 @@ use crate::jobs::make_words;
 use crate::named::Named;
 use crate::pace::Pace;
 use crate::rest::make_rest;
+use crate::spread::Spread;
 use damon_control::LiveScript;
 use page_words::{MonitorSeat, PageWords, WordsAndSeat};
 use std::alloc::{AllocError, Global};
@@ -80,7 +81,8 @@ fn run_named<N: Named + Send + Sync, R: Threads + Wait + Sync, P: Pace + Sync>(
         jobs,
         receipts,
     } = begin_run::<N>(alloc, &words, seat, script)?;
-    let (mut kept, made) = run_beside(rt, alloc, &words, kept, script, jobs, pace)?;
+    let pace = Spread::new(script, pace);
+    let (mut kept, made) = run_beside(rt, alloc, &words, kept, script, jobs, &pace)?;
     make_rest(&mut kept, &words);
     Ok(end_run(words, kept, made, receipts))
 }

@@ -22,7 +22,8 @@ use Rattle.damon_core.specs.State.{Core, State, opening, row_count}
 use Rattle.damon_core.proofs.Lemmas.{few_after}
 use Rattle.damon_control.specs.Script.{ScriptValue}
 use Rattle.damon_control.specs.Sound.{IsSound}
-use Rattle.script_run.specs.Course.{going_with, onward-state, with_puts}
+use Rattle.script_run.specs.Course.{going_with, with_puts}
+use Rattle.script_run.proofs.Lemmas.{onward-state}
 use Rattle.script_run.specs.Going.{onward}
 use Rattle.script_run.specs.PutIn.{AllAccepted, PutsAreAccepted}
 use Rattle.script_run.specs.RunWith.{start_with}

@@ -15,7 +15,8 @@ use Rattle.damon_world.specs.Touches.{touches}
 use Rattle.snapshot_print.specs.Writing.{Writing}
 use Rattle.script_run.specs.Callbacks.{AddInPlace, Callbacks, IsAlone, IsQuiet, IsStep, put_after, remembered}
 use Rattle.script_run.specs.Course.{Course, course_after, going_with, with_puts}
-use Rattle.script_run.specs.Going.{onward, onward-append}
+use Rattle.script_run.specs.Going.{onward}
+use Rattle.script_run.proofs.Continuing.{onward-append}
 use Rattle.script_run.specs.Report.{event_text, events_text}
 use Rattle.script_run.specs.RunWith.{lines_after, text_from}
 use Rattle.script_run.specs.Unfold.{steps_until, stops_at}

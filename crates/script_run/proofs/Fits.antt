@@ -36,14 +36,16 @@ use Rattle.damon_control.specs.Sound.{IsSound}
 use Rattle.script_run.specs.BoundAlong.{EachRunWithCallbacksIsBound}
 use Rattle.script_run.specs.Callbacks.{Callbacks, FitAlways, FitByHit, no_callbacks, put_after}
 use Rattle.script_run.specs.Choices.{EachRunWithCallbacksChoosesBest}
-use Rattle.script_run.specs.Course.{Course, course_after, going_with, onward-moment, onward-state, Reached-onward, with_puts, with_puts-append}
+use Rattle.script_run.specs.Course.{Course, course_after, going_with, with_puts}
+use Rattle.script_run.proofs.Continuing.{onward-moment, onward-state, Reached-onward, with_puts-append}
 use Rattle.script_run.specs.Going.{onward}
 use Rattle.script_run.specs.RunWith.{start_with, unfold_with}
 use Rattle.script_run.specs.Unfold.{steps_until, stops_at}
 use Rattle.script_run.specs.Kept.{ArePartsWithin, IsPartWithin}
-use Rattle.script_run.specs.Parts.{commands_are_parts, part_events, part_of, parts_events, parts_of}
+use Rattle.script_run.specs.Parts.{part_events, part_of, parts_events, parts_of}
+use Rattle.script_run.proofs.Continuing.{commands_are_parts}
 use Rattle.script_lines.specs.Limits.{AreCommandsWithin, IsCommandWithin}
-use Rattle.script_run.specs.Way.{Reached-start}
+use Rattle.script_run.proofs.Ways.{Reached-start}
 use Rattle.script_run.proofs.Hits.{AllByHit-prefix}
 
 length-drawn : (n : ℕ) (s : Stream) → length (drawn n s) ≡ n

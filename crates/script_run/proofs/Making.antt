@@ -18,12 +18,16 @@ use Rattle.damon_world.specs.Moment.{Moment, along, event_in, events_of_steps, m
 use Rattle.damon_world.specs.Plays.{Plays, Reached-along, along-append, along-state}
 use Rattle.damon_world.specs.Stands.{StandsFor, WorldView}
 use Rattle.snapshot_print.specs.Writing.{Writing}
-use Rattle.snapshot_print.specs.Printed.{printed_monitor, printed_monitor-stands, printed_state}
+use Rattle.snapshot_print.specs.Printed.{printed_monitor, printed_state}
+use Rattle.snapshot_print.proofs.Lemmas.{printed_monitor-stands}
 use Rattle.script_run.specs.Callbacks.{AddInPlace, Callbacks, IsAlone, put_after, remembered}
 use Rattle.script_run.specs.Calls.{Follows, IsAggregated}
-use Rattle.script_run.specs.Course.{Course, going_with, onward-state, Reached-onward, with_puts, with_puts-append}
-use Rattle.script_run.specs.Going.{onward, onward-append}
-use Rattle.script_run.specs.Report.{event_text, events_text, events_text-append}
+use Rattle.script_run.specs.Course.{Course, going_with, with_puts}
+use Rattle.script_run.proofs.Continuing.{onward-state, Reached-onward, with_puts-append}
+use Rattle.script_run.specs.Going.{onward}
+use Rattle.script_run.proofs.Continuing.{onward-append}
+use Rattle.script_run.specs.Report.{event_text, events_text}
+use Rattle.script_run.proofs.Continuing.{events_text-append}
 use Rattle.script_run.specs.RunWith.{lines_after}
 use Rattle.script_run.specs.Kept.{ArePutIn, IsMade, StandSomewhere, beyond}
 use Rattle.script_run.specs.Player.{PlayTogether, StandAt}

@@ -17,13 +17,17 @@ use Rattle.damon_world.specs.Plays.{Plays, along-state}
 use Rattle.damon_world.specs.Stands.{StandsAt, StandsFor, WorldView}
 use Rattle.damon_world.specs.Touches.{touches}
 use Rattle.snapshot_print.specs.Forms.{writing_of}
-use Rattle.snapshot_print.specs.Printed.{printed_monitor, printed_monitor-stands, printed_state}
+use Rattle.snapshot_print.specs.Printed.{printed_monitor, printed_state}
+use Rattle.snapshot_print.proofs.Lemmas.{printed_monitor-stands}
 use Rattle.script_run.specs.Callbacks.{AddInPlace, Callbacks, IsAlone, IsStep, remembered}
 use Rattle.script_run.specs.Calls.{Follows}
-use Rattle.script_run.specs.Course.{Course, going_with, Reached-onward}
-use Rattle.script_run.specs.Going.{onward, onward-append}
+use Rattle.script_run.specs.Course.{Course, going_with}
+use Rattle.script_run.proofs.Continuing.{Reached-onward}
+use Rattle.script_run.specs.Going.{onward}
+use Rattle.script_run.proofs.Continuing.{onward-append}
 use Rattle.script_run.specs.Report.{events_text}
-use Rattle.script_run.specs.RunWith.{lines_after, text_from, text_from-append}
+use Rattle.script_run.specs.RunWith.{lines_after, text_from}
+use Rattle.script_run.proofs.Continuing.{text_from-append}
 use Rattle.script_run.specs.Unfold.{steps_until, stops_at}
 use Rattle.script_run.specs.Part as part
 use Rattle.script_run.specs.declared.part.Until.{Until}

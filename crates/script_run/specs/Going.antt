@@ -1,5 +1,5 @@
 -- How a run goes from event to event.
-use Rattle.std.specs.Prelude.{◌≡◌, List, [], ◌∷◌, ◌++◌, refl}
+use Rattle.std.specs.Prelude.{List, [], ◌∷◌}
 use Rattle.damon_core.specs.Event.{Event}
 use Rattle.damon_world.specs.Moment.{Moment, moved}
 
@@ -16,8 +16,3 @@ plain = record { moment = λ m. m; next = moved }
 abbrev pub onward : {A : Type 0} → Going A → A → List Event → A
 onward g a [] = a
 onward g a (e ∷ es) = onward g (g.next a e) es
-
--- the place after events and then others
-pub onward-append : {A : Type 0} (g : Going A) (a : A) (es fs : List Event) → onward g a (es ++ fs) ≡ onward g (onward g a es) fs
-onward-append g a [] fs = refl
-onward-append g a (e ∷ es) fs = onward-append g (g.next a e) es fs

@@ -10,7 +10,6 @@ pub mod Calls
 pub mod Course
 pub mod RunWith
 pub mod PutIn
-pub mod Alone
 pub mod Player
 pub mod Kept
 pub mod Way

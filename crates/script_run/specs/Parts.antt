@@ -1,6 +1,5 @@
 -- Commands as parts: what is made of a command is its events, and what is left of it is again a part.
-use Rattle.std.specs.Prelude.{◌≡◌, ℕ, ◌-◌, ◌||◌, ◌==◌, Bool, true, false, List, [], ◌∷◌, ◌++◌, map, refl}
-use Rattle.std.proofs.Common.{◌∙◌, ap}
+use Rattle.std.specs.Prelude.{ℕ, ◌-◌, ◌||◌, ◌==◌, Bool, false, List, [], ◌∷◌, ◌++◌, map}
 use Rattle.live_commit.specs.declared.phase.Phase.{Phase}
 use Rattle.damon_core.specs.Event.{Event, commit, show}
 use Rattle.damon_world.specs.Touches.{touches}
@@ -8,9 +7,8 @@ use Rattle.script_lines.specs.Command.{CommandValue, Touch, Sweep, Step, Arm, Fi
 use Rattle.script_run.specs.Going.{Going, onward}
 use Rattle.script_run.specs.Part.{Part}
 use Rattle.script_run.specs.Part as part
-use Rattle.script_run.specs.declared.part.Until.{Until}
 use Rattle.script_run.specs.declared.part.Until.TheVariants as until
-use Rattle.script_run.specs.Unfold.{command_events, commands_events, steps_until, stops_at}
+use Rattle.script_run.specs.Unfold.{steps_until, stops_at}
 
 -- whether no event of a part is left
 abbrev pub is_done : Part → Phase → Bool
@@ -44,22 +42,3 @@ part_events g a (part.Commit parts) = commit parts ∷ []
 abbrev pub parts_events : {A : Type 0} → Going A → A → List Part → List Event
 parts_events g a [] = []
 parts_events g a (p ∷ ps) = let es = part_events g a p in es ++ parts_events g (onward g a es) ps
-
--- the events of a command are those of its part
-command_is_part : {A : Type 0} (g : Going A) (cap : ℕ) (a : A) (c : CommandValue) → command_events g cap a c ≡ part_events g a (part_of cap c)
-command_is_part g cap a (Touch page) = refl
-command_is_part g cap a (Sweep from to) = refl
-command_is_part g cap a (Step times) = refl
-command_is_part g cap a Arm = refl
-command_is_part g cap a Finish = refl
-command_is_part g cap a Show = refl
-command_is_part g cap a (Commit parts) = refl
-
--- the same of commands
-pub commands_are_parts : {A : Type 0} (g : Going A) (cap : ℕ) (a : A) (cs : List CommandValue)
-    → commands_events g cap a cs ≡ parts_events g a (parts_of cap cs)
-commands_are_parts g cap a [] = refl
-commands_are_parts g cap a (c ∷ cs) =
-    let es = command_events g cap a c in
-    ap (λ fs. es ++ fs) (commands_are_parts g cap (onward g a es) cs)
-    ∙ ap (λ (fs : List Event). fs ++ parts_events g (onward g a fs) (parts_of cap cs)) (command_is_part g cap a c)

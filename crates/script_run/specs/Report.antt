@@ -1,6 +1,5 @@
 -- The report of a script.
-use Rattle.std.specs.Prelude.{◌≡◌, ℕ, List, [], ◌∷◌, ◌++◌, refl}
-use Rattle.std.proofs.Common.{◌∙◌, ap, sym, append_assoc}
+use Rattle.std.specs.Prelude.{ℕ, List, [], ◌∷◌, ◌++◌}
 use Rattle.damon_core.specs.State.{State, opening}
 use Rattle.damon_core.specs.Commit.{commit_answer}
 use Rattle.damon_core.specs.Event.{Event, aggregate, commit, show}
@@ -30,12 +29,3 @@ last_state s = run (opening s.setup) (unfold_script s)
 -- the report of a script: what its events write, and the last line
 abbrev pub report : Writing → ScriptValue → List ℕ
 report w s = events_text w (opening s.setup) (unfold_script s) ++ w.end (printed_state (last_state s))
-
--- the text of events and then others
-pub events_text-append : (w : Writing) (s : State) (es fs : List Event)
-    → events_text w s (es ++ fs) ≡ events_text w s es ++ events_text w (run s es) fs
-events_text-append w s [] fs = refl
-events_text-append w s (e ∷ es) fs =
-    let own = event_text w s e in
-    ap (λ t. own ++ t) (events_text-append w (after s e) es fs)
-    ∙ sym (append_assoc own (events_text w (after s e) es) (events_text w (run (after s e) es) fs))

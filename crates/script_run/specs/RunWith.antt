@@ -1,6 +1,5 @@
 -- The run of a script with callbacks: its events and its report.
-use Rattle.std.specs.Prelude.{◌≡◌, ℕ, List, [], ◌∷◌, ◌++◌, refl}
-use Rattle.std.proofs.Common.{◌∙◌, ap, sym, append_assoc}
+use Rattle.std.specs.Prelude.{ℕ, List, [], ◌∷◌, ◌++◌}
 use Rattle.damon_core.specs.State.{State, opening}
 use Rattle.damon_core.specs.Event.{Event}
 use Rattle.damon_core.specs.After.{after}
@@ -58,19 +57,3 @@ last_memory c s = (onward (going_with c) (start_with c s) (own_events c s)).memo
 abbrev pub report_with : Callbacks → Writing → ScriptValue → List ℕ
 report_with c w s =
     text_from c w (start_with c s) (own_events c s) ++ last_text_with c w (last_memory c s) (last_state_with c s)
-
--- the text of events and then others
-pub text_from-append : (c : Callbacks) (w : Writing) (r : Course) (es fs : List Event)
-    → text_from c w r (es ++ fs) ≡ text_from c w r es ++ text_from c w (onward (going_with c) r es) fs
-text_from-append c w r [] fs = refl
-text_from-append c w r (e ∷ es) fs =
-    let own = event_text w r.moment.state e in
-    let lines = lines_after c r e in
-    let more = events_text w (after r.moment.state e) (put_after c r.memory r.moment.state e) in
-    let q = course_after c r e in
-    let rest = text_from c w q es in
-    let last = text_from c w (onward (going_with c) q es) fs in
-    ap (λ t. own ++ (lines ++ (more ++ t))) (text_from-append c w q es fs)
-    ∙ ap (λ t. own ++ (lines ++ t)) (sym (append_assoc more rest last))
-    ∙ ap (λ t. own ++ t) (sym (append_assoc lines (more ++ rest) last))
-    ∙ sym (append_assoc own (lines ++ (more ++ rest)) last)

@@ -1,6 +1,5 @@
 -- The events of a script.
-use Rattle.std.specs.Prelude.{◌≡◌, ℕ, zero, suc, ◌+◌, ◌-◌, ◌*◌, Bool, true, false, List, [], ◌∷◌, ◌++◌, refl, if◌then◌else◌}
-use Rattle.std.proofs.Common.{◌∙◌, ap, sym, append-nil, append_assoc}
+use Rattle.std.specs.Prelude.{ℕ, zero, suc, ◌-◌, Bool, true, false, List, [], ◌∷◌, ◌++◌, if◌then◌else◌}
 use Rattle.sampler.specs.Seeds.{seeded, words_from}
 use Rattle.live_commit.specs.declared.phase.Phase.{Phase}
 use Rattle.live_commit.specs.declared.phase.Phase.TheVariants.{Idle, Armed}
@@ -10,7 +9,7 @@ use Rattle.damon_world.specs.Moment.{Moment, next_event}
 use Rattle.damon_world.specs.Touches.{touches}
 use Rattle.damon_control.specs.Script.{ScriptValue}
 use Rattle.script_lines.specs.Command.{CommandValue, Touch, Sweep, Step, Arm, Finish, Show, Commit, pass_limit}
-use Rattle.script_run.specs.Going.{Going, onward, onward-append, plain}
+use Rattle.script_run.specs.Going.{Going, onward, plain}
 use Rattle.script_run.specs.declared.part.Until.{Until}
 use Rattle.script_run.specs.declared.part.Until.TheVariants as until
 
@@ -52,15 +51,3 @@ start s = record { state = opening s.setup; stream = words_from (seeded s.seed) 
 -- the events of a script
 abbrev pub unfold_script : ScriptValue → List Event
 unfold_script s = commands_events plain s.setup.cap (start s) s.commands
-
--- the events of one command more
-pub commands_events-more : {A : Type 0} (g : Going A) (cap : ℕ) (a : A) (cs : List CommandValue) (d : CommandValue)
-    → (let es = commands_events g cap a cs in commands_events g cap a (cs ++ d ∷ []) ≡ es ++ command_events g cap (onward g a es) d)
-commands_events-more g cap a [] d = append-nil (command_events g cap a d)
-commands_events-more g cap a (c ∷ cs) d =
-    let es = command_events g cap a c in
-    let b = onward g a es in
-    let fs = commands_events g cap b cs in
-    ap (λ xs. es ++ xs) (commands_events-more g cap b cs d)
-    ∙ sym (append_assoc es fs (command_events g cap (onward g b fs) d))
-    ∙ ap (λ x. (es ++ fs) ++ command_events g cap x d) (sym (onward-append g a es fs))

@@ -14,4 +14,6 @@ pub mod Readable
 pub mod BySlot
 pub mod StateText
 pub mod OneLine
+pub mod PrintedStands
+pub mod Lemmas
 mod Examples

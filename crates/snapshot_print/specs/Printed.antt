@@ -1,10 +1,9 @@
 -- What is printed of a state, and of a monitor that stands for it.
-use Rattle.std.specs.Prelude.{◌≡◌, ℕ, List}
-use Rattle.std.proofs.Common.{ap, ◌∙◌}
+use Rattle.std.specs.Prelude.{ℕ, List}
 use Rattle.scheme_engine.specs.Slots.{SlotValue}
 use Rattle.damon_core.specs.Slots.{slots_of}
 use Rattle.damon_core.specs.State.{Core, State}
-use Rattle.damon_core.specs.Stands.{MonitorView, Stands}
+use Rattle.damon_core.specs.Stands.{MonitorView}
 use Rattle.damon_core.specs.Totals.{checks_made, hits_made}
 
 -- what is printed: what a monitor shows, its slots, and the checks and hits of all finished passes
@@ -21,14 +20,3 @@ printed_state s = record { core = s.core; slots = slots_of s.notes; checks = che
 -- what is printed of a monitor
 abbrev pub printed_monitor : MonitorView → Printed
 printed_monitor m = record { core = m.core; slots = m.slots; checks = m.checks; hits = m.hits }
-
--- what is printed of a monitor is what is printed of each state for which it stands
-pub printed_monitor-stands : (m : MonitorView) (s : State) → Stands m s → printed_monitor m ≡ printed_state s
-printed_monitor-stands m s stands =
-    let core : printed_monitor m ≡ record { core = s.core; slots = m.slots; checks = m.checks; hits = m.hits } =
-    ap (λ (c : Core). record { core = c; slots = m.slots; checks = m.checks; hits = m.hits }) stands.same in
-    let slots : record { core = s.core; slots = m.slots; checks = m.checks; hits = m.hits } ≡ record { core = s.core; slots = slots_of s.notes; checks = m.checks; hits = m.hits } =
-    ap (λ (ss : List SlotValue). record { core = s.core; slots = ss; checks = m.checks; hits = m.hits }) stands.slots in
-    let checks : record { core = s.core; slots = slots_of s.notes; checks = m.checks; hits = m.hits } ≡ record { core = s.core; slots = slots_of s.notes; checks = checks_made s.notes; hits = m.hits } =
-    ap (λ (n : ℕ). record { core = s.core; slots = slots_of s.notes; checks = n; hits = m.hits }) stands.checks in
-    core ∙ slots ∙ checks ∙ ap (λ (n : ℕ). record { core = s.core; slots = slots_of s.notes; checks = checks_made s.notes; hits = n }) stands.hits

@@ -3,7 +3,7 @@ use Rattle.std.specs.Prelude.{OnOk}
 use Rattle.std.specs.Io.KnownBytes.{Appends}
 use Rattle.damon_control.specs.ScriptView.{said_by}
 use Rattle.snapshot_print.specs.Forms.{writing_of}
-use Rattle.script_run.specs.Alone.{report-alone}
+use Rattle.script_run.proofs.Lemmas.{report-alone}
 use Rattle.text_io.specs.Taken.{WritesPart}
 use Rattle.damon_app.proofs.run.write_report.Goals as goal
 

@@ -1,5 +1,5 @@
 use Rattle.std.proofs.Common.{subst}
-use Rattle.script_run.specs.Alone.{unfold-alone}
+use Rattle.script_run.proofs.Alone.{unfold-alone}
 use Rattle.script_run.specs.Callbacks.{no_callbacks}
 use Rattle.script_run.specs.Choices.{ChoosesBestFrom}
 use Rattle.script_run.proofs.Fits.{nothing_fits}

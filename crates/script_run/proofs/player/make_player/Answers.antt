@@ -8,10 +8,11 @@ use Rattle.damon_control.specs.ScriptView.{said_by}
 use Rattle.script_run.specs.Part as part
 use Rattle.script_run.specs.Kept.{ArePartsWithin}
 use Rattle.script_run.specs.Player.{left_in, left_of}
-use Rattle.script_run.specs.Parts.{commands_are_parts, part_of, parts_of}
+use Rattle.script_run.specs.Parts.{part_of, parts_of}
+use Rattle.script_run.proofs.Continuing.{commands_are_parts}
 use Rattle.script_run.specs.Course.{going_with}
 use Rattle.script_run.specs.RunWith.{start_with}
-use Rattle.script_run.specs.Way.{Reached-start}
+use Rattle.script_run.proofs.Ways.{Reached-start}
 use Rattle.script_run.proofs.Fits.{parts_within}
 use Rattle.script_run.proofs.player.make_player.Goals as goal
 

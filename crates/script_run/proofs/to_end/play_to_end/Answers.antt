@@ -4,7 +4,7 @@ use Rattle.rand_pcg.specs.Pcg.{pcg32}
 use Rattle.damon_control.specs.ScriptView.{said_by}
 use Rattle.snapshot_print.specs.declared.form.Form.TheVariants.{Text}
 use Rattle.script_run.specs.Player.{GoesOn}
-use Rattle.script_run.specs.Way.{way-last, way-on}
+use Rattle.script_run.proofs.Ways.{way-last, way-on}
 use Rattle.script_run.proofs.to_end.play_to_end.Goals as goal
 
 pub pieces-preserved : goal.pieces-preserved

@@ -1,7 +1,8 @@
 use Rattle.std.proofs.Common.{◌++◌, ap, ◌∙◌, append_assoc, subst, sym}
 use Rattle.damon_core.specs.Stands.{Stands}
 use Rattle.snapshot_print.specs.Forms.{writing_of}
-use Rattle.snapshot_print.specs.Printed.{printed_monitor, printed_monitor-stands, printed_state}
+use Rattle.snapshot_print.specs.Printed.{printed_monitor, printed_state}
+use Rattle.snapshot_print.proofs.Lemmas.{printed_monitor-stands}
 use Rattle.script_run.proofs.Moves.{OnOk-map}
 use Rattle.script_run.proofs.player.Player.append_last.Goals as goal
 
