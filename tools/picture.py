@@ -6,9 +6,7 @@ docs/TUTORIAL.md shows its use.
 from __future__ import annotations
 
 import argparse
-import re
 import sys
-from typing import Iterable
 
 from common import STANDARD_INPUT, UsageError, opened_text, parser, run
 from drawing.front import front_picture
@@ -18,6 +16,7 @@ from drawing.panels import spans_of
 from drawing.picture import picture
 from reports.events import Report, ReportError
 from reports.heat import Heat, HeatError, heats_of
+from reports.labels import check_labels, labels_of
 from reports.places import Place, PlaceError, check_places, places_of
 from searching.marks import TableError, axis_of, table_of
 
@@ -58,18 +57,6 @@ The axes are two of its measures, or other columns of numbers with :less or :mor
 says what is better. In front are the rows that no other one beats: none is as good in both and better
 in one. Rows of points have lines that are as long as the spread of their runs.
 """
-LABEL = re.compile(r"([0-9]{1,2})=(.*)")
-
-
-def labels_of(words: list[str]) -> dict[int, str]:
-    """The options --label as names by target. Raises UsageError."""
-    labels = {}
-    for word in words:
-        match = LABEL.fullmatch(word)
-        if not match:
-            raise UsageError(f"--label needs TARGET=TEXT, and not {word!r}")
-        labels[int(match[1])] = match[2]
-    return labels
 
 
 def history_read(options: argparse.Namespace) -> History:
@@ -126,14 +113,6 @@ def options_of() -> argparse.Namespace:
     if options.front != (options.x is not None) or options.front != (options.y is not None):
         raise UsageError("--front needs --x and --y, and these need --front")
     return options
-
-
-def check_labels(labels: Iterable[int], targets: Iterable[int], whose: str) -> None:
-    """Raises UsageError if a label names a target that is not there."""
-    known = list(targets)
-    for target in labels:
-        if target not in known:
-            raise UsageError(f"--label names target {target}, and {whose} {', '.join(map(str, known))}")
 
 
 def report_drawn(options: argparse.Namespace) -> str:
