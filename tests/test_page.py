@@ -130,7 +130,10 @@ class Shown(unittest.TestCase):
 
     def place(self, selector: str, target: int, tick: float, page: float) -> tuple[float, float]:
         """Where a tick and a page are in a lane."""
-        (width, height), (since, until), (low, high) = self.size(selector), self.time(), self.pages(target)
+        width, height, since, until, low, high = self.browser.do("script", f"""
+            const {{ width, height }} = document.querySelector('{selector}').getBoundingClientRect();
+            const texts = [document.body.dataset.time, document.querySelector('[data-target="{target}"]').dataset.pages];
+            return [width, height, ...texts.flatMap(text => text.split(' ').map(Number))]""")
         return (GUTTER + (width - GUTTER - RIGHT) * (tick - since) / (until - since), height * (high - page) / (high - low))
 
     def point(self, selector: str, target: int, tick: float, page: float) -> str:
