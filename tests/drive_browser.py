@@ -23,6 +23,8 @@ WORDS = ("--headless=new", "--disable-gpu", "--hide-scrollbars", f"--window-size
          "--no-sandbox")
 FRAMES = "const done = arguments[0]; requestAnimationFrame(() => requestAnimationFrame(() => setTimeout(done, 0)))"
 """Ends when what was changed until now is drawn."""
+ASKING = ("script", "log")
+"""The commands that change nothing that is drawn."""
 
 webdriver: Any = import_module("selenium.webdriver")
 chains: Any = import_module("selenium.webdriver.common.action_chains")
@@ -121,8 +123,10 @@ def main() -> None:
         for line in sys.stdin:
             command = json.loads(line)
             try:
-                answer = getattr(driver, command.pop("do"))(*command.pop("words", ()), **command)
-                browser.execute_async_script(FRAMES)
+                name = command.pop("do")
+                answer = getattr(driver, name)(*command.pop("words", ()), **command)
+                if name not in ASKING:
+                    browser.execute_async_script(FRAMES)
                 print(json.dumps({"answer": answer}), flush=True)
             except Exception as error:  # pylint: disable=broad-except
                 print(json.dumps({"fault": f"{type(error).__name__}: {error}"}), flush=True)

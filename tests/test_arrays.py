@@ -103,6 +103,7 @@ class Arrays(unittest.TestCase):
         taken = 32 * (2 * 4 + 6 + 3 + 5 + 3)
         self.assertEqual([line for line in lines if line.startswith("slot")], [
             f"slot 0 pageout: applied to {taken} page-aggregations",
+            f"slot 0 pageout: {taken - 224} of these were out already: {100 * (taken - 224) / taken:.1f} %",
             "slot 0 pageout: 224 pages put out, 64 of them different",
             "slot 0 pageout: 160 refaults of these: 71.4 %; 4.0 an aggregation",
             "slot 0 pageout: 32 refaults within 5 aggregations: 14.3 %",

@@ -16,7 +16,7 @@ from typing import Any, Sequence
 
 from tool_runs import PROGRAM, TOOLS, Refusals, need_program, random_trace, report_of, run, script_of
 
-from comparing.counts import applied_of, counts_of
+from comparing.counts import accessed_in, applied_of
 from comparing.paging import Moment, Paging
 from reports.events import Aggregation, Report
 from reports.memory import Memory
@@ -151,6 +151,8 @@ def slot_numbers(exact: list[PageCounts], found: list[PageCounts], after: int) -
                     out[page] = (slot, number)
                     sums["out"] += 1
                     different.setdefault(slot, set()).add(page)
+                elif action == "pageout":
+                    sums["again"] += 1
                 elif action == "willneed" and page in out:
                     owner, since = out.pop(page)
                     total[owner, "pageout"]["fetched"] += 1
@@ -162,7 +164,8 @@ def slot_numbers(exact: list[PageCounts], found: list[PageCounts], after: int) -
             lines.append([slot, sums["used"], sums["applied"], after, *percent(sums["used"], sums["applied"])])
             continue
         end = sum(1 for owner, _ in out.values() if owner == slot)
-        lines += [[slot, sums["applied"]], [slot, sums["out"], len(different.get(slot, ()))],
+        lines += [[slot, sums["applied"]], [slot, sums["again"], *percent(sums["again"], sums["applied"])],
+                  [slot, sums["out"], len(different.get(slot, ()))],
                   [slot, sums["back"], *percent(sums["back"], sums["out"]), f"{sums['back'] / len(exact):.1f}"],
                   [slot, sums["soon"], after, *percent(sums["soon"], sums["out"])],
                   *([[slot, sums["fetched"], *percent(sums["fetched"], sums["out"])]] if sums["fetched"] else []),
@@ -250,6 +253,7 @@ class Arithmetic(unittest.TestCase):
             "cold: 3 of 4 page-aggregations called cold are not: 75.0 %",
             "working set: 1.0 pages on average, exactly 2.0: -50.0 %; off by 1.0 pages on average",
             "slot 0 pageout: applied to 3 page-aggregations",
+            "slot 0 pageout: 0 of these were out already: 0.0 %",
             "slot 0 pageout: 3 pages put out, 3 of them different",
             "slot 0 pageout: 2 refaults of these: 66.7 %; 1.0 an aggregation",
             "slot 0 pageout: 2 refaults within 5 aggregations: 66.7 %",
@@ -307,7 +311,7 @@ class Reclaim(unittest.TestCase):
         self.assertEqual(len(memory), len(aggregations) + 1)
         paging = Paging(1, False)
         for number, (one, other, said) in enumerate(zip(truth.aggregations(), aggregations, memory)):
-            paging.add(Moment(number, other.tick), counts_of(one, 1, None).accessed, applied_of(other, None))
+            paging.add(Moment(number, other.tick), accessed_in(one.regions), applied_of(other, None))
             ledgers = paging.ledgers.values()
             self.assertEqual((other.tick, *(sum(getattr(ledger, name) for ledger in ledgers)
                                             for name in ("out", "put_out", "refaults", "prefetches"))),
@@ -327,6 +331,67 @@ class Forms(unittest.TestCase):
         self.assertTrue(all(json.loads(line) for line in lines[1].splitlines()))
         self.assertEqual(compared(lines[0], lines[1], "--moves"), compared(texts[0], texts[1], "--moves"))
         self.assertEqual(compared(lines[0], texts[1]), compared(texts[0], lines[1]))
+
+
+class Several(unittest.TestCase):
+    """More than one report beside an exact one, and the same numbers as JSON."""
+
+    SCHEMES = ("scheme 0 pageout count=0,1 age=1,9", "scheme 5 lru_prio count=3,9")
+
+    def setUp(self) -> None:
+        folder = tempfile.TemporaryDirectory()
+        self.addCleanup(folder.cleanup)
+        self.paths = [Path(folder.name) / name for name in ("exact", "few", "many")]
+        trace, words = random_trace(3, 4000), ["--interval", "8", "--aggr", "5"]
+        scripts = [script_of(trace, *words, *more) for more in
+                   (["--exact"], ["--max", "20", "--scheme", self.SCHEMES[0]],
+                    ["--max", "60", *(word for line in self.SCHEMES for word in ("--scheme", line))])]
+        for path, script in zip(self.paths, scripts):
+            path.write_text(report_of(script))
+        self.exact, *self.found = [aggregations_of(path.read_text()) for path in self.paths]
+
+    def output(self, *words: str) -> list[str]:
+        ran = run(TOOL, *map(str, self.paths), *words)
+        self.assertEqual((ran.returncode, ran.stderr), (0, b""))
+        return ran.stdout.decode().splitlines()
+
+    def test_columns(self) -> None:
+        head, *lines = [re.split(r"  +", line.strip()) for line in self.output("--hot", "0.4", "--after", "3")]
+        self.assertEqual(head, [str(path) for path in self.paths[1:]])
+        table = {name: cells for name, *cells in lines}
+        for column, found in enumerate(self.found):
+            pages, hot, called_hot, cold, called_cold, sets = found_numbers(self.exact, found, 0.4)
+            wanted = [pages[0], f"{hot[2]} %", f"{called_hot[2]} %", f"{cold[2]} %", f"{called_cold[2]} %", sets[0], sets[1], f"{sets[2]} %"]
+            self.assertEqual([cells[column] for cells in list(table.values())[:8]], wanted)
+            (applied, again, put_out, refaults, soon, *_, out), *_ = [slot_numbers(self.exact, found, 3)[0]]
+            if column == 1:
+                out, used = soon_and_use(slot_numbers(self.exact, found, 3)[0])
+                self.assertEqual(table["slot 5 lru_prio: accessed in the next 3 aggregations"], ["-", f"{used[-1]} %"])
+            for name, number in (("applied to page-aggregations", applied[1]), ("of these out already", f"{again[2]} %"),
+                                 ("pages put out", put_out[1]), ("refaults", refaults[1]), ("refaults within 3 aggregations", soon[1]),
+                                 ("pages out on average", out[2])):
+                self.assertEqual(table[f"slot 0 pageout: {name}"][column], number)
+
+    def test_json(self) -> None:
+        lines = [json.loads(line) for line in self.output("--json", "--hot", "0.4", "--after", "3")]
+        self.assertEqual([line["report"] for line in lines], [str(path) for path in self.paths[1:]])
+        for line, path, found in zip(lines, self.paths[1:], self.found):
+            text = compared(self.paths[0].read_text(), path.read_text(), "--hot", "0.4", "--after", "3")
+            numbers = [re.findall(r"[-+]?\b\d+(?:\.\d+)?", row) for row in text]
+            hot, cold, sets = line["hot"], line["cold"], line["working_set"]
+            self.assertEqual([[str(line["aggregations"]), str(line["page_aggregations"])], [str(hot["found"]), str(hot["exact"])],
+                              [str(hot["called"] - hot["found"]), str(hot["called"])], [str(cold["found"]), str(cold["exact"])],
+                              [str(cold["called"] - cold["found"]), str(cold["called"])]], [numbers[0], *(row[:2] for row in numbers[1:5])])
+            self.assertEqual([f"{sets[name]:.1f}" for name in ("found", "exact", "off")], [numbers[5][0], numbers[5][1], numbers[5][3]])
+            slot = line["slots"][0]
+            self.assertEqual([str(slot[name]) for name in ("applied", "again", "put_out", "different", "refaults", "refaults_soon")],
+                             [numbers[6][1], numbers[7][1], numbers[8][1], numbers[8][2], numbers[9][1], numbers[10][1]])
+            self.assertEqual([one["action"] for one in line["slots"]], ["pageout", "lru_prio"][: len(line["slots"])])
+
+
+def soon_and_use(lines: list[list[str]]) -> tuple[list[str], list[str]]:
+    """The last line of slot 0, and that of slot 5."""
+    return [line for line in lines if line[0] == "0"][-1], next(line for line in lines if line[0] == "5")
 
 
 class Costs(unittest.TestCase):
@@ -395,6 +460,7 @@ class Errors(Refusals):
         self.check(["--after"], EXACT, FOUND, "--after", "0")
         self.check(["the-exact-one", "target 9"], EXACT, FOUND, "--target", "9")
         self.refused(TOOL, ["standard input"], b"", "-", "-")
+        self.check(["--moves"], EXACT, FOUND, "--moves", "--json")
 
     def test_files_are_named_once(self) -> None:
         ran = run(TOOL, "no-such-file", "-")

@@ -11,8 +11,8 @@ from pathlib import Path
 
 from common import STANDARD_INPUT, UsageError, opened_text, parser, run
 from drawing.history import Cut, ScriptError, commits_of, history_of
-from drawing.naming import check_targets, labels_of, names_read
 from reports.events import Report, ReportError
+from reports.labels import check_labels, labels_of, names_read
 from webpage.block import Block
 from webpage.columns import Shown, packed_report, targets_of
 from webpage.d3 import D3Error, bundle
@@ -98,7 +98,7 @@ def work() -> None:
     part = Cut(options.since or 0, options.until, frozenset(options.target) or None)
     reports = [report_read(path, script, part) for path, script in zip(options.reports, [*options.script, None, None])]
     targets = targets_of((report.history for report in reports), areas, labels)
-    check_targets("--label", labels, [target.number for target in targets], "the reports have")
+    check_labels(labels, [target.number for target in targets], "the reports have")
     block = Block()
     meta = {"targets": [vars(target) for target in targets],
             "reports": [packed_report(block, report, targets, options.most) for report in reports]}

@@ -13,11 +13,11 @@ from drawing.front import ColourError, colours_of, front_picture
 from drawing.heat import heat_picture
 from drawing.charts import CHARTS, charts_of
 from drawing.history import Cut, History, ScriptError, commits_of, history_of
-from drawing.naming import check_targets, labels_of, names_read
 from drawing.panels import spans_of
 from drawing.picture import View, picture
 from reports.events import Report, ReportError
 from reports.heat import Heat, HeatError, heats_of
+from reports.labels import check_targets, labels_of, names_read
 from reports.names import names_by_target
 from reports.places import Place, PlaceError, check_places, places_of
 from searching.marks import TableError, axis_of, table_of

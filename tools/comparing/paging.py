@@ -10,7 +10,7 @@ from __future__ import annotations
 from dataclasses import dataclass, field
 from typing import Iterable, NamedTuple
 
-from reports.pages import PageRun, PageRuns, size, union, without
+from reports.pages import PageRun, PageRuns, common, size, union, without
 
 Owner = tuple[int, str]
 """A slot, and the action of its scheme."""
@@ -61,6 +61,11 @@ class Ledger:
     out_sum: int = 0
     """The pages that were out through a whole aggregation, added up."""
 
+    @property
+    def again(self) -> int:
+        """The page-aggregations of `applied` whose pages were out already: they cost quota, and put nothing out."""
+        return self.applied - self.put_out
+
 
 class Paging:
     """Follows all slots with `pageout` through the aggregations."""
@@ -71,6 +76,8 @@ class Paging:
         self.stays: list[Stay] = []
         """What is out, by page."""
         self.moves: list[Move] | None = [] if keep_moves else None
+        self.again: dict[int, PageRuns] = {}
+        """The pages that the last aggregation applied the `pageout` of a slot to although they were out already, by slot."""
 
     def add(self, now: Moment, accessed: PageRuns, applied: dict[Owner, list[PageRun]]) -> None:
         """Takes one aggregation: what was accessed in it comes in, and then schemes put out and fetch back, slot by slot."""
@@ -81,6 +88,7 @@ class Paging:
                 ledger.soon += pages
         for ledger in self.ledgers.values():
             ledger.out_sum += ledger.out
+        self.again = {}
         for (slot, action), runs in applied.items():
             if action == PAGEOUT:
                 self.go_out(now, slot, runs)
@@ -101,7 +109,9 @@ class Paging:
     def go_out(self, now: Moment, slot: int, runs: list[PageRun]) -> None:
         ledger = self.ledgers.setdefault(slot, Ledger())
         ledger.applied += size(runs)
-        new = without(sorted(runs), [stay[:2] for stay in self.stays])
+        are_out = [stay[:2] for stay in self.stays]
+        new = without(sorted(runs), are_out)
+        self.again[slot] = common(sorted(runs), are_out)
         if new:
             ledger.put_out += size(new)
             ledger.out += size(new)

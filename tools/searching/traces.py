@@ -7,6 +7,7 @@ from itertools import accumulate
 from typing import Iterable, Iterator
 
 from common import UsageError
+from measuring.truth import Range, Truths
 from scripts.grammar import HEADER
 from scripts.reading import ARM, FINISH
 from tracing.accesses import TraceError
@@ -16,7 +17,6 @@ from tracing.reading import no_limit, read_trace, touched
 from tracing.script import places, touches
 
 from .plan import OF_TRACES, Plan
-from .truth import Range, Truths
 from .workloads import Key, Numbers, Workload
 
 ENDING = b"show\nend\n"

@@ -9,6 +9,7 @@ from itertools import accumulate
 from typing import NamedTuple
 
 from common import UsageError, opened
+from measuring.truth import Range, Truths
 from scripts.grammar import first_word
 from scripts.reading import Commit, OtherLine, Pass, touched_by
 from scripts.setup import Script
@@ -17,7 +18,6 @@ from tracing.intervals import Runs, runs_of
 from units import PAGE_BITS
 
 from .plan import SEED, Plan, Value
-from .truth import Range, Truths
 
 
 class Workload(NamedTuple):

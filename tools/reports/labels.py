@@ -1,11 +1,12 @@
-"""Names of targets, as options give them."""
+"""Names of targets that a user gives: as `TARGET=TEXT`, or in a file by addresses."""
 from __future__ import annotations
 
 import re
 from typing import Iterable
 
 from common import UsageError, opened_text
-from reports.names import NamedArea, NamesError, named_areas_of
+
+from .names import NamedArea, NamesError, named_areas_of
 
 LABEL = re.compile(r"([0-9]{1,2})=(.*)")
 
@@ -36,3 +37,8 @@ def check_targets(option: str, named: Iterable[int], targets: Iterable[int], who
     for target in named:
         if target not in known:
             raise UsageError(f"{option} names target {target}, and {whose} {', '.join(map(str, known))}")
+
+
+def check_labels(labels: Iterable[int], targets: Iterable[int], whose: str) -> None:
+    """The same of labels. Raises UsageError."""
+    check_targets("--label", labels, targets, whose)
