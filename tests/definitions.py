@@ -20,11 +20,11 @@ definition is listed once, in the first list whose roots need it. The list `inte
 that no exported clause needs. The number of definitions behind the headline also stands in docs/THEOREM.md,
 between `<!-- headline -->` and `<!-- end -->`.
 """
-import re
 import sys
 from pathlib import Path
 from typing import Dict, Iterable, List, NamedTuple, Set
 
+from blocks import with_block
 from sources import TOP, Definition, Repository
 
 PAGE = TOP / "docs/DEFINITIONS.md"
@@ -140,14 +140,6 @@ def theorem_written(page: str, repository: Repository) -> str:
     files = {(it.crate, it.file) for it in needed}
     size = f"**{len(needed)} definitions in {line_count(needed):,} lines, in {len(files)} files**\n"
     return with_block(page, "headline", size)
-
-
-def with_block(page: str, name: str, text: str) -> str:
-    """The page with another text between its marks of this name."""
-    marked = re.compile(rf"(<!-- {name} -->\n).*?(<!-- end -->)", re.S)
-    if not marked.search(page):
-        sys.exit(f"the page has no place <!-- {name} -->")
-    return marked.sub(lambda found: found[1] + text + found[2], page)
 
 
 def main(words: List[str]) -> None:
