@@ -20,10 +20,10 @@ docs/generated has the lists of LISTS. A definition is listed once, in the first
 list `internal` has the definitions that no exported clause needs. The number of definitions behind the headline also stands in docs/THEOREM.md
 and in README.md, between `<!-- headline -->` and `<!-- end -->`.
 """
-import re
 import sys
 from typing import Dict, Iterable, List, NamedTuple, Set
 
+from blocks import with_block
 from sources import TOP, Definition, Repository
 
 PAGE = TOP / "docs/DEFINITIONS.md"
@@ -140,20 +140,6 @@ def theorem_written(page: str, repository: Repository) -> str:
     files = {(it.crate, it.file) for it in needed}
     size = f"**{len(needed)} definitions in {line_count(needed):,} lines, in {len(files)} files**\n"
     return with_block(page, "headline", size)
-
-
-def with_blocks(page: str, blocks: Dict[str, List[str]]) -> str:
-    for name, rows in blocks.items():
-        page = with_block(page, name, "\n".join(["", *rows, "", ""]))
-    return page
-
-
-def with_block(page: str, name: str, text: str) -> str:
-    """The page with another text between its marks of this name."""
-    marked = re.compile(rf"(<!-- {name} -->\n).*?(<!-- end -->)", re.S)
-    if not marked.search(page):
-        sys.exit(f"the page has no place <!-- {name} -->")
-    return marked.sub(lambda found: found[1] + text + found[2], page)
 
 
 def main(words: List[str]) -> None:

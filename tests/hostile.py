@@ -1,13 +1,18 @@
 #!/usr/bin/env python3
 """Compares the built programs with other programs on hostile inputs, which are made from valid ones.
 
-    tests/hostile.py OTHER_DAMON [OTHER_DAMOND] [--count N] [--seed N] [--only COMMAND] [--keep FOLDER]
+    tests/hostile.py [OTHER_DAMON [OTHER_DAMOND]] [--count N] [--seed N] [--only COMMAND] [--keep FOLDER]
 
-OTHER_DAMON and OTHER_DAMOND are programs with the same formats. Each input is a valid or a rejected text with one to
+OTHER_DAMON and OTHER_DAMOND are programs with the same formats. Without them they are those of the baseline, the plain programs
+of the same rules, which are built by
+
+    (cd baseline && cargo build --release)
+
+The built programs are those of this checkout, or those that DAMON and DAMOND in the environment name. Each input is a valid or a rejected text with one to
 four edits: of bytes, of words, of lines, or one that is aimed at a rule of the formats (`hostile_edits.py`). It is
 given to both programs, with `replay`, `json`, `reclaim`, `tune` and two goals, `admin`, `verify`, `heat 16` or `run`. Both must write
-the same bytes to standard output and to standard error and end with the same status. Two runs of `damond run` in
-threads may write two journals; there both programs must end alike, and each must accept the journal of either by its `verify`.
+the same bytes to standard output and to standard error and end with the same status. Two runs of `damond run` in threads may
+write two journals; there both programs must end alike, and each must accept the journal of either by its `verify`.
 
 Nothing is compared with an answer that was stored. What differs is printed, and its input is written to FOLDER. The
 last line counts the inputs that were the same and those that differ.
@@ -27,7 +32,10 @@ from typing import Dict, List, NamedTuple, Optional
 from hostile_edits import edited
 from tool_runs import DAMOND, PROGRAM, TOP
 
+NAMES = ("damon", "damond")
 BUILT = {"damon": PROGRAM, "damond": DAMOND}
+BASELINE = {name: TOP / f"baseline/target/release/{name}" for name in NAMES}
+HOW_BUILT = "(cd baseline && cargo build --release) builds the baseline"
 COMMANDS = ("replay", "json", "reclaim", "tune", "admin", "verify", "heat", "run")
 # The words after a command.
 WORDS = {"heat": ("16",), "tune": ("0:metric:100:4096:81920", "1:cold:700:0:40960")}
@@ -61,7 +69,7 @@ class Programs(NamedTuple):
 def main() -> int:
     wanted = parse_words()
     ours = Programs(BUILT["damon"], BUILT["damond"])
-    other = Programs(wanted.other_damon.resolve(), wanted.other_damond.resolve() if wanted.other_damond else None)
+    other = other_programs(wanted.other_damon, wanted.other_damond)
     seeds = load_seeds(with_live=other.damond is not None)
     commands = [it for it in ([wanted.only] if wanted.only else COMMANDS) if seeds.get(it)]
     inputs = make_inputs(seeds, commands, wanted.count, wanted.seed)
@@ -78,10 +86,19 @@ def main() -> int:
     return 1 if failed or not inputs else 0
 
 
+def other_programs(damon: Optional[Path], damond: Optional[Path]) -> Programs:
+    """The programs that are named, or those of the baseline."""
+    named = Programs(damon, damond) if damon else Programs(BASELINE["damon"], BASELINE["damond"])
+    for program in named:
+        if program and not program.is_file():
+            sys.exit(f"tests/hostile.py: there is no {program}: {HOW_BUILT}")
+    return Programs(named.damon.resolve(), named.damond.resolve() if named.damond else None)
+
+
 def parse_words() -> argparse.Namespace:
-    parser = argparse.ArgumentParser(description="Compares the built programs with others on hostile inputs.")
-    parser.add_argument("other_damon", type=Path)
-    parser.add_argument("other_damond", type=Path, nargs="?")
+    parser = argparse.ArgumentParser(description=__doc__, formatter_class=argparse.RawDescriptionHelpFormatter)
+    parser.add_argument("other_damon", type=Path, nargs="?", metavar="OTHER_DAMON")
+    parser.add_argument("other_damond", type=Path, nargs="?", metavar="OTHER_DAMOND")
     parser.add_argument("--count", type=int, default=4_000)
     parser.add_argument("--seed", type=int, default=1)
     parser.add_argument("--only", choices=COMMANDS)

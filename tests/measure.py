@@ -1,141 +1,226 @@
 #!/usr/bin/env python3
-"""Measures programs side by side: their best wall times, their peaks of memory, and the ratios of both.
+"""Measures programs side by side: wall times from the start of a process to its exit, peaks of memory, and instructions.
 
-    tests/measure.py TURNS PROGRAM [PROGRAM ...] [--only NAME] [--instructions | --growth]
+    tests/measure.py TURNS [PROGRAM ...] [--only NAME] [--sizes] [--seed N] [--csv FILE]
+    tests/measure.py --instructions [PROGRAM ...] [--only NAME] [--csv FILE]
+    tests/measure.py --write | --check [--csv FILE]
 
-Each PROGRAM is run on each workload (`speed_workloads.py`), TURNS times, in turn with the others. A line has the
-name of the workload and, for each program, its best time in milliseconds and its greatest resident set in
-MiB; for each program but the last also its time divided by that of the last one. `--only` takes the
-workloads whose names begin with NAME. The workloads are those of the program by its name, `damon` or `damond`.
+Each PROGRAM is run TURNS times on each workload (`speed_workloads.py`). In each turn the pairs of a program and a workload come
+in another order, which depends on the seed and the number of the turn alone. A PROGRAM is `NAME=DAMON` or `NAME=DAMON,DAMOND`.
+Without one they are the built programs of this checkout, `proved`, and those of the baseline, `plain`. To build these:
 
-With `--instructions` each program is run once on each workload by valgrind's callgrind, and a line has the millions
-of instructions of each and their ratios. Other work on the machine does not change these numbers.
+    (cd baseline && cargo build --release)
 
-With `--growth` each workload that has several sizes is run at all of them by the first PROGRAM alone. A
-table of times by size is printed, which `tests/growth.py` draws.
+All times are kept, and each line that is printed has of a program on a workload its best time, its median between the quartiles,
+the number of its turns, and its greatest resident set. The ratios are to the last program. With `--csv` the figures are added to
+those in FILE, which may come from other turns, and the lines are about all of them. `--only` takes the workloads whose names
+begin with NAME, and `--sizes` all sizes of a workload in place of the greatest.
+
+With `--instructions` each program is run once on each workload of `damon` by valgrind's callgrind. Other work on the machine
+does not change these numbers. Threads take other turns each time, so those of `damond` are not counted.
+
+With `--write` the tables of docs/PERFORMANCE.md are made from FILE, which is docs/performance.csv where no other is named; with
+`--check` the exit status is 1 where that would change the page. So all figures of the page are made by these commands, on a
+machine with nothing else to do:
+
+    rm -f docs/performance.csv
+    tests/measure.py 50 --sizes --csv docs/performance.csv
+    tests/measure.py --instructions --csv docs/performance.csv
+    tests/measure.py --write
+    tests/growth.py docs/PERFORMANCE.md > docs/pictures/growth.svg
 """
 import argparse
-import functools
+import os
+import random
 import shutil
 import subprocess
 import sys
 import tempfile
 import time
-from contextlib import contextmanager
 from pathlib import Path
-from typing import IO, Iterator, List, Sequence
+from typing import Dict, List, NamedTuple, Optional, Sequence
 
+from figures import Figures, Measured, Subject, joined, lines_of, load, save, written
 from speed_workloads import WORKLOADS, Workload
 
+TOP = Path(__file__).resolve().parent.parent
+PAGE = TOP / "docs/PERFORMANCE.md"
+KEPT = TOP / "docs/performance.csv"
+PROGRAMS = (
+    f"proved={TOP}/crates/damon/out/damon,{TOP}/crates/damond/out/damond",
+    f"plain={TOP}/baseline/target/release/damon,{TOP}/baseline/target/release/damond",
+)
+HOW_BUILT = "`rt ci` builds the proved programs, and (cd baseline && cargo build --release) the plain ones"
 TIMER = "/usr/bin/time"
 COUNTER = "valgrind"
 COUNTED = "Collected :"
 
 
-@functools.lru_cache(maxsize=1)
-def text_of(workload: Workload, size: int) -> bytes:
-    """The input of a workload, which is made once for all turns and programs."""
-    return workload.text(size)
+class Program(NamedTuple):
+    name: str
+    # The files by the names of the programs.
+    files: Dict[str, Path]
 
 
-@contextmanager
-def source_of(workload: Workload, size: int) -> Iterator[IO[bytes]]:
-    with tempfile.TemporaryFile() as source:
-        source.write(text_of(workload, size))
-        source.seek(0)
-        yield source
+class Job(NamedTuple):
+    program: Program
+    workload: Workload
+    size: int
+
+    def subject(self) -> Subject:
+        return Subject(self.workload.name, self.size, self.program.name)
+
+    def command(self) -> List[str]:
+        return [str(self.program.files[self.workload.program]), *self.workload.words]
 
 
-def seconds(program: str, workload: Workload, size: int) -> float:
-    with source_of(workload, size) as source:
+class Inputs:
+    """The inputs of workloads, as files of a folder, each made once."""
+
+    def __init__(self, folder: str) -> None:
+        self.folder = Path(folder)
+
+    def path(self, job: Job) -> Path:
+        path = self.folder / f"{job.workload.name}.{job.size}"
+        if not path.exists():
+            path.write_bytes(job.workload.text(job.size))
+        return path
+
+
+# ---- one run
+
+
+def milliseconds(job: Job, source: Path) -> float:
+    with source.open("rb") as text:
         start = time.perf_counter()
-        run = subprocess.run([program, *workload.words], stdin=source, stdout=subprocess.DEVNULL)
+        run = subprocess.run(job.command(), stdin=text, stdout=subprocess.DEVNULL)
         end = time.perf_counter()
     if run.returncode != 0:
-        sys.exit(f"{program} {' '.join(workload.words)} ended with status {run.returncode}")
-    return end - start
+        sys.exit(f"{' '.join(job.command())} ended with status {run.returncode}")
+    return 1000 * (end - start)
 
 
-def memory(program: str, workload: Workload, size: int) -> float:
-    """The greatest resident set in MiB. A small program starts the one that is measured, whose figure would else be at least
-    that of this interpreter."""
-    with source_of(workload, size) as source:
-        command = [TIMER, "-f", "%M", program, *workload.words]
-        run = subprocess.run(command, stdin=source, stdout=subprocess.DEVNULL, stderr=subprocess.PIPE, check=True)
-    return int(run.stderr.split()[-1]) / 1024
+def peak_kib(job: Job, source: Path) -> int:
+    """The greatest resident set. A small program starts the one that is measured, whose figure would else be at least that of
+    this interpreter."""
+    with source.open("rb") as text:
+        run = subprocess.run([TIMER, "-f", "%M", *job.command()], stdin=text, stdout=subprocess.DEVNULL, stderr=subprocess.PIPE, check=True)
+    return int(run.stderr.split()[-1])
 
 
-def instructions(program: str, workload: Workload) -> float:
-    """The millions of instructions of a run at the greatest size."""
-    command = [COUNTER, "--tool=callgrind", "--callgrind-out-file=/dev/null", program, *workload.words]
-    with source_of(workload, workload.sizes[0]) as source:
-        run = subprocess.run(command, stdin=source, stdout=subprocess.DEVNULL, stderr=subprocess.PIPE, text=True, check=True)
-    return int(run.stderr.rpartition(COUNTED)[2].split()[0]) / 1e6
+def instructions(job: Job, source: Path) -> int:
+    command = [COUNTER, "--tool=callgrind", "--callgrind-out-file=/dev/null", *job.command()]
+    with source.open("rb") as text:
+        run = subprocess.run(command, stdin=text, stdout=subprocess.DEVNULL, stderr=subprocess.PIPE, text=True, check=True)
+    return int(run.stderr.rpartition(COUNTED)[2].split()[0])
 
 
-def count(programs: List[str], workloads: Sequence[Workload]) -> None:
-    for workload in workloads:
-        counts = [instructions(program, workload) for program in programs]
-        line = "".join(f"{it:10.1f} million" for it in counts)
-        ratios = "".join(f"{it / counts[-1]:8.2f}" for it in counts[:-1])
-        print(f"{workload.name:14}{line}{ratios}", flush=True)
+# ---- all runs
 
 
-def compare(turns: int, programs: List[str], workloads: Sequence[Workload]) -> None:
-    for workload in workloads:
-        size = workload.sizes[0]
-        rounds = [[seconds(program, workload, size) for program in programs] for _ in range(turns)]
-        times = [min(turns_of_one) for turns_of_one in zip(*rounds)]
-        peaks = [memory(program, workload, size) for program in programs]
-        line = "".join(f"{1000 * it:10.2f} ms {peak:6.1f} MiB" for it, peak in zip(times, peaks))
-        ratios = "".join(f"{it / times[-1]:8.2f}" for it in times[:-1])
-        print(f"{workload.name:14}{line}{ratios}", flush=True)
+def measure(turns: int, jobs: Sequence[Job], seed: int, inputs: Inputs) -> Measured:
+    """The times of all turns, and the peaks of memory."""
+    found = {job.subject(): Figures(peak_kib=peak_kib(job, inputs.path(job))) for job in jobs}
+    for turn in range(turns):
+        for job in order_of(jobs, seed, turn):
+            found[job.subject()].milliseconds.append(milliseconds(job, inputs.path(job)))
+    return found
 
 
-def grow(turns: int, program: str, workloads: Sequence[Workload]) -> None:
-    """Prints a table that `tests/growth.py` draws. Its first row is the start of the process: an input with nothing in it."""
-    print("| workload | the size is | size | time | size | time | size | time |\n|---|---|---|---|---|---|---|---|")
-    print(f"| start | an empty input | | {1000 * min(start_of(program) for _ in range(turns)):.2f} ms | | | | |")
-    for workload in workloads:
-        if len(workload.sizes) == 1:
-            continue
-        found = [(size, min(seconds(program, workload, size) for _ in range(turns))) for size in workload.sizes]
-        cells = "".join(f"| {size:,} | {1000 * it:.2f} ms " for size, it in found)
-        print(f"| {workload.name} | {workload.unit} {cells}|", flush=True)
+def order_of(jobs: Sequence[Job], seed: int, turn: int) -> List[Job]:
+    """All jobs in an order of its own for each turn."""
+    return random.Random(f"{seed} {turn}").sample(list(jobs), len(jobs))
 
 
-def start_of(program: str) -> float:
-    """The time of a run that refuses an empty input."""
-    words = ["run" if Path(program).name == "damond" else "replay"]
-    start = time.perf_counter()
-    subprocess.run([program, *words], stdin=subprocess.DEVNULL, stdout=subprocess.DEVNULL, stderr=subprocess.DEVNULL)
-    return time.perf_counter() - start
+def count(jobs: Sequence[Job], inputs: Inputs) -> Measured:
+    counted = [job for job in jobs if job.workload.program == "damon"]
+    return {job.subject(): Figures(instructions=instructions(job, inputs.path(job))) for job in counted}
 
 
-def main() -> None:
-    parser = argparse.ArgumentParser(description="Measures programs side by side: their best times and their memory.")
-    parser.add_argument("turns", type=int, help="how often each program is run on each workload")
-    parser.add_argument("programs", nargs="+", metavar="PROGRAM", help="the last one is what the others are compared with")
+# ---- the words of the command line
+
+
+def program_of(word: str) -> Program:
+    """The program of a word `NAME=DAMON` or `NAME=DAMON,DAMOND`."""
+    name, _, files = word.partition("=")
+    if not files:
+        raise argparse.ArgumentTypeError(f"{word} is not NAME=DAMON or NAME=DAMON,DAMOND")
+    named = dict(zip(("damon", "damond"), map(Path, files.split(","))))
+    lacking = [str(path) for path in named.values() if not path.is_file()]
+    if lacking:
+        raise argparse.ArgumentTypeError(f"there is no {' and no '.join(lacking)}: {HOW_BUILT}")
+    return Program(name, named)
+
+
+def parse_words(words: Optional[Sequence[str]] = None) -> argparse.Namespace:
+    parser = argparse.ArgumentParser(description=__doc__, formatter_class=argparse.RawDescriptionHelpFormatter)
+    parser.add_argument("turns", type=int, nargs="?", default=0, metavar="TURNS", help="how often each program is run on each workload")
+    parser.add_argument("programs", nargs="*", metavar="PROGRAM", help="the last one is what the others are compared with")
     parser.add_argument("--only", default="", metavar="NAME", help="the workloads whose names begin with NAME")
+    parser.add_argument("--sizes", action="store_true", help="all sizes of the workloads")
+    parser.add_argument("--seed", type=int, default=1, help="what the orders depend on")
+    parser.add_argument("--csv", type=Path, metavar="FILE", help="where figures are kept")
     kinds = parser.add_mutually_exclusive_group()
-    kinds.add_argument("--instructions", action="store_true", help="the instructions of each program, in place of times")
-    kinds.add_argument("--growth", action="store_true", help="times of the first program by size, as a table")
-    words = parser.parse_args()
-    named = [it for it in WORKLOADS if it.program == Path(words.programs[0]).name]
-    workloads = [it for it in named if it.name.startswith(words.only)]
-    if not workloads:
-        parser.error(f"no workload begins with {words.only}: there are {', '.join(it.name for it in named)}")
-    if not Path(TIMER).exists():
-        parser.error(f"there is no {TIMER}, which measures memory")
-    if words.instructions:
-        if shutil.which(COUNTER) is None:
-            parser.error(f"there is no {COUNTER}, which counts instructions")
-        count(words.programs, workloads)
-    elif words.growth:
-        grow(words.turns, words.programs[0], workloads)
-    else:
-        compare(words.turns, words.programs, workloads)
+    kinds.add_argument("--instructions", action="store_true", help="count instructions")
+    kinds.add_argument("--write", action="store_true", help="make the tables of the page")
+    kinds.add_argument("--check", action="store_true", help="tell whether the tables of the page are those of the file")
+    given = parser.parse_args(words)
+    if given.turns < 1 and not (given.instructions or given.write or given.check):
+        parser.error("TURNS is at least 1")
+    return given
+
+
+def main(words: Optional[Sequence[str]] = None) -> int:
+    given = parse_words(words)
+    if given.write or given.check:
+        return keep_page(given.csv or KEPT, given.check)
+    try:
+        programs = [program_of(word) for word in given.programs or PROGRAMS]
+    except argparse.ArgumentTypeError as error:
+        sys.exit(f"tests/measure.py: {error}")
+    jobs = jobs_of(programs, given.only, given.sizes)
+    tool = COUNTER if given.instructions else TIMER
+    if shutil.which(tool) is None:
+        sys.exit(f"tests/measure.py: there is no {tool}")
+    # Journals are made by one of the programs that are measured.
+    os.environ.setdefault("DAMOND", str(programs[0].files.get("damond", "")))
+    with tempfile.TemporaryDirectory() as folder:
+        inputs = Inputs(folder)
+        found = count(jobs, inputs) if given.instructions else measure(given.turns, jobs, given.seed, inputs)
+    if given.csv:
+        found = joined(load(given.csv), found)
+        save(given.csv, found)
+    print(*lines_of(found, [it.name for it in programs]), sep="\n")
+    return 0
+
+
+def jobs_of(programs: Sequence[Program], only: str, has_sizes: bool) -> List[Job]:
+    """A job for each program on each workload that it has, at the greatest size, or at all of them for the first program."""
+    jobs = []
+    for workload in WORKLOADS:
+        if not workload.name.startswith(only):
+            continue
+        for number, program in enumerate(programs):
+            sizes = workload.sizes if has_sizes and number == 0 else workload.sizes[:1]
+            jobs += [Job(program, workload, size) for size in sizes if workload.program in program.files]
+    if not jobs:
+        sys.exit(f"no workload begins with {only}: there are {', '.join(it.name for it in WORKLOADS)}")
+    return jobs
+
+
+def keep_page(path: Path, only_checks: bool) -> int:
+    """Makes the tables of the page from a file of figures, or tells whether they are those of the file."""
+    if not path.exists():
+        sys.exit(f"there is no {path}: tests/measure.py TURNS --csv {path} makes it")
+    old = PAGE.read_text()
+    new = written(old, load(path), WORKLOADS)
+    if not only_checks:
+        PAGE.write_text(new)
+    elif new != old:
+        print(f"{PAGE.relative_to(TOP)} is stale: run tests/measure.py --write")
+        return 1
+    return 0
 
 
 if __name__ == "__main__":
-    main()
+    sys.exit(main())

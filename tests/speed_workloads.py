@@ -1,22 +1,25 @@
 """The inputs on which programs are measured. They keep the limits of a script; each is made here, and none needs a file.
 
+The first ones keep apart what a program does; the mixed ones, at the end, are those of another program of the same rules.
 Journals are made by the program `damond` of this checkout, or the one that DAMOND in the environment names.
 """
 import os
 import random
 import subprocess
 from pathlib import Path
-from typing import Callable, Iterable, Iterator, List, NamedTuple, Tuple
+from typing import Callable, Iterable, List, NamedTuple, Sequence, Tuple
 
 PAGE = 4096
 MILLION = 1_048_576
-DAMOND = Path(os.environ.get("DAMOND") or Path(__file__).resolve().parent.parent / "crates/damond/out/damond")
+BUILT = Path(__file__).resolve().parent.parent / "crates/damond/out/damond"
 
 
 class Workload(NamedTuple):
     """What a program is run on: the words after its name, and its input by size."""
 
     name: str
+    # What it is, as a row of docs/PERFORMANCE.md says it.
+    says: str
     # One unit of the size, such as "passes".
     unit: str
     words: Tuple[str, ...]
@@ -64,7 +67,7 @@ def aggregations(times: int, schemes: Tuple[str, ...] = ()) -> bytes:
     return "\n".join([*lines, "end", ""]).encode()
 
 
-def sixteen_schemes() -> Iterator[str]:
+def sixteen_schemes() -> Iterable[str]:
     """A scheme in each slot: a third with filters by address, a third by class, each with a quota of its own."""
     actions = ["pageout", "cold", "willneed", "lru_prio", "hugepage", "stat"]
     for slot in range(16):
@@ -151,7 +154,101 @@ def small_live(touches: int) -> bytes:
 
 def journal_of(script: Callable[[int], bytes]) -> Callable[[int], bytes]:
     """The journal of a run of a live script."""
-    return lambda size: subprocess.run([str(DAMOND), "run"], input=script(size), capture_output=True, check=True).stdout
+    def journal(size: int) -> bytes:
+        return subprocess.run([os.environ.get("DAMOND") or BUILT, "run"], input=script(size), capture_output=True, check=True).stdout
+
+    return journal
+
+
+# ---- mixed workloads: each of these does several things at once
+
+
+def mixed_setup(kind: str, seed: int, unit: int, cap: int, attrs: str, ranges: Sequence[Tuple[int, int, int]] = ((0, MILLION, 0),)) -> List[str]:
+    """The lines of a setup over a million pages. A range is its first page, the page behind it and its class."""
+    lines = [f"damon {kind} 1", f"seed {seed}", f"unit {unit}", f"cap {cap}", f"attrs {attrs}", f"target 0x0 {MILLION}"]
+    return lines + [f"range 0 {first * PAGE:#x} {end * PAGE:#x} {group}" for first, end, group in ranges]
+
+
+def text_of(lines: Iterable[str]) -> bytes:
+    return "\n".join([*lines, "end", ""]).encode()
+
+
+def mixed_steps(times: int) -> bytes:
+    """One step more than the clears of a pass over 4,096 rows, then 16 touches, so that all phases are touched in."""
+    choose = random.Random(1)
+    lines = mixed_setup("script", 1, 1, 4096, "2048 4096 100") + ["begin"]
+    for _ in range(times):
+        lines += ["step 4097", *(f"touch 0 {choose.randrange(MILLION) * PAGE:#x}" for _ in range(16))]
+    return text_of(lines)
+
+
+def mixed_sweeps(times: int) -> bytes:
+    """Large sweeps between the clears and the loads of small passes."""
+    lines = mixed_setup("script", 2, 1, 100, "10 100 5") + ["begin"]
+    first = 0
+    for _ in range(times):
+        lines += ["arm", f"sweep 0 {first * PAGE:#x} {(first + 16_384) * PAGE:#x}", "finish"]
+        first = (first + 20_480) % (MILLION - 16_384)
+    return text_of(lines)
+
+
+def mixed_schemes(times: int) -> bytes:
+    """An aggregation after each pass over 64 ranges, with sixteen schemes of which eleven have filters."""
+    choose = random.Random(3)
+    actions = ["pageout", "cold", "willneed", "lru_prio", "lru_deprio", "hugepage", "stat"]
+    lines = mixed_setup("script", 3, 4, 4096, "2800 4096 1", [(part * 16_384, (part + 1) * 16_384, part % 16) for part in range(64)])
+    for slot in range(16):
+        keys = [f"age={slot % 4},4294967295", f"quota={(1000 + 3777 * slot) * PAGE},{1 + slot % 4}", f"weights={1 + slot},{slot % 5},{1 + slot % 3}"]
+        keys += ["prefer=cold"] if slot % 2 else []
+        firsts = [part * MILLION // 4 + 1000 * slot for part in range(4 if slot % 3 == 0 else 0)]
+        keys += [f"filter=reject:addr:{first * PAGE:#x}-{(first + 50_000) * PAGE:#x}" for first in firsts]
+        keys += [f"filter=reject:class:{slot}"] if slot % 3 < 2 else []
+        keys += [f"filter=allow:not-class:{(slot + 5) % 16}"] if slot % 3 == 1 else []
+        lines.append(f"scheme {slot} {actions[slot % 7]} " + " ".join(keys))
+    lines.append("begin")
+    for _ in range(times):
+        firsts = [choose.randrange(MILLION - 8192) for _ in range(2)]
+        lines += ["arm", *(f"sweep 0 {first * PAGE:#x} {(first + 8192) * PAGE:#x}" for first in firsts), "finish"]
+    return text_of(lines)
+
+
+def mixed_shows(times: int) -> bytes:
+    """A show after every third of a pass, so that it comes in all phases, with a sweep before each fourth."""
+    choose = random.Random(4)
+    lines = mixed_setup("script", 4, 1, 4096, "4096 4096 20") + ["begin"]
+    for number in range(times):
+        if number % 4 == 0:
+            first = choose.randrange(MILLION - 512)
+            lines.append(f"sweep 0 {first * PAGE:#x} {(first + 512) * PAGE:#x}")
+        lines += [f"step {2731 + number % 2}", "show"]
+    return text_of(lines)
+
+
+def mixed_touches(touches: int) -> bytes:
+    """Touches of pages that follow no order."""
+    choose = random.Random(5)
+    lines = mixed_setup("script", 5, 1, 100, "10 100 20") + ["begin"]
+    return text_of(lines + [f"touch 0 {choose.randrange(MILLION) * PAGE:#x}" for _ in range(touches)])
+
+
+def mixed_live(sweeps_each: int) -> bytes:
+    """Eight workers that sweep, and two controllers that look, hand in metrics and move the end of the range."""
+    choose = random.Random(7)
+    lines = mixed_setup("live", 7, 1, 4096, "1024 4096 20")
+    lines += ["scheme 0 pageout count=0,0 age=2,4294967295 quota=4096000,20 prefer=cold", "passes 1024"]
+    for _ in range(8):
+        firsts = [choose.randrange(MILLION - 4096) for _ in range(sweeps_each)]
+        lines += ["worker", *(f"sweep 0 {first * PAGE:#x} {(first + 4096) * PAGE:#x}" for first in firsts)]
+    for controller in range(2):
+        lines.append("controller")
+        for number in range(200):
+            if number % 10 == 9:
+                lines += ["commit", f"metric {number}", "apply"]
+            elif number % 50 == 25:
+                lines += ["commit", f"range 0 0x0 {(MILLION - 64 * (number + controller)) * PAGE:#x} 0", "apply"]
+            else:
+                lines.append("show")
+    return text_of(lines)
 
 
 REPLAY = ("replay",)
@@ -162,28 +259,118 @@ JSON = ("json",)
 RECLAIM = ("reclaim",)
 TUNE = ("tune", "0:cold:980:4096:8388608")
 ADMIN = ("admin",)
+GENERATED = {1: ": 256,000 touches of one page each"}
 WORKLOADS = (
-    Workload("sweeps", "pages in each of 16 sweeps", REPLAY, (MILLION, 104_858, 10_486), sweeps),
-    Workload("passes", "passes over 4,000 regions of 1,048,576 pages", REPLAY, (1000, 100, 10), passes(MILLION)),
-    Workload("small passes", "passes over 4,000 regions of 4,000 pages", REPLAY, (1000, 100, 10), passes(4000)),
-    Workload("reading", "touches", REPLAY, (800_000, 80_000, 8_000), reading),
-    Workload("aggregating", "aggregations of some 3,700 regions", REPLAY, (366, 36, 4), aggregations),
-    Workload("schemes", "such aggregations with 16 schemes", REPLAY, (366, 36, 4), with_schemes),
-    Workload("commits", "commits that move 64 ranges under 4,096 regions", REPLAY, (1000, 100, 10), commits),
-    Workload("small rows", "steps over three regions", REPLAY, (1_000_000, 100_000, 10_000), small_rows),
-    Workload("showing", "shows of 4,096 regions", REPLAY, (1000, 100, 10), showing),
-    Workload("json", "aggregations of some 3,700 regions as JSON", JSON, (366, 36, 4), aggregations),
-    Workload("json schemes", "such aggregations with 16 schemes", JSON, (366, 36, 4), with_schemes),
-    Workload("reclaim", "aggregations of some 3,700 regions, with pages put out and fetched", RECLAIM, (366, 36, 4), paging),
-    Workload("reclaim touches", "touches", RECLAIM, (800_000, 80_000, 8_000), reading),
-    Workload("tune", "aggregations of some 3,700 regions, with a goal", TUNE, (366, 36, 4), tuning),
-    Workload("admin", "touches of each of 8 contexts", ADMIN, (80_000, 8_000, 800), contexts),
-    Workload("verify", "touches of each of 8 workers, 2,000 passes", VERIFY, (70_000, 7_000, 700), journal_of(small_live)),
-    Workload("verify wide", "sweeps of each of 8 workers over 1,048,576 pages", VERIFY, (10, 1), journal_of(live)),
-    Workload("heat", "touches of each of 8 workers, 2,000 passes", HEAT, (20_000, 2_000, 200), journal_of(small_live)),
-    Workload("heat large", "such touches, nearly as many as a text may have", HEAT, (90_000, 9_000, 900), journal_of(small_live)),
-    Workload("heat wide", "sweeps of each of 8 workers over 1,048,576 pages", HEAT, (10, 1), journal_of(live)),
-    Workload("live", "sweeps of each of 8 workers over 1,048,576 pages", RUN, (32, 3), live, "damond"),
-    Workload("small live", "touches of each of 8 workers, 2,000 passes", RUN, (20_000, 2_000, 200), small_live, "damond"),
-    *(Workload(f"gen {n}", "", ("gen", str(n)), (1,), lambda _: b"") for n in range(4)),
+    Workload("start", "the start of a process, with a script that does nothing", "", REPLAY, (1,), lambda _: script(3, "3 3 1", 3, [])),
+    Workload(
+        "sweeps", "sixteen sweeps of 1,048,576 pages each, the most work of a script",
+        "pages in each of 16 sweeps", REPLAY, (MILLION, 104_858, 10_486), sweeps,
+    ),
+    Workload(
+        "passes", "1,000 passes over 4,000 regions of 1,048,576 pages: 8 million steps",
+        "passes over 4,000 regions of 1,048,576 pages", REPLAY, (1000, 100, 10), passes(MILLION),
+    ),
+    Workload(
+        "small passes", "1,000 passes over 4,000 regions of 4,000 pages",
+        "passes over 4,000 regions of 4,000 pages", REPLAY, (1000, 100, 10), passes(4000),
+    ),
+    Workload(
+        "reading", "800,000 touches, 15 MB of text",
+        "touches", REPLAY, (800_000, 80_000, 8_000), reading,
+    ),
+    Workload(
+        "aggregating", "366 aggregations of some 3,700 rows in 1,048,576 pages, 57 MB of report",
+        "aggregations of some 3,700 regions", REPLAY, (366, 36, 4), aggregations,
+    ),
+    Workload(
+        "schemes", "the same with a scheme in each of the sixteen slots, 76 MB of report",
+        "such aggregations with 16 schemes", REPLAY, (366, 36, 4), with_schemes,
+    ),
+    Workload(
+        "commits", "1,000 commits that move 64 ranges under 4,096 rows, 2 MB of text",
+        "commits that move 64 ranges under 4,096 regions", REPLAY, (1000, 100, 10), commits,
+    ),
+    Workload(
+        "small rows", "111,111 aggregations of three rows in one `step` line, 19 MB of report",
+        "steps over three regions", REPLAY, (1_000_000, 100_000, 10_000), small_rows,
+    ),
+    Workload(
+        "showing", "1,000 shows of 4,096 regions, 200 MB of report",
+        "shows of 4,096 regions", REPLAY, (1000, 100, 10), showing,
+    ),
+    Workload(
+        "json", "the 366 aggregations as JSON, 92 MB",
+        "aggregations of some 3,700 regions as JSON", JSON, (366, 36, 4), aggregations,
+    ),
+    Workload(
+        "json schemes", "those with sixteen schemes as JSON, 128 MB",
+        "such aggregations with 16 schemes", JSON, (366, 36, 4), with_schemes,
+    ),
+    Workload(
+        "reclaim", "`reclaim`: such aggregations, with pages put out and fetched",
+        "aggregations of some 3,700 regions, with pages put out and fetched", RECLAIM, (366, 36, 4), paging,
+    ),
+    Workload(
+        "reclaim touches", "`reclaim`: the 800,000 touches",
+        "touches", RECLAIM, (800_000, 80_000, 8_000), reading,
+    ),
+    Workload(
+        "tune", "`tune`: such aggregations, with a goal for a quota",
+        "aggregations of some 3,700 regions, with a goal", TUNE, (366, 36, 4), tuning,
+    ),
+    Workload(
+        "admin", "`admin`: eight contexts of 1.6 MB each",
+        "touches of each of 8 contexts", ADMIN, (80_000, 8_000, 800), contexts,
+    ),
+    Workload(
+        "verify", "`verify`: a journal of 12.8 MB, 8 workers that touch 1,024 pages",
+        "touches of each of 8 workers, 2,000 passes", VERIFY, (70_000, 7_000, 700), journal_of(small_live),
+    ),
+    Workload(
+        "verify wide", "`verify`: one of 10.5 MB, 8 workers that sweep 1,048,576 pages, watched by some 2,700 regions",
+        "sweeps of each of 8 workers over 1,048,576 pages", VERIFY, (10, 1), journal_of(live),
+    ),
+    Workload(
+        "heat", "`heat 64`: one of 3.8 MB like the first",
+        "touches of each of 8 workers, 2,000 passes", HEAT, (20_000, 2_000, 200), journal_of(small_live),
+    ),
+    Workload(
+        "heat large", "`heat 64`: one of 16.2 MB like the first",
+        "such touches, nearly as many as a text may have", HEAT, (90_000, 9_000, 900), journal_of(small_live),
+    ),
+    Workload(
+        "heat wide", "`heat 64`: one of 10.4 MB like the second",
+        "sweeps of each of 8 workers over 1,048,576 pages", HEAT, (10, 1), journal_of(live),
+    ),
+    Workload(
+        "live", "`damond run`: 8 workers, 1,048,576 touches, 1,024 passes over 4,096 regions, 2 controllers with 200 calls each",
+        "sweeps of each of 8 workers over 1,048,576 pages", RUN, (32, 3), live, "damond",
+    ),
+    Workload(
+        "small live", "`damond run`: 8 workers, 160,000 touches of 1,024 pages, 2,000 passes",
+        "touches of each of 8 workers, 2,000 passes", RUN, (20_000, 2_000, 200), small_live, "damond",
+    ),
+    *(Workload(f"gen {n}", f"`gen {n}`{GENERATED.get(n, '')}", "", ("gen", str(n)), (1,), lambda _: b"") for n in (0, 1, 2, 3, 6)),
+    Workload("mixed touches", "886,113 touches of pages drawn from 1,048,576, 16.8 MB of text", "touches", REPLAY, (886_113,), mixed_touches),
+    Workload("mixed sweeps", "999 sweeps of 16,384 pages, each in a pass over at most 100 regions", "sweeps", REPLAY, (999,), mixed_sweeps),
+    Workload(
+        "mixed steps", "4,079 times 4,097 steps over up to 4,096 regions of 1,048,576 pages, with 16 touches after each",
+        "times", REPLAY, (4079,), mixed_steps,
+    ),
+    Workload("mixed schemes", "sixteen schemes with more filters over 366 aggregations", "aggregations", REPLAY, (366,), mixed_schemes),
+    Workload("mixed schemes json", "the same as JSON", "aggregations", JSON, (366,), mixed_schemes),
+    Workload("mixed schemes tune", "the same with a goal", "aggregations", ("tune", "0:hot:100:4096:8192000"), (366,), mixed_schemes),
+    Workload("mixed schemes reclaim", "the same under `reclaim`", "aggregations", RECLAIM, (366,), mixed_schemes),
+    Workload("mixed shows", "2,000 shows of 4,096 regions in all phases", "shows", REPLAY, (2000,), mixed_shows),
+    Workload("mixed shows json", "the same as JSON", "shows", JSON, (2000,), mixed_shows),
+    Workload(
+        "mixed verify", "`verify`: a journal of 8 workers with ten sweeps each and 400 calls",
+        "sweeps of each worker", VERIFY, (10,), journal_of(mixed_live),
+    ),
+    Workload("mixed heat", "`heat 64`: the same journal", "sweeps of each worker", HEAT, (10,), journal_of(mixed_live)),
+    Workload(
+        "mixed live", "`damond run`: the same, with a range that moves",
+        "sweeps of each worker", RUN, (32,), mixed_live, "damond",
+    ),
+    Workload("mixed live short", "`damond run`: that with 327,680 touches", "sweeps of each worker", RUN, (10,), mixed_live, "damond"),
 )

@@ -7,7 +7,9 @@ import sys
 import tempfile
 import unittest
 from pathlib import Path
+from unittest import mock
 
+import hostile
 from hostile import BUILT, load_seeds, make_inputs
 from hostile_edits import EDITS, edited
 from tool_runs import need_program
@@ -38,6 +40,21 @@ class Comparing(unittest.TestCase):
             self.assertEqual(ran.returncode, 1)
             self.assertRegex(ran.stdout, r"input \d+, replay: ")
             self.assertTrue(list(Path(folder, "kept").iterdir()))
+
+
+class Others(unittest.TestCase):
+    def test_the_baseline_is_taken_where_nobody_is_named(self) -> None:
+        with tempfile.TemporaryDirectory() as folder:
+            files = {name: Path(folder).resolve() / name for name in hostile.NAMES}
+            with mock.patch.object(hostile, "BASELINE", files):
+                with self.assertRaisesRegex(SystemExit, "there is no .*/damon: .*cargo build --release"):
+                    hostile.other_programs(None, None)
+                for file in files.values():
+                    file.touch()
+                self.assertEqual(hostile.other_programs(None, None), hostile.Programs(files["damon"], files["damond"]))
+            self.assertEqual(hostile.other_programs(files["damond"], None), hostile.Programs(files["damond"], None))
+            with self.assertRaisesRegex(SystemExit, "there is no none"):
+                hostile.other_programs(Path("none"), None)
 
 
 class Inputs(unittest.TestCase):

@@ -1,0 +1,200 @@
+#!/usr/bin/env python3
+"""Tests of the measurements: the order of turns, what is kept of them, and the tables that are made of a file.
+
+    tests/test_measure.py
+"""
+import os
+import shutil
+import tempfile
+import unittest
+from argparse import ArgumentTypeError
+from pathlib import Path
+from typing import List
+from unittest import mock
+
+
+import measure
+from figures import Figures, Measured, Subject, joined, lines_of, load, save, written
+from measure import Inputs, Job, Program, jobs_of, order_of, parse_words, program_of
+from speed_workloads import WORKLOADS, Workload
+
+SMALL = Workload("small", "a small one", "lines", ("replay",), (3, 1), lambda size: b"line\n" * size)
+OTHER = Workload("other", "another one", "", ("json",), (2,), lambda size: b"x" * size)
+PAGE = "before\n<!-- figures -->\nold\n<!-- end -->\nbetween\n<!-- growth -->\nold\n<!-- end -->\nafter\n"
+
+
+def program_in(folder: str, name: str, body: str) -> Program:
+    """A program that is a script."""
+    file = Path(folder) / name
+    file.write_text(f"#!/bin/sh\n{body}\n")
+    os.chmod(file, 0o755)
+    return Program(name, {"damon": file})
+
+
+def jobs_in(folder: str, body: str = "cat >/dev/null") -> List[Job]:
+    programs = [program_in(folder, name, body) for name in ("one", "two")]
+    return [Job(program, workload, workload.sizes[0]) for workload in (SMALL, OTHER) for program in programs]
+
+
+class Turns(unittest.TestCase):
+    def test_each_turn_has_all_jobs_in_an_order_of_its_own(self) -> None:
+        with tempfile.TemporaryDirectory() as folder:
+            jobs = jobs_in(folder)
+            orders = [order_of(jobs, 1, turn) for turn in range(20)]
+            for order in orders:
+                self.assertEqual(sorted(map(str, order)), sorted(map(str, jobs)))
+            self.assertGreater(len({str(order) for order in orders}), 5)
+            self.assertEqual(orders, [order_of(jobs, 1, turn) for turn in range(20)])
+            self.assertNotEqual(orders, [order_of(jobs, 2, turn) for turn in range(20)])
+
+    @unittest.skipUnless(Path(measure.TIMER).exists(), f"there is no {measure.TIMER}")
+    def test_all_times_are_kept(self) -> None:
+        with tempfile.TemporaryDirectory() as folder:
+            jobs = jobs_in(folder)
+            found = measure.measure(4, jobs, 1, Inputs(folder))
+        self.assertEqual(list(found), [job.subject() for job in jobs])
+        for it in found.values():
+            self.assertEqual(len(it.milliseconds), 4)
+            self.assertTrue(all(0 < time < 60_000 for time in it.milliseconds))
+            self.assertGreater(it.peak_kib, 100)
+
+    def test_a_program_that_fails_ends_it(self) -> None:
+        with tempfile.TemporaryDirectory() as folder, self.assertRaisesRegex(SystemExit, "ended with status 3"):
+            job = jobs_in(folder, "exit 3")[0]
+            measure.milliseconds(job, Inputs(folder).path(job))
+
+    def test_a_program_gets_the_input_and_the_words(self) -> None:
+        with tempfile.TemporaryDirectory() as folder:
+            job = Job(program_in(folder, "one", f'echo "$@" > {folder}/got; cat >> {folder}/got'), SMALL, 3)
+            measure.milliseconds(job, Inputs(folder).path(job))
+            self.assertEqual(Path(folder, "got").read_text(), "replay\nline\nline\nline\n")
+
+    @unittest.skipUnless(shutil.which(measure.COUNTER), f"there is no {measure.COUNTER}")
+    def test_instructions_are_counted(self) -> None:
+        with tempfile.TemporaryDirectory() as folder:
+            job = Job(Program("true", {"damon": Path("/bin/true")}), SMALL, 3)
+            self.assertGreater(measure.instructions(job, Inputs(folder).path(job)), 10_000)
+
+
+class Words(unittest.TestCase):
+    def test_programs_are_named(self) -> None:
+        with tempfile.TemporaryDirectory() as folder:
+            one = program_in(folder, "one", "true").files["damon"]
+            self.assertEqual(program_of(f"a={one}"), Program("a", {"damon": one}))
+            self.assertEqual(program_of(f"a={one},{one}"), Program("a", {"damon": one, "damond": one}))
+            for word, said in (("a=none", "there is no none: .*cargo build"), (str(one), "is not NAME=DAMON")):
+                with self.assertRaisesRegex(ArgumentTypeError, said):
+                    program_of(word)
+
+    def test_jobs_are_those_of_the_programs(self) -> None:
+        both = Program("both", {"damon": Path("a"), "damond": Path("b")})
+        one = Program("one", {"damon": Path("c")})
+        jobs = jobs_of([both, one], "", False)
+        self.assertEqual(len(jobs), len(WORKLOADS) + sum(it.program == "damon" for it in WORKLOADS))
+        self.assertTrue(all(job.size == job.workload.sizes[0] for job in jobs))
+        sized = jobs_of([both, one], "verify", True)
+        self.assertEqual([(it.workload.name, it.size, it.program.name) for it in sized], [
+            ("verify", 70_000, "both"), ("verify", 7_000, "both"), ("verify", 700, "both"), ("verify", 70_000, "one"),
+            ("verify wide", 10, "both"), ("verify wide", 1, "both"), ("verify wide", 10, "one"),
+        ])
+        with self.assertRaisesRegex(SystemExit, "no workload begins with none"):
+            jobs_of([both], "none", False)
+
+    def test_a_run_needs_turns(self) -> None:
+        self.assertEqual(parse_words(["7"]).turns, 7)
+        self.assertTrue(parse_words(["--check"]).check)
+        with self.assertRaises(SystemExit), mock.patch("sys.stderr"):
+            parse_words([])
+
+
+class Workloads(unittest.TestCase):
+    def test_each_has_a_name_a_row_and_sizes_that_fall(self) -> None:
+        self.assertEqual(len(WORKLOADS), 41)
+        self.assertEqual(len({it.name for it in WORKLOADS}), 40)
+        for it in WORKLOADS:
+            self.assertTrue(it.says)
+            self.assertEqual(list(it.sizes), sorted(it.sizes, reverse=True))
+
+    def test_inputs_are_the_same_each_time_and_grow_with_their_size(self) -> None:
+        for it in WORKLOADS:
+            if it.words[0] not in ("verify", "heat", "gen"):
+                self.assertEqual(it.text(1), it.text(1), it.name)
+                self.assertLessEqual(len(it.text(2)), len(it.text(20)), it.name)
+
+
+def made_up() -> Measured:
+    """Figures whose statistics are plain to see."""
+    return {
+        Subject("small", 3, "proved"): Figures([4.0, 1.0, 2.0, 3.0, 5.0], 2048, 300),
+        Subject("small", 1, "proved"): Figures([0.5], 1024),
+        Subject("small", 3, "plain"): Figures([2.0, 6.0, 4.0], 1024, 200),
+        Subject("other", 2, "proved"): Figures([8.0, 9.0], 1536),
+        Subject("other", 2, "plain"): Figures([10.0, 10.0], 1536),
+    }
+
+
+class Kept(unittest.TestCase):
+    def test_statistics(self) -> None:
+        it = made_up()[Subject("small", 3, "proved")]
+        self.assertEqual((it.best(), it.median(), it.quartiles()), (1.0, 3.0, (2.0, 4.0)))
+        self.assertEqual(Figures([7.0]).quartiles(), (7.0, 7.0))
+
+    def test_a_file_gives_back_what_was_kept(self) -> None:
+        with tempfile.TemporaryDirectory() as folder:
+            path = Path(folder) / "figures.csv"
+            self.assertEqual(load(path), {})
+            save(path, made_up())
+            self.assertEqual(load(path), made_up())
+            path.write_text(path.read_text().replace("4.000 1.000", "4.000"))
+            with self.assertRaisesRegex(ValueError, "has 4 times in 5 turns"):
+                load(path)
+
+    def test_figures_are_added_to_those_before(self) -> None:
+        subject = Subject("small", 3, "proved")
+        both = joined(made_up(), {subject: Figures([9.0], 4096), Subject("new", 1, "plain"): Figures([1.0])})
+        self.assertEqual(both[subject], Figures([4.0, 1.0, 2.0, 3.0, 5.0, 9.0], 4096, 300))
+        self.assertEqual(joined(made_up(), {subject: Figures(instructions=7)})[subject].instructions, 7)
+        self.assertEqual(len(both), 6)
+
+    def test_lines_have_ratios_to_the_last_program(self) -> None:
+        lines = lines_of(made_up(), ["proved", "plain"])
+        self.assertRegex(lines[1], r"^small +3 proved +1\.00 +2\.00 +3\.00 +4\.00 +5 +2\.0 +0\.0 +0\.50 0\.75 1\.50$")
+        self.assertRegex(lines[3], r"^small +3 plain +2\.00 .* 3 +1\.0 +0\.0$")
+        self.assertEqual(len(lines), 6)
+
+
+class Page(unittest.TestCase):
+    def test_tables_are_made_between_the_marks(self) -> None:
+        page = written(PAGE, made_up(), [SMALL, OTHER])
+        self.assertIn("| a small one | 1.0 ms | 2.0 ms | 0.50 | 3.0 ms | 2.0 to 4.0 | 4.0 ms | 3.0 to 5.0 | 0.75 | 3 and 5 | 1.50 | 2.0 MiB | 1.0 MiB |\n", page)
+        self.assertIn("| another one | 8.0 ms | 10.0 ms | 0.80 | 8.5 ms | 8.2 to 8.8 | 10.0 ms | 10.0 to 10.0 | 0.85 | 2 |  | 1.5 MiB | 1.5 MiB |\n", page)
+        self.assertIn("| small | lines | 3 | 1.00 ms | 1 | 0.50 ms |  |  |\n", page)
+        self.assertNotIn("old", page)
+        self.assertTrue(page.startswith("before\n") and page.endswith("after\n") and "\nbetween\n" in page)
+        self.assertEqual(written(page, made_up(), [SMALL, OTHER]), page)
+
+    def test_write_and_check(self) -> None:
+        with tempfile.TemporaryDirectory() as folder:
+            page, kept = Path(folder) / "PAGE.md", Path(folder) / "figures.csv"
+            page.write_text(PAGE)
+            with mock.patch.object(measure, "PAGE", page), mock.patch.object(measure, "TOP", Path(folder)), mock.patch("builtins.print") as said:
+                with self.assertRaisesRegex(SystemExit, "there is no "):
+                    measure.main(["--check", "--csv", str(kept)])
+                save(kept, made_up())
+                self.assertEqual(measure.main(["--check", "--csv", str(kept)]), 1)
+                said.assert_called_once_with("PAGE.md is stale: run tests/measure.py --write")
+                self.assertEqual(measure.main(["--write", "--csv", str(kept)]), 0)
+                self.assertEqual(measure.main(["--check", "--csv", str(kept)]), 0)
+
+    def test_the_page_has_both_places(self) -> None:
+        page = measure.PAGE.read_text()
+        written(page, {}, WORKLOADS)
+
+    @unittest.skipUnless(measure.KEPT.exists(), "no figures are kept: tests/measure.py TURNS --csv docs/performance.csv makes them")
+    def test_the_page_is_that_of_its_figures(self) -> None:
+        self.assertEqual(measure.main(["--check"]), 0)
+
+
+
+if __name__ == "__main__":
+    unittest.main()
