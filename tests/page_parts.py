@@ -1,4 +1,4 @@
-"""What a page of tools/page.py has, and what a report says, both read without the tools."""
+"""Pages of tools/page.py and what they have, and what a report says: both read without the tools."""
 from __future__ import annotations
 
 import base64
@@ -10,11 +10,28 @@ from array import array
 from dataclasses import dataclass, field
 from typing import Any
 
+from tool_runs import run
+
+from webpage.d3 import BUNDLE
+
 PAGE = 4096
 CODES = {"u1": "B", "u2": "H", "u4": "I", "f8": "d"}
 META = re.compile(r'<script type="application/json" id="meta">(.*?)</script>', re.DOTALL)
 BLOCK = re.compile(r'<script type="text/plain" id="block">(.*?)</script>', re.DOTALL)
 D3 = re.compile(r"<script>\n// https://d3js.org.*?</script>", re.DOTALL)
+
+REPORT = """\
+aggregate tick=4 threshold=0 rows=2
+apply 0 pageout 0 0x10000-0x12000 score=25
+slot 0 left=2 taken=2 lowest=25
+row 0 0x10000-0x14000 count=0 last=0 age=1
+row 1 0x20000-0x22000 count=4 last=0 age=0
+aggregate tick=6 threshold=0 rows=2
+slot 0 inactive
+row 0 0x10000-0x14000 count=1 last=0 age=0
+row 1 0x20000-0x22000 count=0 last=4 age=0
+end ticks=6 rows=2 checks=12 hits=5
+"""
 
 
 @dataclass(frozen=True)
@@ -121,3 +138,15 @@ def parts_of(page: str) -> Parts:
     (meta,), (block,), (d3,) = META.findall(page), BLOCK.findall(page), D3.findall(page)
     rest = page.replace(meta, "", 1).replace(block, "", 1).replace(d3, "", 1)
     return Parts(json.loads(meta), zlib.decompress(base64.b64decode(block)), rest)
+
+
+def d3_is_missing() -> bool:
+    return not BUNDLE.is_file()
+
+
+def made(*words: str, text: str = "") -> str:
+    """The page that is made, which must be."""
+    ran = run("page.py", *words, text=text.encode())
+    if ran.returncode != 0 or ran.stderr:
+        raise AssertionError(ran.stderr.decode())
+    return ran.stdout.decode()

@@ -10,8 +10,8 @@ import tempfile
 import unittest
 from pathlib import Path
 
-from page_parts import PAGE, Parts, Row, Run, aggregations_of, parts_of
-from tool_runs import PROGRAM, TOP, Refusals, need_program, run
+from page_parts import PAGE, REPORT, Parts, Row, Run, aggregations_of, d3_is_missing, made, parts_of
+from tool_runs import PROGRAM, TOP, Refusals, need_program
 
 from drawing.style import DARK, LIGHT
 from webpage.d3 import BUNDLE
@@ -19,34 +19,10 @@ from webpage.document import DIFFERENCE, SCRIPTS
 
 TOOL = "page.py"
 NAMES = ("cold", "filters", "targets", "window", "watermarks", "aggregate")
-REPORT = """\
-aggregate tick=4 threshold=0 rows=2
-apply 0 pageout 0 0x10000-0x12000 score=25
-slot 0 left=2 taken=2 lowest=25
-row 0 0x10000-0x14000 count=0 last=0 age=1
-row 1 0x20000-0x22000 count=4 last=0 age=0
-aggregate tick=6 threshold=0 rows=2
-slot 0 inactive
-row 0 0x10000-0x14000 count=1 last=0 age=0
-row 1 0x20000-0x22000 count=0 last=4 age=0
-end ticks=6 rows=2 checks=12 hits=5
-"""
 
 
 def setUpModule() -> None:
     need_program()
-
-
-def d3_is_missing() -> bool:
-    return not BUNDLE.is_file()
-
-
-def made(*words: str, text: str = "") -> str:
-    """The page that is made, which must be."""
-    ran = run(TOOL, *words, text=text.encode())
-    if ran.returncode != 0 or ran.stderr:
-        raise AssertionError(ran.stderr.decode())
-    return ran.stdout.decode()
 
 
 def replayed(name: str, form: str = "replay") -> str:
