@@ -38,6 +38,13 @@ def is_there() -> bool:
     return program().is_file()
 
 
+def has_judge() -> bool:
+    """Whether there is a program to ask. Raises UsageError if one that somebody has named is not there."""
+    if not is_there() and os.environ.get(VARIABLE):
+        raise UsageError(f"there is no program {program()}, which {VARIABLE} in the environment names")
+    return is_there()
+
+
 def replay(script: bytes, keep_report: bool) -> CompletedProcess[bytes]:
     """Runs a script. Raises UsageError if the program cannot be run."""
     # Some tools only ask where the program is, and this takes long to load.
