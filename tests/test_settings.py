@@ -57,13 +57,19 @@ class SameAsFromTheTrace(unittest.TestCase):
 
     def test_commits(self) -> None:
         usual = script_of(TRACE, "--interval", "20")
-        for words in (["--at", "5:attrs 5 90 10", "--at", "5:scheme 1 stat", "--metric", "5:7", "--at", "5:drop 3", "--metric", "0:9"],
-                      ["--version", "2", "--at", "9:cost 0 4000", "--scheme", "scheme 0 stat quota=409600,10 time=1000"]):
-            with self.subTest(words=words):
-                self.assertEqual(changed(usual, *words), script_of(TRACE, "--interval", "20", *words))
+        words = ["--at", "5:attrs 5 90 10", "--at", "5:scheme 1 stat", "--metric", "5:7", "--at", "5:drop 3", "--metric", "0:9"]
+        self.assertEqual(changed(usual, *words), script_of(TRACE, "--interval", "20", *words))
+
+    def test_version_2_with_a_cost(self) -> None:
+        """By hand: a commit before the tenth interval."""
+        scheme = "scheme 0 stat quota=409600,10 time=1000"
+        usual = script_of(TRACE, "--interval", "20")
+        places = [place for place in range(len(usual)) if usual.startswith("\narm\n", place)]
+        wanted = f"{usual[:places[9]]}\ncommit\ncost 0 4000\napply{usual[places[9]:]}".replace("script 1", "script 2", 1)
+        self.assertEqual(changed(usual, "--version", "2", "--at", "9:cost 0 4000", "--scheme", scheme), wanted.replace("\nbegin\n", f"\n{scheme}\nbegin\n"))
 
     def test_commits_come_behind_those_that_are_there(self) -> None:
-        first, second = ["--metric", "5:1", "--metric", "8:2"], ["--at", "5:metric 3", "--metric", "6:4"]
+        first, second = ["--metric", "5:1", "--metric", "8:2"], ["--metric", "5:3", "--metric", "6:4"]
         self.assertEqual(changed(script_of(TRACE, "--interval", "20", *first), *second), script_of(TRACE, "--interval", "20", *first, *second))
 
     def test_no_change(self) -> None:
@@ -122,7 +128,7 @@ class Notes(unittest.TestCase):
     def test_commits_that_are_refused_or_too_late(self) -> None:
         script = script_of(TRACE, "--interval", "20")
         count = script.count("\narm\n")
-        self.assertEqual(notes_of(script, "--at", "3:attrs 3 2 5", "--at", "4:drop 1", "--metric", f"{count}:7"), [
+        self.assertEqual(notes_of(script, "--at", "3:attrs 6 5 5", "--at", "4:drop 1", "--metric", f"{count}:7"), [
             f"note: the commit before interval {count} is left out: there are {count} intervals",
             "note: the commit before interval 3 is refused: bad-attrs min-over-max"])
 
