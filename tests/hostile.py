@@ -6,8 +6,8 @@
 OTHER_DAMON and OTHER_DAMOND are programs with the same formats. Each input is a valid or a rejected text with one to
 four edits: of bytes, of words, of lines, or one that is aimed at a rule of the formats (`hostile_edits.py`). It is
 given to both programs, with `replay`, `json`, `reclaim`, `tune` and two goals, `admin`, `verify`, `heat 16` or `run`. Both must write
-the same bytes to standard output and to standard error and end with the same status. Two runs of `damond run` in threads may write two journals; there
-both programs must end alike, and each must accept the journal of either by its `verify`.
+the same bytes to standard output and to standard error and end with the same status. Two runs of `damond run` in
+threads may write two journals; there both programs must end alike, and each must accept the journal of either by its `verify`.
 
 Nothing is compared with an answer that was stored. What differs is printed, and its input is written to FOLDER. The
 last line counts the inputs that were the same and those that differ.
@@ -25,9 +25,9 @@ from pathlib import Path
 from typing import Dict, List, NamedTuple, Optional
 
 from hostile_edits import edited
+from tool_runs import DAMOND, PROGRAM, TOP
 
-TOP = Path(__file__).resolve().parent.parent
-BUILT = {name: TOP / f"crates/{name}/out/{name}" for name in ("damon", "damond")}
+BUILT = {"damon": PROGRAM, "damond": DAMOND}
 COMMANDS = ("replay", "json", "reclaim", "tune", "admin", "verify", "heat", "run")
 # The words after a command.
 WORDS = {"heat": ("16",), "tune": ("0:metric:100:4096:81920", "1:cold:700:0:40960")}

@@ -19,8 +19,9 @@ ADDRESSES = [
 # Words of the formats, which edits put where other words stand.
 WORDS = [
     b"begin", b"end", b"show", b"arm", b"finish", b"step", b"touch", b"sweep", b"commit", b"apply", b"attrs", b"range", b"scheme", b"drop", b"metric",
-    b"cost", b"target", b"seed", b"unit", b"cap", b"passes", b"worker", b"controller", b"receipts", b"settled", b"seen", b"prepare", b"check", b"void",
-    b"aggregate", b"call", b"answer", b"at", b"yes", b"no", b"pageout", b"stat", b"cold", b"hot", b"quota=1,1", b"time=1", b"age=0,1", b"size=1,2",
+    b"cost", b"target", b"seed", b"unit", b"cap", b"passes", b"worker", b"controller", b"receipts", b"settled", b"seen",
+    b"prepare", b"check", b"void", b"aggregate", b"call", b"answer", b"at", b"yes", b"no", b"pageout", b"stat", b"cold", b"hot",
+    b"quota=1,1", b"time=1", b"age=0,1", b"size=1,2",
 ]
 BYTES = b"\x00\t\n\r -+0123456789abcdefx:=,.\x7f\x80\xff"
 
@@ -183,12 +184,13 @@ def an_address(rng: random.Random) -> bytes:
     return rng.choice(ADDRESSES)
 
 
+SCHEMES = (b"stat", b"pageout quota=4096,1", b"cold age=1,0", b"stat quota=4096,5 time=9", b"hot")
 NEW_LINES: List[Callable[[random.Random], bytes]] = [
     lambda rng: b"seed " + a_number(rng),
     lambda rng: b"target " + an_address(rng) + b" " + a_number(rng),
     lambda rng: b"range 0 " + an_address(rng) + b" " + an_address(rng) + b" " + a_number(rng),
     lambda rng: b"attrs " + b" ".join(a_number(rng) for _ in range(3)),
-    lambda rng: b"scheme " + a_number(rng) + b" " + rng.choice((b"stat", b"pageout quota=4096,1", b"cold age=1,0", b"stat quota=4096,5 time=9", b"hot")),
+    lambda rng: b"scheme " + a_number(rng) + b" " + rng.choice(SCHEMES),
     lambda rng: b"drop " + a_number(rng),
     lambda rng: b"metric " + a_number(rng),
     lambda rng: b"cost " + a_number(rng) + b" " + a_number(rng),

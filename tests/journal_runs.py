@@ -26,7 +26,7 @@ class Row(NamedTuple):
     target: int
     first: int
     after: int
-    count: int
+    hits: int
 
 
 @dataclass

@@ -51,21 +51,21 @@ def tables(run: Run, columns: int) -> str:
         for target, (_, pages) in enumerate(run.setup.targets):
             lines.append(f"heat {found.tick} {target} {joined(heat_of(found.rows, target, pages, columns))}")
         lines.append(f"freq {found.tick} {joined(tenths_of(found))}")
-        sizes.append(sum(1 for row in found.rows if row.count for _ in range(row.first, row.after)))
+        sizes.append(sum(1 for row in found.rows if row.hits for _ in range(row.first, row.after)))
         lines.append(f"wss {found.tick} {sizes[-1]}")
     return "\n".join([*lines, last_line(sizes), ""])
 
 
 def heat_of(rows: Sequence[Row], target: int, pages: int, columns: int) -> List[int]:
     """The sum of the counts of the pages of each column."""
-    count = {page: row.count for row in rows if row.target == target for page in range(row.first, row.after)}
+    count = {page: row.hits for row in rows if row.target == target for page in range(row.first, row.after)}
     return [sum(count.get(page, 0) for page in range(column * pages // columns, (column + 1) * pages // columns))
             for column in range(columns)]
 
 
 def tenths_of(found: Aggregation) -> List[int]:
     """How many pages have which number of tenths."""
-    tenths = Counter(min(10, 10 * row.count // found.aggr) for row in found.rows for _ in range(row.first, row.after))
+    tenths = Counter(min(10, 10 * row.hits // found.aggr) for row in found.rows for _ in range(row.first, row.after))
     return [tenths[number] for number in range(11)]
 
 

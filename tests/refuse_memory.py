@@ -24,11 +24,11 @@ import sys
 import tempfile
 from concurrent.futures import ThreadPoolExecutor
 from pathlib import Path
-from typing import Dict, Iterator, List, NamedTuple, Optional
+from typing import Dict, Iterator, List, NamedTuple, Optional, Sequence
 
-TOP = Path(__file__).resolve().parent.parent
-DAMON = TOP / "crates/damon/out/damon"
-DAMOND = TOP / "crates/damond/out/damond"
+from tool_runs import DAMOND, TOP
+from tool_runs import PROGRAM as DAMON
+
 OK, MEMORY = 0, 7
 MEMORY_LINE = b"out of memory\n"
 SECONDS = 60
@@ -82,7 +82,7 @@ def main() -> int:
         for run in (it for it in runs() if wanted.only in it.name):
             whole = refuser.end(run, 0)
             count = refuser.count(run)
-            numbers = range(1, count + 1)
+            numbers: Sequence[int] = range(1, count + 1)
             if count > wanted.most:
                 numbers = sorted(random.Random(1).sample(numbers, wanted.most))
             ends = list(pool.map(lambda at: refuser.end(run, at), numbers))

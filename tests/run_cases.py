@@ -51,8 +51,8 @@ PROGRAM = TOP / "crates/damon/out/damon"
 CASES = TOP / "tests/cases"
 ALWAYS = {"name": str, "words": list, "stderr": str, "status": int}
 OPTIONAL = {"memory": int, "stdout_bytes": int}
-INPUTS = {"input": str, "input_parts": list, "stdin_from": str}
-OUTPUTS = {"stdout": str, "stdout_sha256": str, "stdout_to": str}
+INPUTS: Dict[str, type] = {"input": str, "input_parts": list, "stdin_from": str}
+OUTPUTS: Dict[str, type] = {"stdout": str, "stdout_sha256": str, "stdout_to": str}
 FIELDS = {**ALWAYS, **OPTIONAL, **INPUTS, **OUTPUTS}
 SECONDS = 60
 # A line with its LF, which the last one may lack.
@@ -67,7 +67,15 @@ class Digest(NamedTuple):
 
 
 class Ended(NamedTuple):
-    """What a run of the program comes to. An output of None is not looked at."""
+    """What a run of the program comes to."""
+
+    stdout: bytes
+    stderr: bytes
+    status: int
+
+
+class Wanted(NamedTuple):
+    """What it should come to. An output of None is not looked at."""
 
     stdout: Union[bytes, Digest, None]
     stderr: bytes
@@ -81,7 +89,7 @@ class Case(NamedTuple):
     stdin: Union[bytes, Path]
     stdout_to: Optional[str]
     memory: Optional[int]
-    wanted: Ended
+    wanted: Wanted
 
 
 def main(words: List[str]) -> int:
@@ -144,7 +152,7 @@ def case_of(place: str, fields: Dict[str, Any]) -> Case:
         stdin_of(fields),
         fields.get("stdout_to"),
         fields.get("memory"),
-        Ended(stdout_of(fields), to_bytes(fields["stderr"]), fields["status"]),
+        Wanted(stdout_of(fields), to_bytes(fields["stderr"]), fields["status"]),
     )
 
 
@@ -169,7 +177,7 @@ def to_bytes(text: str) -> bytes:
 
 def stdin_of(fields: Dict[str, Any]) -> Union[bytes, Path]:
     if "stdin_from" in fields:
-        return TOP / fields["stdin_from"]
+        return TOP / str(fields["stdin_from"])
     if "input_parts" in fields:
         return b"".join(to_bytes(text) * times for text, times in fields["input_parts"])
     return to_bytes(fields["input"])

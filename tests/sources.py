@@ -172,7 +172,7 @@ def scope_of(text: str, exports: Exports) -> Scope:
         known = exports.get((crate, path), {})
         if alias:
             scope.update({f"{alias}.{name}": it for name, it in known.items()})
-        for entry in filter(None, (entry.strip() for entry in names.split(","))):
+        for entry in [entry.strip() for entry in names.split(",") if entry.strip()]:
             name, _, other = entry.partition(" as ")
             if name in known:
                 scope[other or name] = known[name]

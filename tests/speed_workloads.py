@@ -6,7 +6,7 @@ import os
 import random
 import subprocess
 from pathlib import Path
-from typing import Callable, Iterator, NamedTuple, Tuple
+from typing import Callable, Iterable, Iterator, List, NamedTuple, Tuple
 
 PAGE = 4096
 MILLION = 1_048_576
@@ -27,7 +27,7 @@ class Workload(NamedTuple):
     program: str = "damon"
 
 
-def script(cap: int, attrs: str, pages: int, commands: Iterator[str]) -> bytes:
+def script(cap: int, attrs: str, pages: int, commands: Iterable[str]) -> bytes:
     """A script that watches all pages of one target."""
     lines = ["damon script 1", "seed 1", "unit 1", f"cap {cap}", f"attrs {attrs}"]
     lines += [f"target 0x0 {pages}", f"range 0 0x0 {pages * PAGE:#x} 0", "begin", *commands, "end", ""]
@@ -91,7 +91,7 @@ def commits(times: int) -> bytes:
     return "\n".join([*lines, "end", ""]).encode()
 
 
-def moved(pages: int) -> Iterator[str]:
+def moved(pages: int) -> List[str]:
     """The lines of 64 ranges of 16,000 pages each, moved by this number of pages."""
     firsts = [number * 16384 + pages for number in range(64)]
     return [f"range 0 {first * PAGE:#x} {(first + 16000) * PAGE:#x} 0" for first in firsts]

@@ -51,6 +51,9 @@ class Known:
 
 
 class Arrays(unittest.TestCase):
+    known: Known
+    counts: bytes
+
     @classmethod
     def setUpClass(cls) -> None:
         cls.known = Known()
@@ -100,6 +103,7 @@ class Arrays(unittest.TestCase):
         taken = 32 * (2 * 4 + 6 + 3 + 5 + 3)
         self.assertEqual([line for line in lines if line.startswith("slot")], [
             f"slot 0 pageout: applied to {taken} page-aggregations",
+            f"slot 0 pageout: {taken - 224} of these were out already: {100 * (taken - 224) / taken:.1f} %",
             "slot 0 pageout: 224 pages put out, 64 of them different",
             "slot 0 pageout: 160 refaults of these: 71.4 %; 4.0 an aggregation",
             "slot 0 pageout: 32 refaults within 5 aggregations: 14.3 %",
@@ -124,6 +128,7 @@ class Arrays(unittest.TestCase):
             self.assertEqual(stays[-1][1], None)
             self.assertEqual([back for _, back in stays[:-1]], read)
             for (_, back), (out, _) in zip(stays, stays[1:]):
+                assert back is not None
                 self.assertLessEqual(back, out)
         self.assertIn("slot 0 pageout: 160 refaults of these: 71.4 %; 4.0 an aggregation", lines)
 

@@ -1,8 +1,7 @@
 #!/usr/bin/env python3
-"""Tests of what all tools do alike: help, missing files, closed pipes, and types."""
+"""Tests of what all tools do alike: help, missing files and closed pipes."""
 from __future__ import annotations
 
-import importlib.util
 import os
 import signal
 import subprocess
@@ -15,7 +14,7 @@ from tool_runs import PROGRAM, SECONDS, TOOLS, TOP, need_program, run, script_of
 
 from common import CLOSED_PIPE_STATUS, INTERRUPTED_STATUS, UsageError, opened, opened_text
 
-NAMES = sorted(path.name for path in TOOLS.glob("*.py") if path.name != "common.py")
+NAMES = sorted(path.name for path in TOOLS.glob("*.py") if path.read_text().startswith("#!"))
 
 
 def setUpModule() -> None:
@@ -94,16 +93,6 @@ class Files(unittest.TestCase):
             with self.assertRaisesRegex(UsageError, f"^{path}: a byte that is not ASCII"):
                 with opened_text(str(path)) as text:
                     text.read()
-
-
-class Types(unittest.TestCase):
-    def test_types(self) -> None:
-        if not importlib.util.find_spec("mypy"):
-            print("skipped: mypy is not installed, so the types of tools/ were not checked", file=sys.stderr)
-            self.skipTest("mypy is not installed")
-        words = ["--strict", "--no-incremental", "--cache-dir", os.devnull, "--explicit-package-bases", "."]
-        ran = subprocess.run([sys.executable, "-m", "mypy", *words], cwd=TOOLS, capture_output=True)
-        self.assertEqual(ran.returncode, 0, ran.stdout.decode())
 
 
 if __name__ == "__main__":

@@ -12,16 +12,18 @@ import tempfile
 import unittest
 from collections import Counter
 from pathlib import Path
+from typing import Sequence
 
+from page_counts import Page, PageCounts, accuracy_of, aggregations_of
 from tool_runs import PROGRAM, TOOLS, Refusals, need_program, random_trace, report_of, run, script_of
 
-from comparing.counts import applied_of, counts_of
+from comparing.counts import accessed_in, applied_of
 from comparing.paging import Moment, Paging
-from reports.events import Aggregation, Memory, Report
+from reports.events import Aggregation, Report
+from reports.memory import Memory
 from reports.pages import common, union, without
 
 TOOL = "compare.py"
-Page = tuple[int, int]
 SingleMove = tuple[int, Page, int, "int | None", bool]
 """A slot, a page that it put out, the ticks at which it went and came back, and whether it was fetched back."""
 EXACT = """\
@@ -66,51 +68,13 @@ def compared(exact: str, found: str, *words: str) -> list[str]:
     return ran.stdout.decode().splitlines()
 
 
-def aggregations_of(report: str) -> list[dict]:
-    """The aggregations of a report, page by page. Shares nothing with the tools."""
-    result: list[dict] = []
-    is_inside = False
-    for line in report.splitlines():
-        word, *rest = line.split()
-        if word == "aggregate":
-            result.append({"tick": int(rest[0][5:]), "counts": {}, "applied": []})
-        is_inside = word in ("aggregate", "apply", "slot") or is_inside and word == "row"
-        if is_inside and word in ("apply", "row"):
-            target, span = rest[:2] if word == "row" else rest[2:4]
-            low, high = (int(address, 16) // 4096 for address in span.split("-"))
-            pages = [(int(target), page) for page in range(low, high)]
-            if word == "apply":
-                result[-1]["applied"].append((int(rest[0]), rest[1], pages))
-            else:
-                result[-1]["counts"].update(dict.fromkeys(pages, int(rest[2][6:])))
-    return result
-
-
 def percent(part: int, whole: int) -> list[str]:
     return [f"{100 * part / whole:.1f}"] if whole else []
 
 
-def found_numbers(exact: list[dict], found: list[dict], hot: float) -> list[list[str]]:
-    """The numbers of the first lines, counted page by page."""
-    total: Counter[str] = Counter()
-    before = 0
-    for one, other in zip(exact, found):
-        passes, before = one["tick"] - before, one["tick"]
-        used = {page for page, count in one["counts"].items() if count}
-        called = {page for page, count in other["counts"].items() if count}
-        for page, count in one["counts"].items():
-            seen = other["counts"].get(page)
-            total["pages"] += 1
-            total["blind"] += seen is None
-            total["hot"] += count >= hot * passes
-            total["hot called"] += seen is not None and seen >= hot * passes
-            total["hot both"] += count >= hot * passes and seen is not None and seen >= hot * passes
-            total["cold"] += count == 0
-            total["cold called"] += seen == 0
-            total["cold both"] += count == 0 and seen == 0
-        total["used"] += len(used)
-        total["called"] += len(called)
-        total["off"] += abs(len(used) - len(called))
+def found_numbers(exact: list[PageCounts], found: list[PageCounts], hot: float) -> list[list[str]]:
+    """The numbers of the first lines."""
+    total = accuracy_of(exact, found, hot)
     lines = [[len(exact), total["pages"]]] + [[total["blind"]]] * (total["blind"] > 0)
     numbers = [[str(number) for number in line] for line in lines]
     for name in ("hot", "cold"):
@@ -122,11 +86,11 @@ def found_numbers(exact: list[dict], found: list[dict], hot: float) -> list[list
     return [*numbers, [*averages[:2], *error, averages[2]]]
 
 
-def slot_numbers(exact: list[dict], found: list[dict], after: int) -> tuple[list[list[str]], set]:
+def slot_numbers(exact: list[PageCounts], found: list[PageCounts], after: int) -> tuple[list[list[str]], set[SingleMove]]:
     """The numbers of the lines of slots, and the moves of single pages, followed page by page."""
     out: dict[Page, tuple[int, int]] = {}
     moves: set[SingleMove] = set()
-    total: dict[tuple[int, str], Counter] = {}
+    total: dict[tuple[int, str], Counter[str]] = {}
     different: dict[int, set[Page]] = {}
     for number, (one, other) in enumerate(zip(exact, found)):
         for page, count in one["counts"].items():
@@ -147,18 +111,21 @@ def slot_numbers(exact: list[dict], found: list[dict], after: int) -> tuple[list
                     out[page] = (slot, number)
                     sums["out"] += 1
                     different.setdefault(slot, set()).add(page)
+                elif action == "pageout":
+                    sums["again"] += 1
                 elif action == "willneed" and page in out:
                     owner, since = out.pop(page)
                     total[owner, "pageout"]["fetched"] += 1
                     moves.add((owner, page, found[since]["tick"], other["tick"], True))
     moves |= {(slot, page, found[since]["tick"], None, False) for page, (slot, since) in out.items()}
-    lines: list[list] = []
+    lines: list[list[object]] = []
     for (slot, action), sums in sorted(total.items()):
         if action != "pageout":
             lines.append([slot, sums["used"], sums["applied"], after, *percent(sums["used"], sums["applied"])])
             continue
         end = sum(1 for owner, _ in out.values() if owner == slot)
-        lines += [[slot, sums["applied"]], [slot, sums["out"], len(different.get(slot, ()))],
+        lines += [[slot, sums["applied"]], [slot, sums["again"], *percent(sums["again"], sums["applied"])],
+                  [slot, sums["out"], len(different.get(slot, ()))],
                   [slot, sums["back"], *percent(sums["back"], sums["out"]), f"{sums['back'] / len(exact):.1f}"],
                   [slot, sums["soon"], after, *percent(sums["soon"], sums["out"])],
                   *([[slot, sums["fetched"], *percent(sums["fetched"], sums["out"])]] if sums["fetched"] else []),
@@ -204,7 +171,7 @@ def random_runs(seed: int) -> tuple[str, str]:
     return "".join(exact), "".join(found)
 
 
-def aggregation_text(tick: int, rows: list, applied: list) -> str:
+def aggregation_text(tick: int, rows: Sequence[tuple[int, ...]], applied: Sequence[tuple[int, str, int, int, int]]) -> str:
     lines = [f"aggregate tick={tick} threshold=0 rows={len(rows)}"]
     lines += [f"apply {slot} {action} {target} {low << 12:#x}-{high << 12:#x} score=9" for slot, action, target, low, high in applied]
     lines += [f"row {target} {low << 12:#x}-{high << 12:#x} count={count} last=0 age=0" for target, low, high, count in rows]
@@ -246,6 +213,7 @@ class Arithmetic(unittest.TestCase):
             "cold: 3 of 4 page-aggregations called cold are not: 75.0 %",
             "working set: 1.0 pages on average, exactly 2.0: -50.0 %; off by 1.0 pages on average",
             "slot 0 pageout: applied to 3 page-aggregations",
+            "slot 0 pageout: 0 of these were out already: 0.0 %",
             "slot 0 pageout: 3 pages put out, 3 of them different",
             "slot 0 pageout: 2 refaults of these: 66.7 %; 1.0 an aggregation",
             "slot 0 pageout: 2 refaults within 5 aggregations: 66.7 %",
@@ -303,7 +271,7 @@ class Reclaim(unittest.TestCase):
         self.assertEqual(len(memory), len(aggregations) + 1)
         paging = Paging(1, False)
         for number, (one, other, said) in enumerate(zip(truth.aggregations(), aggregations, memory)):
-            paging.add(Moment(number, other.tick), counts_of(one, 1, None).accessed, applied_of(other, None))
+            paging.add(Moment(number, other.tick), accessed_in(one.regions), applied_of(other, None))
             ledgers = paging.ledgers.values()
             self.assertEqual((other.tick, *(sum(getattr(ledger, name) for ledger in ledgers)
                                             for name in ("out", "put_out", "refaults", "prefetches"))),
@@ -323,6 +291,67 @@ class Forms(unittest.TestCase):
         self.assertTrue(all(json.loads(line) for line in lines[1].splitlines()))
         self.assertEqual(compared(lines[0], lines[1], "--moves"), compared(texts[0], texts[1], "--moves"))
         self.assertEqual(compared(lines[0], texts[1]), compared(texts[0], lines[1]))
+
+
+class Several(unittest.TestCase):
+    """More than one report beside an exact one, and the same numbers as JSON."""
+
+    SCHEMES = ("scheme 0 pageout count=0,1 age=1,9", "scheme 5 lru_prio count=3,9")
+
+    def setUp(self) -> None:
+        folder = tempfile.TemporaryDirectory()
+        self.addCleanup(folder.cleanup)
+        self.paths = [Path(folder.name) / name for name in ("exact", "few", "many")]
+        trace, words = random_trace(3, 4000), ["--interval", "8", "--aggr", "5"]
+        scripts = [script_of(trace, *words, *more) for more in
+                   (["--exact"], ["--max", "20", "--scheme", self.SCHEMES[0]],
+                    ["--max", "60", *(word for line in self.SCHEMES for word in ("--scheme", line))])]
+        for path, script in zip(self.paths, scripts):
+            path.write_text(report_of(script))
+        self.exact, *self.found = [aggregations_of(path.read_text()) for path in self.paths]
+
+    def output(self, *words: str) -> list[str]:
+        ran = run(TOOL, *map(str, self.paths), *words)
+        self.assertEqual((ran.returncode, ran.stderr), (0, b""))
+        return ran.stdout.decode().splitlines()
+
+    def test_columns(self) -> None:
+        head, *lines = [re.split(r"  +", line.strip()) for line in self.output("--hot", "0.4", "--after", "3")]
+        self.assertEqual(head, [str(path) for path in self.paths[1:]])
+        table = {name: cells for name, *cells in lines}
+        for column, found in enumerate(self.found):
+            pages, hot, called_hot, cold, called_cold, sets = found_numbers(self.exact, found, 0.4)
+            wanted = [pages[0], f"{hot[2]} %", f"{called_hot[2]} %", f"{cold[2]} %", f"{called_cold[2]} %", sets[0], sets[1], f"{sets[2]} %"]
+            self.assertEqual([cells[column] for cells in list(table.values())[:8]], wanted)
+            (applied, again, put_out, refaults, soon, *_, out), *_ = [slot_numbers(self.exact, found, 3)[0]]
+            if column == 1:
+                out, used = soon_and_use(slot_numbers(self.exact, found, 3)[0])
+                self.assertEqual(table["slot 5 lru_prio: accessed in the next 3 aggregations"], ["-", f"{used[-1]} %"])
+            for name, number in (("applied to page-aggregations", applied[1]), ("of these out already", f"{again[2]} %"),
+                                 ("pages put out", put_out[1]), ("refaults", refaults[1]), ("refaults within 3 aggregations", soon[1]),
+                                 ("pages out on average", out[2])):
+                self.assertEqual(table[f"slot 0 pageout: {name}"][column], number)
+
+    def test_json(self) -> None:
+        lines = [json.loads(line) for line in self.output("--json", "--hot", "0.4", "--after", "3")]
+        self.assertEqual([line["report"] for line in lines], [str(path) for path in self.paths[1:]])
+        for line, path, found in zip(lines, self.paths[1:], self.found):
+            text = compared(self.paths[0].read_text(), path.read_text(), "--hot", "0.4", "--after", "3")
+            numbers = [re.findall(r"[-+]?\b\d+(?:\.\d+)?", row) for row in text]
+            hot, cold, sets = line["hot"], line["cold"], line["working_set"]
+            self.assertEqual([[str(line["aggregations"]), str(line["page_aggregations"])], [str(hot["found"]), str(hot["exact"])],
+                              [str(hot["called"] - hot["found"]), str(hot["called"])], [str(cold["found"]), str(cold["exact"])],
+                              [str(cold["called"] - cold["found"]), str(cold["called"])]], [numbers[0], *(row[:2] for row in numbers[1:5])])
+            self.assertEqual([f"{sets[name]:.1f}" for name in ("found", "exact", "off")], [numbers[5][0], numbers[5][1], numbers[5][3]])
+            slot = line["slots"][0]
+            self.assertEqual([str(slot[name]) for name in ("applied", "again", "put_out", "different", "refaults", "refaults_soon")],
+                             [numbers[6][1], numbers[7][1], numbers[8][1], numbers[8][2], numbers[9][1], numbers[10][1]])
+            self.assertEqual([one["action"] for one in line["slots"]], ["pageout", "lru_prio"][: len(line["slots"])])
+
+
+def soon_and_use(lines: list[list[str]]) -> tuple[list[str], list[str]]:
+    """The last line of slot 0, and that of slot 5."""
+    return [line for line in lines if line[0] == "0"][-1], next(line for line in lines if line[0] == "5")
 
 
 class Costs(unittest.TestCase):
@@ -384,13 +413,14 @@ class Errors(Refusals):
         self.check(["the-exact-one", "line 1"], "hello\n", FOUND)
 
     def test_exact_counts_come_first(self) -> None:
-        self.check(["first of the two"], EXACT, "exact counts 1\n")
+        self.check(["first of the reports"], EXACT, "exact counts 1\n")
 
     def test_options(self) -> None:
         self.check(["--hot"], EXACT, FOUND, "--hot", "0")
         self.check(["--after"], EXACT, FOUND, "--after", "0")
         self.check(["the-exact-one", "target 9"], EXACT, FOUND, "--target", "9")
         self.refused(TOOL, ["standard input"], b"", "-", "-")
+        self.check(["--moves"], EXACT, FOUND, "--moves", "--json")
 
     def test_files_are_named_once(self) -> None:
         ran = run(TOOL, "no-such-file", "-")

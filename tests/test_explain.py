@@ -63,7 +63,8 @@ EDITS_2 = (
 
 EDITS = (
     # The place and the text before and after; the kind, the reason, and the words that are marked.
-    ("damon script 1", "damon script 3", "no header", "the first line must be exactly `damon script 1` or `damon script 2`, and it is", "damon script 3"),
+    ("damon script 1", "damon script 3", "no header",
+     "the first line must be exactly `damon script 1` or `damon script 2`, and it is", "damon script 3"),
     ("damon script 1", "damon script 1\r", "no header", "ends with CR LF", "\r"),
     ("damon script 1", "damon script 1 ", "no header", "without a space before or after it", "damon script 1 "),
     ("seed 42", "seed 042", "bad number", "'042' has a leading zero", "042"),
@@ -138,7 +139,8 @@ EDITS = (
     ("0x20000 0x22000", "0x20000 0x26000", "outside span", "0x26000 is outside target 1, from 0x20000 to 0x24000", "0x26000"),
     ("0x20000 0x22000", "0x20000 0x22001", "out of limit", "0x22001 is not a multiple of 4096", "0x22001"),
     ("0x20000 0x22000", "0x20000 0x20000", "out of limit", "FROM, 0x20000, is not below TO, 0x20000", "0x20000"),
-    ("drop 3\n", "drop 3\nscheme 4 stat\n", "unexpected word", "(a commit changes one slot): in the commit of line 16 must come metric or apply", "scheme"),
+    ("drop 3\n", "drop 3\nscheme 4 stat\n", "unexpected word",
+     "(a commit changes one slot): in the commit of line 16 must come metric or apply", "scheme"),
     ("apply\n", "", "unexpected word", "'arm' is not allowed at this place: in the commit of line 16 must come apply", "arm"),
     ("drop 3\n", "drop 300\n", "bad number", "300 is above 255, the greatest SLOT", "300"),
     ("show\nend\n", "show\n", "input ends early", "the text ends after line 24: `end` is missing", None),

@@ -10,13 +10,17 @@ from pathlib import Path
 
 from hostile import BUILT, load_seeds, make_inputs
 from hostile_edits import EDITS, edited
+from tool_runs import need_program
 
 TOOL = Path(__file__).resolve().parent / "hostile.py"
 # A program that hands all on, but for the digit of the first hit.
 OTHER = '#!/bin/sh\n"{damon}" "$@" | sed "s/hits=0/hits=1/"\n'
 
 
-@unittest.skipUnless(BUILT["damon"].exists(), "damon is not built")
+def setUpModule() -> None:
+    need_program()
+
+
 class Comparing(unittest.TestCase):
     def compare(self, other: Path, *words: str) -> "subprocess.CompletedProcess[str]":
         return subprocess.run([sys.executable, str(TOOL), str(other), "--count", "60", *words], capture_output=True, text=True, timeout=300)

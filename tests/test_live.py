@@ -7,11 +7,10 @@ at whole texts of runs whose order nobody gave.
 import os
 import subprocess
 import unittest
-from pathlib import Path
 from typing import Dict, List, Tuple
 
-TOP = Path(__file__).resolve().parent.parent
-PROGRAM = TOP / "crates/damond/out/damond"
+from tool_runs import DAMOND, TOP, need_program
+
 EXAMPLE = TOP / "examples/live.damon"
 PAGE = 4096
 HEAD = "damon live 1\nseed 1\nunit 1\ncap 8\nattrs 3 8 2\ntarget 0x0 64\nrange 0 0x0 0x40000 0\n"
@@ -19,8 +18,12 @@ WORKER = "worker\nsweep 0 0x0 0x10000\ntouch 0 0x20000\nsweep 0 0x0 0x10000\n"
 CONTROLLER = "controller\nshow\ncommit\nattrs 3 4 1\napply\nshow\ncommit\nrange 0 0x0 0x20000 1\napply\n"
 
 
+def setUpModule() -> None:
+    need_program(DAMOND)
+
+
 def run(script: str, *words: str) -> Tuple[int, str, str]:
-    done = subprocess.run([str(PROGRAM), *(words or ("run",))], input=script, capture_output=True, text=True, timeout=60)
+    done = subprocess.run([str(DAMOND), *(words or ("run",))], input=script, capture_output=True, text=True, timeout=60)
     return done.returncode, done.stdout, done.stderr
 
 
@@ -51,7 +54,6 @@ def setup_of(script: str) -> List[str]:
     return lines[1 : next(at for at, line in enumerate(lines) if line.startswith("passes "))]
 
 
-@unittest.skipUnless(PROGRAM.exists(), "damond is not built")
 class Journals(unittest.TestCase):
     def check(self, script: str) -> None:
         status, journal, errors = run(script)
@@ -100,7 +102,6 @@ class Journals(unittest.TestCase):
             os.sched_setaffinity(0, before)
 
 
-@unittest.skipUnless(PROGRAM.exists(), "damond is not built")
 class Refusals(unittest.TestCase):
     def refused(self, script: str, status: int, line: str, *words: str) -> None:
         self.assertEqual(run(script, *words), (status, "", line + "\n"))

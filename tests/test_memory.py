@@ -5,7 +5,9 @@ import tempfile
 import unittest
 from pathlib import Path
 
-from refuse_memory import DAMON, MEMORY, OK, Refuser, Run, fault_of
+from refuse_memory import MEMORY, OK, Refuser, Run, fault_of
+from tool_runs import PROGRAM as DAMON
+from tool_runs import need_program
 
 HEAD = (
     "damon script 1\nseed 7\nunit 1\ncap 64\nattrs 8 64 4\ntarget 0x0 256\nrange 0 0x0 0x100000 0\n"
@@ -14,11 +16,15 @@ HEAD = (
 COMMIT = "commit\nmetric 5\napply\nstep 200\n"
 
 
+def setUpModule() -> None:
+    need_program()
+
+
 def replay(body: str) -> Run:
     return Run("a script", DAMON, ["replay"], f"{HEAD}{body}end\n".encode())
 
 
-@unittest.skipUnless(DAMON.exists() and shutil.which("cc"), "damon is not built, or there is no cc")
+@unittest.skipUnless(shutil.which("cc"), "there is no cc")
 class Allocations(unittest.TestCase):
     def setUp(self) -> None:
         folder = tempfile.TemporaryDirectory()

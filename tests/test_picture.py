@@ -17,7 +17,8 @@ from drawing.charts import CHART, charts_of, quota_charts
 from drawing.grid import UNWATCHED, level, rectangles
 from drawing.history import commits_of, history_of
 from drawing.panels import ALONE
-from reports.events import Aggregation, Commit, Memory, Report, ReportError, Show, Tuned
+from reports.events import Aggregation, Commit, Report, ReportError, Show, Snapshot, Tuned
+from reports.memory import Memory
 
 TOOL = "picture.py"
 SVG = "{http://www.w3.org/2000/svg}"
@@ -103,7 +104,7 @@ class Reports(unittest.TestCase):
         found = list(Report(TWO_AGGREGATIONS.splitlines(keepends=True)).events())
         self.assertEqual([type(event) for event in found], [Aggregation, Commit, Aggregation, Show])
         self.assertEqual([(one.tick, one.passes, len(one.regions), one.working_set, one.active)
-                          for one in found if not isinstance(one, Commit)],
+                          for one in found if isinstance(one, Snapshot)],
                          [(4, 4, 2, 0x2000, {0: True}), (6, 2, 2, 0x4000, {0: False}), (6, 1, 1, 0, {0: False})])
         self.assertEqual(found[1], Commit(4, "ok rows=2 void=no"))
 

@@ -1,28 +1,25 @@
 #!/usr/bin/env python3
 """Tests of docs/report.schema.json: its shape, and the JSON lines of all cases against it.
 
-Lines are checked by an interpreter that has jsonschema: this one, or Debian's own, for which
-`apt-get install python3-jsonschema` installs it. Without one these tests are skipped, and say so.
+Lines are checked by an interpreter that has jsonschema: for Debian's `apt-get install python3-jsonschema` installs it.
+Without one these tests are skipped.
 """
 from __future__ import annotations
 
 import json
 import re
 import subprocess
-import sys
 import tempfile
 import unittest
-from functools import lru_cache
 from itertools import accumulate
 from pathlib import Path
 from typing import Any, Iterator
 
 from run_cases import CASES, Case, load
-from tool_runs import PROGRAM, SECONDS, TOP, need_program
+from tool_runs import PROGRAM, SECONDS, TOP, interpreter_with, need_program
 
 SCHEMA = TOP / "docs/report.schema.json"
 CHECKER = TOP / "tests/report_schema.py"
-DEBIANS_PYTHON = "/usr/bin/python3"
 MOST_BYTES = 1 << 17
 """Of a longer report the lines that begin in its first bytes are checked."""
 
@@ -44,18 +41,9 @@ def setUpModule() -> None:
     need_program()
 
 
-@lru_cache(maxsize=None)
-def interpreter() -> str | None:
-    """One that has jsonschema, or None."""
-    for path in (sys.executable, DEBIANS_PYTHON):
-        if Path(path).is_file() and subprocess.run([path, "-c", "import jsonschema"], capture_output=True).returncode == 0:
-            return path
-    return None
-
-
 def refused(lines: bytes) -> dict[int, str]:
     """The numbers of the lines that the schema refuses, counted from 1, each with the reason."""
-    ran = subprocess.run([interpreter() or "", CHECKER, SCHEMA], input=lines, capture_output=True, timeout=SECONDS)
+    ran = subprocess.run([interpreter_with("jsonschema") or "", CHECKER, SCHEMA], input=lines, capture_output=True, timeout=SECONDS)
     if ran.stderr:
         raise AssertionError(ran.stderr.decode())
     return {int(number): fault for number, fault in (line.split(": ", 1) for line in ran.stdout.decode().splitlines())}
@@ -98,10 +86,8 @@ class Shape(unittest.TestCase):
 class Lines(unittest.TestCase):
     @classmethod
     def setUpClass(cls) -> None:
-        if interpreter() is None:
-            print("skipped: jsonschema (Debian's python3-jsonschema) is not installed, so no JSON line was checked against the "
-                  "schema", file=sys.stderr)
-            raise unittest.SkipTest("jsonschema is not installed")
+        if interpreter_with("jsonschema") is None:
+            raise unittest.SkipTest("no python3 has jsonschema (Debian's python3-jsonschema): no JSON line was checked against the schema")
 
     def test_the_lines_of_all_cases(self) -> None:
         cases, faults = load([CASES])

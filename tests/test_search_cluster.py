@@ -1,8 +1,8 @@
 #!/usr/bin/env python3
 """Tests of tools/search.py --cluster: a scheduler and two workers on this machine, one of which is killed half way.
 
-The tool runs with an interpreter that has dask.distributed: this one, or Debian's own, for which
-`apt-get install python3-distributed` installs it. Without one these tests are skipped, and say so.
+The tool runs with an interpreter that has dask.distributed: for Debian's `apt-get install python3-distributed` installs it.
+Without one these tests are skipped.
 """
 from __future__ import annotations
 
@@ -15,11 +15,10 @@ import sys
 import tempfile
 import time
 import unittest
-from functools import lru_cache
 from pathlib import Path
 from typing import Callable
 
-from tool_runs import PROGRAM, SECONDS, TOOLS, Refusals, need_program, random_trace, run
+from tool_runs import DEBIANS_PYTHON, PROGRAM, SECONDS, TOOLS, Refusals, interpreter_with, need_program, random_trace, run
 
 from searching.cluster import Sent, archive, has_package
 from searching.plan import plan_of
@@ -28,7 +27,6 @@ from searching.runs import Inputs, rows_of
 from searching.traces import trace_workloads
 
 TOOL = "search.py"
-DEBIANS_PYTHON = "/usr/bin/python3"
 PLAN = """\
 traces = ["a.trace"]
 schemes = ["scheme 0 pageout count=0,0 age={age},4294967295 prefer=cold"]
@@ -47,12 +45,6 @@ def setUpModule() -> None:
     need_program()
 
 
-@lru_cache(maxsize=None)
-def interpreter() -> str | None:
-    """One that has dask.distributed, or None."""
-    return next((path for path in (sys.executable, DEBIANS_PYTHON) if has_package(path)), None)
-
-
 class WithoutIt(Refusals):
     def test_the_tool_says_which_interpreter_to_use(self) -> None:
         if has_package(sys.executable):
@@ -68,10 +60,8 @@ class WithoutIt(Refusals):
 class Cluster(unittest.TestCase):
     @classmethod
     def setUpClass(cls) -> None:
-        if interpreter() is None:
-            print("skipped: dask.distributed (Debian's python3-distributed) is not installed, so tools/search.py --cluster was "
-                  "not tested", file=sys.stderr)
-            raise unittest.SkipTest("dask.distributed is not installed")
+        if interpreter_with("distributed") is None:
+            raise unittest.SkipTest("no python3 has dask.distributed (Debian's python3-distributed): search.py --cluster was not tested")
 
     def setUp(self) -> None:
         folder = tempfile.TemporaryDirectory()
@@ -84,7 +74,7 @@ class Cluster(unittest.TestCase):
     def server(self, name: str, *words: str) -> subprocess.Popen[bytes]:
         """A scheduler or a worker, which is ended with the test."""
         with open(self.folder / f"{name}.log", "ab") as log:
-            found = subprocess.Popen([interpreter() or "", "-m", f"distributed.cli.{name}", *words], stdout=log, stderr=log,
+            found = subprocess.Popen([interpreter_with("distributed") or "", "-m", f"distributed.cli.{name}", *words], stdout=log, stderr=log,
                                      cwd=self.folder)
         self.addCleanup(found.wait)
         self.addCleanup(found.kill)
@@ -126,7 +116,7 @@ class Cluster(unittest.TestCase):
         first, second = self.worker(address), self.worker(address)
         self.wait_until(lambda: self.workers_known() == 2)
         two = self.folder / "two.csv"
-        words = [interpreter() or "", str(TOOLS / TOOL), str(self.plan), str(two), "--cluster", address]
+        words = [interpreter_with("distributed") or "", str(TOOLS / TOOL), str(self.plan), str(two), "--cluster", address]
         with subprocess.Popen(words, stderr=subprocess.PIPE, env={**os.environ, "DAMON": str(self.slow_program())}) as tool:
             self.wait_until(lambda: two.exists() and two.read_bytes().count(b"\n") > RUNS // 4)
             first.send_signal(signal.SIGKILL)
@@ -144,7 +134,7 @@ class Cluster(unittest.TestCase):
         self.wait_until(lambda: self.workers_known() == 3)
         cut = self.folder / "cut.csv"
         cut.write_bytes(whole[: len(whole) // 2])
-        ran = subprocess.run([interpreter() or "", TOOLS / TOOL, self.plan, cut, "--cluster", address], capture_output=True,
+        ran = subprocess.run([interpreter_with("distributed") or "", TOOLS / TOOL, self.plan, cut, "--cluster", address], capture_output=True,
                              timeout=SECONDS, env={**os.environ, "DAMON": str(PROGRAM)})
         self.assertEqual((ran.returncode, cut.read_bytes()), (0, whole), ran.stderr)
         # Each program has the name of its hash on the workers.
@@ -152,7 +142,7 @@ class Cluster(unittest.TestCase):
 
     def test_errors(self) -> None:
         address = self.scheduler()
-        ran = subprocess.run([interpreter() or "", TOOLS / TOOL, self.plan, self.folder / "a.csv", "--cluster", address],
+        ran = subprocess.run([interpreter_with("distributed") or "", TOOLS / TOOL, self.plan, self.folder / "a.csv", "--cluster", address],
                              capture_output=True, timeout=SECONDS, env={**os.environ, "DAMON": str(PROGRAM)})
         self.assertEqual((ran.returncode, ran.stderr.decode()),
                          (2, f"search.py: --cluster {address}: the scheduler has no worker\n"))

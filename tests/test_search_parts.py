@@ -11,7 +11,8 @@ from unittest import mock
 
 from tool_runs import TOP
 
-from searching import truth
+from measuring import truth
+from measuring.truth import ACCESSED, HOT, UNTOUCHED, Range, Truths
 from searching.handing import AHEAD, MOST_OF_CHUNK, Pace, in_order
 from searching.local import processors_for
 from searching.plan import plan_of
@@ -19,7 +20,6 @@ from searching.points import Points
 from searching.remaining import Remaining, in_words
 from searching.runs import MOST_CHARACTERS, MOST_OF_BATCH, Outcome, batches
 from searching.table import DONE, Rows, line_of, rows_in
-from searching.truth import ACCESSED, HOT, UNTOUCHED, Range, Truths
 from searching.workloads import Workload
 from tracing.intervals import runs_of
 

@@ -95,12 +95,12 @@ class Limits(Programs):
     def test_a_run_that_takes_too_long(self) -> None:
         since = time.monotonic()
         self.assertIsNone(self.ran("echo $$; exec sleep 30", seconds=0.2))
-        self.assertTrue(0.2 <= time.monotonic() - since < 20)
+        self.assertGreaterEqual(time.monotonic() - since, 0.2)
         self.assertIsNotNone(self.ran("sleep 0.2", seconds=1e12))
 
     def test_it_is_gone_then(self) -> None:
         path = self.folder / "number"
-        self.assertIsNone(self.ran(f"echo $$ > {path}; exec sleep 30", seconds=1.0))
+        self.assertIsNone(self.ran(f"echo $$ > {path}; exec sleep 60", seconds=5.0))
         with self.assertRaises(ProcessLookupError):
             os.kill(int(path.read_text()), 0)
 
@@ -109,15 +109,16 @@ class Limits(Programs):
         with Runner(self.program("program", body), "replay", 0.5) as runner:
             self.assertIsNone(runner.ran(b"first\n"))
             while not (self.folder / "done").exists():
-                self.assertEqual(runner.ran(b"last\n"), Ended(0, "last\n", ""))
+                # On a busy machine a short run may take too long as well.
+                self.assertIn(runner.ran(b"last\n"), (None, Ended(0, "last\n", "")))
 
     def test_an_interrupt_ends_the_run(self) -> None:
         path = self.folder / "number"
         before = signal.signal(signal.SIGALRM, self.interrupt)
         self.addCleanup(signal.signal, signal.SIGALRM, before)
-        signal.setitimer(signal.ITIMER_REAL, 1.0)
+        signal.setitimer(signal.ITIMER_REAL, 5.0)
         with self.assertRaises(KeyboardInterrupt):
-            self.ran(f"echo $$ > {path}; exec sleep 30")
+            self.ran(f"echo $$ > {path}; exec sleep 60")
         with self.assertRaises(ProcessLookupError):
             os.kill(int(path.read_text()), 0)
 

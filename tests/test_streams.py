@@ -13,11 +13,11 @@ import subprocess
 import tempfile
 import unittest
 from pathlib import Path
-from typing import Dict, Iterator, List, NamedTuple, Optional, Tuple
+from typing import Dict, Iterator, List, Mapping, NamedTuple, Optional, Tuple
 
-TOP = Path(__file__).resolve().parent.parent
-DAMON = TOP / "crates/damon/out/damon"
-DAMOND = TOP / "crates/damond/out/damond"
+from tool_runs import DAMOND, TOP, need_program
+from tool_runs import PROGRAM as DAMON
+
 OK, USAGE, READ_FAULT, WRITE_FAULT, MEMORY = 0, 2, 5, 6, 7
 LINES = {OK: b"", READ_FAULT: b"reading failed\n", WRITE_FAULT: b"writing failed\n", MEMORY: b"out of memory\n"}
 MIB = 1 << 20
@@ -29,6 +29,10 @@ ENTRIES = b"begin\n"
 F_SETPIPE_SZ = 1031
 SMALL_PIPE = 4096
 SECONDS = 60
+
+
+def setUpModule() -> None:
+    need_program(DAMON, DAMOND)
 
 
 class Command(NamedTuple):
@@ -81,7 +85,7 @@ def long_report() -> Command:
     return Command(DAMON, ["replay"], script.encode())
 
 
-def run(command: Command, line: Optional[List[str]] = None, **given: str) -> Ended:
+def run(command: Command, line: Optional[List[str]] = None, given: Mapping[str, str] = {}) -> Ended:
     done = subprocess.run(line or command.line, input=command.text, capture_output=True, timeout=SECONDS, env={**os.environ, **given})
     return Ended(done.returncode, done.stdout, done.stderr)
 
@@ -91,7 +95,6 @@ def in_shell(redirection: str, command: Command) -> List[str]:
     return ["sh", "-c", f'{redirection}; exec "$@"', "sh", *command.line]
 
 
-@unittest.skipUnless(DAMON.exists() and DAMOND.exists(), "the programs are not built")
 class Streams(unittest.TestCase):
     def assert_ended(self, ended: Ended, status: int) -> None:
         self.assertEqual(ended.status, status)
@@ -111,7 +114,7 @@ class FailingCalls(Streams):
     def count(self, command: Command, **trouble: int) -> Counted:
         self.calls.unlink(missing_ok=True)
         given: Dict[str, str] = {name: str(number) for name, number in trouble.items()}
-        ended = run(command, LD_PRELOAD=str(self.library), CALLS=str(self.calls), **given)
+        ended = run(command, given={"LD_PRELOAD": str(self.library), "CALLS": str(self.calls), **given})
         reads, writes = map(int, self.calls.read_text().split())
         return Counted(ended, reads, writes)
 

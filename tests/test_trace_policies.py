@@ -7,7 +7,7 @@ from pathlib import Path
 
 from tool_runs import Refusals, need_program, notes_of, report_of, run, script_of
 
-from tracing.commits import grouped as commits_of_lines
+from tracing.commits import fewest_commits as commits_of_lines
 
 TOOL = "trace_to_script.py"
 

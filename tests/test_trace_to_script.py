@@ -12,7 +12,7 @@ from pathlib import Path
 from tool_runs import KEPT, Refusals, counts_of_report, need_program, random_trace, report_of, run, script_of
 
 from tracing.accesses import TraceError
-from tracing.areas import chosen, grouped
+from tracing.areas import chosen, group_pages
 from tracing.intervals import record, union
 from tracing.lackey import LackeyTrace, decode
 
@@ -186,14 +186,14 @@ class Parts(unittest.TestCase):
 
     def test_areas(self) -> None:
         def spans(gap: int, unit: int) -> list[tuple[int, int, int]]:
-            return [(area.first, area.after, area.accesses) for area in grouped({5: 1, 6: 2, 9: 3, 20: 4}, gap, unit)]
+            return [(area.first, area.after, area.accesses) for area in group_pages({5: 1, 6: 2, 9: 3, 20: 4}, gap, unit)]
 
         self.assertEqual(spans(0, 1), [(5, 7, 3), (9, 10, 3), (20, 21, 4)])
         self.assertEqual(spans(2, 1), [(5, 10, 6), (20, 21, 4)])
         self.assertEqual(spans(0, 4), [(5, 10, 6), (20, 24, 4)])
 
     def test_pages_of_areas_are_limited(self) -> None:
-        found = chosen(grouped({0: 9, (1 << 20) - 1: 9, 1 << 22: 1, 1 << 23: 2}, 1 << 20, 1))
+        found = chosen(group_pages({0: 9, (1 << 20) - 1: 9, 1 << 22: 1, 1 << 23: 2}, 1 << 20, 1))
         self.assertEqual([area.first for area in found.kept], [0])
         self.assertEqual(sum(area.accesses for area in found.left_out), 3)
 

@@ -7,24 +7,39 @@ from __future__ import annotations
 
 import os
 import random
+import shutil
 import subprocess
 import sys
 import unittest
+from functools import lru_cache
 from pathlib import Path
 
 TOP = Path(__file__).resolve().parent.parent
 TOOLS = TOP / "tools"
 KEPT = TOP / "examples/shop.trace.xz"
 PROGRAM = Path(os.environ.get("DAMON") or TOP / "crates/damon/out/damon")
+DAMOND = Path(os.environ.get("DAMOND") or TOP / "crates/damond/out/damond")
+DEBIANS_PYTHON = "/usr/bin/python3"
 SECONDS = 300
 if str(TOOLS) not in sys.path:
     sys.path.insert(0, str(TOOLS))
 
 
-def need_program() -> None:
-    """Fails where there is no program; called once for each file of tests."""
-    if not PROGRAM.is_file():
-        raise RuntimeError(f"there is no program {PROGRAM}: `rt ci` builds it, and so does ./damon")
+def need_program(*programs: Path) -> None:
+    """Fails where one of the programs is missing, `damon` if none is named; called once for each file of tests."""
+    for path in programs or (PROGRAM,):
+        if not path.is_file():
+            raise RuntimeError(f"there is no program {path}: `rt ci` builds it, and so does ./{path.name}")
+
+
+@lru_cache(maxsize=None)
+def interpreter_with(module: str) -> str | None:
+    """A python3 that has a module: this one, one that the path names, or Debian's; None if there is no such one."""
+    on_path = [shutil.which("python3", path=folder) for folder in os.environ.get("PATH", "").split(os.pathsep)]
+    for path in dict.fromkeys(filter(None, (sys.executable, *on_path, DEBIANS_PYTHON))):
+        if Path(path).exists() and subprocess.run([path, "-c", f"import {module}"], capture_output=True).returncode == 0:
+            return path
+    return None
 
 
 def run(name: str, *words: str, text: bytes = b"", program: Path = PROGRAM) -> subprocess.CompletedProcess[bytes]:

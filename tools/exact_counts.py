@@ -13,7 +13,7 @@ from common import UsageError, opened_text, parser, run
 from reports.events import Report, ReportError
 from tracing import reading
 from tracing.accesses import Trace, TraceError
-from tracing.areas import Choice, chosen, grouped
+from tracing.areas import Choice, chosen, group_pages
 from tracing.exact import exact_lines
 from tracing.intervals import Recording
 from tracing.notes import counted_accesses, lost_lines
@@ -57,7 +57,7 @@ def options_of() -> argparse.Namespace:
 
 def targets_of(recording: Recording, options: argparse.Namespace) -> Choice:
     """The areas that are targets, as tools/trace_to_script.py makes them."""
-    choice = chosen(grouped(touched(recording), options.gap, options.unit))
+    choice = chosen(group_pages(touched(recording), options.gap, options.unit))
     if not choice.kept:
         raise UsageError("the trace has no access that is taken" if not choice.left_out
                          else "no target fits the limit of 1048576 pages: use a smaller --gap")

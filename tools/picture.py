@@ -6,19 +6,21 @@ docs/TUTORIAL.md shows its use.
 from __future__ import annotations
 
 import argparse
-import re
 import sys
-from typing import Iterable
+from pathlib import Path
+
+sys.path.insert(0, str(Path(__file__).resolve().parent))
 
 from common import STANDARD_INPUT, UsageError, opened_text, parser, run
+from drawing.charts import CHARTS, charts_of
 from drawing.front import ColourError, colours_of, front_picture
 from drawing.heat import heat_picture
-from drawing.charts import CHARTS, charts_of
 from drawing.history import Cut, History, ScriptError, commits_of, history_of
 from drawing.panels import spans_of
 from drawing.picture import View, picture
 from reports.events import Report, ReportError
 from reports.heat import Heat, HeatError, heats_of
+from reports.labels import check_labels, check_targets, labels_of
 from reports.names import NamedArea, NamesError, named_areas_of, names_by_target
 from reports.places import Place, PlaceError, check_places, places_of
 from searching.marks import TableError, axis_of, table_of
@@ -71,18 +73,6 @@ Rows of several workloads have a front for each, since no setting of one beats o
 for all of them together, of the means over all workloads. --only workload=NAME draws one workload, and
 --colour age shows by the colours and forms of marks which age they have.
 """
-LABEL = re.compile(r"([0-9]{1,2})=(.*)")
-
-
-def labels_of(words: list[str]) -> dict[int, str]:
-    """The options --label as names by target. Raises UsageError."""
-    labels = {}
-    for word in words:
-        match = LABEL.fullmatch(word)
-        if not match:
-            raise UsageError(f"--label needs TARGET=TEXT, and not {word!r}")
-        labels[int(match[1])] = match[2]
-    return labels
 
 
 def history_read(options: argparse.Namespace) -> History:
@@ -163,14 +153,6 @@ def options_of() -> argparse.Namespace:
     return options
 
 
-def check_targets(option: str, named: Iterable[int], targets: Iterable[int], whose: str) -> None:
-    """Raises UsageError if an option names a target that is not there."""
-    known = list(targets)
-    for target in named:
-        if target not in known:
-            raise UsageError(f"{option} names target {target}, and {whose} {', '.join(map(str, known))}")
-
-
 def report_drawn(options: argparse.Namespace) -> str:
     """The picture of a report. Raises UsageError."""
     labels = labels_of(options.label)
@@ -180,7 +162,7 @@ def report_drawn(options: argparse.Namespace) -> str:
     history = history_read(options)
     if not history.snapshots:
         raise UsageError("the report has no aggregation, and no show after a pass: there is nothing to draw")
-    check_targets("--label", labels, spans_of(history), "the report has")
+    check_labels(labels, spans_of(history), "the report has")
     check_targets("--target", options.target, spans_of(history), "the report has")
     history = Cut(options.since or 0, options.until, frozenset(options.target) or None).of(history)
     if not spans_of(history):
@@ -208,7 +190,7 @@ def heat_drawn(options: argparse.Namespace) -> str:
     if not heats:
         raise UsageError("the tables have no aggregation: there is nothing to draw")
     places = places_read(options.script, heats) if options.script is not None else None
-    check_targets("--label", labels, range(len(heats[0].heat)), "the tables have")
+    check_labels(labels, range(len(heats[0].heat)), "the tables have")
     return heat_picture(heats, places, options.title or "Heat by time and address", labels, options.theme)
 
 

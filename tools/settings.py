@@ -94,7 +94,7 @@ def change(script: Script, options: argparse.Namespace) -> list[str]:
         script.set_scheme(line)
     placed = commits_of(placed_lines(options))
     for interval in script.put_commits(placed):
-        notes.append(f"the commit before interval {interval} is left out: there are {counted(len(script.intervals()), 'interval')}")
+        notes.append(f"the commit before interval {interval} is left out: there are {counted(len(script.starts()), 'interval')}")
     return notes
 
 

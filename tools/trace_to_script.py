@@ -16,14 +16,14 @@ from scripts.grammar import MOST_CAP
 from scripts.judge import is_there
 from tracing import commits, notes, reading
 from tracing.accesses import TraceError
-from tracing.areas import Area, chosen, grouped
+from tracing.areas import Area, chosen, group_pages
 from tracing.commits import commits_of, placed_lines
 from tracing.early import check_lines
 from tracing.fit import fitted, too_much_at_all, too_much_to_fit
 from tracing.names import MapsError, Mapping, mappings
 from tracing.notes import Result
 from tracing.reading import read_trace, touched
-from tracing.script import LimitError, Settings, check_ranges, check_settings, written
+from tracing.script import LimitError, Settings, check_ranges, check_settings, write_script
 
 TOOL = "trace_to_script.py"
 EXAMPLE = """\
@@ -122,7 +122,7 @@ def converted(options: argparse.Namespace) -> Result:
     maps = read_maps(options.maps) if options.maps else None
     check = too_much_to_fit(early.cap) if options.fit else too_much_at_all(early.cap, options.interval)
     trace, recording = read_trace(options, check)
-    choice = chosen(grouped(touched(recording), options.gap, early.unit))
+    choice = chosen(group_pages(touched(recording), options.gap, early.unit))
     if not choice.kept:
         raise UsageError("the trace has no access that is taken" if not choice.left_out
                          else "no target fits the limit of 1048576 pages: use a smaller --gap")
@@ -131,7 +131,7 @@ def converted(options: argparse.Namespace) -> Result:
     if options.fit:
         length, script = fitted(choice.kept, recording, settings)
     else:
-        length, script = recording.length, written(choice.kept, iter(recording.intervals), settings)
+        length, script = recording.length, write_script(choice.kept, iter(recording.intervals), settings)
     return Result(script, choice, recording, length, options.clock, settings, trace, maps)
 
 

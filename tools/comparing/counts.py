@@ -1,50 +1,85 @@
-"""What one aggregation says of its pages, as sets."""
+"""What one aggregation says of its pages."""
 from __future__ import annotations
 
-from dataclasses import dataclass
-
-from reports.events import Aggregation, ReportError
-from reports.pages import TARGET_BITS, Run, Runs, append, key
+from measuring.sums import Found
+from measuring.truth import UNTOUCHED, Places, Range, Truth
+from reports.events import Aggregation, Region, ReportError
+from reports.pages import PageRun, PageRuns, append, key
 from units import PAGE_BITS
 
 
-@dataclass(frozen=True)
-class Counts:
-    """The pages of an aggregation by their counts."""
-
-    watched: Runs
-    accessed: Runs
-    """Those with a count above 0."""
-    hot: Runs
-    """Those with a count of at least a share of the passes."""
-
-
-def counts_of(found: Aggregation, share: float, target: int | None) -> Counts:
-    """The sets of one target, or of all. Raises ReportError if the rows do not rise."""
-    watched: Runs = []
-    accessed: Runs = []
-    hot: Runs = []
-    least = share * found.passes
-    before = 0
-    for number, first, after, hits in found.regions:
-        if target is not None and number != target:
-            continue
-        base = number << TARGET_BITS
-        start, end = base + (first >> PAGE_BITS), base + (after >> PAGE_BITS)
-        if not before <= start < end:
-            raise ReportError(f"the row at {first:#x} of the aggregation at tick {found.tick} does not follow the one before it")
-        before = end
-        append(watched, start, end)
-        if hits:
-            append(accessed, start, end)
-            if hits >= least:
-                append(hot, start, end)
-    return Counts(watched, accessed, hot)
+def regions_of(found: Aggregation, target: int | None) -> list[Region]:
+    """The regions of one target, or of all. Raises ReportError if they do not rise."""
+    before = (-1, 0)
+    result: list[Region] = []
+    for region in found.regions:
+        if target is None or region.target == target:
+            if not before <= (region.target, region.start) < (region.target, region.end):
+                raise ReportError(f"the row at {region.start:#x} of the aggregation at tick {found.tick} does not follow the one before it")
+            before = (region.target, region.end)
+            result.append(region)
+    return result
 
 
-def applied_of(found: Aggregation, target: int | None) -> dict[tuple[int, str], list[Run]]:
+def accessed_in(regions: list[Region]) -> PageRuns:
+    """The pages of the regions with a count above 0."""
+    result: PageRuns = []
+    for region in regions:
+        if region.hits:
+            append(result, key(region.target, region.start), key(region.target, region.end))
+    return result
+
+
+class Exact:
+    """The exact counts of an aggregation: the numbers of its pages, and what each of them was."""
+
+    def __init__(self, regions: list[Region], least: float) -> None:
+        """A page is hot from this count on."""
+        self.places = Places(ranges_of(regions))
+        runs: list[tuple[int, int, bool]] = []
+        first = 0
+        for region in regions:
+            after = first + ((region.end - region.start) >> PAGE_BITS)
+            if region.hits:
+                runs.append((first, after, region.hits >= least))
+            first = after
+        self.truth = Truth(first, runs)
+        self.accessed = accessed_in(regions)
+
+    def kinds_at(self, region: Region) -> bytes:
+        """What the pages of a region were. Raises LookupError if the exact counts lack one."""
+        return self.truth.kinds[self.places.at(region.target, region.start >> PAGE_BITS, region.end >> PAGE_BITS)]
+
+    def found_by(self, regions: list[Region]) -> Found:
+        """What a report with these regions found. Raises LookupError."""
+        watched = accessed = 0
+        kinds: list[bytes] = []
+        counts: list[int] = []
+        for region in regions:
+            pages = self.kinds_at(region)
+            watched += len(pages)
+            accessed += len(pages) - pages.count(UNTOUCHED)
+            if region.hits:
+                kinds.append(pages)
+                counts.append(region.hits)
+        return Found(watched, accessed, kinds, counts)
+
+
+def ranges_of(regions: list[Region]) -> list[Range]:
+    """The longest runs of pages of regions that rise."""
+    result: list[Range] = []
+    for region in regions:
+        first, after = region.start >> PAGE_BITS, region.end >> PAGE_BITS
+        if result and (result[-1].target, result[-1].after) == (region.target, first):
+            result[-1] = result[-1]._replace(after=after)
+        else:
+            result.append(Range(region.target, first, after))
+    return result
+
+
+def applied_of(found: Aggregation, target: int | None) -> dict[tuple[int, str], list[PageRun]]:
     """The pages that schemes were applied to, by slot and action, in the order of the report."""
-    result: dict[tuple[int, str], list[Run]] = {}
+    result: dict[tuple[int, str], list[PageRun]] = {}
     for run in found.applied:
         if target in (None, run.target):
             result.setdefault((run.slot, run.action), []).append((key(run.target, run.start), key(run.target, run.end)))

@@ -10,7 +10,7 @@ from __future__ import annotations
 from dataclasses import dataclass, field
 from typing import Iterable, NamedTuple
 
-from reports.pages import Run, Runs, size, union, without
+from reports.pages import PageRun, PageRuns, common, size, union, without
 
 Owner = tuple[int, str]
 """A slot, and the action of its scheme."""
@@ -50,7 +50,7 @@ class Ledger:
     """Page-aggregations."""
     put_out: int = 0
     """Each time that a page went out counts."""
-    different: Runs = field(default_factory=list)
+    different: PageRuns = field(default_factory=list)
     """The pages that went out at least once."""
     refaults: int = 0
     soon: int = 0
@@ -60,6 +60,11 @@ class Ledger:
     out: int = 0
     out_sum: int = 0
     """The pages that were out through a whole aggregation, added up."""
+
+    @property
+    def again(self) -> int:
+        """The page-aggregations of `applied` whose pages were out already: they cost quota, and put nothing out."""
+        return self.applied - self.put_out
 
 
 class Paging:
@@ -71,8 +76,10 @@ class Paging:
         self.stays: list[Stay] = []
         """What is out, by page."""
         self.moves: list[Move] | None = [] if keep_moves else None
+        self.again: dict[int, PageRuns] = {}
+        """The pages that the last aggregation applied the `pageout` of a slot to although they were out already, by slot."""
 
-    def add(self, now: Moment, accessed: Runs, applied: dict[Owner, list[Run]]) -> None:
+    def add(self, now: Moment, accessed: PageRuns, applied: dict[Owner, list[PageRun]]) -> None:
         """Takes one aggregation: what was accessed in it comes in, and then schemes put out and fetch back, slot by slot."""
         for stay in self.come_in(now, accessed, is_fetched=False):
             ledger, pages = self.ledgers[stay.slot], stay.end - stay.start
@@ -81,6 +88,7 @@ class Paging:
                 ledger.soon += pages
         for ledger in self.ledgers.values():
             ledger.out_sum += ledger.out
+        self.again = {}
         for (slot, action), runs in applied.items():
             if action == PAGEOUT:
                 self.go_out(now, slot, runs)
@@ -88,7 +96,7 @@ class Paging:
                 for stay in self.come_in(now, sorted(runs), is_fetched=True):
                     self.ledgers[stay.slot].prefetches += stay.end - stay.start
 
-    def come_in(self, now: Moment, pages: Runs, is_fetched: bool) -> list[Stay]:
+    def come_in(self, now: Moment, pages: PageRuns, is_fetched: bool) -> list[Stay]:
         """Takes back those of the pages that are out, and gives them."""
         found = list(split(self.stays, pages))
         self.stays = [stay for stay, is_back in found if not is_back]
@@ -98,10 +106,12 @@ class Paging:
             self.keep(Move(stay, now, is_fetched))
         return back
 
-    def go_out(self, now: Moment, slot: int, runs: list[Run]) -> None:
+    def go_out(self, now: Moment, slot: int, runs: list[PageRun]) -> None:
         ledger = self.ledgers.setdefault(slot, Ledger())
         ledger.applied += size(runs)
-        new = without(sorted(runs), [stay[:2] for stay in self.stays])
+        are_out = [stay[:2] for stay in self.stays]
+        new = without(sorted(runs), are_out)
+        self.again[slot] = common(sorted(runs), are_out)
         if new:
             ledger.put_out += size(new)
             ledger.out += size(new)
@@ -115,10 +125,10 @@ class Paging:
     def all_moves(self) -> list[Move]:
         """The moves by the time they began and by page; the last ones are those of pages that are out now."""
         moves = (self.moves or []) + [Move(stay, None) for stay in self.stays]
-        return joined(sorted(moves, key=lambda move: (move.stay.since, move.stay.slot, move.stay.start)))
+        return join_moves(sorted(moves, key=lambda move: (move.stay.since, move.stay.slot, move.stay.start)))
 
 
-def split(stays: Iterable[Stay], pages: Runs) -> Iterable[tuple[Stay, bool]]:
+def split(stays: Iterable[Stay], pages: PageRuns) -> Iterable[tuple[Stay, bool]]:
     """The stays, cut where the pages begin and end, each with whether it is one of them."""
     number = 0
     for stay in stays:
@@ -138,7 +148,7 @@ def split(stays: Iterable[Stay], pages: Runs) -> Iterable[tuple[Stay, bool]]:
             yield stay._replace(start=start), False
 
 
-def joined(moves: Iterable[Move]) -> list[Move]:
+def join_moves(moves: Iterable[Move]) -> list[Move]:
     """Joins moves of neighbours that went out and came back together."""
     result: list[Move] = []
     for move in moves:
@@ -165,11 +175,11 @@ class Uses:
     def __init__(self, within: int) -> None:
         self.within = within
         self.found: dict[Owner, Use] = {}
-        self.waiting: list[tuple[int, Owner, Runs]] = []
+        self.waiting: list[tuple[int, Owner, PageRuns]] = []
         """Pages that were applied to and not accessed since, with the number of the aggregation."""
 
-    def add(self, now: Moment, accessed: Runs, applied: dict[Owner, list[Run]]) -> None:
-        still: list[tuple[int, Owner, Runs]] = []
+    def add(self, now: Moment, accessed: PageRuns, applied: dict[Owner, list[PageRun]]) -> None:
+        still: list[tuple[int, Owner, PageRuns]] = []
         for number, owner, runs in self.waiting:
             rest = without(runs, accessed)
             self.found[owner].accessed += size(runs) - size(rest)

@@ -84,11 +84,3 @@ def scaled_path(rectangles: list[Rectangle], xs: list[float], ys: list[float]) -
         x, y = xs[column], ys[row + height]
         parts.append(f"M{short(x)} {short(y)}H{short(xs[column + width])}V{short(ys[row])}H{short(x)}z")
     return "".join(parts)
-
-
-def size_words(count: int) -> str:
-    """A number of bytes in words."""
-    for unit, name in ((1 << 30, "GiB"), (1 << 20, "MiB"), (1 << 10, "KiB")):
-        if count >= unit:
-            return f"{count / unit:.3g} {name}" if count < 1000 * unit else f"{count // unit} {name}"
-    return f"{count} bytes"

@@ -6,8 +6,9 @@ from typing import Iterable, Sequence
 
 from reports.events import Aggregation
 from units import PAGE_BITS
+from wording import size_words
 
-from .canvas import LEFT, NAME, RIGHT, Canvas, short, size_words, x_of
+from .canvas import LEFT, NAME, RIGHT, Canvas, short, x_of
 from .grid import Columns
 from .history import History
 

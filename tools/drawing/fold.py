@@ -1,10 +1,10 @@
 """Quiet targets: which ones they are, and the one strip that stands for all of them."""
 from __future__ import annotations
 
-from wording import counted
+from wording import counted, size_words
 from reports.events import Snapshot
 
-from .canvas import LEFT, NAME, RIGHT, Canvas, size_words
+from .canvas import LEFT, NAME, RIGHT, Canvas
 from .grid import UNWATCHED, Cells, Columns, level, rectangles
 from .history import History
 from .panels import GAP, LEAST, applied_slots, draw_cells

@@ -25,7 +25,7 @@ OFTEN_TENTHS = 5
 
 
 @dataclass(frozen=True)
-class Table:
+class TargetHeat:
     """The heat of one target over time."""
 
     heat: list[list[int]]
@@ -71,7 +71,7 @@ def heat_picture(heats: Sequence[Heat], places: Sequence[Place] | None, title: s
     canvas = Canvas()
     columns = columns_of([found.tick for found in heats])
     passes = [found.passes for found in heats]
-    tables = [Table([found.heat[target] for found in heats], passes, places[target] if places else None)
+    tables = [TargetHeat([found.heat[target] for found in heats], passes, places[target] if places else None)
               for target in range(len(heats[0].heat))]
     panels = panels_of({target: table.span for target, table in enumerate(tables)}, labels, TOP)
     for panel in panels:
@@ -85,7 +85,7 @@ def heat_picture(heats: Sequence[Heat], places: Sequence[Place] | None, title: s
     return canvas.document(bottom + AXIS, title, theme)
 
 
-def draw_heading(canvas: Canvas, title: str, table: Table) -> None:
+def draw_heading(canvas: Canvas, title: str, table: TargetHeat) -> None:
     """The title, the scale of colours, and what a strip is."""
     canvas.text(LEFT, TITLE, title, "title")
     if table.place:
@@ -96,7 +96,7 @@ def draw_heading(canvas: Canvas, title: str, table: Table) -> None:
     canvas.text(LEFT - 8, TOP - 8, "addresses" if table.place else "columns", "small right soft")
 
 
-def draw_table(canvas: Canvas, panel: Panel, table: Table, columns: Columns) -> None:
+def draw_table(canvas: Canvas, panel: Panel, table: TargetHeat, columns: Columns) -> None:
     """Draws the heat of a target, and its labels."""
     xs = [x_of(edge, columns) for edge in columns.edges]
     borders = table.borders

@@ -6,7 +6,8 @@ from typing import Iterable, Sequence
 
 from reports.events import Aggregation, Commit, Event, Show, Snapshot, Tuned
 from reports.memory import Memory
-from reports.pages import Runs, key, size, union
+from reports.pages import PageRuns, key, size, union
+from scripts.reading import commits_in
 
 
 @dataclass(frozen=True)
@@ -51,7 +52,7 @@ class Slot:
     spans: list[Span]
     actions: list[str]
     """The actions with which it was applied to pages, in the order in which they came."""
-    pages: Runs
+    pages: PageRuns
     """The pages to which it was applied at least once."""
 
     @property
@@ -188,7 +189,7 @@ def slots_of(snapshots: Iterable[Snapshot], start: int = 0) -> dict[int, Slot]:
 
 def note_applied(slots: dict[int, Slot], found: Snapshot) -> None:
     """Adds the pages that schemes were applied to."""
-    runs: dict[int, Runs] = {}
+    runs: dict[int, PageRuns] = {}
     for run in found.applied:
         slot = slots.setdefault(run.slot, Slot([], [], []))
         if slot.action != run.action:
@@ -200,15 +201,4 @@ def note_applied(slots: dict[int, Slot], found: Snapshot) -> None:
 
 def commits_of(lines: Iterable[str]) -> list[tuple[str, ...]]:
     """The lines of each commit of a script, without `commit` and `apply`."""
-    result: list[tuple[str, ...]] = []
-    parts: list[str] | None = None
-    for line in lines:
-        text = line.rstrip("\n")
-        if text == "commit":
-            parts = []
-        elif text == "apply" and parts is not None:
-            result.append(tuple(parts))
-            parts = None
-        elif parts is not None:
-            parts.append(text)
-    return result
+    return [commit.parts for commit in commits_in(lines)]

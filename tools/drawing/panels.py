@@ -3,7 +3,9 @@ from __future__ import annotations
 
 from dataclasses import dataclass
 
-from .canvas import LEFT, NAME, RIGHT, Canvas, scaled_path, size_words, x_of
+from wording import size_words
+
+from .canvas import LEFT, NAME, RIGHT, Canvas, scaled_path, x_of
 from .grid import UNWATCHED, Cells, Columns, cells_of, columns_of, rows_of
 from .history import History
 from .style import SLOT_COLOURS

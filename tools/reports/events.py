@@ -12,26 +12,13 @@ from itertools import chain
 from operator import attrgetter
 from typing import Any, Iterable, Iterator, NamedTuple, Union
 
-from .memory import MEMORY, Memory
+from .forms import APPLY, COMMIT, END, EXACT_HEADER, MEMORY, ROW, SCHEME, SLOT, SNAPSHOT, TUNED, ReportError
+from .memory import Memory
 
-EXACT_HEADER = "exact counts 1"
-"""The first line of exact counts."""
+__all__ = ["Aggregation", "Applied", "Choice", "Commit", "Event", "Memory", "Region", "Report", "ReportError", "Show", "Snapshot", "Tuned"]
 
-ADDRESS = r"0x([0-9a-f]+)"
-ROW = re.compile(rf"(row (\d+) {ADDRESS}-{ADDRESS} count=(\d+))(?: last=\d+ age=\d+)?\n?")
-SNAPSHOT = re.compile(r"(show|aggregate) tick=(\d+)(?: (?:phase=\w+|threshold=\d+))? rows=(\d+)")
-APPLY = re.compile(rf"apply (\d+) (\w+) (\d+) {ADDRESS}-{ADDRESS} score=\d+")
-SLOT = re.compile(r"slot (\d+) (?:left=(\d+|none) taken=\d+ lowest=(?:\d+|none)|(inactive))")
-SCHEME = re.compile(r"scheme (\d+) \w+ active=(yes|no) .*")
-COMMIT = re.compile(r"commit tick=(\d+) ((?:ok|refused) .*)")
-END = re.compile(r"end ticks=\d+ rows=\d+ checks=\d+ hits=\d+")
-TUNED = re.compile(r"tuned (\d+) bytes=(\d+|none)")
 MOST_KEPT = 1 << 16
-"""The most regions that are kept while a text is read."""
-
-
-class ReportError(Exception):
-    """A line that is not of a report, or a report that is cut."""
+"""The most places that are kept while a text is read."""
 
 
 class Region(NamedTuple):
@@ -41,6 +28,9 @@ class Region(NamedTuple):
     start: int
     end: int
     hits: int
+    last: int = 0
+    age: int = 0
+    """Exact counts have neither."""
 
 
 class Applied(NamedTuple):
@@ -51,6 +41,17 @@ class Applied(NamedTuple):
     target: int
     start: int
     end: int
+    score: int = 0
+
+
+class Choice(NamedTuple):
+    """The certificate of an active slot."""
+
+    left: int | None
+    """The pages that were left of its quota; None without a quota."""
+    taken: int
+    lowest: int | None
+    """The lowest score of a region of which a page was taken; None if no page was."""
 
 
 @dataclass
@@ -67,8 +68,10 @@ class Snapshot:
     """For each slot that is set, whether it is active."""
     applied: list[Applied] = field(default_factory=list)
     """The pages that schemes were applied to, in the order of the report; a show has none."""
-    left: dict[int, int] = field(default_factory=dict)
-    """For each active slot with a quota, the pages that were left of it before the choice; a show has none."""
+    choices: dict[int, Choice] = field(default_factory=dict)
+    """For each active slot what it chose; a show has none."""
+    threshold: int = 0
+    """The most by which counts differ that are about the same; a show has none."""
 
     @cached_property
     def by_target(self) -> dict[int, list[Region]]:
@@ -77,6 +80,11 @@ class Snapshot:
         for found in self.regions:
             result.setdefault(found.target, []).append(found)
         return result
+
+    @property
+    def left(self) -> dict[int, int]:
+        """For each active slot with a quota, the pages that were left of it before the choice."""
+        return {slot: choice.left for slot, choice in self.choices.items() if choice.left is not None}
 
     @property
     def working_set(self) -> int:
@@ -136,28 +144,32 @@ class Report:
         return (event for event in self.events() if isinstance(event, Aggregation))
 
 
-class KeptRegions(dict[str, Region]):
-    """The regions of some rows, by their text: most rows of a report come again in the next aggregation."""
+class KeptPlaces(dict[str, tuple[int, int, int]]):
+    """The targets and addresses of some rows, by their text: most places of a report come again in the next aggregation."""
 
-    def added(self, match: re.Match[str]) -> Region:
-        """The region of a row, which is kept from now on."""
+    def added(self, match: re.Match[str]) -> tuple[int, int, int]:
+        """The place of a row, which is kept from now on."""
         if len(self) >= MOST_KEPT:
             self.clear()
-        result = Region(int(match[2]), int(match[3], 16), int(match[4], 16), int(match[5]))
-        self[match[1]] = result
+        result = self[match[1]] = (int(match[2]), int(match[3], 16), int(match[4], 16))
         return result
+
+    def region(self, match: re.Match[str]) -> Region:
+        """The region of a row."""
+        place = self.get(match[1]) or self.added(match)
+        return Region(*place, int(match[5]), int(match[6] or 0), int(match[7] or 0))
 
 
 def text_events(lines: Iterable[str]) -> Iterator[Event]:
     """The events of a text; each snapshot is given when its last line was read."""
     current: Show | Aggregation | None = None
-    kept = KeptRegions()
+    kept = KeptPlaces()
     number = since = 0
     for number, line in enumerate(lines, 1):
         if match := ROW.fullmatch(line):
             if current is None:
                 raise ReportError(f"line {number}: a row that belongs to no aggregation and no show")
-            current.regions.append(kept.get(match[1]) or kept.added(match))
+            current.regions.append(kept.region(match))
         elif not is_part(text := line.rstrip("\n"), current):
             since = current.tick if isinstance(current, Aggregation) else since
             head = head_of(text, number, since)
@@ -176,11 +188,12 @@ def is_part(text: str, current: Snapshot | None) -> bool:
     """Takes a line about a slot into the snapshot that it belongs to; says whether it was one."""
     if isinstance(current, Aggregation):
         if match := APPLY.fullmatch(text):
-            current.applied.append(Applied(int(match[1]), match[2], int(match[3]), int(match[4], 16), int(match[5], 16)))
+            current.applied.append(Applied(int(match[1]), match[2], int(match[3]), int(match[4], 16), int(match[5], 16),
+                                           int(match[6])))
         elif match := SLOT.fullmatch(text):
-            current.active[int(match[1])] = match[3] is None
-            if match[2] not in (None, "none"):
-                current.left[int(match[1])] = int(match[2])
+            current.active[int(match[1])] = match[5] is None
+            if match[5] is None:
+                current.choices[int(match[1])] = Choice(number_or_none(match[2]), int(match[3]), number_or_none(match[4]))
         return match is not None
     if current is not None and (match := SCHEME.fullmatch(text)):
         current.active[int(match[1])] = match[2] == "yes"
@@ -188,17 +201,21 @@ def is_part(text: str, current: Snapshot | None) -> bool:
     return False
 
 
+def number_or_none(text: str) -> int | None:
+    return None if text == "none" else int(text)
+
+
 def head_of(text: str, number: int, since: int) -> Event | None:
     """The event that a line begins; None for the end and for the header of exact counts. Raises ReportError."""
     if match := SNAPSHOT.fullmatch(text):
         kind: type[Show] | type[Aggregation] = Aggregation if match[1] == "aggregate" else Show
-        return kind(int(match[2]), max(1, int(match[2]) - since), int(match[3]))
+        return kind(int(match[2]), max(1, int(match[2]) - since), int(match[4]), threshold=int(match[3] or 0))
     if match := COMMIT.fullmatch(text):
         return Commit(int(match[1]), match[2])
     if match := MEMORY.fullmatch(text):
         return Memory(*map(int, match.groups()))
     if match := TUNED.fullmatch(text):
-        return Tuned(int(match[1]), None if match[2] == "none" else int(match[2]))
+        return Tuned(int(match[1]), number_or_none(match[2]))
     if END.fullmatch(text) or number == 1 and text == EXACT_HEADER:
         return None
     raise ReportError(f"line {number}: not a line of a report: {ascii(text[:60])}")
@@ -239,13 +256,14 @@ def json_event(members: dict[str, Any], since: int) -> Event | None:
         return Commit(tick, members["answer"])
     if kind not in ("show", "aggregate"):
         raise ValueError(f"no such kind: {kind}")
-    regions = [Region(row["target"], int(row["start"], 16), int(row["end"], 16), row["count"]) for row in members["rows"]]
+    regions = [Region(row["target"], int(row["start"], 16), int(row["end"], 16), row["count"],
+                      row["last"], row["age"]) for row in members["rows"]]
     slots = members["slots" if kind == "show" else "choices"]
     active = {slot["slot"]: slot["active"] for slot in slots}
     passes = max(1, tick - since)
     if kind == "show":
         return Show(tick, passes, len(regions), regions, active)
-    applied = [Applied(run["slot"], run["action"], run["target"], int(run["start"], 16), int(run["end"], 16))
+    applied = [Applied(run["slot"], run["action"], run["target"], int(run["start"], 16), int(run["end"], 16), run["score"])
                for run in members["applied"]]
-    left = {slot["slot"]: slot["left"] for slot in slots if slot["left"] is not None}
-    return Aggregation(tick, passes, len(regions), regions, active, applied, left)
+    choices = {slot["slot"]: Choice(slot["left"], slot["taken"], slot["lowest"]) for slot in slots if slot["active"]}
+    return Aggregation(tick, passes, len(regions), regions, active, applied, choices, members["threshold"])

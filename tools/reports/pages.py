@@ -1,6 +1,6 @@
 """Sets of pages as sorted runs, so that a set costs as much as it has borders, and not as it has pages.
 
-A page is one number: its target and its place in the address space together. Runs of a set rise, do
+A page is one number: its target and its place in the address space together. The runs of a set rise, do
 not overlap and do not touch.
 """
 from __future__ import annotations
@@ -14,9 +14,9 @@ PAGE_END_BITS = 51
 TARGET_BITS = PAGE_END_BITS + 1
 """A target's number stands above the bits of its pages."""
 
-Run = tuple[int, int]
+PageRun = tuple[int, int]
 """The first page, and the page after the last one."""
-Runs = list[Run]
+PageRuns = list[PageRun]
 
 
 def key(target: int, address: int) -> int:
@@ -29,7 +29,7 @@ def place(page: int) -> tuple[int, int]:
     return page >> TARGET_BITS, (page & ((1 << TARGET_BITS) - 1)) << PAGE_BITS
 
 
-def append(runs: Runs, start: int, end: int) -> None:
+def append(runs: PageRuns, start: int, end: int) -> None:
     """Adds a run that begins at the end of the last one or after it."""
     if runs and runs[-1][1] == start:
         runs[-1] = (runs[-1][0], end)
@@ -37,14 +37,14 @@ def append(runs: Runs, start: int, end: int) -> None:
         runs.append((start, end))
 
 
-def size(runs: Iterable[Run]) -> int:
+def size(runs: Iterable[PageRun]) -> int:
     """The number of pages."""
     return sum(end - start for start, end in runs)
 
 
-def union(one: Runs, other: Runs) -> Runs:
+def union(one: PageRuns, other: PageRuns) -> PageRuns:
     """The pages of either set."""
-    result: Runs = []
+    result: PageRuns = []
     for start, end in sorted(one + other):
         if result and start <= result[-1][1]:
             result[-1] = (result[-1][0], max(result[-1][1], end))
@@ -53,9 +53,9 @@ def union(one: Runs, other: Runs) -> Runs:
     return result
 
 
-def common(one: Sequence[Run], other: Sequence[Run]) -> Runs:
+def common(one: Sequence[PageRun], other: Sequence[PageRun]) -> PageRuns:
     """The pages of both sets."""
-    result: Runs = []
+    result: PageRuns = []
     left = right = 0
     while left < len(one) and right < len(other):
         start = max(one[left][0], other[right][0])
@@ -69,9 +69,9 @@ def common(one: Sequence[Run], other: Sequence[Run]) -> Runs:
     return result
 
 
-def without(one: Sequence[Run], other: Sequence[Run]) -> Runs:
+def without(one: Sequence[PageRun], other: Sequence[PageRun]) -> PageRuns:
     """The pages of the first set that are not in the second."""
-    result: Runs = []
+    result: PageRuns = []
     right = 0
     for start, end in one:
         while right < len(other) and other[right][1] <= start:

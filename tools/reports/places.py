@@ -5,6 +5,8 @@ import re
 from dataclasses import dataclass
 from typing import Iterable, Sequence
 
+from scripts.grammar import first_word
+from scripts.reading import Setup
 from units import PAGE_BITS
 from wording import counted
 
@@ -36,19 +38,19 @@ class Place:
 
 def places_of(lines: Iterable[str]) -> list[Place]:
     """The targets that the setup names, in order. Raises PlaceError with the number of the first faulty line."""
+    setup = Setup.of(lines).lines
+    if not HEADER.fullmatch(header := setup[0] if setup else ""):
+        raise PlaceError(f"line 1: not a live script or a journal: {ascii(header[:60])}")
     found: list[Place] = []
-    for number, line in enumerate(lines, 1):
-        text = line.rstrip("\n")
-        if number == 1 and not HEADER.fullmatch(text):
-            raise PlaceError(f"line 1: not a live script or a journal: {ascii(text[:60])}")
-        if text.startswith("target "):
-            match = TARGET.fullmatch(text)
+    for number, line in enumerate(setup, 1):
+        if first_word(line) == "target":
+            match = TARGET.fullmatch(line)
             if not match:
-                raise PlaceError(f"line {number}: not a target: {ascii(text[:60])}")
+                raise PlaceError(f"line {number}: not a target: {ascii(line[:60])}")
             found.append(Place(int(match[1], 16), int(match[2])))
-        elif found:
-            return found
-    raise PlaceError("the text ends before its targets do")
+    if not found or first_word(setup[-1]) == "target":
+        raise PlaceError("the text ends before its targets do")
+    return found
 
 
 def check_places(heats: Iterable[Heat], places: Sequence[Place]) -> None:

@@ -6,30 +6,11 @@ from functools import cached_property
 
 from units import PAGE
 
-from .grammar import (AFTER_IN_LIVE, AFTER_IN_SETUP, BODY, FIELDS, HEADERS, LIVE_FIELDS, LIVE_HEADERS, Field, Piece, after_in_commit,
-                      first_word, pass_work, words_of)
+from .grammar import (AFTER_IN_LIVE, AFTER_IN_SETUP, BODY, FIELDS, HEADERS, LIVE_FIELDS, LIVE_HEADERS, Field, after_in_commit, first_word,
+                      pass_work, words_of)
+from .reading import Setup, Target, Watched
 
 PARTS_OF_COMMIT = ("commit", "attrs", "range", "scheme", "drop", "metric", "cost")
-
-
-@dataclass(frozen=True)
-class Target:
-    base: int
-    pages: int
-
-    @property
-    def end(self) -> int:
-        return self.base + PAGE * self.pages
-
-
-@dataclass(frozen=True)
-class Watched:
-    """A range of the setup."""
-
-    line: int
-    target: int
-    start: int
-    end: int
 
 
 @dataclass(frozen=True)
@@ -85,18 +66,12 @@ class Context:
         return next((version for version, header in self.headers.items() if self.lines[:1] == [header]), None)
 
     @cached_property
-    def setup(self) -> list[list[Piece]]:
-        """The words of the lines before `begin`, or `passes`."""
-        found = []
-        for line in self.lines:
-            if first_word(line) == self.opening:
-                break
-            found.append(words_of(line))
-        return found
+    def setup(self) -> Setup:
+        return Setup.of(self.lines)
 
     @property
     def in_body(self) -> bool:
-        return len(self.setup) < len(self.lines)
+        return len(self.setup.lines) < len(self.lines)
 
     @cached_property
     def commit_line(self) -> int | None:
@@ -121,42 +96,37 @@ class Context:
             return after_in_commit(word, self.version or 1)
         return AFTER_IN_LIVE[next(word for word in map(first_word, reversed(self.lines)) if word in AFTER_IN_LIVE)] if self.is_live else BODY
 
-    def numbers(self, word: str) -> list[list[int]]:
-        """The numbers of each line of the setup with this first word."""
-        return [[piece.number() for piece in words[1:]] for words in self.setup if words[0].text == word]
-
     def one(self, word: str) -> int:
         """The number of `unit` or `cap`."""
-        return self.numbers(word)[0][0]
+        return self.setup.numbers(word)[0][0]
 
     @cached_property
     def targets(self) -> list[Target]:
-        return [Target(base, pages) for base, pages in self.numbers("target")]
+        return self.setup.targets
 
     @cached_property
     def ranges(self) -> list[Watched]:
-        return [Watched(number, words[1].number(), words[2].number(), words[3].number())
-                for number, words in enumerate(self.setup, 1) if words[0].text == "range"]
+        return self.setup.ranges
 
     def slot_line(self, slot: int) -> int:
         """The number of the line of the setup that sets this slot."""
-        return next(number for number, words in enumerate(self.setup, 1)
-                    if words[0].text == "scheme" and words[1].number() == slot)
+        return next(number for number, line in enumerate(self.setup.lines, 1)
+                    if first_word(line) == "scheme" and words_of(line)[1].number() == slot)
 
     def blocks(self, word: str) -> int:
         """How many workers or controllers a live script has before the rejected line."""
-        return sum(line == word for line in self.lines[len(self.setup) :])
+        return sum(line == word for line in self.lines[len(self.setup.lines) :])
 
     def touches(self) -> int:
         """The touches of all workers of a live script up to the rejected line, which counts."""
-        body = [*self.lines[len(self.setup) + 1 :], self.line]
+        body = [*self.lines[len(self.setup.lines) + 1 :], self.line]
         return sum(pages_of(line) for line in body if first_word(line) in ("touch", "sweep"))
 
     def work(self) -> Work:
         """The work of the body up to the rejected line, which counts."""
         passes = others = 0
         of_pass = pass_work(self.one("cap"))
-        for line in [*self.lines[len(self.setup) + 1 :], self.line]:
+        for line in [*self.lines[len(self.setup.lines) + 1 :], self.line]:
             word = first_word(line)
             if word in ("arm", "finish"):
                 passes += of_pass

@@ -233,7 +233,7 @@ def no_target(context: Context, target: Piece) -> Reason:
 
 
 def ranges_over_max(context: Context) -> Reason | None:
-    most, number = context.numbers("attrs")[0][1], len(context.ranges) + 1
+    most, number = context.setup.numbers("attrs")[0][1], len(context.ranges) + 1
     return (f"this is range {number}, counted from 1, and max is {most}", None) if number > most else None
 
 

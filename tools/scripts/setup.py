@@ -1,17 +1,17 @@
-"""The setup of a script that is there: it is taken apart, changed and put together again."""
+"""A script that is there: its setup is taken apart, changed and put together again."""
 from __future__ import annotations
 
 import re
 from bisect import bisect_right
-from typing import Mapping, Sequence
+from typing import Iterator, Mapping, Sequence
 
 from common import UsageError
-from units import PAGE
 
 from .grammar import HEADERS, first_word, words_of
+from .reading import Commit, OtherLine, Pass, Setup, body_of
 
 BEGIN = b"\nbegin\n"
-ARM = re.compile(rb"^arm$", re.MULTILINE)
+ARMED = re.compile(rb"^arm\n", re.MULTILINE)
 COMMIT = re.compile(rb"^commit$", re.MULTILINE)
 METRIC = re.compile(rb"^metric ([0-9]{1,10})$", re.MULTILINE)
 ATTRS = re.compile(rb"^attrs [0-9]+ [0-9]+ ([0-9]{1,10})$", re.MULTILINE)
@@ -33,6 +33,18 @@ class Script:
             raise UsageError("there is no line `begin`: this is no script of damon")
         return Script(setup.decode("latin-1").split("\n"), body)
 
+    @property
+    def setup(self) -> Setup:
+        return Setup(self.lines)
+
+    def parts(self) -> Iterator[Commit | Pass | OtherLine]:
+        """The commits, the passes and the other lines of the body."""
+        return body_of(self.body.decode("latin-1").split("\n"))
+
+    def starts(self) -> list[int]:
+        """Where the line `arm` of each pass begins in the body."""
+        return [match.start() for match in ARMED.finditer(self.body)]
+
     def text(self) -> bytes:
         return "\n".join(self.lines).encode("latin-1") + BEGIN + self.body
 
@@ -51,7 +63,7 @@ class Script:
         self.lines[self.place(word)] = " ".join([word, *map(str, values)])
 
     def schemes(self) -> list[str]:
-        return [line for line in self.lines if first_word(line) == "scheme"]
+        return self.setup.with_word("scheme")
 
     def drop(self, slot: str) -> bool:
         """Removes the scheme of this slot; False if there is none."""
@@ -79,13 +91,9 @@ class Script:
     def set_version(self, version: int) -> None:
         self.lines[0] = HEADERS[version]
 
-    def intervals(self) -> list[int]:
-        """Where in the body the intervals begin: the places of its lines `arm`."""
-        return [match.start() for match in ARM.finditer(self.body)]
-
     def put_commits(self, commits: Mapping[int, Sequence[Sequence[str]]]) -> list[int]:
         """Puts commits, each of some lines, before these intervals, behind what is there. Gives the intervals that are not there."""
-        places = self.intervals()
+        places = self.starts()
         pieces, since = [], 0
         for interval in sorted(commits):
             if interval < len(places):
@@ -97,7 +105,7 @@ class Script:
 
     def intervals_of_commits(self) -> list[int]:
         """For each commit of the body the interval before which, or in which, it stands."""
-        places = self.intervals()
+        places = self.starts()
         return [bisect_right(places, match.start()) for match in COMMIT.finditer(self.body)]
 
     def metrics(self) -> tuple[int, ...]:
@@ -109,11 +117,10 @@ class Script:
         return max(map(int, [self.words("attrs")[2], *ATTRS.findall(self.body)]))
 
     def range_pages(self) -> list[int]:
-        ranges = [words_of(line) for line in self.lines if first_word(line) == "range"]
-        return [(words[3].number() - words[2].number()) // PAGE for words in ranges]
+        return [one.pages for one in self.setup.ranges]
 
     def targets(self) -> int:
-        return sum(first_word(line) == "target" for line in self.lines)
+        return len(self.setup.with_word("target"))
 
 
 def slot_of(line: str) -> str:

@@ -22,7 +22,7 @@ from .points import Points
 from .runs import Inputs, rows_of
 from .table import Rows
 
-PACKAGES = ("common.py", "units.py", "wording.py", "reports", "scripts", "searching", "tracing")
+PACKAGES = ("common.py", "units.py", "wording.py", "measuring", "reports", "scripts", "searching", "tracing")
 """What workers need of the tools."""
 TOOLS = Path(__file__).resolve().parent.parent
 DEBIANS_PYTHON = "/usr/bin/python3"

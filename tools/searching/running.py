@@ -116,7 +116,7 @@ class Runner:
             self.close_files()
             self.open_files()
             return None
-        return Ended(os.waitstatus_to_exitcode(status), written(report), written(errors))
+        return Ended(os.waitstatus_to_exitcode(status), taken(report), taken(errors))
 
     def status_of(self, process: int) -> int:
         """Waits for the end of a process, within the limit."""
@@ -132,7 +132,7 @@ class Runner:
         return status
 
 
-def written(file: int) -> str:
+def taken(file: int) -> str:
     """What the last run wrote: all before the position, which the process shares, and which goes back to the start.
 
     What stands behind it is of a longer run before. To cut it off would take memory away that the next run needs again.

@@ -95,14 +95,14 @@ def write_points(runs: Path, path: Path, columns: Sequence[str], measures: Seque
     try:
         with open(unready, "w", encoding="utf-8") as stream:
             stream.write(line_of(points_header(columns, measures)))
-            for rows in grouped(runs, seeds):
+            for rows in rows_of_points(runs, seeds):
                 stream.write(line_of(point_cells(rows, len(columns) - 1, len(measures))))
         os.replace(unready, path)
     finally:
         unready.unlink(missing_ok=True)
 
 
-def grouped(path: Path, seeds: int) -> Iterator[list[list[str]]]:
+def rows_of_points(path: Path, seeds: int) -> Iterator[list[list[str]]]:
     """The rows of each point."""
     with open(path, newline="", encoding="utf-8") as stream:
         lines = csv.reader(stream)

@@ -7,16 +7,17 @@ from itertools import accumulate
 from typing import Iterable, Iterator
 
 from common import UsageError
+from measuring.truth import Range, Truths
 from scripts.grammar import HEADER
+from scripts.reading import ARM, FINISH
 from tracing.accesses import TraceError
-from tracing.areas import Lookup, chosen, grouped
+from tracing.areas import Lookup, chosen, group_pages
 from tracing.intervals import Recording, Runs, pairs
 from tracing.reading import no_limit, read_trace, touched
 from tracing.script import places, touches
 
 from .plan import OF_TRACES, Plan
-from .truth import Range, Truths
-from .workloads import ARM, FINISH, Key, Numbers, Workload
+from .workloads import Key, Numbers, Workload
 
 ENDING = b"show\nend\n"
 
@@ -46,7 +47,7 @@ def recorded(plan: Plan, name: str, interval: int) -> Recording:
 
 
 def of_recording(plan: Plan, key: Key, recording: Recording) -> Workload:
-    areas = chosen(grouped(touched(recording), plan.source.gap, max(key.unit, 1))).kept
+    areas = chosen(group_pages(touched(recording), plan.source.gap, max(key.unit, 1))).kept
     if not areas:
         raise UsageError(f"{key.name} has no access that is taken, or no target that fits the limits of a script")
     ranges = [Range(target, area.first, area.after) for target, area in enumerate(areas)]

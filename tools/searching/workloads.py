@@ -4,24 +4,20 @@ They are made of scripts whose passes are `arm`, touches and `finish`, or, in `t
 """
 from __future__ import annotations
 
-import re
 from bisect import bisect_right
 from itertools import accumulate
-from typing import Iterator, NamedTuple
+from typing import NamedTuple
 
 from common import UsageError, opened
-from scripts.grammar import first_word, words_of
+from measuring.truth import Range, Truths
+from scripts.grammar import first_word
+from scripts.reading import Commit, OtherLine, Pass, touched_by
 from scripts.setup import Script
-from tracing.commits import Commits
-from tracing.commits import written as commit_lines
+from tracing.commits import Commits, commit_lines
 from tracing.intervals import Runs, runs_of
 from units import PAGE_BITS
 
 from .plan import SEED, Plan, Value
-from .truth import Range, Truths
-
-ARM, FINISH = "arm", "finish"
-ARMED = re.compile(rb"^arm\n", re.MULTILINE)
 
 
 class Workload(NamedTuple):
@@ -93,46 +89,36 @@ def script_workload(plan: Plan, name: str) -> Workload:
         defaults: dict[str, Value] = {"interval": "", "min": attrs[0], "max": attrs[1], "aggr": attrs[2]}
         defaults |= {word: int(script.words(word)[0]) for word in ("unit", "cap", SEED)}
         ranges = ranges_of(script)
-        intervals = touched_of(text, ranges)
+        intervals = touched_of(script, ranges)
     except (IndexError, ValueError):
         raise UsageError(f"{path}: its setup is not that of a script of damon: tools/explain.py says why") from None
     except UsageError as error:
         raise UsageError(f"{path}: {error}") from None
     kept = tuple(line for line in script.lines if first_word(line) in ("target", "range"))
     return Workload(name, script.lines[0], kept, defaults, tuple(script.schemes()), script.body,
-                    [match.start() for match in ARMED.finditer(script.body)], Truths(ranges, intervals, plan.hot))
+                    script.starts(), Truths(ranges, intervals, plan.hot))
 
 
 def ranges_of(script: Script) -> list[Range]:
     """The ranges of the setup."""
-    found = [words_of(line) for line in script.lines if first_word(line) == "range"]
-    return [Range(words[1].number(), words[2].number() >> PAGE_BITS, words[3].number() >> PAGE_BITS) for words in found]
+    return [Range(one.target, one.start >> PAGE_BITS, one.end >> PAGE_BITS) for one in script.setup.ranges]
 
 
-def touched_of(text: bytes, ranges: list[Range]) -> list[Runs]:
+def touched_of(script: Script, ranges: list[Range]) -> list[Runs]:
     """The watched pages that each pass of a script touches. Raises UsageError for a line that fits in no pass."""
     numbers = Numbers(ranges)
     result: list[Runs] = []
-    armed: set[tuple[int, int]] | None = None
-    lines = text.decode("latin-1").split("\n")
-    for number, line in enumerate(lines[lines.index("begin") + 1 :], lines.index("begin") + 2):
-        word = first_word(line)
-        if (armed is None) == (word in ("touch", "sweep", FINISH)) or word in ("step", "range"):
-            raise UsageError(f"line {number}: {line[:40]!r}: a search takes scripts whose passes are `arm`, touches and `finish`, "
-                             "and whose ranges stay")
-        if word == ARM:
-            armed = set()
-        elif armed is not None and word == FINISH:
-            result.append(numbers.of_touches(armed))
-            armed = None
-        elif armed is not None:
-            armed.update(pages_of(line))
+    for part in script.parts():
+        if isinstance(part, Pass):
+            result.append(numbers.of_touches({page for line in part.touches for page in touched_by(line)}))
+        elif isinstance(part, OtherLine) and first_word(part.line) not in ("show", "end", ""):
+            raise not_a_pass(script, part.number, part.line)
+        elif isinstance(part, Commit) and part.ranges:
+            raise not_a_pass(script, part.ranges[0].line, part.with_word("range")[0])
     return result
 
 
-def pages_of(line: str) -> Iterator[tuple[int, int]]:
-    """The pages of a line `touch` or `sweep`, each with its target."""
-    words = words_of(line)
-    first = words[2].number() >> PAGE_BITS
-    after = words[3].number() >> PAGE_BITS if len(words) > 3 else first + 1
-    return ((words[1].number(), page) for page in range(first, after))
+def not_a_pass(script: Script, number: int, line: str) -> UsageError:
+    """The fault of a line of the body, with its number in the whole text."""
+    return UsageError(f"line {len(script.lines) + 1 + number}: {line[:40]!r}: a search takes scripts whose passes are `arm`, touches "
+                      "and `finish`, and whose ranges stay")

@@ -29,7 +29,7 @@ class Choice:
     left_out: list[Area]
 
 
-def grouped(uses: Mapping[int, int], gap: int, unit: int) -> list[Area]:
+def group_pages(uses: Mapping[int, int], gap: int, unit: int) -> list[Area]:
     """The areas of the touched pages, by address.
 
     `uses` has the number of accesses of each touched page. Pages with at most `gap` untouched pages

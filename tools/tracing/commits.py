@@ -21,10 +21,10 @@ def commits_of(placed: list[tuple[int, str]]) -> Commits:
     lines: dict[int, list[str]] = {}
     for interval, line in placed:
         lines.setdefault(interval, []).append(line)
-    return {interval: grouped(lines[interval]) for interval in sorted(lines)}
+    return {interval: fewest_commits(lines[interval]) for interval in sorted(lines)}
 
 
-def grouped(lines: list[str]) -> list[list[str]]:
+def fewest_commits(lines: list[str]) -> list[list[str]]:
     """The fewest commits that carry out these lines.
 
     The first commit has the first line of each kind and all ranges, the second one the second line of
@@ -44,7 +44,7 @@ def kind_of(lines: list[str], words: tuple[str, ...]) -> list[str]:
     return [line for line in lines if first_word(line) in words]
 
 
-def written(commit: list[str]) -> list[str]:
+def commit_lines(commit: list[str]) -> list[str]:
     """The lines of a commit in a script."""
     return ["commit", *commit, "apply"]
 

@@ -8,7 +8,7 @@ from scripts.judge import Fault, fault_of
 from scripts.reasons import reason_of
 from units import PAGE
 
-from .commits import written
+from .commits import commit_lines
 from .script import Settings, opening
 
 LINE_NUMBER = re.compile(r" \(line [0-9]+\)")
@@ -26,7 +26,7 @@ def check_lines(settings: Settings) -> None:
     lines += [("--scheme ", line) for line in settings.schemes]
     lines.append(("", "begin"))
     lines += [(f"--at {interval}:", line) for interval, commits in settings.commits.items()
-              for commit in commits for line in written(commit)]
+              for commit in commits for line in commit_lines(commit)]
     lines.append(("", "end"))
     script = "".join(f"{line}\n" for _, line in lines).encode("ascii")
     if fault := fault_of(script):

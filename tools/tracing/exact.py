@@ -10,7 +10,7 @@ from __future__ import annotations
 from bisect import bisect_right
 from typing import Iterable, Iterator, Sequence
 
-from reports.events import EXACT_HEADER
+from reports.forms import EXACT_HEADER
 from units import PAGE_BITS
 
 from .areas import Area

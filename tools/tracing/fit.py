@@ -7,7 +7,7 @@ from scripts.grammar import MOST_BYTES, MOST_WORK
 
 from .areas import Area
 from .intervals import Recording, Runs, joined
-from .script import LimitError, Settings, Writer, pass_work, written
+from .script import LimitError, Settings, Writer, pass_work, write_script
 
 FINER = 4
 """How many times more than fits in a script is collected, so that the interval can be chosen finely."""
@@ -46,7 +46,7 @@ def fitted(areas: list[Area], recording: Recording, settings: Settings) -> tuple
     def attempt(count: int) -> Writer | None:
         intervals: Iterator[Runs] = joined(recording.intervals, count)
         try:
-            return written(areas, intervals, settings)
+            return write_script(areas, intervals, settings)
         except LimitError:
             return None
 

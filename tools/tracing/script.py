@@ -13,8 +13,7 @@ from scripts.grammar import pass_work as work_of_call
 from units import PAGE_BITS
 
 from .areas import Area, Lookup
-from .commits import Commits
-from .commits import written as commit_lines
+from .commits import Commits, commit_lines
 from .intervals import Runs, pairs
 
 
@@ -150,7 +149,7 @@ class Writer:
         return sum(after - first for first, after in pairs(runs) if self.lookup.target_of(first) is not None)
 
 
-def written(areas: list[Area], intervals: Iterator[Runs], settings: Settings) -> Writer:
+def write_script(areas: list[Area], intervals: Iterator[Runs], settings: Settings) -> Writer:
     """The whole script. Raises LimitError as soon as a limit is broken."""
     writer = Writer(areas, settings)
     writer.put(setup(areas, settings))

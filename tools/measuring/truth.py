@@ -1,6 +1,6 @@
-"""The exact counts of a workload: which pages were accessed between two ticks, and which of them were hot.
+"""Exact counts: which pages were accessed between two ticks, and which of them were hot.
 
-The watched pages of a workload are numbered from 0: range by range, each by address.
+The watched pages are numbered from 0: range by range, each by address.
 """
 from __future__ import annotations
 
@@ -40,12 +40,16 @@ class Places(dict[str, slice]):
         """Raises LookupError if these pages are not watched, and ValueError if it is no such text."""
         target, addresses = text.split(" ")
         start, end = (int(address, 16) >> PAGE_BITS for address in addresses.split("-"))
+        return self.kept(text, self.at(int(target), start, end))
+
+    def at(self, target: int, first: int, after: int) -> slice:
+        """The same of pages that are named by numbers. Raises LookupError."""
         base = 0
         for one in self.ranges:
-            if one.target == int(target) and one.first <= start < end <= one.after:
-                return self.kept(text, slice(base + start - one.first, base + end - one.first))
+            if one.target == target and one.first <= first < after <= one.after:
+                return slice(base + first - one.first, base + after - one.first)
             base += one.pages
-        raise LookupError(f"pages that are not watched: {text}")
+        raise LookupError(f"pages that are not watched: {target} {first << PAGE_BITS:#x}-{after << PAGE_BITS:#x}")
 
     def kept(self, text: str, pages: slice) -> slice:
         """Keeps an answer, and forgets all others where they are many."""
@@ -67,6 +71,7 @@ class Truth:
         for first, after, is_hot in runs:
             kinds[first:after] = (HOT if is_hot else ACCESSED) * (after - first)
         self.kinds = bytes(kinds)
+        self.pages = pages
         self.hot = kinds.count(HOT)
         self.accessed = self.hot + kinds.count(ACCESSED)
 
@@ -94,6 +99,11 @@ class Truths:
         runs = ((first, after, count >= least) for first, after, count in touch_counts(self.intervals[since:tick]))
         result = self.known[since, tick] = Truth(self.pages, runs)
         return result
+
+    def pages_at(self, place: str) -> int:
+        """How many pages are at this place. Raises LookupError and ValueError, as `Places` does."""
+        found = self.places[place]
+        return int(found.stop - found.start)
 
     def kinds_at(self, truth: Truth, places: Iterable[str]) -> list[bytes]:
         """What the pages at each of these places were. Raises LookupError and ValueError, as `Places` does."""

@@ -1,0 +1,1 @@
+"""How far what a report found is from what was true, page by page."""
