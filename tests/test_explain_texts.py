@@ -7,7 +7,7 @@ import lzma
 import unittest
 from typing import Any, Iterator
 
-from tool_runs import TOP, Refusals, need_program, run
+from tool_runs import DAMOND, PROGRAM, TOP, Refusals, need_program, run
 
 from scripts.command_words import reason_of_words
 from scripts.journals import LEFT_TO_THE_RUN, State, follow, reason_of_journal, wrong_number
@@ -21,7 +21,7 @@ ADMIN = "damon admin 1\n" + "".join(f"{digit} {line}\n" for line in (TOP / "exam
 
 
 def setUpModule() -> None:
-    need_program()
+    need_program(PROGRAM, DAMOND)
 
 
 def cases(*names: str) -> Iterator[dict[str, Any]]:
@@ -55,13 +55,16 @@ class Words(unittest.TestCase):
 
     def test_reasons(self) -> None:
         for words, part in (
-            ("", "there is no command"), ("--help", "damon has no options"), ("run", "a command of damond"), ("replya", "there is no command 'replya' (is it 'replay'?)"),
+            ("", "there is no command"), ("--help", "damon has no options"), ("run", "a command of damond"), ("replya",
+             "there is no command 'replya' (is it 'replay'?)"),
             ("replay x", "'replay' takes no word after it, and here is 'x'"), ("heat 9", "'heat' takes 8, 16 or 64 columns, and not '9'"),
             ("heat", "'heat' takes one word, 8, 16 or 64 columns, and here are 0"), ("gen -1", "N is a decimal number without a sign"),
             ("gen 18446744073709551616", "N is from 0 to 18446744073709551615"), ("tune", "1 to 16 goals"),
-            ("tune 0:cold:0:1:2", "the goal '0:cold:0:1:2': TARGET is from 1 to 4294967295, and not 0"), ("tune 16:cold:10:1:2", "SLOT is from 0 to 15, and not 16"),
+            ("tune 0:cold:0:1:2", "the goal '0:cold:0:1:2': TARGET is from 1 to 4294967295, and not 0"), ("tune 16:cold:10:1:2",
+             "SLOT is from 0 to 15, and not 16"),
             ("tune 0:cold:10:9:2", "LOW, 9, is above HIGH, 2"), ("tune 0:cool:10:1:2", "KIND is metric, hot or cold, and not 'cool'"),
-            ("tune 0:cold:10:1", "it has 4 fields, and needs 5"), ("tune 0:cold:10:01:2", "LOW is a decimal number without a sign or a leading zero, and not '01'"),
+            ("tune 0:cold:10:1", "it has 4 fields, and needs 5"), ("tune 0:cold:10:01:2",
+             "LOW is a decimal number without a sign or a leading zero, and not '01'"),
         ):
             self.assertIn(part, reason_of_words(words.split()) or "")
 
@@ -107,14 +110,18 @@ class Journals(unittest.TestCase):
             ("prepare 1 at 0", "prepare 2 at 0", "PASS is 2, and must be 1"), ("prepare 1 at 0", "prepare 1 at 1", "POSITION is 1, and must be 0"),
             ("prepare 1 at 0", "prepare 1 at x", "the line is not of the form `prepare PASS at POSITION`"),
             ("prepare 1 at 0\n", "", "'check 1 1': here must come `prepare PASS at POSITION`"),
-            ("call 0 0", "call 0 1", "INDEX of controller 0 is 1, and must be 0"), ("answer shown tick=0", "answer shown tick=1", "tick is 1, and must be 0"),
+            ("call 0 0", "call 0 1", "INDEX of controller 0 is 1, and must be 0"), ("answer shown tick=0", "answer shown tick=1",
+             "tick is 1, and must be 0"),
             ("check 1 1", "check 1 11", "the number of BITS is 2, and must be 1"), ("check 1 1", "check 2 1", "PASS is 2, and must be 1"),
             ("check 1 1", "chek 1 1", "here must come `check PASS BITS`, `void PASS`, `call CONTROLLER INDEX show|commit` or `receipts`"),
-            ("seen 0 0 0x0 1\n", "", "pass 1 has 1 hit, and receipts with its tag for 0 pages"), ("seen 1 0 0x0 0", "seen 16 0 0x0 0", "the last one there can be is 15"),
+            ("seen 0 0 0x0 1\n", "", "pass 1 has 1 hit, and receipts with its tag for 0 pages"), ("seen 1 0 0x0 0", "seen 16 0 0x0 0",
+             "the last one there can be is 15"),
             ("seen 0 0 0x0 1", "seen 2 0 0x0 1", "WORKER is 1 after 2"), ("seen 1 0 0x0 0", "seen 1 0 0x800 0", "not the first byte of a page"),
-            ("seen 1 0 0x0 0", "seen 1 0 0x0 2", "TAG is 2, and the last pass that was prepared is 1"), ("show tick=1", "show tick=2", "tick is 2, and must be 1"),
+            ("seen 1 0 0x0 0", "seen 1 0 0x0 2", "TAG is 2, and the last pass that was prepared is 1"), ("show tick=1", "show tick=2",
+             "tick is 2, and must be 1"),
             ("row 0 0x0-0x1000 count=1", "row 0 0x0-0x1000 count=0", LEFT_TO_THE_RUN), ("hits=1", "hits=0", "hits is 0, and must be 1"),
-            ("settled\n", "", "here must come `seen WORKER TARGET ADDRESS TAG` or `settled`"), ("end ticks=1 rows=1 checks=1 hits=1\n", "", "the text ends after line 18"),
+            ("settled\n", "", "here must come `seen WORKER TARGET ADDRESS TAG` or `settled`"), ("end ticks=1 rows=1 checks=1 hits=1\n", "",
+             "the text ends after line 18"),
         ):
             with self.subTest(before=before, after=after):
                 self.assertIn(before, JOURNAL)
@@ -130,16 +137,22 @@ class LiveScripts(unittest.TestCase):
     def test_edits(self) -> None:
         passes = next(line for line in LIVE.splitlines() if line.startswith("passes "))
         for before, after, parts in (
-            ("damon live 1", "damon live 3", ["no header", "`damon live 1` or `damon live 2`"]), (passes, "passes 0", ["out of limit", "passes is 0, and must be from 1 to 1000000"]),
-            (passes, "begin", ["unexpected word", "there is no line 'begin'", "here must come"]), (passes, f"{passes}\narm", ["there is no line 'arm'", "worker, controller or end"]),
-            ("worker\n", "worker 1\n", ["bad form", "1 word after 'worker', and the line is `worker`"]), ("worker\n", "wroker\n", ["(is it 'worker'?)"]),
+            ("damon live 1", "damon live 3", ["no header", "`damon live 1` or `damon live 2`"]), (passes, "passes 0", ["out of limit",
+             "passes is 0, and must be from 1 to 1000000"]),
+            (passes, "begin", ["unexpected word", "there is no line 'begin'", "here must come"]), (passes, f"{passes}\narm",
+             ["there is no line 'arm'", "worker, controller or end"]),
+            ("worker\n", "worker 1\n", ["bad form", "1 word after 'worker', and the line is `worker`"]), ("worker\n", "wroker\n",
+             ["(is it 'worker'?)"]),
             ("end\n", "controller\nworker\nend\n", ["'worker' is not allowed at this place: here must come show, commit, controller or end"]),
             ("end\n", "controller\n" * 5 + "end\n", ["out of limit", "this is controller 4, counted from 0, and there are at most 4"]),
             ("end\n", "worker\n" * 14 + "end\n", ["out of limit", "this is worker 16, counted from 0, and there are at most 16"]),
             ("end\n", "controller\nshow\ncommit\nmetric x\napply\nend\n", ["bad number", "'x' is not a decimal number"]),
-            ("end\n", "worker\n" + "sweep 0 0x10000000 0x10200000\n" * 2000 + "end\n", ["too much work", "touches of all workers, and at most 1048576"]),
-            ("end\n", "controller\n" + "show\n" * 65_537 + "end\n", ["too much work", "more than 65536 calls"]), ("end\n", "", ["input ends early: the text ends after line"]),
-            ("end\n", "end\nend\n", ["text after end", "'end' after `end`"]), (passes, "passes 1000000", ["passes times cap is above 4194304", "1000000 passes with cap"]),
+            ("end\n", "worker\n" + "sweep 0 0x10000000 0x10200000\n" * 2000 + "end\n", ["too much work",
+             "touches of all workers, and at most 1048576"]),
+            ("end\n", "controller\n" + "show\n" * 65_537 + "end\n", ["too much work", "more than 65536 calls"]), ("end\n", "",
+             ["input ends early: the text ends after line"]),
+            ("end\n", "end\nend\n", ["text after end", "'end' after `end`"]), (passes, "passes 1000000", ["passes times cap is above 4194304",
+             "1000000 passes with cap"]),
         ):
             with self.subTest(after=after[:50]):
                 self.assertIn(before, LIVE)
@@ -166,7 +179,8 @@ class Contexts(unittest.TestCase):
         unit, last = 1 + text.splitlines().index("0 unit 0"), len([line for line in text.splitlines() if line[0] == "3"])
         status, said = said_of(text)
         self.assertEqual((status, said), (1, f"context 3, its line {last + 1}: input ends early: the text ends after line {last}: `end` is missing\n"
-                                             f"line {unit}, context 0, its line 3: out of limit: unit is 0, and must be from 1 to 1048576\n    unit 0\n         ^\n"))
+                                             f"line {unit}, context 0, its line 3: out of limit: unit is 0, and must be from 1 to 1048576\n"
+                                             "    unit 0\n         ^\n"))
 
     def test_all_are_scripts(self) -> None:
         self.assertEqual(said_of(ADMIN), (0, "damon takes this text of contexts\n"))

@@ -65,7 +65,8 @@ class SameAsFromTheTrace(unittest.TestCase):
         usual = script_of(TRACE, "--interval", "20")
         places = [place for place in range(len(usual)) if usual.startswith("\narm\n", place)]
         wanted = f"{usual[:places[9]]}\ncommit\ncost 0 4000\napply{usual[places[9]:]}".replace("script 1", "script 2", 1)
-        self.assertEqual(changed(usual, "--version", "2", "--at", "9:cost 0 4000", "--scheme", scheme), wanted.replace("\nbegin\n", f"\n{scheme}\nbegin\n"))
+        self.assertEqual(changed(usual, "--version", "2", "--at", "9:cost 0 4000", "--scheme", scheme), wanted.replace("\nbegin\n",
+            f"\n{scheme}\nbegin\n"))
 
     def test_commits_come_behind_those_that_are_there(self) -> None:
         first, second = ["--metric", "5:1", "--metric", "8:2"], ["--metric", "5:3", "--metric", "6:4"]

@@ -55,7 +55,7 @@ def said_of(lines: list[str], aggr: int = 20, tick: int = 5000) -> str:
 def values_of(said: str) -> dict[str, str]:
     """The values of the kernel's files."""
     lines = said.split("contexts/0\n")[1].split("\n\n")[0].splitlines()
-    return dict(line.split("  #")[0].split() for line in lines)  # type: ignore[misc]
+    return dict(line.split("  #")[0].split() for line in lines)
 
 
 def command_of(said: str) -> str:
@@ -71,7 +71,8 @@ class FromDamo(unittest.TestCase):
 
     def test_options(self) -> None:
         for words, wanted in (
-            ("--damos_action pageout --damos_sz_region 4K max --damos_access_rate 0% 0% --damos_age 5s max", "pageout size=1,4294967295 count=0,0 age=50,4294967295"),
+            ("--damos_action pageout --damos_sz_region 4K max --damos_access_rate 0% 0% --damos_age 5s max",
+             "pageout size=1,4294967295 count=0,0 age=50,4294967295"),
             ("--damos_action stat --damos_access_rate 25% 80%", "stat count=5,16"),
             ("--damos_action stat --damos_access_rate 1% 99%", "stat count=1,19"),
             ("--damos_action hugepage --damos_sz_region 2MiB 1G --damos_age 0 100ms", "hugepage size=512,262144 age=0,1"),
@@ -90,10 +91,12 @@ class FromDamo(unittest.TestCase):
                 self.assertEqual(setup_of(f"damo start {self.INTERVALS} {words}"), [self.ATTRS, f"scheme 0 {wanted}"])
 
     def test_several_schemes_take_the_place_of_all(self) -> None:
-        words = "--damos_action pageout --damos_age 100ms max --damos_action stat --damos_age 200ms max --damos_access_rate 0% 0% --damos_quotas 1ms 0 1s"
+        words = ("--damos_action pageout --damos_age 100ms max --damos_action stat --damos_age 200ms max "
+                 "--damos_access_rate 0% 0% --damos_quotas 1ms 0 1s")
         self.assertEqual(setup("--aggr", "20", "--damo", words), [
             "damon script 2", "attrs 3 4 20",
-            "scheme 0 pageout count=0,0 age=1,4294967295 quota=18446744073709551615,200 time=1000000 weights=0,0,0 prefer=cold", "scheme 1 stat age=2,4294967295"])
+            "scheme 0 pageout count=0,0 age=1,4294967295 quota=18446744073709551615,200 time=1000000 weights=0,0,0 prefer=cold",
+                "scheme 1 stat age=2,4294967295"])
 
     def test_intervals_alone_leave_the_schemes(self) -> None:
         schemes = setup()[2:]
@@ -114,14 +117,17 @@ class FromDamo(unittest.TestCase):
                   "watermarks": {"metric": "free_mem_rate", "interval_us": "5 s", "high_permil": "50 %", "mid_permil": "40 %", "low_permil": "20 %"}}
         line = "scheme 0 pageout size=1,4294967295 count=0,1 age=10,4294967295 quota=1048576,200 weights=0,100,900 prefer=cold marks=500,400,200"
         self.assertEqual(setup_of(json.dumps([scheme])), ["attrs 20", line])
-        context = {"intervals": {"sample_us": "5 ms", "aggr_us": "100 ms", "ops_update_us": "1 s"}, "nr_regions": {"min": "10", "max": "1,000"}, "schemes": [scheme]}
+        context = {"intervals": {"sample_us": "5 ms", "aggr_us": "100 ms", "ops_update_us": "1 s"}, "nr_regions": {"min": "10", "max": "1,000"},
+            "schemes": [scheme]}
         for text in (context, {"kdamonds": [{"state": None, "contexts": [context]}]}):
             self.assertEqual(setup("--damo", json.dumps(text)), ["damon script 1", self.ATTRS, line])
 
     def test_notes(self) -> None:
-        words = "--monitoring_intervals 7ms 70ms 1s --damos_action stat --damos_age 1s max --damos_quotas 10ms 4096 1s 1 1 1 --damos_wmarks free_mem_rate 5s 5 4 2"
+        words = ("--monitoring_intervals 7ms 70ms 1s --damos_action stat --damos_age 1s max --damos_quotas 10ms 4096 1s 1 1 1 "
+                 "--damos_wmarks free_mem_rate 5s 5 4 2")
         notes = run(TOOL, "--damo", words, text=SCRIPT).stderr.decode()
-        for part in ("the interval of updates of the regions is left out", "the age 1s is not a whole number of aggregations of 70ms: it is taken as 15",
+        for part in ("the interval of updates of the regions is left out",
+            "the age 1s is not a whole number of aggregations of 70ms: it is taken as 15",
                      "the reset interval 1s is not a whole number of sampling intervals: it is taken as 143", "for stat it is prefer=hot here",
                      "the script is of version 2 now", "how often it is looked at is left out"):
             self.assertIn(part, notes)
@@ -154,8 +160,10 @@ class AsDamo(unittest.TestCase):
         self.assertEqual((ran.returncode, ran.stdout.decode()), (0, said_of(["scheme 0 stat"])))
 
     def test_what_has_no_counterpart(self) -> None:
-        for line, part in (("scheme 0 pageout quota=4096,5", "prefer=hot of scheme 0: in the kernel the action decides, and for pageout it takes colder"),
-                           ("scheme 0 lru_prio quota=4096,5 prefer=cold", "for lru_prio it takes hotter"), ("scheme 0 lru_prio", "for physical addresses only"),
+        for line, part in (("scheme 0 pageout quota=4096,5",
+            "prefer=hot of scheme 0: in the kernel the action decides, and for pageout it takes colder"),
+                           ("scheme 0 lru_prio quota=4096,5 prefer=cold", "for lru_prio it takes hotter"), ("scheme 0 lru_prio",
+                            "for physical addresses only"),
                            ("scheme 0 hugepage", "for virtual addresses only"), ("scheme 0 stat quota=4095,5", "0 bytes are no limit"),
                            ("scheme 0 stat filter=allow:target:1", "versions of the kernel differ")):
             self.assertIn(part, said_of([line]).split(self.LOST)[1])
@@ -200,11 +208,14 @@ class Errors(Refusals):
             ("--damos_action migrate_cold", "the action 'migrate_cold' has no counterpart"),
             ("--damos_action stat --damos_filter allow anon", "'allow anon' has no counterpart"),
             ("--damos_action stat --damos_filter anon", "not a filter"), ("--damos_action stat --damos_access_rate 5 6", "'5' is not a percentage"),
-            ("--damos_action stat --damos_access_rate 1% 2%", "no whole count lies between 1% and 2%"), ("--damos_age 1s max", "--damos_age comes 1 times"),
+            ("--damos_action stat --damos_access_rate 1% 2%", "no whole count lies between 1% and 2%"), ("--damos_age 1s max",
+             "--damos_age comes 1 times"),
             ("--damos_action stat --damos_age 1parsec max", "not a time"), ("--damos_action stat --damos_sz_region 4X max", "not a size"),
             ("--monitoring_intervals 5ms 101ms 1s", "not 1 to 1000 sampling intervals"), ("--damos_apply_interval 5", "unrecognized arguments"),
-            ("-s 5ms", "come together"), ("[{}]", "KeyError 'action'"), ("{", "not JSON"), ("[5]", "not the JSON of schemes"), ("'", "No closing quotation"),
-            ('[{"action": "stat", "filters": [1]}]', "'filters' is not read"), ('[{"action": "stat", "quotas": {"goals": [1]}}]', "`./damon tune` takes goals"),
+            ("-s 5ms", "come together"), ("[{}]", "KeyError 'action'"), ("{", "not JSON"), ("[5]", "not the JSON of schemes"), ("'",
+             "No closing quotation"),
+            ('[{"action": "stat", "filters": [1]}]', "'filters' is not read"), ('[{"action": "stat", "quotas": {"goals": [1]}}]',
+             "`./damon tune` takes goals"),
             ("--damos_action a --damos_action b --damos_filter allow target 1", "with one --damos_action only"),
             ("--damos_action stat --damos_wmarks psi 1 1 1 1", "the watermark metric 'psi' is not known"),
         ):

@@ -28,8 +28,8 @@ out. Of a journal it is said what was expected at the line, as far as the lines 
 
 --words explains words after `damon`, such as the goals of `tune`; it is the last option.
 
-DAMON in the environment names the program, beside which damond stands; without it, these are the ones
-that ./damon and ./damond build. The status is 0 if damon takes it, and 1 if it does not.
+DAMON and DAMOND in the environment name the programs; without them, these are the ones that ./damon and
+./damond build. The status is 0 if damon takes it, and 1 if it does not.
 """
 REJECTED = 1
 WIDTH = 100

@@ -127,7 +127,8 @@ def options_of() -> argparse.Namespace:
     add("--x", metavar="NAME", help="with --front the measure to the right")
     add("--y", metavar="NAME", help="with --front the measure upwards")
     add("--colour", metavar="SETTING", help="with --front the setting that colours and forms of marks show")
-    add("--only", action="append", default=[], metavar="NAME=VALUE", help="with --front the rows with this value, such as workload=shop.trace.xz; may be repeated")
+    add("--only", action="append", default=[], metavar="NAME=VALUE",
+        help="with --front the rows with this value, such as workload=shop.trace.xz; may be repeated")
     add("--script", metavar="FILE", help="the script of the report, which says what its commits have; with --heat the live script "
         "or the journal, which says where its targets are")
     add("--title", help="the title of the picture")

@@ -49,5 +49,6 @@ def reason_of_split(text: bytes, fault: Fault) -> Reason | None:
     if fault.kind == "bad form":
         return f"each later line begins with the digit of a context, from 0 to {LAST_CONTEXT}, and one space", Piece(line[:2], 0)
     if fault.kind == "input ends early":
-        return (f"the text ends before the LF of this line, {line[:40]!r}" if line else f"the text is empty, and its first line must be `{HEADER}`"), None
+        return (f"the text ends before the LF of this line, {line[:40]!r}" if line
+                else f"the text is empty, and its first line must be `{HEADER}`"), None
     return None

@@ -74,7 +74,8 @@ class Clock:
 
 class Options(argparse.ArgumentParser):
     def error(self, message: str) -> NoReturn:
-        raise UsageError(f"--damo: {message}; it takes {', '.join(sorted(option for option in self._option_string_actions if option.startswith('--')))}")
+        known = sorted(option for option in self._option_string_actions if option.startswith("--"))
+        raise UsageError(f"--damo: {message}; it takes {', '.join(known)}")
 
 
 def options() -> Options:
@@ -119,7 +120,8 @@ def wanted_of_options(found: argparse.Namespace) -> Wanted:
     intervals = found.monitoring_intervals or old_options("--monitoring_intervals", found.sample, found.aggr, found.updr)
     regions = found.monitoring_nr_regions_range or old_options("--monitoring_nr_regions_range", found.minr, found.maxr)
     schemes = [Scheme(action) for action in found.damos_action]
-    for option, name in (("damos_sz_region", "size"), ("damos_access_rate", "rate"), ("damos_age", "age"), ("damos_quotas", "quotas"), ("damos_wmarks", "marks")):
+    for option, name in (("damos_sz_region", "size"), ("damos_access_rate", "rate"), ("damos_age", "age"), ("damos_quotas", "quotas"),
+        ("damos_wmarks", "marks")):
         values = getattr(found, option)
         if len(values) > len(schemes):
             raise UsageError(f"--damo: --{option} comes {len(values)} times, and --damos_action {len(schemes)} times")
@@ -149,7 +151,8 @@ def wanted_of_json(found: Any) -> Wanted:
             raise UsageError(f"--damo: there are {len(contexts)} contexts, and a script is one")
         found = contexts[0]
     schemes = [scheme_of_json(one) for one in found.get("schemes", [])]
-    intervals = [str(found["intervals"][name]) for name in ("sample_us", "aggr_us", "ops_update_us") if name in found["intervals"]] if "intervals" in found else []
+    intervals = [str(found["intervals"][name]) for name in ("sample_us", "aggr_us",
+        "ops_update_us") if name in found["intervals"]] if "intervals" in found else []
     regions = [str(found["nr_regions"][name]) for name in ("min", "max")] if "nr_regions" in found else []
     return Wanted(intervals, regions, schemes)
 
@@ -241,7 +244,8 @@ def aggregations(text: str, is_most: bool, clock: Clock, notes: list[str]) -> in
         return NO_BOUND
     exact = found / clock.aggregation
     if exact % 1:
-        notes.append(f"the age {text} is not a whole number of aggregations of {time_words(clock.aggregation)}: it is taken as {whole(exact, is_most)} of them")
+        notes.append(f"the age {text} is not a whole number of aggregations of {time_words(clock.aggregation)}: "
+                     f"it is taken as {whole(exact, is_most)} of them")
     return whole(exact, is_most)
 
 
@@ -263,7 +267,8 @@ def quota_keys(scheme: Scheme, clock: Clock, notes: list[str]) -> list[str]:
     if scheme.action in COLD_FIRST:
         keys.append("prefer=cold")
     elif scheme.action not in HOT_FIRST:
-        notes.append(f"which regions come first within the quota is known for {', '.join(COLD_FIRST + HOT_FIRST)}; for {scheme.action} it is prefer=hot here")
+        notes.append(f"which regions come first within the quota is known for {', '.join(COLD_FIRST + HOT_FIRST)}; "
+                     f"for {scheme.action} it is prefer=hot here")
     return keys
 
 
@@ -273,7 +278,8 @@ def marks_keys(scheme: Scheme, notes: list[str]) -> list[str]:
     metric, _, *marks = scheme.marks
     if metric != FREE_MEMORY:
         raise UsageError(f"--damo: the watermark metric {metric!r} is not known: it is {FREE_MEMORY} or {NO_METRIC}")
-    notes.append(f"the metric of watermarks comes from commits, --metric INTERVAL:N, in thousandths of {FREE_MEMORY}; how often it is looked at is left out")
+    notes.append(f"the metric of watermarks comes from commits, --metric INTERVAL:N, in thousandths of {FREE_MEMORY}; "
+                 "how often it is looked at is left out")
     return ["marks=" + ",".join(str(int(permil(mark))) for mark in marks)]
 
 

@@ -27,7 +27,8 @@ FORMS = {
 """The lines behind `begin`, but for those of a commit."""
 SPELLED = {
     "prepare": "prepare PASS at POSITION", "check": "check PASS BITS", "void": "void PASS", "aggregate": "aggregate TICK at POSITION",
-    "call": "call CONTROLLER INDEX show|commit", "seen": "seen WORKER TARGET ADDRESS TAG", "answer": "answer ..", "show": "show tick=T phase=PHASE rows=N",
+    "call": "call CONTROLLER INDEX show|commit", "seen": "seen WORKER TARGET ADDRESS TAG", "answer": "answer ..",
+        "show": "show tick=T phase=PHASE rows=N",
     "end": "end ticks=T rows=N checks=N hits=N",
 }
 LAST_WORKER = 15
@@ -174,7 +175,8 @@ def wrong_number(state: State, line: str) -> str | None:
     elif word == "show":
         found = [("tick", match[1], state.ended)]
     elif word == "end":
-        found = [("ticks", match[1], state.ended), ("rows", match[2], state.rows), ("checks", match[3], state.loads), ("hits", match[4], sum(state.hits.values()))]
+        found = [("ticks", match[1], state.ended), ("rows", match[2], state.rows), ("checks", match[3], state.loads), ("hits", match[4],
+            sum(state.hits.values()))]
     return next((f"{name} is {given}, and must be {wanted}" for name, given, wanted in found if wanted is not None and given != f"{wanted}"), None)
 
 
@@ -192,5 +194,6 @@ def lacking_receipts(state: State) -> str | None:
     """A hit needs a receipt of a touch of its page, whose tag is its pass."""
     for number, hits in state.hits.items():
         if hits > len(state.seen.get(number, ())):
-            return f"pass {number} has {counted(hits, 'hit')}, and receipts with its tag for {counted(len(state.seen.get(number, ())), 'page')}: each hit needs one of its page"
+            pages = counted(len(state.seen.get(number, ())), "page")
+            return f"pass {number} has {counted(hits, 'hit')}, and receipts with its tag for {pages}: each hit needs one of its page"
     return None

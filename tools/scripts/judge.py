@@ -13,8 +13,8 @@ if TYPE_CHECKING:
 
 TOP = Path(__file__).resolve().parent.parent.parent
 BUILT = TOP / "crates/damon/out/damon"
-VARIABLE = "DAMON"
-"""The environment variable that names another program than the one that was built here."""
+VARIABLE, LIVE_VARIABLE = "DAMON", "DAMOND"
+"""The environment variables that name other programs than those that were built here."""
 
 OK, USAGE, SCRIPT_FAULT, TOO_LONG, UNLAWFUL = 0, 2, 3, 4, 10
 AFTER_END = "text after end"
@@ -47,8 +47,8 @@ def has_judge() -> bool:
 
 
 def live_program() -> Path:
-    """The program for live scripts: it stands beside the one that is asked, or beside its crate."""
-    return program().with_name("damond") if os.environ.get(VARIABLE) else TOP / "crates/damond/out/damond"
+    """The program for live scripts: the one that is named, or the one that was built here."""
+    return Path(os.environ.get(LIVE_VARIABLE) or TOP / "crates/damond/out/damond")
 
 
 def asked(path: Path, words: Sequence[str], text: bytes, keep_output: bool) -> CompletedProcess[bytes]:
@@ -60,8 +60,8 @@ def asked(path: Path, words: Sequence[str], text: bytes, keep_output: bool) -> C
     try:
         return subprocess.run([path, *words], input=text, stdout=output, stderr=subprocess.PIPE)
     except FileNotFoundError:
-        raise UsageError(f"there is no program {path}: ./{path.name} builds it, "
-                         f"or {VARIABLE} in the environment names another") from None
+        name = LIVE_VARIABLE if path == live_program() else VARIABLE
+        raise UsageError(f"there is no program {path}: ./{name.lower()} builds it, or {name} in the environment names another") from None
     except OSError as error:
         raise UsageError(f"{path}: {error.strerror}") from None
 

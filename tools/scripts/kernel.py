@@ -55,7 +55,8 @@ def machine_of(script: Script, sample: Fraction) -> Machine:
     """The settings and schemes of a script that damon takes. A sampling interval lasts so many microseconds."""
     least, most, aggr = map(int, script.words("attrs"))
     clock, found = Clock(sample, aggr), Machine()
-    found.options.append(["--monitoring_intervals", *map(time_words, (sample, clock.aggregation, UPDATE)), "--monitoring_nr_regions_range", str(least), str(most)])
+    found.options.append(["--monitoring_intervals", *map(time_words, (sample, clock.aggregation, UPDATE)), "--monitoring_nr_regions_range",
+        str(least), str(most)])
     for name, time in (("sample_us", sample), ("aggr_us", clock.aggregation), ("update_us", UPDATE)):
         found.put(f"monitoring_attrs/intervals/{name}", whole(time), "microseconds")
     found.put("monitoring_attrs/nr_regions/min", least)
@@ -92,10 +93,12 @@ def put_scheme(found: Machine, number: int, line: str, clock: Clock, schemes: in
         wanted = "cold" if action in COLD_FIRST else "hot" if action in HOT_FIRST else None
         prefers = by_name["prefer"].value.text if "prefer" in by_name else "hot"
         if wanted != prefers:
-            order = f"for {action} it takes {'colder' if wanted == 'cold' else 'hotter'} regions first" if wanted else f"for {action} the order is not known here"
+            kind = "colder" if wanted == "cold" else "hotter"
+            order = f"for {action} it takes {kind} regions first" if wanted else f"for {action} the order is not known here"
             found.lost.append(f"prefer={prefers} of scheme {number}: in the kernel the action decides, and {order}")
     if action in VIRTUAL or action in PHYSICAL:
-        found.lost.append(f"the address space of scheme {number}: the kernel has {action} for {'virtual' if action in VIRTUAL else 'physical'} addresses only")
+        kind = "virtual" if action in VIRTUAL else "physical"
+        found.lost.append(f"the address space of scheme {number}: the kernel has {action} for {kind} addresses only")
 
 
 def put_pattern(found: Machine, path: str, by_name: dict[str, Key], clock: Clock) -> list[str]:
@@ -144,7 +147,8 @@ def put_marks(found: Machine, path: str, by_name: dict[str, Key]) -> list[str]:
     for name, mark in zip(("high", "mid", "low"), marks):
         found.put(f"{path}/watermarks/{name}", mark, "thousandths")
     if has_marks:
-        found.lost.append(f"the metric of the watermarks of scheme {path[8:]}: here commits hand it in, there it is {FREE_MEMORY}, looked at every {time_words(LOOK)}")
+        found.lost.append(f"the metric of the watermarks of scheme {path[8:]}: here commits hand it in, there it is {FREE_MEMORY}, "
+                          f"looked at every {time_words(LOOK)}")
     return ["--damos_wmarks", metric, time_words(look), *map(str, marks)]
 
 
