@@ -1,16 +1,13 @@
 """Quiet targets: which ones they are, and the one strip that stands for all of them."""
 from __future__ import annotations
 
-from wording import counted, size_words
 from reports.events import Snapshot
+from wording import counted, size_words
 
 from .canvas import LEFT, NAME, RIGHT, Canvas
 from .grid import UNWATCHED, Cells, Columns, level, rectangles
 from .history import History
 from .panels import GAP, LEAST, applied_slots, draw_cells
-
-MOST_NAMED = 12
-"""The most targets whose numbers the strip names."""
 
 
 def shares_of(history: History) -> dict[int, float]:

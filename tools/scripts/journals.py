@@ -43,8 +43,6 @@ class State:
     """The first words of the next line."""
     ended: int = 0
     """The passes that have ended."""
-    aggregated: int = 0
-    """The tick of the last aggregation."""
     prepared: int = 0
     """The pass that was prepared last."""
     position: int | None = 0
@@ -114,16 +112,10 @@ def follow(state: State, line: str) -> None:
     elif word == "prepare":
         state.prepared, state.position = int(match[1]), int(match[2])
         state.allowed = state.between
-    elif word == "check":
-        state.loads += len(match[2])
-        state.hits[int(match[1])] = match[2].count("1")
-        state.position = None if state.position is None else state.position + len(match[2])
-        end_pass(state, int(match[1]))
-    elif word == "void":
-        state.position = None
-        end_pass(state, int(match[1]))
+    elif word in ("check", "void"):
+        end_pass(state, int(match[1]), match[2] if word == "check" else None)
     elif word == "aggregate":
-        state.aggregated, state.rows, state.position = int(match[1]), None, None
+        state.rows = state.position = None
         state.allowed = state.between
     elif word == "call":
         state.calls[int(match[1])] = int(match[2]) + 1
@@ -144,9 +136,14 @@ def follow(state: State, line: str) -> None:
         state.allowed = ("row", "scheme", "end")
 
 
-def end_pass(state: State, number: int) -> None:
+def end_pass(state: State, number: int, bits: str | None) -> None:
+    """A pass ends, with these results of its checks; void, if there are none."""
     state.ended = number
     state.allowed = state.between
+    state.position = None if bits is None or state.position is None else state.position + len(bits)
+    if bits is not None:
+        state.loads += len(bits)
+        state.hits[number] = bits.count("1")
 
 
 def wrong_number(state: State, line: str) -> str | None:
