@@ -57,13 +57,13 @@ class Counting(OfSources):
 
     def test_a_line_that_is_not_known_is_an_error(self) -> None:
         for unknown in ("opaque pub two : ℕ\n", "two = 2\n", "module _ where\n  abbrev pub two : ℕ\n  two = 2\n"):
-            with self.assertRaisesRegex(SystemExit, "low/specs/First.antt has a line that is not known"):
+            with self.assertRaisesRegex(SystemExit, "low/specs/First.antt: no definition, law or import has this line"):
                 self.specs("use Rattle.std.specs.Prelude.{ℕ}\n\n-- one\nabbrev pub one : ℕ\none = 1\n\n" + unknown)
 
     def test_laws_and_operators_are_known(self) -> None:
         repository = self.specs(
             "infixl 10 ◌+++◌\n\n-- more\nabbrev pub ◌+++◌ : ℕ → ℕ → ℕ\na +++ b = a + b\n\n"
-            "pub more-zero : (n : ℕ) → n +++ 0 ≡ n\nmore-zero n = refl\n\nmodule _ (n : ℕ) where\n  pub more-n : n ≡ n\n  more-n = refl\n"
+            "pub more-zero : (n : ℕ) → n +++ 0 ≡ n\nmore-zero n = refl\n"
         )
         self.assertEqual([it.name for it in repository.definitions], ["◌+++◌"])
 
