@@ -28,7 +28,7 @@ import tempfile
 import time
 from contextlib import ExitStack, suppress
 from pathlib import Path
-from typing import Dict, List, NamedTuple, Optional
+from typing import List, NamedTuple, Optional
 
 from building import costs
 from building.crates import CRATES, TOP, Crates, below, chains, crates_for, fresh, note_of, sum_of

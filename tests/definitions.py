@@ -23,7 +23,7 @@ and in README.md, between `<!-- headline -->` and `<!-- end -->`.
 import sys
 from typing import Dict, Iterable, List, NamedTuple, Set
 
-from blocks import with_block
+from blocks import with_block, with_blocks
 from sources import TOP, Definition, Repository
 
 PAGE = TOP / "docs/DEFINITIONS.md"

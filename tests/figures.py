@@ -9,7 +9,7 @@ from pathlib import Path
 from statistics import median, quantiles
 from typing import Dict, Iterable, List, NamedTuple, Optional, Sequence, Tuple
 
-from blocks import with_block
+from blocks import with_blocks
 from speed_workloads import Workload
 
 COLUMNS = ["workload", "size", "program", "turns", "peak_kib", "instructions", "milliseconds"]
@@ -135,8 +135,7 @@ def ratios_of(it: Figures, other: Figures) -> List[str]:
 def written(page: str, measured: Measured, workloads: Iterable[Workload]) -> str:
     """The page with its tables made of these figures."""
     listed = list(workloads)
-    page = with_block(page, "figures", "\n".join(["", *figures_table(measured, listed), "", ""]))
-    return with_block(page, "growth", "\n".join(["", *growth_table(measured, listed), "", ""]))
+    return with_blocks(page, {"figures": figures_table(measured, listed), "growth": growth_table(measured, listed)})
 
 
 def figures_table(measured: Measured, workloads: Sequence[Workload]) -> List[str]:
