@@ -142,13 +142,6 @@ def theorem_written(page: str, repository: Repository) -> str:
     return with_block(page, "headline", size)
 
 
-def with_blocks(page: str, blocks: Dict[str, List[str]]) -> str:
-    """The page with these rows between the marks of each name."""
-    for name, rows in blocks.items():
-        page = with_block(page, name, "\n".join(["", *rows, "", ""]))
-    return page
-
-
 def main(words: List[str]) -> None:
     if not words:
         sys.exit(__doc__)
