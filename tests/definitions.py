@@ -15,10 +15,10 @@ A ROOT is one of these:
 What a definition is, and what it needs, is said in `sources.py`.
 
 Everything between `<!-- NAME -->` and `<!-- end -->` is written by this script. docs/DEFINITIONS.md has the
-table `counts` of CLAIMS, the constants of the headline, and where definitions are tried; the page in
+table `counts` of CLAIMS, the constants and types of the headline, and where definitions are tried; the page in
 docs/generated has the lists of LISTS. A definition is listed once, in the first list whose roots need it. The
-list `internal` has the definitions that no exported clause needs. The number of definitions behind the headline also stands in docs/THEOREM.md
-and in README.md, between `<!-- headline -->` and `<!-- end -->`.
+list `internal` has the definitions that no exported clause needs. The number of definitions behind the headline also stands in
+docs/THEOREM.md and in README.md, between `<!-- headline -->` and `<!-- end -->`.
 """
 import sys
 from typing import Dict, Iterable, List, NamedTuple, Set
@@ -64,12 +64,12 @@ LISTS = {"headline": MACHINE, "program": ["damon_app::replay_main", "IsBoundAlon
 
 
 def counts(repository: Repository) -> List[str]:
-    rows = ["| claim | definitions | lines | constants |", "|---|---|---|---|"]
+    rows = ["| claim | definitions | lines | constants | types |", "|---|---|---|---|---|"]
     for claim in CLAIMS:
         believed = repository.needed(claim.believed) if claim.believed else []
         needed = [it for it in repository.needed(claim.roots) if it not in believed]
-        cited = repository.constants(claim.roots)
-        rows.append(f"| {claim.words} | {len(needed)} | {line_count(needed)} | {len(cited)} |")
+        cited, types = repository.constants(claim.roots), repository.types(claim.roots)
+        rows.append(f"| {claim.words} | {len(needed)} | {line_count(needed)} | {len(cited)} | {len(types)} |")
     return rows
 
 
@@ -82,6 +82,15 @@ def constants(repository: Repository) -> List[str]:
     rows = ["| crate | file | constant | value |", "|---|---|---|---|"]
     for it in repository.constants(WHOLE.roots):
         rows.append(f"| `{it.crate}` | {it.module.replace('.', '/')}.rt | `{it.name}` | `{it.value}` |")
+    return rows
+
+
+def types(repository: Repository) -> List[str]:
+    """The types of the code that the headline cites, crate by crate."""
+    rows = ["| crate | types |", "|---|---|"]
+    cited = repository.types(WHOLE.roots)
+    for crate in dict.fromkeys(it.crate for it in cited):
+        rows.append(f"| `{crate}` | {', '.join(f'`{it.name}`' for it in cited if it.crate == crate)} |")
     return rows
 
 
@@ -118,7 +127,9 @@ def internal(definitions: Iterable[Definition]) -> List[str]:
 
 def written(page: str, repository: Repository) -> str:
     """The page of definitions with its tables written again."""
-    blocks = {"counts": counts(repository), "constants": constants(repository), "tried": tried(repository)}
+    blocks = {
+        "counts": counts(repository), "constants": constants(repository), "types": types(repository), "tried": tried(repository),
+    }
     return with_blocks(page, blocks)
 
 
@@ -138,7 +149,9 @@ def theorem_written(page: str, repository: Repository) -> str:
     """The page of the theorem, or README, with the size of the headline written again."""
     needed = repository.needed(WHOLE.roots)
     files = {(it.crate, it.file) for it in needed}
-    size = f"**{len(needed)} definitions in {line_count(needed):,} lines, in {len(files)} files**\n"
+    types_cited = repository.types(WHOLE.roots)
+    size = (f"**{len(needed)} definitions in {line_count(needed):,} lines, in {len(files)} files**, with "
+            f"{len(repository.constants(WHOLE.roots))} constants and {len(types_cited)} types of the code\n")
     return with_block(page, "headline", size)
 
 
@@ -160,9 +173,9 @@ def main(words: List[str]) -> None:
         return
     needed = repository.needed(words)
     print(*(f"{it.path()}: {it.words}" for it in needed), sep="\n")
-    cited = repository.constants(words)
-    print(f"{len(needed)} definitions, {line_count(needed)} lines; {len(cited)} constants: "
-          + (", ".join(it.name for it in cited) or "none"))
+    print(f"{len(needed)} definitions, {line_count(needed)} lines")
+    for kind, cited in (("constants", repository.constants(words)), ("types", repository.types(words))):
+        print(f"{len(cited)} {kind} of the code: " + (", ".join(it.name for it in cited) or "none"))
 
 
 if __name__ == "__main__":

@@ -2,11 +2,11 @@
 
 A definition is an `abbrev`, an `unfoldable`, a `record` or a `data` in a file that `specs/Lib.antt` lists. The
 comment above it is its meaning in words; its lines are counted without that comment. It needs the definitions
-that its text names, and those that they need in turn. A line that is neither of a definition, nor of a law, an
-import or an operator's rank is an error: what is not known is not left out of a count.
+that its text names, and those that they need in turn.
 
-A constant is a `const` of the code that a definition or a clause cites by its name. Types of Rust and
-definitions of the toolchain are not looked at.
+A constant is a `const` of the code that a definition or a clause cites by its name. A type of the code is a `struct`
+or an `enum` that one of them cites, by its own name or by that of a variant. Definitions of the toolchain are not
+looked at. A line of `specs/` that is none of what is told here ends the program, so that nothing is left out unseen.
 """
 import re
 import sys
@@ -18,9 +18,11 @@ TOP = Path(__file__).resolve().parent.parent
 USE = re.compile(r"^\s*(?:ghost )?use Rattle\.(\w+)\.specs\.([\w.]+?)(?:\.\{([^}]*)\}| as (\w+))?;?$", re.M | re.S)
 RUST_USE = re.compile(r"^use (\w+)(?:::\w+)*::(?:\{([^}]*)\}|(\w+));", re.M)
 DEFINITION = re.compile(r"^(?:(?:unfoldable )?abbrev (?:pub )?|unfoldable (?:pub )?|(?:pub )?(?:record|data) )(\S+)")
-# What else a file of definitions may have at the beginning of a line: imports, ranks of operators, parameters, and laws.
-OTHER = re.compile(r"(?:use|infix[lr]?|unfolding|module) |}|pub (\S+) :|(\S+) :")
+LAW = re.compile(r"^(?:pub )?(\S+) :")
+BESIDE = re.compile(r"^(?:use |infix|unfolding )")
 CONSTANT = re.compile(r"^pub const (\w+): \w+ = ([^;]*);", re.M)
+TYPE = re.compile(r"^(?:pub(?:\(crate\))? )?(struct|enum) (\w+)([^;{]*\{.*?^\}|[^\n]*)", re.M | re.S)
+VARIANT = re.compile(r"^    (\w+)\s*(?:[,({]|$)", re.M)
 FUNCTION = re.compile(r"^(\s*)(pub )?fn (\w+)")
 OWNER = re.compile(r"(?:impl(?:<[^>]*>)?|pub trait) (?:.* for )?(\w+)")
 CLAUSE = re.compile(r"^\s*(?:requires|ensures)\b\s*(\w*)", re.M)
@@ -59,7 +61,13 @@ class Contract(NamedTuple):
     is_function: bool = True
 
 
-Named = Union[Definition, Constant]
+class CodeType(NamedTuple):
+    crate: str
+    module: str
+    name: str
+
+
+Named = Union[Definition, Constant, CodeType]
 Scope = Dict[str, Named]
 # What each file makes known to others: its crate and its path there, and what it declares.
 Exports = Dict[Tuple[str, str], Scope]
@@ -80,6 +88,7 @@ class Repository:
         texts = {}
         for crate in self.crates:
             exports.update(constants_of(top / "crates" / crate))
+            exports.update(types_of(top / "crates" / crate))
             for name in spec_files(top / "crates" / crate):
                 found, texts[crate, name] = read_specs(top / "crates" / crate, name)
                 self.definitions += found
@@ -114,6 +123,11 @@ class Repository:
         found = {it for it in self._closure(roots) if isinstance(it, Constant)}
         return sorted(found, key=lambda it: (self.crates.index(it.crate), it.module, it.name))
 
+    def types(self, roots: Iterable[str]) -> List[CodeType]:
+        """The types of the code that the roots, and the definitions that they need, cite."""
+        found = {it for it in self._closure(roots) if isinstance(it, CodeType)}
+        return sorted(found, key=lambda it: (self.crates.index(it.crate), it.module, it.name))
+
     def _closure(self, roots: Iterable[str]) -> Set[Named]:
         waiting = [it for root in roots for it in self.find(root)]
         found: Set[Named] = set()
@@ -140,37 +154,31 @@ def read_specs(crate: Path, name: str) -> Tuple[List[Definition], str]:
     text = (crate / "specs" / f"{name}.antt").read_text()
     found: List[Tuple[str, str, List[str]]] = []
     words: List[str] = []
+    # The definition or law under way, and the lines of it that count: a law has none.
+    name_now = ""
     lines: List[str] = []
-    name_above = ""
     for line in apart(text.splitlines()):
-        head = DEFINITION.match(line)
-        other = OTHER.match(line)
-        if head or other:
-            name_above = head[1] if head else (other[1] or other[2] or name_above) if other else ""
-        elif not is_known(line, name_above):
-            sys.exit(f"{crate.name}/specs/{name}.antt has a line that is not known: {line}")
+        head, law = DEFINITION.match(line), LAW.match(line)
         if line.startswith("--"):
             words.append(line[2:].strip())
         elif head:
-            lines = [line]
+            name_now, lines = head[1], [line]
             found.append((head[1], " ".join(words), lines))
-        elif line.strip():
+        elif law or BESIDE.match(line):
+            name_now, lines = law[1] if law else "", []
+        elif name_now and (line[:1] in tuple(" })]") or is_equation(name_now, line)):
             lines.append(line)
-        else:
-            # After an empty line comes another definition, or a law with its proof, which is none.
-            lines = []
+        elif line.strip():
+            sys.exit(f"{crate.name}/specs/{name}.antt: no definition, law or import has this line: {line}")
         if not line.startswith(("--", "infix")):
             words = []
     return [Definition(crate.name, name, title, said, tuple(lines)) for title, said, lines in found], text
 
 
-def is_known(line: str, name: str) -> bool:
-    """Whether a line goes on with what has this name, in which `◌` stands for an argument, or says nothing."""
-    if not line.strip() or line.startswith("--"):
-        return True
-    if line[0].isspace():
-        return not line.strip().startswith(("abbrev ", "unfoldable "))
-    return name != "" and all(part in WORD.findall(line) for part in name.split("◌") if part)
+def is_equation(name: str, line: str) -> bool:
+    """Whether a line is an equation of this name, which may be an operator."""
+    words = set(WORD.findall(line))
+    return line.split()[:1] == [name] or ("◌" in name and all(part in words for part in name.split("◌") if part))
 
 
 def apart(lines: Iterable[str]) -> Iterator[str]:
@@ -268,6 +276,19 @@ def constants_of(crate: Path) -> Exports:
         found[crate.name, f"declared.{module}.TheConstants"] = {
             name: Constant(crate.name, module, name, value) for name, value in declared
         }
+    return found
+
+
+def types_of(crate: Path) -> Exports:
+    """The types of each source file, under the names by which definitions import them and their variants."""
+    found: Exports = {}
+    for file in sorted((crate / "src").rglob("*.rt")):
+        module = ".".join(file.relative_to(crate / "src").with_suffix("").parts)
+        for kind, name, body in TYPE.findall(file.read_text()):
+            it = CodeType(crate.name, module, name)
+            found[crate.name, f"declared.{module}.{name}"] = {name: it}
+            variants = VARIANT.findall(body) if kind == "enum" else []
+            found[crate.name, f"declared.{module}.{name}.TheVariants"] = {variant: it for variant in variants}
     return found
 
 

@@ -3,13 +3,14 @@
 
     tests/test_definitions.py
 """
+import re
 import tempfile
 import unittest
 from pathlib import Path
 from typing import Dict, List
 
 import definitions
-from sources import Repository
+from sources import Repository, types_of
 
 LIB = "pub mod First\n"
 
@@ -120,6 +121,23 @@ class Counting(OfSources):
         )
         self.assertEqual(self.needed(repository, "even"), ["even", "odd"])
 
+    def test_an_equation_may_be_of_an_operator_and_end_with_a_brace(self) -> None:
+        repository = self.specs(
+            "-- then\nabbrev pub ◌>>=◌ : ℕ → ℕ → ℕ\nzero >>= m = m\nsuc n >>= m = n\n\n"
+            "-- a pair\nabbrev pub pair : Pair\npair = record {\n  left = 1;\n}\n"
+        )
+        self.assertEqual([(it.name, len(it.lines)) for it in repository.definitions], [("◌>>=◌", 3), ("pair", 4)])
+
+    def test_a_line_that_is_not_known_ends_the_program(self) -> None:
+        for text in (
+            "-- a\nabbrev pub one : ℕ\none = 1\ntwo = 2\n",
+            "-- a\nabbrev pub one : ℕ\none = 1\n\nmodule _ (n : ℕ) where\n",
+            "-- a\nopaque pub one : ℕ\none = 1\n",
+            "    two = 2\n",
+        ):
+            with self.subTest(text=text), self.assertRaises(SystemExit):
+                self.specs(text)
+
     def test_a_name_of_two_files_is_written_with_its_file(self) -> None:
         repository = self.repository({
             "low/specs/Lib.antt": LIB + "pub mod Second\n",
@@ -168,6 +186,28 @@ class Contracts(OfSources):
         })
 
 
+class Types(OfSources):
+    def test_types_are_cited_by_their_names_and_by_their_variants(self) -> None:
+        repository = self.repository({
+            "low/specs/Lib.antt": LIB,
+            "low/specs/First.antt": "use Rattle.low.specs.declared.rows.Row.{Row}\n"
+            "use Rattle.low.specs.declared.rows.Phase.TheVariants as phase\n"
+            "use Rattle.low.specs.declared.rows.Fault.TheVariants.{Bad as BadRow}\n\n"
+            "-- a\nabbrev pub pages : Row → ℕ\npages row = row.pages\n\n"
+            "-- b\nabbrev pub begins : ℕ → ℕ\nbegins n = of phase.Idle n\n\n"
+            "-- c\nabbrev pub code : ℕ → ℕ\ncode (BadRow n) = n\n\n"
+            "-- d\nabbrev pub none : ℕ\nnone = 0\n",
+            "low/src/rows.rt": "pub struct Row {\n    pub pages: u32,\n}\n\n#[derive(Clone)]\npub enum Phase {\n    Idle,\n"
+            "    Checking { next: u32 },\n}\n\npub(crate) enum Fault {\n    /// Not good.\n    Bad(u32),\n}\n\npub struct Unused;\n",
+            "low/src/lib.rt": "pub use call::{call};\n",
+            "low/src/call.rt": "ghost use Rattle.low.specs.First.{none};\n"
+            "ghost use Rattle.low.specs.declared.rows.Phase.TheVariants.{Checking};\n\n"
+            "pub fn call(n: u32) -> Phase\n    ensures { result ≡ Checking none }\n{\n    n\n}\n",
+        })
+        cited = {root: [it.name for it in repository.types([root])] for root in ("pages", "begins", "code", "none", "low::call")}
+        self.assertEqual(cited, {"pages": ["Row"], "begins": ["Phase"], "code": ["Fault"], "none": [], "low::call": ["Phase"]})
+
+
 class ThisRepository(unittest.TestCase):
     """What a count of the project itself can be held against, whatever its figures are."""
 
@@ -186,6 +226,19 @@ class ThisRepository(unittest.TestCase):
                 rest = [word for word in words if word not in ("abbrev", "unfoldable", "record", "data", "pub", "mutual")]
                 if kinds and rest:
                     self.assertIn((crate, file, rest[0]), seen)
+
+    def test_each_type_that_a_file_of_definitions_imports_is_seen(self) -> None:
+        crates = self.repository.top / "crates"
+        declared = {place: set(names) for crate in self.repository.crates for place, names in types_of(crates / crate).items()}
+        imported = re.compile(r"^use Rattle\.(\w+)\.specs\.(declared\.[\w.]+)\.\{([^}]*)\}", re.M)
+        seen = 0
+        for file in sorted(crates.glob("*/specs/*.antt")):
+            for owner, path, names in imported.findall(file.read_text()):
+                if owner in self.repository.crates and not path.endswith("TheConstants"):
+                    wanted = {name.split(" as ")[0].strip() for name in names.split(",")}
+                    self.assertLessEqual(wanted, declared[owner, path], f"{file}: {path}")
+                    seen += 1
+        self.assertGreater(seen, 100)
 
     def test_the_headline_needs_no_less_than_each_of_its_parts(self) -> None:
         whole = set(self.repository.needed(definitions.HEADLINE))

@@ -36,3 +36,4 @@ pub mod CommitLemmas
 pub mod RangeLines
 mod WrittenExamples
 mod HeadExamples
+mod ScriptExamples

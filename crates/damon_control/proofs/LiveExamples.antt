@@ -193,3 +193,31 @@ no_third_version = refl
 
 no_script_for_a_live_script : live_of (codes "damon script 2\n") ≡ Err (record { line = 1; kind = Header })
 no_script_for_a_live_script = refl
+
+-- ---- two workers that touch the only page, and one call
+
+-- one page in one row, and more text after its setup
+abbrev one_page_before : List ℕ → List ℕ
+one_page_before text = codes "damon live 1\nseed 42\nunit 1\ncap 3\nattrs 3 3 5\ntarget 0x0 1\nrange 0 0x0 0x1000 0\n" ++ text
+
+two_workers_and_a_call : live_of (one_page_before (codes "passes 1\nworker\ntouch 0 0x0\nworker\ntouch 0 0x0\ncontroller\nshow\nend\n"))
+    ≡ Ok (record {
+      seed = 42;
+      setup = record {
+        version = One;
+        space = record { base = 0; pages = 1 } ∷ [];
+        unit = 1;
+        cap = 3;
+        attrs = record { min = 3; max = 3; aggr = 5 };
+        ranges = record { target = 0; first = 0; pages = 1; class = 0 } ∷ [];
+        slots = [];
+      };
+      passes = 1;
+      workers = (0 ∷ []) ∷ (0 ∷ []) ∷ [];
+      controllers = (ShowCall ∷ []) ∷ [];
+    })
+two_workers_and_a_call = refl
+
+passes_stand_before_workers :
+    live_of (one_page_before (codes "worker\ntouch 0 0x0\nworker\ntouch 0 0x0\ncontroller\nshow\nend\n")) ≡ Err (record { line = 8; kind = Word })
+passes_stand_before_workers = refl

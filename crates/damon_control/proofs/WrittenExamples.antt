@@ -4,7 +4,7 @@ use Rattle.std.specs.Fmt.{digits}
 use Rattle.damon_types.specs.declared.scheme.Action.TheVariants.{Pageout}
 use Rattle.damon_types.specs.declared.scheme.Prefer.TheVariants.{Cold}
 use Rattle.damon_types.specs.declared.scheme.Scheme.{Scheme}
-use Rattle.damon_types.specs.declared.scheme.Version.TheVariants.{Two}
+use Rattle.damon_types.specs.declared.scheme.Version.TheVariants.{One, Two}
 use Rattle.live_commit.specs.Commit.{CommitValue}
 use Rattle.live_commit.specs.Setup.{SetupValue}
 use Rattle.script_lines.specs.Body.{no_commit}
@@ -46,3 +46,24 @@ commit_is_written = refl
 
 no_part_is_no_line : commit_text no_commit ≡ []
 no_part_is_no_line = refl
+
+-- three pages, watched whole
+abbrev three_pages : SetupValue
+three_pages = record {
+  version = One;
+  space = record { base = 65536; pages = 3 } ∷ [];
+  unit = 1;
+  cap = 8;
+  attrs = record { min = 3; max = 8; aggr = 5 };
+  ranges = record { target = 0; first = 0; pages = 3; class = 0 } ∷ [];
+  slots = [];
+}
+
+three_pages_are_written : setup_text 42 three_pages ≡ codes "seed 42\nunit 1\ncap 8\nattrs 3 8 5\ntarget 0x10000 3\nrange 0 0x10000 0x13000 0\n"
+unfolding digits
+three_pages_are_written = refl
+
+ranges_alone_are_written : commit_text (record no_commit { ranges = Some (record { target = 0; from = 65536; to = 73728; class = 0 } ∷ []) })
+    ≡ codes "range 0 0x10000 0x12000 0\n"
+unfolding digits
+ranges_alone_are_written = refl

@@ -27,8 +27,9 @@ show
 end
 ";
 
-// The first touch comes after the clear, which makes the pass a hit, and the second one before it; the
-// call comes in between.
+// The first touch comes after the clear, which makes the pass a hit, and the call between the clear and the
+// check. The second touch comes when it likes: workers begin after the first clear, and the check waits for
+// both touches.
 const SHOWN_JOURNAL: &[u8] = b"\
 damon journal 1
 seed 42
@@ -44,7 +45,7 @@ answer shown tick=0 rows=1
 check 1 1
 receipts
 seen 0 0 0x0 1
-seen 1 0 0x0 0
+seen 1 0 0x0 1
 settled
 show tick=1 phase=idle rows=1
 row 0 0x0-0x1000 count=1 last=0 age=0
@@ -118,13 +119,6 @@ fn expect_journal<R: Threads + Wait + Sync + Abort + AllocGlobal, P: Pace + Sync
 #[test]
 fn a_touch_between_clear_and_load_is_a_hit(rt: HostRuntime) -> Result<(), Fail> {
     let holds = [
-        Hold {
-            at: Spot::BeforePass { pass: 1 },
-            until: Spot::AfterTouch {
-                worker: 1,
-                index: 0,
-            },
-        },
         Hold {
             at: Spot::BeforeTouch {
                 worker: 0,
