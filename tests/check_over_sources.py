@@ -5,7 +5,7 @@
 
 For example `tests/check_over_sources.py aggregator --only threshold`. The crates below are read from their sources. With --only the
 prover looks at these functions, and at what they reach, in lower crates too: half a minute here, where `rt check` would first prove
-every crate below. A crate below whose library is newer than its sources is taken as it is built, unless --from-sources asks for sources.
+every crate below. A crate below whose library `build.py` built of these sources is taken as it is built, unless --from-sources asks for sources.
 Other flags go to the prover, such as --test, --allow-holes, --fix-imports, or --start FUNCTION with --generated FOLDER.
 
 What was checked is kept in a folder for each checkout, below that for temporary files, so builds of the checkout are not disturbed.
@@ -19,11 +19,11 @@ import sys
 import tempfile
 import time
 from pathlib import Path
-from typing import Dict, List, NamedTuple
+from typing import List, NamedTuple
 
 sys.path.insert(0, str(Path(__file__).resolve().parent.parent))
 
-import build  # noqa: E402
+from building.crates import CRATES, TOP, Crate, Crates, below, crates_for, fresh  # noqa: E402
 
 
 class Asked(NamedTuple):
@@ -46,24 +46,24 @@ def asked_for(words: List[str]) -> Asked:
     return Asked(known.crate, known.from_sources, known.jobs, [*only, *others])
 
 
-def libraries(crates: Dict[str, build.Crate]) -> List[str]:
+def libraries(crates: Crates) -> List[str]:
     """The toolchain's libraries that these crates use."""
     return sorted({"core", "std", *(it for crate in crates.values() for it in used_by(crate) if it not in crates)})
 
 
-def used_by(crate: build.Crate) -> List[str]:
+def used_by(crate: Crate) -> List[str]:
     return crate.line.partition(":")[2].split()
 
 
-def command(asked: Asked, crates: Dict[str, build.Crate], kit: Path, kept: Path) -> List[str]:
+def command(asked: Asked, crates: Crates, kit: Path, kept: Path) -> List[str]:
     """The call of the prover: each crate below as a library or as sources, held to its line of `crates.txt`."""
     words = [str(kit / "bin/rattle"), "check", "--crate-name", asked.crate, "src/lib.rt"]
     for name in libraries(crates):
         words += ["--extern", f"{name}={kit}/rlibs/{name}.rlib"]
     words += ["-L", f"dependency={kit}/rlibs"]
-    built = [] if asked.from_sources else build.fresh(crates)
-    for name in build.below(asked.crate, crates):
-        folder = build.TOP / "crates" / name
+    built = [] if asked.from_sources else fresh(crates)
+    for name in below(asked.crate, crates):
+        folder = CRATES / name
         if name in built:
             words += ["--extern", f"{name}={folder}/out/rlib/{name}.rlib"]
         else:
@@ -74,13 +74,13 @@ def command(asked: Asked, crates: Dict[str, build.Crate], kit: Path, kept: Path)
 
 def kept_folder(crate: str) -> Path:
     """Where a checkout's checks of a crate are kept: checkouts of one name have a folder each."""
-    checkout = hashlib.sha256(str(build.TOP).encode()).hexdigest()[:12]
+    checkout = hashlib.sha256(str(TOP).encode()).hexdigest()[:12]
     return Path(tempfile.gettempdir()) / "check_over_sources" / checkout / crate
 
 
 def main(words: List[str]) -> int:
     asked = asked_for(words)
-    crates = build.crates_for(asked.crate)
+    crates = crates_for(asked.crate)
     if not crates:
         sys.exit(f"check_over_sources.py: crates.txt has no crate {asked.crate}")
     prover = shutil.which("rt")
@@ -90,7 +90,7 @@ def main(words: List[str]) -> int:
     kept.mkdir(parents=True, exist_ok=True)
     begun = time.monotonic()
     call = command(asked, crates, Path(prover).resolve().parent.parent, kept)
-    status = subprocess.run(call, cwd=build.TOP / "crates" / asked.crate).returncode
+    status = subprocess.run(call, cwd=CRATES / asked.crate).returncode
     print(f"{asked.crate}: {time.monotonic() - begun:.0f} s, status {status}, {len(crates) - 1} crates below")
     return status
 

@@ -9,7 +9,6 @@ import shutil
 import subprocess
 import sys
 import tempfile
-import time
 import unittest
 from pathlib import Path
 from typing import List
@@ -30,7 +29,7 @@ class Checks(unittest.TestCase):
         self.addCleanup(folder.cleanup)
         self.top, self.kit = Path(folder.name).resolve() / "checkout", Path(folder.name).resolve() / "kit"
         (self.top / "tests").mkdir(parents=True)
-        shutil.copy2(TOP / "build.py", self.top)
+        shutil.copytree(TOP / "building", self.top / "building")
         shutil.copy2(TOP / "tests/check_over_sources.py", self.top / "tests")
         (self.top / "crates.txt").write_text("".join(f"{name}: {uses}\n" for name, uses in CRATES.items()))
         for name in CRATES:
@@ -55,11 +54,14 @@ class Checks(unittest.TestCase):
     def after(self, option: str, words: List[str]) -> List[str]:
         return [word for before, word in zip(words, words[1:]) if before == option]
 
-    def build(self, name: str, at: float) -> None:
-        stamp = self.top / "crates" / name / "out/rlib/stamp"
-        stamp.parent.mkdir(parents=True)
-        stamp.touch()
-        os.utime(stamp, (at, at))
+    def build(self, name: str) -> None:
+        """Leaves what `build.py` does beside a library that it built."""
+        code = f"from building.crates import crates_for, sum_of; print(sum_of('{name}', crates_for('{name}')), end='')"
+        said = subprocess.run([sys.executable, "-c", code], cwd=self.top, capture_output=True, text=True, check=True).stdout
+        folder = self.top / "crates" / name / "out"
+        (folder / "rlib").mkdir(parents=True)
+        (folder / "rlib/stamp").touch()
+        (folder / "sources").write_text(said)
 
     def test_crates_below_are_read_from_sources_lowest_first(self) -> None:
         words = self.words_of("high")
@@ -72,9 +74,10 @@ class Checks(unittest.TestCase):
         externs = [it.partition("=")[0] for it in self.after("--extern", self.words_of("high"))]
         self.assertEqual(externs, ["core", "rand", "serde", "std"])
 
-    def test_a_library_is_taken_where_it_is_newer_than_its_sources(self) -> None:
-        self.build("low", time.time() + 60)
-        self.build("left", time.time() - 3600)
+    def test_a_library_is_taken_where_it_was_built_of_these_sources(self) -> None:
+        self.build("low")
+        self.build("left")
+        (self.top / "crates/left/src/lib.rt").write_text("// another line\n")
         words = self.words_of("high")
         self.assertEqual([it.partition(":")[0] for it in self.after("--lib", words)], ["left", "right"])
         self.assertIn(f"low={self.top}/crates/low/out/rlib/low.rlib", self.after("--extern", words))
