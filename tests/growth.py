@@ -15,7 +15,8 @@ from dataclasses import dataclass
 from math import log10
 from pathlib import Path
 
-import tool_runs  # noqa: F401 (finds the packages of the tools)
+sys.path.insert(0, str(Path(__file__).resolve().parent.parent / "tools"))
+
 from drawing.canvas import Canvas, short
 
 HEAD = "| workload | the size is |"

@@ -6,6 +6,7 @@ import re
 import subprocess
 import tempfile
 import unittest
+from itertools import groupby
 from pathlib import Path
 from typing import Callable
 
@@ -13,23 +14,48 @@ from tool_runs import PROGRAM, SECONDS, TOP
 
 COMMANDS = ("mkdir ", "tools/", "./damon ", "grep ", "sed ", "xz ")
 BLOCK = re.compile(r"^```\n(.*?)^```", re.MULTILINE | re.DOTALL)
+CUT = ".."
+"""A line of a page in place of any lines of the output."""
+NOTES = r"(?:note: .*\n)*"
+"""What a page may leave out without saying so."""
+
+
+def is_a_command(line: str) -> bool:
+    return line.startswith(COMMANDS)
+
+
+def shown_by(lines: list[str]) -> re.Pattern[str]:
+    """What an output must be that a page prints as these lines."""
+    parts = [r"(?:.*\n)*?" if line == CUT else f"{NOTES}{re.escape(line)}\n" for line in lines]
+    return re.compile("".join(parts) + NOTES)
 
 
 class Page(unittest.TestCase):
+    maxDiff = None
+
     def follow(self, path: str, is_skipped: Callable[[str], bool], at_end: Callable[[Path], None] = lambda folder: None) -> None:
-        """Runs the lines of a page's blocks that are commands, and looks for all others in what they write.
+        """Runs the lines of a page's blocks that are commands. Lines that are none are the whole output of the commands since the
+        last such lines, in order, but for notes.
 
         The folder `out` is a temporary one, which `at_end` is told.
         """
-        blocks = BLOCK.findall((TOP / path).read_text())
+        blocks = [block for block in BLOCK.findall((TOP / path).read_text()) if not is_skipped(block)]
         with tempfile.TemporaryDirectory() as folder:
             output = ""
-            for line in [line for block in blocks if not is_skipped(block) for line in block.splitlines()]:
-                if line.startswith(COMMANDS):
-                    output += self.run_command(line.replace("out/", f"{folder}/").replace("./damon", str(PROGRAM)))
-                else:
-                    self.assertIn(line + "\n", output)
+            for block in blocks:
+                for is_command, lines in groupby(block.splitlines(), is_a_command):
+                    if is_command:
+                        output += "".join(self.run_command(line.replace("out/", f"{folder}/").replace("./damon", str(PROGRAM))) for line in lines)
+                    else:
+                        self.compare(list(lines), output)
+                        output = ""
+            self.assertRegex(output, f"^{NOTES}$", "the page does not print this")
             at_end(Path(folder))
+
+    def compare(self, lines: list[str], output: str) -> None:
+        """Fails with the difference if a page prints an output otherwise."""
+        if not shown_by(lines).fullmatch(output):
+            self.assertEqual("".join(f"{line}\n" for line in lines), output)
 
     def run_command(self, line: str) -> str:
         environment = {**os.environ, "DAMON": str(PROGRAM)}

@@ -12,8 +12,9 @@ import tempfile
 import unittest
 from collections import Counter
 from pathlib import Path
-from typing import Any, Sequence
+from typing import Sequence
 
+from page_counts import Page, PageCounts, accuracy_of, aggregations_of
 from tool_runs import PROGRAM, TOOLS, Refusals, need_program, random_trace, report_of, run, script_of
 
 from comparing.counts import accessed_in, applied_of
@@ -23,9 +24,6 @@ from reports.memory import Memory
 from reports.pages import common, union, without
 
 TOOL = "compare.py"
-Page = tuple[int, int]
-PageCounts = dict[str, Any]
-"""An aggregation: its tick, the count of each page, and the pages that schemes were applied to."""
 SingleMove = tuple[int, Page, int, "int | None", bool]
 """A slot, a page that it put out, the ticks at which it went and came back, and whether it was fetched back."""
 EXACT = """\
@@ -70,51 +68,13 @@ def compared(exact: str, found: str, *words: str) -> list[str]:
     return ran.stdout.decode().splitlines()
 
 
-def aggregations_of(report: str) -> list[PageCounts]:
-    """The aggregations of a report, page by page. Shares nothing with the tools."""
-    result: list[PageCounts] = []
-    is_inside = False
-    for line in report.splitlines():
-        word, *rest = line.split()
-        if word == "aggregate":
-            result.append({"tick": int(rest[0][5:]), "counts": {}, "applied": []})
-        is_inside = word in ("aggregate", "apply", "slot") or is_inside and word == "row"
-        if is_inside and word in ("apply", "row"):
-            target, span = rest[:2] if word == "row" else rest[2:4]
-            low, high = (int(address, 16) // 4096 for address in span.split("-"))
-            pages = [(int(target), page) for page in range(low, high)]
-            if word == "apply":
-                result[-1]["applied"].append((int(rest[0]), rest[1], pages))
-            else:
-                result[-1]["counts"].update(dict.fromkeys(pages, int(rest[2][6:])))
-    return result
-
-
 def percent(part: int, whole: int) -> list[str]:
     return [f"{100 * part / whole:.1f}"] if whole else []
 
 
 def found_numbers(exact: list[PageCounts], found: list[PageCounts], hot: float) -> list[list[str]]:
-    """The numbers of the first lines, counted page by page."""
-    total: Counter[str] = Counter()
-    before = 0
-    for one, other in zip(exact, found):
-        passes, before = one["tick"] - before, one["tick"]
-        used = {page for page, count in one["counts"].items() if count}
-        called = {page for page, count in other["counts"].items() if count}
-        for page, count in one["counts"].items():
-            seen = other["counts"].get(page)
-            total["pages"] += 1
-            total["blind"] += seen is None
-            total["hot"] += count >= hot * passes
-            total["hot called"] += seen is not None and seen >= hot * passes
-            total["hot both"] += count >= hot * passes and seen is not None and seen >= hot * passes
-            total["cold"] += count == 0
-            total["cold called"] += seen == 0
-            total["cold both"] += count == 0 and seen == 0
-        total["used"] += len(used)
-        total["called"] += len(called)
-        total["off"] += abs(len(used) - len(called))
+    """The numbers of the first lines."""
+    total = accuracy_of(exact, found, hot)
     lines = [[len(exact), total["pages"]]] + [[total["blind"]]] * (total["blind"] > 0)
     numbers = [[str(number) for number in line] for line in lines]
     for name in ("hot", "cold"):
@@ -126,7 +86,7 @@ def found_numbers(exact: list[PageCounts], found: list[PageCounts], hot: float) 
     return [*numbers, [*averages[:2], *error, averages[2]]]
 
 
-def slot_numbers(exact: list[PageCounts], found: list[PageCounts], after: int) -> tuple[list[list[object]], set[SingleMove]]:
+def slot_numbers(exact: list[PageCounts], found: list[PageCounts], after: int) -> tuple[list[list[str]], set[SingleMove]]:
     """The numbers of the lines of slots, and the moves of single pages, followed page by page."""
     out: dict[Page, tuple[int, int]] = {}
     moves: set[SingleMove] = set()
@@ -453,7 +413,7 @@ class Errors(Refusals):
         self.check(["the-exact-one", "line 1"], "hello\n", FOUND)
 
     def test_exact_counts_come_first(self) -> None:
-        self.check(["first of the two"], EXACT, "exact counts 1\n")
+        self.check(["first of the reports"], EXACT, "exact counts 1\n")
 
     def test_options(self) -> None:
         self.check(["--hot"], EXACT, FOUND, "--hot", "0")

@@ -86,7 +86,8 @@ class Pictures(unittest.TestCase):
     def test_runs(self) -> None:
         picture = drawn(RUNS, *AXES, "--title", "a < b")
         for text in ("a < b", "hot_found (more is better)", "checks (less is better)", "2 rows in front", "1 others",
-                     "1 rows without numbers", "labels: max", "20", "40", "the same in all rows: workload a.trace, interval 10, seed 1", "200", "0.6"):
+                     "1 rows without numbers", "labels: max", "20", "40", "the same in all rows: workload a.trace, interval 10, seed 1", "200",
+                         "0.6"):
             self.assertIn(text, texts_of(picture))
         self.assertEqual(hovers_of(picture, "t0"), ["checks 100, hot_found 0.25\nmax 20", "checks 300, hot_found 0.75\nmax 40"])
         self.assertEqual(hovers_of(picture, "soft"), ["checks 500, hot_found 0.5\nmax 60"])
@@ -113,7 +114,8 @@ class Pictures(unittest.TestCase):
 
     def test_labels_have_what_rows_differ_in(self) -> None:
         """A cap that is always the max is not in a label, and neither is what colours show."""
-        rows = [f"a.trace,{most},{most},{age},{1000 - 100 * age + most},{0.5 + age / 100 + most / 1000},0,ok\n" for most in (10, 20) for age in (1, 2)]
+        rows = [f"a.trace,{most},{most},{age},{1000 - 100 * age + most},{0.5 + age / 100 + most / 1000},0,ok\n" for most in (10, 20) for age in (1,
+            2)]
         text = "workload,cap,max,age,checks,hot_found,working_set_error,status\n" + "".join(rows)
         words = texts_of(drawn(text))
         self.assertLessEqual({"10 / 2", "20 / 2", "labels: max", "/ age"}, set(words))

@@ -92,7 +92,8 @@ class Pictures(Places):
     def test_colours_are_shares_of_pages_and_passes(self) -> None:
         picture = drawn(TABLES, "--script", str(self.script), "--title", "a < b", "--label", "1=the heap")
         for text in ("a < b", "0x10000", "0x12000", "0x20000", "0x30000", "target 0", "8 KiB", "the heap", "target 1, 64 KiB",
-                     "mean share of samples in which its pages were found accessed:  never", "addresses", "working set", "20 KiB", "often accessed", "sampling intervals"):
+                     "mean share of samples in which its pages were found accessed:  never", "addresses", "working set", "20 KiB", "often accessed",
+                         "sampling intervals"):
             self.assertIn(text, texts_of(picture))
         hot, half = paths_of(picture, "class", "h9"), paths_of(picture, "class", "h5")
         self.assertEqual((len(hot), len(half)), (2, 1))

@@ -106,7 +106,8 @@ class Pictures(unittest.TestCase):
         self.assertNotIn("0x10000", texts_of(picture))
         self.assertIn("targets 0", titles_of(picture))
         # Its share is 1 of 2 from tick 4 on, and a scheme was applied to it before.
-        self.assertEqual([path.get("class") for path in picture.iter(f"{SVG}path") if path.get("class", "").startswith(("h", "mark"))], ["h9", "h5", "mark s0"])
+        self.assertEqual([path.get("class") for path in picture.iter(f"{SVG}path") if path.get("class", "").startswith(("h", "mark"))], ["h9", "h5",
+            "mark s0"])
         self.assertIn("2 targets, 24 KiB", texts_of(drawn(TWO_AGGREGATIONS, "--busy", "1")))
         self.assertNotIn("quiet targets", texts_of(drawn(TWO_AGGREGATIONS, "--busy", "0.1")))
 

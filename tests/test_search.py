@@ -16,11 +16,9 @@ import unittest
 from functools import partial
 from pathlib import Path
 
+from page_counts import Page, PageCounts, accuracy_of, aggregations_of
 from tool_runs import PROGRAM, SECONDS, TOOLS, TOP, Refusals, need_program, random_trace, report_of, run, script_of
 
-from comparing.accuracy import Accuracy
-from comparing.counts import applied_of, counts_of
-from comparing.paging import Moment, Paging
 from reports.events import Report
 from reports.memory import Memory
 from searching.measures import RECLAIM, REPLAY, measured, measures_by, ratio
@@ -139,8 +137,20 @@ def workloads(plan: Plan, points: Points) -> dict[object, Workload]:
     return {key: made for name, keys in points.keys(True).items() for key, made in trace_workloads(plan, name, keys)}
 
 
+def out_through(exact: list[PageCounts], found: list[PageCounts]) -> int:
+    """The pages that were out through a whole aggregation, added up, followed page by page."""
+    out: set[Page] = set()
+    total = 0
+    for one, other in zip(exact, found):
+        out -= {page for page, count in one["counts"].items() if count}
+        total += len(out)
+        for _, action, pages in other["applied"]:
+            out = out | set(pages) if action == "pageout" else out - set(pages) if action == "willneed" else out
+    return total
+
+
 class Measures(Searches):
-    """The measures are those of tools/compare.py, which reads reports in another way, and what `damon reclaim` says at the end."""
+    """The measures are those that page by page counting gives, and what `damon reclaim` says at the end."""
 
     def test_measures_of_traces(self) -> None:
         plan = plan_of(str(self.folder / "plan.toml"))
@@ -167,29 +177,26 @@ class Measures(Searches):
             self.same(report_of(text, command), counts, script_workload(plan, "a.damon"), 0.25, command)
 
     def same(self, report: str, counts: str, workload: Workload, share: float, command: str) -> None:
-        accuracy, paging, applied = Accuracy(), Paging(1, False), 0
-        exact, found = (list(Report(text.splitlines(keepends=True)).aggregations()) for text in (counts, report))
-        self.assertEqual([one.tick for one in exact], [one.tick for one in found])
+        exact, found = aggregations_of(counts), aggregations_of(report)
+        self.assertEqual([one["tick"] for one in exact], [one["tick"] for one in found])
         self.assertGreater(len(found), 3)
-        for number, (one, other) in enumerate(zip(exact, found)):
-            truth, runs = counts_of(one, share, None), applied_of(other, None)
-            accuracy.add(truth, counts_of(other, share, None))
-            paging.add(Moment(number, one.tick), truth.accessed, runs)
-            applied += sum(end - start for same in runs.values() for start, end in same)
+        total = accuracy_of(exact, found, share)
+        applied = sum(len(pages) for one in found for _, _, pages in one["applied"])
+        pageout = sum(len(pages) for one in found for _, action, pages in one["applied"] if action == "pageout")
         given = measured(report, workload.truths, share, measures_by(command))
         self.assertEqual({*given}, {*measures_by(command)})
         end = [event for event in Report(report.splitlines(keepends=True)).events() if isinstance(event, Memory)][-1:]
         self.assertEqual(len(end), command == RECLAIM)
         self.assertEqual(given, {
             "checks": re.findall(r"^end .* checks=(\d+) ", report, re.MULTILINE)[0],
-            "hot_found": ratio(accuracy.hot_found, accuracy.hot),
-            "hot_false": ratio(accuracy.called_hot - accuracy.hot_found, accuracy.called_hot),
-            "cold_false": ratio(accuracy.called_cold - accuracy.cold_found, accuracy.called_cold),
-            "working_set_error": ratio(accuracy.working_set_found - accuracy.working_set, accuracy.working_set),
+            "hot_found": ratio(total["hot both"], total["hot"]),
+            "hot_false": ratio(total["hot called"] - total["hot both"], total["hot called"]),
+            "cold_false": ratio(total["cold called"] - total["cold both"], total["cold called"]),
+            "working_set_error": ratio(total["called"] - total["used"], total["used"]),
             "applied": str(applied),
             **{name: text for one in end for name, text in (
                 ("pageouts", str(one.pageouts)), ("refaults", str(one.refaults)),
-                ("out", ratio(sum(ledger.out_sum for ledger in paging.ledgers.values()), accuracy.aggregations)))}})
+                ("out", ratio(out_through(exact, found), len(found))), ("again", ratio(pageout - one.pageouts, pageout)))}})
         self.assertGreater(applied, 0)
 
 

@@ -2,11 +2,15 @@
 """Tests of tools/settings.py: other settings for a script that is there."""
 from __future__ import annotations
 
+import os
+import shutil
+import subprocess
+import sys
 import tempfile
 import unittest
 from pathlib import Path
 
-from tool_runs import KEPT, TOP, Refusals, need_program, random_trace, report_of, run, script_of
+from tool_runs import KEPT, TOOLS, TOP, Refusals, need_program, random_trace, report_of, run, script_of
 
 TOOL = "settings.py"
 COLD = "scheme 0 pageout count=0,1 age=1,4294967295 quota=409600,10 weights=0,1,3 prefer=cold"
@@ -50,6 +54,24 @@ class SameAsFromTheTrace(unittest.TestCase):
         self.assertEqual(changed(script, "--drop", "1"), script_of(TRACE, *words, "scheme 12 cold"))
         self.assertEqual(changed(script, "--drop", "2", "--drop", "12", "--drop", "1"), script_of(TRACE, "--interval", "20"))
 
+    def test_commits(self) -> None:
+        usual = script_of(TRACE, "--interval", "20")
+        words = ["--at", "5:attrs 5 90 10", "--at", "5:scheme 1 stat", "--metric", "5:7", "--at", "5:drop 3", "--metric", "0:9"]
+        self.assertEqual(changed(usual, *words), script_of(TRACE, "--interval", "20", *words))
+
+    def test_version_2_with_a_cost(self) -> None:
+        """By hand: a commit before the tenth interval."""
+        scheme = "scheme 0 stat quota=409600,10 time=1000"
+        usual = script_of(TRACE, "--interval", "20")
+        places = [place for place in range(len(usual)) if usual.startswith("\narm\n", place)]
+        wanted = f"{usual[:places[9]]}\ncommit\ncost 0 4000\napply{usual[places[9]:]}".replace("script 1", "script 2", 1)
+        self.assertEqual(changed(usual, "--version", "2", "--at", "9:cost 0 4000", "--scheme", scheme), wanted.replace("\nbegin\n",
+            f"\n{scheme}\nbegin\n"))
+
+    def test_commits_come_behind_those_that_are_there(self) -> None:
+        first, second = ["--metric", "5:1", "--metric", "8:2"], ["--metric", "5:3", "--metric", "6:4"]
+        self.assertEqual(changed(script_of(TRACE, "--interval", "20", *first), *second), script_of(TRACE, "--interval", "20", *first, *second))
+
     def test_no_change(self) -> None:
         """Each script of damon among the examples; a live script is for damond."""
         scripts = [path for path in sorted((TOP / "examples").glob("*.damon"))
@@ -89,9 +111,22 @@ class Notes(unittest.TestCase):
         self.assertIn("add prefer=cold", notes_of(script, "--scheme", "scheme 1 pageout quota=8192,10")[0])
 
     def test_without_a_program(self) -> None:
-        ran = run(TOOL, "--max", "2", text=self.SCRIPT.encode(), program=Path("/no/damon"))
-        self.assertEqual(ran.returncode, 0)
-        self.assertIn(b"was not checked: there is no program /no/damon", ran.stderr)
+        """In a checkout that has built none the script is not checked."""
+        with tempfile.TemporaryDirectory() as folder:
+            copy = Path(folder) / "a checkout/tools"
+            shutil.copytree(TOOLS, copy)
+            environment = {name: value for name, value in os.environ.items() if name != "DAMON"}
+            # `-I` leaves out the folder of the tool, which finds its packages nevertheless.
+            ran = subprocess.run([sys.executable, "-I", copy / TOOL, "--max", "2"], input=self.SCRIPT.encode(), capture_output=True, env=environment)
+        self.assertEqual(ran.returncode, 0, ran.stderr)
+        self.assertIn(f"was not checked: there is no program {copy.parent}/crates".encode(), ran.stderr)
+
+    def test_commits_that_are_refused_or_too_late(self) -> None:
+        script = script_of(TRACE, "--interval", "20")
+        count = script.count("\narm\n")
+        self.assertEqual(notes_of(script, "--at", "3:attrs 6 5 5", "--at", "4:drop 1", "--metric", f"{count}:7"), [
+            f"note: the commit before interval {count} is left out: there are {count} intervals",
+            "note: the commit before interval 3 is refused: bad-attrs min-over-max"])
 
 
 class Errors(Refusals):
@@ -114,6 +149,11 @@ class Errors(Refusals):
     def test_options_and_files(self) -> None:
         script = script_of(TRACE, "--interval", "20").encode()
         self.refused(TOOL, ["--drop names slot 3"], script, "--drop", "3")
+        self.refused(TOOL, ["--at needs INTERVAL:LINE", "metric, cost"], script, "--at", "5 drop 0")
+        self.refused(TOOL, ["bad form: there is no key 'time' in version 1"], script, "--scheme", "scheme 0 stat quota=4096,5 time=9")
+        ran = run(TOOL, text=script, program=Path("/no/damon"))
+        self.assertEqual((ran.returncode, ran.stdout), (2, b""))
+        self.assertIn(b"there is no program /no/damon, which DAMON in the environment names", ran.stderr)
         self.refused(TOOL, ["--scheme needs a line"], script, "--scheme", "scheme 0 stat\nscheme 1 stat")
         self.refused(TOOL, ["-: there is no line `begin`"], b"damon script 1\nseed 1\n")
         self.refused(TOOL, ["there is no line `cap`"], b"damon script 1\nseed 1\nbegin\n", "--cap", "5")

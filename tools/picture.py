@@ -7,17 +7,20 @@ from __future__ import annotations
 
 import argparse
 import sys
+from pathlib import Path
+
+sys.path.insert(0, str(Path(__file__).resolve().parent))
 
 from common import STANDARD_INPUT, UsageError, opened_text, parser, run
+from drawing.charts import CHARTS, charts_of
 from drawing.front import ColourError, colours_of, front_picture
 from drawing.heat import heat_picture
-from drawing.charts import CHARTS, charts_of
 from drawing.history import Cut, History, ScriptError, commits_of, history_of
 from drawing.panels import spans_of
 from drawing.picture import View, picture
 from reports.events import Report, ReportError
 from reports.heat import Heat, HeatError, heats_of
-from reports.labels import check_targets, labels_of, names_read
+from reports.labels import check_labels, check_targets, labels_of, names_read
 from reports.names import names_by_target
 from reports.places import Place, PlaceError, check_places, places_of
 from searching.marks import TableError, axis_of, table_of
@@ -115,7 +118,8 @@ def options_of() -> argparse.Namespace:
     add("--x", metavar="NAME", help="with --front the measure to the right")
     add("--y", metavar="NAME", help="with --front the measure upwards")
     add("--colour", metavar="SETTING", help="with --front the setting that colours and forms of marks show")
-    add("--only", action="append", default=[], metavar="NAME=VALUE", help="with --front the rows with this value, such as workload=shop.trace.xz; may be repeated")
+    add("--only", action="append", default=[], metavar="NAME=VALUE",
+        help="with --front the rows with this value, such as workload=shop.trace.xz; may be repeated")
     add("--script", metavar="FILE", help="the script of the report, which says what its commits have; with --heat the live script "
         "or the journal, which says where its targets are")
     add("--title", help="the title of the picture")
@@ -150,7 +154,7 @@ def report_drawn(options: argparse.Namespace) -> str:
     history = history_read(options)
     if not history.snapshots:
         raise UsageError("the report has no aggregation, and no show after a pass: there is nothing to draw")
-    check_targets("--label", labels, spans_of(history), "the report has")
+    check_labels(labels, spans_of(history), "the report has")
     check_targets("--target", options.target, spans_of(history), "the report has")
     history = Cut(options.since or 0, options.until, frozenset(options.target) or None).of(history)
     if not spans_of(history):
@@ -178,7 +182,7 @@ def heat_drawn(options: argparse.Namespace) -> str:
     if not heats:
         raise UsageError("the tables have no aggregation: there is nothing to draw")
     places = places_read(options.script, heats) if options.script is not None else None
-    check_targets("--label", labels, range(len(heats[0].heat)), "the tables have")
+    check_labels(labels, range(len(heats[0].heat)), "the tables have")
     return heat_picture(heats, places, options.title or "Heat by time and address", labels, options.theme)
 
 

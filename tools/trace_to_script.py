@@ -14,10 +14,10 @@ import common
 from common import UsageError, opened_text
 from scripts.grammar import MOST_CAP
 from scripts.judge import is_there
-from tracing import notes, reading
+from tracing import commits, notes, reading
 from tracing.accesses import TraceError
 from tracing.areas import Area, chosen, group_pages
-from tracing.commits import PARTS, commits_of
+from tracing.commits import commits_of, placed_lines
 from tracing.early import check_lines
 from tracing.fit import fitted, too_much_at_all, too_much_to_fit
 from tracing.names import MapsError, Mapping, mappings
@@ -53,8 +53,6 @@ Damon judges the lines of --scheme and --at before the trace is read. DAMON in t
 program; without it, that is the one that ./damon builds.
 """
 SCHEME = re.compile(r"scheme [ -~]*")
-PLACED = re.compile(r"([0-9]{1,9}):((?:" + "|".join(PARTS) + r") [ -~]*)")
-METRIC = re.compile(r"([0-9]{1,9}):([0-9]{1,10})")
 USUAL_INTERVAL = 10_000
 """The length of an interval where --interval is not given."""
 SHORTEST_FITTED = 1_000
@@ -79,24 +77,8 @@ def parser() -> argparse.ArgumentParser:
     add("--aggr", type=int, default=20, metavar="N", help="sampling intervals of an aggregation (20)")
     add("--seed", type=int, default=1, metavar="N", help="the seed of the random words (1)")
     add("--scheme", action="append", default=[], metavar="LINE", help="a line `scheme ..` as it stands in a script; may be repeated")
-    add("--at", action="append", default=[], metavar="INTERVAL:LINE",
-        help=f"a commit before this interval, with a line that begins with {', '.join(PARTS[:-1])} or {PARTS[-1]}; may be repeated")
-    add("--metric", action="append", default=[], metavar="INTERVAL:N", help="the same as --at INTERVAL:'metric N'")
+    commits.add_options(add)
     return result
-
-
-def placed_lines(options: argparse.Namespace) -> list[tuple[int, str]]:
-    """The options --at and --metric as pairs of an interval and a line of a commit."""
-    lines = []
-    for word in options.at:
-        if not (match := PLACED.fullmatch(word)):
-            raise UsageError(f"--at needs INTERVAL:LINE, with a line that begins with one of {', '.join(PARTS)}, and not {word!r}")
-        lines.append((int(match[1]), match[2]))
-    for word in options.metric:
-        if not (match := METRIC.fullmatch(word)) or int(match[2]) >= 1 << 32:
-            raise UsageError(f"--metric needs INTERVAL:N, with N below 2^32, and not {word!r}")
-        lines.append((int(match[1]), f"metric {int(match[2])}"))
-    return lines
 
 
 def check_options(options: argparse.Namespace) -> None:

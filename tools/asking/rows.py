@@ -58,26 +58,32 @@ def undone(rows: list[Row], runs: list[Applied], choice: Choice, policy: Policy,
         rows = joined_again(rows, runs[-1], policy, scheme)
     result: list[Row] = []
     for row in rows:
-        taken = next((run for run in runs if row.holds(run.target, run.start)), None)
+        taken = next((run for run in runs if run.target == row.target and run.start < row.end and row.start < run.end), None)
         result.append(before_taken(row, taken.score, policy, scheme) if taken else row)
     return result
 
 
 def before_taken(row: Row, score: int, policy: Policy, scheme: Scheme) -> Row:
     """A row before pages of it were taken: it had another age if it has the age 0 now, since it was taken whole then."""
-    ages = ages_with(row, score, policy, scheme, Ages(0, MOST_AGE) if row.ages.least == 0 else row.ages)
+    ages = Ages(0, MOST_AGE) if row.ages.least == 0 else row.ages
+    if not row.is_sure:
+        return replace(row, ages=ages)
+    ages = ages_with(row, score, policy, scheme, ages)
     return replace(row, ages=ages) if ages.least <= ages.most else replace(row, ages=Ages(0, MOST_AGE), is_sure=False)
 
 
 def joined_again(rows: list[Row], run: Applied, policy: Policy, scheme: Scheme) -> list[Row]:
     """The rows before the one of the last run was cut, if it was."""
-    number = next((number for number, row in enumerate(rows) if row.holds(run.target, run.start)), None)
+    number = next((number for number, row in enumerate(rows) if row.holds(run.target, run.end - PAGE)), None)
     if number is None or number + 1 == len(rows):
         return rows
     front, back = rows[number], rows[number + 1]
     if front.end != run.end or not are_parts(front, back, policy):
         return rows
-    whole = replace(back, start=front.start, is_sure=front.is_sure and back.is_sure)
+    if not front.is_sure or not back.is_sure:
+        unsure = [replace(front, ages=Ages(0, MOST_AGE), is_sure=False), replace(back, is_sure=False)]
+        return [*rows[:number], *unsure, *rows[number + 2 :]]
+    whole = replace(back, start=front.start)
     joined, alone = ages_with(whole, run.score, policy, scheme, back.ages), ages_with(front, run.score, policy, scheme)
     if joined.least > joined.most:
         return rows

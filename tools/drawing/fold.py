@@ -9,9 +9,6 @@ from .grid import UNWATCHED, Cells, Columns, level, rectangles
 from .history import History
 from .panels import GAP, LEAST, applied_slots, draw_cells
 
-MOST_NAMED = 12
-"""The most targets whose numbers the strip names."""
-
 
 def shares_of(history: History) -> dict[int, float]:
     """For each target in which share of the samples of its memory it was found accessed: the mean over bytes and ticks."""

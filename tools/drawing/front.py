@@ -104,7 +104,8 @@ def colours_of(table: Table, setting: str) -> Colours:
     series = list(table.by_workload())
     if not setting:
         if len(series) > MARK_COLOURS:
-            raise ColourError(f"the rows have {len(series) - 1} workloads, and at most {MARK_COLOURS - 1} are told apart: choose some by --only workload=NAME")
+            raise ColourError(f"the rows have {len(series) - 1} workloads, and at most {MARK_COLOURS - 1} are told apart: "
+                              "choose some by --only workload=NAME")
         return Colours("", series)
     if len(series) > 1:
         raise ColourError("--colour shows a setting of one workload: choose it by --only workload=NAME")

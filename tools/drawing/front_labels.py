@@ -80,7 +80,8 @@ def box_around(x: float, y: float) -> Box:
 def boxes_of(label: Label, steps: int) -> Iterator[Box]:
     """The places of a label: further and further away from what the front beats, and then on the other sides."""
     width = LETTER * len(label.words)
-    sides = ((label.side, label.up, steps), (-label.side, -label.up, FEW_STEPS), (label.side, -label.up, FEW_STEPS), (-label.side, label.up, FEW_STEPS))
+    sides = ((label.side, label.up, steps), (-label.side, -label.up, FEW_STEPS), (label.side, -label.up, FEW_STEPS), (-label.side, label.up,
+        FEW_STEPS))
     for side, up, count in sides:
         for step in range(count):
             for across, away in DIRECTIONS:

@@ -73,7 +73,8 @@ def style(theme: str) -> str:
         ".right{text-anchor:end}.middle{text-anchor:middle}"
         ".faint{opacity:0.45}.frame{fill:none;stroke-width:1}.edge{fill:none;stroke-width:1.5;stroke-linejoin:round}"
         ".commit{fill:none;stroke-width:0.8;stroke-dasharray:3 2}.cross{fill:none;stroke-width:1.4}"
-        ".waiting{fill:none;stroke-width:1;opacity:0.5}.stairs{fill:none;stroke-width:1.5;stroke-linejoin:round}.over{paint-order:stroke;stroke-width:3}"
+        ".waiting{fill:none;stroke-width:1;opacity:0.5}.stairs{fill:none;stroke-width:1.5;stroke-linejoin:round}"
+        ".over{paint-order:stroke;stroke-width:3}"
         ".crisp{shape-rendering:crispEdges}.mark{fill:none;stroke-width:1.4}"
     )
     if theme == "light":

@@ -40,5 +40,5 @@ def check_targets(option: str, named: Iterable[int], targets: Iterable[int], who
 
 
 def check_labels(labels: Iterable[int], targets: Iterable[int], whose: str) -> None:
-    """The same of labels. Raises UsageError."""
+    """Raises UsageError if a label names a target that is not there."""
     check_targets("--label", labels, targets, whose)

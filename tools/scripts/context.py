@@ -6,7 +6,8 @@ from functools import cached_property
 
 from units import PAGE
 
-from .grammar import AFTER_IN_SETUP, BODY, HEADERS, after_in_commit, first_word, pass_work, words_of
+from .grammar import (AFTER_IN_LIVE, AFTER_IN_SETUP, BODY, FIELDS, HEADERS, LIVE_FIELDS, LIVE_HEADERS, Field, after_in_commit, first_word,
+                      pass_work, words_of)
 from .reading import Setup, Target, Watched
 
 PARTS_OF_COMMIT = ("commit", "attrs", "range", "scheme", "drop", "metric", "cost")
@@ -41,9 +42,28 @@ class Context:
         return len(self.lines) + 1
 
     @cached_property
+    def is_live(self) -> bool:
+        """Whether it is, or is meant to be, a live script."""
+        return (self.lines or [self.line])[0].startswith("damon live")
+
+    @property
+    def headers(self) -> dict[int, str]:
+        return LIVE_HEADERS if self.is_live else HEADERS
+
+    @property
+    def fields(self) -> dict[str, tuple[Field, ...]]:
+        """The fields of each line of this kind of text."""
+        return LIVE_FIELDS if self.is_live else FIELDS
+
+    @property
+    def opening(self) -> str:
+        """The line after the setup."""
+        return "passes" if self.is_live else "begin"
+
+    @cached_property
     def version(self) -> int | None:
         """The version of the script; None where its first line is no header."""
-        return next((version for version, header in HEADERS.items() if self.lines[:1] == [header]), None)
+        return next((version for version, header in self.headers.items() if self.lines[:1] == [header]), None)
 
     @cached_property
     def setup(self) -> Setup:
@@ -71,8 +91,10 @@ class Context:
         """The words that may begin the rejected line."""
         word = first_word(self.lines[-1])
         if not self.in_body:
-            return AFTER_IN_SETUP[word]
-        return after_in_commit(word, self.version or 1) if self.commit_line else BODY
+            return tuple(self.opening if after == "begin" else after for after in AFTER_IN_SETUP[word])
+        if self.commit_line:
+            return after_in_commit(word, self.version or 1)
+        return AFTER_IN_LIVE[next(word for word in map(first_word, reversed(self.lines)) if word in AFTER_IN_LIVE)] if self.is_live else BODY
 
     def one(self, word: str) -> int:
         """The number of `unit` or `cap`."""
@@ -91,6 +113,15 @@ class Context:
         return next(number for number, line in enumerate(self.setup.lines, 1)
                     if first_word(line) == "scheme" and words_of(line)[1].number() == slot)
 
+    def blocks(self, word: str) -> int:
+        """How many workers or controllers a live script has before the rejected line."""
+        return sum(line == word for line in self.lines[len(self.setup.lines) :])
+
+    def touches(self) -> int:
+        """The touches of all workers of a live script up to the rejected line, which counts."""
+        body = [*self.lines[len(self.setup.lines) + 1 :], self.line]
+        return sum(pages_of(line) for line in body if first_word(line) in ("touch", "sweep"))
+
     def work(self) -> Work:
         """The work of the body up to the rejected line, which counts."""
         passes = others = 0
@@ -99,14 +130,19 @@ class Context:
             word = first_word(line)
             if word in ("arm", "finish"):
                 passes += of_pass
-            elif word == "sweep":
-                start, end = (piece.number() for piece in words_of(line)[2:])
-                others += (end - start) // PAGE
+            elif word in ("touch", "sweep"):
+                others += pages_of(line)
             elif word == "step":
                 others += words_of(line)[1].number()
-            elif word in ("touch", "show", "apply"):
+            elif word in ("show", "apply"):
                 others += 1
         return Work(passes, others)
+
+
+def pages_of(line: str) -> int:
+    """The pages that a line `touch` or `sweep` touches."""
+    addresses = [piece.number() for piece in words_of(line)[2:]]
+    return (addresses[1] - addresses[0]) // PAGE if len(addresses) == 2 else 1
 
 
 def context_of(script: bytes, number: int) -> Context:

@@ -9,12 +9,19 @@ from typing import NamedTuple
 
 HEADERS = {1: "damon script 1", 2: "damon script 2"}
 """The first line of each version."""
+LIVE_HEADERS = {1: "damon live 1", 2: "damon live 2"}
+"""The same of live scripts, which have `passes` in place of `begin`, then workers and controllers."""
 HEADER = HEADERS[1]
 MOST_BYTES = 16_777_216
 MOST_WORK = 16_777_216
 MOST_CAP = 4096
 MOST_UNIT = 1 << 20
 MOST_STEPS = 1_000_000
+MOST_PASSES = 1_000_000
+MOST_WORKERS, MOST_CONTROLLERS = 16, 4
+MOST_TOUCHES, MOST_CALLS = 1_048_576, 65_536
+MOST_RESULTS = 4_194_304
+"""The most passes times `cap` of a live script."""
 MOST_FILTERS = 8
 LAST_SLOT = 15
 LAST_CLASS = 15
@@ -91,6 +98,13 @@ FIELDS: dict[str, tuple[Field, ...]] = {
     "end": (),
 }
 """The fields of each line but `scheme`, which has keys."""
+LIVE_FIELDS: dict[str, tuple[Field, ...]] = {
+    **{word: fields for word, fields in FIELDS.items() if word not in ("begin", "step", "arm", "finish")},
+    "passes": (n32("PASSES"),),
+    "worker": (),
+    "controller": (),
+}
+"""The same in a live script."""
 
 ACTIONS = ("stat", "willneed", "cold", "pageout", "hugepage", "nohugepage", "lru_prio", "lru_deprio")
 KEY_FIELDS: dict[str, tuple[Field, ...]] = {
@@ -125,6 +139,12 @@ AFTER_IN_SETUP: dict[str, tuple[str, ...]] = {
     "scheme": ("scheme", "begin"),
 }
 """The words that may begin the line after one with this word, before `begin`."""
+AFTER_IN_LIVE = {
+    "passes": ("worker", "controller", "end"),
+    "worker": ("touch", "sweep", "worker", "controller", "end"),
+    "controller": ("show", "commit", "controller", "end"),
+}
+"""The words that may follow in a live script, by the last line with one of these words."""
 AFTER_IN_COMMIT: dict[str, tuple[str, ...]] = {
     "commit": ("attrs", "range", "scheme", "drop", "metric", "apply"),
     "attrs": ("range", "scheme", "drop", "metric", "apply"),

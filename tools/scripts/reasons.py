@@ -5,23 +5,23 @@ the order of `docs/FORMATS.md`. Where nothing is found, nothing is made up.
 """
 from __future__ import annotations
 
-from typing import Callable, Optional
+from typing import Callable, Optional, Sequence
 
 from units import MOST_PAGES, MOST_TARGETS, PAGE, SPACE_END
 from wording import counted, listed
 
 from . import schemes
 from .context import Context, context_of
-from .grammar import (FIELDS, HEADER, HEADERS, LAST_CLASS, LEAST_REGIONS, MOST_AGGR, MOST_CAP, MOST_STEPS, MOST_UNIT,
-                      MOST_WORK, Piece, first_word, pass_work, words_of)
+from .grammar import (LAST_CLASS, LEAST_REGIONS, MOST_AGGR, MOST_CALLS, MOST_CAP, MOST_CONTROLLERS, MOST_PASSES, MOST_STEPS, MOST_TOUCHES,
+                      MOST_UNIT, MOST_WORK, MOST_WORKERS, Field, Piece, first_word, pass_work, words_of)
 from .judge import Fault
 from .schemes import Finding, like
 from .spelling import misspelling
 
 Reason = tuple[str, Optional[Piece]]
 """A reason in words, and the part of the line that it is about, if there is one."""
-LIMITS = {"unit": (1, MOST_UNIT), "cap": (LEAST_REGIONS, MOST_CAP), "step": (1, MOST_STEPS)}
-WANTED_HEADER = "` or `".join(HEADERS.values())
+LIMITS = {"unit": (1, MOST_UNIT), "cap": (LEAST_REGIONS, MOST_CAP), "step": (1, MOST_STEPS), "passes": (1, MOST_PASSES)}
+BLOCKS = {"worker": MOST_WORKERS, "controller": MOST_CONTROLLERS}
 SHOWN = 40
 """The most characters of a word in a sentence."""
 
@@ -48,7 +48,7 @@ def cut(context: Context) -> Reason:
     if context.rest:
         return f"the text ends before the LF of this line, {short(context.rest)}", None
     if not context.lines:
-        return f"the text is empty, and its first line must be `{WANTED_HEADER}`", None
+        return f"the text is empty, and its first line must be {wanted_header(context)}", None
     if context.commit_line:
         return f"the text ends in the commit that begins at line {context.commit_line}: `apply` is missing", None
     missing = "`end` is missing" if context.in_body else f"{listed(context.allowed)} must follow"
@@ -60,11 +60,15 @@ def after_end(context: Context) -> Reason:
     return f"{what} after `end`: nothing may follow that line", whole(context)
 
 
+def wanted_header(context: Context) -> str:
+    return " or ".join(f"`{header}`" for header in context.headers.values())
+
+
 def header(context: Context) -> Reason:
-    line, wanted = context.line, f"the first line must be exactly `{WANTED_HEADER}`"
-    if line.removesuffix("\r") in HEADERS.values():
-        return f"{wanted}, and it ends with CR LF: lines end with LF alone", Piece("\r", len(HEADER))
-    if line.strip() in HEADERS.values():
+    line, wanted = context.line, f"the first line must be exactly {wanted_header(context)}"
+    if line.removesuffix("\r") in context.headers.values():
+        return f"{wanted}, and it ends with CR LF: lines end with LF alone", Piece("\r", len(line) - 1)
+    if line.strip() in context.headers.values():
         return f"{wanted}, without a space before or after it", whole(context)
     if line.startswith("\xef\xbb\xbf"):
         return f"{wanted}, and it begins with a byte order mark", Piece(line[:3], 0)
@@ -84,8 +88,8 @@ def unexpected_word(context: Context) -> Reason:
         return f"{short(word.text)}: lines end with LF alone, and this one with CR LF", Piece("\r", len(word.text) - 1)
     if word.text[0] in "#;/":
         return f"{short(context.line)}: a script has no comments", word
-    if word.text not in FIELDS and word.text != "scheme":
-        return f"there is no line {short(word.text)}{like(word.text, (*FIELDS, 'scheme'))}: {here}", word
+    if word.text not in context.fields and word.text != "scheme":
+        return f"there is no line {short(word.text)}{like(word.text, (*context.fields, 'scheme'))}: {here}", word
     return f"{word.text!r} is not allowed at this place{why_not(context, word.text)}: {here}", word
 
 
@@ -110,11 +114,11 @@ def bad_form(context: Context) -> Reason | None:
     if line.endswith(" "):
         return "a space at the end of the line", Piece(" ", len(line) - 1)
     word = first_word(line)
-    return schemes.wrong_form(line, context.version or 1) if word == "scheme" else wrong_count(line, word)
+    return schemes.wrong_form(line, context.version or 1) if word == "scheme" else wrong_count(line, word, context.fields[word])
 
 
-def wrong_count(line: str, word: str) -> Reason | None:
-    fields, words = FIELDS[word], words_of(line)
+def wrong_count(line: str, word: str, fields: Sequence[Field]) -> Reason | None:
+    words = words_of(line)
     if len(words) - 1 == len(fields):
         return None
     form = " ".join([word, *(field.name for field in fields)])
@@ -127,7 +131,7 @@ def bad_number(context: Context) -> Reason | None:
     if first_word(line) == "scheme":
         numbers = schemes.numbers_of(line)
     else:
-        numbers = list(zip(words_of(line)[1:], FIELDS[first_word(line)]))
+        numbers = list(zip(words_of(line)[1:], context.fields[first_word(line)]))
     for word, field in numbers:
         if wrong := misspelling(word.text, field):
             return wrong, word
@@ -143,6 +147,9 @@ def out_of_limit(context: Context) -> Reason | None:
         return bad_target(context, words[1], words[2])
     if name == "sweep":
         return bad_sweep(words[2], words[3])
+    if name in BLOCKS:
+        most = BLOCKS[name]
+        return (f"this is {name} {most}, counted from 0, and there are at most {most}", None) if context.blocks(name) == most else None
     low, high = LIMITS[name]
     if low <= words[1].number() <= high:
         return None
@@ -249,6 +256,10 @@ def outside(context: Context) -> Reason | None:
 
 
 def too_much_work(context: Context) -> Reason:
+    if context.is_live:
+        if (touches := context.touches()) > MOST_TOUCHES:
+            return f"with this line there are {touches} touches of all workers, and at most {MOST_TOUCHES} are allowed", None
+        return f"with this line there are more than {MOST_CALLS} calls of all controllers", None
     cap, work = context.one("cap"), context.work()
     return (f"with this line the work is {work.total}, and at most {MOST_WORK} is allowed; {work.passes} of it are "
             f"`arm` and `finish`, each of which counts {pass_work(cap)} with cap {cap}: a smaller cap, fewer passes "

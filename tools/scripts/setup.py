@@ -2,15 +2,17 @@
 from __future__ import annotations
 
 import re
-from typing import Iterator
+from bisect import bisect_right
+from typing import Iterator, Mapping, Sequence
 
 from common import UsageError
 
-from .grammar import first_word, words_of
+from .grammar import HEADERS, first_word, words_of
 from .reading import Commit, OtherLine, Pass, Setup, body_of
 
 BEGIN = b"\nbegin\n"
 ARMED = re.compile(rb"^arm\n", re.MULTILINE)
+COMMIT = re.compile(rb"^commit$", re.MULTILINE)
 METRIC = re.compile(rb"^metric ([0-9]{1,10})$", re.MULTILINE)
 ATTRS = re.compile(rb"^attrs [0-9]+ [0-9]+ ([0-9]{1,10})$", re.MULTILINE)
 
@@ -80,6 +82,31 @@ class Script:
         while last + 1 < len(self.lines) and first_word(self.lines[last + 1]) in ("range", "scheme"):
             last += 1
         self.lines.insert(last + 1, new)
+
+    @property
+    def version(self) -> int:
+        """That of the rules; 1 where the first line is no header, which damon says."""
+        return next((version for version, header in HEADERS.items() if self.lines[:1] == [header]), 1)
+
+    def set_version(self, version: int) -> None:
+        self.lines[0] = HEADERS[version]
+
+    def put_commits(self, commits: Mapping[int, Sequence[Sequence[str]]]) -> list[int]:
+        """Puts commits, each of some lines, before these intervals, behind what is there. Gives the intervals that are not there."""
+        places = self.starts()
+        pieces, since = [], 0
+        for interval in sorted(commits):
+            if interval < len(places):
+                made = "".join("".join(f"{line}\n" for line in ("commit", *lines, "apply")) for lines in commits[interval])
+                pieces += [self.body[since : places[interval]], made.encode("latin-1")]
+                since = places[interval]
+        self.body = b"".join([*pieces, self.body[since:]])
+        return [interval for interval in sorted(commits) if interval >= len(places)]
+
+    def intervals_of_commits(self) -> list[int]:
+        """For each commit of the body the interval before which, or in which, it stands."""
+        places = self.starts()
+        return [bisect_right(places, match.start()) for match in COMMIT.finditer(self.body)]
 
     def metrics(self) -> tuple[int, ...]:
         """The metrics that commits of the body hand in."""
