@@ -21,7 +21,7 @@ class Tutorial(Page):
         self.follow("docs/TUTORIAL.md", lambda block: any(word in block for word in skipped), self.compare_pictures)
 
     def compare_pictures(self, folder: Path) -> None:
-        for picture in ("shop", "exact", "patient", "page-cache", "reclaim", "tune", "heat"):
+        for picture in ("shop", "exact", "patient", "page-cache", "again", "reclaim", "tune", "heat"):
             made = (folder / f"{picture}.svg").read_bytes()
             self.assertEqual(made == (TOP / f"docs/pictures/{picture}.svg").read_bytes(), True, picture)
 
