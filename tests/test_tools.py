@@ -26,7 +26,7 @@ class Tutorial(Page):
         self.follow("docs/TUTORIAL.md", lambda block: any(word in block for word in skipped), self.compare_pictures)
 
     def compare_pictures(self, folder: Path) -> None:
-        for picture in ("shop", "exact", "patient", "page-cache", "reclaim", "tune", "heat"):
+        for picture in ("shop", "exact", "patient", "page-cache", "again", "reclaim", "tune", "heat"):
             check_same((folder / f"{picture}.svg").read_bytes(), TOP / f"docs/pictures/{picture}.svg")
         if self.HAS_D3:
             # Another version of D3 or of zlib would make other bytes.
