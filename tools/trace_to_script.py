@@ -9,16 +9,18 @@ from __future__ import annotations
 import argparse
 import re
 import sys
+from pathlib import Path
+
+sys.path.insert(0, str(Path(__file__).resolve().parent))
 
 import common
 from common import UsageError, opened_text
-from scripts.grammar import MOST_CAP
-from scripts.judge import is_there
+from scripts.grammar import HEADERS, MOST_CAP
 from tracing import notes, reading
 from tracing.accesses import Trace, TraceError
 from tracing.areas import Area, chosen, grouped
 from tracing.commits import PARTS, commits_of
-from tracing.early import check_lines
+from tracing.early import check_lines, has_judge
 from tracing.fit import fitted, too_much_at_all, too_much_to_fit
 from tracing.intervals import Recording
 from tracing.names import MapsError, Mapping, mappings
@@ -47,8 +49,13 @@ Other traces can be turned into lines `SECONDS ADDRESS`, such as `12.000350 0x7f
 
 --at puts a commit before an interval of the script, counted from 0; with --fit these are the intervals
 that it makes. Lines for one interval make one commit where the format allows it: all `range` lines, which
-replace all ranges, and one line each of `attrs`, of `scheme` or `drop`, and of `metric`. A second line of
-one of these kinds makes a second commit right after it.
+replace all ranges, and one line each of `attrs`, of `scheme` or `drop`, of `metric` and of `cost`. A second
+line of one of these kinds makes a second commit right after it.
+
+With --version 2 a quota may have a time, and a commit hands in what the work of a slot has cost:
+
+  tools/trace_to_script.py --version 2 --scheme 'scheme 0 pageout count=0,0 quota=819200,100 time=1000000 prefer=cold' \\
+    --at '50:cost 0 4000000' --fit sort.trace > sort.damon
 
 Damon judges the lines of --scheme and --at before the trace is read. DAMON in the environment names the
 program; without it, that is the one that ./damon builds.
@@ -78,6 +85,7 @@ def parser() -> argparse.ArgumentParser:
     add("--min", type=int, metavar="N", help="the regions that the first division aims at (10)")
     add("--max", type=int, metavar="N", help="the most regions (100)")
     add("--aggr", type=int, default=20, metavar="N", help="sampling intervals of an aggregation (20)")
+    add("--version", type=int, default=1, choices=tuple(HEADERS), help="the version of the rules; 2 has time quotas and costs (1)")
     add("--seed", type=int, default=1, metavar="N", help="the seed of the random words (1)")
     add("--scheme", action="append", default=[], metavar="LINE", help="a line `scheme ..` as it stands in a script; may be repeated")
     add("--at", action="append", default=[], metavar="INTERVAL:LINE",
@@ -125,7 +133,7 @@ def settings_of(options: argparse.Namespace, pages: int) -> Settings:
         unit, least = 1, max(pages, 3)
         most = cap = least
     settings = Settings(options.seed, unit, cap, least, most, options.aggr,
-                        tuple(options.scheme), commits_of(placed_lines(options)))
+                        tuple(options.scheme), commits_of(placed_lines(options)), options.version)
     check_settings(settings)
     return settings
 
@@ -136,7 +144,7 @@ def converted(options: argparse.Namespace) -> Result:
         options.interval = SHORTEST_FITTED if options.fit else USUAL_INTERVAL
     check_options(options)
     early = settings_of(options, 0)
-    if is_there():
+    if has_judge():
         check_lines(early)
     maps = read_maps(options.maps) if options.maps else None
     check = too_much_to_fit(early.cap) if options.fit else too_much_at_all(early.cap, options.interval)

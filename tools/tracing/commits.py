@@ -5,8 +5,8 @@ from itertools import zip_longest
 
 from scripts.grammar import first_word
 
-PARTS = ("attrs", "range", "scheme", "drop", "metric")
-"""The lines that a commit can have, in their order. It has one of `scheme` and `drop`."""
+PARTS = ("attrs", "range", "scheme", "drop", "metric", "cost")
+"""The lines that a commit can have, in their order. It has one of `scheme` and `drop`; `cost` is of version 2."""
 
 Commits = dict[int, list[list[str]]]
 """For intervals, counted from 0, the commits before each of them: the lines of each commit."""
@@ -26,12 +26,12 @@ def grouped(lines: list[str]) -> list[list[str]]:
     The first commit has the first line of each kind and all ranges, the second one the second line of
     each kind, and so on: a commit can have many ranges, but one line of each other kind.
     """
-    attrs, slots, metrics = (kind_of(lines, words) for words in (("attrs",), ("scheme", "drop"), ("metric",)))
+    attrs, slots, metrics, costs = (kind_of(lines, words) for words in (("attrs",), ("scheme", "drop"), ("metric",), ("cost",)))
     ranges = kind_of(lines, ("range",))
     commits = []
-    for number, parts in enumerate(zip_longest(attrs, slots, metrics, [None] if ranges else [])):
-        before, slot, metric, _ = parts
-        all_parts = [before, *(ranges if number == 0 else []), slot, metric]
+    for number, parts in enumerate(zip_longest(attrs, slots, metrics, costs, [None] if ranges else [])):
+        before, slot, metric, cost, _ = parts
+        all_parts = [before, *(ranges if number == 0 else []), slot, metric, cost]
         commits.append([line for line in all_parts if line is not None])
     return commits
 
