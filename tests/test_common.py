@@ -72,7 +72,7 @@ class ClosedPipes(unittest.TestCase):
 class Interrupts(unittest.TestCase):
     def test_an_interrupted_tool_ends_without_a_word(self) -> None:
         # A command in the background of a shell ignores this signal, and so would what it starts.
-        with subprocess.Popen([sys.executable, TOOLS / "trace_to_script.py"], stdin=subprocess.PIPE, stdout=subprocess.PIPE,
+        with subprocess.Popen([sys.executable, TOOLS / "exact_counts.py"], stdin=subprocess.PIPE, stdout=subprocess.PIPE,
                               stderr=subprocess.PIPE, preexec_fn=lambda: signal.signal(signal.SIGINT, signal.SIG_DFL)) as tool:
             assert tool.stdin is not None
             # A pipe does not hold so much, so the tool reads by then.

@@ -159,6 +159,35 @@ class Notes(unittest.TestCase):
         self.assertIn(b"were not checked: there is no program", ran.stderr)
 
 
+class FewRegions(unittest.TestCase):
+    """A note where targets or pages are too many for the regions."""
+
+    PART = "few are left for cuts, and much that is hot may not be found; --max"
+
+    def about(self, sizes: list[int], *words: str) -> str:
+        """The note on a trace with targets of these sizes."""
+        lines = [b" L %08x,4\n" % ((target << 24) + (page << 12)) for target, pages in enumerate(sizes, 1) for page in range(pages)]
+        found = [line for line in notes_of(b"".join(lines), "--interval", "50", *words).splitlines() if self.PART in line]
+        self.assertLess(len(found), 2)
+        return found[0].removeprefix("note: ") if found else ""
+
+    def test_targets(self) -> None:
+        self.assertEqual(self.about([20] * 20), "")
+        self.assertEqual(self.about([20] * 21), f"21 targets and 420 pages share at most 100 regions: {self.PART} 200 or more may find it")
+        self.assertEqual(self.about([20] * 21, "--max", "105"), "")
+        self.assertEqual(self.about([2] * 12 + [9] * 11), f"23 targets, 12 of them with at most 2 pages, and 123 pages share at most "
+                         f"100 regions: {self.PART} 200 or more may find it")
+
+    def test_pages(self) -> None:
+        self.assertEqual(self.about([500, 500]), "")
+        self.assertEqual(self.about([500, 501]), f"2 targets and 1001 pages share at most 100 regions: {self.PART} 200 or more may find it")
+        self.assertEqual(self.about([500, 501], "--cap", "200", "--at", "1:attrs 10 101 20"), "")
+
+    def test_each_page_has_its_region(self) -> None:
+        self.assertEqual(self.about([2] * 23, "--exact"), "")
+        self.assertEqual(self.about([1] * 60, "--max", "60"), "")
+
+
 class Judged(Refusals):
     """Damon judges schemes and commits before the trace is read: here there is none."""
 

@@ -14,7 +14,7 @@ from reports.events import Report, ReportError
 from reports.exact import exact_lines
 from scripts.wording import counted
 from tracing import reading
-from tracing.accesses import Trace, TraceError
+from tracing.accesses import Origin, TraceError
 from tracing.areas import Choice, chosen, grouped
 from tracing.intervals import Recording
 from tracing.notes import counted_accesses, lost_lines
@@ -79,20 +79,20 @@ def ticks_of(options: argparse.Namespace, intervals: int) -> Sequence[int]:
     return ticks
 
 
-def notes(trace: Trace, recording: Recording, choice: Choice, aggregations: int) -> list[str]:
+def notes(origin: Origin, recording: Recording, choice: Choice, aggregations: int) -> list[str]:
     """What a user should know beside the counts."""
     pages = sum(area.pages for area in choice.kept)
     lines = [f"{counted_accesses(recording.accesses)} in {counted(len(recording.intervals), 'interval')} of {recording.length}; "
              f"{counted(aggregations, 'aggregation')}; {counted(len(choice.kept), 'target')} with {counted(pages, 'page')}"]
     if choice.left_out:
         lines.append(f"left out {counted(len(choice.left_out), 'area')}, by the limit of 64 targets and 1048576 pages")
-    return [*lines, *lost_lines(trace)]
+    return [*lines, *lost_lines(origin)]
 
 
 def work() -> None:
     options = options_of()
     try:
-        trace, recording = read_trace(options, no_limit(options))
+        origin, recording = read_trace(options, no_limit(options))
     except TraceError as error:
         raise UsageError(str(error)) from None
     choice = targets_of(recording, options)
@@ -100,7 +100,7 @@ def work() -> None:
     for line in exact_lines(ticks, choice.kept, recording.intervals):
         print(line)
     sys.stdout.flush()
-    for note in notes(trace, recording, choice, len(ticks)):
+    for note in notes(origin, recording, choice, len(ticks)):
         print(f"note: {note}", file=sys.stderr)
 
 

@@ -10,23 +10,27 @@ import argparse
 import re
 import sys
 from pathlib import Path
+from typing import Callable
 
 sys.path.insert(0, str(Path(__file__).resolve().parent))
 
 import common
 from common import UsageError, opened_text
 from scripts.grammar import HEADERS, MOST_CAP
+from scripts.wording import counted
 from tracing import notes, reading
-from tracing.accesses import Trace, TraceError
+from tracing.accesses import TraceError
 from tracing.areas import Area, chosen, grouped
 from tracing.commits import PARTS, commits_of
 from tracing.early import check_lines, has_judge
 from tracing.fit import fitted, too_much_at_all, too_much_to_fit
-from tracing.intervals import Recording
+from tracing.intervals import Recording, coarser
+from tracing.kept import Kept, is_kept, keep, kept_at
 from tracing.names import MapsError, Mapping, mappings
 from tracing.notes import Result
-from tracing.reading import read_trace, touched
+from tracing.reading import no_limit, read_trace, touched
 from tracing.script import LimitError, Settings, check_ranges, check_settings, written
+from tracing.source import Interrupt
 
 TOOL = "trace_to_script.py"
 EXAMPLE = """\
@@ -44,6 +48,15 @@ Where valgrind is too slow, perf samples addresses; with --clock microseconds an
   perf mem record -o mem.data PROGRAM
   perf script -i mem.data -F comm,tid,time,event,addr > mem.trace
   tools/trace_to_script.py --clock microseconds --interval 5000 mem.trace > mem.damon
+
+--keep writes a small file, which takes the place of the trace in this tool, in exact_counts.py and in the
+plans of search.py, so that the trace is read once:
+
+  tools/trace_to_script.py --interval 3000 --grain 1000 --keep sort.cut sort.trace > sort.damon
+  tools/trace_to_script.py --interval 5000 --max 200 sort.cut > sort-200.damon
+
+An interrupt (Ctrl-C) while a trace is read ends the reading: the script is made of what was read. A second
+one ends the tool.
 
 Other traces can be turned into lines `SECONDS ADDRESS`, such as `12.000350 0x7f0000001000`.
 
@@ -77,6 +90,8 @@ def parser() -> argparse.ArgumentParser:
     reading.add_options(add)
     add("--interval", type=int, metavar="N", help="the length of a sampling interval (10000; with --fit 1000)")
     add("--fit", action="store_true", help="make the interval longer than --interval where the limits of a script need it")
+    add("--keep", metavar="FILE", help="also write what other scripts need of the trace to this file, which can take its place")
+    add("--grain", type=int, metavar="N", help="the intervals in that file, of which other intervals are multiples (--interval)")
     add("--gap", type=int, default=16, metavar="PAGES", help="untouched pages that a target may have between touched ones (16)")
     add("--maps", metavar="FILE", help="a copy of /proc/PID/maps of the traced program, which names the targets")
     add("--exact", action="store_true", help=f"one page a region: sets --unit, --cap, --min and --max; at most {MOST_CAP} pages")
@@ -114,6 +129,11 @@ def check_options(options: argparse.Namespace) -> None:
             raise UsageError(f"--scheme needs a line that begins with `scheme `, and not {line!r}")
     if options.interval < 1:
         raise UsageError("--interval must be at least 1")
+    if options.grain is not None:
+        if not options.keep or options.fit:
+            raise UsageError("--grain is for --keep without --fit, which makes its own intervals")
+        if options.grain < 1 or options.interval % options.grain:
+            raise UsageError("--interval must be a multiple of --grain")
     if options.gap < 0:
         raise UsageError("--gap must be at least 0")
     if options.exact and (options.unit or options.cap or options.min or options.max):
@@ -138,18 +158,44 @@ def settings_of(options: argparse.Namespace, pages: int) -> Settings:
     return settings
 
 
+def recorded(options: argparse.Namespace, too_much: Callable[[Recording], bool]) -> Kept:
+    """The trace in the intervals of the script, or with --fit and --keep in shorter ones. Raises UsageError, TraceError, LimitError."""
+    if not options.keep or options.fit:
+        with Interrupt() as interrupt:
+            return read_trace(options, too_much, interrupt)
+    # What is kept does not depend on the limits of this script: a long trace is not lost by them.
+    finer = argparse.Namespace(**{**vars(options), "interval": options.grain or options.interval})
+    with Interrupt() as interrupt:
+        return read_trace(finer, no_limit(finer), interrupt)
+
+
 def converted(options: argparse.Namespace) -> Result:
     """Reads the trace and makes the script. Raises UsageError, TraceError and LimitError."""
     if options.interval is None:
-        options.interval = SHORTEST_FITTED if options.fit else USUAL_INTERVAL
+        options.interval = usual_interval(options)
     check_options(options)
     early = settings_of(options, 0)
     if has_judge():
         check_lines(early)
     maps = read_maps(options.maps) if options.maps else None
-    check = too_much_to_fit(early.cap) if options.fit else too_much_at_all(early.cap, options.interval)
-    trace, recording = read_trace(options, check)
-    choice = chosen(grouped(touched(recording), options.gap, early.unit))
+    too_much = too_much_to_fit(early.cap) if options.fit else too_much_at_all(early.cap, options.interval)
+    kept = recorded(options, too_much)
+    if not options.keep:
+        return result_of(options, kept, maps, [])
+    size = keep(options.keep, kept)
+    note = (f"kept in {options.keep}, which takes the place of the trace: {counted(len(kept.recording.intervals), 'interval')} of "
+            f"{kept.recording.length}; {counted(size, 'byte')}")
+    try:
+        length = kept.recording.length if options.fit else options.interval
+        return result_of(options, Kept(kept.origin, coarser(kept.recording, length, too_much)), maps, [note])
+    except LimitError as error:
+        raise LimitError(f"{error} (the trace is kept in {options.keep})") from None
+
+
+def result_of(options: argparse.Namespace, kept: Kept, maps: list[Mapping] | None, said: list[str]) -> Result:
+    """The script of a trace. Raises UsageError and LimitError."""
+    recording = kept.recording
+    choice = chosen(grouped(touched(recording), options.gap, settings_of(options, 0).unit))
     if not choice.kept:
         raise UsageError("the trace has no access that is taken" if not choice.left_out
                          else "no target fits the limit of 1048576 pages: use a smaller --gap")
@@ -159,7 +205,14 @@ def converted(options: argparse.Namespace) -> Result:
         length, script = fitted(choice.kept, recording, settings)
     else:
         length, script = recording.length, written(choice.kept, iter(recording.intervals), settings)
-    return Result(script, choice, recording, length, options.clock, settings, trace, maps)
+    return Result(script, choice, recording, length, settings, kept.origin, maps, said)
+
+
+def usual_interval(options: argparse.Namespace) -> int:
+    """The interval where --interval is not given: one that a kept trace has."""
+    usual = SHORTEST_FITTED if options.fit else USUAL_INTERVAL
+    length = kept_at(options.trace).recording.length if is_kept(options.trace) else 1
+    return usual if usual % length == 0 else length
 
 
 def read_maps(path: str) -> list[Mapping]:

@@ -40,7 +40,7 @@ def recorded(plan: Plan, name: str, interval: int) -> Recording:
     options = argparse.Namespace(trace=str(plan.folder / name), form=source.form, clock=source.clock, interval=interval,
                                  loads="loads" in source.kinds, stores="stores" in source.kinds, fetches="fetches" in source.kinds)
     try:
-        return read_trace(options, no_limit(options))[1]
+        return read_trace(options, no_limit(options)).recording
     except TraceError as error:
         raise UsageError(f"{options.trace}: {error}") from None
 
