@@ -80,9 +80,18 @@ class Numbers:
         return runs_of(sorted(found))
 
 
-def script_workload(plan: Plan, name: str) -> Workload:
-    """The workload of a script. Raises UsageError."""
-    path = str(plan.folder / name)
+class PassedScript(NamedTuple):
+    """A script whose passes are `arm`, touches and `finish`."""
+
+    script: Script
+    defaults: dict[str, Value]
+    ranges: list[Range]
+    intervals: list[Runs]
+    """The numbers of the watched pages that each pass touches."""
+
+
+def passed_script(path: str) -> PassedScript:
+    """The script in a file. Raises UsageError."""
     with opened(path) as stream:
         text = stream.read()
     try:
@@ -93,11 +102,16 @@ def script_workload(plan: Plan, name: str) -> Workload:
         defaults: dict[str, Value] = {"interval": "", "min": attrs[0], "max": attrs[1], "aggr": attrs[2]}
         defaults |= {word: int(script.words(word)[0]) for word in ("unit", "cap", SEED)}
         ranges = ranges_of(script)
-        intervals = touched_of(text, ranges)
+        return PassedScript(script, defaults, ranges, touched_of(text, ranges))
     except (IndexError, ValueError):
         raise UsageError(f"{path}: its setup is not that of a script of damon: tools/explain.py says why") from None
     except UsageError as error:
         raise UsageError(f"{path}: {error}") from None
+
+
+def script_workload(plan: Plan, name: str) -> Workload:
+    """The workload of a script. Raises UsageError."""
+    script, defaults, ranges, intervals = passed_script(str(plan.folder / name))
     kept = tuple(line for line in script.lines if first_word(line) in ("target", "range"))
     return Workload(name, script.lines[0], kept, defaults, tuple(script.schemes()), script.body,
                     [match.start() for match in ARMED.finditer(script.body)], Truths(ranges, intervals, plan.hot))
@@ -118,7 +132,7 @@ def touched_of(text: bytes, ranges: list[Range]) -> list[Runs]:
     for number, line in enumerate(lines[lines.index("begin") + 1 :], lines.index("begin") + 2):
         word = first_word(line)
         if (armed is None) == (word in ("touch", "sweep", FINISH)) or word in ("step", "range"):
-            raise UsageError(f"line {number}: {line[:40]!r}: a search takes scripts whose passes are `arm`, touches and `finish`, "
+            raise UsageError(f"line {number}: {line[:40]!r}: exact counts need scripts whose passes are `arm`, touches and `finish`, "
                              "and whose ranges stay")
         if word == ARM:
             armed = set()
