@@ -58,6 +58,11 @@ plans of search.py, so that the trace is read once:
 An interrupt (Ctrl-C) while a trace is read ends the reading: the script is made of what was read. A second
 one ends the tool.
 
+DynamoRIO's view of a memtrace and what Pin's pinatrace prints are read too:
+
+  drrun -t drmemtrace -tool view -indir drmemtrace.PROGRAM.1.1.dir 2> view.trace
+  tools/trace_to_script.py --fit view.trace > view.damon
+
 Other traces can be turned into lines `SECONDS ADDRESS`, such as `12.000350 0x7f0000001000`.
 
 --at puts a commit before an interval of the script, counted from 0; with --fit these are the intervals

@@ -10,7 +10,8 @@ from common import STANDARD_INPUT, UsageError, opened
 
 from .accesses import Origin, Trace
 from .clocks import CLOCKS
-from .forms import FORMS, LACKEY, found_form
+from .forms import FORMS, LACKEY, WITH_KINDS, found_form
+from .instrumented import PINATRACE, InstrumentedTrace
 from .intervals import Recording, coarser, record
 from .kept import Kept, is_kept, kept_at
 from .lackey import KINDS, LackeyTrace
@@ -27,10 +28,10 @@ def add_options(add: Callable[..., object]) -> None:
     """Adds the options of a trace to a parser, by its `add_argument`."""
     add("trace", nargs="?", default=STANDARD_INPUT,
         help="the trace, or a file that --keep of trace_to_script.py wrote; `-`, the default, is standard input; .gz and .xz are unpacked")
-    add("--form", choices=FORMS, help="lackey: of valgrind's lackey; perf: of `perf script`; plain: `SECONDS ADDRESS` a line "
-                                      "(the form of the first line)")
+    add("--form", choices=FORMS, help="lackey: of valgrind's lackey; memtrace: DynamoRIO's view of one; pinatrace: of "
+                                      "Pin's example; perf: of `perf script`; plain: `SECONDS ADDRESS` a line (the form of the first line)")
     for kind in KINDS:
-        add(f"--{kind}", action="store_true", help=f"take {kind}, of a trace of lackey")
+        add(f"--{kind}", action="store_true", help=f"take {kind}, of a trace that says which they are")
     add("--clock", choices=tuple(CLOCKS),
         help="what the length of an interval counts: accesses that are taken, instructions of lackey, or the time of samples "
              "(accesses)")
@@ -55,7 +56,7 @@ def read_trace(options: argparse.Namespace, too_much: Callable[[Recording], bool
     if options.clock == INSTRUCTIONS and recording.intervals and not recording.duration:
         raise UsageError("the trace has no instructions (lines `I`) to count: use --clock accesses")
     hash = source.hash.hexdigest() if options.trace == STANDARD_INPUT else hash_of(options.trace)
-    kinds = kinds_of(options) if trace.form == LACKEY else []
+    kinds = kinds_of(options) if trace.form in WITH_KINDS else []
     return Kept(Origin(trace.form, options.clock, kinds, hash, trace.beyond, trace.without_address, trace.cut, source.ended), recording)
 
 
@@ -87,10 +88,14 @@ def hash_of(path: str) -> str:
 def trace_of(stream: Iterable[bytes], options: argparse.Namespace, progress: Callable[[int], None]) -> Trace:
     """A trace of the form that is chosen or found. Raises UsageError and TraceError."""
     form, lines = (options.form, stream) if options.form else found_form(stream)
-    if form == LACKEY:
+    if form == PINATRACE and (options.clock == INSTRUCTIONS or options.fetches):
+        raise UsageError("a trace of the form pinatrace has no instructions: use --clock accesses, and leave --fetches out")
+    if form in WITH_KINDS:
         if options.clock == MICROSECONDS:
-            raise UsageError("a trace of lackey has no times: use --clock accesses or --clock instructions")
+            raise UsageError(f"a trace of {form} has no times: use --clock accesses{'' if form == PINATRACE else ' or --clock instructions'}")
         letters = b"".join(KINDS[kind] for kind in kinds_of(options))
+        if form != LACKEY:
+            return InstrumentedTrace(lines, form, letters, instructions=options.clock == INSTRUCTIONS, progress=progress)
         return LackeyTrace(lines, letters, instructions=options.clock == INSTRUCTIONS, progress=progress)
     if options.clock == INSTRUCTIONS:
         raise UsageError(f"a trace of the form {form} has no instructions to count: use --clock accesses or --clock microseconds")
