@@ -10,7 +10,7 @@ from itertools import accumulate
 from typing import Iterator, NamedTuple
 
 from common import UsageError, opened
-from scripts.grammar import first_word, words_of
+from scripts.grammar import HEADERS, first_word, words_of
 from scripts.setup import Script
 from tracing.accesses import PAGE_BITS
 from tracing.commits import Commits
@@ -22,6 +22,9 @@ from .truth import Range, Truths
 
 ARM, FINISH = "arm", "finish"
 ARMED = re.compile(rb"^arm\n", re.MULTILINE)
+SWEEP = re.compile(rb"^sweep [0-9]+ 0x([0-9a-f]+) 0x([0-9a-f]+)$", re.MULTILINE)
+WORKS = re.compile(rb"^(?:touch|show|apply)\b", re.MULTILINE)
+"""Lines with a work of 1."""
 
 
 class Workload(NamedTuple):
@@ -39,6 +42,10 @@ class Workload(NamedTuple):
     passes: list[int]
     """Where the line `arm` of each interval begins in it."""
     truths: Truths
+    pages: int
+    """All that are watched."""
+    work: int
+    """That of all lines of the body but `arm` and `finish`, as a script counts it."""
 
     def body(self, commits: Commits) -> bytes:
         """The body, with these commits before their intervals, which rise."""
@@ -90,8 +97,8 @@ class PassedScript(NamedTuple):
     """The numbers of the watched pages that each pass touches."""
 
 
-def passed_script(path: str) -> PassedScript:
-    """The script in a file. Raises UsageError."""
+def passed_script(path: str, target: int | None = None) -> PassedScript:
+    """The script in a file, of which only this target is looked at, if one is given. Raises UsageError."""
     with opened(path) as stream:
         text = stream.read()
     try:
@@ -101,7 +108,7 @@ def passed_script(path: str) -> PassedScript:
             raise UsageError("the line `attrs` must have three numbers")
         defaults: dict[str, Value] = {"interval": "", "min": attrs[0], "max": attrs[1], "aggr": attrs[2]}
         defaults |= {word: int(script.words(word)[0]) for word in ("unit", "cap", SEED)}
-        ranges = ranges_of(script)
+        ranges = of_target(ranges_of(script), target)
         return PassedScript(script, defaults, ranges, touched_of(text, ranges))
     except (IndexError, ValueError):
         raise UsageError(f"{path}: its setup is not that of a script of damon: tools/explain.py says why") from None
@@ -111,10 +118,25 @@ def passed_script(path: str) -> PassedScript:
 
 def script_workload(plan: Plan, name: str) -> Workload:
     """The workload of a script. Raises UsageError."""
-    script, defaults, ranges, intervals = passed_script(str(plan.folder / name))
+    script, defaults, ranges, intervals = passed_script(str(plan.folder / name), plan.target)
     kept = tuple(line for line in script.lines if first_word(line) in ("target", "range"))
-    return Workload(name, script.lines[0], kept, defaults, tuple(script.schemes()), script.body,
-                    [match.start() for match in ARMED.finditer(script.body)], Truths(ranges, intervals, plan.hot))
+    return Workload(name, HEADERS[plan.version] if plan.version else script.lines[0], kept, defaults, tuple(script.schemes()), script.body,
+                    [match.start() for match in ARMED.finditer(script.body)], Truths(ranges, intervals, plan.hot),
+                    sum(one.pages for one in ranges_of(script)), work_of(script.body))
+
+
+def work_of(body: bytes) -> int:
+    """The work of the lines of a body but `arm` and `finish`."""
+    swept = sum((int(after, 16) - int(first, 16)) >> PAGE_BITS for first, after in SWEEP.findall(body))
+    return swept + len(WORKS.findall(body))
+
+
+def of_target(ranges: list[Range], target: int | None) -> list[Range]:
+    """The ranges of a target, or all. Raises UsageError if it has none."""
+    found = [one for one in ranges if target in (None, one.target)]
+    if not found:
+        raise UsageError(f"there is no target {target}, of which the plan wants the measures")
+    return found
 
 
 def ranges_of(script: Script) -> list[Range]:
