@@ -103,9 +103,8 @@ class Kept(Folders):
 
     def test_it_is_small_and_the_note_says_so(self) -> None:
         notes = notes_of(random_trace(1, 3000), "--interval", "100", "--grain", "50", "--keep", self.kept)
-        size = Path(self.kept).stat().st_size
-        self.assertLess(size, 20_000)
-        self.assertRegex(notes, rf"note: kept in {self.kept}, which takes the place of the trace: \d+ intervals of 50; {size} bytes\n")
+        self.assertLess(Path(self.kept).stat().st_size, 20_000)
+        self.assertRegex(notes, r"note: kept \d+ intervals of 50, which can take the place of the trace\n")
         self.assertEqual(os.listdir(self.folder), ["a.cut"])
 
 

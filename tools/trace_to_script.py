@@ -187,9 +187,8 @@ def converted(options: argparse.Namespace) -> Result:
     kept = recorded(options, too_much)
     if not options.keep:
         return result_of(options, kept, maps, [])
-    size = keep(options.keep, kept)
-    note = (f"kept in {options.keep}, which takes the place of the trace: {counted(len(kept.recording.intervals), 'interval')} of "
-            f"{kept.recording.length}; {counted(size, 'byte')}")
+    keep(options.keep, kept)
+    note = f"kept {counted(len(kept.recording.intervals), 'interval')} of {kept.recording.length}, which can take the place of the trace"
     try:
         length = kept.recording.length if options.fit else options.interval
         return result_of(options, Kept(kept.origin, coarser(kept.recording, length, too_much)), maps, [note])

@@ -44,8 +44,8 @@ def is_kept(path: str | Path) -> bool:
         return False
 
 
-def keep(path: str | Path, kept: Kept) -> int:
-    """Writes a kept trace and gives its bytes. The file is there as a whole or not at all."""
+def keep(path: str | Path, kept: Kept) -> None:
+    """Writes a kept trace. The file is there as a whole or not at all."""
     recording = kept.recording
     lists = [array(NUMBER, [len(runs) // 2 for runs in recording.intervals])]
     lists.append(array(NUMBER, [page for runs in recording.intervals for page in runs]))
@@ -53,15 +53,13 @@ def keep(path: str | Path, kept: Kept) -> int:
     said = {**kept.origin._asdict(), "length": recording.length, "accesses": recording.accesses,
             "duration": recording.duration, "lists": list(map(len, lists))}
     rest = json.dumps(said).encode() + b"\n" + zlib.compress(b"".join(map(bytes_of, lists)))
-    whole = HEADER + hashlib.sha256(rest).hexdigest().encode() + b"\n" + rest
     target = Path(path)
     unready = target.with_name(f".{target.name}.{os.getpid()}")
     try:
-        unready.write_bytes(whole)
+        unready.write_bytes(HEADER + hashlib.sha256(rest).hexdigest().encode() + b"\n" + rest)
         os.replace(unready, target)
     finally:
         unready.unlink(missing_ok=True)
-    return len(whole)
 
 
 def kept_at(path: str | Path) -> Kept:
