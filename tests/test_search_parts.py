@@ -10,10 +10,12 @@ from array import array
 from typing import Sequence
 from unittest import mock
 
-import tool_runs  # noqa: F401  It puts the tools on the path.
+from tool_runs import TOP
 
 from searching import truth
 from searching.handing import AHEAD, CHUNKS, MOST_OF_CHUNK, Pool, in_order
+from searching.plan import plan_of
+from searching.points import Points
 from searching.remaining import Remaining, in_words
 from searching.table import Row, line_of
 from searching.truth import ACCESSED, HOT, UNTOUCHED, Range, Truths
@@ -113,6 +115,18 @@ class Chunks(unittest.TestCase):
         self.assertEqual(len(chunks), AHEAD * 3 + 1)
         next(rows)
         self.assertEqual(len(chunks), AHEAD * 3 + 2)
+
+
+class Numbers(unittest.TestCase):
+    def test_points_that_differ_in_their_workloads(self) -> None:
+        plan = plan_of(str(TOP / "examples/search.toml"))._replace(workloads=("a", "b", "c"))
+        for draws in (None, 40):
+            points = Points(plan, draws, 1)
+            found: dict[int, list[object]] = {}
+            for number in range(len(points)):
+                found.setdefault(points.rest(number), []).append(points.point(number).chosen)
+            self.assertEqual([some.count(some[0]) for some in found.values()], [len(some) for some in found.values()])
+            self.assertEqual({len(some) for some in found.values()} == {3}, draws is None)
 
 
 class Lines(unittest.TestCase):

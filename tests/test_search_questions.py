@@ -235,11 +235,12 @@ class Errors(Refusals, Questions):
         for text in ("out", "out > 5", "out >= x", "out >= 5 pages", "out>=5"):
             self.refuses(f'{start}conditions = ["{text}"]', "a condition needs MEASURE >= NUMBER")
         self.refuses(f'{start}conditions = ["xy >= 5"]', "xy is none", "hot_found")
-        self.refuses(f'traces = ["a.trace"]\nconditions = ["out >= 5"]', "out is none")
+        self.refuses('traces = ["a.trace"]\nconditions = ["out >= 5"]', "out is none")
         for text in ("out", "best out", "least"):
             self.refuses(f'{start}aim = "{text}"', "an aim needs `least NAME` or `most NAME`")
         self.refuses(f'{start}aim = "least xy"', "xy is none")
-        self.refuses(f'{start}schemes = ["scheme 0 {{what}}"]\naim = "least what"\n[values]\nwhat = ["stat", "cold"]', "needs numbers, and what has texts")
+        self.refuses(f'{start}schemes = ["scheme 0 {{what}}"]\naim = "least what"\n[values]\nwhat = ["stat", "cold"]',
+                     "needs numbers, and what has texts")
         self.refuses(f'{start}commits = ["5:attrs 5 50 7"]\nconditions = ["refaults <= 5 an aggregation"]', "commits that change attrs")
         self.refuses('command = "tune"\ntraces = ["a.trace"]', "goals", "need each other")
         self.refuses(f'{start}goals = ["0:cold:5:1:2"]', "goals", "need each other")

@@ -171,14 +171,16 @@ class Errors(Refusals):
                 self.refused(tool, parts, trace, *words)
 
     def test_malformed_lines(self) -> None:
-        kinds = {"lackey": "not a line of lackey", "memtrace": "not a line of a memtrace view", "pinatrace": "not a line of pinatrace", "perf": "not a line of perf script", "plain": "not SECONDS ADDRESS"}
+        kinds = {"lackey": "not a line of lackey", "memtrace": "not a line of a memtrace view", "pinatrace": "not a line of pinatrace",
+                 "perf": "not a line of perf script", "plain": "not SECONDS ADDRESS"}
         for form, kind in kinds.items():
             for bad in (b"hello\n", b"\n", b"\xff\n", *(line for other, line in LINES.items() if other != form)):
                 with self.subTest(form=form, bad=bad):
                     self.taken_from([f"line 4: {kind}"], LINES[form] * 3 + bad + LINES[form])
 
     def test_no_form(self) -> None:
-        self.taken_from(["line 2: not a line of lackey, of a memtrace view, of pinatrace, of perf script or of the form SECONDS ADDRESS: 'hello'"], b"# x\nhello\n")
+        self.taken_from(["line 2: not a line of lackey, of a memtrace view, of pinatrace, of perf script or of the form SECONDS ADDRESS: "
+                         "'hello'"], b"# x\nhello\n")
         self.taken_from(["line 1: a name follows the address", "perf script -F comm,tid,time,event,addr"],
                         b"sh 7 2743.539579:          1 page-faults:  ffffffff81752b6a elf_load+0x28a ([kernel.kallsyms])\n")
         self.taken_from(["line 1: not a line of lackey: '12.00035"], LINES["plain"], "--form", "lackey")

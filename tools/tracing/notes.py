@@ -52,7 +52,8 @@ class Result:
 
 def of(result: Result) -> list[str]:
     """The notes, as lines."""
-    return [summary(result), *result.said, *names(result), *lost(result), *too_short(result), *too_few_regions(result), *on_commits(result), *on_schemes(result)]
+    return [summary(result), *result.said, *names(result), *lost(result), *too_short(result), *too_few_regions(result),
+            *on_commits(result), *on_schemes(result)]
 
 
 def summary(result: Result) -> str:
