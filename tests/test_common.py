@@ -31,6 +31,12 @@ class Tools(unittest.TestCase):
             with self.subTest(tool=name):
                 self.assertIn(b"example:\n", run(name, "--help").stdout)
 
+    def test_isolated_mode(self) -> None:
+        """Python does not put the folder of a tool on the path then."""
+        for name in ("exact_counts.py", "search.py", "trace_to_script.py"):
+            ran = subprocess.run([sys.executable, "-I", TOOLS / name, "--help"], capture_output=True, timeout=SECONDS)
+            self.assertEqual((ran.returncode, ran.stderr), (0, b""), name)
+
     def test_a_missing_file_is_named_once(self) -> None:
         for name in ("explain.py", "settings.py", "trace_to_script.py"):
             with self.subTest(tool=name):

@@ -135,6 +135,8 @@ class Errors(Refusals, Folders):
         for grain in ("0", "7", "40"):
             self.refused(TOOL, ["--interval must be a multiple of --grain"], trace, "--interval", "20", "--grain", grain, "--keep", self.kept)
         self.refused(TOOL, ["No such file or directory"], trace, "--keep", "no-such-folder/a.cut")
+        (self.folder / "a.trace").write_bytes(trace)
+        self.refused(TOOL, ["--keep needs a file of its own"], b"", "--keep", self.kept.replace("a.cut", "./a.trace"), str(self.folder / "a.trace"))
 
 
 class CutArchives(Folders):

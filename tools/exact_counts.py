@@ -7,7 +7,10 @@ from __future__ import annotations
 
 import argparse
 import sys
+from pathlib import Path
 from typing import NamedTuple, Sequence
+
+sys.path.insert(0, str(Path(__file__).resolve().parent))
 
 from common import UsageError, opened, opened_text, parser, run
 from reports.events import Report, ReportError

@@ -139,6 +139,8 @@ def check_options(options: argparse.Namespace) -> None:
             raise UsageError("--grain is for --keep without --fit, which makes its own intervals")
         if options.grain < 1 or options.interval % options.grain:
             raise UsageError("--interval must be a multiple of --grain")
+    if options.keep and Path(options.keep).resolve() == Path(options.trace).resolve():
+        raise UsageError("--keep needs a file of its own, and not the trace")
     if options.gap < 0:
         raise UsageError("--gap must be at least 0")
     if options.exact and (options.unit or options.cap or options.min or options.max):
