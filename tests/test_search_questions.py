@@ -86,6 +86,11 @@ class Settings(Questions):
                 for key, one in zip(wanted, given):
                     assert one
                     self.assertEqual((one[3], one[4]), tuple(f"{value:.4g}" for value in known[key]))
+                # For each other age its own least quota follows.
+                others = {age: min(quota for _, own, quota in meeting if own == age) for _, age, _ in meeting}
+                given_others = [re.findall(r": then age (\d+), quota (\d+),", line) for line in answer]
+                self.assertEqual({age: int(quota) for some in given_others for age, quota in some},
+                                 {age: quota for age, quota in others.items() if quota != least})
                 self.assertIn(f"72 points with 144 runs, {len(rows)} of them needed, 0 of them there before", note)
 
     def test_few_points_are_run_and_it_goes_on(self) -> None:
@@ -106,8 +111,8 @@ class Settings(Questions):
         meeting = [key for key, values in known.items() if values[0] >= 5 and values[1] <= 12]
         answer = self.search(plan, "some")[0]
         most = max(quota for _, _, quota in meeting)
-        for line in answer[:-1]:
-            self.assertIn(f"quota {most},", line)
+        best = [line for line in answer if ": then " not in line]
+        self.assertEqual([f"quota {most}," in line for line in best], [True] * sum(quota == most for _, _, quota in meeting))
 
     def test_one_setting_for_all_workloads(self) -> None:
         plan = PLAN.replace("OUT", "15").replace("EACH", "40").replace('["a.trace"]', '["a.trace", "b.trace"]')

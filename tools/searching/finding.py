@@ -21,14 +21,15 @@ def answers(asked: Asked) -> Iterator[str]:
     """The lines of the answer. It runs what it needs."""
     workloads = asked.points.axes[0][1]
     axis = asked.plan.question.axis
-    found = by_setting(asked, axis) if axis else by_measures(asked)
+    lines = lines_of(asked, axis) if axis else []
+    found = by_setting(asked, lines) if axis else by_measures(asked)
     for name in workloads:
         own = [[number] for number in found if asked.points.point(number).workload == name]
         yield from said(asked, str(name), own)
         if not own:
             yield from closest(asked, str(name))
     if len(workloads) > 1:
-        yield from said(asked, ALL, common(asked, found))
+        yield from said(asked, ALL, common(asked, [*found, *at_the_worst(asked, lines, found)]))
 
 
 def by_measures(asked: Asked) -> list[int]:
@@ -38,9 +39,8 @@ def by_measures(asked: Asked) -> list[int]:
     return [number for number in numbers if asked.meets(number)]
 
 
-def by_setting(asked: Asked, name: str) -> list[int]:
+def by_setting(asked: Asked, lines: Sequence[Sequence[int]]) -> list[int]:
     """For each combination of the other settings the point with the least or the greatest value that meets the conditions."""
-    lines = lines_of(asked, name)
     steps = dict(enumerate(bisected(asked, line) for line in lines))
     found: list[int] = []
     wanted = {number: next(one) for number, one in steps.items()}
@@ -52,7 +52,7 @@ def by_setting(asked: Asked, name: str) -> list[int]:
             except StopIteration as end:
                 del wanted[number]
                 found += [] if end.value is None else [end.value]
-    return [*found, *at_the_worst(asked, lines, found)]
+    return found
 
 
 def lines_of(asked: Asked, name: str) -> list[list[int]]:
@@ -120,8 +120,13 @@ def said(asked: Asked, name: str, found: Sequence[Sequence[int]]) -> Iterator[st
     if not best:
         yield f"{name}: no point meets all conditions"
     for group in best:
-        yield f"{name}: {', '.join([*settings(asked, group[0]), *measures(asked, group)])}"
-    if len(found) > len(best):
+        yield f"{name}: {in_words(asked, group)}"
+    if asked.plan.question.axis:
+        # Each combination of the other settings has one.
+        aim = asked.plan.question.aims[0]
+        for group in sorted((group for group in found if group not in best), key=lambda group: asked.cost(aim, group[0])):
+            yield f"{name}: then {in_words(asked, group)}"
+    elif len(found) > len(best):
         yield f"{name}: of {counted(len(found), 'point')} that met all conditions"
 
 
@@ -146,6 +151,10 @@ def front(asked: Asked, found: Sequence[Sequence[int]]) -> list[Sequence[int]]:
 
     all_costs = [costs(group) for group in found]
     return [group for group, own in zip(found, all_costs) if not any(beats(other, own) for other in all_costs)]
+
+
+def in_words(asked: Asked, group: Sequence[int]) -> str:
+    return ", ".join([*settings(asked, group[0]), *measures(asked, group)])
 
 
 def settings(asked: Asked, number: int) -> list[str]:
