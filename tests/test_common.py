@@ -30,6 +30,12 @@ class Tools(unittest.TestCase):
             with self.subTest(tool=name):
                 self.assertIn(b"example:\n", run(name, "--help").stdout)
 
+    def test_isolated_mode(self) -> None:
+        """Python does not put the folder of a tool on the path then."""
+        for name in ("exact_counts.py", "search.py", "trace_to_script.py"):
+            ran = subprocess.run([sys.executable, "-I", TOOLS / name, "--help"], capture_output=True, timeout=SECONDS)
+            self.assertEqual((ran.returncode, ran.stderr), (0, b""), name)
+
     def test_a_missing_file_is_named_once(self) -> None:
         for name in ("explain.py", "settings.py", "trace_to_script.py"):
             with self.subTest(tool=name):
@@ -74,7 +80,7 @@ class ClosedPipes(unittest.TestCase):
 class Interrupts(unittest.TestCase):
     def test_an_interrupted_tool_ends_without_a_word(self) -> None:
         # A command in the background of a shell ignores this signal, and so would what it starts.
-        with subprocess.Popen([sys.executable, TOOLS / "trace_to_script.py"], stdin=subprocess.PIPE, stdout=subprocess.PIPE,
+        with subprocess.Popen([sys.executable, TOOLS / "exact_counts.py"], stdin=subprocess.PIPE, stdout=subprocess.PIPE,
                               stderr=subprocess.PIPE, preexec_fn=lambda: signal.signal(signal.SIGINT, signal.SIG_DFL)) as tool:
             assert tool.stdin is not None
             # A pipe does not hold so much, so the tool reads by then.

@@ -22,7 +22,7 @@ class Tutorial(Page):
     HAS_D3 = BUNDLE.is_file()
 
     def test_commands_and_outputs(self) -> None:
-        skipped = ["valgrind", "perf script", "out/shop.trace", "gnuplot", "./damond run", *([] if self.HAS_D3 else ["tools/page.py"])]
+        skipped = ["valgrind", "perf script", "drrun ", "out/shop.trace", "gnuplot", "./damond run", *([] if self.HAS_D3 else ["tools/page.py"])]
         self.follow("docs/TUTORIAL.md", lambda block: any(word in block for word in skipped), self.compare_pictures)
 
     def compare_pictures(self, folder: Path) -> None:
@@ -45,11 +45,15 @@ class Search(Page):
     """The same of docs/SEARCH.md, but for the cluster, of which tests/test_search_cluster.py has more."""
 
     def test_commands_and_outputs(self) -> None:
-        self.follow("docs/SEARCH.md", lambda block: "dask " in block or block == self.plan(), self.compare_pictures)
+        plans = [self.plan(name) for name in ("search", "quota")]
+        text = (TOP / "docs/SEARCH.md").read_text()
+        for plan in plans:
+            self.assertIn(f"```\n{plan}```\n", text)
+        self.follow("docs/SEARCH.md", lambda block: "dask " in block or block in plans or block.startswith("command ="), self.compare_pictures)
 
-    def plan(self) -> str:
-        """The plan as the page shows it, without its comments."""
-        lines = (TOP / "examples/search.toml").read_text().splitlines(keepends=True)
+    def plan(self, name: str) -> str:
+        """A plan as the page shows it, without its comments."""
+        lines = (TOP / f"examples/{name}.toml").read_text().splitlines(keepends=True)
         return "".join(line for line in lines if not line.startswith("#"))
 
     def compare_pictures(self, folder: Path) -> None:
