@@ -13,7 +13,7 @@ use Rattle.script_run.proofs.Alone.{own_events-alone, text_from-alone}
 use Rattle.script_run.specs.Callbacks.{no_callbacks}
 use Rattle.script_run.specs.Course.{going_with}
 use Rattle.script_run.specs.Going.{onward}
-use Rattle.script_run.proofs.Continuing.{onward-append, commands_are_parts}
+use Rattle.script_run.proofs.Continuing.{commands_are_parts, onward-append, parts_events-append}
 use Rattle.script_run.specs.Part.{Part}
 use Rattle.script_run.specs.Parts.{part_of, parts_events, parts_of}
 use Rattle.script_run.specs.Player.{AnyState, GoesOnWith, PlayerView, WritesLast, left_events}
