@@ -36,27 +36,27 @@ class Tutorial(Page):
 
 
 class Choosing(Page):
-    """The same of docs/CHOOSING.md."""
+    """The same of docs/CHOOSING.md, with its two fronts."""
 
     def test_commands_and_outputs(self) -> None:
-        self.follow("docs/CHOOSING.md", lambda block: False)
+        self.follow("docs/CHOOSING.md", lambda block: False, self.compare_pictures)
+
+    def compare_pictures(self, folder: Path) -> None:
+        for picture in ("hot", "out"):
+            made = (folder / f"{picture}.svg").read_bytes()
+            self.assertEqual(made == (TOP / f"docs/pictures/search-{picture}.svg").read_bytes(), True, picture)
 
 
 class Search(Page):
     """The same of docs/SEARCH.md, but for the cluster, of which tests/test_search_cluster.py has more."""
 
     def test_commands_and_outputs(self) -> None:
-        self.follow("docs/SEARCH.md", lambda block: "dask " in block or block == self.plan(), self.compare_pictures)
+        self.follow("docs/SEARCH.md", lambda block: "dask " in block or block == self.plan())
 
     def plan(self) -> str:
         """The plan as the page shows it, without its comments."""
         lines = (TOP / "examples/search.toml").read_text().splitlines(keepends=True)
         return "".join(line for line in lines if not line.startswith("#"))
-
-    def compare_pictures(self, folder: Path) -> None:
-        for picture in ("hot", "out"):
-            made = (folder / f"{picture}.svg").read_bytes()
-            self.assertEqual(made == (TOP / f"docs/pictures/search-{picture}.svg").read_bytes(), True, picture)
 
 
 if __name__ == "__main__":
