@@ -90,13 +90,13 @@ class Driver:
         chain = chains.ActionChains(self.browser).move_to_element_with_offset(*self.place(selector, x, y))
         chain.click_and_hold().move_by_offset(right, down).release().perform()
 
-    def click(self, selector: str, x: float | None = None, y: float = 0, times: int = 1) -> None:
+    def click(self, selector: str, x: float | None = None, y: float = 0) -> None:
         chain = chains.ActionChains(self.browser)
         if x is None:
             chain = chain.move_to_element(self.browser.find_element("css selector", selector))
         else:
             chain = chain.move_to_element_with_offset(*self.place(selector, x, y))
-        (chain.double_click() if times == 2 else chain.click()).perform()
+        chain.click().perform()
 
     def keys(self, *names: str) -> None:
         """Presses keys one after another: the name of a key, or a letter."""

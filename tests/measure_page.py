@@ -5,10 +5,10 @@
 
 makes reports of about 1,000, 100,000 and 1,000,000 rows by `damon replay`, a page of each, and opens it TURNS
 times in headless Chromium. It writes a line of a table for each report: its rows and aggregations; the sizes
-of the report and of the page; the time to make the page, and the greatest resident set; the time from
-the beginning of the navigation until the page is drawn; and of 40 turns of the wheel over its largest
-target, half of them closer and half back, how long the script takes for a frame, at the median and at most.
-Of times the least of the turns is taken.
+of the report and of the page; the processor time to make the page, and the greatest resident set; the
+time from the beginning of the navigation until the page is drawn; and of 40 turns of the wheel over its
+largest target, half of them closer and half back, how long the script takes for a frame, at the median and
+at most. Of the times in the browser the least of the turns is taken.
 """
 from __future__ import annotations
 
@@ -17,7 +17,6 @@ import random
 import subprocess
 import sys
 import tempfile
-import time
 from dataclasses import dataclass
 from pathlib import Path
 from typing import Iterator
@@ -69,6 +68,7 @@ class Made:
     aggregations: int
     report_bytes: int
     seconds: float
+    """Of processor time."""
     resident: int
     """In KiB."""
 
@@ -79,15 +79,13 @@ def made(script: bytes, folder: Path) -> Made:
     with report.open("wb") as out:
         subprocess.run([PROGRAM, "replay"], input=script, stdout=out, check=True)
     with page.open("wb") as out:
-        start = time.perf_counter()
         process = subprocess.Popen([sys.executable, TOOLS / "page.py", "--most", "3000000", report], stdout=out)
         _, status, usage = os.wait4(process.pid, 0)
-        seconds = time.perf_counter() - start
     if status != 0:
         raise RuntimeError("no page was made")
     with report.open() as lines:
         words = [line[:4] for line in lines]
-    return Made(page, words.count("row "), words.count("aggr"), report.stat().st_size, seconds, usage.ru_maxrss)
+    return Made(page, words.count("row "), words.count("aggr"), report.stat().st_size, usage.ru_utime + usage.ru_stime, usage.ru_maxrss)
 
 
 def opened(browser: Browser, page: Path) -> tuple[float, list[float]]:

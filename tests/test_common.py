@@ -10,7 +10,7 @@ import tempfile
 import unittest
 from pathlib import Path
 
-from tool_runs import PROGRAM, SECONDS, TOOLS, TOP, need_program, run, script_of
+from tool_runs import PROGRAM, SECONDS, TOOLS, TOP, check_same, need_program, run, script_of
 
 from common import CLOSED_PIPE_STATUS, INTERRUPTED_STATUS, UsageError, opened, opened_text
 
@@ -29,6 +29,12 @@ class Tools(unittest.TestCase):
         for name in NAMES:
             with self.subTest(tool=name):
                 self.assertIn(b"example:\n", run(name, "--help").stdout)
+
+    def test_isolated_mode(self) -> None:
+        """Python does not put the folder of a tool on the path then."""
+        for name in ("exact_counts.py", "search.py", "trace_to_script.py"):
+            ran = subprocess.run([sys.executable, "-I", TOOLS / name, "--help"], capture_output=True, timeout=SECONDS)
+            self.assertEqual((ran.returncode, ran.stderr), (0, b""), name)
 
     def test_a_missing_file_is_named_once(self) -> None:
         for name in ("explain.py", "settings.py", "trace_to_script.py"):
@@ -65,13 +71,16 @@ class ClosedPipes(unittest.TestCase):
         self.assertGreater(len(script), 4 * 65_536)
         environment = {**os.environ, "DAMON": str(PROGRAM), "PYTHONUNBUFFERED": "1"}
         ran = subprocess.run([sys.executable, TOOLS / "settings.py"], input=script.encode(), capture_output=True, env=environment)
-        self.assertEqual(ran.stdout.decode() == script, True)
+        with tempfile.TemporaryDirectory() as folder:
+            wanted = Path(folder) / "script"
+            wanted.write_text(script)
+            check_same(ran.stdout, wanted)
 
 
 class Interrupts(unittest.TestCase):
     def test_an_interrupted_tool_ends_without_a_word(self) -> None:
         # A command in the background of a shell ignores this signal, and so would what it starts.
-        with subprocess.Popen([sys.executable, TOOLS / "trace_to_script.py"], stdin=subprocess.PIPE, stdout=subprocess.PIPE,
+        with subprocess.Popen([sys.executable, TOOLS / "exact_counts.py"], stdin=subprocess.PIPE, stdout=subprocess.PIPE,
                               stderr=subprocess.PIPE, preexec_fn=lambda: signal.signal(signal.SIGINT, signal.SIG_DFL)) as tool:
             assert tool.stdin is not None
             # A pipe does not hold so much, so the tool reads by then.

@@ -55,6 +55,18 @@ class Counting(OfSources):
         self.assertEqual(repository.definitions[3].words, "a pair")
         self.assertEqual(self.needed(repository, "three"), ["one", "two", "three"])
 
+    def test_a_line_that_is_not_known_is_an_error(self) -> None:
+        for unknown in ("opaque pub two : ℕ\n", "two = 2\n", "module _ where\n  abbrev pub two : ℕ\n  two = 2\n"):
+            with self.assertRaisesRegex(SystemExit, "low/specs/First.antt: no definition, law or import has this line"):
+                self.specs("use Rattle.std.specs.Prelude.{ℕ}\n\n-- one\nabbrev pub one : ℕ\none = 1\n\n" + unknown)
+
+    def test_laws_and_operators_are_known(self) -> None:
+        repository = self.specs(
+            "infixl 10 ◌+++◌\n\n-- more\nabbrev pub ◌+++◌ : ℕ → ℕ → ℕ\na +++ b = a + b\n\n"
+            "pub more-zero : (n : ℕ) → n +++ 0 ≡ n\nmore-zero n = refl\n"
+        )
+        self.assertEqual([it.name for it in repository.definitions], ["◌+++◌"])
+
     def test_what_an_unfoldable_definition_names_is_needed(self) -> None:
         repository = self.specs(
             "-- a\nabbrev pub a : ℕ\na = 1\n\n"

@@ -2,6 +2,8 @@
 """Tests of tools/exact_counts.py: the exact counts of a trace, without the monitor."""
 from __future__ import annotations
 
+import lzma
+import random
 import subprocess
 import tempfile
 import unittest
@@ -97,6 +99,52 @@ class Counts(unittest.TestCase):
         trace = random_trace(8, 3000)
         words = ("--clock", "instructions", "--interval", "6", "--aggr", "5")
         self.assertEqual(pages_of(counts(trace, *words)), pages_of(report_of(script_of(trace, "--exact", *words))))
+
+
+class Scripts(Refusals):
+    """The counts of a script are those of the trace that it was made of, and those of counting its touches one by one."""
+
+    def test_they_are_those_of_the_trace(self) -> None:
+        for seed in range(4):
+            trace, words = random_trace(seed, 2500), ("--interval", str(4 + seed), "--aggr", str(3 + seed), "--gap", str(3 * seed))
+            script = script_of(trace, *words, "--max", "200", "--at", "7:metric 5")
+            self.assertEqual(counts(script.encode()), counts(trace, *words))
+            self.assertEqual(counts(script.encode(), "--aggr", "9"), counts(trace, *words[:2], "--aggr", "9", *words[4:]))
+
+    def test_targets_at_the_same_addresses_and_several_ranges(self) -> None:
+        source = random.Random(5)
+        ranges = [(0, 2, 6), (0, 6, 9), (0, 12, 20), (1, 2, 9), (3, 0, 3)]
+        lines = ["damon script 1", "seed 1", "unit 1", "cap 100", "attrs 5 100 4", *["target 0x0 20"] * 4,
+                 *[f"range {target} {first << 12:#x} {after << 12:#x} 0" for target, first, after in ranges], "begin"]
+        wanted: list[dict[Page, int]] = []
+        for tick in range(40):
+            if tick % 4 == 0:
+                wanted.append({(target, page): 0 for target, first, after in ranges for page in range(first, after)})
+            touched = {(source.randrange(4), source.randrange(20)) for _ in range(6)}
+            sweep = (source.randrange(4), source.randrange(10))
+            lines += ["arm", *[f"touch {target} {(page << 12) + source.randrange(4096):#x}" for target, page in touched],
+                      f"sweep {sweep[0]} {sweep[1] << 12:#x} {sweep[1] + 5 << 12:#x}", "finish"]
+            touched |= {(sweep[0], page) for page in range(sweep[1], sweep[1] + 5)}
+            for page in touched & {*wanted[-1]}:
+                wanted[-1][page] += 1
+        found = counts("\n".join([*lines, "end\n"]).encode())
+        self.assertEqual(pages_of(found), wanted)
+
+    def test_a_script_that_is_piped_and_one_that_is_packed(self) -> None:
+        script = script_of(random_trace(1, 900), "--interval", "9").encode()
+        with tempfile.TemporaryDirectory() as folder:
+            path = Path(folder) / "a.xz"
+            path.write_bytes(lzma.compress(script))
+            self.assertEqual(counts(b"", str(path)), counts(script))
+
+    def test_errors(self) -> None:
+        script = script_of(random_trace(1, 900), "--interval", "9", "--at", "5:attrs 5 50 7").encode()
+        self.refused(TOOL, ["-: its commits have a line `attrs`: use --aggr, or --like"], script)
+        self.assertTrue(counts(script, "--aggr", "5").startswith("exact counts 1\naggregate tick=5 "))
+        for words in (("--interval", "9"), ("--gap", "3"), ("--unit", "1"), ("--form", "perf"), ("--clock", "accesses"), ("--loads",)):
+            self.refused(TOOL, [f"{words[0]} is for traces, and - is a script"], script, "--aggr", "5", *words)
+        self.refused(TOOL, ["-: line 7: 'step 4': exact counts need", "`arm`, touches and `finish`"],
+                     b"damon script 1\nseed 1\nunit 1\ncap 9\nattrs 3 9 4\nbegin\nstep 4\nend\n")
 
 
 class Comparisons(unittest.TestCase):

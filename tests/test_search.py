@@ -22,10 +22,9 @@ from tool_runs import PROGRAM, SECONDS, TOOLS, TOP, Refusals, need_program, rand
 from reports.events import Report
 from reports.memory import Memory
 from searching.measures import RECLAIM, REPLAY, measured, measures_by, ratio
-from searching.plan import Plan, Value, plan_of
-from searching.points import Point, Points
-from searching.runs import script_of as script_of_point
-from searching.runs import seed_of
+from searching.plan import Plan, plan_of
+from searching.points import Points
+from searching.runs import script_of as script_of_run
 from searching.traces import trace_workloads
 from searching.workloads import Workload, script_workload
 
@@ -127,10 +126,6 @@ class Scripts(Searches):
         runs = self.rows(self.search("own.toml", "own.csv")[0])
         self.assertEqual([(row["cap"], row["max"], row["interval"], row["seed"]) for row in runs],
                          [("100", "20", "", "1")] * 2 + [("400", "400", "", "1")] * 2)
-
-
-def script_of_run(plan: Plan, workload: Workload, point: Point, seed: Value | None) -> bytes:
-    return script_of_point(plan, workload, point).with_seed(seed_of(seed, workload))
 
 
 def workloads(plan: Plan, points: Points) -> dict[object, Workload]:

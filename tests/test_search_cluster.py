@@ -23,7 +23,7 @@ from tool_runs import DEBIANS_PYTHON, PROGRAM, SECONDS, TOOLS, Refusals, interpr
 from searching.cluster import Sent, archive, has_package
 from searching.plan import plan_of
 from searching.points import Points
-from searching.runs import Inputs, rows_of
+from searching.runs import Inputs, row_of
 from searching.traces import trace_workloads
 
 TOOL = "search.py"
@@ -157,13 +157,13 @@ class Sending(unittest.TestCase):
             plan = plan_of(str(path))
             points = Points(plan, None, 1)
             workloads = dict(trace_workloads(plan, "a.trace", points.keys(True)["a.trace"]))
-        sent = Sent(Inputs(plan, workloads, SECONDS), points, b"")
+        sent = Sent(Inputs(plan, points, workloads, str(PROGRAM.resolve()), SECONDS), b"")
         for _ in range(2):
             # The second time what runs left behind is sent too.
             copy = pickle.loads(pickle.dumps(sent))
-            rows = [rows_of(one.inputs, str(PROGRAM.resolve()), one.points, range(27, 33)) for one in (sent, copy)]
+            rows = [[row_of(one.inputs, number) for number in range(27, 33)] for one in (sent, copy)]
             self.assertEqual(rows[0], rows[1])
-            self.assertEqual((rows[0].runs, rows[0].failed), (6, 0))
+            self.assertEqual([row[-1] for row in rows[0]], ["ok"] * 6)
 
 
 class Archive(unittest.TestCase):

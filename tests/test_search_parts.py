@@ -2,25 +2,23 @@
 """Tests of parts of tools/search.py that need no program: exact counts, chunks of runs, lines of the file, the time left."""
 from __future__ import annotations
 
+import csv
 import io
-import os
 import random
 import unittest
 from array import array
+from typing import Sequence
 from unittest import mock
 
 from tool_runs import TOP
 
 from measuring import truth
 from measuring.truth import ACCESSED, HOT, UNTOUCHED, Range, Truths
-from searching.handing import AHEAD, MOST_OF_CHUNK, Pace, in_order
-from searching.local import processors_for
+from searching.handing import AHEAD, CHUNKS, MOST_OF_CHUNK, Pool, in_order
 from searching.plan import plan_of
 from searching.points import Points
 from searching.remaining import Remaining, in_words
-from searching.runs import MOST_CHARACTERS, MOST_OF_BATCH, Outcome, batches
-from searching.table import DONE, Rows, line_of, rows_in
-from searching.workloads import Workload
+from searching.table import Row, line_of
 from tracing.intervals import runs_of
 
 RANGES = [Range(0, 16, 40), Range(0, 50, 51), Range(3, 16, 30)]
@@ -75,116 +73,83 @@ class ExactCounts(unittest.TestCase):
 class Done:
     """The answer of a chunk, which is there at once."""
 
-    def __init__(self, chunk: range, seconds: float) -> None:
+    def __init__(self, chunk: Sequence[int]) -> None:
         self.chunk = chunk
-        self.seconds = seconds
 
-    def result(self) -> tuple[Rows, float]:
-        return Rows("".join(f"{number}\n" for number in self.chunk), len(self.chunk), 0), self.seconds * len(self.chunk)
+    def result(self) -> list[Row]:
+        return [[str(number)] for number in self.chunk]
 
 
 class Chunks(unittest.TestCase):
+    def chunks(self, numbers: Sequence[int], processes: int) -> list[Sequence[int]]:
+        """All chunks. Their rows come in the order of the runs."""
+        chunks: list[Sequence[int]] = []
+
+        def submit(chunk: Sequence[int]) -> Done:
+            chunks.append(chunk)
+            return Done(chunk)
+
+        rows = [row for some in in_order(Pool(submit, lambda: processes), numbers) for row in some]
+        self.assertEqual(rows, [[str(number)] for number in numbers])
+        return chunks
+
     def test_all_runs_come_in_their_order(self) -> None:
-        for start, end, seconds, processes in ((0, 0, 1.0, 1), (0, 1, 1.0, 4), (7, 5000, 0.001, 4), (3, 90, 5.0, 2),
-                                               (0, 999, 0.0, 3)):
-            chunks: list[range] = []
-
-            def submit(chunk: range) -> Done:
-                chunks.append(chunk)
-                return Done(chunk, seconds)
-
-            text = "".join(rows.text for rows in in_order(submit, start, end, lambda: processes))
-            self.assertEqual(text, "".join(f"{number}\n" for number in range(start, end)))
-            self.assertEqual([number for chunk in chunks for number in chunk], [*range(start, end)])
+        for numbers, processes in (([], 1), ([7], 4), (range(7, 5000), 4), ([9, 3, 80, 5], 2), (range(999), 3)):
+            with self.subTest(numbers=numbers, processes=processes):
+                self.assertEqual([number for chunk in self.chunks(numbers, processes) for number in chunk], [*numbers])
 
     def test_how_long_chunks_are(self) -> None:
-        pace = Pace(0, 100_000)
-        self.assertEqual(pace.chunk(4), range(0, 1))
-        pace.learn(10, 0.02)
-        self.assertEqual(pace.chunk(4), range(1, 101))
-        pace.learn(10_000, 0.02)
-        self.assertEqual(len(pace.chunk(4)), MOST_OF_CHUNK)
-        pace.learn(1, 1e9)
-        self.assertEqual(len(pace.chunk(4)), 1)
-
-    def test_the_last_chunks_are_short(self) -> None:
-        pace = Pace(0, 10_000)
-        pace.learn(1000, 1.0)
-        sizes = []
-        while chunk := pace.chunk(4):
-            sizes.append(len(chunk))
-        self.assertEqual((sizes[0], sizes[-8:]), (200, [1] * 8))
-        self.assertEqual(sizes, sorted(sizes, reverse=True))
-        self.assertLess(len(sizes), 100)
+        self.assertEqual({len(chunk) for chunk in self.chunks(range(100_000), 4)}, {MOST_OF_CHUNK})
+        self.assertEqual({len(chunk) for chunk in self.chunks(range(CHUNKS * 4 * 5), 4)}, {5})
+        self.assertEqual({len(chunk) for chunk in self.chunks(range(20), 4)}, {1})
 
     def test_so_many_are_handed_out_ahead(self) -> None:
-        chunks: list[range] = []
+        chunks: list[Sequence[int]] = []
 
-        def submit(chunk: range) -> Done:
+        def submit(chunk: Sequence[int]) -> Done:
             chunks.append(chunk)
-            return Done(chunk, 1.0)
+            return Done(chunk)
 
-        rows = in_order(submit, 0, 1000, lambda: 3)
-        next(rows)
-        self.assertEqual(len(chunks), AHEAD * 3)
+        rows = in_order(Pool(submit, lambda: 3), range(1000))
         next(rows)
         self.assertEqual(len(chunks), AHEAD * 3 + 1)
-
-    def test_processors(self) -> None:
-        usable = sorted(os.sched_getaffinity(0))
-        self.assertEqual(processors_for(len(usable)), usable)
-        self.assertEqual(processors_for(2 * len(usable) + 1), [*usable, *usable, usable[0]])
-        self.assertEqual(processors_for(len(usable) - 1), [])
+        next(rows)
+        self.assertEqual(len(chunks), AHEAD * 3 + 2)
 
 
-class Batches(unittest.TestCase):
-    workload = Workload("a", "", (), {}, (), b"", [], Truths(RANGES, [], 0.5))
-
-    def sizes(self, reports: list[str | None]) -> list[int]:
-        """How many outcomes each batch has. All of them come, in their order."""
-        outcomes = [Outcome("a", number, self.workload, DONE, report) for number, report in enumerate(reports)]
-        found = list(batches(iter(outcomes)))
-        self.assertEqual([outcome for batch in found for outcome in batch], outcomes)
-        return list(map(len, found))
-
-    def test_so_many_outcomes_or_characters(self) -> None:
-        large = "x" * (MOST_CHARACTERS // 2)
-        self.assertEqual(self.sizes([]), [])
-        self.assertEqual(self.sizes(["x", None] * MOST_OF_BATCH), [MOST_OF_BATCH] * 2)
-        self.assertEqual(self.sizes(["x"] * (MOST_OF_BATCH + 1)), [MOST_OF_BATCH, 1])
-        self.assertEqual(self.sizes([large] * 7), [3, 3, 1])
-        self.assertEqual(self.sizes([3 * large, None, 3 * large, "x"]), [1, 2, 1])
+class Numbers(unittest.TestCase):
+    def test_points_that_differ_in_their_workloads(self) -> None:
+        plan = plan_of(str(TOP / "examples/search.toml"))._replace(workloads=("a", "b", "c"))
+        for draws in (None, 40):
+            points = Points(plan, draws, 1)
+            found: dict[int, list[object]] = {}
+            for number in range(len(points)):
+                found.setdefault(points.rest(number), []).append(points.point(number).chosen)
+            self.assertEqual([some.count(some[0]) for some in found.values()], [len(some) for some in found.values()])
+            self.assertEqual({len(some) for some in found.values()} == {3}, draws is None)
 
 
 class Lines(unittest.TestCase):
-    def test_the_parts_of_runs(self) -> None:
-        plan = plan_of(str(TOP / "examples/search.toml"))
-        for draws in (None, 7):
-            points = Points(plan, draws, 1)
-            source = random.Random(2)
-            for _ in range(60):
-                start = source.randrange(points.runs)
-                runs = range(start, source.randrange(start, points.runs + 1))
-                given = [(point, seed) for point, seeds in points.parts(runs) for seed in seeds]
-                self.assertEqual(given, [points.run(number) for number in runs])
-
     def test_cells_come_back(self) -> None:
         source = random.Random(3)
         for _ in range(500):
-            cells = ["".join(source.choices('ab ,"\r\n;\xe4', k=source.randrange(6))) for _ in range(4)]
-            self.assertEqual(rows_in(line_of(cells)), [cells])
+            cells = ["".join(source.choices('ab ,";\xe4', k=source.randrange(6))) for _ in range(4)]
+            self.assertEqual(list(csv.reader([line_of(cells)])), [cells])
         self.assertEqual(line_of(["a b", "c,d", 'say "x"', "", "0.5"]), 'a b,"c,d","say ""x""",,0.5\n')
 
 
 class Progress(unittest.TestCase):
     def test_the_time_left(self) -> None:
-        seconds = iter([0.0, 0.0, 10.0, 10.0, 40.0, 40.0])
+        seconds = iter([0.0, 0.0, 10.0, 10.0, 40.0, 40.0, 90.0, 90.0])
         stream = io.StringIO()
-        remaining = Remaining(stream, 1000, 200, lambda: next(seconds))
-        remaining(220)
-        remaining(300)
+        remaining = Remaining(stream, lambda: next(seconds))
+        remaining.begin(800)
+        remaining(20)
+        remaining(80)
+        remaining.begin(200)
+        remaining(100)
         remaining.end()
-        self.assertEqual(stream.getvalue(), "note: 300 of 1000 runs, 30 %; 5 min left\n")
+        self.assertEqual(stream.getvalue(), "note: 100 of 800 runs, 12 %; 5 min left\nnote: 200 of 1000 runs, 20 %; 6 min left\n")
 
     def test_words(self) -> None:
         self.assertEqual([in_words(seconds) for seconds in (0.0, 89.0, 120.0, 5399.0, 7200.0)],

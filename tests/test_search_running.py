@@ -1,5 +1,5 @@
 #!/usr/bin/env python3
-"""Tests of the runs of a search: a program is run as `subprocess` runs it, again and again with the same files."""
+"""Tests of the runs of a search: a program is run as `subprocess` runs it, within a limit of time."""
 from __future__ import annotations
 
 import os
@@ -12,7 +12,7 @@ from pathlib import Path
 
 from tool_runs import SECONDS
 
-from searching.running import Ended, Runner
+from searching.running import Ended, ran
 
 BODIES = {
     "writes what it reads": "cat",
@@ -27,7 +27,7 @@ BODIES = {
     "says its command and a variable": 'echo "$# $1 $SEARCHED"',
     "says its open files": "ls /proc/$$/fd | head -c 6",
 }
-SCRIPTS = (b"a script\n", b"", b"a longer script\n" * 20_000, b"short\n")
+SCRIPTS = (b"a script\n", b"", b"a longer script\n" * 20_000)
 
 
 class Programs(unittest.TestCase):
@@ -45,9 +45,7 @@ class Programs(unittest.TestCase):
         return str(path)
 
     def ran(self, body: str, script: bytes = b"", seconds: float = SECONDS) -> Ended | None:
-        """A single run."""
-        with Runner(self.program("program", body), "replay", seconds) as runner:
-            return runner.ran(script)
+        return ran([self.program("program", body), "replay"], script, seconds)
 
 
 class Running(Programs):
@@ -55,22 +53,15 @@ class Running(Programs):
         os.environ["SEARCHED"] = "f\xfcr"
         self.addCleanup(os.environ.pop, "SEARCHED")
         for name, body in BODIES.items():
-            program = self.program(name, body)
-            with Runner(program, "replay", SECONDS) as runner:
-                # The same files serve short texts after long ones, and the other way round.
-                for script in (*SCRIPTS, *reversed(SCRIPTS)):
-                    with self.subTest(name=name, bytes=len(script)):
-                        wanted = subprocess.run([program, "replay"], input=script, capture_output=True, timeout=SECONDS)
-                        given = runner.ran(script)
-                        assert given is not None
-                        self.assertEqual(given.status, wanted.returncode)
-                        self.assertEqual(given.report.encode("latin-1"), wanted.stdout)
-                        self.assertEqual(given.errors.encode("latin-1"), wanted.stderr)
-
-    def test_a_run_sees_nothing_of_the_run_before(self) -> None:
-        with Runner(self.program("program", "cat; cat >&2"), "replay", SECONDS) as runner:
-            for script in (b"x" * 100_000, b"yy", b"", b"z" * 5000):
-                self.assertEqual(runner.ran(script), Ended(0, script.decode(), ""))
+            words = [self.program(name, body), "replay"]
+            for script in SCRIPTS:
+                with self.subTest(name=name, bytes=len(script)):
+                    wanted = subprocess.run(words, input=script, capture_output=True, timeout=SECONDS)
+                    given = ran(words, script, SECONDS)
+                    assert given is not None
+                    self.assertEqual(given.status, wanted.returncode)
+                    self.assertEqual(given.report.encode("latin-1"), wanted.stdout)
+                    self.assertEqual(given.errors.encode("latin-1"), wanted.stderr)
 
     def test_programs_that_cannot_be_run(self) -> None:
         (self.folder / "text").write_text("echo end\n")
@@ -80,8 +71,8 @@ class Running(Programs):
             path = str(self.folder / name)
             with self.assertRaises(OSError) as wanted:
                 subprocess.run([path, "replay"])
-            with Runner(path, "replay", SECONDS) as runner, self.assertRaises(OSError) as given:
-                runner.ran(b"")
+            with self.assertRaises(OSError) as given:
+                ran([path, "replay"], b"", SECONDS)
             self.assertEqual(given.exception.errno, wanted.exception.errno)
 
     def test_no_file_is_left_open(self) -> None:
@@ -104,13 +95,11 @@ class Limits(Programs):
         with self.assertRaises(ProcessLookupError):
             os.kill(int(path.read_text()), 0)
 
-    def test_what_it_started_does_not_write_to_the_next_run(self) -> None:
-        body = f'read word; echo $word; test $word = last || {{ (sleep 1; echo late; touch {self.folder / "done"}) & sleep 30; }}'
-        with Runner(self.program("program", body), "replay", 0.5) as runner:
-            self.assertIsNone(runner.ran(b"first\n"))
-            while not (self.folder / "done").exists():
-                # On a busy machine a short run may take too long as well.
-                self.assertIn(runner.ran(b"last\n"), (None, Ended(0, "last\n", "")))
+    def test_nobody_waits_for_what_it_started(self) -> None:
+        since = time.monotonic()
+        self.assertIsNone(self.ran("sleep 60 & sleep 60", seconds=0.2))
+        self.assertEqual(self.ran("sleep 60 & echo end"), Ended(0, "end\n", ""))
+        self.assertLess(time.monotonic() - since, 50)
 
     def test_an_interrupt_ends_the_run(self) -> None:
         path = self.folder / "number"

@@ -7,7 +7,7 @@ from pathlib import Path
 
 from page_parts import parts_of
 from pages import Page
-from tool_runs import TOP, need_program
+from tool_runs import TOP, check_same, need_program
 
 from webpage.d3 import BUNDLE
 
@@ -22,13 +22,12 @@ class Tutorial(Page):
     HAS_D3 = BUNDLE.is_file()
 
     def test_commands_and_outputs(self) -> None:
-        skipped = ["valgrind", "perf script", "out/shop.trace", "gnuplot", "./damond run", *([] if self.HAS_D3 else ["tools/page.py"])]
+        skipped = ["valgrind", "perf script", "drrun ", "out/shop.trace", "gnuplot", "./damond run", *([] if self.HAS_D3 else ["tools/page.py"])]
         self.follow("docs/TUTORIAL.md", lambda block: any(word in block for word in skipped), self.compare_pictures)
 
     def compare_pictures(self, folder: Path) -> None:
-        for picture in ("shop", "exact", "patient", "page-cache", "reclaim", "tune", "heat"):
-            made = (folder / f"{picture}.svg").read_bytes()
-            self.assertEqual(made == (TOP / f"docs/pictures/{picture}.svg").read_bytes(), True, picture)
+        for picture in ("shop", "exact", "patient", "page-cache", "again", "reclaim", "tune", "heat"):
+            check_same((folder / f"{picture}.svg").read_bytes(), TOP / f"docs/pictures/{picture}.svg")
         if self.HAS_D3:
             # Another version of D3 or of zlib would make other bytes.
             made_page, kept = (parts_of((place / "policies.html").read_text()) for place in (folder, TOP / "docs/pictures"))
@@ -43,19 +42,22 @@ class Choosing(Page):
 
     def compare_pictures(self, folder: Path) -> None:
         for picture in ("hot", "out"):
-            made = (folder / f"{picture}.svg").read_bytes()
-            self.assertEqual(made == (TOP / f"docs/pictures/search-{picture}.svg").read_bytes(), True, picture)
+            check_same((folder / f"{picture}.svg").read_bytes(), TOP / f"docs/pictures/search-{picture}.svg")
 
 
 class Search(Page):
     """The same of docs/SEARCH.md, but for the cluster, of which tests/test_search_cluster.py has more."""
 
     def test_commands_and_outputs(self) -> None:
-        self.follow("docs/SEARCH.md", lambda block: "dask " in block or block == self.plan())
+        plans = [self.plan(name) for name in ("search", "quota")]
+        text = (TOP / "docs/SEARCH.md").read_text()
+        for plan in plans:
+            self.assertIn(f"```\n{plan}```\n", text)
+        self.follow("docs/SEARCH.md", lambda block: "dask " in block or block in plans or block.startswith("command ="))
 
-    def plan(self) -> str:
-        """The plan as the page shows it, without its comments."""
-        lines = (TOP / "examples/search.toml").read_text().splitlines(keepends=True)
+    def plan(self, name: str) -> str:
+        """A plan as the page shows it, without its comments."""
+        lines = (TOP / f"examples/{name}.toml").read_text().splitlines(keepends=True)
         return "".join(line for line in lines if not line.startswith("#"))
 
 

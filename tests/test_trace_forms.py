@@ -1,7 +1,8 @@
 #!/usr/bin/env python3
-"""Tests of the forms of traces: lackey, samples of perf, and plain lines; and of their time as a clock.
+"""Tests of the forms of traces: lackey, a view of a memtrace, pinatrace, samples of perf, and plain lines; and of time as a clock.
 
-The kept traces in tests/traces have the same accesses, those of perf and the plain one at the same times.
+The traces in tests/traces have the same accesses, those of perf and the plain one at the same times. Those of a memtrace and of
+pinatrace were written from the documents of these tools, and not by them.
 """
 from __future__ import annotations
 
@@ -12,6 +13,7 @@ from tool_runs import TOP, Refusals, counts_of_report, need_program, notes_of, r
 from tracing.accesses import TraceError
 from tracing.clocks import TimeClock
 from tracing.forms import FORMS, form_of
+from tracing.instrumented import Access, memtrace_access, pinatrace_access
 from tracing.intervals import record
 from tracing.samples import Sample, Samples, perf_sample, plain_sample
 
@@ -23,7 +25,9 @@ BY_ACCESSES = ("arm\nsweep 0 0x10000 0x12000\nfinish\narm\ntouch 0 0x10000\nswee
 BY_TIME = ("arm\nsweep 0 0x10000 0x12000\nfinish\narm\ntouch 0 0x10000\ntouch 0 0x13000\nfinish\narm\nfinish\narm\nfinish\n"
            "arm\ntouch 0 0x12000\ntouch 1 0x7ffd0000\nfinish\nshow\nend\n")
 MILLISECOND = ("--clock", "microseconds", "--interval", "1000")
-LINES = {"lackey": b" L 00010000,8\n", "perf": b"sh 7 12.000350: page-faults: 10000\n", "plain": b"12.00035 0x10000\n"}
+RECORD = b"  8  1:  4711 read  8 byte(s) @ 0x0000000000010000 by PC 0x0000000000400500\n"
+LINES = {"lackey": b" L 00010000,8\n", "memtrace": RECORD, "pinatrace": b"0x400500: R 0x10000\n",
+         "perf": b"sh 7 12.000350: page-faults: 10000\n", "plain": b"12.00035 0x10000\n"}
 
 
 def setUpModule() -> None:
@@ -110,6 +114,30 @@ class Lines(unittest.TestCase):
         self.assertEqual((form_of(b"==7== x\n"), form_of(b"hello\n"), form_of(b"\n")), ("lackey", None, None))
 
 
+class Instrumented(unittest.TestCase):
+    def test_a_memtrace_has_instructions_and_kinds_as_lackey(self) -> None:
+        for words in (("--clock", "instructions", "--interval", "2"), ("--loads", "--interval", "2"), ("--stores", "--interval", "1"),
+                      ("--fetches", "--interval", "2")):
+            self.assertEqual(script_of(KEPT["memtrace"], *words), script_of(KEPT["lackey"].replace(b" M", b" L"), *words))
+
+    def test_kinds_of_pinatrace(self) -> None:
+        self.assertEqual(script_of(KEPT["pinatrace"], "--stores", "--interval", "1").split("begin\n")[1],
+                         "arm\ntouch 0 0x10000\nfinish\narm\ntouch 0 0x12000\nfinish\nshow\nend\n")
+
+    def test_lines(self) -> None:
+        for line, wanted in ((b"T342625   ifetch      10 byte(s) @ 0x00007f8c4c9e7100\n", Access(b"I", 0x7F8C4C9E7100, 10)),
+                             (b"  8  1:  4711 write  16 byte(s) @ 0x0000000000010ff8 by PC 0x0000000000400500\r\n", Access(b"S", 0x10FF8, 16)),
+                             (b"  8  1:  4711 pref-r-L1  1 byte(s) @ 0x0000000000010ff8\n", None), (b"T7 <marker: timestamp 9>\n", None)):
+            self.assertEqual(memtrace_access(line), wanted)
+        for line in (b"  8  1:  4711 read  8 bytes @ 0x1\n", b"read 8 byte(s) @ 0x1\n", b"8 1: 7 read x byte(s) @ 0x1\n", b"hello\n"):
+            with self.subTest(line=line), self.assertRaises(TraceError):
+                memtrace_access(line)
+        self.assertEqual(pinatrace_access(b"0x7f907b8f6a03: W 0x7ffd5e2a4b58\n"), Access(b"S", 0x7FFD5E2A4B58, 1))
+        for line in (b"0x1: M 0x2\n", b"0x1: R\n", b"1: R 0x2\n", b"0x1: R 0x2 8\n"):
+            with self.subTest(line=line), self.assertRaises(TraceError):
+                pinatrace_access(line)
+
+
 class Time(unittest.TestCase):
     def test_intervals(self) -> None:
         trace = [(5_000, 1), (6_999, 2), (7_000, 3), (7_000, 4), (12_999, 5)]
@@ -143,14 +171,16 @@ class Errors(Refusals):
                 self.refused(tool, parts, trace, *words)
 
     def test_malformed_lines(self) -> None:
-        kinds = {"lackey": "not a line of lackey", "perf": "not a line of perf script", "plain": "not SECONDS ADDRESS"}
+        kinds = {"lackey": "not a line of lackey", "memtrace": "not a line of a memtrace view", "pinatrace": "not a line of pinatrace",
+                 "perf": "not a line of perf script", "plain": "not SECONDS ADDRESS"}
         for form, kind in kinds.items():
             for bad in (b"hello\n", b"\n", b"\xff\n", *(line for other, line in LINES.items() if other != form)):
                 with self.subTest(form=form, bad=bad):
                     self.taken_from([f"line 4: {kind}"], LINES[form] * 3 + bad + LINES[form])
 
     def test_no_form(self) -> None:
-        self.taken_from(["line 2: not a line of lackey, of perf script or of the form SECONDS ADDRESS: 'hello'"], b"# x\nhello\n")
+        self.taken_from(["line 2: not a line of lackey, of a memtrace view, of pinatrace, of perf script or of the form SECONDS ADDRESS: "
+                         "'hello'"], b"# x\nhello\n")
         self.taken_from(["line 1: a name follows the address", "perf script -F comm,tid,time,event,addr"],
                         b"sh 7 2743.539579:          1 page-faults:  ffffffff81752b6a elf_load+0x28a ([kernel.kallsyms])\n")
         self.taken_from(["line 1: not a line of lackey: '12.00035"], LINES["plain"], "--form", "lackey")
@@ -166,7 +196,10 @@ class Errors(Refusals):
                 self.taken_from(wanted, trace, *words)
 
     def test_clocks(self) -> None:
-        self.taken_from(["lackey has no times", "--clock accesses"], LINES["lackey"], "--clock", "microseconds")
+        for form in ("lackey", "memtrace", "pinatrace"):
+            self.taken_from([f"{form} has no times", "--clock accesses"], LINES[form], "--clock", "microseconds")
+        for words in (("--clock", "instructions"), ("--fetches",)):
+            self.taken_from(["form pinatrace has no instructions"], LINES["pinatrace"], *words)
         self.taken_from(["line 2: no time", "--clock accesses"], LINES["perf"] + b"e: 1000\n", "--clock", "microseconds")
         for form in TIMED:
             self.taken_from([f"form {form} has no instructions"], LINES[form], "--clock", "instructions")

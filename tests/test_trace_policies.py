@@ -2,10 +2,16 @@
 """Tests of tools/trace_to_script.py: schemes and commits, what damon says of them, and notes on them."""
 from __future__ import annotations
 
+import os
+import re
+import shutil
+import subprocess
+import sys
+import tempfile
 import unittest
 from pathlib import Path
 
-from tool_runs import Refusals, need_program, notes_of, report_of, run, script_of
+from tool_runs import TOOLS, Refusals, need_program, notes_of, report_of, run, script_of
 
 from tracing.commits import fewest_commits as commits_of_lines
 
@@ -49,6 +55,35 @@ class Commits(unittest.TestCase):
         self.assertIn("note: the commit before interval 7 is refused: over-cap max=101 cap=100", notes)
         self.assertIn("note: the commit before interval 99 is left out: there are 42 intervals", notes)
         self.assertEqual(notes.count("refused"), 2)
+
+
+class Version2(unittest.TestCase):
+    """Time quotas and costs, which scripts of version 1 have not."""
+
+    SCHEME = "scheme 0 stat quota=24576,5 time=3000"
+
+    def test_the_lines_of_a_script(self) -> None:
+        script = script_of(Commits.TRACE, "--version", "2", "--interval", "10", "--scheme", self.SCHEME, "--at", "5:cost 0 1000",
+                           "--at", "5:metric 4", "--at", "5:cost 0 7")
+        self.assertTrue(script.startswith("damon script 2\nseed 1\n"))
+        self.assertIn("finish\ncommit\nmetric 4\ncost 0 1000\napply\ncommit\ncost 0 7\napply\narm\n", script)
+        self.assertTrue(script_of(Commits.TRACE).startswith("damon script 1\n"))
+
+    def test_what_is_left_follows_the_costs(self) -> None:
+        """Of six pages so many as 3,000 nanoseconds allow, at what all pages so far have cost."""
+        costs = [(5, 6_000), (15, 1), (25, 60_000)]
+        words = [word for interval, cost in costs for word in ("--at", f"{interval}:cost 0 {cost}")]
+        report = report_of(script_of(Commits.TRACE, "--version", "2", "--interval", "10", "--aggr", "5", "--scheme", self.SCHEME, *words))
+        # Each aggregation begins a window.
+        pages, given, wanted = 0, [], []
+        for tick, left, taken in re.findall(r"aggregate tick=(\d+) .*\n(?:apply .*\n)*slot 0 left=(\d+) taken=(\d+)", report):
+            nanos = sum(cost for interval, cost in costs if interval < int(tick))
+            given.append(int(left))
+            wanted.append(min(6, 3000 * pages // nanos) if pages and nanos else 6)
+            pages += int(taken)
+        self.assertEqual(given, wanted)
+        self.assertEqual(len(given), 8)
+        self.assertGreater(len(set(given)), 2)
 
 
 class Notes(unittest.TestCase):
@@ -108,10 +143,49 @@ class Notes(unittest.TestCase):
         notes = notes_of(self.TRACE, "--interval", "10", "--metric", "3:2", "--at", "4:scheme 1 stat marks=5,3,1")
         self.assertIn("slot 1: it is never active in a replay: it has watermarks, and no metric comes", notes)
 
+    def test_a_program_that_is_named_must_be_there(self) -> None:
+        ran = run(TOOL, "--interval", "10", text=self.TRACE, program=Path("/no/damon"))
+        self.assertEqual((ran.returncode, ran.stdout), (2, b""))
+        self.assertEqual(ran.stderr.decode(), f"{TOOL}: there is no program /no/damon, which DAMON in the environment names\n")
+
     def test_without_a_program_nothing_is_checked(self) -> None:
-        ran = run(TOOL, "--interval", "10", "--scheme", "scheme 99 nothing", text=self.TRACE, program=Path("/no/damon"))
-        self.assertEqual(ran.returncode, 0)
-        self.assertIn(b"were not checked: there is no program /no/damon", ran.stderr)
+        """In a copy of the tools, beside which no program was built."""
+        with tempfile.TemporaryDirectory() as folder:
+            shutil.copytree(TOOLS, Path(folder) / "tools", ignore=shutil.ignore_patterns("__pycache__"))
+            words = [sys.executable, str(Path(folder) / "tools" / TOOL), "--interval", "10", "--scheme", "scheme 99 nothing"]
+            environment = {name: value for name, value in os.environ.items() if name != "DAMON"}
+            ran = subprocess.run(words, input=self.TRACE, capture_output=True, env=environment)
+        self.assertEqual(ran.returncode, 0, ran.stderr)
+        self.assertIn(b"were not checked: there is no program", ran.stderr)
+
+
+class FewRegions(unittest.TestCase):
+    """A note where targets or pages are too many for the regions."""
+
+    PART = "few are left for cuts, and much that is hot may not be found; --max"
+
+    def about(self, sizes: list[int], *words: str) -> str:
+        """The note on a trace with targets of these sizes."""
+        lines = [b" L %08x,4\n" % ((target << 24) + (page << 12)) for target, pages in enumerate(sizes, 1) for page in range(pages)]
+        found = [line for line in notes_of(b"".join(lines), "--interval", "50", *words).splitlines() if self.PART in line]
+        self.assertLess(len(found), 2)
+        return found[0].removeprefix("note: ") if found else ""
+
+    def test_targets(self) -> None:
+        self.assertEqual(self.about([20] * 20), "")
+        self.assertEqual(self.about([20] * 21), f"21 targets and 420 pages share at most 100 regions: {self.PART} 200 or more may find it")
+        self.assertEqual(self.about([20] * 21, "--max", "105"), "")
+        self.assertEqual(self.about([2] * 12 + [9] * 11), f"23 targets, 12 of them with at most 2 pages, and 123 pages share at most "
+                         f"100 regions: {self.PART} 200 or more may find it")
+
+    def test_pages(self) -> None:
+        self.assertEqual(self.about([500, 500]), "")
+        self.assertEqual(self.about([500, 501]), f"2 targets and 1001 pages share at most 100 regions: {self.PART} 200 or more may find it")
+        self.assertEqual(self.about([500, 501], "--cap", "200", "--at", "1:attrs 10 101 20"), "")
+
+    def test_each_page_has_its_region(self) -> None:
+        self.assertEqual(self.about([2] * 23, "--exact"), "")
+        self.assertEqual(self.about([1] * 60, "--max", "60"), "")
 
 
 class Judged(Refusals):
@@ -141,6 +215,8 @@ class Judged(Refusals):
         self.early(["--at 5:'attrs 3 x 4': bad number: 'x'"], "--at", "5:attrs 3 x 4")
         self.early(["--at 5:'range 0 0x0': bad form: 2 words after 'range'"], "--at", "5:range 0 0x0")
         self.early(["--at 5:'drop 256': bad number: 256 is above 255"], "--at", "4:drop 3", "--at", "5:drop 256")
+        self.early(["--at 5:'cost 0 7': unexpected word: 'cost' is not allowed at this place (costs came with version 2)"], "--at", "5:cost 0 7")
+        self.early(["--scheme 'scheme 0 stat quota=4096,9 time=5'"], "--scheme", "scheme 0 stat quota=4096,9 time=5")
         self.early(["INTERVAL:LINE"], "--at", "5:touch 0 0x0")
         self.early(["INTERVAL:LINE"], "--at", "drop 5")
 

@@ -163,10 +163,6 @@ class Errors(Refusals):
     def test_files(self) -> None:
         self.taken_from(["no-such-file: No such file or directory\n"], b"", "no-such-file")
         self.taken_from(["no-maps: No such file"], b"", "--maps", "no-maps")
-        with tempfile.TemporaryDirectory() as folder:
-            path = Path(folder) / "a.xz"
-            path.write_bytes(lzma.compress(random_trace(4, 300))[:-40])
-            self.taken_from([f"{path}: "], b"", str(path))
 
 
 class Parts(unittest.TestCase):

@@ -8,6 +8,7 @@ import lzma
 import os
 import signal
 import sys
+import zlib
 from contextlib import contextmanager
 from typing import BinaryIO, Callable, Iterator, TextIO, cast
 
@@ -45,7 +46,7 @@ def opened(path: str) -> Iterator[BinaryIO]:
         raise
     except OSError as error:
         raise UsageError(f"{path}: {error.strerror or error}") from None
-    except (EOFError, lzma.LZMAError) as error:
+    except (EOFError, lzma.LZMAError, zlib.error) as error:
         raise UsageError(f"{path}: {error}") from None
 
 

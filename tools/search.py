@@ -6,23 +6,31 @@ docs/SEARCH.md shows its use.
 from __future__ import annotations
 
 import argparse
-import gc
 import os
 import signal
 import sys
-from contextlib import AbstractContextManager
-from functools import partial
+from collections import deque
+from contextlib import ExitStack
 from pathlib import Path
 from types import FrameType
-from typing import Iterator
+from typing import Iterator, Sequence
+
+sys.path.insert(0, str(Path(__file__).resolve().parent))
 
 from common import UsageError, parser, run
 from scripts.judge import VARIABLE, is_there, program
+from searching.asking import Asked
+from searching.cluster import cluster_pool, distributed
+from searching.finding import answers
+from searching.handing import Pool, in_order
+from searching.limits import check_limits
+from searching.local import local_pool
 from searching.plan import Plan, plan_of
 from searching.points import Points
 from searching.remaining import Remaining
 from searching.runs import Inputs, first_cells
-from searching.table import STATUS, Rows, kept_rows, write_points
+from searching.table import DONE, STATUS, Row, RunsFile, rows_there, write_points
+from searching.traces import trace_workloads
 from searching.workloads import Key, Workload, script_workload
 from wording import counted
 
@@ -38,6 +46,13 @@ and for placeholders of schemes and commits, and what is measured. docs/SEARCH.m
 The rows come in the order of the plan. If the file of runs is there already, a search goes on behind
 its last whole row, so one that was stopped is not lost. That the program and the traces are still the
 same is not checked: remove the file if they changed.
+
+What a search reads of a trace it keeps beside the file of runs, as `NAME.cut`. Later searches with runs
+in the same folder take that, if the trace has the same hash and is read in the same way.
+
+A plan with `conditions` and an `aim` is a question. Its answer comes on standard output:
+
+  tools/search.py examples/quota.toml out/quota.csv
 
 Damon judges each script. A run that it rejects, or that ends in another way, is a row with its status.
 DAMON in the environment names the program; without it, that is the one that ./damon builds.
@@ -65,77 +80,93 @@ def options_of() -> argparse.Namespace:
     if not is_there():
         raise UsageError(f"there is no program {program()}: ./damon builds it, or {VARIABLE} in the environment names another")
     if options.cluster:
-        from searching.cluster import distributed
-
         # Said before the traces are read, which takes some time.
         distributed()
     return options
 
 
-def workloads_of(plan: Plan, points: Points) -> dict[Key, Workload]:
+def workloads_of(plan: Plan, points: Points, folder: Path) -> dict[Key, Workload]:
     """The workloads of all points, each made once. Raises UsageError."""
     found: dict[Key, Workload] = {}
-    names = points.keys(plan.are_traces)
-    if plan.are_traces:
-        # Scripts do not need it, and to load it takes as long as many runs of a small one.
-        from searching.traces import trace_workloads
-
-        for name, keys in names.items():
-            found.update(trace_workloads(plan, name, keys))
-    else:
-        for name, keys in names.items():
+    for name, keys in points.keys(plan.are_traces).items():
+        if plan.are_traces:
+            found.update(trace_workloads(plan, name, keys, folder))
+        else:
             found.update(dict.fromkeys(keys, script_workload(plan, name)))
     return found
 
 
-def rows_from(options: argparse.Namespace, inputs: Inputs, points: Points, start: int) -> AbstractContextManager[Iterator[Rows]]:
-    """What makes the rows of all runs from `start` on."""
-    path = str(program().resolve())
-    # Only one of the two is loaded: to load the other would take as long as many runs of a small script.
-    if options.cluster:
-        from searching.cluster import cluster_rows
+class Runs:
+    """Gives the rows of runs: those that are in the file, and then those that are made and added to it."""
 
-        return cluster_rows(inputs, points, path, start, options.cluster)
-    from searching.local import local_rows
+    def __init__(self, options: argparse.Namespace, inputs: Inputs, file: RunsFile, stack: ExitStack) -> None:
+        """What makes the runs is opened when the first of them is needed, and closed with the stack."""
+        self.options = options
+        self.inputs = inputs
+        self.file = file
+        self.stack = stack
+        self.pool: Pool | None = None
+        self.there = self.made = self.failed = 0
+        self.remaining = Remaining(sys.stderr)
 
-    return local_rows(inputs, points, path, start, options.jobs)
+    def __call__(self, numbers: Sequence[int]) -> Iterator[Row]:
+        """The rows of these runs, in their order."""
+        place = 0
+        while place < len(numbers) and (row := self.file.kept(self.first(numbers[place]))):
+            place += 1
+            self.there += 1
+            yield row
+        if place < len(numbers):
+            yield from self.made_now(numbers[place:])
+
+    def made_now(self, numbers: Sequence[int]) -> Iterator[Row]:
+        if not self.pool:
+            inputs, options = self.inputs, self.options
+            self.pool = self.stack.enter_context(
+                cluster_pool(inputs, options.cluster) if options.cluster else local_pool(inputs, options.jobs))
+        self.remaining.begin(len(numbers))
+        for rows in in_order(self.pool, numbers):
+            self.file.add(rows)
+            self.made += len(rows)
+            self.failed += sum(row[-1] != DONE for row in rows)
+            self.remaining(len(rows))
+            yield from rows
+
+    def first(self, number: int) -> Row:
+        """The cells with which the row of a run begins."""
+        point, seed = self.inputs.points.run(number)
+        return first_cells(point, seed, self.inputs.workloads[point.key(self.inputs.plan.are_traces)])
 
 
-def search(options: argparse.Namespace) -> str:
-    """Makes all rows that are not there. Gives a note. Raises UsageError."""
-    plan = plan_of(options.plan)
+def search(options: argparse.Namespace) -> list[str]:
+    """Makes all rows that are needed and not there. Gives the answer to the plan's question, and writes a note. Raises UsageError."""
+    plan, path = plan_of(options.plan), Path(options.runs)
     points = Points(plan, options.random, options.draw)
-    inputs = Inputs(plan, workloads_of(plan, points), options.timeout)
-
-    def first(number: int) -> list[str]:
-        point, seed = points.run(number)
-        return first_cells(point, seed, inputs.workloads[point.key(plan.are_traces)])
-
-    path = Path(options.runs)
-    kept = partial(kept_rows, path, [*plan.columns, *plan.measures, STATUS], first, points.runs)
-    before = rows = kept()
-    failed = 0
-    if rows < points.runs:
-        remaining = Remaining(sys.stderr, points.runs, before)
+    workloads = workloads_of(plan, points, path.parent)
+    check_limits(plan, points, workloads)
+    inputs = Inputs(plan, points, workloads, str(program().resolve()), options.timeout)
+    answer: list[str] = []
+    with ExitStack() as stack:
+        file = stack.enter_context(RunsFile(path, [*plan.columns, *plan.measures, STATUS]))
+        runs = Runs(options, inputs, file, stack)
+        stack.callback(runs.remaining.end)
         try:
-            with open(path, "a", encoding="utf-8") as stream, rows_from(options, inputs, points, before) as made:
-                for some in made:
-                    stream.write(some.text)
-                    stream.flush()
-                    failed += some.failed
-                    rows += some.runs
-                    remaining(rows)
+            if plan.question.is_asked:
+                answer = list(answers(Asked(plan, points, workloads, runs)))
+            else:
+                deque(runs(range(points.runs)), maxlen=0)
         except KeyboardInterrupt:
-            remaining.end()
+            runs.remaining.end()
             # The file tells how many rows there are: the interrupt may have come between a row and its count.
-            print(f"note: stopped with {kept()} of {counted(points.runs, 'run')}: the same command goes on", file=sys.stderr)
+            print(f"note: stopped with {rows_there(path)} of {counted(points.runs, 'run')}: the same command goes on", file=sys.stderr)
             raise
-        finally:
-            remaining.end()
+        file.end()
     if options.points:
         write_points(path, Path(options.points), plan.columns, plan.measures, len(points.seeds))
-    return (f"{counted(len(points), 'point')} with {counted(points.runs, 'run')}, {before} of them there before; "
-            f"{failed} of the others have another status than ok")
+    needed = "" if plan.question.axis is None else f"{runs.there + runs.made} of them needed, "
+    print(f"note: {counted(len(points), 'point')} with {counted(points.runs, 'run')}, {needed}{runs.there} of them there before; "
+          f"{runs.failed} of the others have another status than ok", file=sys.stderr)
+    return answer
 
 
 def interrupt_once() -> None:
@@ -152,9 +183,8 @@ def interrupt_once() -> None:
 
 def work() -> None:
     interrupt_once()
-    print(f"note: {search(options_of())}", file=sys.stderr)
-    # The interpreter ends without looking for garbage, which would take as long as many runs.
-    gc.freeze()
+    for line in search(options_of()):
+        print(line)
 
 
 if __name__ == "__main__":

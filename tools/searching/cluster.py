@@ -13,14 +13,13 @@ import tempfile
 import zipfile
 from contextlib import contextmanager
 from pathlib import Path
-from typing import Any, Iterator
+from typing import Any, Iterator, Sequence
 
 from common import UsageError
 
-from .handing import Answer, in_order, timed
-from .points import Points
-from .runs import Inputs, rows_of
-from .table import Rows
+from .handing import Answer, Pool
+from .runs import Inputs, row_of
+from .table import Row
 
 PACKAGES = ("common.py", "units.py", "wording.py", "measuring", "reports", "scripts", "searching", "tracing")
 """What workers need of the tools."""
@@ -34,17 +33,16 @@ SECONDS_TO_CONNECT = 30
 class Sent:
     """What workers have: all that runs need."""
 
-    def __init__(self, inputs: Inputs, points: Points, program: bytes) -> None:
+    def __init__(self, inputs: Inputs, program: bytes) -> None:
         self.inputs = inputs
-        self.points = points
         self.program = program
         self.hash = hashlib.sha256(program).hexdigest()
 
 
-def make(sent: Sent, chunk: range) -> tuple[Rows, float]:
+def make(sent: Sent, numbers: Sequence[int]) -> list[Row]:
     """The rows of a chunk, on a worker."""
-    program = placed(sent)
-    return timed(lambda: rows_of(sent.inputs, program, sent.points, chunk))
+    inputs = sent.inputs._replace(program=placed(sent))
+    return [row_of(inputs, number) for number in numbers]
 
 
 def placed(sent: Sent) -> str:
@@ -92,8 +90,8 @@ def archive(folder: Path) -> Path:
 
 
 @contextmanager
-def cluster_rows(inputs: Inputs, points: Points, program: str, start: int, address: str) -> Iterator[Iterator[Rows]]:
-    """The rows of all runs from `start` on, chunk by chunk, from the workers of the scheduler at this address."""
+def cluster_pool(inputs: Inputs, address: str) -> Iterator[Pool]:
+    """The workers of the scheduler at this address."""
     module = distributed()
     try:
         client = module.Client(address, timeout=SECONDS_TO_CONNECT)
@@ -103,13 +101,10 @@ def cluster_rows(inputs: Inputs, points: Points, program: str, start: int, addre
         if not client.ncores():
             raise UsageError(f"--cluster {address}: the scheduler has no worker")
         client.upload_file(str(archive(Path(folder))))
-        sent = client.scatter(Sent(inputs, points, Path(program).read_bytes()), broadcast=True, hash=True)
+        sent = client.scatter(Sent(inputs, Path(inputs.program).read_bytes()), broadcast=True, hash=True)
 
-        def submit(chunk: range) -> Answer:
-            answer: Answer = client.submit(make, sent, chunk, retries=RETRIES, pure=False)
+        def submit(numbers: Sequence[int]) -> Answer:
+            answer: Answer = client.submit(make, sent, numbers, retries=RETRIES, pure=False)
             return answer
 
-        def processes() -> int:
-            return max(1, sum(map(int, client.ncores().values())))
-
-        yield in_order(submit, start, points.runs, processes)
+        yield Pool(submit, lambda: max(1, sum(map(int, client.ncores().values()))))

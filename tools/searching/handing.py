@@ -1,16 +1,14 @@
 """Hands runs out in chunks and takes their rows back in the order of the plan."""
 from __future__ import annotations
 
-import time
 from collections import deque
-from typing import Callable, Iterator, Protocol
+from typing import Callable, Iterator, NamedTuple, Protocol, Sequence
 
-from .table import Rows
+from .table import Row
 
-SECONDS_OF_CHUNK = 0.2
-MOST_OF_CHUNK = 256
-PARTS_OF_REST = 2
-"""Of the runs that are left a chunk has at most this part of what one process would get."""
+MOST_OF_CHUNK = 32
+CHUNKS = 16
+"""Of few runs a process gets so many chunks, so that all processes end at about the same time."""
 AHEAD = 4
 """How many chunks are handed out for each process, so that none of them waits."""
 
@@ -18,52 +16,24 @@ AHEAD = 4
 class Answer(Protocol):
     """The rows of a chunk, some time."""
 
-    def result(self) -> tuple[Rows, float]:
-        """The rows, and the seconds that they took."""
+    def result(self) -> list[Row]: ...
 
 
-class Pace:
-    """Makes chunks of runs that follow each other, each as long as a fraction of a second.
+class Pool(NamedTuple):
+    """What makes runs."""
 
-    So handing them out costs little, and stopping loses little.
-    """
-
-    def __init__(self, start: int, end: int) -> None:
-        self.next = start
-        self.end = end
-        self.runs = 0
-        self.seconds = 0.0
-
-    def learn(self, runs: int, seconds: float) -> None:
-        self.runs += runs
-        self.seconds += seconds
-
-    def chunk(self, processes: int) -> range:
-        """The next runs; none at the end. The last chunks are short, so that all processes end at about the same time."""
-        size = 1
-        if self.seconds > 0:
-            share = (self.end - self.next) // (PARTS_OF_REST * processes)
-            size = max(1, min(MOST_OF_CHUNK, int(SECONDS_OF_CHUNK * self.runs / self.seconds), share))
-        first, self.next = self.next, min(self.end, self.next + size)
-        return range(first, self.next)
+    submit: Callable[[Sequence[int]], Answer]
+    processes: Callable[[], int]
+    """How many runs are made at once; on a cluster that may change."""
 
 
-def in_order(submit: Callable[[range], Answer], start: int, end: int, processes: Callable[[], int]) -> Iterator[Rows]:
-    """The rows of the runs from `start` to before `end`, in their order."""
-    pace = Pace(start, end)
+def in_order(pool: Pool, numbers: Sequence[int]) -> Iterator[list[Row]]:
+    """The rows of these runs, chunk by chunk, in their order."""
+    size = max(1, min(MOST_OF_CHUNK, len(numbers) // (CHUNKS * pool.processes())))
     waiting: deque[Answer] = deque()
-    while True:
-        count = processes()
-        while len(waiting) < AHEAD * count and (chunk := pace.chunk(count)):
-            waiting.append(submit(chunk))
-        if not waiting:
-            return
-        rows, seconds = waiting.popleft().result()
-        pace.learn(rows.runs, seconds)
-        yield rows
-
-
-def timed(work: Callable[[], Rows]) -> tuple[Rows, float]:
-    """What `work` gives, and how long it took."""
-    since = time.perf_counter()
-    return work(), time.perf_counter() - since
+    for start in range(0, len(numbers), size):
+        waiting.append(pool.submit(numbers[start : start + size]))
+        if len(waiting) > AHEAD * pool.processes():
+            yield waiting.popleft().result()
+    while waiting:
+        yield waiting.popleft().result()

@@ -8,17 +8,22 @@ from string import Formatter
 from typing import Any, Mapping, NamedTuple
 
 from common import UsageError
-from scripts.grammar import first_word
+from scripts.grammar import HEADERS, first_word
 from tracing.clocks import CLOCKS
 from tracing.commits import PARTS
 from tracing.forms import FORMS
 from tracing.lackey import KINDS
 
 from .measures import COMMANDS, MEASURES, RECLAIM, REPLAY, measures_by
+from .questions import EACH, Question, aim_of, condition_of
 
 SETTINGS = ("interval", "unit", "cap", "min", "max", "aggr")
 """The settings of a point, in the order of the columns; the seed comes last."""
 SEED = "seed"
+TUNE = "tune"
+"""The command of damon that takes goals."""
+TUNED = "tuned"
+"""What it has beside the measures of `replay`: the bytes at the end of all quotas that follow goals."""
 OF_TRACES: dict[str, Any] = {"interval": 10_000, "unit": 1, "min": 10, "max": 100, "aggr": 20, SEED: 1}
 """What holds where a plan with traces does not say it, as in tools/trace_to_script.py; `cap` is `max`."""
 NAME = re.compile(r"[a-z][a-z0-9_]*")
@@ -43,6 +48,10 @@ class Plan(NamedTuple):
 
     command: str
     """That of damon, by which scripts are run."""
+    goals: tuple[str, ...]
+    """Those of quotas, for the command `tune`; they may have placeholders."""
+    version: int | None
+    """That of the rules; None for that of a script."""
     workloads: tuple[str, ...]
     """Paths as the plan has them."""
     are_traces: bool
@@ -56,7 +65,10 @@ class Plan(NamedTuple):
     commits: tuple[tuple[str, str], ...]
     """Each an interval and a line of a commit; both may have placeholders."""
     hot: float
+    target: int | None
+    """The target whose pages are measured; None for all."""
     measures: tuple[str, ...]
+    question: Question
     folder: Path = Path()
     """Where the paths of workloads begin."""
 
@@ -128,18 +140,27 @@ def plan_from(table: Table, folder: Path) -> Plan:
     if bool(traces) == bool(scripts):
         raise UsageError("the plan needs one of `traces` and `scripts`, a list of paths")
     command = table.take("command", str, REPLAY)
-    if command not in COMMANDS:
-        raise UsageError(f"command is {command!r}, and must be one of {', '.join(COMMANDS)}")
+    if command not in (*COMMANDS, TUNE):
+        raise UsageError(f"command is {command!r}, and must be one of {', '.join((*COMMANDS, TUNE))}")
+    goals, version = table.lines("goals"), table.take("version", int, 0)
+    if bool(goals) != (command == TUNE):
+        raise UsageError(f'goals, as `damon tune` takes them, and command = "{TUNE}" need each other')
+    if version not in (0, *HEADERS):
+        raise UsageError(f"version is {version}, and must be one of {', '.join(map(str, HEADERS))}")
     source = source_of(table, bool(traces))
     settings = settings_of(table.table("settings"), bool(traces))
     values = values_of(table.table("values"))
     seeds = settings.pop(SEED, ())
     schemes, commits = table.lines("schemes"), tuple(map(placed, table.lines("commits")))
-    hot, measures = measures_of(table.table("measure"), command)
+    hot, target, measures = measures_of(table.table("measure"), command)
+    question = question_of(table, settings, values, measures)
     table.end()
+    if any(first_word(line) == "attrs" for _, line in commits) and any(one.unit == EACH for one in question.conditions):
+        raise UsageError(f"commits that change attrs change how many aggregations there are, so no condition can have `{EACH}`")
     check_schemes(schemes)
-    check_placeholders([*schemes, *(text for commit in commits for text in commit)], values)
-    return Plan(command, traces or scripts, bool(traces), source, settings, values, seeds, schemes, commits, hot, measures, folder)
+    check_placeholders([*schemes, *goals, *(text for commit in commits for text in commit)], values)
+    return Plan(command, goals, version or None, traces or scripts, bool(traces), source, settings, values, seeds, schemes, commits,
+                hot, target, measures, question, folder)
 
 
 def source_of(table: Table, are_traces: bool) -> Source:
@@ -175,7 +196,7 @@ def settings_of(table: Table, are_traces: bool) -> dict[str, tuple[Value, ...]]:
 def values_of(table: Table) -> dict[str, tuple[Value, ...]]:
     """The values of placeholders."""
     for name in table.members:
-        if not NAME.fullmatch(name) or name in (*SETTINGS, SEED, "workload", "status", *MEASURES):
+        if not NAME.fullmatch(name) or name in (*SETTINGS, SEED, "workload", "status", TUNED, *MEASURES):
             raise UsageError(f"a placeholder cannot be named {name!r}")
     return {name: listed(name, value, texts=True) for name, value in table.members.items()}
 
@@ -216,12 +237,15 @@ def placed(text: str) -> tuple[str, str]:
     return match[1], match[2]
 
 
-def measures_of(table: Table, command: str) -> tuple[float, tuple[str, ...]]:
-    """What share makes a page hot, and which columns there are."""
+def measures_of(table: Table, command: str) -> tuple[float, int | None, tuple[str, ...]]:
+    """What share makes a page hot, which target is measured, and which columns there are."""
     hot = table.members.pop("hot", 0.5)
     if type(hot) not in (int, float) or not 0 < hot <= 1:
         raise UsageError("hot of [measure] must be above 0 and at most 1")
-    known = measures_by(command)
+    target = table.take("target", int, -1)
+    if target < -1:
+        raise UsageError("target of [measure] must be the number of a target")
+    known = (*measures_by(command), *([TUNED] if command == TUNE else []))
     columns = table.strings("columns") or known
     for name in columns:
         if name in MEASURES and name not in known:
@@ -229,7 +253,18 @@ def measures_of(table: Table, command: str) -> tuple[float, tuple[str, ...]]:
         if name not in known or columns.count(name) > 1:
             raise UsageError(f"columns of [measure] has {name!r}; it can have each of these once: {', '.join(known)}")
     table.end()
-    return float(hot), columns
+    return float(hot), None if target < 0 else target, columns
+
+
+def question_of(table: Table, settings: Mapping[str, tuple[Value, ...]], values: Mapping[str, tuple[Value, ...]],
+                measures: tuple[str, ...]) -> Question:
+    """What is asked of the points: conditions, and aims among those that meet them."""
+    aims = table.members.pop("aim", [])
+    texts = table.strings("conditions")
+    table.members["aim"] = [aims] if isinstance(aims, str) else aims
+    axes = {name: list(found) for name, found in {**settings, **values}.items() if name not in (SEED, "interval")}
+    return Question(tuple(condition_of(text, measures) for text in texts),
+                    tuple(aim_of(text, axes, measures) for text in table.strings("aim")))
 
 
 def check_schemes(schemes: tuple[str, ...]) -> None:
@@ -254,4 +289,4 @@ def check_placeholders(texts: list[str], values: Mapping[str, tuple[Value, ...]]
             used.add(name)
     for name in values:
         if name not in used:
-            raise UsageError(f"[values] has {name}, and no scheme and no commit has {{{name}}}")
+            raise UsageError(f"[values] has {name}, and no scheme, commit or goal has {{{name}}}")

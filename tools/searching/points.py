@@ -1,8 +1,9 @@
 """The runs of a plan, by number: all combinations of its values, or some that are drawn at random."""
 from __future__ import annotations
 
+import random
 from itertools import product
-from typing import Iterator, Mapping, NamedTuple, Sequence
+from typing import Mapping, NamedTuple, Sequence
 
 from common import UsageError
 
@@ -48,10 +49,9 @@ class Points:
         self.drawn: list[int] | None = None
         if self.all > MOST_POINTS:
             raise UsageError(f"the plan has more than {MOST_POINTS} points")
+        if plan.question.axis and draws is not None:
+            raise UsageError(f"--random draws points, and the plan looks for a value of {plan.question.axis} by an aim")
         if draws is not None and draws < self.all:
-            # Most searches draw none, and this takes long to load.
-            import random
-
             self.drawn = sorted(random.Random(draw).sample(range(self.all), draws))
 
     def __len__(self) -> int:
@@ -90,9 +90,7 @@ class Points:
         point, seed = divmod(number, len(self.seeds))
         return self.point(point), self.seeds[seed]
 
-    def parts(self, runs: range) -> Iterator[tuple[Point, Sequence[Value | None]]]:
-        """The points of runs that follow each other, each with those of its seeds that are among them."""
-        seeds = len(self.seeds)
-        for number in range(runs.start // seeds, -(-runs.stop // seeds)):
-            first = number * seeds
-            yield self.point(number), self.seeds[max(0, runs.start - first) : runs.stop - first]
+    def rest(self, number: int) -> int:
+        """The same for all points that differ in their workloads alone."""
+        place = number if self.drawn is None else self.drawn[number]
+        return place % (self.all // len(self.axes[0][1]))

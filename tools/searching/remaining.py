@@ -8,19 +8,23 @@ from tracing.progress import Progress
 
 
 class Remaining:
-    """Is told the rows that are there. The time left is that of as many rows as it has seen itself."""
+    """Is told what rows there are to make, and how many were made. The time left is that of as many rows as it has seen."""
 
-    def __init__(self, stream: TextIO, all_runs: int, before: int, clock: Callable[[], float] = time.monotonic) -> None:
+    def __init__(self, stream: TextIO, clock: Callable[[], float] = time.monotonic) -> None:
         self.progress = Progress(stream, clock)
-        self.all_runs = all_runs
-        self.before = before
         self.clock = clock
         self.since = clock()
+        self.all = self.made = 0
+
+    def begin(self, runs: int) -> None:
+        """So many more have to be made."""
+        self.all += runs
 
     def __call__(self, rows: int) -> None:
-        made = rows - self.before
-        left = (self.clock() - self.since) / made * (self.all_runs - rows) if made else 0.0
-        self.progress.say(f"{rows} of {self.all_runs} runs, {100 * rows // self.all_runs} %; {in_words(left)} left")
+        """So many more were made."""
+        self.made += rows
+        left = (self.clock() - self.since) / self.made * (self.all - self.made)
+        self.progress.say(f"{self.made} of {self.all} runs, {100 * self.made // self.all} %; {in_words(left)} left")
 
     def end(self) -> None:
         self.progress.end()

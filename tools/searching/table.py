@@ -1,4 +1,4 @@
-"""The CSV files of a search: one row for each run, in the order of the plan, and one for each point.
+"""The CSV files of a search: one row for each run, in the order in which runs are wanted, and one for each point.
 
 The file of runs is a beginning of the whole one at each moment, whatever the order in which runs end.
 So a search that was stopped goes on behind the last whole row.
@@ -6,10 +6,11 @@ So a search that was stopped goes on behind the last whole row.
 from __future__ import annotations
 
 import csv
+import io
 import os
-import re
 from pathlib import Path
-from typing import Callable, Iterable, Iterator, NamedTuple, Sequence
+from statistics import mean, stdev
+from typing import Iterable, Iterator, Self, Sequence
 
 from common import UsageError
 
@@ -20,68 +21,83 @@ RUNS, DONE_RUNS = "runs", "done"
 MEAN, SPREAD = " mean", " spread"
 """What stands behind the name of a measure in a row of a point."""
 
-
-QUOTED = re.compile('[,"\r\n]')
-"""Cells that have one of these stand between quotes."""
-
-
-class Rows(NamedTuple):
-    """Rows of runs that follow each other."""
-
-    text: str
-    """Their lines."""
-    runs: int
-    failed: int
-    """How many of them are not DONE."""
+Row = list[str]
+"""The cells of a run or of a point."""
 
 
-def cell_of(text: str) -> str:
-    """A text as it stands in a line."""
-    return '"' + text.replace('"', '""') + '"' if QUOTED.search(text) else text
-
-
-def line_of(cells: Iterable[str]) -> str:
+def line_of(cells: Sequence[str]) -> str:
     """The line of a row."""
-    return ",".join(map(cell_of, cells)) + "\n"
+    stream = io.StringIO()
+    csv.writer(stream, lineterminator="\n").writerow(cells)
+    return stream.getvalue()
 
 
-def rows_in(text: str) -> list[list[str]]:
-    return list(csv.reader(text.splitlines(keepends=True), strict=True))
+class RunsFile:
+    """The file of runs: what is there is read and compared with what is wanted, row by row, and then rows are added."""
+
+    def __init__(self, path: Path, header: Sequence[str]) -> None:
+        """Raises UsageError if it is of another plan."""
+        self.path = path
+        self.columns = len(header)
+        path.touch()
+        self.stream = open(path, newline="", encoding="utf-8")
+        self.lines = 0
+        self.whole: int | None = 0
+        """The bytes of the rows that are read; None once there are others."""
+        self.is_read = self.row(header) is None
+        if self.is_read:
+            self.add([[*header]])
+
+    def __enter__(self) -> Self:
+        return self
+
+    def __exit__(self, *error: object) -> None:
+        self.stream.close()
+
+    def row(self, first: Sequence[str]) -> Row | None:
+        """The next row, which begins with these cells; None if it is not there. Raises UsageError if it is another one."""
+        line = self.stream.readline()
+        if not line.endswith("\n"):
+            return None
+        self.lines += 1
+        self.whole = (self.whole or 0) + len(line.encode("utf-8"))
+        try:
+            cells: Row = next(csv.reader([line], strict=True), [])
+        except csv.Error:
+            cells = []
+        if len(cells) != self.columns or cells[: len(first)] != list(first):
+            raise self.other()
+        return cells
+
+    def other(self) -> UsageError:
+        return UsageError(f"{self.path}: line {self.lines} is not of this plan: name another file, or remove this one")
+
+    def kept(self, first: Sequence[str]) -> Row | None:
+        """The row of a run, if it is there; from the first that is not, none is."""
+        found = None if self.is_read else self.row(first)
+        self.is_read = found is None
+        return found
+
+    def end(self) -> None:
+        """Raises UsageError if there are more rows than were wanted."""
+        if not self.is_read and self.stream.readline():
+            self.lines += 1
+            raise self.other()
+
+    def add(self, rows: Iterable[Row]) -> None:
+        """Writes rows behind those that are read. A last line that is cut off is removed."""
+        if self.whole is not None:
+            self.stream.close()
+            os.truncate(self.path, self.whole)
+            self.stream = open(self.path, "a", encoding="utf-8")
+            self.whole = None
+        self.stream.write("".join(map(line_of, rows)))
+        self.stream.flush()
 
 
-def kept_rows(path: Path, header: Sequence[str], first: Callable[[int], list[str]], runs: int) -> int:
-    """How many rows are there already; a last line that is cut off is removed. Raises UsageError.
-
-    `first` gives the cells with which the row of a run begins.
-    """
-    if not path.exists() or not path.stat().st_size:
-        path.write_text(line_of(header))
-        return 0
-    whole = 0
-    number = -1
-    with open(path, newline="", encoding="utf-8") as stream:
-        for number, line in enumerate(stream, -1):
-            if not line.endswith("\n"):
-                number -= 1
-                break
-            wanted = list(header) if number < 0 else first(number) if number < runs else []
-            check_row(path, number, line, wanted, len(header))
-            whole += len(line.encode("utf-8"))
-    if number < -1 or whole == 0:
-        path.write_text(line_of(header))
-        return 0
-    os.truncate(path, whole)
-    return number + 1
-
-
-def check_row(path: Path, number: int, line: str, wanted: list[str], columns: int) -> None:
-    """Raises UsageError if a row is not that of its run."""
-    try:
-        cells = rows_in(line)[0]
-    except (csv.Error, IndexError):
-        cells = []
-    if not wanted or len(cells) != columns or cells[: len(wanted)] != wanted:
-        raise UsageError(f"{path}: line {number + 2} is not of this plan: name another file, or remove this one")
+def rows_there(path: Path) -> int:
+    """How many rows a file of runs has."""
+    return max(0, path.read_bytes().count(b"\n") - 1)
 
 
 def points_header(columns: Sequence[str], measures: Sequence[str]) -> list[str]:
@@ -117,9 +133,6 @@ def rows_of_points(path: Path, seeds: int) -> Iterator[list[list[str]]]:
 
 def point_cells(rows: list[list[str]], settings: int, measures: int) -> list[str]:
     """The settings of a point, and of each measure the mean over its runs and how far these are spread."""
-    # Most searches write no points, and this takes long to load.
-    from statistics import mean, stdev
-
     done = [row for row in rows if row[-1] == DONE]
     result = [*rows[0][:settings], str(len(rows)), str(len(done))]
     for column in range(settings + 1, settings + 1 + measures):

@@ -4,13 +4,14 @@ They are made of scripts whose passes are `arm`, touches and `finish`, or, in `t
 """
 from __future__ import annotations
 
+import re
 from bisect import bisect_right
 from itertools import accumulate
 from typing import NamedTuple
 
 from common import UsageError, opened
 from measuring.truth import Range, Truths
-from scripts.grammar import first_word
+from scripts.grammar import HEADERS, first_word
 from scripts.reading import Commit, OtherLine, Pass, touched_by
 from scripts.setup import Script
 from tracing.commits import Commits, commit_lines
@@ -18,6 +19,10 @@ from tracing.intervals import Runs, runs_of
 from units import PAGE_BITS
 
 from .plan import SEED, Plan, Value
+
+SWEEP = re.compile(rb"^sweep [0-9]+ 0x([0-9a-f]+) 0x([0-9a-f]+)$", re.MULTILINE)
+WORKS = re.compile(rb"^(?:touch|show|apply)\b", re.MULTILINE)
+"""Lines with a work of 1."""
 
 
 class Workload(NamedTuple):
@@ -35,6 +40,10 @@ class Workload(NamedTuple):
     passes: list[int]
     """Where the line `arm` of each interval begins in it."""
     truths: Truths
+    pages: int
+    """All that are watched."""
+    work: int
+    """That of all lines of the body but `arm` and `finish`, as a script counts it."""
 
     def body(self, commits: Commits) -> bytes:
         """The body, with these commits before their intervals, which rise."""
@@ -76,9 +85,18 @@ class Numbers:
         return runs_of(sorted(found))
 
 
-def script_workload(plan: Plan, name: str) -> Workload:
-    """The workload of a script. Raises UsageError."""
-    path = str(plan.folder / name)
+class PassedScript(NamedTuple):
+    """A script whose passes are `arm`, touches and `finish`."""
+
+    script: Script
+    defaults: dict[str, Value]
+    ranges: list[Range]
+    intervals: list[Runs]
+    """The numbers of the watched pages that each pass touches."""
+
+
+def passed_script(path: str, target: int | None = None) -> PassedScript:
+    """The script in a file, of which only this target is looked at, if one is given. Raises UsageError."""
     with opened(path) as stream:
         text = stream.read()
     try:
@@ -88,15 +106,35 @@ def script_workload(plan: Plan, name: str) -> Workload:
             raise UsageError("the line `attrs` must have three numbers")
         defaults: dict[str, Value] = {"interval": "", "min": attrs[0], "max": attrs[1], "aggr": attrs[2]}
         defaults |= {word: int(script.words(word)[0]) for word in ("unit", "cap", SEED)}
-        ranges = ranges_of(script)
-        intervals = touched_of(script, ranges)
+        ranges = of_target(ranges_of(script), target)
+        return PassedScript(script, defaults, ranges, touched_of(script, ranges))
     except (IndexError, ValueError):
         raise UsageError(f"{path}: its setup is not that of a script of damon: tools/explain.py says why") from None
     except UsageError as error:
         raise UsageError(f"{path}: {error}") from None
+
+
+def script_workload(plan: Plan, name: str) -> Workload:
+    """The workload of a script. Raises UsageError."""
+    script, defaults, ranges, intervals = passed_script(str(plan.folder / name), plan.target)
     kept = tuple(line for line in script.lines if first_word(line) in ("target", "range"))
-    return Workload(name, script.lines[0], kept, defaults, tuple(script.schemes()), script.body,
-                    script.starts(), Truths(ranges, intervals, plan.hot))
+    return Workload(name, HEADERS[plan.version] if plan.version else script.lines[0], kept, defaults, tuple(script.schemes()), script.body,
+                    script.starts(), Truths(ranges, intervals, plan.hot),
+                    sum(one.pages for one in ranges_of(script)), work_of(script.body))
+
+
+def work_of(body: bytes) -> int:
+    """The work of the lines of a body but `arm` and `finish`."""
+    swept = sum((int(after, 16) - int(first, 16)) >> PAGE_BITS for first, after in SWEEP.findall(body))
+    return swept + len(WORKS.findall(body))
+
+
+def of_target(ranges: list[Range], target: int | None) -> list[Range]:
+    """The ranges of a target, or all. Raises UsageError if it has none."""
+    found = [one for one in ranges if target in (None, one.target)]
+    if not found:
+        raise UsageError(f"there is no target {target}, of which the plan wants the measures")
+    return found
 
 
 def ranges_of(script: Script) -> list[Range]:
@@ -120,5 +158,5 @@ def touched_of(script: Script, ranges: list[Range]) -> list[Runs]:
 
 def not_a_pass(script: Script, number: int, line: str) -> UsageError:
     """The fault of a line of the body, with its number in the whole text."""
-    return UsageError(f"line {len(script.lines) + 1 + number}: {line[:40]!r}: a search takes scripts whose passes are `arm`, touches "
-                      "and `finish`, and whose ranges stay")
+    return UsageError(f"line {len(script.lines) + 1 + number}: {line[:40]!r}: exact counts need scripts whose passes are `arm`, "
+                      "touches and `finish`, and whose ranges stay")

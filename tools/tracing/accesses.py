@@ -2,7 +2,7 @@
 from __future__ import annotations
 
 from itertools import islice
-from typing import Callable, Iterable, Iterator
+from typing import Callable, Iterable, Iterator, NamedTuple
 
 BATCH = 1 << 16
 
@@ -17,6 +17,23 @@ class TraceError(Exception):
 def shown(line: bytes) -> str:
     """The line as one short text for a message."""
     return ascii(line[:60].decode("latin-1").rstrip("\r\n"))
+
+
+class Origin(NamedTuple):
+    """How a trace was read, and what is not in its intervals."""
+
+    form: str
+    clock: str
+    """What is counted: `accesses`, `instructions` or `microseconds`."""
+    kinds: list[str]
+    """Which accesses were taken; empty where the form does not say it."""
+    hash: str
+    """The SHA-256 of the file of the trace, or of what came on standard input."""
+    beyond: int
+    without_address: int
+    cut: str | None
+    ended: str
+    """Why the trace is not whole; empty if it is."""
 
 
 class Trace:

@@ -5,17 +5,27 @@ from itertools import chain
 from typing import Iterable
 
 from .accesses import TraceError, shown
+from .instrumented import INSTRUMENTED
 from .lackey import LINE, OWN_LINES
 from .samples import COMMENT, PERF_TIME, SAMPLES
 
 LACKEY = "lackey"
-FORMS = (LACKEY, *SAMPLES)
+FORMS = (LACKEY, *INSTRUMENTED, *SAMPLES)
+WITH_KINDS = (LACKEY, *INSTRUMENTED)
+"""Those that say which accesses are loads and stores."""
 
 
 def form_of(line: bytes) -> str | None:
     """The form that this line has; None if it has none."""
     if line.startswith(OWN_LINES) or LINE.fullmatch(line):
         return LACKEY
+    for form, decode in INSTRUMENTED.items():
+        try:
+            decode(line)
+        except TraceError:
+            continue
+        if line.strip():
+            return form
     if PERF_TIME.search(line):
         # If it has no address, the reader of samples says why.
         return "perf"
@@ -46,4 +56,4 @@ def found_form(stream: Iterable[bytes]) -> tuple[str, Iterable[bytes]]:
 
 def reason(line: bytes) -> str:
     """Why a line has no form."""
-    return f"not a line of lackey, of perf script or of the form SECONDS ADDRESS: {shown(line)}"
+    return f"not a line of lackey, of a memtrace view, of pinatrace, of perf script or of the form SECONDS ADDRESS: {shown(line)}"

@@ -39,6 +39,11 @@ class Recording:
         self.runs = 0
         """The runs of all intervals together."""
 
+    def put(self, runs: Runs) -> None:
+        """Adds the runs of the next interval."""
+        self.intervals.append(runs)
+        self.runs += len(runs) // 2
+
 
 def record(
     trace: Iterable[Pages],
@@ -62,6 +67,21 @@ def record(
     return recording
 
 
+def coarser(recording: Recording, length: int, too_much: Callable[[Recording], bool]) -> Recording:
+    """The same trace in intervals of `length`, a multiple of those of the recording; or of more, as `record` makes them."""
+    result = Recording(length)
+    result.uses, result.more_pages = recording.uses, recording.more_pages
+    result.accesses, result.duration = recording.accesses, recording.duration
+    place = 0
+    while place < len(recording.intervals):
+        after = place + result.length // recording.length
+        result.put(union(recording.intervals[place:after]))
+        place = after
+        while len(result.intervals) % 2 == 0 and too_much(result):
+            double(result)
+    return result
+
+
 def add(recording: Recording, interval: list[Pages]) -> None:
     """Adds one interval, given by its accesses."""
     recording.uses.update([pages[0] for pages in interval])
@@ -69,9 +89,7 @@ def add(recording: Recording, interval: list[Pages]) -> None:
     touched = set(chain.from_iterable(distinct))
     recording.more_pages.update(*(pages[1:] for pages in distinct if len(pages) > 1))
     recording.accesses += len(interval)
-    runs = runs_of(sorted(touched))
-    recording.intervals.append(runs)
-    recording.runs += len(runs) // 2
+    recording.put(runs_of(sorted(touched)))
 
 
 def double(recording: Recording) -> None:

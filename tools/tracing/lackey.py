@@ -70,8 +70,13 @@ def decode(line: bytes, letters: bytes) -> Pages:
     letter, first, size = match[1].strip(), int(match[2], 16), int(match[3])
     if not 1 <= size <= LONGEST_ACCESS:
         raise TraceError(f"an access of {size} bytes: {shown(line)}")
-    if letter not in letters:
-        return ()
+    return pages_of(line, first, size) if letter in letters else ()
+
+
+def pages_of(line: bytes, first: int, size: int) -> Pages:
+    """The pages of an access of so many bytes, by number. Raises TraceError, and BeyondError as `decode` does."""
+    if not 1 <= size <= LONGEST_ACCESS:
+        raise TraceError(f"an access of {size} bytes: {shown(line)}")
     if first + size > USER_END:
         raise BeyondError(f"an address that is not below 2^47: {shown(line)}")
     return tuple(range(first >> PAGE_BITS, ((first + size - 1) >> PAGE_BITS) + 1))

@@ -6,16 +6,23 @@ from dataclasses import dataclass
 from typing import Iterator
 
 from scripts.advice import Circumstances, advice
-from scripts.grammar import first_word, words_of
+from scripts.grammar import MOST_CAP, first_word, words_of
 from scripts.judge import is_there, program, refusals_of
 from wording import counted
 
-from .accesses import Trace
+from .accesses import Origin
 from .areas import Choice
 from .intervals import Recording
 from .lackey import LackeyTrace
 from .names import ANONYMOUS, Mapping, names_by_maps, names_by_place
 from .script import Settings, Writer
+
+
+TARGET_SHARE = 5
+"""There should be so many regions for each target,"""
+REGION_PAGES = 10
+"""and for so many pages."""
+FEW_PAGES = 2
 
 
 @dataclass(frozen=True)
@@ -27,11 +34,11 @@ class Result:
     recording: Recording
     length: int
     """What the clock counts of each interval."""
-    clock: str
-    """What is counted: `accesses`, `instructions` or `microseconds`."""
     settings: Settings
-    trace: Trace
+    origin: Origin
     maps: list[Mapping] | None
+    said: list[str]
+    """What was said while the trace was read."""
 
     @property
     def intervals(self) -> int:
@@ -45,12 +52,13 @@ class Result:
 
 def of(result: Result) -> list[str]:
     """The notes, as lines."""
-    return [summary(result), *names(result), *lost(result), *too_short(result), *on_commits(result), *on_schemes(result)]
+    return [summary(result), *result.said, *names(result), *lost(result), *too_short(result), *too_few_regions(result),
+            *on_commits(result), *on_schemes(result)]
 
 
 def summary(result: Result) -> str:
     pages = sum(area.pages for area in result.choice.kept)
-    time = "" if result.clock == "accesses" else f"{counted(result.recording.duration, result.clock.removesuffix('s'))} with "
+    time = "" if result.origin.clock == "accesses" else f"{counted(result.recording.duration, result.origin.clock.removesuffix('s'))} with "
     parts = [
         f"{time}{counted_accesses(result.recording.accesses)} in {counted(result.intervals, 'interval')} of {result.length}",
         f"{counted(len(result.choice.kept), 'target')} with {counted(pages, 'page')}",
@@ -72,7 +80,7 @@ def names(result: Result) -> Iterator[str]:
         known = names_by_maps(areas, result.recording.uses, result.maps)
     else:
         # The places are those of valgrind.
-        known = names_by_place(areas) if result.trace.form == LackeyTrace.form else {}
+        known = names_by_place(areas) if result.origin.form == LackeyTrace.form else {}
     words = [f"--label {shlex.quote(f'{target}={known[target]}')}" for target in sorted(known) if known[target] != ANONYMOUS]
     if words:
         yield f"names of targets for tools/picture.py: {' '.join(words)}"
@@ -85,10 +93,10 @@ def lost(result: Result) -> Iterator[str]:
         pages, accesses = (sum(getattr(area, name) for area in left_out) for name in ("pages", "accesses"))
         yield (f"left out {counted(len(left_out), 'area')} with {counted(pages, 'page')} and {counted_accesses(accesses)}, "
                "by the limit of 64 targets and 1048576 pages: a larger or smaller --gap may help")
-    yield from lost_lines(result.trace)
+    yield from lost_lines(result.origin)
 
 
-def lost_lines(trace: Trace) -> Iterator[str]:
+def lost_lines(trace: Origin) -> Iterator[str]:
     """What was left out while the trace was read."""
     if trace.beyond:
         yield f"left out {counted_accesses(trace.beyond)} at addresses that are not below 2^47"
@@ -96,11 +104,27 @@ def lost_lines(trace: Trace) -> Iterator[str]:
         yield f"left out {counted(trace.without_address, 'sample')} with the address 0, which means none"
     if trace.cut:
         yield f"left out the last line of the trace, which is cut off: {trace.cut}"
+    if trace.ended:
+        yield trace.ended
 
 
 def too_short(result: Result) -> Iterator[str]:
     if result.aggregations == 0:
         yield "the intervals are too few for an aggregation: use a smaller --interval or --aggr"
+
+
+def too_few_regions(result: Result) -> Iterator[str]:
+    """Settings with which little can be found: each target has a region at least, and cuts are made only below `max`."""
+    areas, settings = result.choice.kept, result.settings
+    most = max([settings.most, *(words_of(line)[2].number() for _, line in lines_of(settings, "attrs") if line.count(" ") > 2)])
+    pages = sum(area.pages for area in areas)
+    if most >= pages or (len(areas) * TARGET_SHARE <= most and pages <= REGION_PAGES * most):
+        return
+    wanted = max(len(areas) * TARGET_SHARE, -(-pages // REGION_PAGES))
+    small = sum(area.pages <= FEW_PAGES for area in areas)
+    parts = f", {small} of them with at most {counted(FEW_PAGES, 'page')}," if 2 * small > len(areas) else ""
+    yield (f"{counted(len(areas), 'target')}{parts} and {counted(pages, 'page')} share at most {counted(most, 'region')}: few are left for "
+           f"cuts, and much that is hot may not be found; --max {min(MOST_CAP, -(-wanted // 100) * 100)} or more may find it")
 
 
 def lines_of(settings: Settings, word: str) -> list[tuple[int, str]]:

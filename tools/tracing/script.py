@@ -8,7 +8,7 @@ from __future__ import annotations
 from dataclasses import dataclass, field
 from typing import Iterator
 
-from scripts.grammar import HEADER, LEAST_REGIONS, MOST_AGGR, MOST_BYTES, MOST_CAP, MOST_UNIT, MOST_WORK
+from scripts.grammar import HEADERS, LEAST_REGIONS, MOST_AGGR, MOST_BYTES, MOST_CAP, MOST_UNIT, MOST_WORK
 from scripts.grammar import pass_work as work_of_call
 from units import PAGE_BITS
 
@@ -38,6 +38,8 @@ class Settings:
     schemes: tuple[str, ...] = ()
     """Lines as they stand in a script."""
     commits: Commits = field(default_factory=dict)
+    version: int = 1
+    """That of the rules."""
 
 
 def check_settings(settings: Settings) -> None:
@@ -79,7 +81,7 @@ def address(page: int) -> str:
 def opening(settings: Settings) -> list[str]:
     """The lines before the targets."""
     return [
-        HEADER,
+        HEADERS[settings.version],
         f"seed {settings.seed}",
         f"unit {settings.unit}",
         f"cap {settings.cap}",

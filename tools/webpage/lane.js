@@ -85,7 +85,7 @@ function turned(event) {
 
 /** Lets the wheel zoom and dragging move a lane. `target` has the number of the target whose addresses go upwards, if there are some. */
 function followGestures(lane, view, target = null) {
-  let before = d3.zoomIdentity, isInGutter = false;
+  let before = d3.zoomIdentity, isInGutter = false, active = 0;
   const placeOf = event => event.clientX - lane.node.getBoundingClientRect().left;
   const isWanted = event => {
     isInGutter = target !== null && event.clientX !== undefined && placeOf(event) < GUTTER.left;
@@ -95,6 +95,7 @@ function followGestures(lane, view, target = null) {
   const zoom = d3.zoom()
     .filter(first => isWanted(eventOf(first)))
     .wheelDelta(first => turned(eventOf(first)))
+    .on("start", () => active++)
     .on("zoom", first => {
       const { transform, sourceEvent } = eventOf(first), factor = transform.k / before.k;
       const isTime = !isInGutter && !sourceEvent?.altKey, isPages = target !== null && !sourceEvent?.shiftKey;
@@ -103,7 +104,8 @@ function followGestures(lane, view, target = null) {
       before = transform;
     })
     .on("end", () => {
-      lane.node.__zoom = before = d3.zoomIdentity;
+      // A turn of the wheel ends a moment later, when a drag may have begun.
+      if (--active === 0) lane.node.__zoom = before = d3.zoomIdentity;
     });
   lane.root.call(zoom).on("dblclick.zoom", null).on("dblclick", () => view.showWhole());
 }
