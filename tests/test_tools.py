@@ -35,10 +35,14 @@ class Tutorial(Page):
 
 
 class Choosing(Page):
-    """The same of docs/CHOOSING.md."""
+    """The same of docs/CHOOSING.md, with its two fronts."""
 
     def test_commands_and_outputs(self) -> None:
-        self.follow("docs/CHOOSING.md", lambda block: False)
+        self.follow("docs/CHOOSING.md", lambda block: False, self.compare_pictures)
+
+    def compare_pictures(self, folder: Path) -> None:
+        for picture in ("hot", "out"):
+            check_same((folder / f"{picture}.svg").read_bytes(), TOP / f"docs/pictures/search-{picture}.svg")
 
 
 class Search(Page):
@@ -49,16 +53,12 @@ class Search(Page):
         text = (TOP / "docs/SEARCH.md").read_text()
         for plan in plans:
             self.assertIn(f"```\n{plan}```\n", text)
-        self.follow("docs/SEARCH.md", lambda block: "dask " in block or block in plans or block.startswith("command ="), self.compare_pictures)
+        self.follow("docs/SEARCH.md", lambda block: "dask " in block or block in plans or block.startswith("command ="))
 
     def plan(self, name: str) -> str:
         """A plan as the page shows it, without its comments."""
         lines = (TOP / f"examples/{name}.toml").read_text().splitlines(keepends=True)
         return "".join(line for line in lines if not line.startswith("#"))
-
-    def compare_pictures(self, folder: Path) -> None:
-        for picture in ("hot", "out"):
-            check_same((folder / f"{picture}.svg").read_bytes(), TOP / f"docs/pictures/search-{picture}.svg")
 
 
 if __name__ == "__main__":
