@@ -102,7 +102,7 @@ def opened(page: Path) -> tuple[float, list[float]]:
 def scripts() -> Iterator[bytes]:
     """The smallest one first; the last two have as many rows, in many small aggregations and in few large ones."""
     yield from map(long_script, (10, 1000, 10_000))
-    yield aggregations(270)
+    yield aggregations(320)
 
 
 def line_of(page: Made, turns: int) -> str:
