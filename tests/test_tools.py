@@ -6,7 +6,7 @@ import unittest
 from pathlib import Path
 
 from pages import Page
-from tool_runs import TOP, need_program
+from tool_runs import TOP, check_same, need_program
 
 
 def setUpModule() -> None:
@@ -22,8 +22,7 @@ class Tutorial(Page):
 
     def compare_pictures(self, folder: Path) -> None:
         for picture in ("shop", "exact", "patient", "page-cache", "again", "reclaim", "tune", "heat"):
-            made = (folder / f"{picture}.svg").read_bytes()
-            self.assertEqual(made == (TOP / f"docs/pictures/{picture}.svg").read_bytes(), True, picture)
+            check_same((folder / f"{picture}.svg").read_bytes(), TOP / f"docs/pictures/{picture}.svg")
 
 
 class Search(Page):
@@ -39,8 +38,7 @@ class Search(Page):
 
     def compare_pictures(self, folder: Path) -> None:
         for picture in ("hot", "out"):
-            made = (folder / f"{picture}.svg").read_bytes()
-            self.assertEqual(made == (TOP / f"docs/pictures/search-{picture}.svg").read_bytes(), True, picture)
+            check_same((folder / f"{picture}.svg").read_bytes(), TOP / f"docs/pictures/search-{picture}.svg")
 
 
 if __name__ == "__main__":
