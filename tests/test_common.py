@@ -10,7 +10,7 @@ import tempfile
 import unittest
 from pathlib import Path
 
-from tool_runs import PROGRAM, SECONDS, TOOLS, TOP, need_program, run, script_of
+from tool_runs import PROGRAM, SECONDS, TOOLS, TOP, check_same, need_program, run, script_of
 
 from common import CLOSED_PIPE_STATUS, INTERRUPTED_STATUS, UsageError, opened, opened_text
 
@@ -65,7 +65,10 @@ class ClosedPipes(unittest.TestCase):
         self.assertGreater(len(script), 4 * 65_536)
         environment = {**os.environ, "DAMON": str(PROGRAM), "PYTHONUNBUFFERED": "1"}
         ran = subprocess.run([sys.executable, TOOLS / "settings.py"], input=script.encode(), capture_output=True, env=environment)
-        self.assertEqual(ran.stdout.decode() == script, True)
+        with tempfile.TemporaryDirectory() as folder:
+            wanted = Path(folder) / "script"
+            wanted.write_text(script)
+            check_same(ran.stdout, wanted)
 
 
 class Interrupts(unittest.TestCase):

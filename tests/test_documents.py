@@ -126,10 +126,6 @@ class Pages(unittest.TestCase):
                 if anchor and target.suffix == ".md":
                     self.assertIn(anchor, anchors(target), f"{page.name}: {link}")
 
-    def test_whose_the_rules_are_is_said_once(self) -> None:
-        found = {page.name: page.read_text().count("this project's own") for page in PAGES}
-        self.assertEqual({name: count for name, count in found.items() if count}, {"MONITOR.md": 1})
-
     def test_each_page_of_docs_is_on_the_map(self) -> None:
         shown = set(LINK.findall((TOP / "README.md").read_text()))
         self.assertLessEqual({f"docs/{page.name}" for page in (TOP / "docs").glob("*.md")}, shown)

@@ -9,12 +9,12 @@ import xml.etree.ElementTree as xml
 from pathlib import Path
 
 from test_picture import RECLAIMED, SVG, TWO_AGGREGATIONS, drawn, paths_of, texts_of, titles_of
-from tool_runs import Refusals, need_program, random_trace, report_of, script_of
+from tool_runs import Refusals, counts_of_report, need_program, random_trace, report_of, script_of
 
 from drawing.charts import charts_of
 from drawing.fold import shares_of
-from drawing.grid import level
-from drawing.history import Cut, History, history_of
+from drawing.grid import AGAIN, level
+from drawing.history import Cut, History, again_marked, history_of
 from reports.events import Report
 from reports.names import NamedArea, NamesError, name_of, named_areas_of
 
@@ -81,6 +81,38 @@ class Cuts(unittest.TestCase):
         self.assertEqual([(chart.name, list(chart.ticks), list(chart.values)) for chart in charts_of(part, ("resident", "refaults"))],
                          [("resident", [6, 8], [4, 5]), ("refaults", [6, 8], [1, 0])])
         self.assertIn("refaults, all targets", texts_of(drawn(RECLAIMED, "--target", "0")))
+
+
+class OutAlready(unittest.TestCase):
+    """Pages to which `pageout` was applied while they were out are told apart by an exact report."""
+
+    SCHEME = "scheme 0 pageout count=0,0 quota=81920,10 prefer=cold"
+    REPORT = report_of(script_of(random_trace(5, 1500), "--interval", "20", "--aggr", "5", "--exact", "--scheme", SCHEME))
+
+    def test_pages(self) -> None:
+        """Counted page by page: a page is out from a `pageout` until an aggregation in which it was accessed."""
+        lines = self.REPORT.splitlines()
+        marked = again_marked(history(self.REPORT), Report(lines).aggregations())
+        out: set[int] = set()
+        found = 0
+        for snapshot, counts in zip(marked.snapshots, counts_of_report(self.REPORT)):
+            out -= {page for page, count in counts.items() if count}
+            for run in snapshot.applied:
+                pages = set(range(run.start // 4096, run.end // 4096))
+                self.assertEqual(pages & out, pages if run.action == AGAIN else set())
+                found += len(pages) * (run.action == AGAIN)
+            out |= {page for run in snapshot.applied for page in range(run.start // 4096, run.end // 4096)}
+        self.assertGreater(found, 20)
+        self.assertEqual(marked.slots[0].applied, history(self.REPORT).slots[0].applied)
+
+    def test_the_picture(self) -> None:
+        with tempfile.NamedTemporaryFile("w", suffix=".report") as file:
+            file.write(self.REPORT)
+            file.flush()
+            picture = drawn(self.REPORT, "--exact", file.name)
+            self.assertIn("it was out already", texts_of(picture))
+            self.assertGreater(len(paths_of(picture, "class", "mark s0 faint")), 0)
+            self.assertNotIn("it was out already", texts_of(drawn(self.REPORT)))
 
 
 class Pictures(unittest.TestCase):
@@ -152,6 +184,10 @@ class Errors(Refusals):
         self.refused(TOOL, ["--charts names 'refaults', and the report has working-set, regions"], report, "--charts", "refaults")
         self.refused(TOOL, ["--busy is a share"], report, "--busy", "2")
         self.refused(TOOL, [": line 1: not `START-END NAME`"], report, "--names", str(Path(__file__)))
+        with tempfile.NamedTemporaryFile("w", suffix=".report") as file:
+            file.write("exact counts 1\naggregate tick=5 rows=0\n")
+            file.flush()
+            self.refused(TOOL, [f"{file.name}: the exact report has no aggregation at tick 4"], report, "--exact", file.name)
         for words in (["--heat"], ["--front", "--x", "checks", "--y", "hot_found"]):
             self.refused(TOOL, ["are for reports"], report, *words, "--busy", "0")
 

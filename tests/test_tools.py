@@ -7,7 +7,7 @@ from pathlib import Path
 
 from page_parts import parts_of
 from pages import Page
-from tool_runs import TOP, need_program
+from tool_runs import TOP, check_same, need_program
 
 from webpage.d3 import BUNDLE
 
@@ -26,9 +26,8 @@ class Tutorial(Page):
         self.follow("docs/TUTORIAL.md", lambda block: any(word in block for word in skipped), self.compare_pictures)
 
     def compare_pictures(self, folder: Path) -> None:
-        for picture in ("shop", "exact", "patient", "page-cache", "reclaim", "tune", "heat"):
-            made = (folder / f"{picture}.svg").read_bytes()
-            self.assertEqual(made == (TOP / f"docs/pictures/{picture}.svg").read_bytes(), True, picture)
+        for picture in ("shop", "exact", "patient", "page-cache", "again", "reclaim", "tune", "heat"):
+            check_same((folder / f"{picture}.svg").read_bytes(), TOP / f"docs/pictures/{picture}.svg")
         if self.HAS_D3:
             # Another version of D3 or of zlib would make other bytes.
             made_page, kept = (parts_of((place / "policies.html").read_text()) for place in (folder, TOP / "docs/pictures"))
@@ -48,8 +47,7 @@ class Search(Page):
 
     def compare_pictures(self, folder: Path) -> None:
         for picture in ("hot", "out"):
-            made = (folder / f"{picture}.svg").read_bytes()
-            self.assertEqual(made == (TOP / f"docs/pictures/search-{picture}.svg").read_bytes(), True, picture)
+            check_same((folder / f"{picture}.svg").read_bytes(), TOP / f"docs/pictures/search-{picture}.svg")
 
 
 if __name__ == "__main__":

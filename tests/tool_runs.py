@@ -10,6 +10,7 @@ import random
 import shutil
 import subprocess
 import sys
+import tempfile
 import unittest
 from functools import lru_cache
 from pathlib import Path
@@ -97,6 +98,14 @@ def counts_of_report(report: str) -> list[dict[int, int]]:
             assert after == first + 1, line
             result[-1][first] = int(words[3].removeprefix("count="))
     return result
+
+
+def check_same(made: bytes, wanted: Path) -> None:
+    """Fails if a long text is not that of a file, and keeps it beside: to print both would help nobody."""
+    if made != wanted.read_bytes():
+        path = Path(tempfile.mkdtemp(prefix="other-")) / wanted.name
+        path.write_bytes(made)
+        raise AssertionError(f"{path} is not {wanted}: compare the two")
 
 
 class Refusals(unittest.TestCase):

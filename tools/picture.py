@@ -15,7 +15,7 @@ from common import STANDARD_INPUT, UsageError, opened_text, parser, run
 from drawing.charts import CHARTS, charts_of
 from drawing.front import ColourError, colours_of, front_picture
 from drawing.heat import heat_picture
-from drawing.history import Cut, History, ScriptError, commits_of, history_of
+from drawing.history import Cut, History, ScriptError, again_marked, commits_of, history_of
 from drawing.panels import spans_of
 from drawing.picture import View, picture
 from reports.events import Report, ReportError
@@ -44,6 +44,9 @@ these targets. --busy 0.02 folds the targets that were found accessed in less th
 of their memory into one strip. --names FILE names targets by address, with lines START-END NAME:
   0x4d12000-0x4dce000 page cache
 A target has the name of the area that has most of it, unless a --label names it.
+
+A page goes out once, however often `pageout` is applied to it, until it is accessed. With --exact FILE,
+an exact report or exact counts of the same run, the pages that were out already are hatched more faintly.
 
 Of a report of `damon reclaim` it also draws which pages are resident, above which is what is out, and
 the refaults. What is resident after an aggregation is drawn until the next one. The metrics that
@@ -83,9 +86,16 @@ def history_read(options: argparse.Namespace) -> History:
             commits = commits_of(stream)
     with opened_text(options.report) as stream:
         try:
-            return history_of(Report(stream).events(), commits)
+            history = history_of(Report(stream).events(), commits)
         except (ReportError, ScriptError) as error:
             raise UsageError(str(error)) from None
+    if options.exact is None:
+        return history
+    with opened_text(options.exact) as stream:
+        try:
+            return again_marked(history, Report(stream).aggregations())
+        except (ReportError, ScriptError) as error:
+            raise UsageError(f"{options.exact}: {error}") from None
 
 
 def heats_read(path: str) -> list[Heat]:
@@ -124,6 +134,7 @@ def options_of() -> argparse.Namespace:
         "or the journal, which says where its targets are")
     add("--title", help="the title of the picture")
     add("--label", action="append", default=[], metavar="TARGET=TEXT", help="names a target; may be repeated")
+    add("--exact", metavar="FILE", help="an exact report or exact counts of the same run: what was out already is hatched more faintly")
     add("--names", metavar="FILE", help="names targets by lines START-END NAME")
     add("--target", action="append", default=[], type=int, metavar="N", help="draws this target alone; may be repeated")
     add("--from", dest="since", type=int, metavar="TICK", help="draws what comes after this tick")
@@ -135,9 +146,9 @@ def options_of() -> argparse.Namespace:
     options = result.parse_args()
     if options.front and (options.heat or options.label or options.script is not None):
         raise UsageError("--front takes no --heat, no --label and no --script")
-    parts = (options.names, options.since, options.until, options.charts, options.busy)
+    parts = (options.exact, options.names, options.since, options.until, options.charts, options.busy)
     if (options.front or options.heat) and (options.target or any(part is not None for part in parts)):
-        raise UsageError("--names, --target, --from, --to, --charts and --busy are for reports")
+        raise UsageError("--exact, --names, --target, --from, --to, --charts and --busy are for reports")
     if options.front != (options.x is not None) or options.front != (options.y is not None):
         raise UsageError("--front needs --x and --y, and these need --front")
     if not options.front and (options.colour is not None or options.only):

@@ -33,7 +33,7 @@ def strip_of(history: History, quiet: list[int], columns: Columns) -> Cells:
     heat = [[column_level(history.snapshots[group], chosen)] for group in columns.groups]
     applied = {slot: rectangles([[int(is_applied(history.snapshots[group], chosen, slot))] for group in columns.groups]).get(1, [])
                for slot in applied_slots(history)}
-    return Cells([0, 1], rectangles(heat), applied)
+    return Cells([0, 1], rectangles(heat), applied, {})
 
 
 def column_level(group: list[Snapshot], chosen: frozenset[int]) -> int:

@@ -14,6 +14,8 @@ from reports.events import Snapshot
 MOST_COLUMNS = 480
 LEVELS = 9
 """The steps of the colour scale above 0."""
+AGAIN = "again"
+"""In place of the action where `pageout` was applied to pages that were out already."""
 UNWATCHED = -1
 """The level of a cell that no region covers."""
 
@@ -37,6 +39,8 @@ class Cells:
     """The addresses at which rows begin and end."""
     heat: dict[int, list[Rectangle]]
     applied: dict[int, list[Rectangle]]
+    again: dict[int, list[Rectangle]]
+    """Those of its pages that were out already, where this is known."""
 
 
 def columns_of(ticks: Sequence[int], start: int = 0) -> Columns:
@@ -84,12 +88,12 @@ def spread(rows: list[int], start: int, end: int, share: float, hits: list[float
         row += 1
 
 
-def applied_column(group: list[Snapshot], target: int, rows: list[int], slot: int) -> list[int]:
-    """1 for each row with a page to which the slot's scheme was applied in this column."""
+def applied_column(group: list[Snapshot], target: int, rows: list[int], slot: int, is_again: bool) -> list[int]:
+    """1 for each row with a page to which the slot's scheme was applied in this column; of those that were out already or of the others."""
     marks = [0] * (len(rows) - 1)
     for snapshot in group:
         for run in snapshot.applied:
-            if run.target == target and run.slot == slot:
+            if run.target == target and run.slot == slot and (run.action == AGAIN) == is_again:
                 row = max(0, bisect_left(rows, run.start + 1) - 1)
                 while row < len(marks) and rows[row] < run.end:
                     marks[row] = 1
@@ -100,11 +104,11 @@ def applied_column(group: list[Snapshot], target: int, rows: list[int], slot: in
 def cells_of(report: list[Snapshot], columns: Columns, target: int, rows: list[int], slots: list[int]) -> Cells:
     """The rectangles of a panel."""
     heat = [heat_column(report[group], target, rows) for group in columns.groups]
-    applied = {
-        slot: rectangles([applied_column(report[group], target, rows, slot) for group in columns.groups]).get(1, [])
+    applied, again = ({
+        slot: rectangles([applied_column(report[group], target, rows, slot, is_again) for group in columns.groups]).get(1, [])
         for slot in slots
-    }
-    return Cells(rows, rectangles(heat), applied)
+    } for is_again in (False, True))
+    return Cells(rows, rectangles(heat), applied, again)
 
 
 def rectangles(columns: list[list[int]]) -> dict[int, list[Rectangle]]:

@@ -4,10 +4,15 @@ from __future__ import annotations
 from dataclasses import dataclass, replace
 from typing import Iterable, Sequence
 
-from reports.events import Aggregation, Commit, Event, Show, Snapshot, Tuned
+from comparing.counts import accessed_in, applied_of, regions_of
+from comparing.paging import PAGEOUT, Moment, Paging
+from reports.events import Aggregation, Applied, Commit, Event, Show, Snapshot, Tuned
 from reports.memory import Memory
-from reports.pages import PageRuns, key, size, union
+from reports.pages import PageRuns, common, key, place, size, union, without
 from scripts.reading import commits_in
+from units import PAGE
+
+from .grid import AGAIN
 
 
 @dataclass(frozen=True)
@@ -164,6 +169,32 @@ def changes_of(answers: Sequence[Commit], commits: Sequence[tuple[str, ...]] | N
     return [Change(answer.tick, answer.answer, answer.accepted, lines, not is_tuned) for answer, lines in zip(answers, parts)]
 
 
+def again_marked(history: History, exact: Iterable[Aggregation]) -> History:
+    """The same, where runs of pages to which `pageout` was applied although they were out already have the action AGAIN.
+
+    Which pages were accessed is read from the aggregations of an exact report of the same run. Raises ScriptError.
+    """
+    paging, truths, snapshots = Paging(1, False), iter(exact), []
+    for number, snapshot in enumerate(history.snapshots):
+        if isinstance(snapshot, Aggregation):
+            truth = next(truths, None)
+            if truth is None or truth.tick != snapshot.tick:
+                raise ScriptError(f"the exact report has no aggregation at tick {snapshot.tick}: it is not of the same run")
+            paging.add(Moment(number, snapshot.tick), accessed_in(regions_of(truth, None)), applied_of(snapshot, None))
+            snapshot = replace(snapshot, applied=[part for run in snapshot.applied for part in parts_of(run, paging.again.get(run.slot, []))])
+        snapshots.append(snapshot)
+    return replace(history, snapshots=snapshots, slots=slots_of(snapshots))
+
+
+def parts_of(run: Applied, again: PageRuns) -> list[Applied]:
+    """The run where none of it was out already, else its parts."""
+    pages = [(key(run.target, run.start), key(run.target, run.end))]
+    if run.action != PAGEOUT or not (out := common(pages, again)):
+        return [run]
+    parts = [(start, end, run.action) for start, end in without(pages, out)] + [(start, end, AGAIN) for start, end in out]
+    return [Applied(run.slot, action, run.target, place(start)[1], place(start)[1] + (end - start) * PAGE) for start, end, action in sorted(parts)]
+
+
 def add_shows(snapshots: list[Snapshot], shows: Iterable[Snapshot]) -> None:
     """Adds the shows that come later than what is there."""
     for show in shows:
@@ -192,7 +223,7 @@ def note_applied(slots: dict[int, Slot], found: Snapshot) -> None:
     runs: dict[int, PageRuns] = {}
     for run in found.applied:
         slot = slots.setdefault(run.slot, Slot([], [], []))
-        if slot.action != run.action:
+        if run.action not in (slot.action, AGAIN):
             slot.actions.append(run.action)
         runs.setdefault(run.slot, []).append((key(run.target, run.start), key(run.target, run.end)))
     for number, pages in runs.items():

@@ -4,7 +4,7 @@ from __future__ import annotations
 from wording import counted
 
 from .canvas import LEFT, LETTER, RIGHT, Canvas, short
-from .grid import LEVELS
+from .grid import AGAIN, LEVELS
 from .history import History
 from .panels import applied_slots
 from .style import SLOT_COLOURS
@@ -20,12 +20,12 @@ WIDTH = RIGHT + 140 - LEFT
 """The room of a line of marks."""
 SHARE = "share of samples in which it was found accessed:"
 NEVER, ALWAYS = "never", "always"
-UNWATCHED, COMMIT = "not watched", "commit"
+UNWATCHED, COMMIT, OUT = "not watched", "commit", "it was out already"
 
 
 def height_of_legend(history: History) -> float:
     """Where the panels begin: beneath as many lines of marks as there may be."""
-    widths = [width_of(words) for words in (UNWATCHED, COMMIT, *slot_words(history))]
+    widths = [width_of(words) for words in (OUT, UNWATCHED, COMMIT, *slot_words(history))]
     return NOTES + LINE * (1 + max(line for line, _ in places_of(widths))) + SPACE
 
 
@@ -49,15 +49,19 @@ def draw_legend(canvas: Canvas, history: History, title: str, unwatched: bool, l
     """`unwatched` and `lines` say whether these marks occur."""
     canvas.text(LEFT, TITLE, title, "title")
     draw_scale(canvas, SHARE, NEVER, ALWAYS)
-    words = [*slot_words(history), *[UNWATCHED] * unwatched, *[COMMIT] * lines]
+    again = any(run.action == AGAIN for snapshot in history.snapshots for run in snapshot.applied)
+    words = [*slot_words(history), *[OUT] * again, *[UNWATCHED] * unwatched, *[COMMIT] * lines]
     for number, (text, (line, x)) in enumerate(zip(words, places_of([width_of(text) for text in words]))):
         y = NOTES + LINE * line
         if text == COMMIT:
             canvas.path(f"M{short(x + 9)} {short(y)}v{short(HEIGHT)}", "commit")
         else:
-            fill = "unwatched" if text == UNWATCHED else f"hatch{number}"
-            canvas.put(f'<rect x="{short(x)}" y="{short(y)}" width="18" height="{short(HEIGHT)}" fill="url(#{fill})"/>')
-            canvas.rect(x, y, 18, HEIGHT, "frame" if text == UNWATCHED else f"mark s{number}")
+            pattern, kind = ("unwatched", "frame") if text == UNWATCHED else (f"hatch{number}", f"mark s{number}")
+            fill = "fill"
+            if text == OUT:
+                pattern, kind, fill = "hatch0", "mark s0 faint", 'class="faint" fill'
+            canvas.put(f'<rect x="{short(x)}" y="{short(y)}" width="18" height="{short(HEIGHT)}" {fill}="url(#{pattern})"/>')
+            canvas.rect(x, y, 18, HEIGHT, kind)
         canvas.text(x + 24, y + 9, text, "small")
     canvas.text(LEFT - 8, height_of_legend(history) - 8, "addresses", "small right soft")
 

@@ -94,11 +94,12 @@ def draw_cells(canvas: Canvas, cells: Cells, columns: Columns, ys: list[float]) 
         path = scaled_path(found, xs, ys)
         canvas.put(f'<path fill="url(#unwatched)" d="{path}"/>' if step == UNWATCHED else f'<path class="h{step}" d="{path}"/>')
     canvas.put("</g>")
-    for order, found in enumerate(cells.applied.values()):
-        if found:
-            colour = order % SLOT_COLOURS
-            path = scaled_path(found, xs, ys)
-            canvas.put(f'<path fill="url(#hatch{colour})" d="{path}"/><path class="mark s{colour}" d="{path}"/>')
+    for marks, kind, fill in ((cells.again, " faint", 'class="faint" fill'), (cells.applied, "", "fill")):
+        for order, found in enumerate(marks.values()):
+            if found:
+                colour = order % SLOT_COLOURS
+                path = scaled_path(found, xs, ys)
+                canvas.put(f'<path {fill}="url(#hatch{colour})" d="{path}"/><path class="mark s{colour}{kind}" d="{path}"/>')
 
 
 def draw_labels(canvas: Canvas, panel: Panel) -> None:
