@@ -10,6 +10,7 @@ or {"fault": ..}. Places are in points of the screen from the upper left corner 
 from __future__ import annotations
 
 import json
+import signal
 import sys
 import time
 from importlib import import_module
@@ -117,6 +118,8 @@ class Driver:
 
 
 def main() -> None:
+    # A driver that is ended takes its browser with it.
+    signal.signal(signal.SIGTERM, lambda *_: sys.exit(1))
     browser = started()
     try:
         driver = Driver(browser)

@@ -4,7 +4,7 @@
     tests/measure_page.py TURNS
 
 makes reports of about 1,000, 100,000 and 1,000,000 rows by `damon replay`, a page of each, and opens it TURNS
-times in headless Chromium. It writes a line of a table for each report: its rows and aggregations; the sizes
+times, each time in a headless Chromium that was just started. It writes a line of a table for each report: its rows and aggregations; the sizes
 of the report and of the page; the processor time to make the page, and the greatest resident set; the
 time from the beginning of the navigation until the page is drawn; and of 40 turns of the wheel over its
 largest target, half of them closer and half back, how long the script takes for a frame, at the median and
@@ -88,17 +88,31 @@ def made(script: bytes, folder: Path) -> Made:
     return Made(page, words.count("row "), words.count("aggr"), report.stat().st_size, usage.ru_utime + usage.ru_stime, usage.ru_maxrss)
 
 
-def opened(browser: Browser, page: Path) -> tuple[float, list[float]]:
+def opened(page: Path) -> tuple[float, list[float]]:
     """How many milliseconds a page takes until it is drawn, and each frame of a zoom."""
-    browser.do("open", str(page))
-    drawn = browser.do("script", "return performance.getEntriesByName('drawn')[0].startTime")
-    return float(drawn), [float(each) for each in browser.do("wait", ZOOM)]
+    browser = Browser()
+    try:
+        browser.do("open", str(page))
+        drawn = browser.do("script", "return performance.getEntriesByName('drawn')[0].startTime")
+        return float(drawn), [float(each) for each in browser.do("wait", ZOOM)]
+    finally:
+        browser.close()
 
 
 def scripts() -> Iterator[bytes]:
     """The smallest one first; the last two have as many rows, in many small aggregations and in few large ones."""
     yield from map(long_script, (10, 1000, 10_000))
-    yield aggregations(270)
+    yield aggregations(320)
+
+
+def line_of(page: Made, turns: int) -> str:
+    """The line of a page in the table."""
+    found = [opened(page.path) for _ in range(turns)]
+    frames = sorted(min(times) for times in zip(*(times for _, times in found)))
+    cells = [f"{page.rows:,}", f"{page.aggregations:,}", f"{page.report_bytes / 1e6:.2f} MB", f"{page.path.stat().st_size / 1e6:.2f} MB",
+             f"{page.seconds:.1f} s", f"{page.resident / 1024:.0f} MiB", f"{min(drawn for drawn, _ in found) / 1000:.2f} s",
+             f"{frames[len(frames) // 2]:.0f} and {frames[-1]:.0f} ms"]
+    return f"| {' | '.join(cells)} |"
 
 
 def main() -> None:
@@ -107,19 +121,9 @@ def main() -> None:
         sys.exit(missing)
     print("| rows | aggregations | report | page | made in | memory | opened in | a frame of a zoom, median and most |")
     print("|---|---|---|---|---|---|---|---|", flush=True)
-    browser = Browser()
-    try:
-        for script in scripts():
-            with tempfile.TemporaryDirectory() as folder:
-                page = made(script, Path(folder))
-                turns = [opened(browser, page.path) for _ in range(int(sys.argv[1]))]
-                frames = sorted(min(found) for found in zip(*(times for _, times in turns)))
-                cells = [f"{page.rows:,}", f"{page.aggregations:,}", f"{page.report_bytes / 1e6:.2f} MB", f"{page.path.stat().st_size / 1e6:.2f} MB",
-                         f"{page.seconds:.1f} s", f"{page.resident / 1024:.0f} MiB", f"{min(drawn for drawn, _ in turns) / 1000:.2f} s",
-                         f"{frames[len(frames) // 2]:.0f} and {frames[-1]:.0f} ms"]
-                print(f"| {' | '.join(cells)} |", flush=True)
-    finally:
-        browser.close()
+    for script in scripts():
+        with tempfile.TemporaryDirectory() as folder:
+            print(line_of(made(script, Path(folder)), int(sys.argv[1])), flush=True)
 
 
 if __name__ == "__main__":

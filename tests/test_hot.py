@@ -158,9 +158,11 @@ class Slots(unittest.TestCase):
         """docs/MONITOR.md works this aggregation out by hand."""
         report = report_of(FILTERS.read_text())
         for page, wanted in (
-            ("0x10000", ["0x10000-0x18000, age 0 to 2): taken with the score 44; the lowest score that was taken is 11", "its size is 8, and size=0,4"]),
+            ("0x10000", ["0x10000-0x18000, age 0 to 1): taken with the score 44; the lowest score that was taken is 11",
+                         "its size is 8, and size=0,4"]),
             ("0x17000", ["the page does not pass: its filter reject:addr:0x16000-0x1a000 decides", "its size is 8"]),
-            ("0x1d000", ["the 9 pages that were left of the quota went to others; its score is 11, and the lowest that was taken is 11",
+            ("0x1d000", ["(it saw 0x18000-0x20000, age 1): the 9 pages that were left of the quota went to others; its score is 11, "
+                         "and the lowest that was taken is 11",
                          "taken with the score 37"]),
             ("0x20000", ["the page does not pass: no filter applies to it, and the last one is allow:class:1", "its size is 8"]),
         ):

@@ -33,7 +33,8 @@ class Checkers(unittest.TestCase):
 
     def test_types(self) -> None:
         """The settings of mypy stand in pyproject.toml."""
-        self.assertRegex(self.said("mypy", "mypy", "--no-incremental", "--cache-dir", os.devnull), r"^Success: no issues found in \d+ source files\n$")
+        said = self.said("mypy", "mypy", "--no-incremental", "--cache-dir", os.devnull)
+        self.assertRegex(said, r"^Success: no issues found in \d+ source files\n$")
 
     def test_names_that_nobody_uses(self) -> None:
         self.assertEqual(self.said("pyflakes", "python3-pyflakes"), "")

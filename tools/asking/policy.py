@@ -15,7 +15,6 @@ from scripts.reading import Watched
 from scripts.schemes import Key, keys_of
 from scripts.setup import Script
 
-MOST_AGE = (1 << 32) - 1
 MOST_PART = 99
 """The most that a part of a score is, and a score."""
 
@@ -97,6 +96,18 @@ class Policy:
     aggr: int
     ranges: list[Watched]
     schemes: dict[int, Scheme] = field(default_factory=dict)
+    number: int = 0
+    """The aggregations before this moment."""
+    before: list[Region] = field(default_factory=list)
+    """The regions of the last one."""
+    was_moved: bool = False
+    """Whether a commit since then may have joined rows or moved their borders."""
+
+    def most_age(self, target: int, start: int, end: int) -> int:
+        """The most that the age of a row can be when schemes see it: it grows by 1 in an aggregation, and joined rows have averages."""
+        if self.was_moved:
+            return self.number + 1
+        return 1 + max((one.age for one in self.before if one.target == target and one.start < end and start < one.end), default=0)
 
     @property
     def total(self) -> int:
@@ -115,6 +126,7 @@ class Policy:
         for line in commit.with_word("attrs"):
             self.aggr = words_of(line)[3].number()
         self.ranges = commit.ranges or self.ranges
+        self.was_moved = self.was_moved or bool(commit.with_word("attrs") or commit.ranges)
         for line in commit.with_word("scheme"):
             self.schemes[words_of(line)[1].number()] = Scheme.of(line)
         for line in commit.with_word("drop"):
@@ -146,4 +158,5 @@ def followed(events: Iterable[Event], script: Script) -> Iterator[tuple[Aggregat
             if set(event.active) != set(policy.schemes):
                 raise PolicyError(f"at tick {event.tick} other slots are set in the report than in the script")
             yield event, policy
+            policy.number, policy.before, policy.was_moved = policy.number + 1, event.regions, False
         before = event

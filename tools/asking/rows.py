@@ -10,7 +10,7 @@ from dataclasses import dataclass, replace
 from reports.events import Aggregation, Applied, Choice
 from units import PAGE
 
-from .policy import MOST_AGE, Ages, Policy, Scheme
+from .policy import Ages, Policy, Scheme
 
 STAT = "stat"
 """The action that changes no row."""
@@ -65,11 +65,14 @@ def undone(rows: list[Row], runs: list[Applied], choice: Choice, policy: Policy,
 
 def before_taken(row: Row, score: int, policy: Policy, scheme: Scheme) -> Row:
     """A row before pages of it were taken: it had another age if it has the age 0 now, since it was taken whole then."""
-    ages = Ages(0, MOST_AGE) if row.ages.least == 0 else row.ages
     if not row.is_sure:
-        return replace(row, ages=ages)
-    ages = ages_with(row, score, policy, scheme, ages)
-    return replace(row, ages=ages) if ages.least <= ages.most else replace(row, ages=Ages(0, MOST_AGE), is_sure=False)
+        return replace(row, ages=Ages(0, policy.number + 1)) if row.ages.least == 0 else row
+    ages = ages_with(row, score, policy, scheme, any_age(row, policy) if row.ages.least == 0 else row.ages)
+    return replace(row, ages=ages) if ages.least <= ages.most else replace(row, ages=Ages(0, policy.number + 1), is_sure=False)
+
+
+def any_age(row: Row, policy: Policy) -> Ages:
+    return Ages(0, policy.most_age(row.target, row.start, row.end))
 
 
 def joined_again(rows: list[Row], run: Applied, policy: Policy, scheme: Scheme) -> list[Row]:
@@ -81,10 +84,10 @@ def joined_again(rows: list[Row], run: Applied, policy: Policy, scheme: Scheme) 
     if front.end != run.end or not are_parts(front, back, policy):
         return rows
     if not front.is_sure or not back.is_sure:
-        unsure = [replace(front, ages=Ages(0, MOST_AGE), is_sure=False), replace(back, is_sure=False)]
+        unsure = [replace(front, ages=Ages(0, policy.number + 1), is_sure=False), replace(back, is_sure=False)]
         return [*rows[:number], *unsure, *rows[number + 2 :]]
     whole = replace(back, start=front.start)
-    joined, alone = ages_with(whole, run.score, policy, scheme, back.ages), ages_with(front, run.score, policy, scheme)
+    joined, alone = ages_with(whole, run.score, policy, scheme, back.ages), ages_with(front, run.score, policy, scheme, any_age(front, policy))
     if joined.least > joined.most:
         return rows
     if alone.least > alone.most:
@@ -101,8 +104,8 @@ def are_parts(front: Row, back: Row, policy: Policy) -> bool:
     return front.ages.least == 0 and not any(one.target == back.target and one.start == back.start for one in policy.ranges)
 
 
-def ages_with(row: Row, score: int, policy: Policy, scheme: Scheme, within: Ages = Ages(0, MOST_AGE)) -> Ages:
-    """The ages with which a row matches and has this score; an empty span if there is none. The score never falls with the age."""
+def ages_with(row: Row, score: int, policy: Policy, scheme: Scheme, within: Ages) -> Ages:
+    """The ages among these with which a row matches and has this score; an empty span if there is none. The score never falls with the age."""
     low, high = scheme.spans.get("age", within)
     low, high = max(low, within.least), min(high, within.most)
     ages = [age for age in {low, high, *range(100)} if low <= age <= high

@@ -5,18 +5,24 @@
    rows and points, and not as long as rows have points. */
 "use strict";
 
-/** Which columns of points each visible snapshot has: from the first one to before the second one, and at least one. */
-function columnsOf(report, time, width) {
+/** Which columns of points the visible snapshots have, from the first one to before the second one, and at least one each. */
+function newColumns(report, time, width) {
   const first = Math.max(0, firstAbove(report.edges, time[0], 0, report.count + 1) - 1);
-  const after = Math.min(report.count, firstAbove(report.edges, time[1], first, report.count + 1));
+  const after = Math.max(first, Math.min(report.count, firstAbove(report.edges, time[1], first, report.count + 1)));
   const place = tick => Math.round(width * (tick - time[0]) / (time[1] - time[0]));
-  const found = [];
+  const from = new Int32Array(after - first), to = new Int32Array(after - first);
   for (let snapshot = first; snapshot < after; snapshot++) {
-    const from = Math.min(Math.max(0, place(report.edges[snapshot])), width - 1);
-    const to = Math.min(Math.max(from + 1, place(report.edges[snapshot + 1])), width);
-    found.push([snapshot, from, to]);
+    from[snapshot - first] = Math.min(Math.max(0, place(report.edges[snapshot])), width - 1);
+    to[snapshot - first] = Math.min(Math.max(from[snapshot - first] + 1, place(report.edges[snapshot + 1])), width);
   }
-  return found;
+  return { first, after, from, to };
+}
+
+/** The same. The last answer is kept, since all lanes of a report ask for it in a frame. */
+function columnsOf(report, time, width) {
+  const asked = `${time} ${width}`;
+  if (report.asked !== asked) Object.assign(report, { asked, columns: newColumns(report, time, width) });
+  return report.columns;
 }
 
 /** The points of a target that are drawn: its pages, and how many columns and lines of points show them. */
@@ -68,8 +74,9 @@ class Sums {
     const { frame, report } = this, { start, end, count } = report.rows, passes = report.snapshots.passes[snapshot];
     const [first, after] = report.rowsOf(snapshot, frame.target);
     // Rows that follow each other without a gap are watched as one.
-    let from = -1, to = -1;
-    for (let row = Math.max(first, firstAbove(start, frame.pages[0], first, after) - 1); row < after; row++) {
+    let from = -1, to = -1, row = first;
+    if (frame.pages[0] > 0) row = Math.max(first, firstAbove(start, frame.pages[0], first, after) - 1);
+    for (; row < after; row++) {
       if (start[row] >= frame.pages[1]) break;
       if (end[row] <= frame.pages[0]) continue;
       if (start[row] !== to) {
@@ -106,7 +113,9 @@ function sharesOf(report, frame) {
     if (!sums.isEmpty) sums.write(shares, column, column + 1);
     sums.clear();
   };
-  for (const [snapshot, from, to] of columnsOf(report, frame.time, frame.width)) {
+  const columns = columnsOf(report, frame.time, frame.width);
+  for (let snapshot = columns.first; snapshot < columns.after; snapshot++) {
+    const from = columns.from[snapshot - columns.first], to = columns.to[snapshot - columns.first];
     if (from !== column) flush();
     column = from;
     // Snapshots that share a column of points count by their time.
@@ -125,8 +134,9 @@ function sharesOf(report, frame) {
 /** Of each point the slots whose schemes were applied there: a bit for each colour. */
 function marksOf(report, frame, colours) {
   const marks = new Uint8Array(frame.width * frame.height);
-  const { start, end, slot } = report.runs;
-  for (const [snapshot, from, to] of columnsOf(report, frame.time, frame.width)) {
+  const { start, end, slot } = report.runs, columns = columnsOf(report, frame.time, frame.width);
+  for (let snapshot = columns.first; snapshot < columns.after; snapshot++) {
+    const from = columns.from[snapshot - columns.first], to = columns.to[snapshot - columns.first];
     const [first, after] = report.runsOf(snapshot, frame.target);
     for (let run = first; run < after; run++) {
       if (end[run] <= frame.pages[0] || start[run] >= frame.pages[1]) continue;
