@@ -139,18 +139,10 @@ fn put_row(room: &mut [u8], target: u8, addresses: [PageAddress; 2], numbers: [u
     room[..8].copy_from_slice(b"{\"age\": ");
     let mut at = 7;
     at += put_decimal(&mut room[at..], numbers[0] as u64);
-    room[at..at + 9].copy_from_slice(b",\"count\":");
-    at += 9;
-    at += put_decimal(&mut room[at..], numbers[1] as u64);
-    room[at..at + 10].copy_from_slice(b",\"end\":\"0x");
-    at += 10;
+    at += put_between(&mut room[at..], b",\"count\":0,\"end\":\"0x  ", 9, numbers[1]) - 2;
     room[at..at + 16].copy_from_slice(&addresses[1].digits);
     at += addresses[1].length;
-    room[at..at + 9].copy_from_slice(b"\",\"last\":");
-    at += 9;
-    at += put_decimal(&mut room[at..], numbers[2] as u64);
-    room[at..at + 12].copy_from_slice(b",\"start\":\"0x");
-    at += 12;
+    at += put_between(&mut room[at..], b"\",\"last\":0,\"start\":\"0x", 9, numbers[2]);
     room[at..at + 16].copy_from_slice(&addresses[0].digits);
     at += addresses[0].length;
     room[at..at + 11].copy_from_slice(b"\",\"target\":");
@@ -158,4 +150,17 @@ fn put_row(room: &mut [u8], target: u8, addresses: [PageAddress; 2], numbers: [u
     at += put_decimal(&mut room[at..], target as u64);
     room[at] = b'}';
     at + 1
+}
+
+/// Writes words with a number in the place of the digit that they have at `place`, and gives the length of all.
+#[inline]
+fn put_between(room: &mut [u8], words: &[u8; 22], place: usize, number: u32) -> usize {
+    room[..22].copy_from_slice(words);
+    if number < 10 {
+        room[place] = b'0' + number as u8;
+        return 22;
+    }
+    let digits = put_decimal(&mut room[place..], number as u64);
+    room[place + digits..place + digits + 21 - place].copy_from_slice(&words[place + 1..]);
+    21 + digits
 }

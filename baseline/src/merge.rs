@@ -10,14 +10,14 @@ pub fn merge(rows: &mut Rows, threshold: u32, limit: u32) {
     let mut at = 0;
     let mut merged = rows.get(0);
     for next in 1..length {
-        let row = rows.get(next);
-        let fits = merged.pages + row.pages <= limit && merged.count.abs_diff(row.count) <= threshold;
-        if fits && merged.range == row.range {
-            merged = merged.joined(&row);
+        let (pages, count, range) = (rows.pages[next], rows.count[next], rows.range[next]);
+        let is_close = merged.count.abs_diff(count) <= threshold;
+        if is_close & (merged.pages + pages <= limit) & (merged.range == range) {
+            merged = merged.joined(&rows.get(next));
         } else {
             rows.set(at, merged);
             at += 1;
-            merged = row;
+            merged = rows.get(next);
         }
     }
     rows.set(at, merged);
