@@ -112,9 +112,8 @@ fn rows(output: &mut Output, monitor: &Monitor) -> Written {
         let same = rows.range[from..].iter().take(ROWS_AT_ONCE).position(|&it| it != number);
         let end = from + same.unwrap_or(ROWS_AT_ONCE.min(rows.len() - from));
         let place = &monitor.space.targets[target as usize];
-        let address = |page: u32| {
-            PageAddress::of((place.base / PAGE).wrapping_add(page as u64).wrapping_sub(place.first as u64))
-        };
+        let address =
+            |page: u32| PageAddress::of((place.base / PAGE).wrapping_add(page as u64).wrapping_sub(place.first as u64));
         let tail = Tail::of(target);
         let mut start = address(rows.start[from]);
         for at in from..end {

@@ -88,8 +88,8 @@ fn join_equal(rows: &mut Rows, most: usize) {
     rows.truncate(at + 1 + length - next);
 }
 
-/// No two adjacent rows of a range have equal counts at the start. A joined row has a count between those of its parts, so
-/// the pairs beside it change, and a heap holds the pairs by their differences and places.
+/// No two adjacent rows of a range have equal counts at the start. A joined row has a count between those of its
+/// parts, so the pairs beside it change, and a heap holds the pairs by their differences and places.
 fn join_closest(rows: &mut Rows, most: usize) {
     let mut chain = Chain::new(rows);
     let mut heap: BinaryHeap<Reverse<(u32, usize)>> =

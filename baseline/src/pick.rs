@@ -18,10 +18,10 @@ impl Picks {
     }
 }
 
-/// `word % pages`, by a division of doubles, of which processors do two at a time. The quotient of the word and a half is at
-/// least half a part away from each whole number. So half less than it is nearest to the whole quotient, also after the
-/// rounding, since a word is below 2^32 and a double has 53 bits. From 2^52 on doubles are whole numbers: a word is put into
-/// the low bits of such a one, and the whole quotient is read from there.
+/// `word % pages`, by a division of doubles, of which processors do two at a time. The quotient of the word and a
+/// half is at least half a part away from each whole number. So half less than it is nearest to the whole quotient,
+/// also after the rounding, since a word is below 2^32 and a double has 53 bits. From 2^52 on doubles are whole
+/// numbers: a word is put into the low bits of such a one, and the whole quotient is read from there.
 #[inline]
 fn remainder(word: u32, pages: u32) -> u32 {
     const WHOLE: f64 = (1u64 << 52) as f64;
@@ -49,7 +49,15 @@ mod tests {
     fn remainders_are_right_at_all_sizes() {
         for pages in (1..70).chain([99, 1000, 4095, 65_537, 262_144, 999_983, 1_048_575, 1_048_576]) {
             let edges = (0..50u32).map(|part| u32::MAX / pages / 50 * part * pages);
-            for word in edges.flat_map(|edge| [edge, edge.wrapping_sub(1), edge + 1]).chain([u32::MAX, u32::MAX - 1, 0, 1, 2, pages / 4, pages / 2]) {
+            for word in edges.flat_map(|edge| [edge, edge.wrapping_sub(1), edge + 1]).chain([
+                u32::MAX,
+                u32::MAX - 1,
+                0,
+                1,
+                2,
+                pages / 4,
+                pages / 2,
+            ]) {
                 assert_eq!(remainder(word, pages), word % pages, "{word} % {pages}");
             }
         }

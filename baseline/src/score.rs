@@ -87,7 +87,8 @@ impl Scores {
             sum.quotient(by_size * size as u32 + by_heat * heat + by_age * age.min(99)) as u8
         };
         if 4 * of.len() < rows.len() {
-            scores.extend(of.iter().map(|&row| row as usize).map(|at| part(self.size[at], self.heat[at], rows.age[at])));
+            scores
+                .extend(of.iter().map(|&row| row as usize).map(|at| part(self.size[at], self.heat[at], rows.age[at])));
             return;
         }
         // Those of all rows by one loop over their columns take less time than those of most of them.

@@ -122,8 +122,8 @@ impl Update<'_> {
         self.push(piece, range.end, rows);
     }
 
-    /// The end of the rows from `at` on that stay as they are and have another row right behind them, with its start as a
-    /// boundary that is kept. They begin with a boundary that is kept, and have at least `unit` pages each.
+    /// The end of the rows from `at` on that stay as they are and have another row right behind them, with its start
+    /// as a boundary that is kept. They begin with a boundary that is kept, and have at least `unit` pages each.
     fn stretch(&self, at: usize) -> usize {
         let last = self.range.end - self.unit;
         let pairs = self.old.start[at..].windows(2).zip(&self.old.pages[at..]);

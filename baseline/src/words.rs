@@ -121,7 +121,10 @@ mod tests {
         for word in ["", "00", "01", "+1", "1a", "18446744073709551616", "99999999999999999999", "-0"] {
             assert_eq!(n64(word.as_bytes()), Err(FaultKind::Number), "{word}");
         }
-        assert_eq!((n8(b"256"), n16(b"65536"), n32(b"4294967296")), (Err(FaultKind::Number), Err(FaultKind::Number), Err(FaultKind::Number)));
+        assert_eq!(
+            (n8(b"256"), n16(b"65536"), n32(b"4294967296")),
+            (Err(FaultKind::Number), Err(FaultKind::Number), Err(FaultKind::Number))
+        );
     }
 
     #[test]
