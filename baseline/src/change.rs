@@ -105,7 +105,6 @@ impl Monitor {
         if self.rows.lie_as(&self.spare) {
             return false;
         }
-        self.picks.rows_changed();
         let void = self.phase == Phase::Armed;
         if void {
             self.phase = Phase::Void;

@@ -15,7 +15,10 @@ const COMMIT: u32 = 6;
 pub enum Command<'a> {
     /// Touches of single pages that follow one another.
     Touches(&'a [u32]),
-    Sweep { first: u32, end: u32 },
+    Sweep {
+        first: u32,
+        end: u32,
+    },
     Step(u32),
     Arm,
     Finish,

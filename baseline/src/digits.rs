@@ -127,7 +127,7 @@ mod tests {
 
     fn numbers() -> impl Iterator<Item = u64> {
         let powers = (0..64).map(|power| 1u64 << power).chain((0..20).map(|power| 10u64.pow(power)));
-        powers.flat_map(|it| [it - 1, it, it + 1, it * 3 / 2]).chain([0, u64::MAX, 0x9a9f_09af])
+        powers.flat_map(|it| [it - 1, it, it + 1, it + it / 2]).chain([0, u64::MAX, 0x9a9f_09af])
     }
 
     #[test]

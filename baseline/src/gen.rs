@@ -37,7 +37,8 @@ pub fn run(number: u64, output: &mut Output) {
         run.advance(Goal::Idle).expect("no report is written");
     }
     let monitor = &run.world.monitor;
-    let applied: [u64; SLOTS] = std::array::from_fn(|slot| monitor.slots[slot].held.as_ref().map_or(0, |it| it.applied));
+    let applied: [u64; SLOTS] =
+        std::array::from_fn(|slot| monitor.slots[slot].held.as_ref().map_or(0, |it| it.applied));
     output.field("gen ", number).field(" ticks=", monitor.ticks).field(" rows=", monitor.rows.len() as u64);
     output.field(" checks=", monitor.checks).field(" hits=", monitor.hits).field(" applied=", applied[0]).str("\n");
 }

@@ -61,7 +61,9 @@ impl Journal {
             entries.str("answer ");
             text_report::answer(entries, &self.monitor.commit(commit));
         } else {
-            entries.field(" show\nanswer shown tick=", self.monitor.ticks).field(" rows=", self.monitor.rows.len() as u64);
+            entries
+                .field(" show\nanswer shown tick=", self.monitor.ticks)
+                .field(" rows=", self.monitor.rows.len() as u64);
         }
         entries.str("\n");
     }
@@ -84,7 +86,7 @@ impl Journal {
     }
 }
 
-/// How far the pages of a list of accesses go, one after another.
+/// Hands on each page of a list of accesses, in order.
 pub fn for_pages(accesses: &Commands, mut each: impl FnMut(u32)) {
     let mut place = 0;
     while let Some((access, next)) = accesses.at(place) {

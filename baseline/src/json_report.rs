@@ -112,9 +112,9 @@ fn rows(output: &mut Output, monitor: &Monitor) -> Written {
         let same = rows.range[from..].iter().take(ROWS_AT_ONCE).position(|&it| it != number);
         let end = from + same.unwrap_or(ROWS_AT_ONCE.min(rows.len() - from));
         let place = &monitor.space.targets[target as usize];
-        let address = |page: u32| {
-            PageAddress::of((place.base / PAGE).wrapping_add(page as u64).wrapping_sub(place.first as u64))
-        };
+        let address =
+            |page: u32| PageAddress::of((place.base / PAGE).wrapping_add(page as u64).wrapping_sub(place.first as u64));
+        let tail = Tail::of(target);
         let mut start = address(rows.start[from]);
         for at in from..end {
             let stop = address(rows.start[at] + rows.pages[at]);
@@ -123,7 +123,7 @@ fn rows(output: &mut Output, monitor: &Monitor) -> Written {
             room[0] = b',';
             let front = comma as usize;
             let numbers = [rows.age[at], rows.count[at], rows.last[at]];
-            let length = put_row(&mut room[front..], target, [start, stop], numbers);
+            let length = put_row(&mut room[front..], &tail, [start, stop], numbers);
             output.add(front + length);
             start = stop;
         }
@@ -133,29 +133,46 @@ fn rows(output: &mut Output, monitor: &Monitor) -> Written {
     Ok(())
 }
 
+/// The words behind the address of a row, which are the same for all rows of a target.
+struct Tail {
+    words: [u8; 16],
+    length: usize,
+}
+
+impl Tail {
+    fn of(target: u8) -> Tail {
+        let mut words = [b'}'; 16];
+        words[..11].copy_from_slice(b"\",\"target\":");
+        let digits = put_decimal(&mut words[11..], target as u64);
+        Tail { words, length: 11 + digits + 1 }
+    }
+}
+
 #[inline]
-fn put_row(room: &mut [u8], target: u8, addresses: [PageAddress; 2], numbers: [u32; 3]) -> usize {
+fn put_row(room: &mut [u8], tail: &Tail, addresses: [PageAddress; 2], numbers: [u32; 3]) -> usize {
     let room = &mut room[..ROW_ROOM - 1];
     room[..8].copy_from_slice(b"{\"age\": ");
     let mut at = 7;
     at += put_decimal(&mut room[at..], numbers[0] as u64);
-    room[at..at + 9].copy_from_slice(b",\"count\":");
-    at += 9;
-    at += put_decimal(&mut room[at..], numbers[1] as u64);
-    room[at..at + 10].copy_from_slice(b",\"end\":\"0x");
-    at += 10;
+    at += put_between(&mut room[at..], b",\"count\":0,\"end\":\"0x  ", 9, numbers[1]) - 2;
     room[at..at + 16].copy_from_slice(&addresses[1].digits);
     at += addresses[1].length;
-    room[at..at + 9].copy_from_slice(b"\",\"last\":");
-    at += 9;
-    at += put_decimal(&mut room[at..], numbers[2] as u64);
-    room[at..at + 12].copy_from_slice(b",\"start\":\"0x");
-    at += 12;
+    at += put_between(&mut room[at..], b"\",\"last\":0,\"start\":\"0x", 9, numbers[2]);
     room[at..at + 16].copy_from_slice(&addresses[0].digits);
     at += addresses[0].length;
-    room[at..at + 11].copy_from_slice(b"\",\"target\":");
-    at += 11;
-    at += put_decimal(&mut room[at..], target as u64);
-    room[at] = b'}';
-    at + 1
+    room[at..at + 16].copy_from_slice(&tail.words);
+    at + tail.length
+}
+
+/// Writes words with a number in the place of the digit that they have at `place`, and gives the length of all.
+#[inline]
+fn put_between(room: &mut [u8], words: &[u8; 22], place: usize, number: u32) -> usize {
+    room[..22].copy_from_slice(words);
+    if number < 10 {
+        room[place] = b'0' + number as u8;
+        return 22;
+    }
+    let digits = put_decimal(&mut room[place..], number as u64);
+    room[place + digits..place + digits + 21 - place].copy_from_slice(&words[place + 1..]);
+    21 + digits
 }

@@ -20,8 +20,8 @@ impl Words {
         Words { words: (0..pages).map(|_| AtomicU32::new(0)).collect(), fetched: AtomicU32::new(0) }
     }
 
-    /// Touches a page, and gives its tag. A touch of a marked page changes nothing, so to read its word is enough. No order
-    /// between two pages is needed, since what is said of a run is said of each word alone.
+    /// Touches a page, and gives its tag. A touch of a marked page changes nothing, so to read its word is enough. No
+    /// order between two pages is needed, since what is said of a run is said of each word alone.
     fn touch(&self, page: u32) -> u32 {
         let place = &self.words[page as usize];
         let mut word = place.load(Relaxed);

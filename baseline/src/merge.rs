@@ -6,22 +6,52 @@ use std::collections::BinaryHeap;
 
 /// Joins adjacent rows of one range whose counts differ by at most `threshold`, up to `limit` pages.
 pub fn merge(rows: &mut Rows, threshold: u32, limit: u32) {
+    let rule = Rule { threshold, limit };
     let length = rows.len();
-    let mut at = 0;
-    let mut merged = rows.get(0);
-    for next in 1..length {
-        let row = rows.get(next);
-        let fits = merged.pages + row.pages <= limit && merged.count.abs_diff(row.count) <= threshold;
-        if fits && merged.range == row.range {
-            merged = merged.joined(&row);
-        } else {
-            rows.set(at, merged);
-            at += 1;
-            merged = row;
+    let mut from = 0;
+    let mut to = 0;
+    while from < length {
+        let same = rule.stretch(rows, from);
+        rows.shift(from, from + same, to);
+        from += same;
+        to += same;
+        if from == length {
+            break;
         }
+        let mut merged = rows.get(from).joined(&rows.get(from + 1));
+        from += 2;
+        while from < length && rule.joins(&merged, &rows.get(from)) {
+            merged = merged.joined(&rows.get(from));
+            from += 1;
+        }
+        rows.set(to, merged);
+        to += 1;
     }
-    rows.set(at, merged);
-    rows.truncate(at + 1);
+    rows.truncate(to);
+}
+
+struct Rule {
+    threshold: u32,
+    limit: u32,
+}
+
+impl Rule {
+    #[inline]
+    fn joins(&self, merged: &Row, row: &Row) -> bool {
+        let is_close = merged.count.abs_diff(row.count) <= self.threshold;
+        is_close & (merged.pages + row.pages <= self.limit) & (merged.range == row.range)
+    }
+
+    /// How many rows from this one on are not joined to the next one.
+    fn stretch(&self, rows: &Rows, from: usize) -> usize {
+        let counts = rows.count[from..].windows(2);
+        let pairs = counts.zip(rows.pages[from..].windows(2)).zip(rows.range[from..].windows(2));
+        let mut joins = pairs.map(|((counts, pages), ranges)| {
+            let is_close = counts[0].abs_diff(counts[1]) <= self.threshold;
+            is_close & (pages[0] + pages[1] <= self.limit) & (ranges[0] == ranges[1])
+        });
+        joins.position(|it| it).unwrap_or(rows.len() - from)
+    }
 }
 
 /// Joins the closest pairs of adjacent rows of one range until there are at most `most` rows.
@@ -58,8 +88,8 @@ fn join_equal(rows: &mut Rows, most: usize) {
     rows.truncate(at + 1 + length - next);
 }
 
-/// No two adjacent rows of a range have equal counts at the start. A joined row has a count between those of its parts, so
-/// the pairs beside it change, and a heap holds the pairs by their differences and places.
+/// No two adjacent rows of a range have equal counts at the start. A joined row has a count between those of its
+/// parts, so the pairs beside it change, and a heap holds the pairs by their differences and places.
 fn join_closest(rows: &mut Rows, most: usize) {
     let mut chain = Chain::new(rows);
     let mut heap: BinaryHeap<Reverse<(u32, usize)>> =

@@ -162,7 +162,6 @@ impl Monitor {
         split.split(&mut self.rows, self.random.clone());
         self.random.skip(2 * self.attrs.max as u64, self.words_of_split);
         self.before = length;
-        self.picks.rows_changed();
         self.since = 0;
         self.phase = Phase::Idle;
     }

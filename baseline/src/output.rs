@@ -55,7 +55,7 @@ impl Output {
     #[cold]
     #[inline(never)]
     fn grow(&mut self, bytes: usize) {
-        let length = (self.length + bytes).max(2 * self.bytes.len()).max(1024);
+        let length = (self.length + bytes).max(self.bytes.len() * 5 / 4).max(1024);
         self.bytes.resize(length, 0);
     }
 

@@ -3,46 +3,33 @@
 use crate::random::Random;
 use crate::rows::Rows;
 
-/// After how many passes over the same rows it pays to keep the reciprocals of their sizes.
-const KEPT_AFTER: u32 = 2;
-
 #[derive(Default)]
 pub struct Picks {
     pub pages: Vec<u32>,
-    /// For each row 1 divided by its pages, once they were found.
-    reciprocals: Vec<f64>,
-    passes: u32,
 }
 
 impl Picks {
-    /// Says that rows begin or end elsewhere now.
-    pub fn rows_changed(&mut self) {
-        self.passes = 0;
-    }
-
     pub fn draw(&mut self, rows: &Rows, random: &mut Random) {
-        let length = rows.len();
-        self.pages.resize(length, 0);
-        let (picks, start, pages) = (&mut self.pages[..length], &rows.start[..length], &rows.pages[..length]);
-        self.passes = self.passes.saturating_add(1);
-        if self.passes <= KEPT_AFTER {
-            return random.draw(length, |at, word| picks[at] = start[at] + word % pages[at]);
+        self.pages.resize(rows.len(), 0);
+        random.fill(&mut self.pages);
+        for ((word, &start), &pages) in self.pages.iter_mut().zip(&rows.start).zip(&rows.pages) {
+            *word = start + remainder(*word, pages);
         }
-        if self.passes == KEPT_AFTER + 1 {
-            self.reciprocals.clear();
-            self.reciprocals.extend(pages.iter().map(|&pages| 1.0 / pages as f64));
-        }
-        let reciprocals = &self.reciprocals[..length];
-        random.draw(length, |at, word| picks[at] = start[at] + remainder(word, pages[at], reciprocals[at]));
     }
 }
 
-/// `word % pages`, by the reciprocal of `pages`. The quotient of the word and a half is at least half a part away from each
-/// whole number, and the two roundings move it by less, since a word is below 2^32 and a double has 53 bits.
+/// `word % pages`, by a division of doubles, of which processors do two at a time. The quotient of the word and a
+/// half is at least half a part away from each whole number. So half less than it is nearest to the whole quotient,
+/// also after the rounding, since a word is below 2^32 and a double has 53 bits. From 2^52 on doubles are whole
+/// numbers: a word is put into the low bits of such a one, and the whole quotient is read from there.
 #[inline]
-fn remainder(word: u32, pages: u32, reciprocal: f64) -> u32 {
-    let quotient = ((word as f64 + 0.5) * reciprocal) as i64;
-    word.wrapping_sub((quotient as u32).wrapping_mul(pages))
+fn remainder(word: u32, pages: u32) -> u32 {
+    const WHOLE: f64 = (1u64 << 52) as f64;
+    let number = |low: u32| f64::from_bits(WHOLE.to_bits() | low as u64) - WHOLE;
+    let quotient = (number(word) + 0.5) / number(pages) - 0.5;
+    // Half as much more than 2^52, since the quotient may be a little below 0.
+    let whole = (quotient + 1.5 * WHOLE).to_bits() as u32;
+    word.wrapping_sub(whole.wrapping_mul(pages))
 }
 
 #[cfg(test)]
@@ -62,21 +49,17 @@ mod tests {
     fn remainders_are_right_at_all_sizes() {
         for pages in (1..70).chain([99, 1000, 4095, 65_537, 262_144, 999_983, 1_048_575, 1_048_576]) {
             let edges = (0..50u32).map(|part| u32::MAX / pages / 50 * part * pages);
-            for word in edges.flat_map(|edge| [edge, edge.wrapping_sub(1), edge + 1]).chain([u32::MAX, u32::MAX - 1, 0]) {
-                assert_eq!(remainder(word, pages, 1.0 / pages as f64), word % pages, "{word} % {pages}");
+            for word in edges.flat_map(|edge| [edge, edge.wrapping_sub(1), edge + 1]).chain([
+                u32::MAX,
+                u32::MAX - 1,
+                0,
+                1,
+                2,
+                pages / 4,
+                pages / 2,
+            ]) {
+                assert_eq!(remainder(word, pages), word % pages, "{word} % {pages}");
             }
-        }
-    }
-
-    #[test]
-    fn later_passes_draw_as_the_first_ones_do() {
-        let rows = rows_of(&[(1, 0), (1000, 0), (7, 0), (64, 0), (1_000_000, 0)]);
-        let (mut kept, mut random) = (Picks::default(), Random::new(5));
-        for _ in 0..20 {
-            let mut fresh = Picks::default();
-            fresh.draw(&rows, &mut random.clone());
-            kept.draw(&rows, &mut random);
-            assert_eq!(kept.pages, fresh.pages);
         }
     }
 }

@@ -84,15 +84,16 @@ pub fn input() -> Result<Vec<u8>, Status> {
             return Err(Status::TooLong);
         }
         if length == text.len() {
-            text.resize((4 * length).min(MOST_INPUT + 1), 0);
+            // What is never read should not take memory either.
+            text.resize((length + (length / 8).max(256 * 1024)).min(MOST_INPUT + 1), 0);
         }
     }
     text.truncate(length);
     Ok(text)
 }
 
-/// Runs a program on the words after its name, and gives the number of its status. The `main` of Rust would put `/dev/null`
-/// in the place of a standard stream that is closed, so the programs have that of C.
+/// Runs a program on the words after its name, and gives the number of its status. The `main` of Rust would put
+/// `/dev/null` in the place of a standard stream that is closed, so the programs have that of C.
 pub fn run(program: fn(&[OsString]) -> Status) -> i32 {
     // SAFETY: a write to a pipe that nobody reads then fails and does not end the process.
     unsafe { signal(SIGPIPE, IGNORE) };

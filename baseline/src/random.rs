@@ -67,26 +67,23 @@ impl Random {
         self.drawn += words;
     }
 
-    /// Draws as many words as there are places and hands each to `place` with its number. Four states go on side by side:
-    /// one alone would wait for its own multiplication each time.
-    #[inline]
-    pub fn draw(&mut self, words: usize, mut place: impl FnMut(usize, u32)) {
+    /// Draws a word for each place. Four states go on side by side: one alone would wait for its own multiplication.
+    pub fn fill(&mut self, places: &mut [u32]) {
         let mut lanes = [self.state; LANES];
         for lane in 1..LANES {
             lanes[lane] = Jump::of(1).from(lanes[lane - 1]);
         }
-        let whole = words / LANES * LANES;
-        for first in (0..whole).step_by(LANES) {
-            for (lane, state) in lanes.iter_mut().enumerate() {
-                place(first + lane, output(*state));
+        let mut groups = places.chunks_exact_mut(LANES);
+        for group in &mut groups {
+            for (place, state) in group.iter_mut().zip(&mut lanes) {
+                *place = output(*state);
                 *state = FOUR.from(*state);
             }
         }
-        for (lane, state) in lanes.iter().take(words - whole).enumerate() {
-            place(whole + lane, output(*state));
-        }
-        self.state = lanes[words - whole];
-        self.drawn += words as u64;
+        let rest = groups.into_remainder();
+        rest.iter_mut().zip(&lanes).for_each(|(place, state)| *place = output(*state));
+        self.state = lanes[rest.len()];
+        self.drawn += places.len() as u64;
     }
 }
 
@@ -111,7 +108,7 @@ mod tests {
             let (mut one, mut side, mut jumped) = (Random::new(7), Random::new(7), Random::new(7));
             let alone: Vec<u32> = (0..count).map(|_| one.next()).collect();
             let mut drawn = vec![0; count];
-            side.draw(count, |at, word| drawn[at] = word);
+            side.fill(&mut drawn);
             jumped.skip(count as u64, Jump::of(count as u64));
             assert_eq!(alone, drawn);
             let next = one.next();

@@ -38,6 +38,9 @@ impl Row {
     }
 }
 
+/// So many rows are moved sooner one by one than column by column.
+const FEW: usize = 6;
+
 #[derive(Default)]
 pub struct Rows {
     pub start: Vec<u32>,
@@ -71,7 +74,7 @@ impl Rows {
         self.start.len()
     }
 
-    #[inline]
+    #[inline(always)]
     pub fn get(&self, at: usize) -> Row {
         Row {
             start: self.start[at],
@@ -83,7 +86,7 @@ impl Rows {
         }
     }
 
-    #[inline]
+    #[inline(always)]
     pub fn set(&mut self, at: usize, row: Row) {
         self.start[at] = row.start;
         self.pages[at] = row.pages;
@@ -122,11 +125,23 @@ impl Rows {
         self.range.resize(length, 0);
     }
 
-    /// Moves the rows from `from` to before `end` so that they begin at `to`.
+    /// Moves the rows from `from` to before `end` so that they begin at `to`. A few rows are moved one after another.
+    #[inline]
     pub fn shift(&mut self, from: usize, end: usize, to: usize) {
-        if from == to {
+        let length = end - from;
+        if from == to || length == 0 {
             return;
         }
+        if length > FEW {
+            self.shift_columns(from, end, to);
+        } else if to < from {
+            (0..length).for_each(|at| self.set(to + at, self.get(from + at)));
+        } else {
+            (0..length).rev().for_each(|at| self.set(to + at, self.get(from + at)));
+        }
+    }
+
+    fn shift_columns(&mut self, from: usize, end: usize, to: usize) {
         self.columns().into_iter().for_each(|it| it.copy_within(from..end, to));
         self.range.copy_within(from..end, to);
     }
@@ -186,6 +201,19 @@ pub mod tests {
         assert_eq!(pages(&[range(0, 3)], 1, 3), [1, 1, 1]);
         assert_eq!(pages(&[range(0, 1)], 1, 3), [1]);
         assert_eq!(pages(&[range(0, 1024)], 2, 10), [102, 102, 102, 102, 102, 102, 102, 102, 102, 106]);
+    }
+
+    #[test]
+    fn rows_are_moved_to_both_sides() {
+        for length in 0..12 {
+            for to in [0, 3, 5, 9] {
+                let mut rows = rows_of(&(1..30).map(|pages| (pages, pages)).collect::<Vec<_>>());
+                let mut wanted: Vec<u32> = rows.pages.clone();
+                wanted.copy_within(5..5 + length, to);
+                rows.shift(5, 5 + length, to);
+                assert_eq!((&rows.pages, &rows.count), (&wanted, &wanted));
+            }
+        }
     }
 
     #[test]

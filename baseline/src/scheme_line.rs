@@ -56,7 +56,8 @@ fn form_of(line: &[u8], version: u8) -> OfLine<Form<'_>> {
     let slot = words.next().ok_or(FaultKind::Form)?;
     let action = words.next().and_then(Action::named).ok_or(FaultKind::Form)?;
     let (size, count, age, quota, time, weights, marks) = (None, None, None, None, None, None, None);
-    let mut form = Form { slot, action, size, count, age, quota, time, weights, cold: false, marks, filters: Vec::new() };
+    let mut form =
+        Form { slot, action, size, count, age, quota, time, weights, cold: false, marks, filters: Vec::new() };
     let mut before = None;
     for word in words {
         before = Some(key_of(&mut form, word, before, version)?);

@@ -6,7 +6,7 @@ use crate::scheme::Scheme;
 /// A division by one number of numbers below 2^27, as a multiplication.
 #[derive(Clone, Copy)]
 struct Divisor {
-    factor: u64,
+    factor: u32,
     shift: u32,
 }
 
@@ -15,12 +15,12 @@ impl Divisor {
     fn of(divisor: u32) -> Divisor {
         // With 2^k at least 2^27 times the divisor, the quotient is too large by less than one part of the divisor.
         let shift = 27 + 32 - (divisor - 1).leading_zeros();
-        Divisor { factor: ((1u64 << shift) + divisor as u64 - 1) / divisor as u64, shift }
+        Divisor { factor: (((1u64 << shift) + divisor as u64 - 1) / divisor as u64) as u32, shift }
     }
 
     #[inline]
     fn quotient(self, number: u32) -> u32 {
-        (number as u64 * self.factor >> self.shift) as u32
+        (number as u64 * self.factor as u64 >> self.shift) as u32
     }
 }
 
@@ -29,6 +29,8 @@ impl Divisor {
 pub struct Scores {
     size: Vec<u8>,
     heat: Vec<u8>,
+    /// Room for the scores of all rows.
+    all: Vec<u8>,
     total: u32,
 }
 
@@ -70,19 +72,34 @@ impl Scores {
     }
 
     /// Adds the scores of some rows to a list.
-    pub fn extend(&self, scoring: &Scoring, rows: &Rows, of: &[u32], scores: &mut Vec<u8>) {
+    pub fn extend(&mut self, scoring: &Scoring, rows: &Rows, of: &[u32], scores: &mut Vec<u8>) {
         let sum = match scoring.sum {
             Some(sum) => sum,
             None => return scores.resize(scores.len() + of.len(), 0),
         };
+        if of.is_empty() {
+            return;
+        }
         let [by_size, by_heat, by_age] = scoring.weights;
         let flip = if scoring.cold { 99 } else { 0 };
-        scores.extend(of.iter().map(|&row| {
-            let at = row as usize;
-            let heat = (self.heat[at] as i32 - flip).unsigned_abs();
-            let parts = by_size * self.size[at] as u32 + by_heat * heat + by_age * rows.age[at].min(99);
-            sum.quotient(parts) as u8
-        }));
+        let part = |size: u8, heat: u8, age: u32| {
+            let heat = (heat as i32 - flip).unsigned_abs();
+            sum.quotient(by_size * size as u32 + by_heat * heat + by_age * age.min(99)) as u8
+        };
+        if 4 * of.len() < rows.len() {
+            scores
+                .extend(of.iter().map(|&row| row as usize).map(|at| part(self.size[at], self.heat[at], rows.age[at])));
+            return;
+        }
+        // Those of all rows by one loop over their columns take less time than those of most of them.
+        self.all.resize(rows.len(), 0);
+        let columns = self.size.iter().zip(&self.heat).zip(&rows.age);
+        self.all.iter_mut().zip(columns).for_each(|(score, ((&size, &heat), &age))| *score = part(size, heat, age));
+        if of.len() == rows.len() {
+            scores.extend_from_slice(&self.all);
+        } else {
+            scores.extend(of.iter().map(|&row| self.all[row as usize]));
+        }
     }
 }
 

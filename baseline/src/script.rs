@@ -239,7 +239,8 @@ pub fn hex_of(text: &[u8]) -> Option<(u64, usize)> {
 mod tests {
     use super::*;
 
-    const SETUP: &str = "damon script 1\nseed 1\nunit 1\ncap 3\nattrs 3 3 1\ntarget 0x1000 2\nrange 0 0x1000 0x3000 0\nbegin\n";
+    const SETUP: &str =
+        "damon script 1\nseed 1\nunit 1\ncap 3\nattrs 3 3 1\ntarget 0x1000 2\nrange 0 0x1000 0x3000 0\nbegin\n";
 
     fn fault_of(body: &str) -> Option<(u64, FaultKind)> {
         read(format!("{SETUP}{body}").as_bytes()).err().map(|it| (it.line, it.kind))
@@ -250,7 +251,20 @@ mod tests {
         let mut space = Space::default();
         assert!((0..12).all(|target| space.add(target * 0x10000, 3)));
         for word in ["0", "9", "11", "12", "00", "01", "", "1a"] {
-            for at in ["0x0", "0x1", "0x90fff", "0xb2fff", "0xb3000", "0x00", "0x01", "0xA000", "0x", "x1000", "0x1000 ", "0xffffffffffffffff"] {
+            for at in [
+                "0x0",
+                "0x1",
+                "0x90fff",
+                "0xb2fff",
+                "0xb3000",
+                "0x00",
+                "0x01",
+                "0xA000",
+                "0x",
+                "x1000",
+                "0x1000 ",
+                "0xffffffffffffffff",
+            ] {
                 let line = format!("touch {word} {at}");
                 let whole = format!("{line}\nend\n");
                 let slow = accesses_of(line.as_bytes(), &space).ok().map(|(page, _)| (page, line.len() + 1));

@@ -96,7 +96,9 @@ mod tests {
 
     #[test]
     fn time_quotas_are_those_of_the_page() {
-        for (pages, nanoseconds, left) in [(0, 0, 6), (5, 0, 6), (0, 9000, 6), (5, 5000, 3), (5, 1000, 6), (7, 9000, 2), (1, 3001, 0)] {
+        for (pages, nanoseconds, left) in
+            [(0, 0, 6), (5, 0, 6), (0, 9000, 6), (5, 5000, 3), (5, 1000, 6), (7, 9000, 2), (1, 3001, 0)]
+        {
             let mut slot = slot_of("scheme 0 stat quota=24576,20 time=3000", 2);
             slot.cost_pages = pages;
             slot.take_cost(nanoseconds);

@@ -37,7 +37,9 @@ impl Split {
                 cuts.extend(second.map(|more| Cut { row: row as u32, pages: left + more }));
             }
         }
-        carry_out(rows, &cuts);
+        if !cuts.is_empty() {
+            carry_out(rows, &cuts);
+        }
     }
 
     /// Where a word cuts a row of so many pages, if both sides are large enough.
@@ -104,6 +106,9 @@ impl Update<'_> {
         while at < old.len() && old.start[at] < range.end {
             if self.keeps(old.start[at], piece.start) {
                 self.push(piece, old.start[at], rows);
+                let same = self.stretch(at);
+                self.copy(at, same, rows);
+                at = same;
                 piece = self.piece(old.start[at], at);
             }
             let end = old.start[at] + old.pages[at];
@@ -115,6 +120,24 @@ impl Update<'_> {
             }
         }
         self.push(piece, range.end, rows);
+    }
+
+    /// The end of the rows from `at` on that stay as they are and have another row right behind them, with its start
+    /// as a boundary that is kept. They begin with a boundary that is kept, and have at least `unit` pages each.
+    fn stretch(&self, at: usize) -> usize {
+        let last = self.range.end - self.unit;
+        let pairs = self.old.start[at..].windows(2).zip(&self.old.pages[at..]);
+        at + pairs.take_while(|(starts, &pages)| starts[0] + pages == starts[1] && starts[1] <= last).count()
+    }
+
+    fn copy(&self, at: usize, end: usize, rows: &mut Rows) {
+        let old = self.old;
+        rows.start.extend_from_slice(&old.start[at..end]);
+        rows.pages.extend_from_slice(&old.pages[at..end]);
+        rows.count.extend_from_slice(&old.count[at..end]);
+        rows.last.extend_from_slice(&old.last[at..end]);
+        rows.age.extend_from_slice(&old.age[at..end]);
+        rows.range.resize(rows.range.len() + end - at, self.number);
     }
 
     /// Whether a boundary is kept, with the one kept last or the start of the range before it.

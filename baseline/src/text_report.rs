@@ -97,9 +97,23 @@ pub fn answer(output: &mut Output, answer: &Answer) {
 
 fn apply(output: &mut Output, served: &Served, run: &Run, space: &Space) {
     let target = &space.targets[run.target as usize];
-    output.field("apply ", served.slot as u64).str(" ").str(served.action.name());
-    output.field(" ", run.target as u64).str(" ").address(target.address(run.first)).str("-");
-    output.address(target.address(run.end)).field(" score=", run.score as u64).str("\n");
+    let address = |page: u32| PageAddress::of((target.base / PAGE).wrapping_add((page - target.first) as u64));
+    let (first, end) = (address(run.first), address(run.end));
+    output.field("apply ", served.slot as u64).str(" ").str(served.action.name()).field(" ", run.target as u64);
+    let room = &mut output.room(ROW_ROOM)[..ROW_ROOM];
+    room[..4].copy_from_slice(b" 0x ");
+    let mut at = 3;
+    room[at..at + 16].copy_from_slice(&first.digits);
+    at += first.length;
+    room[at..at + 4].copy_from_slice(b"-0x ");
+    at += 3;
+    room[at..at + 16].copy_from_slice(&end.digits);
+    at += end.length;
+    room[at..at + 8].copy_from_slice(b" score= ");
+    at += 7;
+    at += put_decimal(&mut room[at..], run.score as u64);
+    room[at] = b'\n';
+    output.add(at + 1);
 }
 
 fn slot(output: &mut Output, served: &Served) {
@@ -181,14 +195,22 @@ fn put_row(room: &mut [u8], prefix: &Prefix, addresses: [PageAddress; 2], number
     at += 3;
     room[at..at + 16].copy_from_slice(&addresses[1].digits);
     at += addresses[1].length;
-    room[at..at + 8].copy_from_slice(b" count= ");
-    at += 7;
-    at += put_decimal(&mut room[at..], numbers[0] as u64);
-    room[at..at + 8].copy_from_slice(b" last=  ");
-    at += 6;
-    at += put_decimal(&mut room[at..], numbers[1] as u64);
-    room[at..at + 8].copy_from_slice(b" age=   ");
-    at += 5;
+    if numbers[0] < 10 && numbers[1] < 10 {
+        // Most counts have one digit.
+        room[at..at + 20].copy_from_slice(b" count=0 last=0 age=");
+        room[at + 7] += numbers[0] as u8;
+        room[at + 14] += numbers[1] as u8;
+        at += 20;
+    } else {
+        room[at..at + 8].copy_from_slice(b" count= ");
+        at += 7;
+        at += put_decimal(&mut room[at..], numbers[0] as u64);
+        room[at..at + 8].copy_from_slice(b" last=  ");
+        at += 6;
+        at += put_decimal(&mut room[at..], numbers[1] as u64);
+        room[at..at + 5].copy_from_slice(b" age=");
+        at += 5;
+    }
     at += put_decimal(&mut room[at..], numbers[2] as u64);
     room[at] = b'\n';
     at + 1

@@ -110,7 +110,8 @@ fn tuned(slot: &Slot) -> Option<(&Scheme, u64)> {
 impl Mode<TextReport> for Tune {
     fn aggregated(&mut self, monitor: &Monitor) {
         let rows = &monitor.rows;
-        let hot: u64 = rows.count.iter().zip(&rows.pages).map(|(&it, &pages)| if it > 0 { pages as u64 } else { 0 }).sum();
+        let hot: u64 =
+            rows.count.iter().zip(&rows.pages).map(|(&it, &pages)| if it > 0 { pages as u64 } else { 0 }).sum();
         let total = monitor.total as u64;
         self.hot = 1000 * hot / total;
         self.cold = 1000 * (total - hot) / total;
@@ -165,7 +166,16 @@ mod tests {
 
     #[test]
     fn goals_keep_their_limits() {
-        for word in ["16:hot:1:0:0", "0:hot:0:0:0", "0:hot:1:2:1", "0:warm:1:0:0", "0:hot:1:0", "0:hot:1:0:0:0", "0:hot:4294967296:0:0", "00:hot:1:0:0"] {
+        for word in [
+            "16:hot:1:0:0",
+            "0:hot:0:0:0",
+            "0:hot:1:2:1",
+            "0:warm:1:0:0",
+            "0:hot:1:0",
+            "0:hot:1:0:0:0",
+            "0:hot:4294967296:0:0",
+            "00:hot:1:0:0",
+        ] {
             assert!(Goal::of(word.as_bytes()).is_err(), "{word}");
         }
     }

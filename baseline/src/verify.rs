@@ -226,7 +226,8 @@ impl Journal {
 
     /// Takes the lines `seen`.
     fn receipts(&mut self, lines: &mut Lines) -> Lawful<()> {
-        // The last receipt of each page: its worker above its tag, so that only a later one of its worker must not be less.
+        // The last receipt of each page: its worker above its tag, so that only a later one of its worker must not be
+        // less.
         let mut last = vec![0u32; self.monitor.space.pages as usize];
         let mut worker = 0;
         while let Some((receipt, length)) = receipt_of(lines.rest()) {

@@ -23,7 +23,13 @@ pub fn first_word(line: &[u8]) -> &[u8] {
 
 /// Whether a line has only printable bytes and single spaces between its words.
 pub fn has_form(line: &[u8]) -> bool {
-    line.iter().all(|byte| (0x20..0x7f).contains(byte)) && line.split(|&byte| byte == b' ').all(|word| !word.is_empty())
+    let mut before = b' ';
+    let mut is_right = true;
+    for &byte in line {
+        is_right &= (0x20..0x7f).contains(&byte) & !(byte == b' ' && before == b' ');
+        before = byte;
+    }
+    is_right && before != b' '
 }
 
 /// The words of a line that must have exactly so many.
@@ -115,7 +121,10 @@ mod tests {
         for word in ["", "00", "01", "+1", "1a", "18446744073709551616", "99999999999999999999", "-0"] {
             assert_eq!(n64(word.as_bytes()), Err(FaultKind::Number), "{word}");
         }
-        assert_eq!((n8(b"256"), n16(b"65536"), n32(b"4294967296")), (Err(FaultKind::Number), Err(FaultKind::Number), Err(FaultKind::Number)));
+        assert_eq!(
+            (n8(b"256"), n16(b"65536"), n32(b"4294967296")),
+            (Err(FaultKind::Number), Err(FaultKind::Number), Err(FaultKind::Number))
+        );
     }
 
     #[test]
@@ -124,6 +133,16 @@ mod tests {
         assert_eq!(address(b"0x7f0000001000"), Ok(0x7f00_0000_1000));
         for word in ["0x00", "0x01", "0x1F", "0X1", "1f", "0x", "0x10000000000000000", "0x1 "] {
             assert_eq!(address(word.as_bytes()), Err(FaultKind::Number), "{word}");
+        }
+    }
+
+    #[test]
+    fn words_have_single_spaces_between_them() {
+        for line in ["a", "a b", "~ !", "step 4"] {
+            assert!(has_form(line.as_bytes()), "{line}");
+        }
+        for line in ["", " ", " a", "a ", "a  b", "a\tb", "a\r", "\x7f", "a\u{e9}"] {
+            assert!(!has_form(line.as_bytes()), "{line}");
         }
     }
 

@@ -33,8 +33,8 @@ impl World {
         self.marks.sweep(first, end);
     }
 
-    /// Makes steps up to the goal or up to an aggregation, which is left to the caller. Gives what is left of the goal, or
-    /// nothing where it is reached.
+    /// Makes steps up to the goal or up to an aggregation, which is left to the caller. Gives what is left of the
+    /// goal, or nothing where it is reached.
     pub fn advance(&mut self, goal: Goal) -> Option<Goal> {
         let mut left = match goal {
             Goal::Steps(steps) => steps,
