@@ -331,7 +331,7 @@ class Errors(Searches, Refusals):
         self.taken_from(start + "[measure]\nmore = 5", "[measure]", "'more'")
         self.taken_from(start + 'command = "json"', "command", "replay, reclaim")
         self.taken_from(start + 'clock = "days"', "clock", "microseconds")
-        self.taken_from(start + 'form = "x"', "form", "lackey, perf, plain")
+        self.taken_from(start + 'form = "x"', "form", "lackey, memtrace, pinatrace, perf, plain")
         self.taken_from(start + 'take = ["x"]', "take", "loads")
         self.taken_from(start + "gap = -1", "gap")
         self.taken_from(start + "gap = true", "gap")

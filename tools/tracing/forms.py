@@ -24,8 +24,7 @@ def form_of(line: bytes) -> str | None:
             decode(line)
         except TraceError:
             continue
-        if line.strip():
-            return form
+        return form
     if PERF_TIME.search(line):
         # If it has no address, the reader of samples says why.
         return "perf"

@@ -21,7 +21,7 @@ from .lackey import FETCH, INSTRUCTION, BeyondError, pages_of
 MEMTRACE, PINATRACE = "memtrace", "pinatrace"
 RECORD = re.compile(rb"(?:T?[0-9]+|[0-9]+\s+[0-9]+:\s+[0-9]+)\s+([a-z][a-zA-Z0-9_-]*)\s+([0-9]{1,7}) byte\(s\) @ 0x([0-9a-f]{1,16})(?:\s.*)?")
 OTHER_RECORD = re.compile(rb"(?:T?[0-9]+|[0-9]+\s+[0-9]+:\s+[0-9]+)\s+<.*>")
-AROUND = re.compile(rb"Output format:|<--record#->.*|-+|View tool results:|[0-9]+ : total .*|")
+AROUND = re.compile(rb"Output format:|<--record#->.*|-+|View tool results:|[0-9]+ : total .*")
 """The lines before and behind all records."""
 PIN_LINE = re.compile(rb"0x[0-9a-f]{1,16}: ([RW]) 0x([0-9a-f]{1,16})\s*")
 LETTERS = {b"read": b"L", b"write": b"S", b"ifetch": FETCH, b"R": b"L", b"W": b"S"}
