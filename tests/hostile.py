@@ -25,9 +25,8 @@ from pathlib import Path
 from typing import Dict, List, NamedTuple, Optional
 
 from hostile_edits import edited
-from tool_runs import DAMOND, PROGRAM, TOP
+from tool_runs import BUILT, TOP
 
-BUILT = {"damon": PROGRAM, "damond": DAMOND}
 COMMANDS = ("replay", "json", "reclaim", "tune", "admin", "verify", "heat", "run")
 # The words after a command.
 WORDS = {"heat": ("16",), "tune": ("0:metric:100:4096:81920", "1:cold:700:0:40960")}

@@ -8,9 +8,9 @@ import tempfile
 import unittest
 from pathlib import Path
 
-from hostile import BUILT, load_seeds, make_inputs
+from hostile import load_seeds, make_inputs
 from hostile_edits import EDITS, edited
-from tool_runs import need_program
+from tool_runs import BUILT, need_program
 
 TOOL = Path(__file__).resolve().parent / "hostile.py"
 # A program that hands all on, but for the digit of the first hit.
@@ -18,7 +18,7 @@ OTHER = '#!/bin/sh\n"{damon}" "$@" | sed "s/hits=0/hits=1/"\n'
 
 
 def setUpModule() -> None:
-    need_program()
+    need_program(BUILT["damon"])
 
 
 class Comparing(unittest.TestCase):

@@ -9,7 +9,9 @@ import subprocess
 import unittest
 from typing import Dict, List, Tuple
 
-from tool_runs import DAMOND, TOP, need_program
+from tool_runs import BUILT, TOP, need_program
+
+DAMOND = BUILT["damond"]
 
 EXAMPLE = TOP / "examples/live.damon"
 PAGE = 4096

@@ -18,8 +18,9 @@ from pathlib import Path
 TOP = Path(__file__).resolve().parent.parent
 TOOLS = TOP / "tools"
 KEPT = TOP / "examples/shop.trace.xz"
-PROGRAM = Path(os.environ.get("DAMON") or TOP / "crates/damon/out/damon")
-DAMOND = Path(os.environ.get("DAMOND") or TOP / "crates/damond/out/damond")
+BUILT = {name: TOP / f"crates/{name}/out/{name}" for name in ("damon", "damond")}
+"""The programs of this checkout, by name."""
+PROGRAM = Path(os.environ.get("DAMON") or BUILT["damon"])
 DEBIANS_PYTHON = "/usr/bin/python3"
 SECONDS = 300
 if str(TOOLS) not in sys.path:
