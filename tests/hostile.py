@@ -8,9 +8,9 @@ of the same rules, which are built by
 
     (cd baseline && cargo build --release)
 
-The built programs are those of this checkout, or those that DAMON and DAMOND in the environment name. Each input is a valid or a rejected text with one to
-four edits: of bytes, of words, of lines, or one that is aimed at a rule of the formats (`hostile_edits.py`). It is
-given to both programs, with `replay`, `json`, `reclaim`, `tune` and two goals, `admin`, `verify`, `heat 16` or `run`. Both must write
+The built programs are those of this checkout, or those that DAMON and DAMOND in the environment name. Each input is a
+valid or a rejected text with one to four edits: of bytes, of words, of lines, or one that is aimed at a rule of the
+formats (`hostile_edits.py`). It is given to both programs, with `replay`, `json`, `reclaim`, `tune` and two goals, `admin`, `verify`, `heat 16` or `run`. Both must write
 the same bytes to standard output and to standard error and end with the same status. Two runs of `damond run` in threads may
 write two journals; there both programs must end alike, and each must accept the journal of either by its `verify`.
 
@@ -33,7 +33,6 @@ from hostile_edits import edited
 from tool_runs import DAMOND, PROGRAM, TOP
 
 NAMES = ("damon", "damond")
-BUILT = {"damon": PROGRAM, "damond": DAMOND}
 BASELINE = {name: TOP / f"baseline/target/release/{name}" for name in NAMES}
 HOW_BUILT = "(cd baseline && cargo build --release) builds the baseline"
 COMMANDS = ("replay", "json", "reclaim", "tune", "admin", "verify", "heat", "run")
@@ -68,7 +67,7 @@ class Programs(NamedTuple):
 
 def main() -> int:
     wanted = parse_words()
-    ours = Programs(BUILT["damon"], BUILT["damond"])
+    ours = Programs(PROGRAM, DAMOND)
     other = other_programs(wanted.other_damon, wanted.other_damond)
     seeds = load_seeds(with_live=other.damond is not None)
     commands = [it for it in ([wanted.only] if wanted.only else COMMANDS) if seeds.get(it)]

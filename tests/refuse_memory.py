@@ -27,8 +27,9 @@ from concurrent.futures import ThreadPoolExecutor
 from pathlib import Path
 from typing import Dict, Iterator, List, NamedTuple, Optional, Sequence
 
-from tool_runs import DAMOND, TOP
-from tool_runs import PROGRAM as DAMON
+from tool_runs import BUILT, TOP
+
+DAMON, DAMOND = BUILT["damon"], BUILT["damond"]
 
 OK, MEMORY = 0, 7
 MEMORY_LINE = b"out of memory\n"

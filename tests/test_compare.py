@@ -411,6 +411,7 @@ class Errors(Refusals):
         self.check(["-: ", "count=3", "in 2 passes"], EXACT, FOUND.replace("tick=4", "tick=2"))
         self.check(["the-exact-one", "0x10000", "follow"], EXACT.replace("row 0 0x11000-0x12000", "row 0 0x10000-0x11000"), FOUND)
         self.check(["the-exact-one", "line 1"], "hello\n", FOUND)
+        self.check(["the-exact-one: a byte that is not ASCII"], EXACT.replace("end", "\xe9nd"), FOUND)
 
     def test_exact_counts_come_first(self) -> None:
         self.check(["first of the reports"], EXACT, "exact counts 1\n")

@@ -10,9 +10,9 @@ from pathlib import Path
 from unittest import mock
 
 import hostile
-from hostile import BUILT, load_seeds, make_inputs
+from hostile import load_seeds, make_inputs
 from hostile_edits import EDITS, edited
-from tool_runs import need_program
+from tool_runs import PROGRAM, need_program
 
 TOOL = Path(__file__).resolve().parent / "hostile.py"
 # A program that hands all on, but for the digit of the first hit.
@@ -20,7 +20,7 @@ OTHER = '#!/bin/sh\n"{damon}" "$@" | sed "s/hits=0/hits=1/"\n'
 
 
 def setUpModule() -> None:
-    need_program()
+    need_program(PROGRAM)
 
 
 class Comparing(unittest.TestCase):
@@ -28,13 +28,13 @@ class Comparing(unittest.TestCase):
         return subprocess.run([sys.executable, str(TOOL), str(other), "--count", "60", *words], capture_output=True, text=True, timeout=300)
 
     def test_a_program_is_like_itself(self) -> None:
-        ran = self.compare(BUILT["damon"])
+        ran = self.compare(PROGRAM)
         self.assertEqual((ran.returncode, ran.stdout), (0, "60 passed, 0 failed\n"))
 
     def test_a_difference_is_seen_and_kept(self) -> None:
         with tempfile.TemporaryDirectory() as folder:
             other = Path(folder) / "damon"
-            other.write_text(OTHER.format(damon=BUILT["damon"]))
+            other.write_text(OTHER.format(damon=PROGRAM))
             os.chmod(other, 0o755)
             ran = self.compare(other, "--only", "replay", "--keep", f"{folder}/kept")
             self.assertEqual(ran.returncode, 1)

@@ -11,7 +11,9 @@ import unittest
 from contextlib import contextmanager
 from typing import Dict, Iterator, List, Tuple
 
-from tool_runs import DAMOND, TOP, need_program
+from tool_runs import BUILT, TOP, need_program
+
+DAMOND = BUILT["damond"]
 
 EXAMPLE = TOP / "examples/live.damon"
 WORKERS = TOP / "examples/workers.damon"

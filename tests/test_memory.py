@@ -5,8 +5,7 @@ import tempfile
 import unittest
 from pathlib import Path
 
-from refuse_memory import MEMORY, OK, Refuser, Run, fault_of
-from tool_runs import PROGRAM as DAMON
+from refuse_memory import DAMON, MEMORY, OK, Refuser, Run, fault_of
 from tool_runs import need_program
 
 HEAD = (
@@ -17,7 +16,7 @@ COMMIT = "commit\nmetric 5\napply\nstep 200\n"
 
 
 def setUpModule() -> None:
-    need_program()
+    need_program(DAMON)
 
 
 def replay(body: str) -> Run:

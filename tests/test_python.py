@@ -11,9 +11,10 @@ import re
 import subprocess
 import tomllib
 import unittest
+from pathlib import Path
 
 from run_tests import skipped_lines
-from tool_runs import SECONDS, TOOLS, TOP, interpreter_with
+from tool_runs import SECONDS, TOOLS, TOP, interpreter_with, need_program
 
 CODE = ("tools", "tests", "build.py")
 FILES = [path for name in CODE for path in ([TOP / name] if (TOP / name).is_file() else sorted((TOP / name).rglob("*.py")))]
@@ -62,6 +63,11 @@ class Skips(unittest.TestCase):
         unittest.TestSuite(map(Some, ("one", "two", "one"))).run(result)
         names = [test.id() for test, _ in result.skipped]
         self.assertEqual(skipped_lines(result), [f"skipped: there is no cc: {names[0]} (2)", f"skipped: it is Monday: {names[1]}"])
+
+
+    def test_a_missing_program_is_no_skip(self) -> None:
+        with self.assertRaisesRegex(RuntimeError, "there is no program /no/damond: .* ./damond$"):
+            need_program(Path("/no/damond"))
 
 
 class Packages(unittest.TestCase):

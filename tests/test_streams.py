@@ -15,8 +15,9 @@ import unittest
 from pathlib import Path
 from typing import Dict, Iterator, List, Mapping, NamedTuple, Optional, Tuple
 
-from tool_runs import DAMOND, TOP, need_program
-from tool_runs import PROGRAM as DAMON
+from tool_runs import BUILT, TOP, need_program
+
+DAMON, DAMOND = BUILT["damon"], BUILT["damond"]
 
 OK, USAGE, READ_FAULT, WRITE_FAULT, MEMORY = 0, 2, 5, 6, 7
 LINES = {OK: b"", READ_FAULT: b"reading failed\n", WRITE_FAULT: b"writing failed\n", MEMORY: b"out of memory\n"}

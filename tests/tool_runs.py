@@ -1,7 +1,7 @@
 """What the tests of the tools share: the built program, and runs of tools and scripts.
 
-The program is `crates/damon/out/damon` of this checkout, where `rt ci` and ./damon leave it, or the one
-that DAMON in the environment names. The tools ask the same program.
+The programs are `crates/damon/out/damon` and `crates/damond/out/damond` of this checkout, where `rt ci`, ./damon and
+./damond leave them, or those that DAMON and DAMOND in the environment name. The tools ask the same programs.
 """
 from __future__ import annotations
 
@@ -18,8 +18,10 @@ from pathlib import Path
 TOP = Path(__file__).resolve().parent.parent
 TOOLS = TOP / "tools"
 KEPT = TOP / "examples/shop.trace.xz"
-PROGRAM = Path(os.environ.get("DAMON") or TOP / "crates/damon/out/damon")
-DAMOND = Path(os.environ.get("DAMOND") or TOP / "crates/damond/out/damond")
+BUILT = {name: TOP / f"crates/{name}/out/{name}" for name in ("damon", "damond")}
+"""The programs of this checkout, by name."""
+PROGRAM = Path(os.environ.get("DAMON") or BUILT["damon"])
+DAMOND = Path(os.environ.get("DAMOND") or BUILT["damond"])
 DEBIANS_PYTHON = "/usr/bin/python3"
 SECONDS = 300
 if str(TOOLS) not in sys.path:

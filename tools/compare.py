@@ -58,6 +58,9 @@ def aggregations_of(report: Report, path: str) -> Iterator[Aggregation]:
         yield from report.aggregations()
     except ReportError as error:
         raise UsageError(f"{path}: {error}") from None
+    except UnicodeDecodeError:
+        # Said here, since all files are open, and the one that was opened last would be named.
+        raise UsageError(f"{path}: a byte that is not ASCII") from None
 
 
 def exact_of(found: Aggregation, report: Report, options: argparse.Namespace) -> Exact:
