@@ -64,7 +64,6 @@ class Skips(unittest.TestCase):
         names = [test.id() for test, _ in result.skipped]
         self.assertEqual(skipped_lines(result), [f"skipped: there is no cc: {names[0]} (2)", f"skipped: it is Monday: {names[1]}"])
 
-
     def test_a_missing_program_is_no_skip(self) -> None:
         with self.assertRaisesRegex(RuntimeError, "there is no program /no/damond: .* ./damond$"):
             need_program(Path("/no/damond"))

@@ -17,11 +17,12 @@ sys.path.insert(0, str(Path(__file__).resolve().parent))
 import common
 from common import UsageError, opened_text
 from scripts.grammar import HEADERS, MOST_CAP
+from scripts.judge import has_judge
 from tracing import commits, notes, reading
 from tracing.accesses import TraceError
 from tracing.areas import Area, chosen, group_pages
 from tracing.commits import commits_of, placed_lines
-from tracing.early import check_lines, has_judge
+from tracing.early import check_lines
 from tracing.fit import fitted, too_much_at_all, too_much_to_fit
 from tracing.intervals import Recording, coarser
 from tracing.kept import Kept, is_kept, keep, kept_at

@@ -8,7 +8,7 @@ from __future__ import annotations
 
 from typing import Generator, Iterable, Iterator, Sequence
 
-from scripts.wording import counted
+from wording import counted
 
 from .asking import Asked
 

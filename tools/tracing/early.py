@@ -1,11 +1,10 @@
 """Lets damon judge the lines that a user gives, before a long trace is read."""
 from __future__ import annotations
 
-import os
 import re
 
 from common import UsageError
-from scripts.judge import VARIABLE, Fault, fault_of, is_there, program
+from scripts.judge import Fault, fault_of
 from scripts.reasons import reason_of
 from units import PAGE
 
@@ -13,13 +12,6 @@ from .commits import commit_lines
 from .script import Settings, opening
 
 LINE_NUMBER = re.compile(r" \(line [0-9]+\)| of line [0-9]+")
-
-
-def has_judge() -> bool:
-    """Whether there is a program to ask. Raises UsageError if one that somebody has named is not there."""
-    if not is_there() and os.environ.get(VARIABLE):
-        raise UsageError(f"there is no program {program()}, which {VARIABLE} in the environment names")
-    return is_there()
 
 
 def check_lines(settings: Settings) -> None:
