@@ -174,8 +174,9 @@ def main(words: List[str]) -> None:
     needed = repository.needed(words)
     print(*(f"{it.path()}: {it.words}" for it in needed), sep="\n")
     print(f"{len(needed)} definitions, {line_count(needed)} lines")
-    for kind, cited in (("constants", repository.constants(words)), ("types", repository.types(words))):
-        print(f"{len(cited)} {kind} of the code: " + (", ".join(it.name for it in cited) or "none"))
+    cited = {"constants": [it.name for it in repository.constants(words)], "types": [it.name for it in repository.types(words)]}
+    for kind, names in cited.items():
+        print(f"{len(names)} {kind} of the code: " + (", ".join(names) or "none"))
 
 
 if __name__ == "__main__":

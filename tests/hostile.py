@@ -10,7 +10,8 @@ of the same rules, which are built by
 
 The built programs are those of this checkout, or those that DAMON and DAMOND in the environment name. Each input is a
 valid or a rejected text with one to four edits: of bytes, of words, of lines, or one that is aimed at a rule of the
-formats (`hostile_edits.py`). It is given to both programs, with `replay`, `json`, `reclaim`, `tune` and two goals, `admin`, `verify`, `heat 16` or `run`. Both must write
+formats (`hostile_edits.py`). It is given to both programs, with `replay`, `json`, `reclaim`, `tune` and two goals,
+`admin`, `verify`, `heat 16` or `run`. Both must write
 the same bytes to standard output and to standard error and end with the same status. Two runs of `damond run` in threads may
 write two journals; there both programs must end alike, and each must accept the journal of either by its `verify`.
 

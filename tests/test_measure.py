@@ -166,8 +166,10 @@ class Kept(unittest.TestCase):
 class Page(unittest.TestCase):
     def test_tables_are_made_between_the_marks(self) -> None:
         page = written(PAGE, made_up(), [SMALL, OTHER])
-        self.assertIn("| a small one | 1.0 ms | 2.0 ms | 0.50 | 3.0 ms | 2.0 to 4.0 | 4.0 ms | 3.0 to 5.0 | 0.75 | 3 and 5 | 1.50 | 2.0 MiB | 1.0 MiB |\n", page)
-        self.assertIn("| another one | 8.0 ms | 10.0 ms | 0.80 | 8.5 ms | 8.2 to 8.8 | 10.0 ms | 10.0 to 10.0 | 0.85 | 2 |  | 1.5 MiB | 1.5 MiB |\n", page)
+        self.assertIn("| a small one | 1.0 ms | 2.0 ms | 0.50 | 3.0 ms | 2.0 to 4.0 | 4.0 ms | 3.0 to 5.0 | 0.75 "
+                      "| 3 and 5 | 1.50 | 2.0 MiB | 1.0 MiB |\n", page)
+        self.assertIn("| another one | 8.0 ms | 10.0 ms | 0.80 | 8.5 ms | 8.2 to 8.8 | 10.0 ms | 10.0 to 10.0 | 0.85 "
+                      "| 2 |  | 1.5 MiB | 1.5 MiB |\n", page)
         self.assertIn("| small | lines | 3 | 1.00 ms | 1 | 0.50 ms |  |  |\n", page)
         self.assertNotIn("old", page)
         self.assertTrue(page.startswith("before\n") and page.endswith("after\n") and "\nbetween\n" in page)

@@ -94,7 +94,8 @@ class Chunks(unittest.TestCase):
         return chunks
 
     def test_all_runs_come_in_their_order(self) -> None:
-        for numbers, processes in (([], 1), ([7], 4), (range(7, 5000), 4), ([9, 3, 80, 5], 2), (range(999), 3)):
+        cases: list[tuple[Sequence[int], int]] = [([], 1), ([7], 4), (range(7, 5000), 4), ([9, 3, 80, 5], 2), (range(999), 3)]
+        for numbers, processes in cases:
             with self.subTest(numbers=numbers, processes=processes):
                 self.assertEqual([number for chunk in self.chunks(numbers, processes) for number in chunk], [*numbers])
 
