@@ -18,6 +18,7 @@ from page_counts import Page, PageCounts, accuracy_of, aggregations_of
 from tool_runs import PROGRAM, TOOLS, Refusals, need_program, random_trace, report_of, run, script_of
 
 from comparing.counts import accessed_in, applied_of
+from comparing.lines import headings
 from comparing.paging import Moment, Paging
 from reports.events import Aggregation, Report
 from reports.memory import Memory
@@ -317,7 +318,7 @@ class Several(unittest.TestCase):
 
     def test_columns(self) -> None:
         head, *lines = [re.split(r"  +", line.strip()) for line in self.output("--hot", "0.4", "--after", "3")]
-        self.assertEqual(head, [str(path) for path in self.paths[1:]])
+        self.assertEqual(head, [path.name for path in self.paths[1:]])
         table = {name: cells for name, *cells in lines}
         for column, found in enumerate(self.found):
             pages, hot, called_hot, cold, called_cold, sets = found_numbers(self.exact, found, 0.4)
@@ -331,6 +332,10 @@ class Several(unittest.TestCase):
                                  ("pages put out", put_out[1]), ("refaults", refaults[1]), ("refaults within 3 aggregations", soon[1]),
                                  ("pages out on average", out[2])):
                 self.assertEqual(table[f"slot 0 pageout: {name}"][column], number)
+
+    def test_files_with_one_name_have_their_paths(self) -> None:
+        self.assertEqual(headings(["out/a.report", "out/b.report"]), ["a.report", "b.report"])
+        self.assertEqual(headings(["one/a.report", "two/a.report"]), ["one/a.report", "two/a.report"])
 
     def test_json(self) -> None:
         lines = [json.loads(line) for line in self.output("--json", "--hot", "0.4", "--after", "3")]

@@ -1,6 +1,7 @@
 """Says a comparison in lines, and several beside each other in columns."""
 from __future__ import annotations
 
+from pathlib import Path
 from typing import Sequence
 
 from measuring.sums import Sums
@@ -82,11 +83,17 @@ def move_line(move: Move) -> str:
 
 def columns_of(found: Sequence[Comparison]) -> list[str]:
     """A line for each number, with a column for each report. All reports have the same aggregations."""
-    rows = [["", *(one.name for one in found)]]
+    rows = [["", *headings([one.name for one in found])]]
     tables = [{**accuracy_cells(one.sums), **slot_cells(one)} for one in found]
     for name in dict.fromkeys(name for table in tables for name in table):
         rows.append([name, *(table.get(name, "-") for table in tables)])
     return aligned(rows)
+
+
+def headings(paths: Sequence[str]) -> Sequence[str]:
+    """The names of the files, or their paths as given where two files have the same name."""
+    names = [Path(path).name for path in paths]
+    return names if len(set(names)) == len(names) else paths
 
 
 def accuracy_cells(found: Sums) -> dict[str, str]:
