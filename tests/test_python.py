@@ -62,7 +62,8 @@ class Skips(unittest.TestCase):
         result = unittest.TestResult()
         unittest.TestSuite(map(Some, ("one", "two", "one"))).run(result)
         names = [test.id() for test, _ in result.skipped]
-        self.assertEqual(skipped_lines(result), [f"skipped: there is no cc: {names[0]} (2)", f"skipped: it is Monday: {names[1]}"])
+        lines = skipped_lines((test.id(), reason) for test, reason in result.skipped)
+        self.assertEqual(lines, [f"skipped: there is no cc: {names[0]} (2)", f"skipped: it is Monday: {names[1]}"])
 
     def test_a_missing_program_is_no_skip(self) -> None:
         with self.assertRaisesRegex(RuntimeError, "there is no program /no/damond: .* ./damond$"):
