@@ -12,7 +12,7 @@ from typing import NamedTuple
 from common import UsageError, opened
 from measuring.truth import Range, Truths
 from scripts.grammar import HEADERS, first_word
-from scripts.reading import Commit, OtherLine, Pass, touched_by
+from scripts.reading import ARM, COMMIT, TOUCHES, Commit, OtherLine, Pass, touched_by
 from scripts.setup import Script
 from tracing.commits import Commits, commit_lines
 from tracing.intervals import Runs, runs_of
@@ -146,11 +146,18 @@ def touched_of(script: Script, ranges: list[Range]) -> list[Runs]:
     """The watched pages that each pass of a script touches. Raises UsageError for a line that fits in no pass."""
     numbers = Numbers(ranges)
     result: list[Runs] = []
+    is_open = False
     for part in script.parts():
+        word, line = (first_word(part.line), part.line) if isinstance(part, OtherLine) else ("", ARM if isinstance(part, Pass) else COMMIT)
+        if is_open and word not in TOUCHES:
+            raise not_a_pass(script, part.number, line)
+        is_open = is_open or word == ARM
+        if is_open:
+            continue
         if isinstance(part, Pass):
             result.append(numbers.of_touches({page for line in part.touches for page in touched_by(line)}))
-        elif isinstance(part, OtherLine) and first_word(part.line) not in ("show", "end", ""):
-            raise not_a_pass(script, part.number, part.line)
+        elif isinstance(part, OtherLine) and word not in ("show", "end", ""):
+            raise not_a_pass(script, part.number, line)
         elif isinstance(part, Commit) and part.ranges:
             raise not_a_pass(script, part.ranges[0].line, part.with_word("range")[0])
     return result
