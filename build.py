@@ -104,7 +104,7 @@ class Build:
                 self._keep(run)
 
     def _start(self, name: str, ready: int, leads: bool) -> bool:
-        """Starts the proof of a crate, if there is a processor and memory for it. So many are `ready` from this one on."""
+        """Starts the proof of a crate, if there is a processor and memory for it. `ready` is the number that are ready from this one on."""
         idle = self.jobs - sum(run.jobs for run in self.running)
         room = self.memory - sum(run.memory for run in self.running)
         if idle < 1 or (self.running and self.crates[name].memory(1) > room):

@@ -53,7 +53,7 @@ def estimated(lines: Lines) -> Cost:
 
 
 def expected_seconds(order: Iterable[str], uses: Callable[[str], List[str]], seconds: Dict[str, float], processors: int) -> float:
-    """How long it takes to prove crates in this order with so many processors.
+    """How long it takes to prove crates in this order with this number of processors.
 
     A crate begins as soon as those that it uses are done and a processor is idle, and has one processor, but that
     the last one has them all. Crates that are not in `order` are done at the start.

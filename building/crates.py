@@ -20,7 +20,7 @@ class Crate(NamedTuple):
     cost: Cost
 
     def memory(self, jobs: int) -> float:
-        """The bytes that its proof may take with so many processes."""
+        """The bytes that its proof may take with this number of processes."""
         return self.cost.memory * (1 + PART_OF_A_JOB * (jobs - 1))
 
 

@@ -4,7 +4,7 @@
     /usr/bin/python3 tests/drive_browser.py < COMMANDS
 
 needs Debian's chromium-driver and python3-selenium. Each line that it reads is a command as JSON, such
-as {"do": "open", "path": "/tmp/page.html"}, and each line that it writes is the answer: {"answer": ..},
+as {"do": "open", "path": "out/page.html"}, and each line that it writes is the answer: {"answer": ..},
 or {"fault": ..}. Places are in points of the screen from the upper left corner of an element.
 """
 from __future__ import annotations

@@ -1,5 +1,5 @@
 #!/usr/bin/env python3
-"""Draws the table of times by size that `tests/measure.py --growth` prints and docs/PERFORMANCE.md has.
+"""Draws the table of times by size that docs/PERFORMANCE.md has, of figures of `tests/measure.py`.
 
     tests/growth.py docs/PERFORMANCE.md > docs/pictures/growth.svg
 

@@ -162,7 +162,7 @@ def no_hit() -> Run:
 
 
 def few_pages(pages: Sequence[int]) -> Run:
-    """Targets of so many pages, at addresses that fall; the first row of each is hit."""
+    """Targets with these numbers of pages, at addresses that fall; the first row of each is hit."""
     targets = [((len(pages) - number) << 32, count) for number, count in enumerate(pages)]
     run = Run(Setup((3, 100, 2), targets, [(number, 0, count) for number, count in enumerate(pages)]))
     run.make_passes(2, lambda index, row: row.first == 0)
@@ -266,7 +266,7 @@ def runs() -> Iterator[Case]:
 
 
 def few_pages_often() -> Run:
-    """So many aggregations that their tables have more than 64 KiB."""
+    """Enough aggregations that their tables have more than 64 KiB."""
     run = Run(Setup((3, 4, 1), [(number << 24, 64) for number in range(4)], [(number, 0, 64) for number in range(4)]))
     for number in range(150):
         run.make_pass(lambda index, row: number >> index & 1 == 1)

@@ -43,7 +43,7 @@ turn(0);
 
 
 def long_script(count: int) -> bytes:
-    """So many aggregations of 100 regions in ten targets, with six sweeps in each pass and a scheme."""
+    """This number of aggregations of 100 regions in ten targets, with six sweeps in each pass and a scheme."""
     source = random.Random(5)
     bases = [0x10000000 * number for number in range(1, TARGETS + 1)]
     lines = ["damon script 1", "seed 5", "unit 1", "cap 100", "attrs 100 100 2", *(f"target {base:#x} {PAGES}" for base in bases)]

@@ -36,7 +36,7 @@ class Known:
         self.hot_pages = (self.hot[1] - self.hot[0]) // 4096
 
     def tick(self, rounds: int) -> int:
-        """The end of the aggregation with the accesses after so many rounds; a round is one access to each hot page.
+        """The end of the aggregation with the accesses after this number of rounds; a round is one access to each hot page.
 
         The program does less than half an aggregation before its first round.
         """

@@ -123,7 +123,7 @@ class Found(unittest.TestCase):
     """That passes find touches, however busy the machine is: they are spread over them."""
 
     RUNS = 20
-    # So many of them have hits.
+    # The least number of them that have hits.
     MOST = 15
 
     def hits(self, script: str) -> List[int]:

@@ -1,5 +1,5 @@
 #!/usr/bin/env python3
-"""Tests of how pages are compared with the outputs of their commands."""
+"""Tests of how pages are compared with the outputs of their commands, and of a page without the tools."""
 from __future__ import annotations
 
 import unittest
@@ -19,6 +19,12 @@ class Blocks(Page):
                       ["..", "two"], [""]):
             with self.subTest(lines=lines), self.assertRaises(AssertionError):
                 self.compare(lines, OUTPUT)
+
+
+class Threads(Page):
+    def test_the_journal_is_that_of_the_example(self) -> None:
+        # Each run of `damond` is another.
+        self.follow("docs/THREADS.md", lambda block: "./damond" in block)
 
 
 if __name__ == "__main__":

@@ -26,7 +26,7 @@ def setUpModule() -> None:
 
 
 def setup_of(words: str, aggr: int = 20, tick: int = 5000) -> list[str]:
-    """The attributes and schemes that a text of damo asks for, where a script has so many passes in an aggregation."""
+    """The attributes and schemes that a text of damo asks for, where a script has this number of passes in an aggregation."""
     wanted = wanted_of(words)
     clock = clock_of(wanted, Fraction(tick), aggr)
     return [" ".join(["attrs", *wanted.regions, str(clock.aggr)]), *lines_of(wanted, clock)]

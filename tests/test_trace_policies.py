@@ -70,7 +70,7 @@ class Version2(unittest.TestCase):
         self.assertTrue(script_of(Commits.TRACE).startswith("damon script 1\n"))
 
     def test_what_is_left_follows_the_costs(self) -> None:
-        """Of six pages so many as 3,000 nanoseconds allow, at what all pages so far have cost."""
+        """Of six pages as many as 3,000 nanoseconds allow, at the cost of all pages so far."""
         costs = [(5, 6_000), (15, 1), (25, 60_000)]
         words = [word for interval, cost in costs for word in ("--at", f"{interval}:cost 0 {cost}")]
         report = report_of(script_of(Commits.TRACE, "--version", "2", "--interval", "10", "--aggr", "5", "--scheme", self.SCHEME, *words))

@@ -73,7 +73,7 @@ def touched_pages(counts: list[dict[int, int]]) -> list[list[int]]:
 
 
 def pages_by_instructions(trace: list[str], interval: int) -> list[set[int]]:
-    """For each interval of so many lines `I` the pages of loads and stores. Shares nothing with the tools."""
+    """For each interval of this number of lines `I` the pages of loads and stores. Shares nothing with the tools."""
     result: list[set[int]] = [set()]
     fetched = 0
     for line in trace:

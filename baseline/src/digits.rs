@@ -48,7 +48,7 @@ fn put_large(room: &mut [u8], number: u64) -> usize {
     20 - at
 }
 
-/// The hexadecimal digits of a number, from the first one that is not 0, and how many there are; none for 0.
+/// The hexadecimal digits of a number, from the first one that is not 0, and their number, which is 0 for 0.
 #[inline]
 fn hex_of(number: u32) -> (u64, usize) {
     const LOW: u64 = 0x0f0f_0f0f_0f0f_0f0f;

@@ -11,7 +11,7 @@ use std::thread::{self, Scope, ScopedJoinHandle};
 /// The words of all pages: twice the pass that cleared the page last, and 1 where it was touched since.
 struct Words {
     words: Vec<AtomicU32>,
-    /// What `fetch` read, so that its reads are of use.
+    /// What `fetch` read: it is kept so that the compiler keeps the reads.
     fetched: AtomicU32,
 }
 
@@ -44,14 +44,14 @@ impl Words {
         loaded.extend(picks.iter().map(|&page| (self.words[page as usize].load(Relaxed) & 1) as u8));
     }
 
-    /// Brings the words of picks near: reads do not wait for one another.
+    /// Reads the words of picks into the caches: reads do not wait for one another.
     fn fetch(&self, picks: &[u32]) {
         let read = picks.iter().rev().fold(0, |all, &page| all ^ self.words[page as usize].load(Relaxed));
         self.fetched.store(read, Relaxed);
     }
 }
 
-/// The journal behind its lock, and how many controllers wait for it.
+/// The journal behind its lock, and the number of controllers that wait for it.
 struct Shared {
     journal: Mutex<Journal>,
     waiting: AtomicUsize,
@@ -63,7 +63,7 @@ impl Shared {
         self.journal.lock().unwrap_or_else(|poisoned| poisoned.into_inner())
     }
 
-    /// Lets those go first who wait: a lock that is taken again at once is seldom handed on.
+    /// Yields to threads that wait: a lock that is taken again at once is seldom handed on.
     fn give_way(&self) {
         if self.waiting.load(Relaxed) > 0 {
             thread::yield_now();
@@ -127,7 +127,7 @@ pub fn run(journal: Journal, passes: u32, workers: &[Worker], controllers: &[Com
     (shared.journal.into_inner().unwrap_or_else(|poisoned| poisoned.into_inner()), tags)
 }
 
-/// Work of a thread, or what it came to where no thread could be made.
+/// Work of a thread, or its result where no thread could be made.
 enum Work<'scope, T> {
     Thread(ScopedJoinHandle<'scope, T>),
     Done(T),

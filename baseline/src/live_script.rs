@@ -15,7 +15,7 @@ const MOST_CALLS: u64 = 65_536;
 #[derive(Default)]
 pub struct Worker {
     pub accesses: Commands,
-    /// How many pages it touches.
+    /// The number of pages that it touches.
     pub touches: usize,
 }
 
@@ -145,7 +145,7 @@ impl Reader {
         Ok(())
     }
 
-    /// The controller at hand, with one call more.
+    /// The current controller, with one call more.
     fn controller(&mut self) -> OfLine<&mut Commands> {
         self.calls += 1;
         if self.calls > MOST_CALLS {

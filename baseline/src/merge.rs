@@ -42,7 +42,7 @@ impl Rule {
         is_close & (merged.pages + row.pages <= self.limit) & (merged.range == row.range)
     }
 
-    /// How many rows from this one on are not joined to the next one.
+    /// The number of rows from this one on that are not joined to the next one.
     fn stretch(&self, rows: &Rows, from: usize) -> usize {
         let counts = rows.count[from..].windows(2);
         let pairs = counts.zip(rows.pages[from..].windows(2)).zip(rows.range[from..].windows(2));
@@ -113,7 +113,7 @@ fn join_closest(rows: &mut Rows, most: usize) {
     chain.rows.into_iter().flatten().for_each(|row| rows.push(row));
 }
 
-/// Rows that know their neighbours. A row that was joined to the one before it is gone.
+/// Rows with links to their neighbours. A row that was joined to the one before it is unlinked.
 struct Chain {
     rows: Vec<Option<Row>>,
     before: Vec<usize>,

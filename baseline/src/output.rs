@@ -1,10 +1,10 @@
-//! Text on its way out: it is collected, and written where there is enough of it.
+//! Collects the text that is written, and writes it in large pieces.
 
 use crate::digits::{put_address, put_decimal, MOST_DIGITS};
 use std::fs::File;
 use std::io::Write;
 
-/// How much text is collected before it is written.
+/// The bytes of text that are collected before they are written.
 const ENOUGH: usize = 64 * 1024;
 
 /// A write failed, so nothing more is written.
@@ -38,7 +38,7 @@ impl Output {
         self.length = 0;
     }
 
-    /// Room for so many bytes, of which some become text by `add`.
+    /// Room for `bytes` bytes, of which `add` makes the first ones text.
     #[inline]
     pub fn room(&mut self, bytes: usize) -> &mut [u8] {
         if self.bytes.len() - self.length < bytes {
@@ -91,7 +91,7 @@ impl Output {
         self
     }
 
-    /// Writes the text if there is enough of it.
+    /// Writes the text if it is long enough.
     #[inline]
     pub fn settle(&mut self) -> Written {
         if self.length < ENOUGH || self.file.is_none() {

@@ -18,16 +18,16 @@ impl Picks {
     }
 }
 
-/// `word % pages`, by a division of doubles, of which processors do two at a time. The quotient of the word and a
-/// half is at least half a part away from each whole number. So half less than it is nearest to the whole quotient,
-/// also after the rounding, since a word is below 2^32 and a double has 53 bits. From 2^52 on doubles are whole
-/// numbers: a word is put into the low bits of such a one, and the whole quotient is read from there.
+/// `word % pages`, by a division of doubles, of which processors do two at a time. The quotient `(word + 1/2) / pages`
+/// is at least `1/2 / pages` away from each whole number. So the whole number nearest to it less 1/2 is the quotient
+/// rounded down, also after rounding, since a word is below 2^32 and a double has 53 bits. From 2^52 on doubles are
+/// whole numbers: the sum with such a number has the quotient in its low bits.
 #[inline]
 fn remainder(word: u32, pages: u32) -> u32 {
     const WHOLE: f64 = (1u64 << 52) as f64;
     let number = |low: u32| f64::from_bits(WHOLE.to_bits() | low as u64) - WHOLE;
     let quotient = (number(word) + 0.5) / number(pages) - 0.5;
-    // Half as much more than 2^52, since the quotient may be a little below 0.
+    // 1.5 * 2^52 and not 2^52, since the quotient may be a little below 0.
     let whole = (quotient + 1.5 * WHOLE).to_bits() as u32;
     word.wrapping_sub(whole.wrapping_mul(pages))
 }

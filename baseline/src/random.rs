@@ -50,7 +50,7 @@ impl Random {
         Random { state: Jump::of(1).from(seed.wrapping_add(INCREMENT)), drawn: 0 }
     }
 
-    /// How many words were drawn or skipped so far.
+    /// The number of words that were drawn or skipped so far.
     pub fn drawn(&self) -> u64 {
         self.drawn
     }

@@ -35,7 +35,7 @@ impl Reclaim {
         self.pageouts += went;
     }
 
-    /// Brings pages back, and gives how many were out.
+    /// Brings pages back, and gives the number of those that were out.
     fn bring_back(&mut self, first: u32, end: u32) -> u64 {
         if self.out == 0 {
             return 0;

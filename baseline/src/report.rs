@@ -12,7 +12,7 @@ pub trait Report {
     fn ended(&mut self, monitor: &Monitor) -> Written;
 }
 
-/// A report that nobody reads.
+/// A report that is thrown away.
 pub struct NoReport;
 
 impl Report for NoReport {

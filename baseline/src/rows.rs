@@ -38,7 +38,7 @@ impl Row {
     }
 }
 
-/// So many rows are moved sooner one by one than column by column.
+/// Up to this number of rows it is faster to move row by row than column by column.
 const FEW: usize = 6;
 
 #[derive(Default)]
@@ -119,7 +119,7 @@ impl Rows {
         self.range.truncate(length);
     }
 
-    /// Makes a list longer; what its new places hold is not said.
+    /// Makes a list longer; the values at its new places are not defined.
     pub fn lengthen(&mut self, length: usize) {
         self.columns().into_iter().for_each(|it| it.resize(length, 0));
         self.range.resize(length, 0);
@@ -146,7 +146,7 @@ impl Rows {
         self.range.copy_within(from..end, to);
     }
 
-    /// Cuts a row after so many pages. Both parts keep all else.
+    /// Cuts a row after `pages` pages. Both parts keep its other values.
     pub fn cut(&mut self, at: usize, pages: u32) {
         let row = self.get(at);
         let length = self.len();
@@ -164,7 +164,7 @@ impl Rows {
         self.range.clone_from(&other.range);
     }
 
-    /// Whether rows lie where those of another list do, one by one.
+    /// Whether each row lies where the row of another list at the same place does.
     pub fn lie_as(&self, other: &Rows) -> bool {
         self.start == other.start && self.pages == other.pages
     }

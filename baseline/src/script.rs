@@ -80,7 +80,7 @@ impl ScriptReader {
         self.line(&text[..end]).map(|()| Some(end + 1)).map_err(|kind| self.fault(kind))
     }
 
-    /// What the lines so far come to. `has_rest` says that bytes without an LF follow them.
+    /// The script that the lines so far spell, or their fault. `has_rest` says that bytes without an LF follow them.
     pub fn end(mut self, has_rest: bool) -> Result<Script, Fault> {
         self.lines += 1;
         match self.state {

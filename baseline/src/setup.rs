@@ -39,7 +39,7 @@ pub struct SetupReader {
     place: Place,
 }
 
-/// What a line was to the reader of a setup.
+/// What the reader of a setup made of a line.
 #[derive(PartialEq, Eq)]
 pub enum Was {
     /// A line of the setup.

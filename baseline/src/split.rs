@@ -11,7 +11,7 @@ pub struct Split {
     pub before: usize,
 }
 
-/// A cut of a row, after so many of its pages.
+/// A cut of a row: the first part gets `pages` pages.
 #[derive(Clone, Copy)]
 struct Cut {
     row: u32,
@@ -42,7 +42,7 @@ impl Split {
         }
     }
 
-    /// Where a word cuts a row of so many pages, if both sides are large enough.
+    /// Where a word cuts a row of `pages` pages, if both parts are large enough.
     fn place(&self, word: u32, pages: u32) -> Option<u32> {
         let left = ((1 + word as u64 % 9) * pages as u64 / 10) as u32;
         (left >= self.unit && pages - left >= self.unit).then(|| left)

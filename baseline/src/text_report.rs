@@ -10,7 +10,7 @@ use crate::space::{Space, PAGE};
 
 /// The most bytes that a row takes, with room for stores that go too far.
 const ROW_ROOM: usize = 192;
-/// After how many rows the text is looked at.
+/// The number of rows after which the text is written if it is long enough.
 const ROWS_AT_ONCE: usize = 64;
 
 pub struct TextReport {

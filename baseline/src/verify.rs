@@ -21,7 +21,7 @@ pub struct Counts {
     pub hits: u64,
 }
 
-/// Who looks on while a journal is checked.
+/// What is told of each aggregation while a journal is checked.
 pub trait Watcher {
     /// The state is that between the two halves of an aggregation.
     fn aggregated(&mut self, monitor: &Monitor);
@@ -33,7 +33,7 @@ impl Watcher for NoWatcher {
     fn aggregated(&mut self, _: &Monitor) {}
 }
 
-/// The line at hand is rejected.
+/// The current line is rejected.
 struct Rejected;
 
 type Lawful<T> = Result<T, Rejected>;
@@ -56,7 +56,7 @@ fn counts_of(lines: &mut Lines, watcher: &mut impl Watcher) -> Lawful<Counts> {
     Ok(Counts { passes: ticks, loads: checks, hits })
 }
 
-/// The text, and the line at hand.
+/// The text, and the place of the current line.
 struct Lines<'a> {
     text: &'a [u8],
     at: usize,
@@ -68,7 +68,7 @@ impl<'a> Lines<'a> {
         &self.text[self.at..]
     }
 
-    /// The line at hand, which must end with an LF.
+    /// The current line, which must end with an LF.
     fn line(&self) -> Lawful<&'a [u8]> {
         let end = line_end(self.text, self.at);
         if end == self.text.len() {
@@ -77,7 +77,7 @@ impl<'a> Lines<'a> {
         Ok(&self.text[self.at..end])
     }
 
-    /// Goes on behind a line of so many bytes without its LF.
+    /// Moves to the line after this one, which has `length` bytes without its LF.
     fn pass(&mut self, length: usize) {
         self.at += length + 1;
         self.number += 1;
@@ -226,8 +226,8 @@ impl Journal {
 
     /// Takes the lines `seen`.
     fn receipts(&mut self, lines: &mut Lines) -> Lawful<()> {
-        // The last receipt of each page: its worker above its tag, so that only a later one of its worker must not be
-        // less.
+        // The last receipt of each page, with its worker in the high bits and its tag in the low ones. The next one
+        // of the same worker must not have a lower tag.
         let mut last = vec![0u32; self.monitor.space.pages as usize];
         let mut worker = 0;
         while let Some((receipt, length)) = receipt_of(lines.rest()) {

@@ -32,7 +32,7 @@ pub fn has_form(line: &[u8]) -> bool {
     is_right && before != b' '
 }
 
-/// The words of a line that must have exactly so many.
+/// The words of a line that must have exactly `N` words.
 pub fn exactly<const N: usize>(line: &[u8]) -> OfLine<[&[u8]; N]> {
     if !has_form(line) {
         return Err(FaultKind::Form);
@@ -40,7 +40,7 @@ pub fn exactly<const N: usize>(line: &[u8]) -> OfLine<[&[u8]; N]> {
     parts(line, b' ')
 }
 
-/// Exactly so many parts with a separator between them; a part may be empty.
+/// Exactly `N` parts with a separator between them; a part may be empty.
 pub fn parts<const N: usize>(text: &[u8], separator: u8) -> OfLine<[&[u8]; N]> {
     let mut found = [&text[..0]; N];
     let mut count = 0;
