@@ -44,6 +44,7 @@ use Rattle.damon_journal.specs.Text.{entry_lines, journal_lines, last_text, seen
 use Rattle.damon_journal.proofs.Common.{both_are, if_other, if_some, is_line, map_some, or_cases, then_some}
 use Rattle.damon_journal.proofs.Leading.{so_some}
 use Rattle.damon_journal.proofs.Longer.{added-keeps, added-last, added-of, called_in, length-added, lengthened}
+use Rattle.damon_journal.proofs.LongerLines.{lengthened-lines}
 use Rattle.damon_journal.proofs.SeenSay.{AreSeen, none_seen}
 use Rattle.damon_journal.proofs.Turns.{AreInTurn, IsNoCall, turn_called, turn_same}
 
@@ -218,7 +219,7 @@ entry_says laws head lines v j line next before e =
     let fits = said_fits laws.strips v (replay v j) (replay v j).state.core.phase line some.0 refl some.1 in
     let more = lengthened v v.controllers j some.0.0 some.0.1 (λ c i x is. is) before.journal fits.fits fits.none in
     subst (SaysEntries head (lines ++ line ∷ [])) some.2 (record {
-      spelled = ap (λ ls. ls ++ line ∷ []) before.spelled ∙ ap (λ ls. journal_lines v j ++ ls) (sym fits.lines) ∙ sym more.lines;
+      spelled = ap (λ ls. ls ++ line ∷ []) before.spelled ∙ ap (λ ls. journal_lines v j ++ ls) (sym fits.lines) ∙ sym (lengthened-lines v v.controllers j some.0.0 some.0.1 (λ c i x is. is) before.journal);
       journal = more.journal;
       head_is = before.head_is;
       four = before.four;
@@ -366,7 +367,7 @@ at_answer head lines v j c call line next before e =
           (λ k. before.spelled k ++ is_line line (spelled_answer answer) is.0 k ∷ [])
           ∙ append_assoc (journal_lines v j) (call_lines c i call) (spelled_answer answer ∷ [])
           ∙ ap (λ o. journal_lines v j ++ answered_lines c i answer o) (sym last)
-          ∙ sym more.lines;
+          ∙ sym (lengthened-lines v later j (Call c i answer) [] (added-keeps v.controllers c call) before.journal);
       journal = more.journal;
       head_is = before.head_is;
       four = length-added v.controllers c call ∙ before.four;

@@ -23,7 +23,7 @@ use Rattle.damon_journal.proofs.EntriesSay.{CanSpell, SayLast, SayLaws}
 use Rattle.damon_journal.proofs.HeadSay.{head_led}
 use Rattle.damon_journal.proofs.Leading.{Led, said_led}
 use Rattle.damon_journal.proofs.LinesSay.{lines_say}
-use Rattle.damon_journal.proofs.NumbersFit.{read_fit}
+use Rattle.damon_journal.proofs.NumbersRead.{read_fit}
 use Rattle.damon_journal.proofs.SeenSay.{all_seen}
 use Rattle.damon_journal.proofs.Sizes.{CommitLaws}
 

@@ -11,7 +11,8 @@ use Rattle.damon_journal.specs.Ahead.{KeepsLast, first_refused, first_wrong, is_
 use Rattle.damon_journal.specs.SeenLine.{is_risen, is_tag, receipts_so_far, with_receipt}
 use Rattle.damon_journal.proofs.AheadLemmas.{risen_step}
 use Rattle.damon_journal.proofs.Common.{or_second}
-use Rattle.damon_journal.proofs.SeenAfter.{count_more, none_yet, own_more}
+use Rattle.damon_journal.proofs.SeenAfter.{none_yet, own_more}
+use Rattle.damon_journal.proofs.SeenSay.{count_more}
 
 -- whether a receipt may come next, by what is kept
 pub may_by_last : (all : List (List Receipt)) (workers : ℕ) (last : List (ℕ × ℕ)) (worker : ℕ) (r : Receipt) (d : ℕ × ℕ) → KeepsLast all workers last → r.page < length last

@@ -1,5 +1,5 @@
-pub mod Listing
 pub mod LoadRuns
+pub mod Digits
 pub mod Appended
 pub mod OpenHits
 pub mod ReceiptColumns
@@ -20,6 +20,7 @@ pub mod WovenRuns
 pub mod Weaving
 pub mod Growing
 pub mod Longer
+pub mod LongerLines
 pub mod Common
 pub mod Leading
 pub mod SeenSay
@@ -71,6 +72,7 @@ pub mod PhaseAfter
 pub mod Sizes
 pub mod AnswersFit
 pub mod NumbersFit
+pub mod NumbersRead
 pub mod KeptEntries
 pub mod OnWay
 pub mod Starting

@@ -25,8 +25,7 @@ use Rattle.damon_journal.specs.Text.{journal_lines, last_text, seen_lines}
 use Rattle.damon_journal.proofs.Common.{both_are, if_some, is_line, map_some, or_cases, then_some}
 use Rattle.damon_journal.proofs.EntriesSay.{SayLast, SayLaws, SaySeen, SaysEntries, at_answer, in_block, in_entries}
 use Rattle.damon_journal.proofs.Leading.{leads_to, so_some}
-use Rattle.damon_journal.proofs.SeenAfter.{count_more}
-use Rattle.damon_journal.proofs.SeenSay.{count_padded, seen_added}
+use Rattle.damon_journal.proofs.SeenSay.{count_more, count_padded, seen_added}
 
 -- ---- lines of receipts
 

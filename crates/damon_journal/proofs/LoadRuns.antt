@@ -1,16 +1,14 @@
 -- The results of loads, by the bits that a journal keeps.
-use Rattle.std.proofs.Common.{◌≡◌, ℕ, ◌+◌, ◌-◌, ◌≤◌, ◌<◌, Bool, true, false, List, [], ◌∷◌, ◌++◌, drop, length, take, get_or, append_assoc, length-append, sym, ap, ◌∙◌, arith}
-use Rattle.std.specs.Prelude.{map, if◌then◌else◌}
+use Rattle.std.proofs.Common.{◌≡◌, ℕ, ◌+◌, ◌-◌, ◌≤◌, ◌<◌, Bool, true, false, List, ◌++◌, drop, length, take, get_or, length-append, sym, ap, ◌∙◌, arith}
+use Rattle.std.specs.Prelude.{if◌then◌else◌}
 use Rattle.std.proofs.lemmas.Bool.Decides.{nat_tests}
-use Rattle.std.proofs.lemmas.List.{drop-drop, drop-take, ext_get_or, get_or_append_left, get_or-append-add, get_or-take, length-drop, length-take-le, take-append-drop, take-take, drop_more}
+use Rattle.std.proofs.lemmas.List.{drop-drop, drop-take, ext_get_or, get_or_append_left, get_or-append-add, get_or-take, length-drop, length-take-le, take-take}
 use Rattle.std.proofs.lemmas.List.FromFn.{get_or-map-range_with_len, length-map-range_with_len}
-use mathlib.Core.List.{map-append}
 use mathlib.Core.Logic.{dite}
 use native.Mathlib.Decide.{dec_lt}
 use Rattle.page_bits.specs.Runs.{bit_after, in_run}
 use Rattle.page_bits.specs.Sets.{with_each}
 use Rattle.damon_journal.specs.Room.{JournalView}
-use Rattle.damon_journal.specs.Spelled.{bit_digit}
 
 -- how many results a run of loads has
 pub run_length : (xs : List Bool) (start count : ℕ) → start + count ≤ length xs → length (take count (drop start xs)) ≡ count
@@ -26,25 +24,6 @@ run_rest xs start count n few =
     ap (take (count - n)) (sym (drop-drop n start xs))
     ∙ sym (drop-take n (count - n) (drop start xs))
     ∙ ap (λ k. drop n (take k (drop start xs))) whole
-
--- the digit of one more result is appended
-pub digit_more : (xs : List Bool) (text more whole : List ℕ) (k digit : ℕ) (bit : Bool) → k < length xs → bit ≡ get_or xs k false → digit ≡ bit_digit bit → more ≡ text ++ digit ∷ []
-    → text ++ map bit_digit (drop k xs) ≡ whole → more ++ map bit_digit (drop (k + 1) xs) ≡ whole
-digit_more xs text more whole k digit bit below read spelled added left =
-    ap (λ l. l ++ map bit_digit (drop (k + 1) xs)) added
-    ∙ append_assoc text (digit ∷ []) (map bit_digit (drop (k + 1) xs))
-    ∙ ap (λ d. text ++ d ∷ map bit_digit (drop (k + 1) xs)) (spelled ∙ ap bit_digit read)
-    ∙ ap (λ l. text ++ map bit_digit l) (sym (drop_more xs k false below))
-    ∙ left
-
--- the digits of more results are appended
-pub digits_more : (xs bits : List Bool) (text more whole : List ℕ) (k n : ℕ) → bits ≡ take n (drop k xs) → more ≡ text ++ map bit_digit bits → text ++ map bit_digit (drop k xs) ≡ whole → more ++ map bit_digit (drop (k + n) xs) ≡ whole
-digits_more xs bits text more whole k n read added left =
-    let parts : bits ++ drop (k + n) xs ≡ drop k xs = ap (λ l. l ++ drop (k + n) xs) read ∙ ap (λ l. take n (drop k xs) ++ l) (sym (drop-drop n k xs)) ∙ take-append-drop n (drop k xs) in
-    ap (λ l. l ++ map bit_digit (drop (k + n) xs)) added
-    ∙ append_assoc text (map bit_digit bits) (map bit_digit (drop (k + n) xs))
-    ∙ ap (λ l. text ++ l) (sym (map-append bit_digit bits (drop (k + n) xs)) ∙ ap (map bit_digit) parts)
-    ∙ left
 
 -- the room stays
 pub length_kept : (loads bits : List Bool) (loaded : ℕ) → length (with_each loaded bits loads) ≡ length loads

@@ -1,19 +1,16 @@
 -- A journal with one entry more, whose script may have got more calls.
-use Rattle.std.proofs.Common.{◌≡◌, ◌⊎◌, inl, inr, ⊎_elim, ℕ, zero, suc, ◌<◌, Bool, List, [], ◌∷◌, ◌++◌, length, take, refl, sym, ap, ◌∙◌, subst, append_assoc, append-nil, arith}
+use Rattle.std.proofs.Common.{◌≡◌, ◌⊎◌, inl, inr, ⊎_elim, ℕ, zero, suc, ◌<◌, Bool, List, [], ◌∷◌, ◌++◌, length, refl, sym, ap, ◌∙◌, subst, arith}
 use Rattle.std.specs.Prelude.{Option, Some, slice_get, slice_index_or}
 use Rattle.std.specs.Option.{option_map_or}
 use Rattle.damon_core.specs.Reached.{run}
-use Rattle.damon_core.specs.State.{row_count}
 use Rattle.damon_control.specs.Live.{CallValue, LiveValue}
 use Rattle.damon_journal.specs.declared.entry.Entry.{Entry}
 use Rattle.damon_journal.specs.declared.entry.Entry.TheVariants.{Prepare, Check, Void, Aggregate, Call}
 use Rattle.damon_journal.specs.EntryLine.{added_to}
 use Rattle.damon_journal.specs.Growth.{longer, replay_with}
-use Rattle.damon_journal.specs.Replay.{EntriesFit, EntryFits, IsJournalOf, JournalValue, Replayed, begun, bits_taken, call_at, call_event, carried, check_size, check_sizes, check_sizes_from, replay, replay_from}
-use Rattle.damon_journal.specs.Spelled.{answered_lines}
+use Rattle.damon_journal.specs.Replay.{EntriesFit, EntryFits, IsJournalOf, JournalValue, Replayed, begun, call_at, call_event, carried, check_size, check_sizes, check_sizes_from, replay, replay_from}
 use Rattle.damon_journal.specs.Steps.{entry_steps, steps, steps_from}
-use Rattle.damon_journal.specs.Text.{entries_lines, entry_lines, journal_lines}
-use Rattle.damon_journal.proofs.Growing.{carried-more, grown, same_with_more, take_front, with_more}
+use Rattle.damon_journal.proofs.Growing.{grown}
 
 -- ---- lists of calls
 
@@ -92,105 +89,60 @@ fits-kept v calls keeps r (Void pass) fits = fits
 fits-kept v calls keeps r (Aggregate tick pos) fits = fits
 fits-kept v calls keeps r (Call c i answer) fits = (fits.0, (fits.1.0, keeps c i fits.1.0 fits.1.1, fits.1.2))
 
--- an entry of two scripts does the same and has the same lines
-record SameEntry (v w : LiveValue) (r : Replayed) (e : Entry) : Type 0 where
-  next : carried w r e ≡ carried v r e
-  lines : (bits : List Bool) → entry_lines w bits e ≡ entry_lines v bits e
-  done : entry_steps w r e ≡ entry_steps v r e
+-- an entry of two scripts does the same
+pub record SameEntry (v w : LiveValue) (r : Replayed) (e : Entry) : Type 0 where
+  pub next : carried w r e ≡ carried v r e
+  pub done : entry_steps w r e ≡ entry_steps v r e
 
 -- and does the same there
-entry-kept : (v : LiveValue) (calls : List (List CallValue)) → KeepsCalls v calls → (r : Replayed) (e : Entry) → EntryFits v r e → SameEntry v (with_calls v calls) r e
-entry-kept v calls keeps r (Prepare pass pos) fits = record { next = refl; lines = λ bits. refl; done = refl }
-entry-kept v calls keeps r (Check pass) fits = record { next = refl; lines = λ bits. refl; done = refl }
-entry-kept v calls keeps r (Void pass) fits = record { next = refl; lines = λ bits. refl; done = refl }
-entry-kept v calls keeps r (Aggregate tick pos) fits = record { next = refl; lines = λ bits. refl; done = refl }
+pub entry-kept : (v : LiveValue) (calls : List (List CallValue)) → KeepsCalls v calls → (r : Replayed) (e : Entry) → EntryFits v r e → SameEntry v (with_calls v calls) r e
+entry-kept v calls keeps r (Prepare pass pos) fits = record { next = refl; done = refl }
+entry-kept v calls keeps r (Check pass) fits = record { next = refl; done = refl }
+entry-kept v calls keeps r (Void pass) fits = record { next = refl; done = refl }
+entry-kept v calls keeps r (Aggregate tick pos) fits = record { next = refl; done = refl }
 entry-kept v calls keeps r (Call c i answer) fits =
     let same : called_in calls c i ≡ call_at v c i = keeps c i fits.1.0 fits.1.1 ∙ sym fits.1.1 in
     record {
       next = ap (λ o. record (carried v r (Call c i answer)) { state = run r.state (option_map_or (λ call. call_event call ∷ []) o []) }) same;
-      lines = λ bits. ap (answered_lines c i answer) same;
       done = refl;
     }
 
--- the lines of an entry and of those after it
-abbrev lines_with : LiveValue → Replayed → Entry → List (List ℕ) → List (List ℕ)
-lines_with v r e more = entry_lines v (take (bits_taken r.state.core e) r.bits) e ++ more
-
--- entries of two scripts do the same and have the same lines
+-- entries of two scripts do the same
 pub record SameEntries (v w : LiveValue) (r : Replayed) (es : List Entry) : Type 0 where
   pub fit : EntriesFit w r es
   pub is : replay_from w r es ≡ replay_from v r es
-  pub lines : entries_lines w r es ≡ entries_lines v r es
   pub steps_are : steps_from w r es ≡ steps_from v r es
   pub sizes_are : check_sizes_from w r es ≡ check_sizes_from v r es
 
 -- and so do all entries
 pub entries-kept : (v : LiveValue) (calls : List (List CallValue)) → KeepsCalls v calls → (r : Replayed) (es : List Entry) → EntriesFit v r es → SameEntries v (with_calls v calls) r es
-entries-kept v calls keeps r [] fit = record { fit = tt; is = refl; lines = refl; steps_are = refl; sizes_are = refl }
+entries-kept v calls keeps r [] fit = record { fit = tt; is = refl; steps_are = refl; sizes_are = refl }
 entries-kept v calls keeps r (e ∷ es) fit =
     let w = with_calls v calls in
     let here = entry-kept v calls keeps r e fit.0 in
     let rest = entries-kept v calls keeps (carried v r e) es fit.1 in
-    let own = take (bits_taken r.state.core e) r.bits in
     record {
       fit = (fits-kept v calls keeps r e fit.0, subst (λ x. EntriesFit w x es) (sym here.next) rest.fit);
       is = ap (λ x. replay_from w x es) here.next ∙ rest.is;
-      lines = ap (λ x. lines_with w r e (entries_lines w x es)) here.next ∙ (ap (λ l. l ++ entries_lines w (carried v r e) es) (here.lines own) ∙ ap (lines_with v r e) rest.lines);
       steps_are = ap (λ x. entry_steps w r e ++ steps_from w x es) here.next ∙ (ap (λ l. l ++ steps_from w (carried v r e) es) here.done ∙ ap (λ l. entry_steps v r e ++ l) rest.steps_are);
       sizes_are = ap (λ x. check_size r e ++ check_sizes_from w x es) here.next ∙ ap (λ l. check_size r e ++ l) rest.sizes_are;
     }
 
--- ---- lines with more results behind, and of one entry more
-
--- results behind those of an entry do not change its lines
-lines-more : (v : LiveValue) (more : List Bool) (r : Replayed) (e : Entry) → EntryFits v r e
-    → entry_lines v (take (bits_taken r.state.core e) (r.bits ++ more)) e ≡ entry_lines v (take (bits_taken r.state.core e) r.bits) e
-lines-more v more r (Prepare pass pos) fits = refl
-lines-more v more r (Check pass) fits = ap (λ bits. entry_lines v bits (Check pass)) (take_front (row_count r.state.core) r.bits more fits.2)
-lines-more v more r (Void pass) fits = refl
-lines-more v more r (Aggregate tick pos) fits = refl
-lines-more v more r (Call controller index answer) fits = refl
-
--- nor those of several entries
-entries_lines-more : (v : LiveValue) (more : List Bool) (r : Replayed) (es : List Entry) → EntriesFit v r es → entries_lines v (with_more more r) es ≡ entries_lines v r es
-entries_lines-more v more r [] fit = refl
-entries_lines-more v more r (e ∷ es) fit =
-    ap (λ x. lines_with v (with_more more r) e (entries_lines v x es)) (carried-more v more r e fit.0)
-    ∙ (ap (λ l. l ++ entries_lines v (with_more more (carried v r e)) es) (lines-more v more r e fit.0)
-    ∙ ap (lines_with v r e) (entries_lines-more v more (carried v r e) es fit.1))
-
--- the lines of one entry more are the last ones
-entries_lines-snoc : (v : LiveValue) (r : Replayed) (es : List Entry) (e : Entry) → entries_lines v r (es ++ e ∷ []) ≡ entries_lines v r es ++ lines_with v (replay_from v r es) e []
-entries_lines-snoc v r [] e = refl
-entries_lines-snoc v r (x ∷ es) e =
-    ap (lines_with v r x) (entries_lines-snoc v (carried v r x) es e)
-    ∙ sym (append_assoc (entry_lines v (take (bits_taken r.state.core x) r.bits) x) (entries_lines v (carried v r x) es) (lines_with v (replay_from v (carried v r x) es) e []))
-
 -- ---- one entry more, after which the script may have more calls
 
--- The longer journal is one of the script with the new calls: its replay, its lines, its steps and the sizes of its checks are
--- those before, and then those of the entry.
+-- The longer journal is one of the script with the new calls: its replay, its steps and the sizes of its checks are those before,
+-- and then those of the entry.
 pub record IsLonger (v w : LiveValue) (j : JournalValue) (e : Entry) (bits : List Bool) : Type 0 where
   pub journal : IsJournalOf w (longer j e bits)
   pub is : replay w (longer j e bits) ≡ carried w (replay_with v j bits) e
-  pub lines : journal_lines w (longer j e bits) ≡ journal_lines v j ++ entry_lines w (take (bits_taken (replay v j).state.core e) bits) e
   pub steps_are : steps w (longer j e bits) ≡ steps v j ++ entry_steps w (replay_with v j bits) e
   pub sizes_are : check_sizes w (longer j e bits) ≡ check_sizes v j ++ check_size (replay_with v j bits) e
 
 -- a journal is also one of the script with more calls
-kept : (v : LiveValue) (calls : List (List CallValue)) (j : JournalValue) → KeepsCalls v calls → IsJournalOf v j → IsJournalOf (with_calls v calls) j
-kept v calls j keeps is =
+pub journal-kept : (v : LiveValue) (calls : List (List CallValue)) (j : JournalValue) → KeepsCalls v calls → IsJournalOf v j → IsJournalOf (with_calls v calls) j
+journal-kept v calls j keeps is =
     let same = entries-kept v calls keeps (begun v j.bits) j.entries is.fit in
     record { fit = same.fit; none_left = ap (λ (x : Replayed). x.bits) same.is ∙ is.none_left }
-
--- the lines of a journal with one entry more
-longer-lines : (v : LiveValue) (j : JournalValue) (e : Entry) (bits : List Bool) → IsJournalOf v j → journal_lines v (longer j e bits) ≡ journal_lines v j ++ lines_with v (replay_with v j bits) e []
-longer-lines v j e bits is =
-    let r = begun v j.bits in
-    let now : replay_from v (with_more bits r) j.entries ≡ replay_with v j bits = (same_with_more v bits r j.entries is.fit).is ∙ ap (λ l. record (replay v j) { bits = l ++ bits }) is.none_left in
-    entries_lines-snoc v (with_more bits r) j.entries e
-    ∙ (ap (λ l. l ++ lines_with v (replay_from v (with_more bits r) j.entries) e []) (entries_lines-more v bits r j.entries is.fit)
-    ∙ ap (λ x. journal_lines v j ++ lines_with v x e []) now)
 
 -- one entry more, which fits among the new calls and leaves no result
 pub lengthened : (v : LiveValue) (calls : List (List CallValue)) (j : JournalValue) (e : Entry) (bits : List Bool) → KeepsCalls v calls → IsJournalOf v j
@@ -199,16 +151,11 @@ lengthened v calls j e bits keeps is fits none =
     let w = with_calls v calls in
     let same = entries-kept v calls keeps (begun v j.bits) j.entries is.fit in
     let before : replay_with w j bits ≡ replay_with v j bits = ap {A = Replayed} {B = Replayed} (λ x. record x { bits = bits }) same.is in
-    let own = kept v calls j keeps is in
+    let own = journal-kept v calls j keeps is in
     let more = grown w j e bits own (subst (λ x. EntryFits w x e) (sym before) fits) (ap (λ x. (carried w x e).bits) before ∙ none) in
     record {
       journal = more.journal;
       is = more.is ∙ ap (λ x. carried w x e) before;
-      lines =
-          longer-lines w j e bits own
-          ∙ (ap (λ l. l ++ lines_with w (replay_with w j bits) e []) same.lines
-          ∙ (ap (λ x. journal_lines v j ++ lines_with w x e []) before
-          ∙ ap (λ l. journal_lines v j ++ l) (append-nil (entry_lines w (take (bits_taken (replay v j).state.core e) bits) e))));
       steps_are = more.steps_are ∙ (ap (λ l. l ++ entry_steps w (replay_with w j bits) e) same.steps_are ∙ ap (λ x. steps v j ++ entry_steps w x e) before);
       sizes_are = more.sizes_are ∙ (ap (λ l. l ++ check_size (replay_with w j bits) e) same.sizes_are ∙ ap (λ x. check_sizes v j ++ check_size x e) before);
     }

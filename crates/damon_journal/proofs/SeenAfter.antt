@@ -50,15 +50,6 @@ all_are_accepted done xs none = all_accepted done [] xs none
 
 -- ---- the receipts of one worker
 
-length_added : (w : ℕ) (r : Receipt) (lists : List (List Receipt)) → length (added_to w r lists) ≡ length lists
-length_added w r [] = refl
-length_added zero r (rs ∷ lists) = refl
-length_added (suc w) r (rs ∷ lists) = ap suc (length_added w r lists)
-
--- the workers with a list are those up to this one
-pub count_more : (all : List (List Receipt)) (w : ℕ) (r : Receipt) → length all ≤ w + 1 → length (with_receipt all w r) ≡ w + 1
-count_more all w r few = length_added w r (all ++ replicate (w + 1 - length all) []) ∙ count_padded all w few
-
 padded_at : (all : List (List Receipt)) (n w : ℕ) → slice_index_or (all ++ replicate n []) w [] ≡ slice_index_or all w []
 padded_at (rs ∷ all) n zero = refl
 padded_at (rs ∷ all) n (suc w) = padded_at all n w

@@ -50,6 +50,15 @@ count_padded all w few =
     let none : List Receipt = [] in
     omega (arith, length-append all (replicate (w + 1 - length all) none), length-replicate (w + 1 - length all) none, few)
 
+length_added : (w : ℕ) (r : Receipt) (lists : List (List Receipt)) → length (added_to w r lists) ≡ length lists
+length_added w r [] = refl
+length_added zero r (rs ∷ lists) = refl
+length_added (suc w) r (rs ∷ lists) = ap suc (length_added w r lists)
+
+-- the workers with a list are those up to this one
+pub count_more : (all : List (List Receipt)) (w : ℕ) (r : Receipt) → length all ≤ w + 1 → length (with_receipt all w r) ≡ w + 1
+count_more all w r few = length_added w r (all ++ replicate (w + 1 - length all) []) ∙ count_padded all w few
+
 -- one more receipt is the last of all
 pub all_more : (all : List (List Receipt)) (w : ℕ) (r : Receipt) → length all ≤ w + 1 → all_of (with_receipt all w r) ≡ all_of all ++ r ∷ []
 all_more all w r few =

@@ -1,6 +1,6 @@
 -- The lines of entries: what a line may say after the entries before it. Where the state determines a line, it is compared with that
 -- line; only the results of a check, the controller of a call and the parts of its commit are read.
-use Rattle.std.specs.Prelude.{ℕ, zero, suc, ◌+◌, Bool, true, false, ◌&&◌, ◌==◌, nat_le, List, [], ◌∷◌, ◌++◌, codes, length, Option, Some, None, Result, Ok, Err, option_and_then, option_map, slice_index_or, if◌then◌else◌}
+use Rattle.std.specs.Prelude.{ℕ, ◌+◌, Bool, true, false, ◌&&◌, ◌==◌, nat_le, List, [], ◌∷◌, ◌++◌, codes, length, Option, Some, None, Result, Ok, Err, option_and_then, option_map, if◌then◌else◌}
 use Rattle.std.specs.Option.{option_or}
 use Rattle.line_text.specs.Line.{after_prefix}
 use Rattle.live_commit.specs.declared.phase.Phase.{Phase}
@@ -15,7 +15,7 @@ use Rattle.damon_control.specs.Live.{CallValue, CommitCall, LiveValue, ShowCall}
 use Rattle.damon_control.specs.Written.{part_text}
 use Rattle.damon_journal.specs.declared.entry.Entry.{Entry}
 use Rattle.damon_journal.specs.declared.entry.Entry.TheVariants.{Prepare, Check, Void, Aggregate, Call}
-use Rattle.damon_journal.specs.Growth.{longer}
+use Rattle.damon_journal.specs.Growth.{calls_so_far, longer, with_call_of}
 use Rattle.damon_journal.specs.Place.{AtAnswer, InBlock, InEntries, InReceipts, JournalPlace}
 use Rattle.damon_journal.specs.Replay.{JournalValue, Replayed, call_answer, replay}
 use Rattle.damon_journal.specs.Spelled.{call_front, check_front, spelled_aggregate, spelled_answer, spelled_prepare, spelled_void}
@@ -67,10 +67,6 @@ abbrev pub is_idle : Phase → Bool
 is_idle Idle = true
 is_idle _ = false
 
--- the calls so far of a controller
-abbrev pub calls_so_far : LiveValue → ℕ → List CallValue
-calls_so_far v controller = slice_index_or v.controllers controller []
-
 -- the place after the last word of the first line of a call
 abbrev pub after_call_word : LiveValue → JournalValue → ℕ → List ℕ → Option JournalPlace
 after_call_word v j controller word =
@@ -106,16 +102,6 @@ abbrev pub after_block : LiveValue → JournalValue → ℕ → CommitValue → 
 after_block v j controller commit line =
     if same_word line (codes "apply") then Some (AtAnswer v j controller (CommitCall commit))
     else after_part v j controller commit line (part_line v.setup.version commit line)
-
--- lists of which the one with this number has one more item
-abbrev pub added_to : {A : Type 0} → ℕ → A → List (List A) → List (List A)
-added_to n x [] = []
-added_to zero x (xs ∷ lists) = (xs ++ x ∷ []) ∷ lists
-added_to (suc n) x (xs ∷ lists) = xs ∷ added_to n x lists
-
--- one more call of a controller
-abbrev pub with_call_of : LiveValue → ℕ → CallValue → LiveValue
-with_call_of v controller call = record v { controllers = added_to controller call v.controllers }
 
 -- the place after the answer of a call, which is the one that the state gives
 abbrev pub after_answer : LiveValue → JournalValue → ℕ → CallValue → List ℕ → Option JournalPlace

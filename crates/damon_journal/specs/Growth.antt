@@ -1,6 +1,6 @@
 -- What one entry more makes of a journal.
-use Rattle.std.specs.Prelude.{◌≡◌, Bool, List, [], ◌∷◌, ◌++◌}
-use Rattle.damon_control.specs.Live.{LiveValue}
+use Rattle.std.specs.Prelude.{◌≡◌, ℕ, zero, suc, Bool, List, [], ◌∷◌, ◌++◌, slice_index_or}
+use Rattle.damon_control.specs.Live.{CallValue, LiveValue}
 use Rattle.damon_journal.specs.declared.entry.Entry.{Entry}
 use Rattle.damon_journal.specs.Replay.{EntryFits, IsJournalOf, JournalValue, Replayed, carried, check_size, check_sizes, replay}
 use Rattle.damon_journal.specs.Steps.{entry_steps, steps}
@@ -32,3 +32,17 @@ abbrev pub GrowsByOthers : Type 0
 GrowsByOthers =
     (v : LiveValue) (j new : JournalValue) (e : Entry) → new ≡ record j { entries = j.entries ++ e ∷ [] } → IsJournalOf v j
     → EntryFits v (replay v j) e → (carried v (replay v j) e).bits ≡ [] → IsGrown v j new e []
+
+-- the calls so far of a controller
+abbrev pub calls_so_far : LiveValue → ℕ → List CallValue
+calls_so_far v controller = slice_index_or v.controllers controller []
+
+-- lists of which the one with this number has one more item
+abbrev pub added_to : {A : Type 0} → ℕ → A → List (List A) → List (List A)
+added_to n x [] = []
+added_to zero x (xs ∷ lists) = (xs ++ x ∷ []) ∷ lists
+added_to (suc n) x (xs ∷ lists) = xs ∷ added_to n x lists
+
+-- one more call of a controller
+abbrev pub with_call_of : LiveValue → ℕ → CallValue → LiveValue
+with_call_of v controller call = record v { controllers = added_to controller call v.controllers }

@@ -1,9 +1,9 @@
 -- The lines of receipts: what a line may say after the receipts before it.
-use Rattle.std.specs.Prelude.{ℕ, ◌+◌, ◌-◌, ◌*◌, Bool, true, not, ◌&&◌, ◌||◌, ◌==◌, nat_le, nat_lt, List, [], ◌++◌, codes, length, replicate, Option, Some, None, Result, Ok, Err, option_and_then, option_map, slice_index_or, if◌then◌else◌}
+use Rattle.std.specs.Prelude.{◌≡◌, ℕ, ◌+◌, ◌-◌, ◌*◌, ◌^◌, ◌<◌, Bool, true, not, ◌&&◌, ◌||◌, ◌==◌, nat_le, nat_lt, List, [], ◌++◌, codes, length, replicate, Option, Some, None, Result, Ok, Err, option_and_then, option_map, slice_index_or, if◌then◌else◌}
 use Rattle.std.specs.List.{list_all, list_any}
 use Rattle.std.specs.Option.{ok_or, option_or}
 use Rattle.damon_types.specs.declared.space.Target.{Target}
-use Rattle.damon_types.specs.Space.{page_of}
+use Rattle.damon_types.specs.Space.{page_of, place_of}
 use Rattle.line_text.specs.Parts.{four_of, parts}
 use Rattle.page_words.specs.declared.view.Entry.{Entry as Step}
 use Rattle.page_words.specs.declared.view.Entry.TheVariants.{Load}
@@ -103,3 +103,11 @@ after_settled v j all line =
 -- the place after a line among the receipts
 abbrev pub after_receipt : LiveValue → JournalValue → List (List Receipt) → List ℕ → Option JournalPlace
 after_receipt v j all line = option_or (after_settled v j all line) (after_seen v j all line)
+
+-- ---- what a text can spell
+
+-- the place of a page can be spelled, and is that of the page
+pub record PlaceFits (space : List Target) (page : ℕ) : Type 0 where
+  pub target : (place_of space page).target < 2 ^ 32
+  pub addr : (place_of space page).addr < 2 ^ 64
+  pub numbered : page_of space (place_of space page).target (place_of space page).addr ≡ Some page

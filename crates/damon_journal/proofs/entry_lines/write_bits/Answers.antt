@@ -3,7 +3,7 @@ use Rattle.std.proofs.lemmas.List.{length-take-le}
 use Rattle.damon_journal.specs.Results.{loads_in}
 use Rattle.damon_journal.specs.Spelled.{bit_digit}
 use Rattle.line_text.proofs.Lemmas.{keeps_through}
-use Rattle.damon_journal.proofs.LoadRuns.{digits_more}
+use Rattle.damon_journal.proofs.Digits.{digits_more}
 use Rattle.damon_journal.proofs.entry_lines.write_bits.Goals as goal
 
 pub pieces-preserved : goal.pieces-preserved
