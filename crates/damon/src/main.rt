@@ -3,7 +3,7 @@
 #![tactic(auto)]
 
 use damon_app::replay_main;
-use damon_journal::Status;
+use run_status::Status;
 use damon_types::{StdSink, StdSource};
 use std::env::Env;
 use std::process::ExitCode;

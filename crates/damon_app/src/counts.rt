@@ -1,7 +1,7 @@
 ghost use Rattle.std.specs.Prelude.{◌≡◌, IfOk};
 ghost use Rattle.damon_app.specs.Verifying.{counts_line};
 
-use damon_journal::Lawful;
+use run_journal::Lawful;
 use line_text::{append_field, end_line};
 use std::alloc::{AllocError, Global};
 

@@ -7,7 +7,7 @@ ghost use Rattle.damon_core.specs.State.{opening};
 ghost use Rattle.script_lines.specs.Command.{work_of};
 ghost use Rattle.script_lines.specs.Limits.{AreCommandsWithin};
 ghost use Rattle.damon_control.specs.ScriptView.{said_by};
-ghost use Rattle.damon_journal.specs.Status.{EndsRun};
+ghost use Rattle.run_status.specs.Status.{EndsRun};
 ghost use Rattle.snapshot_print.specs.Forms.{writing_of};
 ghost use Rattle.script_run.specs.RunWith.{report_with};
 ghost use Rattle.reclaim_run.specs.Reclaimed.{reclaimed_report};
@@ -17,7 +17,7 @@ ghost use Rattle.damon_app.specs.Replay.{report_of};
 
 use crate::Run;
 use damon_control::{MAX_WORK, Script};
-use damon_journal::Status;
+use run_status::Status;
 use damon_types::Sink;
 use quota_goal::Goals;
 use reclaim_run::Reclaimer;

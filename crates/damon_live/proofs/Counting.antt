@@ -5,9 +5,9 @@ use Rattle.damon_types.specs.Calls.{EndsAtFault, Rose, next_count}
 use Rattle.damon_types.specs.declared.calls.Calls.{Calls}
 use Rattle.text_io.specs.declared.source.PumpFault.{PumpFault}
 use Rattle.text_io.specs.declared.source.PumpFault.TheVariants as pumps
-use Rattle.damon_journal.specs.Status.{EndsRun, pump_status}
-use Rattle.damon_journal.specs.declared.status.Status.{Status}
-use Rattle.damon_journal.specs.declared.status.Status.TheVariants.{Memory, WriteFault}
+use Rattle.run_status.specs.Status.{EndsRun, pump_status}
+use Rattle.run_status.specs.declared.status.Status.{Status}
+use Rattle.run_status.specs.declared.status.Status.TheVariants.{Memory, WriteFault}
 
 -- the same, where the failure has another name
 pub EndsAtFault-as : {P Q : Type 0} {a b : Calls} → (Q → P) → (P → Q) → EndsAtFault P a b → EndsAtFault Q a b

@@ -11,7 +11,7 @@ use crate::kept::Kept;
 use crate::named::Named;
 use crate::work::Job;
 use damon_control::LiveScript;
-use damon_journal::Receipts;
+use run_journal::Receipts;
 use page_words::{MonitorSeat, PageWords};
 use std::alloc::{AllocError, Global};
 

@@ -2,7 +2,7 @@
 //! its run to standard output.
 #![tactic(auto)]
 
-use damon_journal::Status;
+use run_status::Status;
 use damon_live::{NoPace, live_main};
 use damon_types::{StdSink, StdSource};
 use std::env::Env;

@@ -1,0 +1,12 @@
+pub mod Ahead
+pub mod CallLine
+pub mod EndsOfText
+pub mod Folding
+pub mod Kept
+pub mod LinesLeft
+pub mod Replayer
+pub mod SeenColumns
+pub mod SeenFront
+pub mod SeenPart
+pub mod TagOrder
+pub mod Verified

@@ -1,0 +1,9 @@
+pub mod EntryLine
+pub mod Examples
+pub mod Place
+pub mod Reading
+pub mod Rules
+pub mod SeenLine
+pub mod Spelled
+pub mod Text
+pub mod TextParts

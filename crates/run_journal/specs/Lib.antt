@@ -1,0 +1,16 @@
+pub mod Aggregated
+pub mod Bits
+pub mod Counted
+pub mod Few
+pub mod Growth
+pub mod Lawful
+pub mod Limits
+pub mod Phases
+pub mod ReceiptColumns
+pub mod Replay
+pub mod Replaying
+pub mod Results
+pub mod Room
+pub mod Steps
+pub mod Words
+pub mod Woven
