@@ -1,8 +1,8 @@
 ghost use Rattle.std.specs.Prelude.{◌≡◌, IfOk};
 ghost use Rattle.damon_app.specs.Verifying.{counts_line};
 
-use run_journal::Lawful;
 use line_text::{append_field, end_line};
+use run_journal::Lawful;
 use std::alloc::{AllocError, Global};
 
 // The line of a lawful journal with these counts.

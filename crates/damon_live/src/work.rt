@@ -9,8 +9,8 @@ ghost use Rattle.damon_live.specs.Work.{trace_of};
 use crate::named::Named;
 use crate::pace::{Pace, Spot};
 use damon_control::{Trace, Traces};
-use run_journal::{Receipt, ReceiptList};
 use page_words::{PageWords, TouchSeat};
+use run_journal::{Receipt, ReceiptList};
 use std::marker::PhantomData;
 
 /// What a worker is given: its number, its seat, and room for the receipts of its trace.

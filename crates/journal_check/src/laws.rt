@@ -7,7 +7,8 @@ ghost use Rattle.journal_check.specs.Verified.{IsOfNoLawfulRun};
 use journal_text::lawful_journals_are_read;
 use line_text::{
     address_is_spelled, decimal_has_digits, decimal_is_read, number_is_decimal, parts_are_pieces,
-    pieces_are_parts, spelled_address_has_digits, spelled_address_is_read, stripped_front_was_first,
+    pieces_are_parts, spelled_address_has_digits, spelled_address_is_read,
+    stripped_front_was_first,
 };
 
 /// A text with a rejected line is that of no lawful journal that a text can spell.

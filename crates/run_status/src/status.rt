@@ -4,8 +4,8 @@ ghost use Rattle.run_status.specs.Status.{number_of};
 use damon_control::{ReadFail, ScriptKind};
 use damon_types::Failed;
 use run_journal::VerifyFault;
-use std::fmt;
 use std::alloc::AllocError;
+use std::fmt;
 use text_io::{InputFault, PumpFault};
 
 /// How a run of a program ended. Its text is the line that is written to standard error. That of

@@ -15,7 +15,7 @@ use damon_types::{Space, pages_rise};
 use journal_text::is_seen_line;
 use run_journal::Receipt;
 use script_lines::{
-    ScriptKind, arguments, four_words, read_32, read_64, read_8, read_byte_address, same_word,
+    ScriptKind, arguments, four_words, read_8, read_32, read_64, read_byte_address, same_word,
 };
 use std::alloc::{AllocError, Global};
 
