@@ -1,9 +1,9 @@
-pub mod EntryLine
-pub mod Examples
+pub mod Text
+pub mod Spelled
+pub mod TextParts
 pub mod Place
+pub mod EntryLine
+pub mod SeenLine
 pub mod Reading
 pub mod Rules
-pub mod SeenLine
-pub mod Spelled
-pub mod Text
-pub mod TextParts
+pub mod Examples
