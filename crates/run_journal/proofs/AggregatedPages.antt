@@ -4,7 +4,7 @@ use Rattle.std.specs.List.{AllByRecursion}
 use Rattle.damon_core.specs.InPhase.{IsInPhase}
 use Rattle.damon_core.specs.Reached.{Reached}
 use Rattle.damon_core.specs.Reported.{ReportsAllPages}
-use Rattle.damon_core.specs.State.{State, opening}
+use Rattle.damon_core.specs.State.{State}
 use Rattle.damon_control.specs.Live.{LiveValue}
 use Rattle.run_journal.specs.declared.entry.Entry.{Entry}
 use Rattle.run_journal.specs.declared.entry.Entry.TheVariants.{Prepare, Check, Void, Aggregate, Call}

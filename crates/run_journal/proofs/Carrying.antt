@@ -1,19 +1,16 @@
 -- An entry that the monitor carries out is one entry more of the journal.
 use Rattle.std.proofs.Common.{◌≡◌, ℕ, ◌+◌, ◌*◌, Bool, true, false, cond, List, [], ◌∷◌, ◌++◌, length, take, refl, sym, ap, ◌∙◌, subst, arith}
-use Rattle.std.specs.Prelude.{◌==◌, Ok, Err, Result, map, nat_le, Some}
+use Rattle.std.specs.Prelude.{◌==◌, map, nat_le, Some}
 use Rattle.std.specs.Option.{option_map_or}
 use Rattle.std.proofs.lemmas.Bool.Decides.{nat_tests}
 use Rattle.std.proofs.lemmas.List.{drop_all, take_all}
 use Rattle.rand_core.specs.Stream.{Stream}
 use Rattle.sampler.specs.Draws.{drawn, drawn_rest}
 use Rattle.sampler.proofs.Lemmas.{drawn_rest-append}
-use Rattle.damon_types.specs.declared.row.Row.{Row}
-use Rattle.live_commit.specs.declared.fault.CommitFault.{CommitFault}
-use Rattle.live_commit.specs.declared.phase.Phase.{Phase}
-use Rattle.live_commit.specs.declared.phase.Phase.TheVariants.{Idle, Clearing, Armed, Checking, Due, Void as VoidPhase}
+use Rattle.live_commit.specs.declared.phase.Phase.TheVariants.{Idle, Clearing, Armed, Due, Void as VoidPhase}
 use Rattle.live_commit.specs.Commit.{CommitValue}
 use Rattle.damon_core.specs.After.{cleared_core, phase_after_pass, phase_cleared, prepared_core}
-use Rattle.damon_core.specs.Commit.{becomes_void, check_of, committed_core, core_after_commit, if_accepted, phase_after_commit}
+use Rattle.damon_core.specs.Commit.{check_of, core_after_commit}
 use Rattle.damon_core.specs.Event.{aggregate, clear_index, load, observe, prepare}
 use Rattle.damon_core.specs.Makes.{Makes, Makes-append, Reached-run}
 use Rattle.damon_core.specs.Reached.{CanOpen, Reached, run}

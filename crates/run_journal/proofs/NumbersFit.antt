@@ -20,7 +20,7 @@ use Rattle.run_journal.specs.Counted.{prepares}
 use Rattle.run_journal.specs.Lawful.{IsLawful, Received, all_of, touches_of}
 use Rattle.run_journal.specs.Limits.{LawfulNumbersFit, NumbersFit, AnswerFits, CanCall, EntryNumbersFit, TagsFit}
 use Rattle.run_journal.specs.Phases.{passes_open}
-use Rattle.run_journal.specs.Replay.{EntriesFit, EntryFits, IsJournalOf, JournalValue, Replayed, begun, bits_taken, call_at, call_event, carried, entry_events, replay}
+use Rattle.run_journal.specs.Replay.{EntriesFit, EntryFits, JournalValue, Replayed, begun, call_at, call_event, carried, entry_events}
 use Rattle.page_words.specs.PassSteps.{clear_steps, load_steps}
 use Rattle.run_journal.specs.Steps.{entry_steps, steps, steps_from}
 use Rattle.run_journal.proofs.AnswersFit.{answer_fits}

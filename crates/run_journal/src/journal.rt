@@ -24,7 +24,7 @@ pub struct Journal {
 
 impl Model for Journal {
     ghost use Rattle.std.specs.Prelude.{length, take, vec_capacity};
-    ghost use Rattle.run_journal.specs.Room.{IsJournal, JournalView, empty_journal, with_entry, with_results};
+    ghost use Rattle.run_journal.specs.Room.{IsJournal, JournalView};
 
     ghost Value = { JournalView };
 
@@ -41,6 +41,7 @@ impl Model for Journal {
 
 impl Journal {
     ghost use Rattle.run_journal.specs.declared.entry.Entry.TheVariants.{Prepare, Check, Void, Aggregate, Call};
+    ghost use Rattle.run_journal.specs.Room.{empty_journal, with_entry, with_results};
 
     /// The journal without entries and without room.
     pub fn empty(alloc: Global) -> Journal
