@@ -4,6 +4,7 @@ pub mod Sending
 pub mod JsonSlots
 pub mod Digits
 pub mod Escaping
+pub mod PlainAnswers
 pub mod JsonMembers
 pub mod JsonItems
 pub mod JsonRuns

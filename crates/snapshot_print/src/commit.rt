@@ -1,4 +1,4 @@
-ghost use Rattle.std.specs.Prelude.{◌≡◌, ◌++◌, codes, string_bytes, IfOk, OnErr, OnOk};
+ghost use Rattle.std.specs.Prelude.{◌≡◌, ◌++◌, OnErr, OnOk};
 ghost use Rattle.snapshot_print.specs.Commit.{answer_text, refusal_text};
 ghost use Rattle.snapshot_print.specs.Commit.{attrs_why, range_why, scheme_why};
 ghost use Rattle.snapshot_print.specs.Forms.{writing_of};
@@ -31,7 +31,7 @@ pub fn print_commit(
     let before = out.len();
     let printed = match form {
         Form::Text => print_line(out, tick, answer),
-        Form::Json => print_commit_line(alloc, out, tick, answer),
+        Form::Json => print_commit_line(out, tick, answer),
     };
     whole_or_nothing(out, before, printed)
 }
@@ -69,7 +69,10 @@ pub fn print_answer(
 
 // Appends the answer of a commit: what it changed, or why it was refused.
 #[tactic(auto, using(line_text::proofs::Lemmas::appends))]
-fn append_answer(out: &mut Vec<u8>, answer: &Result<Changed, CommitFault>) -> Result<(), AllocError>
+pub(crate) fn append_answer(
+    out: &mut Vec<u8>,
+    answer: &Result<Changed, CommitFault>,
+) -> Result<(), AllocError>
     ensures ok { OnOk result (out.new.items ≡ out.old.items ++ answer_text answer.now) }
     ensures kept { KeepsFront out.old.items out.new.items }
 {
@@ -113,51 +116,6 @@ fn print_refusal(out: &mut Vec<u8>, fault: CommitFault) -> Result<(), AllocError
             scheme_why(why).as_bytes(),
         ),
         CommitFault::BadCost { slot } => append_field(out, b"bad-cost slot=", u64::from(slot)),
-    }
-}
-
-// The answer of a commit as a text.
-pub(crate) fn answer_string(
-    alloc: Global,
-    answer: &Result<Changed, CommitFault>,
-) -> Result<String, AllocError>
-    ensures { IfOk result (λ s. string_bytes s ≡ answer_text answer.now) }
-{
-    match answer {
-        Ok(changed) => {
-            let void = yes_or_no(changed.void);
-            format!(in alloc; "ok rows={} void={void}", changed.rows)
-        }
-        Err(fault) => refusal_string(alloc, *fault),
-    }
-}
-
-// The answer of a commit that was refused.
-fn refusal_string(alloc: Global, fault: CommitFault) -> Result<String, AllocError>
-    ensures { IfOk result (λ s. string_bytes s ≡ codes "refused " ++ refusal_text fault) }
-{
-    match fault {
-        CommitFault::Busy { next } => format!(in alloc; "refused busy next={next}"),
-        CommitFault::NoRange => format!(in alloc; "refused no-range"),
-        CommitFault::BadRange { index, why } => {
-            let why = range_why(why);
-            format!(in alloc; "refused bad-range index={index} {why}")
-        }
-        CommitFault::RangesOverMax { ranges, max } => {
-            format!(in alloc; "refused ranges-over-max ranges={ranges} max={max}")
-        }
-        CommitFault::BadAttrs { why } => {
-            let why = attrs_why(why);
-            format!(in alloc; "refused bad-attrs {why}")
-        }
-        CommitFault::OverCap { max, cap } => {
-            format!(in alloc; "refused over-cap max={max} cap={cap}")
-        }
-        CommitFault::BadScheme { why } => {
-            let why = scheme_why(why);
-            format!(in alloc; "refused bad-scheme {why}")
-        }
-        CommitFault::BadCost { slot } => format!(in alloc; "refused bad-cost slot={slot}"),
     }
 }
 

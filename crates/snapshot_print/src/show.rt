@@ -52,7 +52,7 @@ pub fn print_end(
     let before = out.len();
     let printed = match form {
         Form::Text => print_totals(out, monitor),
-        Form::Json => print_end_line(alloc, out, monitor),
+        Form::Json => print_end_line(out, monitor),
     };
     whole_or_nothing(out, before, printed)
 }
