@@ -9,13 +9,13 @@ use Rattle.damon_control.specs.declared.fault.ScriptFault.{ScriptFault}
 use Rattle.text_io.specs.declared.input.InputFault.{InputFault}
 use Rattle.text_io.specs.declared.input.InputFault.TheVariants as inputs
 use Rattle.damon_app.specs.declared.request.Request.{Request}
-use Rattle.damon_journal.specs.declared.lawful.VerifyFault.{VerifyFault}
-use Rattle.damon_journal.specs.declared.lawful.VerifyFault.TheVariants as verifies
-use Rattle.damon_journal.specs.declared.status.Status.{Status}
-use Rattle.damon_journal.specs.declared.status.Status.TheVariants as statuses
+use Rattle.run_journal.specs.declared.lawful.VerifyFault.{VerifyFault}
+use Rattle.run_journal.specs.declared.lawful.VerifyFault.TheVariants as verifies
+use Rattle.run_status.specs.declared.status.Status.{Status}
+use Rattle.run_status.specs.declared.status.Status.TheVariants as statuses
 use Rattle.text_io.specs.Given.{GaveOver, GaveUpTo}
 use Rattle.text_io.specs.Taken.{WritesPart}
-use Rattle.damon_journal.specs.Status.{EndsRun, IsFailure, input_status, read_status, verify_status}
+use Rattle.run_status.specs.Status.{EndsRun, IsFailure, input_status, read_status, verify_status}
 use Rattle.text_io.specs.Ends.{Ends}
 use Rattle.damon_app.specs.Replay.{MayCome}
 use Rattle.damon_app.specs.StatusOf.{status_of_input, status_of_text}

@@ -3,8 +3,8 @@ use Rattle.std.proofs.Common.{◌≡◌, ◌≤◌, ℕ, Err, refl, ap, ◌∙�
 use Rattle.std.specs.Prelude.{IsErrOf}
 use Rattle.damon_types.specs.Calls.{EndsAtFault, Rose, next_count}
 use Rattle.damon_types.specs.declared.calls.Calls.{Calls}
-use Rattle.damon_journal.specs.declared.status.Status.{Status}
-use Rattle.damon_journal.specs.declared.status.Status.TheVariants.{Memory, WriteFault}
+use Rattle.run_status.specs.declared.status.Status.{Status}
+use Rattle.run_status.specs.declared.status.Status.TheVariants.{Memory, WriteFault}
 
 -- the same, where the failure has another name
 pub EndsAtFault-as : {P Q : Type 0} {a b : Calls} → (Q → P) → (P → Q) → EndsAtFault P a b → EndsAtFault Q a b

@@ -6,7 +6,7 @@ use Rattle.std.proofs.lemmas.Grind.{flat_map-append}
 use Rattle.std.specs.Prelude.{flat_map}
 use Rattle.std.specs.Io.KnownBytes.{Appends}
 use Rattle.damon_core.specs.State.{State}
-use Rattle.damon_journal.specs.Replayer.{Leads, ReplayerView}
+use Rattle.journal_check.specs.Replayer.{Leads, ReplayerView}
 use Rattle.damon_types.specs.RowPages.{working_set}
 use Rattle.heat_report.specs.Text.{last_line}
 use Rattle.text_io.specs.Taken.{WritesPart}

@@ -6,11 +6,11 @@ use Rattle.std.specs.Io.KnownBytes.{Appends}
 use Rattle.snapshot_print.specs.Lines.{as_text}
 use Rattle.script_run.specs.Report.{report}
 use Rattle.script_run.specs.TextReport.{ReportsAreText, text_report}
-use Rattle.damon_journal.specs.Reading.{read_journal}
-use Rattle.damon_journal.specs.Status.{IsRead}
-use Rattle.damon_journal.specs.Verified.{IsOfNoLawfulRun}
-use Rattle.damon_journal.specs.declared.status.Status.{Status}
-use Rattle.damon_journal.specs.declared.status.Status.TheVariants.{Unlawful}
+use Rattle.journal_text.specs.Reading.{read_journal}
+use Rattle.run_status.specs.Status.{IsRead}
+use Rattle.journal_check.specs.Verified.{IsOfNoLawfulRun}
+use Rattle.run_status.specs.declared.status.Status.{Status}
+use Rattle.run_status.specs.declared.status.Status.TheVariants.{Unlawful}
 use Rattle.damon_app.specs.declared.request.Request.{Request}
 use Rattle.damon_app.specs.declared.request.Request.TheVariants.{Report, Verify, Heat, Admin, Generate}
 use Rattle.damon_app.specs.Replay.{MayCome, Reports, TellsFault, TellsReport}

@@ -6,9 +6,9 @@ use Rattle.damon_types.specs.Calls.{EndsAtFault, Rose}
 use Rattle.damon_control.specs.Script.{script_of}
 use Rattle.damon_app.specs.declared.request.Run.{Run}
 use Rattle.damon_app.specs.declared.request.Request.TheVariants.{Report, Verify, Heat, Admin, Generate}
-use Rattle.damon_journal.specs.declared.status.Status.{Status}
-use Rattle.damon_journal.specs.declared.status.Status.TheVariants as statuses
-use Rattle.damon_journal.specs.Reading.{read_journal}
+use Rattle.run_status.specs.declared.status.Status.{Status}
+use Rattle.run_status.specs.declared.status.Status.TheVariants as statuses
+use Rattle.journal_text.specs.Reading.{read_journal}
 use Rattle.damon_app.specs.Generated.{gen_text}
 use Rattle.text_io.specs.Given.{GaveOver}
 use Rattle.text_io.specs.Taken.{WritesPart}
@@ -17,7 +17,7 @@ use Rattle.damon_app.specs.declared.request.Request.{Request}
 use Rattle.damon_admin.specs.Lines.{lines_said}
 use Rattle.damon_app.specs.Contexts.{Administers, OutputPrefix}
 use Rattle.damon_app.specs.Heating.{HeatsPrefix}
-use Rattle.damon_journal.specs.Status.{EndsRun, IsFailure, status_of}
+use Rattle.run_status.specs.Status.{EndsRun, IsFailure, status_of}
 use Rattle.text_io.specs.Ends.{Ends}
 use Rattle.damon_app.specs.StatusOf.{status_of_input}
 use Rattle.damon_app.specs.Replay.{IsBegun, IsExpected, IsOfInput, Reports, TellsFault, TellsReport, Verifies, VerifiesPrefix, WritesPrefix, report_of}

@@ -6,9 +6,9 @@ use Rattle.script_lines.specs.declared.kind.ScriptKind.{ScriptKind}
 use Rattle.damon_control.specs.Script.{ScriptValue, script_of}
 use Rattle.damon_control.specs.declared.fault.ScriptFault.{ScriptFault}
 use Rattle.damon_admin.specs.Lines.{ContextLine, lines_said}
-use Rattle.damon_journal.specs.Place.{JournalRead}
-use Rattle.damon_journal.specs.Reading.{read_journal}
-use Rattle.damon_journal.specs.declared.status.Status.TheVariants as statuses
+use Rattle.journal_text.specs.Place.{JournalRead}
+use Rattle.journal_text.specs.Reading.{read_journal}
+use Rattle.run_status.specs.declared.status.Status.TheVariants as statuses
 use Rattle.damon_app.specs.declared.request.Run.{Run}
 use Rattle.text_io.specs.Given.{GaveOver}
 use Rattle.damon_app.specs.declared.request.Columns.{Columns}

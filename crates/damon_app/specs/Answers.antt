@@ -10,21 +10,21 @@ use Rattle.damon_admin.specs.Written.{output_of}
 use Rattle.damon_app.specs.declared.request.Run.{Run}
 use Rattle.damon_app.specs.declared.request.Request.{Request}
 use Rattle.damon_app.specs.declared.request.Request.TheVariants.{Report, Verify, Heat, Admin, Generate}
-use Rattle.damon_journal.specs.declared.lawful.Lawful.{Lawful}
-use Rattle.damon_journal.specs.declared.status.Status.{Status}
-use Rattle.damon_journal.specs.declared.status.Status.TheVariants as statuses
+use Rattle.run_journal.specs.declared.lawful.Lawful.{Lawful}
+use Rattle.run_status.specs.declared.status.Status.{Status}
+use Rattle.run_status.specs.declared.status.Status.TheVariants as statuses
 use Rattle.text_io.specs.Given.{GaveOver}
 use Rattle.text_io.specs.Taken.{WritesPart}
 use Rattle.damon_app.specs.Request.{ReadsInput, ReadsJournal}
 use Rattle.text_io.specs.Ends.{Ends}
-use Rattle.damon_journal.specs.Status.{IsRead, IsUnwritten}
-use Rattle.damon_journal.specs.Verified.{IsRunText, IsVerified}
+use Rattle.run_status.specs.Status.{IsRead, IsUnwritten}
+use Rattle.journal_check.specs.Verified.{IsRunText, IsVerified}
 use Rattle.damon_app.specs.StatusOf.{status_of_text}
 use Rattle.damon_app.specs.Replay.{IsBegun, IsExpected, IsOfInput, MayCome, TellsFault, TellsJournal, TellsReport, report_of}
-use Rattle.damon_journal.specs.Aggregated.{aggregated}
-use Rattle.damon_journal.specs.Replayer.{Leads, ReplayerView}
-use Rattle.damon_journal.specs.Place.{JournalRead}
-use Rattle.damon_journal.specs.Replay.{replay}
+use Rattle.run_journal.specs.Aggregated.{aggregated}
+use Rattle.journal_check.specs.Replayer.{Leads, ReplayerView}
+use Rattle.journal_text.specs.Place.{JournalRead}
+use Rattle.run_journal.specs.Replay.{replay}
 use Rattle.damon_app.specs.declared.request.Columns.{Columns}
 use Rattle.damon_app.specs.Contexts.{Administers}
 use Rattle.damon_app.specs.Generated.{gen_text}

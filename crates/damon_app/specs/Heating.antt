@@ -3,10 +3,10 @@ use Rattle.std.specs.Prelude.{◌≡◌, ℕ, ◌<◌, List, [], ◌∷◌, ◌+
 use Rattle.std.specs.List.{AllByRecursion}
 use Rattle.std.specs.Io.KnownBytes.{Appends}
 use Rattle.damon_core.specs.State.{State}
-use Rattle.damon_journal.specs.Aggregated.{aggregated}
-use Rattle.damon_journal.specs.Place.{JournalRead}
-use Rattle.damon_journal.specs.Replayer.{Leads, ReplayerView}
-use Rattle.damon_journal.specs.Verified.{IsRunText}
+use Rattle.run_journal.specs.Aggregated.{aggregated}
+use Rattle.journal_text.specs.Place.{JournalRead}
+use Rattle.journal_check.specs.Replayer.{Leads, ReplayerView}
+use Rattle.journal_check.specs.Verified.{IsRunText}
 use Rattle.damon_types.specs.Ranges.{page_total}
 use Rattle.damon_types.specs.RowPages.{working_set}
 use Rattle.heat_report.specs.Freq.{freqs}

@@ -9,10 +9,10 @@ use Rattle.script_run.specs.Report.{report}
 use Rattle.reclaim_run.specs.Reclaimed.{reclaimed_report}
 use Rattle.tune_run.specs.Report.{tuned_report}
 use Rattle.damon_app.specs.Generated.{gen_text}
-use Rattle.damon_journal.specs.Reading.{read_journal}
-use Rattle.damon_journal.specs.Status.{IsFailure}
-use Rattle.damon_journal.specs.Verified.{IsVerified}
-use Rattle.damon_journal.specs.declared.lawful.Lawful.{Lawful}
+use Rattle.journal_text.specs.Reading.{read_journal}
+use Rattle.run_status.specs.Status.{IsFailure}
+use Rattle.journal_check.specs.Verified.{IsVerified}
+use Rattle.run_journal.specs.declared.lawful.Lawful.{Lawful}
 use Rattle.damon_app.specs.Request.{ReadsJournal, ReadsScript}
 use Rattle.damon_app.specs.StatusOf.{status_of_input}
 use Rattle.damon_admin.specs.Lines.{lines_said}
@@ -24,8 +24,8 @@ use Rattle.damon_app.specs.declared.request.Run.{Run}
 use Rattle.damon_app.specs.declared.request.Run.TheVariants.{Plain, Reclaim, Tune}
 use Rattle.damon_app.specs.declared.request.Request.{Request}
 use Rattle.damon_app.specs.declared.request.Request.TheVariants.{Report, Verify, Heat, Admin, Generate}
-use Rattle.damon_journal.specs.declared.status.Status.{Status}
-use Rattle.damon_journal.specs.declared.status.Status.TheVariants as statuses
+use Rattle.run_status.specs.declared.status.Status.{Status}
+use Rattle.run_status.specs.declared.status.Status.TheVariants as statuses
 
 -- the report of a script that is run like this: as it stands, over a model of resident pages, or with quotas that follow goals
 abbrev pub report_of : Run → ScriptValue → List ℕ

@@ -3,10 +3,10 @@ use Rattle.std.specs.Prelude.{ℕ, nat_lt, if◌then◌else◌, List, length, Re
 use Rattle.damon_control.specs.Script.{script_of}
 use Rattle.damon_control.specs.declared.fault.ScriptFault.{ScriptFault}
 use Rattle.damon_admin.specs.Lines.{lines_said}
-use Rattle.damon_journal.specs.Place.{JournalRead}
-use Rattle.damon_journal.specs.Reading.{read_journal}
-use Rattle.damon_journal.specs.declared.status.Status.{Status}
-use Rattle.damon_journal.specs.declared.status.Status.TheVariants as statuses
+use Rattle.journal_text.specs.Place.{JournalRead}
+use Rattle.journal_text.specs.Reading.{read_journal}
+use Rattle.run_status.specs.declared.status.Status.{Status}
+use Rattle.run_status.specs.declared.status.Status.TheVariants as statuses
 use Rattle.damon_app.specs.declared.request.Request.{Request}
 use Rattle.damon_app.specs.declared.request.Request.TheVariants.{Report, Verify, Heat, Admin, Generate}
 

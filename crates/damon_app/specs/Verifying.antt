@@ -2,7 +2,7 @@
 use Rattle.std.specs.Prelude.{ℕ, List, codes}
 use Rattle.std.specs.Fmt.{decimal}
 use Rattle.snapshot_print.specs.Fields.{◌then◌}
-use Rattle.damon_journal.specs.declared.lawful.Lawful.{Lawful}
+use Rattle.run_journal.specs.declared.lawful.Lawful.{Lawful}
 
 -- the line of a lawful journal: its passes, its loads, and those of them that are hits
 abbrev pub counts_line : Lawful → List ℕ

@@ -4,7 +4,7 @@ ghost use Rattle.std.specs.Prelude.{IfErr, IfOk, IsErrOf, OnErr, OnOk};
 ghost use Rattle.std.specs.Io.KnownBytes.{Appends};
 ghost use Rattle.damon_types.specs.Calls.{EndsAtFault};
 ghost use Rattle.damon_admin.specs.Admin.{left_text};
-ghost use Rattle.damon_journal.specs.Status.{EndsRun, status_of};
+ghost use Rattle.run_status.specs.Status.{EndsRun, status_of};
 ghost use Rattle.text_io.specs.Taken.{WritesPart};
 ghost use Rattle.damon_app.specs.Answers.{AreContextsTaken, IsOutcome, IsRefused};
 ghost use Rattle.damon_app.specs.Pieces.{HandsOver};
@@ -12,8 +12,8 @@ ghost use Rattle.damon_app.specs.declared.request.Request.TheVariants.{Admin as 
 
 use crate::pieces::hand_over;
 use damon_admin::Admin;
-use damon_journal::Status;
 use damon_types::{Sink, Source};
+use run_status::Status;
 use std::alloc::Global;
 use text_io::{INPUT_LIMIT, read_all, write_all};
 

@@ -3,8 +3,8 @@ ghost use Rattle.std.specs.Prelude.{ℕ, ◌≤◌};
 ghost use Rattle.std.specs.List.{AllByRecursion};
 ghost use Rattle.damon_core.specs.Reached.{CanOpen};
 ghost use Rattle.damon_control.specs.Live.{LiveValue};
-ghost use Rattle.damon_journal.specs.Aggregated.{aggregated};
-ghost use Rattle.damon_journal.specs.Replay.{IsJournalOf, JournalValue};
+ghost use Rattle.run_journal.specs.Aggregated.{aggregated};
+ghost use Rattle.run_journal.specs.Replay.{IsJournalOf, JournalValue};
 ghost use Rattle.damon_app.specs.Heating.{AddUp};
 ghost use Rattle.damon_app.specs.Runs.{EachRunChoosesBest, EachRunFollowsGoals, EachRunIsAccounted, EachRunIsBound};
 ghost use Rattle.damon_app.specs.Runs.{GeneratedRunsAreRight};
@@ -65,7 +65,7 @@ pub(crate) fn heat_tables_add_up()
     ensures { (n : ℕ) (v : LiveValue) (j : JournalValue) → 1 ≤ n → CanOpen v.setup → IsJournalOf v j
         → AllByRecursion (AddUp n) (aggregated v j) }
 {
-    damon_journal::aggregations_report_all_pages();
+    run_journal::aggregations_report_all_pages();
     damon_core::reported_rows_tile();
     heat_report::tiled_rows_lie_in();
     heat_report::heat_is_of_rows();

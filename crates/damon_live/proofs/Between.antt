@@ -24,14 +24,14 @@ use Rattle.damon_core.specs.State.{Core}
 use Rattle.damon_core.specs.Stands.{MonitorView, Stands}
 use Rattle.damon_core.proofs.Lemmas.{phase_kept}
 use Rattle.damon_control.specs.Live.{CallValue, CommitCall, LiveValue, ShowCall}
-use Rattle.damon_journal.specs.declared.entry.CallAnswer.{CallAnswer}
-use Rattle.damon_journal.specs.declared.entry.Entry.TheVariants.{Aggregate, Call}
-use Rattle.damon_journal.specs.Phases.{IsFree, passes_open}
-use Rattle.damon_journal.specs.Replay.{EntryFits, JournalValue, Replayed, call_answer, call_at, call_event, check_sizes, entry_events, replay}
-use Rattle.damon_journal.specs.Steps.{steps}
+use Rattle.run_journal.specs.declared.entry.CallAnswer.{CallAnswer}
+use Rattle.run_journal.specs.declared.entry.Entry.TheVariants.{Aggregate, Call}
+use Rattle.run_journal.specs.Phases.{IsFree, passes_open}
+use Rattle.run_journal.specs.Replay.{EntryFits, JournalValue, Replayed, call_answer, call_at, call_event, check_sizes, entry_events, replay}
+use Rattle.run_journal.specs.Steps.{steps}
 use Rattle.sampler.specs.Seeds.{words_from}
-use Rattle.damon_journal.specs.Words.{words_after, words_at}
-use Rattle.damon_journal.specs.Growth.{GrowsByOthers}
+use Rattle.run_journal.specs.Words.{words_after, words_at}
+use Rattle.run_journal.specs.Growth.{GrowsByOthers}
 use Rattle.damon_live.specs.Called.{IsCalled}
 use Rattle.sampler.proofs.Lemmas.{drawn_rest-append}
 use Rattle.damon_live.specs.Machine.{IsBetweenEntries, IsLoadable, IsRun, entries_owed, with_one, words_owed}

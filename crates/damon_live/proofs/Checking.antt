@@ -15,12 +15,12 @@ use Rattle.damon_core.specs.Reached.{Reached, run}
 use Rattle.damon_core.specs.State.{Core, row_count}
 use Rattle.damon_core.specs.Stands.{MonitorView, Stands}
 use Rattle.damon_control.specs.Live.{LiveValue}
-use Rattle.damon_journal.specs.Phases.{passes_open}
-use Rattle.damon_journal.specs.declared.entry.Entry.TheVariants.{Check, Void}
-use Rattle.damon_journal.specs.Replay.{EntryFits, JournalValue, Replayed, carried, check_sizes, entry_events, replay}
+use Rattle.run_journal.specs.Phases.{passes_open}
+use Rattle.run_journal.specs.declared.entry.Entry.TheVariants.{Check, Void}
+use Rattle.run_journal.specs.Replay.{EntryFits, JournalValue, Replayed, carried, check_sizes, entry_events, replay}
 use Rattle.page_words.specs.PassSteps.{load_steps}
-use Rattle.damon_journal.specs.Steps.{steps}
-use Rattle.damon_journal.specs.Growth.{GrowsByEntries, GrowsByOthers, longer, replay_with}
+use Rattle.run_journal.specs.Steps.{steps}
+use Rattle.run_journal.specs.Growth.{GrowsByEntries, GrowsByOthers, longer, replay_with}
 use Rattle.damon_live.specs.Machine.{IsBetweenEntries, IsLoadable, IsRun, entries_owed, with_one}
 use Rattle.damon_live.specs.Passes.{AreLoaded}
 

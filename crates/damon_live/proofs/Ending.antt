@@ -17,13 +17,13 @@ use Rattle.damon_control.specs.declared.fault.ReadFail.TheVariants as reads
 use Rattle.damon_control.specs.declared.fault.ScriptFault.{ScriptFault}
 use Rattle.damon_control.specs.Live.{LiveValue}
 use Rattle.damon_control.specs.Script.{live_of}
-use Rattle.damon_journal.specs.declared.entry.Receipt.{Receipt}
-use Rattle.damon_journal.specs.declared.status.Status.{Status}
-use Rattle.damon_journal.specs.declared.status.Status.TheVariants as statuses
-use Rattle.damon_journal.specs.Replay.{JournalValue}
-use Rattle.damon_journal.specs.Rules.{IsReadBack}
-use Rattle.damon_journal.specs.Status.{EndsRun, IsFailure, input_status, read_status, status_of}
-use Rattle.damon_journal.specs.Text.{journal_text}
+use Rattle.run_journal.specs.declared.entry.Receipt.{Receipt}
+use Rattle.run_status.specs.declared.status.Status.{Status}
+use Rattle.run_status.specs.declared.status.Status.TheVariants as statuses
+use Rattle.run_journal.specs.Replay.{JournalValue}
+use Rattle.journal_text.specs.Rules.{IsReadBack}
+use Rattle.run_status.specs.Status.{EndsRun, IsFailure, input_status, read_status, status_of}
+use Rattle.journal_text.specs.Text.{journal_text}
 use Rattle.damon_live.specs.declared.top.TheConstants.{MAX_RESULTS}
 use Rattle.damon_live.specs.Answers.{IsEnding}
 use Rattle.damon_live.specs.Ending.{Ending, TellsFault, TellsPasses, ended_early, most_results, status_of_input, status_of_spelled}

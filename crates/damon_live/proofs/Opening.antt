@@ -10,8 +10,8 @@ use Rattle.damon_core.specs.State.{Core, opening, opening_core}
 use Rattle.damon_core.specs.Stands.{MonitorView, Stands}
 use Rattle.damon_control.specs.declared.live.TheConstants.{MAX_CALLS}
 use Rattle.damon_control.specs.Live.{LiveValue, count_all}
-use Rattle.damon_journal.specs.Phases.{passes_open}
-use Rattle.damon_journal.specs.Room.{JournalView, empty_journal, nothing_said}
+use Rattle.run_journal.specs.Phases.{passes_open}
+use Rattle.run_journal.specs.Room.{JournalView, empty_journal, nothing_said}
 use Rattle.sampler.specs.Seeds.{seeded, words_from}
 use Rattle.damon_live.specs.Machine.{HasRoom, IsBetweenEntries, IsLoadable, IsRun, calls_left, entries_owed, passes_made, words_owed}
 

@@ -9,11 +9,11 @@ use Rattle.damon_core.specs.Reached.{CanOpen}
 use Rattle.damon_control.specs.Live.{CallValue, LiveValue}
 use Rattle.damon_control.specs.Sound.{LiveScriptsAreSound}
 use Rattle.damon_control.specs.Spellable.{FitsCall, LiveScriptsAreSpellable}
-use Rattle.damon_journal.specs.declared.entry.Entry.{Entry}
-use Rattle.damon_journal.specs.declared.entry.Entry.TheVariants.{Aggregate, Call, Check, Prepare, Void}
-use Rattle.damon_journal.specs.Limits.{LawfulNumbersFit}
-use Rattle.damon_journal.specs.Replay.{EntriesFit, Replayed, begun, carried}
-use Rattle.damon_journal.specs.Rules.{CanCall, InTurn, one_more}
+use Rattle.run_journal.specs.declared.entry.Entry.{Entry}
+use Rattle.run_journal.specs.declared.entry.Entry.TheVariants.{Aggregate, Call, Check, Prepare, Void}
+use Rattle.run_journal.specs.Limits.{LawfulNumbersFit, CanCall}
+use Rattle.run_journal.specs.Replay.{EntriesFit, Replayed, begun, carried}
+use Rattle.journal_text.specs.Rules.{InTurn, one_more}
 use Rattle.damon_live.specs.Kept.{calls_asked, indexes}
 use Rattle.damon_live.specs.OwnText.{WholeRunsAreSpellable}
 use Rattle.damon_live.specs.Whole.{pages_touched}

@@ -20,16 +20,16 @@ use Rattle.damon_core.specs.Several.{clears}
 use Rattle.damon_core.specs.State.{Core, State, row_count}
 use Rattle.damon_core.specs.Stands.{MonitorView, Stands}
 use Rattle.damon_control.specs.Live.{LiveValue}
-use Rattle.damon_journal.specs.Phases.{passes_open}
-use Rattle.damon_journal.specs.declared.entry.Entry.TheVariants.{Prepare}
-use Rattle.damon_journal.specs.Counted.{prepares}
-use Rattle.damon_journal.specs.Replay.{EntryFits, JournalValue, Replayed, carried, check_sizes, entry_events, replay}
-use Rattle.damon_journal.specs.Room.{JournalView}
+use Rattle.run_journal.specs.Phases.{passes_open}
+use Rattle.run_journal.specs.declared.entry.Entry.TheVariants.{Prepare}
+use Rattle.run_journal.specs.Counted.{prepares}
+use Rattle.run_journal.specs.Replay.{EntryFits, JournalValue, Replayed, carried, check_sizes, entry_events, replay}
+use Rattle.run_journal.specs.Room.{JournalView}
 use Rattle.page_words.specs.PassSteps.{clear_steps}
-use Rattle.damon_journal.specs.Steps.{steps}
+use Rattle.run_journal.specs.Steps.{steps}
 use Rattle.sampler.specs.Seeds.{words_from}
-use Rattle.damon_journal.specs.Words.{words_after, words_at}
-use Rattle.damon_journal.specs.Growth.{GrowsByOthers}
+use Rattle.run_journal.specs.Words.{words_after, words_at}
+use Rattle.run_journal.specs.Growth.{GrowsByOthers}
 use Rattle.damon_live.specs.Machine.{HasRoom, call_in, passes_made, calls_left, IsBetweenEntries, IsRun, entries_owed, with_one, words_owed}
 use Rattle.std.proofs.lemmas.List.Sums.{sum_by_push}
 use Rattle.sampler.proofs.Lemmas.{drawn_rest-append}

@@ -8,11 +8,11 @@ use Rattle.live_commit.specs.declared.phase.Phase.{Phase}
 use Rattle.live_commit.specs.declared.phase.Phase.TheVariants.{Idle, Clearing, Armed, Checking, Void, Due}
 use Rattle.damon_control.specs.Live.{CallValue, LiveValue, count_all}
 use Rattle.damon_control.specs.declared.live.TheConstants.{MAX_CALLS}
-use Rattle.damon_journal.specs.declared.entry.CallAnswer.{CallAnswer}
-use Rattle.damon_journal.specs.declared.entry.Entry.{Entry}
-use Rattle.damon_journal.specs.declared.entry.Entry.TheVariants.{Call}
-use Rattle.damon_journal.specs.Phases.{IsFree, passes_open}
-use Rattle.damon_journal.specs.Replay.{JournalValue}
+use Rattle.run_journal.specs.declared.entry.CallAnswer.{CallAnswer}
+use Rattle.run_journal.specs.declared.entry.Entry.{Entry}
+use Rattle.run_journal.specs.declared.entry.Entry.TheVariants.{Call}
+use Rattle.run_journal.specs.Phases.{IsFree, passes_open}
+use Rattle.run_journal.specs.Replay.{JournalValue}
 use Rattle.damon_live.specs.Kept.{AreCounts, AreInTurn, CallsAreInOrder, calls_asked, calls_made, index_in, indexes}
 use Rattle.damon_live.specs.Machine.{call_in, with_one}
 use Rattle.damon_live.proofs.Turns.{indexes_of-snoc, made_is}

@@ -7,12 +7,12 @@ use Rattle.damon_core.specs.After.{phase_after_pass}
 use Rattle.damon_core.specs.State.{Core}
 use Rattle.damon_core.specs.Stands.{MonitorView}
 use Rattle.damon_control.specs.Live.{LiveValue}
-use Rattle.damon_journal.specs.Phases.{passes_open}
-use Rattle.damon_journal.specs.declared.entry.Entry.{Entry}
-use Rattle.damon_journal.specs.Counted.{prepares}
-use Rattle.damon_journal.specs.Replay.{JournalValue}
-use Rattle.damon_journal.specs.Growth.{longer}
-use Rattle.damon_journal.specs.Room.{JournalView, with_entry, with_results}
+use Rattle.run_journal.specs.Phases.{passes_open}
+use Rattle.run_journal.specs.declared.entry.Entry.{Entry}
+use Rattle.run_journal.specs.Counted.{prepares}
+use Rattle.run_journal.specs.Replay.{JournalValue}
+use Rattle.run_journal.specs.Growth.{longer}
+use Rattle.run_journal.specs.Room.{JournalView, with_entry, with_results}
 use Rattle.damon_live.specs.Machine.{HasRoom, call_in, calls_left, entries_owed, passes_made, words_owed}
 use Rattle.std.proofs.lemmas.List.{append-nil}
 use Rattle.std.proofs.lemmas.List.Sums.{sum_by_push}

@@ -6,9 +6,9 @@ use Rattle.std.proofs.lemmas.Bool.Decides.{nat_tests}
 use Rattle.std.proofs.lemmas.List.{append-nil}
 use Rattle.std.proofs.lemmas.List.Sums.{sum_by-cons, sum_by_push}
 use Rattle.damon_control.specs.Live.{CallValue, LiveValue}
-use Rattle.damon_journal.specs.declared.entry.CallAnswer.{CallAnswer}
-use Rattle.damon_journal.specs.declared.entry.Entry.{Entry}
-use Rattle.damon_journal.specs.declared.entry.Entry.TheVariants.{Aggregate, Call, Check, Prepare, Void}
+use Rattle.run_journal.specs.declared.entry.CallAnswer.{CallAnswer}
+use Rattle.run_journal.specs.declared.entry.Entry.{Entry}
+use Rattle.run_journal.specs.declared.entry.Entry.TheVariants.{Aggregate, Call, Check, Prepare, Void}
 use Rattle.std.specs.List.{AllByRecursion}
 use Rattle.std.specs.Prelude.{IsSome, slice_get}
 use Rattle.damon_live.specs.Plain.{IsPlain}

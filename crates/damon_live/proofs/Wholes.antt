@@ -8,12 +8,12 @@ use Rattle.page_words.specs.Rule.{Agree}
 use Rattle.page_words.specs.Views.{GatheredTagsRise, Told}
 use Rattle.damon_core.specs.Reached.{CanOpen}
 use Rattle.damon_control.specs.Live.{LiveValue}
-use Rattle.damon_journal.specs.declared.entry.Receipt.{Receipt}
-use Rattle.damon_journal.specs.Few.{HitsAreFew}
-use Rattle.damon_journal.specs.Lawful.{IsLawful, SettledReceiptsAreLawful, gathers}
-use Rattle.damon_journal.specs.Replay.{IsJournalOf, JournalValue}
-use Rattle.damon_journal.specs.Steps.{steps}
-use Rattle.damon_journal.specs.Woven.{WovenRuns}
+use Rattle.run_journal.specs.declared.entry.Receipt.{Receipt}
+use Rattle.run_journal.specs.Few.{HitsAreFew}
+use Rattle.run_journal.specs.Lawful.{IsLawful, SettledReceiptsAreLawful, gathers}
+use Rattle.run_journal.specs.Replay.{IsJournalOf, JournalValue}
+use Rattle.run_journal.specs.Steps.{steps}
+use Rattle.run_journal.specs.Woven.{WovenRuns}
 use Rattle.damon_live.specs.Kept.{CallsAreInOrder, calls_asked, calls_made}
 use Rattle.damon_live.specs.Machine.{passes_made}
 use Rattle.damon_live.specs.Whole.{AreAllMade, IsWholeRun, pages_touched}

@@ -12,8 +12,8 @@ use Rattle.page_words.specs.declared.view.Entry.TheVariants.{Gathered}
 use Rattle.damon_types.specs.Listed.{Listed}
 use Rattle.damon_control.specs.Live.{LiveValue}
 use Rattle.damon_control.specs.LiveView.{traces_of}
-use Rattle.damon_journal.specs.declared.entry.Receipt.{Receipt}
-use Rattle.damon_journal.specs.Lawful.{all_of, gathers, receipts_said, touches_of}
+use Rattle.run_journal.specs.declared.entry.Receipt.{Receipt}
+use Rattle.run_journal.specs.Lawful.{all_of, gathers, receipts_said, touches_of}
 use Rattle.damon_live.specs.Whole.{pages_touched}
 use Rattle.damon_live.specs.Work.{AreNumbered, IsGathered}
 

@@ -7,11 +7,11 @@ use Rattle.text_io.specs.Given.{GaveOver}
 use Rattle.text_io.specs.Taken.{WritesPart}
 use Rattle.damon_control.specs.Live.{LiveValue}
 use Rattle.damon_control.specs.Script.{live_of}
-use Rattle.damon_journal.specs.declared.status.Status.{Status}
-use Rattle.damon_journal.specs.declared.status.Status.TheVariants as statuses
-use Rattle.damon_journal.specs.Rules.{IsReadBack}
-use Rattle.damon_journal.specs.Status.{IsRead, IsUnwritten}
-use Rattle.damon_journal.specs.Text.{journal_text}
+use Rattle.run_status.specs.declared.status.Status.{Status}
+use Rattle.run_status.specs.declared.status.Status.TheVariants as statuses
+use Rattle.journal_text.specs.Rules.{IsReadBack}
+use Rattle.run_status.specs.Status.{IsRead, IsUnwritten}
+use Rattle.journal_text.specs.Text.{journal_text}
 use Rattle.damon_live.specs.Ending.{Ending, HasRun, IsExpected, NothingRan, TellsFault, TellsPasses, ended_early}
 use Rattle.damon_live.specs.Whole.{IsWholeRun}
 

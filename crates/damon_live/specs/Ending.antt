@@ -7,13 +7,13 @@ use Rattle.damon_control.specs.declared.fault.ScriptFault.{ScriptFault}
 use Rattle.damon_control.specs.Live.{LiveValue}
 use Rattle.damon_control.specs.LiveView.{live_said}
 use Rattle.damon_control.specs.Script.{live_of}
-use Rattle.damon_journal.specs.declared.entry.Receipt.{Receipt}
-use Rattle.damon_journal.specs.declared.status.Status.{Status}
-use Rattle.damon_journal.specs.declared.status.Status.TheVariants as statuses
-use Rattle.damon_journal.specs.Lawful.{receipts_said}
-use Rattle.damon_journal.specs.Replay.{JournalValue}
-use Rattle.damon_journal.specs.Room.{nothing_said}
-use Rattle.damon_journal.specs.Status.{IsFailure}
+use Rattle.run_journal.specs.declared.entry.Receipt.{Receipt}
+use Rattle.run_status.specs.declared.status.Status.{Status}
+use Rattle.run_status.specs.declared.status.Status.TheVariants as statuses
+use Rattle.run_journal.specs.Lawful.{receipts_said}
+use Rattle.run_journal.specs.Replay.{JournalValue}
+use Rattle.run_journal.specs.Room.{nothing_said}
+use Rattle.run_status.specs.Status.{IsFailure}
 use Rattle.damon_live.specs.declared.top.LiveEnd.{LiveEnd}
 use Rattle.damon_live.specs.declared.top.TheConstants.{MAX_RESULTS}
 

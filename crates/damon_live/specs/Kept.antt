@@ -3,10 +3,10 @@ use Rattle.std.specs.Prelude.{◌≡◌, ℕ, ◌≤◌, ◌==◌, List, [], ◌
 use Rattle.std.specs.List.{flat_map, range_with_len}
 use Rattle.damon_control.specs.Live.{CallValue, LiveValue, count_all}
 use Rattle.damon_control.specs.declared.live.TheConstants.{MAX_CALLS}
-use Rattle.damon_journal.specs.declared.entry.Entry.{Entry}
-use Rattle.damon_journal.specs.declared.entry.Entry.TheVariants.{Call}
-use Rattle.damon_journal.specs.Phases.{IsFree}
-use Rattle.damon_journal.specs.Replay.{JournalValue, replay}
+use Rattle.run_journal.specs.declared.entry.Entry.{Entry}
+use Rattle.run_journal.specs.declared.entry.Entry.TheVariants.{Call}
+use Rattle.run_journal.specs.Phases.{IsFree}
+use Rattle.run_journal.specs.Replay.{JournalValue, replay}
 use Rattle.damon_live.specs.Machine.{call_in}
 
 -- the index of a call of this controller, as a list of one

@@ -15,15 +15,15 @@ use Rattle.damon_control.specs.declared.live.LiveScript.{LiveScript}
 use Rattle.damon_control.specs.Live.{LiveValue, count_all}
 use Rattle.damon_control.specs.LiveText.{KeepsLimits}
 use Rattle.damon_control.specs.LiveView.{live_said}
-use Rattle.damon_journal.specs.Phases.{passes_open}
-use Rattle.damon_journal.specs.declared.entry.Entry.{Entry}
-use Rattle.damon_journal.specs.declared.entry.Entry.TheVariants.{Aggregate, Call, Prepare}
-use Rattle.damon_journal.specs.Counted.{prepares}
-use Rattle.damon_journal.specs.Replay.{IsJournalOf, JournalValue, Replayed, check_sizes, replay}
-use Rattle.damon_journal.specs.Room.{JournalView}
-use Rattle.damon_journal.specs.Steps.{steps}
+use Rattle.run_journal.specs.Phases.{passes_open}
+use Rattle.run_journal.specs.declared.entry.Entry.{Entry}
+use Rattle.run_journal.specs.declared.entry.Entry.TheVariants.{Aggregate, Call, Prepare}
+use Rattle.run_journal.specs.Counted.{prepares}
+use Rattle.run_journal.specs.Replay.{IsJournalOf, JournalValue, Replayed, check_sizes, replay}
+use Rattle.run_journal.specs.Room.{JournalView}
+use Rattle.run_journal.specs.Steps.{steps}
 use Rattle.sampler.specs.Seeds.{words_from}
-use Rattle.damon_journal.specs.Words.{words_after}
+use Rattle.run_journal.specs.Words.{words_after}
 
 -- between two entries no pass is half cleared or half checked
 abbrev pub IsBetweenEntries : Phase → Type 0

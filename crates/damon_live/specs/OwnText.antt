@@ -2,9 +2,9 @@
 use Rattle.std.specs.Prelude.{◌≡◌, ℕ, List, Ok}
 use Rattle.damon_control.specs.Live.{LiveValue}
 use Rattle.damon_control.specs.Script.{live_of}
-use Rattle.damon_journal.specs.declared.entry.Receipt.{Receipt}
-use Rattle.damon_journal.specs.Replay.{JournalValue}
-use Rattle.damon_journal.specs.Rules.{IsReadBack, IsSpellable}
+use Rattle.run_journal.specs.declared.entry.Receipt.{Receipt}
+use Rattle.run_journal.specs.Replay.{JournalValue}
+use Rattle.journal_text.specs.Rules.{IsReadBack, IsSpellable}
 use Rattle.damon_live.specs.Whole.{IsWholeRun}
 
 -- a text can spell the journal and the receipts of each whole run of a script that a text is read as

@@ -1,9 +1,9 @@
 -- Entries that end a pass: no calls, and no passes that begin.
 use Rattle.std.specs.Prelude.{◌≡◌, List, ◌++◌}
 use Rattle.std.specs.List.{AllByRecursion}
-use Rattle.damon_journal.specs.declared.entry.Entry.{Entry}
-use Rattle.damon_journal.specs.declared.entry.Entry.TheVariants.{Call, Prepare}
-use Rattle.damon_journal.specs.Replay.{JournalValue}
+use Rattle.run_journal.specs.declared.entry.Entry.{Entry}
+use Rattle.run_journal.specs.declared.entry.Entry.TheVariants.{Call, Prepare}
+use Rattle.run_journal.specs.Replay.{JournalValue}
 
 -- the entry is no call, and prepares no pass
 abbrev pub IsPlain : Entry → Type 0

@@ -5,12 +5,12 @@ use Rattle.damon_types.specs.Space.{pages_of}
 use Rattle.damon_core.specs.Reached.{CanOpen}
 use Rattle.damon_control.specs.Live.{LiveValue}
 use Rattle.damon_control.specs.declared.live.LiveScript.{LiveScript}
-use Rattle.damon_journal.specs.declared.entry.Receipt.{Receipt}
-use Rattle.damon_journal.specs.Few.{HitsAreFew}
-use Rattle.damon_journal.specs.Lawful.{IsLawful}
-use Rattle.damon_journal.specs.Phases.{IsIdle}
-use Rattle.damon_journal.specs.Replay.{JournalValue, replay}
-use Rattle.damon_journal.specs.Woven.{WovenRuns}
+use Rattle.run_journal.specs.declared.entry.Receipt.{Receipt}
+use Rattle.run_journal.specs.Few.{HitsAreFew}
+use Rattle.run_journal.specs.Lawful.{IsLawful}
+use Rattle.run_journal.specs.Phases.{IsIdle}
+use Rattle.run_journal.specs.Replay.{JournalValue, replay}
+use Rattle.run_journal.specs.Woven.{WovenRuns}
 use Rattle.damon_live.specs.Kept.{calls_asked, calls_made, indexes}
 use Rattle.damon_live.specs.Machine.{passes_made}
 

@@ -3,8 +3,8 @@ use Rattle.std.specs.Prelude.{◌≡◌, ℕ, ◌<◌, List, [], ◌∷◌, ◌+
 use Rattle.page_words.specs.declared.view.Entry.{Entry as Step}
 use Rattle.page_words.specs.declared.view.Entry.TheVariants.{Gathered}
 use Rattle.damon_control.specs.Live.{LiveValue}
-use Rattle.damon_journal.specs.declared.entry.Receipt.{Receipt}
-use Rattle.damon_journal.specs.Lawful.{touches_of}
+use Rattle.run_journal.specs.declared.entry.Receipt.{Receipt}
+use Rattle.run_journal.specs.Lawful.{touches_of}
 use Rattle.damon_live.specs.Whole.{pages_touched}
 
 -- the trace of a worker, without a page where there is no such worker

@@ -1,8 +1,8 @@
 // The end of a run, once no thread but this one is left.
 ghost use Rattle.std.specs.Prelude.{◌≡◌, ◌-◌, ◌≤◌, ◌++◌, ◌∷◌, [], length, map, vec_len};
 ghost use Rattle.damon_core.specs.Stands.{Stands};
-ghost use Rattle.damon_journal.specs.Lawful.{gathers, receipts_said};
-ghost use Rattle.damon_journal.specs.Replay.{check_sizes, replay};
+ghost use Rattle.run_journal.specs.Lawful.{gathers, receipts_said};
+ghost use Rattle.run_journal.specs.Replay.{check_sizes, replay};
 ghost use Rattle.damon_live.specs.Whole.{AreAllMade, AreInSpace, IsWholeRun, pages_touched};
 ghost use Rattle.damon_live.specs.Work.{AreNumbered, IsGathered};
 
@@ -11,8 +11,8 @@ use crate::named::Named;
 use crate::work::Done;
 use damon_control::LiveScript;
 use damon_core::Monitor;
-use damon_journal::{Journal, Receipts};
 use page_words::{MonitorSeat, PageWords};
+use run_journal::{Journal, Receipts};
 
 /// A whole run: its script, its journal and receipts, and the monitor after it.
 #[derive(Drop)]
@@ -79,9 +79,9 @@ pub(crate) fn end_run<N: Named>(
     } = kept.into_parts();
     gather_all(&words, &mut seat, made, &mut receipts);
     words.settle(seat);
-    damon_journal::settled_receipts_are_lawful();
-    damon_journal::woven_runs();
-    damon_journal::hits_are_few();
+    run_journal::settled_receipts_are_lawful();
+    run_journal::woven_runs();
+    run_journal::hits_are_few();
     Ended {
         journal,
         receipts,

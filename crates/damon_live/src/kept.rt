@@ -6,11 +6,11 @@ ghost use Rattle.damon_core.specs.Reached.{CanOpen};
 ghost use Rattle.damon_core.specs.Stands.{Stands};
 ghost use Rattle.damon_control.specs.LiveText.{KeepsLimits};
 ghost use Rattle.damon_control.specs.LiveView.{live_said};
-ghost use Rattle.damon_journal.specs.declared.entry.Entry.TheVariants.{Call};
-ghost use Rattle.damon_journal.specs.Phases.{IsFree, passes_open};
-ghost use Rattle.damon_journal.specs.Replay.{IsJournalOf, check_sizes, replay};
-ghost use Rattle.damon_journal.specs.Room.{nothing_said};
-ghost use Rattle.damon_journal.specs.Steps.{steps};
+ghost use Rattle.run_journal.specs.declared.entry.Entry.TheVariants.{Call};
+ghost use Rattle.run_journal.specs.Phases.{IsFree, passes_open};
+ghost use Rattle.run_journal.specs.Replay.{IsJournalOf, check_sizes, replay};
+ghost use Rattle.run_journal.specs.Room.{nothing_said};
+ghost use Rattle.run_journal.specs.Steps.{steps};
 ghost use Rattle.damon_live.specs.Kept.{CallsAreInOrder, calls_asked, calls_made};
 ghost use Rattle.damon_live.specs.Machine.{passes_made, prepare_after, with_one};
 ghost use Rattle.damon_live.specs.Plain.{AddsPlain};
@@ -20,9 +20,9 @@ use crate::machine::Machine;
 use crate::named::Named;
 use damon_control::LiveScript;
 use damon_core::Monitor;
-use damon_journal::{CallAnswer, Journal};
 use live_commit::Phase;
 use page_words::{MonitorSeat, PageWords};
+use run_journal::{CallAnswer, Journal};
 use std::alloc::{AllocError, Global};
 use std::marker::Model;
 
@@ -51,7 +51,7 @@ pub struct Kept<'a, N: Named> {
 }
 
 impl<'a, N: Named> Model for Kept<'a, N> {
-    ghost use Rattle.damon_journal.specs.Replay.{JournalValue};
+    ghost use Rattle.run_journal.specs.Replay.{JournalValue};
     ghost use Rattle.damon_live.specs.Kept.{IsKept};
 
     ghost Value = { JournalValue };

@@ -2,7 +2,8 @@
 ghost use Rattle.damon_live.specs.OwnText.{WholeRunsAreReadBack, WholeRunsAreSpellable};
 
 use damon_control::{live_scripts_are_sound, live_scripts_are_spellable};
-use damon_journal::{lawful_journals_are_read, lawful_numbers_fit};
+use journal_text::lawful_journals_are_read;
+use run_journal::lawful_numbers_fit;
 
 /// A text can spell the journal and the receipts of each whole run of a script that a text is read as, and
 /// that text is read as a journal: the one that the run ended with, with its receipts.

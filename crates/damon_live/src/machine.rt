@@ -1,18 +1,18 @@
 ghost use Rattle.std.specs.Prelude.{◌≡◌, ◌+◌, ◌*◌, ◌<◌, ◌≤◌, [], Bool, List, IfOk, IsSome, Some, length, slice_index_or};
 ghost use Rattle.live_commit.specs.declared.phase.Phase.TheVariants.{Idle, Armed, Due, Void as VoidPhase};
-ghost use Rattle.damon_journal.specs.declared.entry.Entry.TheVariants.{Call, Check, Void};
+ghost use Rattle.run_journal.specs.declared.entry.Entry.TheVariants.{Call, Check, Void};
 ghost use Rattle.damon_types.specs.Space.{pages_of};
 ghost use Rattle.damon_control.specs.Live.{CallValue};
 ghost use Rattle.damon_control.specs.LiveText.{KeepsLimits};
 ghost use Rattle.damon_control.specs.LiveView.{live_said};
-ghost use Rattle.damon_journal.specs.Growth.{longer};
-ghost use Rattle.damon_journal.specs.Phases.{IsFree, passes_open};
-ghost use Rattle.damon_journal.specs.Room.{nothing_said};
+ghost use Rattle.run_journal.specs.Growth.{longer};
+ghost use Rattle.run_journal.specs.Phases.{IsFree, passes_open};
+ghost use Rattle.run_journal.specs.Room.{nothing_said};
 ghost use Rattle.damon_core.specs.Pass.{IsBetween};
 ghost use Rattle.damon_core.specs.Reached.{CanOpen};
 ghost use Rattle.damon_core.specs.Stands.{Stands};
-ghost use Rattle.damon_journal.specs.Replay.{IsJournalOf, call_answer, call_at, check_sizes, replay};
-ghost use Rattle.damon_journal.specs.Steps.{steps};
+ghost use Rattle.run_journal.specs.Replay.{IsJournalOf, call_answer, call_at, check_sizes, replay};
+ghost use Rattle.run_journal.specs.Steps.{steps};
 ghost use Rattle.damon_live.specs.Machine.{aggregate_after, calls_left, passes_made, prepare_after, with_one};
 ghost use Rattle.damon_live.specs.declared.top.TheConstants.{MAX_RESULTS};
 
@@ -22,10 +22,10 @@ use crate::named::Named;
 use crate::passes::load_all;
 use damon_control::{LiveScript, MAX_CALLS};
 use damon_core::Monitor;
-use damon_journal::{Journal, journals_grow};
 use live_commit::Phase;
 use page_words::{MonitorSeat, PageWords};
 use rand_pcg::Lcg64Xsh32;
+use run_journal::{Journal, journals_grow};
 use sampler::{draw_words, generator};
 use std::alloc::{AllocError, Global};
 use std::marker::{Model, PhantomData};
@@ -50,7 +50,7 @@ pub struct Machine<'a, N: Named> {
 
 impl<'a, N: Named> Model for Machine<'a, N> {
     ghost use Rattle.std.specs.Prelude.{length, vec_capacity};
-    ghost use Rattle.damon_journal.specs.Replay.{JournalValue};
+    ghost use Rattle.run_journal.specs.Replay.{JournalValue};
     ghost use Rattle.damon_live.specs.Machine.{IsMachine};
 
     ghost Value = { JournalValue };

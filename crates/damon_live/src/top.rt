@@ -10,11 +10,11 @@ ghost use Rattle.damon_control.specs.Script.{live_of};
 ghost use Rattle.damon_control.specs.Sound.{SpellsCalls};
 ghost use Rattle.text_io.specs.Given.{GaveOver};
 ghost use Rattle.text_io.specs.Taken.{WritesPart};
-ghost use Rattle.damon_journal.specs.Lawful.{all_of, receipts_said};
-ghost use Rattle.damon_journal.specs.Replay.{check_sizes, replay};
-ghost use Rattle.damon_journal.specs.Rules.{IsReadBack};
-ghost use Rattle.damon_journal.specs.Status.{EndsRun, IsRead, IsUnwritten};
-ghost use Rattle.damon_journal.specs.Text.{journal_text};
+ghost use Rattle.run_journal.specs.Lawful.{all_of, receipts_said};
+ghost use Rattle.run_journal.specs.Replay.{check_sizes, replay};
+ghost use Rattle.journal_text.specs.Rules.{IsReadBack};
+ghost use Rattle.run_status.specs.Status.{EndsRun, IsRead, IsUnwritten};
+ghost use Rattle.journal_text.specs.Text.{journal_text};
 ghost use Rattle.damon_live.specs.Answers.{IsEnding, IsRefused, IsTaken};
 ghost use Rattle.damon_live.specs.Ending.{HasRun, IsExpected, NothingRan, TellsFault, TellsPasses, asks_run, ended_early, ending, most_results};
 ghost use Rattle.damon_live.specs.Whole.{IsWholeRun, TracesAreInSpace};
@@ -24,12 +24,14 @@ use crate::laws::whole_runs_are_read_back;
 use crate::pace::Pace;
 use crate::threads::run_threads;
 use damon_control::{LiveScript, live_scripts_are_sound, read_live};
-use damon_journal::{Filled, Journal, Receipts, Status, TextParts};
 use damon_types::{PlainList, Sink, Source};
+use journal_text::TextParts;
+use run_journal::{Journal, Receipts};
+use run_status::Status;
 use std::alloc::Global;
 use std::sync::Wait;
 use std::thread::Threads;
-use text_io::{INPUT_LIMIT, read_all, write_all};
+use text_io::{INPUT_LIMIT, pump, read_all};
 
 /// The most results of loads that a journal keeps: the passes of a script times its `cap`.
 pub const MAX_RESULTS: u32 = 4_194_304;
@@ -267,13 +269,6 @@ fn hand_over<K: Sink>(alloc: Global, run: &AloneRun, sink: &mut K) -> Result<(),
         (journal_text (live_said run.now.script) run.now.journal.value (receipts_said run.now.receipts)) }
 {
     let mut parts = TextParts::new(&run.script, &run.journal, &run.receipts, &run.monitor);
-    let mut piece = Vec::new(alloc);
-    'pieces: loop {
-        let filled = parts.fill(alloc, &mut piece)?;
-        write_all(sink, &piece)?;
-        match filled {
-            Filled::Piece => piece.clear(),
-            Filled::End => return Ok(()),
-        }
-    }
+    pump(alloc, &mut parts, sink)?;
+    Ok(())
 }

@@ -2,15 +2,15 @@
 ghost use Rattle.std.specs.Prelude.{◌≡◌, ◌-◌, ◌<◌, ◌≤◌, ◌++◌, ◌∷◌, [], All, length};
 ghost use Rattle.damon_types.specs.Space.{pages_of};
 ghost use Rattle.damon_control.specs.LiveView.{traces_of};
-ghost use Rattle.damon_journal.specs.Lawful.{touches_of};
+ghost use Rattle.run_journal.specs.Lawful.{touches_of};
 ghost use Rattle.damon_live.specs.Whole.{AreInSpace, pages_touched};
 ghost use Rattle.damon_live.specs.Work.{trace_of};
 
 use crate::named::Named;
 use crate::pace::{Pace, Spot};
 use damon_control::{Trace, Traces};
-use damon_journal::{Receipt, ReceiptList};
 use page_words::{PageWords, TouchSeat};
+use run_journal::{Receipt, ReceiptList};
 use std::marker::PhantomData;
 
 /// What a worker is given: its number, its seat, and room for the receipts of its trace.

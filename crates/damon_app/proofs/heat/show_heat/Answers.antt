@@ -3,8 +3,8 @@ use Rattle.std.proofs.lemmas.Result.{err_from_is_err_and}
 use Rattle.text_io.specs.Ends.{Ends}
 use Rattle.text_io.specs.declared.input.TheConstants.{INPUT_LIMIT}
 use Rattle.damon_core.specs.Reached.{CanOpen}
-use Rattle.damon_journal.specs.Aggregated.{aggregated}
-use Rattle.damon_journal.specs.Replay.{replay}
+use Rattle.run_journal.specs.Aggregated.{aggregated}
+use Rattle.run_journal.specs.Replay.{replay}
 use Rattle.damon_app.specs.declared.request.Columns.{Columns}
 use Rattle.damon_app.specs.declared.request.Columns.TheVariants.{Eight, Sixteen, SixtyFour}
 use Rattle.damon_app.specs.declared.request.Request.TheVariants.{Heat}

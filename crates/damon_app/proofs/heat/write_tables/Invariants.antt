@@ -1,6 +1,6 @@
 use Rattle.std.proofs.Common.{List}
 use Rattle.damon_core.specs.State.{State}
-use Rattle.damon_journal.specs.Replayer.{Leads}
+use Rattle.journal_check.specs.Replayer.{Leads}
 use Rattle.damon_types.specs.Calls.{EndsAtFault}
 use Rattle.damon_app.proofs.Heating.{AreWritten}
 use Rattle.damon_app.proofs.heat.write_tables.Given as goal

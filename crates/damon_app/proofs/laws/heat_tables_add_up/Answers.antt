@@ -1,7 +1,7 @@
 use Rattle.std.proofs.Common.{ℕ, ◌≤◌, List, [], ◌∷◌, ◌∙◌}
 use Rattle.std.specs.List.{AllByRecursion}
 use Rattle.damon_core.specs.State.{State}
-use Rattle.damon_journal.specs.Aggregated.{ReportsAll, aggregated}
+use Rattle.run_journal.specs.Aggregated.{ReportsAll, aggregated}
 use Rattle.damon_app.specs.Heating.{AddUp}
 use Rattle.damon_app.proofs.laws.heat_tables_add_up.Goals as goal
 

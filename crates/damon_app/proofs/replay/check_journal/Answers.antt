@@ -5,7 +5,7 @@ use Rattle.text_io.specs.Ends.{Ends}
 use Rattle.text_io.specs.Taken.{WritesPart}
 use Rattle.text_io.specs.declared.input.TheConstants.{INPUT_LIMIT}
 use Rattle.damon_app.specs.declared.request.Request.TheVariants.{Verify}
-use Rattle.damon_journal.specs.declared.status.Status.TheVariants.{WriteFault}
+use Rattle.run_status.specs.declared.status.Status.TheVariants.{WriteFault}
 use Rattle.damon_app.proofs.Answering.{left_alone, not_written, written}
 use Rattle.damon_app.proofs.Counting.{EndsAtFault-as, EndsAtFault-not}
 use Rattle.damon_app.proofs.replay.check_journal.Goals as goal

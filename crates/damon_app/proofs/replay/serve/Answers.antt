@@ -1,7 +1,7 @@
 use Rattle.std.proofs.Common.{◌≡◌, Option, None, refl, sym, subst, ◌∙◌}
 use Rattle.text_io.specs.declared.input.TheConstants.{INPUT_LIMIT}
 use Rattle.damon_app.specs.declared.request.Request.{Request}
-use Rattle.damon_journal.specs.declared.status.Status.TheVariants.{Usage}
+use Rattle.run_status.specs.declared.status.Status.TheVariants.{Usage}
 use Rattle.text_io.specs.Ends.{Ends}
 use Rattle.damon_app.specs.Answers.{IsAnswer}
 use Rattle.damon_app.specs.Request.{asked}

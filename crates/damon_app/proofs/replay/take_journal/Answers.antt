@@ -1,8 +1,8 @@
 use Rattle.std.proofs.Common.{◌≡◌, Err, ap, sym, ◌∙◌, subst}
 use Rattle.std.proofs.lemmas.Result.{err_from_is_err_and}
 use Rattle.text_io.specs.declared.input.TheConstants.{INPUT_LIMIT}
-use Rattle.damon_journal.specs.Reading.{read_journal}
-use Rattle.damon_journal.specs.Verified.{IsVerified}
+use Rattle.journal_text.specs.Reading.{read_journal}
+use Rattle.journal_check.specs.Verified.{IsVerified}
 use Rattle.damon_app.specs.declared.request.Request.TheVariants.{Verify}
 use Rattle.damon_app.specs.StatusOf.{status_of_journal}
 use Rattle.damon_app.proofs.Answering.{not_read, not_verified, out_of_memory}

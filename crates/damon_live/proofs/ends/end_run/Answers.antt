@@ -1,8 +1,8 @@
 use Rattle.std.proofs.Common.{◌≡◌, ◌++◌, sym, ap, ◌∙◌, subst}
 use Rattle.page_words.specs.Seats.{MonitorSeatView}
-use Rattle.damon_journal.specs.Lawful.{gathers, receipts_said}
-use Rattle.damon_journal.specs.Replay.{JournalValue, check_sizes, replay}
-use Rattle.damon_journal.specs.Steps.{steps}
+use Rattle.run_journal.specs.Lawful.{gathers, receipts_said}
+use Rattle.run_journal.specs.Replay.{JournalValue, check_sizes, replay}
+use Rattle.run_journal.specs.Steps.{steps}
 use Rattle.damon_core.specs.Stands.{Stands}
 use Rattle.damon_live.specs.Whole.{IsWholeRun}
 use Rattle.damon_live.proofs.Wholes.{whole_run}

@@ -1,7 +1,7 @@
 use Rattle.std.proofs.Common.{rules, ◌≡◌, ◌<◌, ◌+◌, [], ◌∷◌, length, ap, ◌∙◌, length-append, arith}
 use Rattle.std.specs.Prelude.{slice_index_or}
 use Rattle.std.specs.Vec.Iter.{into_iter_items, into_iter_len}
-use Rattle.damon_journal.specs.Lawful.{receipts_said}
+use Rattle.run_journal.specs.Lawful.{receipts_said}
 use Rattle.damon_live.proofs.Working.{all_traces, one_more_gathered}
 use Rattle.damon_live.proofs.ends.gather_all.Goals as goal
 

@@ -1,7 +1,7 @@
 use Rattle.std.proofs.Common.{◌≡◌, ◌≤◌, ◌<◌, ◌+◌, ℕ, length}
 use Rattle.std.specs.Prelude.{slice_index_or}
 use Rattle.std.specs.Vec.Iter.{into_iter_items, into_iter_len}
-use Rattle.damon_journal.specs.Lawful.{receipts_said}
+use Rattle.run_journal.specs.Lawful.{receipts_said}
 use Rattle.damon_live.proofs.Working.{AreGathered}
 use Rattle.damon_live.proofs.ends.gather_all.Given as goal
 

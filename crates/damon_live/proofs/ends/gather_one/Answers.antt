@@ -3,8 +3,8 @@ use Rattle.damon_types.specs.Listed.{Listed}
 use mathlib.Core.List.{map-append}
 use Rattle.page_words.specs.declared.view.Entry.TheVariants.{Gathered}
 use Rattle.page_words.specs.Seats.{MonitorSeatView}
-use Rattle.damon_journal.specs.declared.entry.Receipt.{Receipt}
-use Rattle.damon_journal.specs.Lawful.{receipts_said, touches_of}
+use Rattle.run_journal.specs.declared.entry.Receipt.{Receipt}
+use Rattle.run_journal.specs.Lawful.{receipts_said, touches_of}
 use Rattle.damon_live.proofs.ends.gather_one.Goals as goal
 
 pub returns-clause-gathered : goal.returns-clause-gathered

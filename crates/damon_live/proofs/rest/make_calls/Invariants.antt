@@ -1,6 +1,6 @@
 use Rattle.std.proofs.Common.{◌≡◌, ◌≤◌, ◌<◌, ℕ}
 use Rattle.live_commit.specs.declared.phase.Phase.TheVariants.{Idle}
-use Rattle.damon_journal.specs.Replay.{replay}
+use Rattle.run_journal.specs.Replay.{replay}
 use Rattle.damon_live.specs.Kept.{calls_asked, calls_made}
 use Rattle.damon_live.specs.Machine.{passes_made}
 use Rattle.damon_live.proofs.rest.make_calls.Given as goal

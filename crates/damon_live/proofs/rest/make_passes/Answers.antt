@@ -1,4 +1,4 @@
-use Rattle.damon_journal.specs.Phases.{passes_open}
+use Rattle.run_journal.specs.Phases.{passes_open}
 use Rattle.std.proofs.Common.{ap}
 use Rattle.damon_live.proofs.rest.make_passes.Goals as goal
 

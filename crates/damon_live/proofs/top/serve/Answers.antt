@@ -3,8 +3,8 @@ use Rattle.std.specs.Prelude.{Bool}
 use Rattle.text_io.specs.declared.input.TheConstants.{INPUT_LIMIT}
 use Rattle.text_io.specs.Ends.{Ends}
 use Rattle.damon_control.specs.LiveView.{live_said}
-use Rattle.damon_journal.specs.declared.status.Status.{Status}
-use Rattle.damon_journal.specs.Lawful.{receipts_said}
+use Rattle.run_status.specs.declared.status.Status.{Status}
+use Rattle.run_journal.specs.Lawful.{receipts_said}
 use Rattle.damon_live.specs.Answers.{IsEnding}
 use Rattle.damon_live.specs.Ending.{Ending}
 use Rattle.damon_live.proofs.Ending.{handed_over, left_alone, not_asked}

@@ -1,5 +1,5 @@
 use Rattle.std.proofs.Common.{ℕ, ◌<◌, ◌++◌, ◌∷◌, [], refl, sym, ap, ◌∙◌, arith}
-use Rattle.damon_journal.specs.Lawful.{touches_of}
+use Rattle.run_journal.specs.Lawful.{touches_of}
 use Rattle.damon_live.specs.Whole.{pages_touched}
 use Rattle.page_words.proofs.Lemmas.{take_next}
 use Rattle.damon_live.proofs.Working.{all_found, found_below}

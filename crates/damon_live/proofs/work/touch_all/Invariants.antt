@@ -1,5 +1,5 @@
 use Rattle.std.proofs.Common.{◌≡◌, ◌≤◌, ◌+◌, length, take}
-use Rattle.damon_journal.specs.Lawful.{touches_of}
+use Rattle.run_journal.specs.Lawful.{touches_of}
 use Rattle.damon_live.specs.Whole.{pages_touched}
 use Rattle.damon_live.proofs.work.touch_all.Given as goal
 

@@ -1,8 +1,8 @@
 use Rattle.std.proofs.Common.{rules, ◌≡◌, ◌≤◌, ◌<◌, ◌+◌, [], length, ap, sym, ◌∙◌, subst, arith}
 use Rattle.std.specs.Prelude.{slice_index, slice_index_or, slice_set}
-use Rattle.damon_journal.specs.Phases.{passes_open}
-use Rattle.damon_journal.specs.declared.entry.Entry.TheVariants.{Call}
-use Rattle.damon_journal.specs.Replay.{JournalValue, replay}
+use Rattle.run_journal.specs.Phases.{passes_open}
+use Rattle.run_journal.specs.declared.entry.Entry.TheVariants.{Call}
+use Rattle.run_journal.specs.Replay.{JournalValue, replay}
 use Rattle.damon_live.specs.Kept.{AreInTurn, calls_made}
 use Rattle.damon_live.specs.Machine.{passes_made, with_one}
 use Rattle.damon_live.proofs.Resting.{idle_kept}

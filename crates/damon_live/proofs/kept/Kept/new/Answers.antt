@@ -5,8 +5,8 @@ use Rattle.damon_types.specs.Listed.{Listed}
 use Rattle.damon_control.specs.declared.live.Call.{Call}
 use Rattle.damon_control.specs.Live.{LiveValue}
 use Rattle.damon_control.specs.LiveView.{call_value}
-use Rattle.damon_journal.specs.Phases.{IsFree}
-use Rattle.damon_journal.specs.Replay.{JournalValue, replay}
+use Rattle.run_journal.specs.Phases.{IsFree}
+use Rattle.run_journal.specs.Replay.{JournalValue, replay}
 use Rattle.damon_live.specs.Kept.{AreInTurn}
 use Rattle.damon_live.proofs.Resting.{turns_begun}
 use Rattle.damon_live.proofs.kept.Kept.new.Goals as goal

@@ -6,9 +6,9 @@ use Rattle.damon_core.specs.Event.{aggregate as aggregate_event}
 use Rattle.damon_core.specs.Makes.{Makes}
 use Rattle.damon_core.specs.State.{Core}
 use Rattle.damon_core.specs.Stands.{Stands}
-use Rattle.damon_journal.specs.declared.entry.Entry.TheVariants.{Aggregate}
-use Rattle.damon_journal.specs.Replay.{JournalValue, replay}
-use Rattle.damon_journal.specs.Room.{JournalView}
+use Rattle.run_journal.specs.declared.entry.Entry.TheVariants.{Aggregate}
+use Rattle.run_journal.specs.Replay.{JournalValue, replay}
+use Rattle.run_journal.specs.Room.{JournalView}
 use Rattle.sampler.specs.Seeds.{words_from}
 use Rattle.damon_live.specs.Machine.{HasRoom, IsRun}
 use Rattle.damon_live.proofs.Between.{IsAggregated, aggregated_run}

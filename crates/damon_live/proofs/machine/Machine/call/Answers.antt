@@ -2,10 +2,10 @@ use Rattle.std.proofs.Common.{◌≡◌, ℕ, ◌<◌, [], Some, refl, ap, sym, 
 use Rattle.damon_core.specs.State.{Core}
 use Rattle.damon_control.specs.Live.{LiveValue}
 use Rattle.damon_control.specs.LiveView.{call_value}
-use Rattle.damon_journal.specs.declared.entry.Entry.TheVariants.{Call}
-use Rattle.damon_journal.specs.Phases.{IsFree, passes_open}
-use Rattle.damon_journal.specs.Replay.{JournalValue, call_answer, call_at, replay}
-use Rattle.damon_journal.specs.Room.{JournalView}
+use Rattle.run_journal.specs.declared.entry.Entry.TheVariants.{Call}
+use Rattle.run_journal.specs.Phases.{IsFree, passes_open}
+use Rattle.run_journal.specs.Replay.{JournalValue, call_answer, call_at, replay}
+use Rattle.run_journal.specs.Room.{JournalView}
 use Rattle.damon_live.specs.Machine.{IsRun, calls_left, passes_made}
 use Rattle.damon_live.proofs.Between.{called_run}
 use Rattle.damon_live.proofs.Calling.{call_found, one_call}

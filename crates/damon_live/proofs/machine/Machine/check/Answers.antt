@@ -8,10 +8,10 @@ use Rattle.page_words.specs.Seats.{MonitorSeatView}
 use Rattle.damon_core.specs.Event.{IsObserving}
 use Rattle.damon_core.specs.Pass.{IsBetween}
 use Rattle.damon_core.specs.State.{Core, row_count}
-use Rattle.damon_journal.specs.Phases.{passes_open}
-use Rattle.damon_journal.specs.declared.entry.Entry.TheVariants.{Check}
-use Rattle.damon_journal.specs.Replay.{JournalValue, replay}
-use Rattle.damon_journal.specs.Room.{JournalView, with_entry, with_results}
+use Rattle.run_journal.specs.Phases.{passes_open}
+use Rattle.run_journal.specs.declared.entry.Entry.TheVariants.{Check}
+use Rattle.run_journal.specs.Replay.{JournalValue, replay}
+use Rattle.run_journal.specs.Room.{JournalView, with_entry, with_results}
 use Rattle.damon_live.specs.Machine.{HasRoom, entries_owed, passes_made, words_owed}
 use Rattle.damon_live.proofs.Checking.{IsObserved, checked_run, ended_after}
 use Rattle.damon_live.proofs.Rooms.{by_check, pass_takes, room_for_results, room_left, same_calls}

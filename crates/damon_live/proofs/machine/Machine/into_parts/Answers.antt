@@ -1,7 +1,7 @@
 use Rattle.std.proofs.Common.{ap, ◌∙◌, subst, arith}
 use Rattle.damon_core.specs.Stands.{Stands}
-use Rattle.damon_journal.specs.Replay.{IsJournalOf, JournalValue, check_sizes, replay}
-use Rattle.damon_journal.specs.Steps.{steps}
+use Rattle.run_journal.specs.Replay.{IsJournalOf, JournalValue, check_sizes, replay}
+use Rattle.run_journal.specs.Steps.{steps}
 use Rattle.damon_live.specs.Machine.{passes_made}
 use Rattle.damon_live.proofs.machine.Machine.into_parts.Goals as goal
 

@@ -8,9 +8,9 @@ use Rattle.damon_core.specs.Makes.{Makes}
 use Rattle.damon_core.specs.Several.{clears}
 use Rattle.damon_core.specs.State.{Core, row_count}
 use Rattle.damon_core.specs.Stands.{Stands}
-use Rattle.damon_journal.specs.Phases.{passes_open}
-use Rattle.damon_journal.specs.Replay.{JournalValue, replay}
-use Rattle.damon_journal.specs.Room.{JournalView}
+use Rattle.run_journal.specs.Phases.{passes_open}
+use Rattle.run_journal.specs.Replay.{JournalValue, replay}
+use Rattle.run_journal.specs.Room.{JournalView}
 use Rattle.page_words.specs.PassSteps.{clear_steps}
 use Rattle.sampler.specs.Seeds.{words_from}
 use Rattle.damon_live.proofs.Preparing.{IsPrepared, armed_core, prepared_room, prepared_run}

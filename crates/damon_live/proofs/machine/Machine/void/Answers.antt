@@ -2,10 +2,10 @@ use Rattle.std.proofs.Common.{◌≡◌, ℕ, ◌+◌, [], refl, ap, sym, ◌∙
 use Rattle.live_commit.specs.declared.phase.Phase.TheVariants.{Void as VoidPhase}
 use Rattle.damon_core.specs.Pass.{IsBetween}
 use Rattle.damon_core.specs.State.{Core}
-use Rattle.damon_journal.specs.Phases.{passes_open}
-use Rattle.damon_journal.specs.declared.entry.Entry.TheVariants.{Void}
-use Rattle.damon_journal.specs.Replay.{JournalValue, replay}
-use Rattle.damon_journal.specs.Room.{JournalView}
+use Rattle.run_journal.specs.Phases.{passes_open}
+use Rattle.run_journal.specs.declared.entry.Entry.TheVariants.{Void}
+use Rattle.run_journal.specs.Replay.{JournalValue, replay}
+use Rattle.run_journal.specs.Room.{JournalView}
 use Rattle.damon_live.specs.Machine.{IsRun, entries_owed, words_owed}
 use Rattle.damon_live.proofs.Checking.{IsObserved, voided_run}
 use Rattle.damon_live.proofs.Rooms.{by_entry, pass_takes, room_left, same_calls}

@@ -1,6 +1,0 @@
-use Rattle.live_commit.specs.Commit.{commit_value}
-use Rattle.damon_journal.proofs.Carrying.{pass_kept}
-use Rattle.damon_journal.proofs.calls.make_call.Goals as goal
-
-pub returns-in-Commit-clause-pass : goal.returns-in-Commit-clause-pass
-returns-in-Commit-clause-pass c = pass_kept (commit_value c.deref.result.now) c.args.monitor.now.core c.commit.new.self.core c.commit.ensures.core c.commit.ensures.ticks

@@ -1,5 +1,0 @@
-use Rattle.damon_journal.proofs.HeadTells.{taken_front}
-use Rattle.damon_journal.proofs.ends.before.Goals as goal
-
-pub returns-clause-front : goal.returns-clause-front
-returns-clause-front c = λ front is. taken_front c.args.bytes.now front c.args.rest.now is

@@ -1,7 +1,0 @@
-use Rattle.std.proofs.Common.{ℕ, List, [], map, sym, subst}
-use Rattle.damon_journal.specs.Ahead.{KeepsLast, last_in}
-use Rattle.damon_journal.proofs.LastSeen.{keeps_none}
-use Rattle.damon_journal.proofs.last_seen.LastSeen.new.Goals as goal
-
-pub returns-clause-last : goal.returns-clause-last
-returns-clause-last c = subst (λ (pages : List ℕ). KeepsLast [] 0 (map last_in pages)) (sym (c.in_ok-pages.ensures.items_if_clones_equal (λ y same. same))) (keeps_none c.args.pages)

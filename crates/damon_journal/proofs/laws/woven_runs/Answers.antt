@@ -1,8 +1,0 @@
-use Rattle.damon_journal.proofs.Weaving.{PassLaws}
-use Rattle.damon_journal.proofs.WovenRuns.{weaves}
-use Rattle.damon_journal.proofs.laws.woven_runs.Goals as goal
-
-pub returns : goal.returns
-returns c =
-    let laws : PassLaws = record { bound = c.reached_states_are_bound.ensures.bound; in_phase = c.reached_states_are_bound.ensures.in_phase; picks = c.reached_states_are_bound.ensures.picks } in
-    weaves laws

@@ -1,7 +1,0 @@
-use Rattle.std.proofs.Common.{◌≡◌, ◌&&◌, drop}
-use Rattle.std.specs.List.{list_all}
-use Rattle.damon_journal.specs.EntryLine.{is_bit}
-use Rattle.damon_journal.proofs.same_lines.are_bits.Given as goal
-
-abbrev pub invariant-digits : goal.invariant-digits
-invariant-digits l = list_all is_bit l.fn.digits ≡ (l.all && list_all is_bit (drop l.digit-index l.fn.digits))

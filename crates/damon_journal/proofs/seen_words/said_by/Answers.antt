@@ -1,5 +1,0 @@
-use Rattle.std.proofs.Common.{sym, ◌∙◌}
-use Rattle.damon_journal.proofs.seen_words.said_by.Goals as goal
-
-pub returns-clause-within : goal.returns-clause-within
-returns-clause-within c = c.pages_rise.ensures.below _ c.in-Ok.target c.in-Ok.addr c.in_ok-page.page (sym c.page_of.ensures ∙ c.in_ok-page.was)

@@ -1,0 +1,24 @@
+use Rattle.std.proofs.Common.{refl, sym, ap, ◌∙◌}
+use Rattle.damon_core.specs.State.{Core}
+use Rattle.damon_core.specs.Stands.{last_pass}
+use Rattle.damon_control.specs.JournalHead.{head_said}
+use Rattle.damon_control.specs.Live.{LiveValue}
+use Rattle.journal_text.specs.Place.{uncalled}
+use Rattle.journal_check.proofs.EntriesTaken.{named_none}
+use Rattle.journal_check.proofs.entries.fold.Fold.new.Goals as goal
+
+pub returns-clause-begins : goal.returns-clause-begins
+returns-clause-begins c =
+    let v : LiveValue = uncalled (head_said c.args.head) in
+    let opening = c.in_ok-replay.ensures.opening in
+    record {
+      replay = c.in_ok-replay.ensures.begins v refl refl;
+      version = refl;
+      space = ap (λ (d : Core). d.space) opening;
+      next = refl;
+      named = c.in_ok-ahead.ensures.named ∙ named_none c.in_ok-ahead.ahead.receipts;
+      pass = c.in_ok-ahead.ensures.pass ∙ sym (ap (λ (d : Core). last_pass d.phase d.ticks) opening);
+      open_is = refl;
+      counts = record { passes = refl; loads = refl; hits = refl };
+      kept = c.new-2.ensures.kept;
+    }

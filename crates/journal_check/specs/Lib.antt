@@ -1,0 +1,12 @@
+pub mod Ahead
+pub mod SeenFront
+pub mod SeenColumns
+pub mod TagOrder
+pub mod LinesLeft
+pub mod EndsOfText
+pub mod Folding
+pub mod SeenPart
+pub mod Verified
+pub mod CallLine
+pub mod Kept
+pub mod Replayer

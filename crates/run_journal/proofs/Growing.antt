@@ -1,0 +1,124 @@
+-- A journal with one entry more, and with the results of its loads.
+use Rattle.std.proofs.Common.{◌≡◌, ℕ, zero, suc, ◌≤◌, Bool, List, [], ◌∷◌, ◌++◌, drop, length, take, refl, sym, ap, ◌∙◌, subst, append_assoc, length-append, arith}
+use Rattle.std.specs.Prelude.{map}
+use Rattle.std.proofs.lemmas.List.{append-nil}
+use Rattle.damon_core.specs.Event.{load, observe}
+use Rattle.damon_core.specs.Reached.{run}
+use Rattle.damon_core.specs.State.{row_count}
+use Rattle.damon_control.specs.Live.{LiveValue}
+use Rattle.run_journal.specs.declared.entry.Entry.{Entry}
+use Rattle.run_journal.specs.declared.entry.Entry.TheVariants.{Prepare, Check, Void, Aggregate, Call}
+use Rattle.run_journal.specs.Growth.{GrowsByEntries, GrowsByOthers, IsGrown, longer, replay_with}
+use Rattle.run_journal.specs.Replay.{EntriesFit, EntryFits, IsJournalOf, JournalValue, Replayed, begun, carried, check_size, check_sizes_from, replay, replay_from}
+use Rattle.page_words.specs.PassSteps.{load_steps}
+use Rattle.run_journal.specs.Steps.{entry_steps, steps, steps_from}
+
+pub take_front : (n : ℕ) (xs ys : List Bool) → n ≤ length xs → take n (xs ++ ys) ≡ take n xs
+take_front zero xs ys few = refl
+take_front (suc n) [] ys few = absurd (omega (arith, few))
+take_front (suc n) (x ∷ xs) ys few = ap (λ l. x ∷ l) (take_front n xs ys (omega (arith, few)))
+
+drop_front : (n : ℕ) (xs ys : List Bool) → n ≤ length xs → drop n (xs ++ ys) ≡ drop n xs ++ ys
+drop_front zero xs ys few = refl
+drop_front (suc n) [] ys few = absurd (omega (arith, few))
+drop_front (suc n) (x ∷ xs) ys few = drop_front n xs ys (omega (arith, few))
+
+-- with more results behind those that are left
+abbrev pub with_more : List Bool → Replayed → Replayed
+with_more more r = record r { bits = r.bits ++ more }
+
+fits-more : (v : LiveValue) (more : List Bool) (r : Replayed) (e : Entry) → EntryFits v r e → EntryFits v (with_more more r) e
+fits-more v more r (Prepare pass pos) fits = fits
+fits-more v more r (Check pass) fits = (fits.0, fits.1, omega (arith, fits.2, length-append r.bits more))
+fits-more v more r (Void pass) fits = fits
+fits-more v more r (Aggregate tick pos) fits = fits
+fits-more v more r (Call controller index answer) fits = fits
+
+pub carried-more : (v : LiveValue) (more : List Bool) (r : Replayed) (e : Entry) → EntryFits v r e → carried v (with_more more r) e ≡ with_more more (carried v r e)
+carried-more v more r (Prepare pass pos) fits = refl
+carried-more v more r (Check pass) fits =
+    let n = row_count r.state.core in
+    ap (λ bs. record (carried v r (Check pass)) { state = run r.state (map (λ bit. load bit) bs ++ observe ∷ []); bits = drop n (r.bits ++ more) }) (take_front n r.bits more fits.2)
+    ∙ ap (λ bs. record (carried v r (Check pass)) { bits = bs }) (drop_front n r.bits more fits.2)
+carried-more v more r (Void pass) fits = refl
+carried-more v more r (Aggregate tick pos) fits = refl
+carried-more v more r (Call controller index answer) fits = refl
+
+steps-more : (v : LiveValue) (more : List Bool) (r : Replayed) (e : Entry) → EntryFits v r e → entry_steps v (with_more more r) e ≡ entry_steps v r e
+steps-more v more r (Prepare pass pos) fits = refl
+steps-more v more r (Check pass) fits = ap (load_steps pass r.state.core.picks) (take_front (row_count r.state.core) r.bits more fits.2)
+steps-more v more r (Void pass) fits = refl
+steps-more v more r (Aggregate tick pos) fits = refl
+steps-more v more r (Call controller index answer) fits = refl
+
+sizes-more : (v : LiveValue) (more : List Bool) (r : Replayed) (e : Entry) → check_size (with_more more r) e ≡ check_size r e
+sizes-more v more r (Prepare pass pos) = refl
+sizes-more v more r (Check pass) = refl
+sizes-more v more r (Void pass) = refl
+sizes-more v more r (Aggregate tick pos) = refl
+sizes-more v more r (Call controller index answer) = refl
+
+-- entries with more results behind
+pub record AreSame (v : LiveValue) (more : List Bool) (r : Replayed) (es : List Entry) : Type 0 where
+  pub fit : EntriesFit v (with_more more r) es
+  pub is : replay_from v (with_more more r) es ≡ with_more more (replay_from v r es)
+  pub steps_are : steps_from v (with_more more r) es ≡ steps_from v r es
+  pub sizes_are : check_sizes_from v (with_more more r) es ≡ check_sizes_from v r es
+
+pub same_with_more : (v : LiveValue) (more : List Bool) (r : Replayed) (es : List Entry) → EntriesFit v r es → AreSame v more r es
+same_with_more v more r [] fit = record { fit = tt; is = refl; steps_are = refl; sizes_are = refl }
+same_with_more v more r (e ∷ es) fit =
+    let next = carried-more v more r e fit.0 in
+    let rest = same_with_more v more (carried v r e) es fit.1 in
+    record {
+      fit = (fits-more v more r e fit.0, subst (λ x. EntriesFit v x es) (sym next) rest.fit);
+      is = ap (λ x. replay_from v x es) next ∙ rest.is;
+      steps_are = ap (λ x. entry_steps v (with_more more r) e ++ steps_from v x es) next ∙ (ap (λ l. l ++ steps_from v (with_more more (carried v r e)) es) (steps-more v more r e fit.0) ∙ ap (λ l. entry_steps v r e ++ l) rest.steps_are);
+      sizes_are = ap (λ x. check_size (with_more more r) e ++ check_sizes_from v x es) next ∙ (ap (λ l. l ++ check_sizes_from v (with_more more (carried v r e)) es) (sizes-more v more r e) ∙ ap (λ l. check_size r e ++ l) rest.sizes_are);
+    }
+
+pub replay_from-snoc : (v : LiveValue) (r : Replayed) (es : List Entry) (e : Entry) → replay_from v r (es ++ e ∷ []) ≡ carried v (replay_from v r es) e
+replay_from-snoc v r [] e = refl
+replay_from-snoc v r (x ∷ es) e = replay_from-snoc v (carried v r x) es e
+
+fit-snoc : (v : LiveValue) (r : Replayed) (es : List Entry) (e : Entry) → EntriesFit v r es → EntryFits v (replay_from v r es) e → EntriesFit v r (es ++ e ∷ [])
+fit-snoc v r [] e fit last = (last, tt)
+fit-snoc v r (x ∷ es) e fit last = (fit.0, fit-snoc v (carried v r x) es e fit.1 last)
+
+steps_from-snoc : (v : LiveValue) (r : Replayed) (es : List Entry) (e : Entry) → steps_from v r (es ++ e ∷ []) ≡ steps_from v r es ++ entry_steps v (replay_from v r es) e
+steps_from-snoc v r [] e = append-nil (entry_steps v r e)
+steps_from-snoc v r (x ∷ es) e =
+    ap (λ l. entry_steps v r x ++ l) (steps_from-snoc v (carried v r x) es e)
+    ∙ sym (append_assoc (entry_steps v r x) (steps_from v (carried v r x) es) (entry_steps v (replay_from v (carried v r x) es) e))
+
+sizes_from-snoc : (v : LiveValue) (r : Replayed) (es : List Entry) (e : Entry) → check_sizes_from v r (es ++ e ∷ []) ≡ check_sizes_from v r es ++ check_size (replay_from v r es) e
+sizes_from-snoc v r [] e = append-nil (check_size r e)
+sizes_from-snoc v r (x ∷ es) e =
+    ap (λ l. check_size r x ++ l) (sizes_from-snoc v (carried v r x) es e)
+    ∙ sym (append_assoc (check_size r x) (check_sizes_from v (carried v r x) es) (check_size (replay_from v (carried v r x) es) e))
+
+pub grown : (v : LiveValue) (j : JournalValue) (e : Entry) (bs : List Bool) → IsJournalOf v j → EntryFits v (replay_with v j bs) e → (carried v (replay_with v j bs) e).bits ≡ [] → IsGrown v j (longer j e bs) e bs
+grown v j e bs is fits none =
+    let r = begun v j.bits in
+    let more = same_with_more v bs r j.entries is.fit in
+    let now : replay_from v (with_more bs r) j.entries ≡ replay_with v j bs = more.is ∙ ap (λ l. record (replay v j) { bits = l ++ bs }) is.none_left in
+    let then : replay v (longer j e bs) ≡ carried v (replay_with v j bs) e = replay_from-snoc v (with_more bs r) j.entries e ∙ ap (λ x. carried v x e) now in
+    record {
+      journal = record {
+        fit = fit-snoc v (with_more bs r) j.entries e more.fit (subst (λ x. EntryFits v x e) (sym now) fits);
+        none_left = ap (λ (x : Replayed). x.bits) then ∙ none;
+      };
+      is = then;
+      steps_are = steps_from-snoc v (with_more bs r) j.entries e ∙ (ap (λ l. l ++ entry_steps v (replay_from v (with_more bs r) j.entries) e) more.steps_are ∙ ap (λ x. steps v j ++ entry_steps v x e) now);
+      sizes_are = sizes_from-snoc v (with_more bs r) j.entries e ∙ (ap (λ l. l ++ check_size (replay_from v (with_more bs r) j.entries) e) more.sizes_are ∙ ap (λ x. check_sizes_from v r j.entries ++ check_size x e) now);
+    }
+
+-- the same of any journal that is the longer one
+pub grows : GrowsByEntries
+grows v j new e bs same is fits none = subst (λ x. IsGrown v j x e bs) (sym same) (grown v j e bs is fits none)
+
+-- without results
+pub grows_by_entry : GrowsByOthers
+grows_by_entry v j new e same is fits none =
+    let r : replay_with v j [] ≡ replay v j = ap (λ l. record (replay v j) { bits = l }) (sym is.none_left) in
+    grows v j new e [] (same ∙ ap (λ l. record { entries = j.entries ++ e ∷ []; bits = l }) (sym (append-nil j.bits))) is (subst (λ x. EntryFits v x e) (sym r) fits) (ap (λ x. (carried v x e).bits) r ∙ none)

@@ -1,0 +1,8 @@
+use Rattle.run_journal.proofs.FewHits.{few_hits}
+use Rattle.run_journal.proofs.Weaving.{PassLaws}
+use Rattle.run_journal.proofs.laws.hits_are_few.Goals as goal
+
+pub returns : goal.returns
+returns c =
+    let laws : PassLaws = record { bound = c.reached_states_are_bound.ensures.bound; in_phase = c.reached_states_are_bound.ensures.in_phase; picks = c.reached_states_are_bound.ensures.picks } in
+    few_hits laws

@@ -1,0 +1,16 @@
+pub mod ReceiptColumns
+pub mod Phases
+pub mod Words
+pub mod Replay
+pub mod Growth
+pub mod Room
+pub mod Steps
+pub mod Lawful
+pub mod Few
+pub mod Woven
+pub mod Results
+pub mod Replaying
+pub mod Counted
+pub mod Limits
+pub mod Aggregated
+pub mod Bits
