@@ -1,10 +1,10 @@
-pub mod Appending
 pub mod Rows
 pub mod Slots
 pub mod Sending
 pub mod JsonSlots
 pub mod Digits
 pub mod Escaping
+pub mod PlainAnswers
 pub mod JsonMembers
 pub mod JsonItems
 pub mod JsonRuns
