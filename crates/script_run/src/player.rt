@@ -6,7 +6,7 @@ ghost use Rattle.script_lines.specs.Command.{work_of};
 ghost use Rattle.script_lines.specs.Limits.{AreCommandsWithin};
 ghost use Rattle.damon_control.specs.ScriptView.{said_by};
 ghost use Rattle.damon_core.specs.State.{opening};
-ghost use Rattle.script_run.specs.Kept.{KeepsFront};
+ghost use Rattle.line_text.specs.Appended.{KeepsFront};
 ghost use Rattle.script_run.specs.Part as left;
 ghost use Rattle.script_run.specs.Parts.{is_done, parts_of};
 ghost use Rattle.script_run.specs.Played.{BeginsWith, PlaysOnWith};
@@ -21,10 +21,11 @@ mod one_command;
 
 use crate::callbacks::{Callbacks, NoCallbacks};
 use crate::part::{Part, Start, Until, is_done, start_of, touched_page};
-use crate::together::{make_aggregation, make_commit, make_touches, whole_or_nothing};
+use crate::together::{make_aggregation, make_commit, make_touches};
 use damon_control::{Commands, MAX_WORK, Script};
 use damon_core::Monitor;
 use damon_world::{Jump, World};
+use line_text::whole_or_nothing;
 use live_commit::{Commit, Phase};
 pub use one_command::open_waiting;
 use rand_core::Rng;
@@ -33,16 +34,7 @@ use sampler::generator;
 use snapshot_print::{Form, print_show};
 use std::alloc::{AllocError, Global};
 use std::marker::Model;
-use text_io::PIECE;
-
-/// Where [`Player::fill`] stopped.
-#[derive(Clone, Copy, Debug, PartialEq, Eq)]
-pub enum Filled {
-    /// The text has [`PIECE`] bytes or more.
-    Piece,
-    /// No event is left.
-    End,
-}
+use text_io::{Filled, PIECE};
 
 /// A script that is played piece by piece, with callbacks of who runs it.
 #[derive(Drop)]
