@@ -1,5 +1,5 @@
 -- For which states tuned quotas stand, and which commits they still put in.
-use Rattle.std.specs.Prelude.{◌≡◌, ℕ, ◌+◌, ◌-◌, ◌≤◌, List, [], ◌∷◌, ◌++◌, Option, Some, IfSome, refl}
+use Rattle.std.specs.Prelude.{◌≡◌, ℕ, ◌+◌, ◌-◌, ◌≤◌, List, [], ◌∷◌, Option, Some, IfSome, refl}
 use Rattle.std.specs.List.{range_with_len}
 use Rattle.std.specs.Option.{option_map_or}
 use Rattle.damon_types.specs.declared.scheme.SlotChange.{SlotChange}
@@ -56,7 +56,3 @@ put_alone goals tops s observe alone = refl
 put_alone goals tops s (aggregate words) alone = absurd alone
 put_alone goals tops s (commit parts) alone = absurd alone
 put_alone goals tops s show alone = refl
-
--- a text keeps what it began with
-abbrev pub KeepsFront : List ℕ → List ℕ → Type 0
-KeepsFront before now = (added : List ℕ) × (now ≡ before ++ added)
