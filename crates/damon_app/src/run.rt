@@ -17,15 +17,15 @@ ghost use Rattle.damon_app.specs.Replay.{report_of};
 
 use crate::Run;
 use damon_control::{MAX_WORK, Script};
+use run_status::Status;
 use damon_types::Sink;
 use quota_goal::Goals;
 use reclaim_run::Reclaimer;
-use run_status::Status;
-use script_run::{Callbacks, Filled, NoCallbacks, open_player_with};
+use script_run::{Callbacks, NoCallbacks, open_player_with};
 use snapshot_print::Form;
 use std::alloc::Global;
 use std::marker::Brand;
-use text_io::write_all;
+use text_io::{Filled, write_all};
 use tune_run::{Named, TunedQuotas};
 
 // Runs a script, and hands its report to the sink.

@@ -19,5 +19,5 @@ pub use laws::{
     each_choice_is_best, each_run_with_callbacks_is_bound, each_script_is_bound, events_are_alone,
     passes_reach_their_phase, reports_are_text,
 };
-pub use player::{Filled, Player, open_player, open_player_with, open_waiting};
+pub use player::{Player, open_player, open_player_with, open_waiting};
 pub use to_end::play_to_end;

@@ -34,16 +34,7 @@ use sampler::generator;
 use snapshot_print::{Form, print_show};
 use std::alloc::{AllocError, Global};
 use std::marker::Model;
-use text_io::PIECE;
-
-/// Where [`Player::fill`] stopped.
-#[derive(Clone, Copy, Debug, PartialEq, Eq)]
-pub enum Filled {
-    /// The text has [`PIECE`] bytes or more.
-    Piece,
-    /// No event is left.
-    End,
-}
+use text_io::{Filled, PIECE};
 
 /// A script that is played piece by piece, with callbacks of who runs it.
 #[derive(Drop)]

@@ -8,11 +8,12 @@ ghost use Rattle.damon_core.specs.Stands.{Stands};
 ghost use Rattle.script_run.specs.Report.{last_state};
 
 use crate::callbacks::NoCallbacks;
-use crate::player::{Filled, Player, open_player};
+use crate::player::{Player, open_player};
 use damon_control::{MAX_WORK, Script};
 use rand_pcg::Lcg64Xsh32;
 use snapshot_print::Form;
 use std::alloc::{AllocError, Global};
+use text_io::Filled;
 
 /// A player after the last event of a script, whose text is not kept. The pages of the commands are pages
 /// of the script's space, and their work is at most [`MAX_WORK`]. Takes memory.

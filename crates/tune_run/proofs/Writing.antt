@@ -1,6 +1,5 @@
 -- The lines of slots, one after another.
-use Rattle.std.proofs.Common.{length, take, subst, ◌≡◌, ℕ, zero, suc, ◌+◌, List, [], ◌∷◌, ◌++◌, ap, sym, ◌∙◌, append-nil, arith}
-use Rattle.std.specs.Prelude.{Ok, Err, OnErr, OnOk, Result}
+use Rattle.std.proofs.Common.{subst, ◌≡◌, ℕ, zero, suc, ◌+◌, List, [], ◌∷◌, ◌++◌, ap, sym, ◌∙◌, append-nil, arith}
 use Rattle.std.specs.List.{flat_map, range_with_len}
 use Rattle.std.proofs.lemmas.Grind.{flat_map-append}
 use Rattle.std.proofs.lemmas.List.Concat.{flat_map-cons}
@@ -31,15 +30,3 @@ lines_more t i =
 
 pub keeps_on : (old now then lines : List ℕ) → now ≡ old ++ lines → KeepsFront now then → KeepsFront old then
 keeps_on old now then lines is keeps = keeps_through old now then (subst (KeepsFront old) (sym is) (keeps-append old lines)) keeps
-
--- a text of which what was appended is removed where there is an error
-pub whole_ok : {T E : Type 0} (P : List ℕ → Type 0) (made result : Result T E) (y z : List ℕ) → result ≡ made → OnOk made (P y) → OnOk result (z ≡ y) → OnOk result (P z)
-whole_ok P made (Ok x) y z same holds is = subst P (sym is) (subst (λ r. OnOk r (P y)) (sym same) holds)
-whole_ok P made (Err e) y z same holds is = is
-
-pub whole_err : {T E : Type 0} (made result : Result T E) (n : ℕ) (x y z : List ℕ) → n ≡ length x → result ≡ made → OnErr made (KeepsFront x y)
-    → OnErr result (z ≡ take n y) → OnErr result (z ≡ x)
-whole_err made (Ok v) n x y z all same kept is = is
-whole_err made (Err e) n x y z all same kept is =
-    let front : KeepsFront x y = subst (λ r. OnErr r (KeepsFront x y)) (sym same) kept in
-    is ∙ ap (λ i. take i y) all ∙ front.front

@@ -1,20 +1,20 @@
-use Rattle.std.proofs.Common.{◌≡◌, ℕ, List, [], ◌∷◌, ◌++◌, ap, ◌∙◌, append_assoc}
-use Rattle.std.specs.Fmt.{decimal}
+use Rattle.std.proofs.Common.{◌≡◌, ℕ, List, [], ◌∷◌, ◌++◌, OnOk, ap, codes, decimal, subst, ◌∙◌, append_assoc}
 use Rattle.script_lines.specs.KindText.{kind_text}
+use Rattle.damon_admin.specs.Written.{fault_line}
 use Rattle.damon_admin.proofs.fault.write_fault.Goals as goal
 
-grown : (o f n k a b c d e : List ℕ) → a ≡ o ++ f → b ≡ a ++ n → c ≡ b ++ 32 ∷ [] → d ≡ c ++ k → e ≡ d ++ 10 ∷ [] → e ≡ o ++ (f ++ (n ++ (32 ∷ (k ++ 10 ∷ []))))
-grown o f n k a b c d e front number blank kind end =
-    end
-    ∙ ap (λ t. t ++ 10 ∷ []) (kind ∙ ap (λ t. t ++ k) (blank ∙ ap (λ t. t ++ 32 ∷ []) (number ∙ ap (λ t. t ++ n) front)))
-    ∙ append_assoc (((o ++ f) ++ n) ++ 32 ∷ []) k (10 ∷ [])
-    ∙ append_assoc ((o ++ f) ++ n) (32 ∷ []) (k ++ 10 ∷ [])
-    ∙ append_assoc (o ++ f) n (32 ∷ (k ++ 10 ∷ []))
-    ∙ append_assoc o f (n ++ (32 ∷ (k ++ 10 ∷ [])))
+joined : (o f n k : List ℕ) → (((o ++ (f ++ n)) ++ 32 ∷ []) ++ k) ++ 10 ∷ [] ≡ o ++ (f ++ (n ++ (32 ∷ (k ++ 10 ∷ []))))
+joined o f n k = simp append_assoc
 
 pub returns : goal.returns
 returns c =
-    grown c.args.out.now.items _ (decimal c.args.fault.line) (kind_text c.args.fault.kind) c.extend_from_slice.new.self.items c.write_number.new.out.items
-    c.push.new.self.items c.extend_from_slice-2.new.self.items c.push-2.new.self.items
-    c.in_ok-extend_from_slice.ensures.items c.in_ok-write_number.ensures.ok c.in_ok-push.ensures.items
-    (c.in_ok-extend_from_slice-2.ensures.items ∙ ap (λ t. c.push.new.self.items ++ t) (c.as_bytes.ensures.value ∙ c.text.ensures)) c.in_ok-push-2.ensures.items
+    let old = c.args.out.now.items in
+    let f = codes "fault line=" in
+    let n = decimal c.args.fault.line in
+    let k = kind_text c.args.fault.kind in
+    let kind : c.extend_from_slice-2.new.self.items ≡ ((old ++ (f ++ n)) ++ 32 ∷ []) ++ k =
+    c.in_ok-extend_from_slice-2.ensures.items
+    ∙ ap (λ (t : List ℕ). c.extend_from_slice.new.self.items ++ t) (c.as_bytes.ensures.value ∙ c.text.ensures)
+    ∙ ap (λ (t : List ℕ). t ++ k) (c.in_ok-extend_from_slice.ensures.items ∙ ap (λ (t : List ℕ). t ++ 32 ∷ []) c.in_ok-append_field.ensures.ok) in
+    let whole : c.extend_from_slice-2.new.self.items ++ 10 ∷ [] ≡ old ++ fault_line c.args.fault = ap (λ (t : List ℕ). t ++ 10 ∷ []) kind ∙ joined old f n k in
+    subst (λ text. OnOk c.end_line.result (c.end_line.new.out.items ≡ text)) whole c.end_line.ensures.ok

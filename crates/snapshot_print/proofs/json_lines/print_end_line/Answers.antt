@@ -1,4 +1,4 @@
-use Rattle.std.proofs.Common.{◌≡◌, ℕ, ◌++◌, ◌∙◌, ap, codes, decimal, length, subst}
+use Rattle.std.proofs.Common.{◌≡◌, ◌++◌, ◌∙◌, ap, codes, decimal, length, subst}
 use Rattle.std.specs.Prelude.{OnOk}
 use Rattle.damon_core.specs.State.{row_count}
 use Rattle.snapshot_print.specs.Json.{as_json}
