@@ -1,6 +1,5 @@
 pub mod Listing
 pub mod LoadRuns
-pub mod Appending
 pub mod Appended
 pub mod OpenHits
 pub mod ReceiptColumns

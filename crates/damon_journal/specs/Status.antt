@@ -2,6 +2,8 @@
 use Rattle.std.specs.Prelude.{ℕ, Result, Ok, Err}
 use Rattle.text_io.specs.declared.input.InputFault.{InputFault}
 use Rattle.text_io.specs.declared.input.InputFault.TheVariants as inputs
+use Rattle.text_io.specs.declared.source.PumpFault.{PumpFault}
+use Rattle.text_io.specs.declared.source.PumpFault.TheVariants as pumps
 use Rattle.damon_control.specs.declared.fault.ReadFail.{ReadFail}
 use Rattle.damon_control.specs.declared.fault.ReadFail.TheVariants as reads
 use Rattle.damon_journal.specs.declared.lawful.VerifyFault.{VerifyFault}
@@ -26,6 +28,11 @@ abbrev pub input_status : InputFault → Status
 input_status inputs.Memory = statuses.Memory
 input_status inputs.Fault = statuses.ReadFault
 input_status inputs.TooLong = statuses.TooLong
+
+-- the status where a text was not handed over
+abbrev pub pump_status : PumpFault → Status
+pump_status pumps.Memory = statuses.Memory
+pump_status pumps.Fault = statuses.WriteFault
 
 -- the status where a text was not read as a script or a live script
 abbrev pub read_status : ReadFail → Status

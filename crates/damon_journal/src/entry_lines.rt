@@ -11,11 +11,12 @@ ghost use Rattle.damon_journal.specs.Results.{loads_in};
 ghost use Rattle.damon_journal.specs.Text.{entry_lines};
 
 use crate::entry::{CallAnswer, Entry};
-use crate::line_parts::{end_line, write_field, write_line, write_pair, write_pair_line};
+use crate::line_parts::{write_line, write_pair, write_pair_line};
 use crate::load_run::LoadRun;
 use damon_control::{Call, CallLists, LiveScript, write_commit};
 use damon_core::Changed;
 use damon_types::Space;
+use line_text::{append_field, end_line};
 use script_lines::write_number_line;
 use snapshot_print::print_answer;
 use std::alloc::{AllocError, Global};
@@ -50,13 +51,13 @@ pub(crate) fn write_entry(
 }
 
 // Appends `check PASS BITS`.
-#[tactic(auto, using(crate::proofs::Appending::appends))]
+#[tactic(auto, using(line_text::proofs::Lemmas::appends))]
 fn write_check(out: &mut Vec<u8>, pass: u64, loaded: LoadRun<'_>) -> Result<(), AllocError>
     ensures ok { OnOk result (out.new.items
         ≡ out.old.items ++ lines_text (spelled_check pass (loads_in loaded.entry) ∷ [])) }
     ensures kept { KeepsFront out.old.items out.new.items }
 {
-    write_field(out, b"check ", pass)?;
+    append_field(out, b"check ", pass)?;
     out.extend_from_slice(b" ")?;
     write_bits(out, loaded)?;
     end_line(out)
@@ -133,7 +134,7 @@ fn call_at(lists: &CallLists, controller: u32, index: u32) -> Option<&Call>
 }
 
 // Appends the lines of a call before its answer.
-#[tactic(auto, using(crate::proofs::Appending::appends))]
+#[tactic(auto, using(line_text::proofs::Lemmas::appends))]
 fn write_asked(
     alloc: Global,
     out: &mut Vec<u8>,
@@ -159,18 +160,18 @@ fn write_asked(
 }
 
 // Appends `call CONTROLLER INDEX `.
-#[tactic(auto, using(crate::proofs::Appending::appends))]
+#[tactic(auto, using(line_text::proofs::Lemmas::appends))]
 fn write_front(out: &mut Vec<u8>, controller: u32, index: u32) -> Result<(), AllocError>
     ensures ok { OnOk result (out.new.items ≡ out.old.items ++ call_front controller index) }
     ensures kept { KeepsFront out.old.items out.new.items }
 {
-    write_field(out, b"call ", u64::from(controller))?;
-    write_field(out, b" ", u64::from(index))?;
+    append_field(out, b"call ", u64::from(controller))?;
+    append_field(out, b" ", u64::from(index))?;
     out.extend_from_slice(b" ")
 }
 
 // Appends `answer ANSWER`.
-#[tactic(auto, using(crate::proofs::Appending::appends))]
+#[tactic(auto, using(line_text::proofs::Lemmas::appends))]
 pub(crate) fn write_answer(out: &mut Vec<u8>, answer: CallAnswer) -> Result<(), AllocError>
     ensures ok { OnOk result (out.new.items
         ≡ out.old.items ++ lines_text (spelled_answer answer ∷ [])) }
@@ -182,7 +183,7 @@ pub(crate) fn write_answer(out: &mut Vec<u8>, answer: CallAnswer) -> Result<(), 
 }
 
 // Appends what a call answered.
-#[tactic(auto, using(crate::proofs::Appending::appends))]
+#[tactic(auto, using(line_text::proofs::Lemmas::appends))]
 fn write_said(out: &mut Vec<u8>, answer: CallAnswer) -> Result<(), AllocError>
     ensures ok { OnOk result (out.new.items ≡ out.old.items ++ answer_said answer) }
     ensures kept { KeepsFront out.old.items out.new.items }

@@ -83,6 +83,6 @@ pub use receipt_list::ReceiptList;
 pub use replayer::Replayer;
 pub use status::Status;
 pub use text::journal_text;
-pub use text_parts::{Filled, TextParts};
+pub use text_parts::TextParts;
 pub use verifying::verify;
 pub use words::words_at;

@@ -1,15 +1,15 @@
 // Parts of lines that are appended, and parts that are written in front of others.
-ghost use Rattle.std.specs.Prelude.{◌≡◌, ℕ, List, ◌+◌, ◌≤◌, ◌++◌, ◌∷◌, [], codes, drop, length, OnOk};
+ghost use Rattle.std.specs.Prelude.{◌≡◌, ℕ, List, ◌+◌, ◌≤◌, ◌++◌, ◌∷◌, [], drop, length, OnOk};
 ghost use Rattle.std.specs.Fmt.{decimal};
 ghost use Rattle.line_text.specs.Address.{spelled_address};
 ghost use Rattle.line_text.specs.Appended.{KeepsFront};
 ghost use Rattle.script_lines.specs.Lines.{lines_text};
 
-use line_text::{address_before, number_before, write_number};
+use line_text::{address_before, append_field, end_line, number_before};
 use std::alloc::AllocError;
 
 // Appends a line.
-#[tactic(auto, using(crate::proofs::Appending::appends))]
+#[tactic(auto, using(line_text::proofs::Lemmas::appends))]
 pub(crate) fn write_line(out: &mut Vec<u8>, line: &[u8]) -> Result<(), AllocError>
     ensures ok { OnOk result (out.new.items ≡ out.old.items ++ lines_text (line.now ∷ [])) }
     ensures kept { KeepsFront out.old.items out.new.items }
@@ -18,27 +18,8 @@ pub(crate) fn write_line(out: &mut Vec<u8>, line: &[u8]) -> Result<(), AllocErro
     end_line(out)
 }
 
-// Ends a line.
-#[tactic(auto, using(crate::proofs::Appending::appends))]
-pub(crate) fn end_line(out: &mut Vec<u8>) -> Result<(), AllocError>
-    ensures ok { OnOk result (out.new.items ≡ out.old.items ++ codes "\n") }
-    ensures kept { KeepsFront out.old.items out.new.items }
-{
-    out.extend_from_slice(b"\n")
-}
-
-// Appends words and a number.
-#[tactic(auto, using(crate::proofs::Appending::appends))]
-pub(crate) fn write_field(out: &mut Vec<u8>, name: &[u8], value: u64) -> Result<(), AllocError>
-    ensures ok { OnOk result (out.new.items ≡ out.old.items ++ (name.now ++ decimal value)) }
-    ensures kept { KeepsFront out.old.items out.new.items }
-{
-    out.extend_from_slice(name)?;
-    write_number(out, value)
-}
-
 // Appends two numbers, each after its words.
-#[tactic(auto, using(crate::proofs::Appending::appends))]
+#[tactic(auto, using(line_text::proofs::Lemmas::appends))]
 pub(crate) fn write_pair(
     out: &mut Vec<u8>,
     name: &[u8],
@@ -50,12 +31,12 @@ pub(crate) fn write_pair(
         ≡ out.old.items ++ (name.now ++ (decimal first ++ (between.now ++ decimal second)))) }
     ensures kept { KeepsFront out.old.items out.new.items }
 {
-    write_field(out, name, first)?;
-    write_field(out, between, second)
+    append_field(out, name, first)?;
+    append_field(out, between, second)
 }
 
 // Appends a line of two numbers, each after its words.
-#[tactic(auto, using(crate::proofs::Appending::appends))]
+#[tactic(auto, using(line_text::proofs::Lemmas::appends))]
 pub(crate) fn write_pair_line(
     out: &mut Vec<u8>,
     name: &[u8],

@@ -6,7 +6,7 @@ use damon_control::{ReadFail, ScriptKind};
 use damon_types::Failed;
 use std::alloc::AllocError;
 use std::fmt;
-use text_io::InputFault;
+use text_io::{InputFault, PumpFault};
 
 /// How a run of a program ended. Its text is the line that is written to standard error. That of
 /// [`Status::Ok`] is empty, since no line is written for it, and so is that of [`Status::Usage`], since
@@ -94,6 +94,20 @@ impl From<InputFault> for Status {
             InputFault::Memory => Status::Memory,
             InputFault::Fault => Status::ReadFault,
             InputFault::TooLong => Status::TooLong,
+        }
+    }
+}
+
+impl From<PumpFault> for Status {
+    ghost use Rattle.std.specs.Prelude.{◌≡◌};
+    ghost use Rattle.damon_journal.specs.Status.{pump_status};
+
+    ghost from_gives = { λ fault status. status ≡ pump_status fault };
+
+    fn from(fault: PumpFault) -> Status {
+        match fault {
+            PumpFault::Memory => Status::Memory,
+            PumpFault::Fault => Status::WriteFault,
         }
     }
 }

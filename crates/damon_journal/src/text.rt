@@ -1,5 +1,5 @@
 // The text of a journal.
-ghost use Rattle.std.specs.Prelude.{◌≡◌, ◌<◌, ◌++◌, take, OnErr, OnOk};
+ghost use Rattle.std.specs.Prelude.{◌≡◌, ◌<◌, ◌++◌, OnErr, OnOk};
 ghost use Rattle.std.specs.List.{AllByRecursion};
 ghost use Rattle.damon_types.specs.Space.{pages_of};
 ghost use Rattle.line_text.specs.Appended.{KeepsFront};
@@ -16,6 +16,7 @@ use crate::journal::Journal;
 use crate::text_parts::{Part, Recorded, write_to};
 use damon_control::LiveScript;
 use damon_core::Monitor;
+use line_text::whole_or_nothing;
 use std::alloc::{AllocError, Global};
 
 /// Appends the text of a journal: its first line, which says the version; the setup of the script; the
@@ -49,22 +50,6 @@ pub fn journal_text(
     };
     let written = write_journal(alloc, out, &run);
     whole_or_nothing(out, before, written)
-}
-
-// Removes what was appended after the first `before` bytes if writing failed.
-fn whole_or_nothing(
-    out: &mut Vec<u8>,
-    before: usize,
-    written: Result<(), AllocError>,
-) -> Result<(), AllocError>
-    ensures same { result ≡ written }
-    ensures ok { OnOk result (out.new.items ≡ out.old.items) }
-    ensures err { OnErr result (out.new.items ≡ take before out.old.items) }
-{
-    if written.is_err() {
-        out.truncate(before);
-    }
-    written
 }
 
 // Appends the text of a journal.

@@ -23,16 +23,7 @@ use damon_core::Monitor;
 use snapshot_print::{Form, print_end, print_show};
 use std::alloc::{AllocError, Global};
 use std::marker::Model;
-use text_io::PIECE;
-
-/// Where [`TextParts::fill`] stopped.
-#[derive(Clone, Copy, Debug, PartialEq, Eq)]
-pub enum Filled {
-    /// The text so far has [`PIECE`] bytes or more.
-    Piece,
-    /// No line is left.
-    End,
-}
+use text_io::{Filled, PIECE, TextSource};
 
 // A run as it was recorded, from which the text of its journal is written.
 #[derive(Clone, Copy)]
@@ -127,6 +118,18 @@ impl<'a> TextParts<'a> {
         } else {
             Filled::Piece
         })
+    }
+}
+
+impl TextSource for TextParts<'_> {
+    ghost use Rattle.std.specs.Prelude.{◌≡◌, length};
+
+    ghost left = { λ s text. s ≡ text };
+
+    ghost steps = { λ s. length s };
+
+    fn fill(&mut self, alloc: Global, out: &mut Vec<u8>) -> Result<Filled, AllocError> {
+        self.fill(alloc, out)
     }
 }
 

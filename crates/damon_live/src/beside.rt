@@ -36,9 +36,12 @@ pub(crate) fn run_beside<'a, N: Named + Send + Sync, R: Threads + Wait + Sync, P
     ensures len { IfOk result (λ r. vec_len r.1 ≡ vec_len jobs) }
     ensures numbered { IfOk result (λ r. AreNumbered (λ d. d.worker) r.1.items) }
 {
+    // One for each controller, so that no list is made once threads run.
+    let mut calls = vec![in alloc; 0u32; script.controllers.len() as usize]?;
+    let made_calls = calls.as_mut_slice();
     let lock = Mutex::new(kept);
     let shared = &lock;
-    let (made, called) = thread::join(
+    let (made, ()) = thread::join(
         rt,
         || -> Result<Vec<Done<N>>, AllocError>
             requires { (words.now ≡ N.table)
@@ -49,12 +52,11 @@ pub(crate) fn run_beside<'a, N: Named + Send + Sync, R: Threads + Wait + Sync, P
             ensures { IfOk result (λ d. (vec_len d ≡ vec_len jobs)
                 × AreNumbered (λ d. d.worker) d.items) }
         { work_beside(rt, words, script, jobs, pace) },
-        || -> Result<Vec<u32>, AllocError>
+        || -> ()
             requires { words.now ≡ N.table }
-        { call_beside(rt, alloc, words, shared, script, pace) },
+        { call_beside(rt, made_calls, words, shared, script, pace) },
     );
     let made = made?;
-    called?;
     Ok((lock.into_inner(), made))
 }
 
@@ -110,27 +112,29 @@ fn touch_beside<N: Named + Send + Sync, R: Threads + Sync, P: Pace + Sync>(
 // Makes the calls of each controller in a thread of its own, and the passes in this one.
 fn call_beside<N: Named + Send + Sync, R: Threads + Wait + Sync, P: Pace + Sync>(
     rt: &R,
-    alloc: Global,
+    made: &mut [u32],
     words: &PageWords,
     lock: &Mutex<Kept<'_, N>>,
     script: &LiveScript,
     pace: &P,
-) -> Result<Vec<u32>, AllocError>
+)
     requires { words.now ≡ N.table }
 {
-    let (called, ()) = thread::join(
+    let threads = made.len().max(1);
+    thread::join(
         rt,
-        || thread::map_indices(
+        || thread::for_each_mut(
             rt,
-            alloc,
-            script.controllers.len() as usize,
-            &|controller| call_all(rt, lock, script, controller, pace),
+            made,
+            threads,
+            &|controller: usize, calls: &mut u32| {
+                *calls = call_all(rt, lock, script, controller, pace);
+            },
         ),
         || -> ()
             requires { words.now ≡ N.table }
         { pass_all(rt, lock, words, script.passes, pace) },
     );
-    called
 }
 
 // Makes the calls of a controller, each in one hold of the lock, and returns how many were made.

@@ -24,12 +24,12 @@ use crate::laws::whole_runs_are_read_back;
 use crate::pace::Pace;
 use crate::threads::run_threads;
 use damon_control::{LiveScript, live_scripts_are_sound, read_live};
-use damon_journal::{Filled, Journal, Receipts, Status, TextParts};
+use damon_journal::{Journal, Receipts, Status, TextParts};
 use damon_types::{PlainList, Sink, Source};
 use std::alloc::Global;
 use std::sync::Wait;
 use std::thread::Threads;
-use text_io::{INPUT_LIMIT, read_all, write_all};
+use text_io::{INPUT_LIMIT, pump, read_all};
 
 /// The most results of loads that a journal keeps: the passes of a script times its `cap`.
 pub const MAX_RESULTS: u32 = 4_194_304;
@@ -267,13 +267,6 @@ fn hand_over<K: Sink>(alloc: Global, run: &AloneRun, sink: &mut K) -> Result<(),
         (journal_text (live_said run.now.script) run.now.journal.value (receipts_said run.now.receipts)) }
 {
     let mut parts = TextParts::new(&run.script, &run.journal, &run.receipts, &run.monitor);
-    let mut piece = Vec::new(alloc);
-    'pieces: loop {
-        let filled = parts.fill(alloc, &mut piece)?;
-        write_all(sink, &piece)?;
-        match filled {
-            Filled::Piece => piece.clear(),
-            Filled::End => return Ok(()),
-        }
-    }
+    pump(alloc, &mut parts, sink)?;
+    Ok(())
 }

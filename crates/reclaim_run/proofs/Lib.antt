@@ -1,4 +1,3 @@
-pub mod Appending
 pub mod Touching
 pub mod Applying
 pub mod Spelling

@@ -2,4 +2,3 @@ pub mod Reclaimed
 pub mod InPlace
 pub mod Stands
 pub mod Along
-pub mod Kept

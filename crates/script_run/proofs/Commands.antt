@@ -6,7 +6,9 @@ use Rattle.damon_core.specs.State.{State}
 use Rattle.script_lines.specs.Command.{CommandValue}
 use Rattle.snapshot_print.specs.Forms.{writing_of}
 use Rattle.script_run.specs.Callbacks.{Callbacks}
-use Rattle.script_run.specs.Kept.{KeepsFront, StandSomewhere}
+use Rattle.line_text.specs.Appended.{KeepsFront}
+use Rattle.line_text.proofs.Lemmas.{keeps-append}
+use Rattle.script_run.specs.Kept.{StandSomewhere}
 use Rattle.script_run.specs.Part.{Part}
 use Rattle.script_run.specs.Parts.{is_done, part_of, parts_of}
 use Rattle.script_run.specs.Played.{BeginsWith, PlaysNextWith, PlaysOnWith, with_later}
@@ -58,4 +60,5 @@ module _ {R C : Type 0} (stream : R → Stream) (c : Callbacks) (stands : C → 
       → KeepsFront x y
   begun_keeps a b x y there begins =
       let on = begins.on [] in
-      (text_from c (writing_of a.form) there.course (on.events there.course), on.text there.course there.reached there.here)
+      subst (KeepsFront x) (sym (on.text there.course there.reached there.here))
+      (keeps-append x (text_from c (writing_of a.form) there.course (on.events there.course)))

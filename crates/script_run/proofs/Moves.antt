@@ -31,7 +31,9 @@ use Rattle.script_run.proofs.Continuing.{text_from-append}
 use Rattle.script_run.specs.Unfold.{steps_until, stops_at}
 use Rattle.script_run.specs.Part as part
 use Rattle.script_run.specs.declared.part.Until.{Until}
-use Rattle.script_run.specs.Kept.{IsMade, KeepsFront, beyond}
+use Rattle.line_text.specs.Appended.{KeepsFront}
+use Rattle.line_text.proofs.Lemmas.{keeps-append, keeps_self, keeps_through}
+use Rattle.script_run.specs.Kept.{IsMade, beyond}
 use Rattle.script_run.specs.Parts.{is_done, part_events, parts_events}
 use Rattle.script_run.specs.Player.{GoesOnWith, IsAt, IsOverWith, PlayTogether, PlayerOf, WritesSomeWith, left_events}
 use Rattle.script_run.proofs.Events.{NoneDue, all_steps, alone_onward, along-touches, none_due, none_stops, parts_events-done, parts_events-made, steps_alone, steps_until-due, steps_until-split, suc_not_zero, text_from-steps, text_from-touches, touches_alone}
@@ -56,14 +58,14 @@ pub whole-err : {T E : Type 0} (made result : Result T E) (n : ℕ) (x y z : Lis
 whole-err made (Ok v) n x y z all same kept is = is
 whole-err made (Err e) n x y z all same kept is =
     let front : KeepsFront x y = subst (λ r. OnErr r (KeepsFront x y)) (sym same) kept in
-    is ∙ ap (λ i. take i y) all ∙ ap (take (length x)) front.1 ∙ take-append_seam x front.0
+    is ∙ ap (λ i. take i y) all ∙ front.front
 
 -- a text that grew keeps what it began with
 pub keeps-more : (x y z added : List ℕ) → y ≡ x ++ added → KeepsFront y z → KeepsFront x z
-keeps-more x y z added grew front = (added ++ front.0, front.1 ∙ ap (λ t. t ++ front.0) grew ∙ append_assoc x added front.0)
+keeps-more x y z added grew front = keeps_through x y z (subst (KeepsFront x) (sym grew) (keeps-append x added)) front
 
 pub keeps-none : (x y : List ℕ) → y ≡ x → KeepsFront x y
-keeps-none x y is = ([], is ∙ sym (append-nil x))
+keeps-none x y is = subst (KeepsFront x) (sym is) (keeps_self x)
 
 -- a step is left where steps are not done
 pub some_steps : (u : Until) (most : ℕ) (ph : Phase) → is_done (part.Steps u most) ph ≡ false → 1 ≤ most

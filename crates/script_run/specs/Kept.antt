@@ -57,7 +57,3 @@ pub record ArePutIn {R C : Type 0} (stream : R → Stream) (stands : C → List 
       → AllFit r.moment.state events × StandAt stream stands w' k' (beyond r events)
   pub text : (r : Course) → Reached r.moment.state → StandAt stream stands w k r
       → after ≡ before ++ events_text writing r.moment.state events
-
--- a text keeps what it began with
-abbrev pub KeepsFront : List ℕ → List ℕ → Type 0
-KeepsFront before after = (added : List ℕ) × (after ≡ before ++ added)

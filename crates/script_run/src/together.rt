@@ -1,5 +1,5 @@
 // What a world makes together with the callbacks of a run.
-ghost use Rattle.std.specs.Prelude.{◌≡◌, ◌+◌, ◌<◌, ◌≤◌, ◌^◌, ◌++◌, [], ◌∷◌, take, OnErr, OnOk};
+ghost use Rattle.std.specs.Prelude.{◌≡◌, ◌+◌, ◌<◌, ◌≤◌, ◌^◌, ◌++◌, [], ◌∷◌, OnErr, OnOk};
 ghost use Rattle.damon_types.specs.Space.{pages_of};
 ghost use Rattle.damon_core.specs.Commit.{commit_answer};
 ghost use Rattle.damon_core.specs.Event.{commit as commit_event};
@@ -9,7 +9,8 @@ ghost use Rattle.damon_world.specs.Stands.{StandsFor};
 ghost use Rattle.damon_world.specs.Touches.{touches};
 ghost use Rattle.live_commit.specs.Commit.{commit_value};
 ghost use Rattle.snapshot_print.specs.Forms.{writing_of};
-ghost use Rattle.script_run.specs.Kept.{ArePutIn, IsMade, KeepsFront, StandSomewhere};
+ghost use Rattle.line_text.specs.Appended.{KeepsFront};
+ghost use Rattle.script_run.specs.Kept.{ArePutIn, IsMade, StandSomewhere};
 
 use crate::callbacks::Callbacks;
 use damon_world::{Jump, World};
@@ -133,20 +134,4 @@ fn put_commit<R: Jump + Drop>(
 {
     let answer = world.commit(commit);
     print_commit(alloc, out, form, world.monitor().ticks(), &answer)
-}
-
-// Removes what was appended after the first `before` bytes where memory ran out.
-pub fn whole_or_nothing<T: Drop>(
-    out: &mut Vec<u8>,
-    before: usize,
-    made: Result<T, AllocError>,
-) -> Result<T, AllocError>
-    ensures same { result ≡ made }
-    ensures ok { OnOk result (out.new.items ≡ out.old.items) }
-    ensures err { OnErr result (out.new.items ≡ take before out.old.items) }
-{
-    if made.is_err() {
-        out.truncate(before);
-    }
-    made
 }

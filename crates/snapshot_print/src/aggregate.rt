@@ -4,18 +4,19 @@ ghost use Rattle.damon_types.specs.Space.{pages_of};
 ghost use Rattle.damon_core.specs.Report.{report_value};
 ghost use Rattle.snapshot_print.specs.Forms.{writing_of};
 ghost use Rattle.snapshot_print.specs.Lines.{aggregate_line, as_text, row_lines};
-ghost use Rattle.snapshot_print.specs.Kept.{KeepsFront};
+ghost use Rattle.line_text.specs.Appended.{KeepsFront};
 ghost use Rattle.snapshot_print.specs.Printed.{printed_monitor};
 
 use crate::Form;
 use crate::choice_text::print_choices;
-use crate::fields::{field_before, text_before, whole_or_nothing};
+use crate::fields::{field_before, text_before};
 use crate::json_lines::print_aggregate_line;
 use crate::line_groups::LINE_ROOM;
 use crate::row_groups::{print_rows_from, rows_before};
 use crate::row_text::print_rows;
 use damon_core::{Monitor, Report};
 use damon_types::Space;
+use line_text::whole_or_nothing;
 use std::alloc::{AllocError, Global};
 
 /// Appends the text of the last aggregation: a line with its tick, its threshold and the number of
@@ -49,7 +50,7 @@ const FIRST_ROOM: usize = 96 + LINE_ROOM * FIRST_ROWS;
 
 // Appends the first line of an aggregation, the lines of the slots that it served, and those of the rows
 // that it reported.
-#[tactic(auto, using(crate::proofs::Appending::appends))]
+#[tactic(auto, using(line_text::proofs::Lemmas::appends))]
 fn print_report(out: &mut Vec<u8>, monitor: &Monitor) -> Result<(), AllocError>
     ensures ok { OnOk result (out.new.items ≡ out.old.items
         ++ as_text.aggregate (printed_monitor monitor.now)) }
@@ -65,7 +66,7 @@ fn print_report(out: &mut Vec<u8>, monitor: &Monitor) -> Result<(), AllocError>
 }
 
 // Appends the first line of an aggregation and the lines of its rows, the first of them together with it.
-#[tactic(auto, using(crate::proofs::Appending::appends))]
+#[tactic(auto, using(line_text::proofs::Lemmas::appends))]
 fn print_unserved(out: &mut Vec<u8>, monitor: &Monitor) -> Result<(), AllocError>
     ensures ok { OnOk result (out.new.items ≡ out.old.items
         ++ (aggregate_line monitor.now.core.report
@@ -80,7 +81,7 @@ fn print_unserved(out: &mut Vec<u8>, monitor: &Monitor) -> Result<(), AllocError
 }
 
 // Appends the first line of an aggregation and the lines of its first `count` rows.
-#[tactic(auto, using(crate::proofs::Appending::appends))]
+#[tactic(auto, using(line_text::proofs::Lemmas::appends))]
 fn print_first_rows(
     out: &mut Vec<u8>,
     report: &Report,

@@ -4,7 +4,7 @@ ghost use Rattle.std.specs.List.{AllByRecursion};
 ghost use Rattle.damon_types.specs.Space.{pages_of};
 ghost use Rattle.snapshot_print.specs.Fields.{number_or_none};
 ghost use Rattle.snapshot_print.specs.Schemes.{action_in, apply_line, apply_part, choice_lines, choice_part, choices_text, run_part, runs_of_slot, slot_line, taken_part};
-ghost use Rattle.snapshot_print.specs.Kept.{KeepsFront};
+ghost use Rattle.line_text.specs.Appended.{KeepsFront};
 
 use crate::fields::{field_before, text_before, word_before};
 use crate::line_groups::{LineOf, print_lines};

@@ -2,14 +2,15 @@ ghost use Rattle.std.specs.Prelude.{◌≡◌, ◌++◌, codes, string_bytes, If
 ghost use Rattle.snapshot_print.specs.Commit.{answer_text, refusal_text};
 ghost use Rattle.snapshot_print.specs.Commit.{attrs_why, range_why, scheme_why};
 ghost use Rattle.snapshot_print.specs.Forms.{writing_of};
-ghost use Rattle.snapshot_print.specs.Kept.{KeepsFront};
+ghost use Rattle.line_text.specs.Appended.{KeepsFront};
 ghost use Rattle.snapshot_print.specs.Lines.{as_text};
 
 use crate::Form;
-use crate::fields::{end_line, print_field, print_word, whole_or_nothing, yes_or_no};
+use crate::fields::{print_word, yes_or_no};
 use crate::json_lines::print_commit_line;
 use damon_core::Changed;
 use damon_types::{AttrsFault, SchemeFault};
+use line_text::{append_field, end_line, whole_or_nothing};
 use live_commit::CommitFault;
 use std::alloc::{AllocError, Global};
 use target_ranges::RangeWhy;
@@ -36,7 +37,7 @@ pub fn print_commit(
 }
 
 // Appends the line of a commit.
-#[tactic(auto, using(crate::proofs::Appending::appends))]
+#[tactic(auto, using(line_text::proofs::Lemmas::appends))]
 fn print_line(
     out: &mut Vec<u8>,
     tick: u64,
@@ -46,7 +47,7 @@ fn print_line(
         ++ as_text.commit tick answer.now) }
     ensures kept { KeepsFront out.old.items out.new.items }
 {
-    print_field(out, b"commit tick=", tick)?;
+    append_field(out, b"commit tick=", tick)?;
     out.extend_from_slice(b" ")?;
     append_answer(out, answer)?;
     end_line(out)
@@ -67,14 +68,14 @@ pub fn print_answer(
 }
 
 // Appends the answer of a commit: what it changed, or why it was refused.
-#[tactic(auto, using(crate::proofs::Appending::appends))]
+#[tactic(auto, using(line_text::proofs::Lemmas::appends))]
 fn append_answer(out: &mut Vec<u8>, answer: &Result<Changed, CommitFault>) -> Result<(), AllocError>
     ensures ok { OnOk result (out.new.items ≡ out.old.items ++ answer_text answer.now) }
     ensures kept { KeepsFront out.old.items out.new.items }
 {
     match answer {
         Ok(changed) => {
-            print_field(out, b"ok rows=", u64::from(changed.rows))?;
+            append_field(out, b"ok rows=", u64::from(changed.rows))?;
             print_word(out, b" void=", yes_or_no(changed.void).as_bytes())
         }
         Err(fault) => {
@@ -85,33 +86,33 @@ fn append_answer(out: &mut Vec<u8>, answer: &Result<Changed, CommitFault>) -> Re
 }
 
 // Appends why a commit was refused.
-#[tactic(auto, using(crate::proofs::Appending::appends))]
+#[tactic(auto, using(line_text::proofs::Lemmas::appends))]
 fn print_refusal(out: &mut Vec<u8>, fault: CommitFault) -> Result<(), AllocError>
     ensures ok { OnOk result (out.new.items ≡ out.old.items ++ refusal_text fault) }
     ensures kept { KeepsFront out.old.items out.new.items }
 {
     match fault {
-        CommitFault::Busy { next } => print_field(out, b"busy next=", u64::from(next)),
+        CommitFault::Busy { next } => append_field(out, b"busy next=", u64::from(next)),
         CommitFault::NoRange => out.extend_from_slice(b"no-range"),
         CommitFault::BadRange { index, why } => {
-            print_field(out, b"bad-range index=", u64::from(index))?;
+            append_field(out, b"bad-range index=", u64::from(index))?;
             print_word(out, b" ", range_why(why).as_bytes())
         }
         CommitFault::RangesOverMax { ranges, max } => {
-            print_field(out, b"ranges-over-max ranges=", u64::from(ranges))?;
-            print_field(out, b" max=", u64::from(max))
+            append_field(out, b"ranges-over-max ranges=", u64::from(ranges))?;
+            append_field(out, b" max=", u64::from(max))
         }
         CommitFault::BadAttrs { why } => print_word(out, b"bad-attrs ", attrs_why(why).as_bytes()),
         CommitFault::OverCap { max, cap } => {
-            print_field(out, b"over-cap max=", u64::from(max))?;
-            print_field(out, b" cap=", u64::from(cap))
+            append_field(out, b"over-cap max=", u64::from(max))?;
+            append_field(out, b" cap=", u64::from(cap))
         }
         CommitFault::BadScheme { why } => print_word(
             out,
             b"bad-scheme ",
             scheme_why(why).as_bytes(),
         ),
-        CommitFault::BadCost { slot } => print_field(out, b"bad-cost slot=", u64::from(slot)),
+        CommitFault::BadCost { slot } => append_field(out, b"bad-cost slot=", u64::from(slot)),
     }
 }
 

@@ -1,38 +1,19 @@
-ghost use Rattle.std.specs.Prelude.{◌≡◌, ◌+◌, ◌≤◌, ◌++◌, length, take, drop, codes, OnErr, OnOk};
+ghost use Rattle.std.specs.Prelude.{◌≡◌, ◌+◌, ◌≤◌, ◌++◌, length, drop, OnOk};
 ghost use Rattle.std.specs.Fmt.{decimal};
 ghost use Rattle.snapshot_print.specs.Fields.{yes_or_no};
-ghost use Rattle.snapshot_print.specs.Kept.{KeepsFront};
+ghost use Rattle.line_text.specs.Appended.{KeepsFront};
 
-use line_text::{number_before, write_number};
+use line_text::number_before;
 use std::alloc::AllocError;
 
-// Appends a field's name and a number in decimal.
-#[tactic(auto, using(crate::proofs::Appending::appends))]
-pub(crate) fn print_field(out: &mut Vec<u8>, name: &[u8], value: u64) -> Result<(), AllocError>
-    ensures ok { OnOk result (out.new.items ≡ out.old.items ++ name.now ++ decimal value) }
-    ensures kept { KeepsFront out.old.items out.new.items }
-{
-    out.extend_from_slice(name)?;
-    write_number(out, value)
-}
-
 // Appends a field's name and a word.
-#[tactic(auto, using(crate::proofs::Appending::appends))]
+#[tactic(auto, using(line_text::proofs::Lemmas::appends))]
 pub(crate) fn print_word(out: &mut Vec<u8>, name: &[u8], word: &[u8]) -> Result<(), AllocError>
     ensures ok { OnOk result (out.new.items ≡ out.old.items ++ (name.now ++ word.now)) }
     ensures kept { KeepsFront out.old.items out.new.items }
 {
     out.extend_from_slice(name)?;
     out.extend_from_slice(word)
-}
-
-// Ends a line.
-#[tactic(auto, using(crate::proofs::Appending::appends))]
-pub(crate) fn end_line(out: &mut Vec<u8>) -> Result<(), AllocError>
-    ensures ok { OnOk result (out.new.items ≡ out.old.items ++ codes "\n") }
-    ensures kept { KeepsFront out.old.items out.new.items }
-{
-    out.extend_from_slice(b"\n")
 }
 
 // Writes a field's name and a number in decimal so that they end right before index `end`, and returns
@@ -112,20 +93,4 @@ pub(crate) fn yes_or_no(value: bool) -> &'static str
     ensures short { length result.now ≤ 3 }
 {
     if value { "yes" } else { "no" }
-}
-
-// Removes what was appended after the first `before` bytes if printing failed.
-pub(crate) fn whole_or_nothing(
-    out: &mut Vec<u8>,
-    before: usize,
-    printed: Result<(), AllocError>,
-) -> Result<(), AllocError>
-    ensures same { result ≡ printed }
-    ensures ok { OnOk result (out.new.items ≡ out.old.items) }
-    ensures err { OnErr result (out.new.items ≡ take before out.old.items) }
-{
-    if printed.is_err() {
-        out.truncate(before);
-    }
-    printed
 }

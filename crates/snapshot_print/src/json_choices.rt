@@ -3,7 +3,7 @@ ghost use Rattle.std.specs.Prelude.{◌≡◌, ◌++◌, map, IfOk, OnOk};
 ghost use Rattle.serde_json.specs.Events.{SendsValue};
 ghost use Rattle.serde_json.specs.Written.{compact_text};
 ghost use Rattle.snapshot_print.specs.Json.{choice_json, list_of};
-ghost use Rattle.snapshot_print.specs.Kept.{KeepsFront};
+ghost use Rattle.line_text.specs.Appended.{KeepsFront};
 
 use crate::json_parts::{send_bool, send_count, send_option};
 use scheme_engine::SlotChoice;
@@ -11,7 +11,7 @@ use serde::{Described, Serialize, Serializer};
 use std::alloc::{AllocError, Global};
 
 // Appends the list of choices.
-#[tactic(auto, using(crate::proofs::Appending::appends))]
+#[tactic(auto, using(line_text::proofs::Lemmas::appends))]
 pub(crate) fn print_choice_list(
     alloc: Global,
     out: &mut Vec<u8>,

@@ -6,13 +6,13 @@ ghost use Rattle.serde_json.specs.Events.{SendsValue};
 ghost use Rattle.serde_json.specs.Data.{string};
 ghost use Rattle.serde_json.specs.Written.{compact_text};
 ghost use Rattle.snapshot_print.specs.Json.{answer_json, as_json, end_json};
-ghost use Rattle.snapshot_print.specs.Kept.{KeepsFront};
+ghost use Rattle.line_text.specs.Appended.{KeepsFront};
 ghost use Rattle.snapshot_print.specs.Pieces.{served_part};
 ghost use Rattle.snapshot_print.specs.Printed.{printed_monitor};
 
 use crate::Form;
 use crate::commit::answer_string;
-use crate::fields::{end_line, print_field, print_word};
+use crate::fields::print_word;
 use crate::json_choices::print_choice_list;
 use crate::json_parts::{send_count, send_text};
 use crate::json_rows::print_row_list;
@@ -20,12 +20,13 @@ use crate::json_runs::print_run_list;
 use crate::json_slots::print_slot_list;
 use crate::show::phase_name;
 use damon_core::{Changed, Monitor};
+use line_text::{append_field, end_line};
 use live_commit::CommitFault;
 use serde::{Described, Serialize, Serializer};
 use std::alloc::{AllocError, Global};
 
 // Appends the line of a show.
-#[tactic(auto, using(crate::proofs::Appending::appends))]
+#[tactic(auto, using(line_text::proofs::Lemmas::appends))]
 pub(crate) fn print_show_line(
     alloc: Global,
     out: &mut Vec<u8>,
@@ -45,7 +46,7 @@ pub(crate) fn print_show_line(
 }
 
 // Appends the line of the last aggregation.
-#[tactic(auto, using(crate::proofs::Appending::appends))]
+#[tactic(auto, using(line_text::proofs::Lemmas::appends))]
 pub(crate) fn print_aggregate_line(
     alloc: Global,
     out: &mut Vec<u8>,
@@ -59,13 +60,13 @@ pub(crate) fn print_aggregate_line(
     print_served(alloc, out, monitor)?;
     out.extend_from_slice(b",\"kind\":\"aggregate\",\"rows\":")?;
     print_row_list(out, &report.rows, monitor.space())?;
-    print_field(out, b",\"threshold\":", u64::from(report.threshold))?;
+    append_field(out, b",\"threshold\":", u64::from(report.threshold))?;
     print_last_count(out, b",\"tick\":", report.tick)
 }
 
 // Appends the beginning of the line of the last aggregation: what the slots that it served were applied
 // to, and what was chosen for them.
-#[tactic(auto, using(crate::proofs::Appending::appends))]
+#[tactic(auto, using(line_text::proofs::Lemmas::appends))]
 fn print_served(alloc: Global, out: &mut Vec<u8>, monitor: &Monitor) -> Result<(), AllocError>
     ensures ok { OnOk result (out.new.items ≡ out.old.items ++ served_part (printed_monitor monitor.now)) }
     ensures kept { KeepsFront out.old.items out.new.items }
@@ -78,13 +79,13 @@ fn print_served(alloc: Global, out: &mut Vec<u8>, monitor: &Monitor) -> Result<(
 }
 
 // Appends the last member of an object, a number, and the ends of the object and the line.
-#[tactic(auto, using(crate::proofs::Appending::appends))]
+#[tactic(auto, using(line_text::proofs::Lemmas::appends))]
 fn print_last_count(out: &mut Vec<u8>, name: &[u8], count: u64) -> Result<(), AllocError>
     ensures ok { OnOk result
         (out.new.items ≡ out.old.items ++ (name.now ++ (decimal count ++ codes "}\n"))) }
     ensures kept { KeepsFront out.old.items out.new.items }
 {
-    print_field(out, name, count)?;
+    append_field(out, name, count)?;
     out.extend_from_slice(b"}\n")
 }
 
@@ -119,7 +120,7 @@ pub(crate) fn print_end_line(
 }
 
 // Appends a line and its end.
-#[tactic(auto, using(crate::proofs::Appending::appends))]
+#[tactic(auto, using(line_text::proofs::Lemmas::appends))]
 fn append_line(out: &mut Vec<u8>, line: &[u8]) -> Result<(), AllocError>
     ensures ok { OnOk result (out.new.items ≡ out.old.items ++ (line.now ++ codes "\n")) }
     ensures kept { KeepsFront out.old.items out.new.items }

@@ -3,7 +3,7 @@
 ghost use Rattle.std.specs.Prelude.{◌≡◌, ◌+◌, ◌≤◌, ◌++◌, length, take, drop, codes, OnOk};
 ghost use Rattle.std.specs.Fmt.{decimal};
 ghost use Rattle.line_text.specs.Address.{spelled_address};
-ghost use Rattle.snapshot_print.specs.Kept.{KeepsFront};
+ghost use Rattle.line_text.specs.Appended.{KeepsFront};
 
 use crate::fields::{short_field_before, text_before};
 use crate::row_text::address_field_before;
@@ -11,7 +11,7 @@ use std::alloc::AllocError;
 
 // Makes a list of the items from index `start` on, which each begin with a comma: the first comma becomes
 // the bracket that opens the list.
-#[tactic(auto, using(crate::proofs::Appending::appends))]
+#[tactic(auto, using(line_text::proofs::Lemmas::appends))]
 pub(crate) fn close_list(out: &mut Vec<u8>, start: usize) -> Result<(), AllocError>
     requires { start ≤ length out.old.items }
     ensures ok { OnOk result (out.new.items ≡ take start out.old.items
@@ -23,7 +23,7 @@ pub(crate) fn close_list(out: &mut Vec<u8>, start: usize) -> Result<(), AllocErr
 }
 
 // Puts the bracket that opens a list where its first comma is, or at the end of a list without items.
-#[tactic(auto, using(crate::proofs::Appending::appends))]
+#[tactic(auto, using(line_text::proofs::Lemmas::appends))]
 fn open_list(out: &mut Vec<u8>, start: usize) -> Result<(), AllocError>
     requires { start ≤ length out.old.items }
     ensures ok { OnOk result (out.new.items ≡ take start out.old.items

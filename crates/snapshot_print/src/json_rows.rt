@@ -4,7 +4,7 @@ ghost use Rattle.std.specs.List.{AllByRecursion};
 ghost use Rattle.serde_json.specs.Written.{compact_text};
 ghost use Rattle.damon_types.specs.Space.{pages_of};
 ghost use Rattle.snapshot_print.specs.Json.{row_json, rows_json};
-ghost use Rattle.snapshot_print.specs.Kept.{KeepsFront};
+ghost use Rattle.line_text.specs.Appended.{KeepsFront};
 ghost use Rattle.snapshot_print.specs.Pieces.{piece};
 
 use crate::fields::short_field_before;
@@ -18,7 +18,7 @@ use region_list::RowBuf;
 use std::alloc::AllocError;
 
 // Appends the list of rows. Each row has a page, and its pages are pages of the space.
-#[tactic(auto, using(crate::proofs::Appending::appends))]
+#[tactic(auto, using(line_text::proofs::Lemmas::appends))]
 pub(crate) fn print_row_list(
     out: &mut Vec<u8>,
     rows: &RowBuf,

@@ -4,7 +4,7 @@ ghost use Rattle.std.specs.List.{AllByRecursion};
 ghost use Rattle.serde_json.specs.Written.{compact_text};
 ghost use Rattle.damon_types.specs.Space.{pages_of};
 ghost use Rattle.snapshot_print.specs.Json.{applied_json, list_of};
-ghost use Rattle.snapshot_print.specs.Kept.{KeepsFront};
+ghost use Rattle.line_text.specs.Appended.{KeepsFront};
 ghost use Rattle.snapshot_print.specs.Pieces.{piece, run_prefix, run_parts, run_rest};
 
 use crate::choice_text::{action_in, count_runs};
@@ -22,7 +22,7 @@ const PREFIX_ROOM: usize = 32;
 
 // Appends the list of runs, each with the action of its slot. Each run has a page, and its pages are pages
 // of the space.
-#[tactic(auto, using(crate::proofs::Appending::appends))]
+#[tactic(auto, using(line_text::proofs::Lemmas::appends))]
 pub(crate) fn print_run_list(
     out: &mut Vec<u8>,
     runs: &[AppliedRun],

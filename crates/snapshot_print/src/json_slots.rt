@@ -8,7 +8,7 @@ ghost use Rattle.serde_json.specs.View.{items_of};
 ghost use Rattle.serde_json.specs.Written.{compact_text};
 ghost use Rattle.scheme_engine.specs.Slots.{empty_slot, slot_view};
 ghost use Rattle.snapshot_print.specs.Json.{list_of, set_slot_json, set_slots_json, slot_json};
-ghost use Rattle.snapshot_print.specs.Kept.{KeepsFront};
+ghost use Rattle.line_text.specs.Appended.{KeepsFront};
 
 use crate::json_parts::{send_bool, send_count, send_text};
 use damon_types::MAX_SLOT;
@@ -17,7 +17,7 @@ use serde::{Described, Serialize, Serializer};
 use std::alloc::{AllocError, Global};
 
 // Appends the list of the set slots, in slot order.
-#[tactic(auto, using(crate::proofs::Appending::appends))]
+#[tactic(auto, using(line_text::proofs::Lemmas::appends))]
 pub(crate) fn print_slot_list(
     alloc: Global,
     out: &mut Vec<u8>,

@@ -4,7 +4,7 @@ ghost use Rattle.damon_types.specs.Space.{pages_of};
 ghost use Rattle.line_text.specs.Address.{spelled_address};
 ghost use Rattle.snapshot_print.specs.Fields.{pages_part};
 ghost use Rattle.snapshot_print.specs.Lines.{count_part, place_part, row_line, row_lines};
-ghost use Rattle.snapshot_print.specs.Kept.{KeepsFront};
+ghost use Rattle.line_text.specs.Appended.{KeepsFront};
 
 use crate::fields::{field_before, text_before};
 use crate::line_groups::LineOf;

@@ -2,15 +2,16 @@ ghost use Rattle.std.specs.Prelude.{◌≡◌, ◌++◌, OnErr, OnOk};
 ghost use Rattle.snapshot_print.specs.Fields.{phase_name};
 ghost use Rattle.snapshot_print.specs.Forms.{writing_of};
 ghost use Rattle.snapshot_print.specs.Lines.{as_text, show_line};
-ghost use Rattle.snapshot_print.specs.Kept.{KeepsFront};
+ghost use Rattle.line_text.specs.Appended.{KeepsFront};
 ghost use Rattle.snapshot_print.specs.Printed.{printed_monitor};
 
 use crate::Form;
-use crate::fields::{end_line, print_field, print_word, whole_or_nothing};
+use crate::fields::print_word;
 use crate::json_lines::{print_end_line, print_show_line};
 use crate::row_text::print_rows;
 use crate::slot_text::print_slots;
 use damon_core::Monitor;
+use line_text::{append_field, end_line, whole_or_nothing};
 use live_commit::Phase;
 use std::alloc::{AllocError, Global};
 
@@ -57,7 +58,7 @@ pub fn print_end(
 }
 
 // Appends the first line of a show, the lines of the rows, and those of the set slots.
-#[tactic(auto, using(crate::proofs::Appending::appends))]
+#[tactic(auto, using(line_text::proofs::Lemmas::appends))]
 fn print_state(out: &mut Vec<u8>, monitor: &Monitor) -> Result<(), AllocError>
     ensures ok { OnOk result (out.new.items ≡ out.old.items
         ++ as_text.show (printed_monitor monitor.now)) }
@@ -69,29 +70,29 @@ fn print_state(out: &mut Vec<u8>, monitor: &Monitor) -> Result<(), AllocError>
 }
 
 // Appends the first line of a show.
-#[tactic(auto, using(crate::proofs::Appending::appends))]
+#[tactic(auto, using(line_text::proofs::Lemmas::appends))]
 fn print_first_line(out: &mut Vec<u8>, monitor: &Monitor) -> Result<(), AllocError>
     ensures ok { OnOk result (out.new.items ≡ out.old.items ++ show_line monitor.now.core) }
     ensures kept { KeepsFront out.old.items out.new.items }
 {
     let rows = monitor.rows().len();
-    print_field(out, b"show tick=", monitor.ticks())?;
+    append_field(out, b"show tick=", monitor.ticks())?;
     print_word(out, b" phase=", phase_name(monitor.phase()).as_bytes())?;
-    print_field(out, b" rows=", u64::from(rows))?;
+    append_field(out, b" rows=", u64::from(rows))?;
     end_line(out)
 }
 
 // Appends the last line of a report.
-#[tactic(auto, using(crate::proofs::Appending::appends))]
+#[tactic(auto, using(line_text::proofs::Lemmas::appends))]
 fn print_totals(out: &mut Vec<u8>, monitor: &Monitor) -> Result<(), AllocError>
     ensures ok { OnOk result (out.new.items ≡ out.old.items
         ++ as_text.end (printed_monitor monitor.now)) }
     ensures kept { KeepsFront out.old.items out.new.items }
 {
-    print_field(out, b"end ticks=", monitor.ticks())?;
-    print_field(out, b" rows=", u64::from(monitor.rows().len()))?;
-    print_field(out, b" checks=", monitor.checks())?;
-    print_field(out, b" hits=", monitor.hits())?;
+    append_field(out, b"end ticks=", monitor.ticks())?;
+    append_field(out, b" rows=", u64::from(monitor.rows().len()))?;
+    append_field(out, b" checks=", monitor.checks())?;
+    append_field(out, b" hits=", monitor.hits())?;
     end_line(out)
 }
 

@@ -2,7 +2,7 @@
 ghost use Rattle.std.specs.Prelude.{◌≡◌, ◌+◌, ◌≤◌, ◌++◌, length, drop, slice_index_or, OnOk};
 ghost use Rattle.scheme_engine.specs.Slots.{empty_slot};
 ghost use Rattle.snapshot_print.specs.Schemes.{scheme_line, scheme_part, shown_slot, shown_slots, statistics_part};
-ghost use Rattle.snapshot_print.specs.Kept.{KeepsFront};
+ghost use Rattle.line_text.specs.Appended.{KeepsFront};
 
 use crate::fields::{field_before, text_before, word_before, yes_or_no};
 use damon_types::MAX_SLOT;

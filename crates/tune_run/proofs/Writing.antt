@@ -1,13 +1,13 @@
 -- The lines of slots, one after another.
-use Rattle.std.proofs.Common.{length, take, subst, ◌≡◌, ℕ, zero, suc, ◌+◌, List, [], ◌∷◌, ◌++◌, ap, sym, ◌∙◌, append-nil, append_assoc, arith}
+use Rattle.std.proofs.Common.{length, take, subst, ◌≡◌, ℕ, zero, suc, ◌+◌, List, [], ◌∷◌, ◌++◌, ap, sym, ◌∙◌, append-nil, arith}
 use Rattle.std.specs.Prelude.{Ok, Err, OnErr, OnOk, Result}
 use Rattle.std.specs.List.{flat_map, range_with_len}
-use Rattle.std.proofs.Math.Seq.{take-append_seam}
 use Rattle.std.proofs.lemmas.Grind.{flat_map-append}
 use Rattle.std.proofs.lemmas.List.Concat.{flat_map-cons}
 use Rattle.quota_goal.specs.Tuned.{TunerView}
 use Rattle.tune_run.specs.Callbacks.{slot_text}
-use Rattle.tune_run.specs.Kept.{KeepsFront}
+use Rattle.line_text.specs.Appended.{KeepsFront}
+use Rattle.line_text.proofs.Lemmas.{keeps-append, keeps_through}
 
 range_more : (from n : ℕ) → range_with_len from (n + 1) ≡ range_with_len from n ++ (from + n) ∷ []
 range_more from zero = let here : from ≡ from + 0 = omega arith in ap (λ k. k ∷ []) here
@@ -30,8 +30,7 @@ lines_more t i =
     ∙ ap (λ xs. lines ++ xs) (flat_map-cons text i [] ∙ append-nil (text i))
 
 pub keeps_on : (old now then lines : List ℕ) → now ≡ old ++ lines → KeepsFront now then → KeepsFront old then
-keeps_on old now then lines is keeps =
-    (lines ++ keeps.0, keeps.1 ∙ ap (λ text. text ++ keeps.0) is ∙ append_assoc old lines keeps.0)
+keeps_on old now then lines is keeps = keeps_through old now then (subst (KeepsFront old) (sym is) (keeps-append old lines)) keeps
 
 -- a text of which what was appended is removed where there is an error
 pub whole_ok : {T E : Type 0} (P : List ℕ → Type 0) (made result : Result T E) (y z : List ℕ) → result ≡ made → OnOk made (P y) → OnOk result (z ≡ y) → OnOk result (P z)
@@ -43,4 +42,4 @@ pub whole_err : {T E : Type 0} (made result : Result T E) (n : ℕ) (x y z : Lis
 whole_err made (Ok v) n x y z all same kept is = is
 whole_err made (Err e) n x y z all same kept is =
     let front : KeepsFront x y = subst (λ r. OnErr r (KeepsFront x y)) (sym same) kept in
-    is ∙ ap (λ i. take i y) all ∙ ap (take (length x)) front.1 ∙ take-append_seam x front.0
+    is ∙ ap (λ i. take i y) all ∙ front.front

@@ -56,7 +56,3 @@ put_alone goals tops s observe alone = refl
 put_alone goals tops s (aggregate words) alone = absurd alone
 put_alone goals tops s (commit parts) alone = absurd alone
 put_alone goals tops s show alone = refl
-
--- a text keeps what it began with
-abbrev pub KeepsFront : List ℕ → List ℕ → Type 0
-KeepsFront before now = (added : List ℕ) × (now ≡ before ++ added)

@@ -1,12 +1,12 @@
 // The lines of the slots with goals, after the last line of a report.
-ghost use Rattle.std.specs.Prelude.{◌≡◌, ◌≤◌, ◌++◌, take, OnErr, OnOk};
+ghost use Rattle.std.specs.Prelude.{◌≡◌, ◌≤◌, ◌++◌, OnErr, OnOk};
 ghost use Rattle.snapshot_print.specs.Fields.{number_or_none};
-ghost use Rattle.tune_run.specs.Kept.{KeepsFront};
+ghost use Rattle.line_text.specs.Appended.{KeepsFront};
 ghost use Rattle.damon_types.specs.declared.scheme.TheConstants.{MAX_SLOT};
 ghost use Rattle.tune_run.specs.Callbacks.{has_goal, slot_text, tuned_text};
 
 use damon_types::MAX_SLOT;
-use line_text::write_number;
+use line_text::{append_field, end_line, whole_or_nothing, write_number};
 use quota_goal::Tuner;
 use std::alloc::AllocError;
 
@@ -23,22 +23,6 @@ pub fn append_tuned(out: &mut Vec<u8>, tuner: &Tuner) -> Result<(), AllocError>
     whole_or_nothing(out, before, appended)
 }
 
-// Removes what was appended after the first `before` bytes where memory ran out.
-fn whole_or_nothing(
-    out: &mut Vec<u8>,
-    before: usize,
-    appended: Result<(), AllocError>,
-) -> Result<(), AllocError>
-    ensures same { result ≡ appended }
-    ensures ok { OnOk result (out.new.items ≡ out.old.items) }
-    ensures err { OnErr result (out.new.items ≡ take before out.old.items) }
-{
-    if appended.is_err() {
-        out.truncate(before);
-    }
-    appended
-}
-
 // The same, but that where memory runs out, some of the lines may have been appended.
 fn append_slots(out: &mut Vec<u8>, tuner: &Tuner) -> Result<(), AllocError>
     ensures ok { OnOk result (out.new.items ≡ out.old.items ++ tuned_text tuner.now) }
@@ -51,25 +35,26 @@ fn append_slots(out: &mut Vec<u8>, tuner: &Tuner) -> Result<(), AllocError>
 }
 
 // Appends the line of a slot, if it has a goal.
+#[tactic(auto, using(line_text::proofs::Lemmas::appends))]
 fn append_slot(out: &mut Vec<u8>, tuner: &Tuner, slot: u8) -> Result<(), AllocError>
     requires { slot ≤ MAX_SLOT }
     ensures ok { OnOk result (out.new.items ≡ out.old.items ++ slot_text tuner.now slot) }
-    ensures err { OnErr result (KeepsFront out.old.items out.new.items) }
+    ensures kept { KeepsFront out.old.items out.new.items }
 {
     if !has_goal(tuner, slot) {
         return Ok(());
     }
-    out.extend_from_slice(b"tuned ")?;
-    write_number(out, u64::from(slot))?;
+    append_field(out, b"tuned ", u64::from(slot))?;
     out.extend_from_slice(b" bytes=")?;
     append_bytes(out, tuner.bytes(slot))?;
-    out.extend_from_slice(b"\n")
+    end_line(out)
 }
 
 // Appends the bytes of a slot.
+#[tactic(auto, using(line_text::proofs::Lemmas::appends))]
 fn append_bytes(out: &mut Vec<u8>, bytes: Option<u64>) -> Result<(), AllocError>
     ensures ok { OnOk result (out.new.items ≡ out.old.items ++ number_or_none bytes) }
-    ensures err { OnErr result (out.new.items ≡ out.old.items) }
+    ensures kept { KeepsFront out.old.items out.new.items }
 {
     match bytes {
         Some(bytes) => write_number(out, bytes),

@@ -1,11 +1,11 @@
 ghost use Rattle.std.specs.Prelude.{◌≡◌, OnErr, OnOk};
-ghost use Rattle.script_run.specs.Kept.{KeepsFront};
+ghost use Rattle.line_text.specs.Appended.{KeepsFront};
 ghost use Rattle.script_run.specs.Player.{IsOverWith, WritesLastWith};
 
 use super::Player;
 use crate::callbacks::Callbacks;
-use crate::together::whole_or_nothing;
 use damon_world::Jump;
+use line_text::whole_or_nothing;
 use snapshot_print::print_end;
 use std::alloc::{AllocError, Global};
 

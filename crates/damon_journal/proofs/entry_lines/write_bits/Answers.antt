@@ -2,7 +2,7 @@ use Rattle.std.proofs.Common.{◌≡◌, ℕ, ◌++◌, drop, length, map, take,
 use Rattle.std.proofs.lemmas.List.{length-take-le}
 use Rattle.damon_journal.specs.Results.{loads_in}
 use Rattle.damon_journal.specs.Spelled.{bit_digit}
-use Rattle.damon_journal.proofs.Appending.{keeps_through}
+use Rattle.line_text.proofs.Lemmas.{keeps_through}
 use Rattle.damon_journal.proofs.LoadRuns.{digits_more}
 use Rattle.damon_journal.proofs.entry_lines.write_bits.Goals as goal
 

@@ -2,7 +2,7 @@ use Rattle.std.proofs.Common.{◌<◌, ◌+◌, ◌++◌, ◌∷◌, [], length,
 use Rattle.std.proofs.lemmas.List.{length-drop}
 use Rattle.line_text.specs.Appended.{KeepsFront}
 use Rattle.damon_journal.specs.Spelled.{bit_digit}
-use Rattle.damon_journal.proofs.Appending.{keeps-append, keeps_through}
+use Rattle.line_text.proofs.Lemmas.{keeps-append, keeps_through}
 use Rattle.damon_journal.proofs.LoadRuns.{digit_more}
 use Rattle.damon_journal.proofs.entry_lines.write_digits.Goals as goal
 

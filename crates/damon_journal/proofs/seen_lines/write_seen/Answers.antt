@@ -2,7 +2,7 @@ use Rattle.std.proofs.Common.{◌∙◌, ◌-◌, ◌++◌, drop, sym, ap, subst
 use Rattle.std.proofs.lemmas.List.{length-drop, take_all}
 use Rattle.line_text.specs.Appended.{KeepsFront}
 use Rattle.damon_journal.specs.Spelled.{spelled_seen}
-use Rattle.damon_journal.proofs.Appending.{keeps-append, keeps_through}
+use Rattle.line_text.proofs.Lemmas.{keeps-append, keeps_through}
 use Rattle.damon_journal.proofs.SeenGroups.{group_passed}
 use Rattle.damon_journal.proofs.seen_lines.write_seen.Goals as goal
 

@@ -7,7 +7,7 @@ use Rattle.damon_journal.specs.Lawful.{receipts_said}
 use Rattle.damon_journal.specs.Replay.{begun, replay}
 use Rattle.damon_journal.specs.Text.{last_text, seen_lines}
 use Rattle.damon_journal.specs.TextParts.{entries_left}
-use Rattle.damon_journal.proofs.Appending.{keeps_through}
+use Rattle.line_text.proofs.Lemmas.{keeps_through}
 use Rattle.damon_journal.proofs.EntriesText.{next_left}
 use Rattle.damon_journal.proofs.LeftText.{entries_done, front_passed, lines_passed, without_none}
 use Rattle.damon_journal.proofs.text_parts.write_entries.Goals as goal

@@ -1,7 +1,7 @@
 use Rattle.std.proofs.Common.{◌≡◌, ◌≤◌, ◌+◌, ◌++◌, drop}
 use Rattle.std.specs.List.{AllByRecursion}
 use Rattle.damon_types.specs.Space.{pages_of}
-use Rattle.snapshot_print.specs.Kept.{KeepsFront}
+use Rattle.line_text.specs.Appended.{KeepsFront}
 use Rattle.snapshot_print.specs.Schemes.{choices_text}
 use Rattle.snapshot_print.proofs.choice_text.print_choices.Given as goal
 

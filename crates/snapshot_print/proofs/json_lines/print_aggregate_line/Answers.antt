@@ -1,4 +1,4 @@
-use Rattle.std.proofs.Common.{◌≡◌, ℕ, List, ◌++◌, ◌∙◌, ap, ap₂, codes, decimal, subst}
+use Rattle.std.proofs.Common.{◌≡◌, ℕ, List, ◌++◌, ◌∙◌, sym, ap, ap₂, append_assoc, codes, decimal, subst}
 use Rattle.std.specs.Prelude.{OnOk}
 use Rattle.damon_types.specs.declared.row.Row.{Row}
 use Rattle.damon_types.specs.declared.space.Target.{Target}
@@ -15,9 +15,11 @@ returns-clause-ok c =
     let rows : c.print_row_list.new.out.items ≡ c.extend_from_slice.new.self.items ++ compact_text (rows_json m.core.space m.core.report.rows) =
     c.in_ok-print_row_list.ensures.ok
     ∙ ap₂ (λ (s : List Target) (rs : List Row). c.extend_from_slice.new.self.items ++ compact_text (rows_json s rs)) c.space.ensures (ap (λ v. v.rows) c.report-report.ensures.report) in
-    let threshold : c.print_field.new.out.items ≡ (c.print_row_list.new.out.items ++ codes ",\"threshold\":") ++ decimal m.core.report.threshold =
-    c.in_ok-print_field.ensures.ok ∙ ap (λ (n : ℕ). (c.print_row_list.new.out.items ++ codes ",\"threshold\":") ++ decimal n) (c.from.ensures ∙ ap (λ v. v.threshold) c.report-report.ensures.report) in
-    let joined : c.print_field.new.out.items ++ (codes ",\"tick\":" ++ (decimal c.report-report.result.now.tick ++ codes "}\n")) ≡ old ++ as_json.aggregate (printed_monitor m) =
-    ap (λ (n : ℕ). c.print_field.new.out.items ++ (codes ",\"tick\":" ++ (decimal n ++ codes "}\n"))) (ap (λ v. v.tick) c.report-report.ensures.report)
+    let threshold : c.append_field.new.out.items ≡ (c.print_row_list.new.out.items ++ codes ",\"threshold\":") ++ decimal m.core.report.threshold =
+    c.in_ok-append_field.ensures.ok
+    ∙ ap (λ (n : ℕ). c.print_row_list.new.out.items ++ (codes ",\"threshold\":" ++ decimal n)) (c.from.ensures ∙ ap (λ v. v.threshold) c.report-report.ensures.report)
+    ∙ sym (append_assoc c.print_row_list.new.out.items (codes ",\"threshold\":") (decimal m.core.report.threshold)) in
+    let joined : c.append_field.new.out.items ++ (codes ",\"tick\":" ++ (decimal c.report-report.result.now.tick ++ codes "}\n")) ≡ old ++ as_json.aggregate (printed_monitor m) =
+    ap (λ (n : ℕ). c.append_field.new.out.items ++ (codes ",\"tick\":" ++ (decimal n ++ codes "}\n"))) (ap (λ v. v.tick) c.report-report.ensures.report)
     ∙ rw (threshold, rows, c.in_ok-extend_from_slice.ensures.items, c.in_ok-print_served.ensures.ok) (aggregate_joined old (printed_monitor m)) in
     subst (λ text. OnOk c.print_last_count.result (c.print_last_count.new.out.items ≡ text)) joined c.print_last_count.ensures.ok

@@ -6,10 +6,10 @@ use Rattle.scheme_engine.specs.declared.applied.SlotChoice.{SlotChoice}
 use Rattle.scheme_engine.specs.Slots.{SlotValue}
 use Rattle.serde_json.specs.Written.{compact_text}
 use Rattle.snapshot_print.specs.Json.{applied_json, choice_json, list_of}
-use Rattle.snapshot_print.specs.Kept.{KeepsFront}
+use Rattle.line_text.specs.Appended.{KeepsFront}
 use Rattle.snapshot_print.specs.Pieces.{served_part}
 use Rattle.snapshot_print.specs.Printed.{printed_monitor}
-use Rattle.snapshot_print.proofs.Appending.{keeps-append, keeps_through}
+use Rattle.line_text.proofs.Lemmas.{keeps-append, keeps_through}
 use Rattle.snapshot_print.proofs.json_lines.print_served.Goals as goal
 
 joined : (old a b c d : List ℕ) → (((old ++ a) ++ b) ++ c) ++ d ≡ old ++ (a ++ (b ++ (c ++ d)))

@@ -3,7 +3,7 @@ use Rattle.std.specs.Prelude.{flat_map}
 use Rattle.std.specs.List.{AllByRecursion}
 use Rattle.damon_types.specs.Space.{pages_of}
 use Rattle.snapshot_print.specs.Json.{applied_json}
-use Rattle.snapshot_print.specs.Kept.{KeepsFront}
+use Rattle.line_text.specs.Appended.{KeepsFront}
 use Rattle.snapshot_print.specs.Pieces.{piece}
 use Rattle.snapshot_print.proofs.json_runs.print_run_items.Given as goal
 

@@ -1,8 +1,8 @@
 use Rattle.std.proofs.Common.{◌≡◌, ◌+◌, ◌-◌, ◌≤◌, ◌++◌, List, ℕ, length, take, drop, ap, sym, subst, ◌∙◌, arith}
 use Rattle.std.specs.List.{flat_map}
 use Rattle.std.proofs.lemmas.List.{length-drop, length-take-le, take_all}
-use Rattle.snapshot_print.specs.Kept.{KeepsFront}
-use Rattle.snapshot_print.proofs.Appending.{keeps-append, keeps_through}
+use Rattle.line_text.specs.Appended.{KeepsFront}
+use Rattle.line_text.proofs.Lemmas.{keeps-append, keeps_through}
 use Rattle.snapshot_print.proofs.Rows.{next_lines}
 use Rattle.snapshot_print.proofs.row_groups.print_rows_from.Goals as goal
 

@@ -1,6 +1,6 @@
 use Rattle.std.proofs.Common.{◌≡◌, ◌≤◌, ◌++◌, ◌-◌, drop, length}
 use Rattle.std.specs.List.{flat_map}
-use Rattle.snapshot_print.specs.Kept.{KeepsFront}
+use Rattle.line_text.specs.Appended.{KeepsFront}
 use Rattle.snapshot_print.proofs.row_groups.print_rows_from.Given as goal
 
 abbrev pub invariant-groups : goal.invariant-groups

@@ -10,7 +10,7 @@ use Rattle.tune_run.proofs.lines.append_slots.Goals as goal
 pub returns-in_err-append_slot-clause-err : goal.returns-in_err-append_slot-clause-err
 returns-in_err-append_slot-clause-err c =
     let p = err_from_is_err_and c.from_residual.result c.from_residual.ensures.1 in
-    rw p.1 (keeps_on c.args.out.now.items c.slots.out.items c.append_slot.new.out.items _ c.slots.invariant c.in_err-append_slot.ensures.err)
+    rw p.1 (keeps_on c.args.out.now.items c.slots.out.items c.append_slot.new.out.items _ c.slots.invariant c.append_slot.ensures.kept)
 
 pub slots-preserved : goal.slots-preserved
 slots-preserved c =
