@@ -38,7 +38,7 @@ pub struct Machine<'a, N: Named> {
     monitor: Monitor,
     seat: MonitorSeat,
     journal: Journal,
-    words: Lcg64Xsh32,
+    random: Lcg64Xsh32,
     drawn: u64,
     passes: u32,
     // The random words of an aggregation; the room for them is taken once.
@@ -58,7 +58,7 @@ impl<'a, N: Named> Model for Machine<'a, N> {
     ghost view = { λ m. m.journal.value };
 
     ghost invariant = { λ m. IsMachine N.script N.table N.seats m.script.now m.monitor m.seat
-        m.journal m.words m.drawn m.passes (vec_capacity m.buffer) (length m.places.items) };
+        m.journal m.random m.drawn m.passes (vec_capacity m.buffer) (length m.places.items) };
 }
 
 impl<'a, N: Named> Machine<'a, N> {
@@ -81,13 +81,13 @@ impl<'a, N: Named> Machine<'a, N> {
         let journal = Journal::new(alloc, script.passes, script.setup.cap, MAX_CALLS)?;
         let buffer = Vec::with_capacity(alloc, 2 * script.setup.cap as usize)?;
         let places = vec![in alloc; false; script.setup.cap as usize]?;
-        let words = generator(script.seed);
+        let random = generator(script.seed);
         Ok(Machine {
             script,
             monitor,
             seat,
             journal,
-            words,
+            random,
             drawn: 0,
             passes: 0,
             buffer,
@@ -142,7 +142,7 @@ impl<'a, N: Named> Machine<'a, N> {
         let pass = self.monitor.ticks() + 1;
         let at = self.drawn;
         let rows = self.monitor.rows().len();
-        self.monitor.prepare_from(&mut self.words);
+        self.monitor.prepare_from(&mut self.random);
         self.drawn += u64::from(rows);
         words.clear_each(&mut self.seat, self.monitor.picks().pages(), pass);
         self.monitor.cleared_next(rows);
@@ -160,8 +160,6 @@ impl<'a, N: Named> Machine<'a, N> {
         ensures made { passes_made self.new ≡ passes_made self.old }
     {
         journals_grow();
-        // For its clauses alone: there are at most `cap` rows.
-        let _rows = self.monitor.rows().len();
         let pass = self.monitor.ticks() + 1;
         load_all(words, &mut self.seat, &mut self.monitor, &mut self.places);
         self.journal.check(pass, self.monitor.picks());
@@ -193,7 +191,7 @@ impl<'a, N: Named> Machine<'a, N> {
         let tick = self.monitor.ticks();
         let at = self.drawn;
         let max = self.monitor.attrs().max;
-        draw_words(&mut self.words, 2 * max as usize, &mut self.buffer);
+        draw_words(&mut self.random, 2 * max as usize, &mut self.buffer);
         self.drawn += 2 * u64::from(max);
         self.monitor.aggregate(&self.buffer);
         self.journal.aggregate(tick, at);
@@ -244,7 +242,7 @@ impl<'a, N: Named> Machine<'a, N> {
             monitor,
             seat,
             journal,
-            words: _,
+            random: _,
             drawn: _,
             passes: _,
             buffer: _,
