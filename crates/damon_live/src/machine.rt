@@ -33,7 +33,7 @@ use std::marker::{Model, PhantomData};
 /// The monitor of a live run with its journal and its seat. In contracts it is what the journal says: all
 /// else is what that replays to.
 #[derive(Drop)]
-pub struct Machine<'a, N: Named> {
+pub(crate) struct Machine<'a, N: Named> {
     script: &'a LiveScript,
     monitor: Monitor,
     seat: MonitorSeat,
@@ -63,7 +63,7 @@ impl<'a, N: Named> Model for Machine<'a, N> {
 
 impl<'a, N: Named> Machine<'a, N> {
     /// A machine before the first pass. Takes memory; no other call does.
-    pub fn new(
+    pub(crate) fn new(
         alloc: Global,
         script: &'a LiveScript,
         seat: MonitorSeat,
@@ -97,28 +97,28 @@ impl<'a, N: Named> Machine<'a, N> {
     }
 
     /// Where the monitor is.
-    pub fn phase(&self) -> Phase
+    pub(crate) fn phase(&self) -> Phase
         ensures { result ≡ (replay N.script self.now).state.core.phase }
     {
         self.monitor.phase()
     }
 
     /// The passes that were prepared.
-    pub fn passes(&self) -> u32
+    pub(crate) fn passes(&self) -> u32
         ensures { result ≡ passes_made self.now }
     {
         self.passes
     }
 
     /// The passes that the script asks for.
-    pub fn limit(&self) -> u32
+    pub(crate) fn limit(&self) -> u32
         ensures { result ≡ N.script.passes }
     {
         self.script.passes
     }
 
     /// How many calls of a controller are in the script.
-    pub fn call_limit(&self, controller: u32) -> u32
+    pub(crate) fn call_limit(&self, controller: u32) -> u32
         ensures { result ≡ length (slice_index_or N.script.controllers controller []) }
     {
         let controllers = &self.script.controllers;
@@ -130,7 +130,7 @@ impl<'a, N: Named> Machine<'a, N> {
     }
 
     /// Prepares a pass and clears its picks. The phase is Idle, and not all passes were made.
-    pub fn prepare(&mut self, words: &PageWords)
+    pub(crate) fn prepare(&mut self, words: &PageWords)
         requires table { words.now ≡ N.table }
         requires idle { (replay N.script self.old).state.core.phase ≡ Idle }
         requires left { passes_made self.old < N.script.passes }
@@ -151,7 +151,7 @@ impl<'a, N: Named> Machine<'a, N> {
     }
 
     /// Loads the picks and ends the pass. The phase is Armed.
-    pub fn check(&mut self, words: &PageWords)
+    pub(crate) fn check(&mut self, words: &PageWords)
         requires table { words.now ≡ N.table }
         requires armed { (replay N.script self.old).state.core.phase ≡ Armed }
         ensures entry { (results : List Bool) × (self.new
@@ -167,7 +167,7 @@ impl<'a, N: Named> Machine<'a, N> {
     }
 
     /// Ends a void pass. The phase is Void.
-    pub fn void(&mut self)
+    pub(crate) fn void(&mut self)
         requires { (replay N.script self.old).state.core.phase ≡ VoidPhase }
         ensures entry { self.new
             ≡ with_one (Void ((replay N.script self.old).state.core.ticks + 1)) self.old }
@@ -181,7 +181,7 @@ impl<'a, N: Named> Machine<'a, N> {
     }
 
     /// Carries out the aggregation that is due.
-    pub fn aggregate(&mut self)
+    pub(crate) fn aggregate(&mut self)
         requires { (replay N.script self.old).state.core.phase ≡ Due }
         ensures entry { self.new ≡ with_one (aggregate_after (replay N.script self.old)) self.old }
         ensures idle { (replay N.script self.new).state.core.phase ≡ Idle }
@@ -198,7 +198,7 @@ impl<'a, N: Named> Machine<'a, N> {
     }
 
     /// Carries out call `index` of a controller. No aggregation is due, and not all calls were made.
-    pub fn call(&mut self, controller: u32, index: u32) -> Kept1
+    pub(crate) fn call(&mut self, controller: u32, index: u32) -> Kept1
         requires free { IsFree (replay N.script self.old).state.core.phase }
         requires call { IsSome (call_at N.script controller index) }
         requires left { 0 < calls_left N.script self.old.entries }
@@ -219,14 +219,14 @@ impl<'a, N: Named> Machine<'a, N> {
     }
 
     /// The script.
-    pub fn script(&self) -> &'a LiveScript
+    pub(crate) fn script(&self) -> &'a LiveScript
         ensures { live_said result.now ≡ N.script }
     {
         self.script
     }
 
     /// Takes the machine apart.
-    pub fn into_parts(self) -> KeptParts
+    pub(crate) fn into_parts(self) -> KeptParts
         ensures journal { result.journal.value ≡ self.entry }
         ensures fits { IsJournalOf N.script self.entry }
         ensures sizes { result.journal.checked ≡ check_sizes N.script self.entry }

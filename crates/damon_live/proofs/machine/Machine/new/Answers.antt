@@ -31,5 +31,5 @@ invariant_of-result g c =
       pages = c.requires.pages;
       out = ap (λ (x : MonitorSeatView). x.out) c.requires.seat;
       run = new_run v g.N.Named.table m c.args.seat j c.generator-random.result g.N.Named.seats _ _ (subst CanOpen setup can) (subst (λ x. Stands m (opening x)) setup c.in_ok-monitor.ensures.opening) c.in_ok-journal.ensures c.requires.seat generator c.requires.pages (c.in_ok-monitor.ensures.core ∙ ap opening_core setup);
-      room = new_room v m.core j s.passes s.setup.cap _ _ (c.in_ok-monitor.ensures.core ∙ ap opening_core setup) c.in_ok-journal.ensures passes cap c.requires.limits.passes c.requires.limits.calls room places;
+      room = new_room v m.core j s.passes s.setup.cap _ _ (c.in_ok-monitor.ensures.core ∙ ap opening_core setup) c.in_ok-journal.ensures passes cap c.requires.limits.calls room places;
     }
