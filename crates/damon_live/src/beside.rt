@@ -5,6 +5,7 @@ ghost use Rattle.damon_live.specs.Work.{AreNumbered, IsShared};
 use crate::kept::Kept;
 use crate::named::Named;
 use crate::pace::{Pace, Spot};
+use crate::rest::end_begun;
 use crate::work::{Done, Job, Shared, work};
 use live_commit::Phase;
 use page_words::PageWords;
@@ -154,9 +155,5 @@ fn check_begun<N: Named>(rt: &impl Wait, lock: &Mutex<Kept<'_, N>>, words: &Page
     requires { words.now ≡ N.table }
 {
     let mut kept = lock.lock(rt);
-    match kept.phase() {
-        Phase::Armed => kept.check(words),
-        Phase::Void => kept.check(words),
-        _ => {}
-    }
+    end_begun(&mut kept, words);
 }
