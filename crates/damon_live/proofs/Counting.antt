@@ -1,7 +1,7 @@
 -- How often a source or a sink was called in several calls.
-use Rattle.std.proofs.Common.{◌≡◌, ◌≤◌, ℕ, Err, refl, ap, ◌∙◌, arith}
+use Rattle.std.proofs.Common.{◌≡◌, ◌≤◌, ℕ, Err, refl, ap, arith}
 use Rattle.std.specs.Prelude.{IsErrOf}
-use Rattle.damon_types.specs.Calls.{EndsAtFault, Rose, next_count}
+use Rattle.damon_types.specs.Calls.{EndsAtFault, Rose}
 use Rattle.damon_types.specs.declared.calls.Calls.{Calls}
 use Rattle.text_io.specs.declared.source.PumpFault.{PumpFault}
 use Rattle.text_io.specs.declared.source.PumpFault.TheVariants as pumps
@@ -25,23 +25,9 @@ EndsAtFault-not here there = EndsAtFault-as (λ q. absurd (there q)) (λ p. absu
 pub EndsAtFault-none : {P : Type 0} (c : Calls) → (P → ⊥) → EndsAtFault P c c
 EndsAtFault-none c not = record { one = λ p. absurd (not p); none = λ _. refl; late = λ _. refl }
 
--- calls of which none failed, and then more
-pub EndsAtFault-then : {P Q : Type 0} {a b c : Calls} → (P → ⊥) → EndsAtFault P a b → EndsAtFault Q b c → EndsAtFault Q a c
-EndsAtFault-then not first second =
-    let same = first.none not in
-    record {
-      one = λ q. second.one q ∙ ap next_count same;
-      none = λ other. second.none other ∙ same;
-      late = λ zero. second.late (same ∙ zero) ∙ first.late zero;
-    }
-
 -- a result that is an error of a kind is one that has that error
 pub EndsAtFault-error : {T E : Type 0} {x y : E} {a b : Calls} → EndsAtFault (IsErrOf {T = T} {E = E} (Err x) y) a b → EndsAtFault (x ≡ y) a b
 EndsAtFault-error {T} {E} {x} {y} = EndsAtFault-as (λ e. ap (λ z. Err z) e) (λ e. cc e)
-
--- where memory ran out no write failed
-pub no_fault_of_memory : {T : Type 0} → IsErrOf {T = T} {E = Status} (Err Memory) WriteFault → ⊥
-no_fault_of_memory e = cc e
 
 at_least : {n m : ℕ} → m ≡ n → n ≤ m
 at_least same = omega (arith, same)

@@ -3,7 +3,7 @@ use Rattle.std.proofs.Common.{◌≡◌, ◌⊎◌, inl, inr, ◌≤◌, ◌<◌
 use Rattle.std.proofs.lemmas.Bool.{lt-ltb, le-ltb}
 use Rattle.std.proofs.lemmas.Bool.Decides.{nat_tests}
 use Rattle.std.specs.Prelude.{nat_le}
-use Rattle.std.specs.Prelude.{IsSome, IfErr, IfSome, IsErrOf, OnOk}
+use Rattle.std.specs.Prelude.{◌≢◌, ◌↔◌, IsSome, IfErr, IfSome, IsErrOf, OnOk}
 use Rattle.std.specs.Io.KnownBytes.{Appends, Consumes, IsAtEnd}
 use Rattle.damon_types.specs.Calls.{EndsAtFault, Rose}
 use Rattle.text_io.specs.declared.input.InputFault.{InputFault}
@@ -22,11 +22,11 @@ use Rattle.run_status.specs.declared.status.Status.{Status}
 use Rattle.run_status.specs.declared.status.Status.TheVariants as statuses
 use Rattle.run_journal.specs.Replay.{JournalValue}
 use Rattle.journal_text.specs.Rules.{IsReadBack}
-use Rattle.run_status.specs.Status.{EndsRun, IsFailure, input_status, read_status, status_of}
+use Rattle.run_status.specs.Status.{EndsRun, IsFailure, IsRead, IsUnwritten, input_status, read_status, status_of}
 use Rattle.journal_text.specs.Text.{journal_text}
 use Rattle.damon_live.specs.declared.top.TheConstants.{MAX_RESULTS}
 use Rattle.damon_live.specs.Answers.{IsEnding}
-use Rattle.damon_live.specs.Ending.{Ending, TellsFault, TellsPasses, ended_early, most_results, status_of_input, status_of_spelled}
+use Rattle.damon_live.specs.Ending.{Ending, HasRun, TellsFault, TellsPasses, ended_early, most_results, status_of_input, status_of_spelled}
 use Rattle.damon_live.specs.Whole.{IsWholeRun}
 use Rattle.damon_live.proofs.Counting.{EndsAtFault-as, EndsAtFault-error, EndsAtFault-none, EndsAtFault-not, EndsAtFault-rose}
 use Rattle.damon_live.proofs.Known.{few_not_over, had_over, none_given, read_whole, untold}
@@ -81,6 +81,13 @@ not_asked limit source sink alone same left is = record {
 
 -- ---- no script was carried out
 
+-- a status that comes before a run, and is not that of other words
+record IsBeforeRun (status : Status) : Type 0 where
+  ran : HasRun status → ⊥
+  comes : (line : ℕ) → status ≢ statuses.Unlawful line
+  usage : status ≢ statuses.Usage
+  write : status ≢ statuses.WriteFault
+
 -- the same of a sink in other words for that it was left alone
 pub left_alone : (limit : ℕ) (source source' sink : Ends) (alone same : Type 0) (status : Status) → same → IsEnding limit true source source' sink sink (Unit {0}) (Unit {0}) (ended_early status) → IsEnding limit true source source' sink sink alone same (ended_early status)
 left_alone limit source source' sink alone same status is e = record {
@@ -118,78 +125,54 @@ module _ (limit : ℕ) (source source' sink : Ends) where
   abbrev ReadsWell : Type 0
   ReadsWell = EndsAtFault ⊥ source.calls source'.calls × (source'.calls.made ≤ source.calls.made + (limit + 1))
 
-  -- there was no memory
-  pub out_of_memory : ReadsWell → Refused statuses.Memory
-  out_of_memory read = record {
+  -- the end before a run, by what differs from one such end to another
+  refused : (status : Status) → IsBeforeRun status → (IsRead status → IsAtEnd source'.bytes) → IfSome source.bytes (HasStatus status)
+      → (status ≢ statuses.Memory → IsSome source.bytes → (status ≡ statuses.TooLong) ↔ GaveOver limit source.bytes source'.bytes)
+      → (IsRead status → IfSome source.bytes (TellsFault status)) → (IsRead status → IfSome source.bytes (TellsPasses status))
+      → EndsAtFault (status ≡ statuses.ReadFault) source.calls source'.calls → source'.calls.made ≤ source.calls.made + (limit + 1) → Refused status
+  refused status is end complete too_long fault passes reads calls = record {
     run = tt;
     script = tt;
-    ran = λ no. absurd no;
+    ran = λ yes. absurd (is.ran yes);
     none = record { journal = refl; receipts = refl };
-    ok = λ e. absurd (cc e);
+    ok = λ e. tt;
     part = tt;
     back = tt;
     unwritten = tt;
-    early = λ no. refl;
-    comes = λ line e. cc e;
-    end = λ asked no. absurd no;
-    complete = untold (HasStatus statuses.Memory) source.bytes (λ bytes. inr tt);
-    usage = ((λ e. absurd (cc e)), (λ not. absurd (not refl)));
-    too_long = λ not known. absurd (not refl);
-    fault = λ asked no. absurd no;
-    passes = λ asked no. absurd no;
-    reads = EndsAtFault-not (λ no. no) (λ e. cc e) read.0;
-    calls = read.1;
-    writes = EndsAtFault-none sink.calls (λ e. cc e);
+    early = λ yes. refl;
+    comes = is.comes;
+    end = λ asked. end;
+    complete = complete;
+    usage = ((λ e. absurd (is.usage e)), (λ not. absurd (not refl)));
+    too_long = too_long;
+    fault = λ asked. fault;
+    passes = λ asked. passes;
+    reads = reads;
+    calls = calls;
+    writes = EndsAtFault-none sink.calls is.write;
     unread = λ not. tt;
   }
+
+  -- there was no memory
+  pub out_of_memory : ReadsWell → Refused statuses.Memory
+  out_of_memory read =
+      refused statuses.Memory (record { ran = λ no. no; comes = λ line e. cc e; usage = λ e. cc e; write = λ e. cc e })
+      (λ no. absurd no) (untold (HasStatus statuses.Memory) source.bytes (λ bytes. inr tt)) (λ not known. absurd (not refl))
+      (λ no. absurd no) (λ no. absurd no) (EndsAtFault-not (λ no. no) (λ e. cc e) read.0) read.1
 
   -- the input was not read to its end
   pub not_read : (fault : InputFault) → (fault ≡ inputs.TooLong → GaveOver limit source.bytes source'.bytes) → (fault ≡ inputs.Fault → GaveUpTo limit source.bytes source'.bytes) → EndsAtFault (fault ≡ inputs.Fault) source.calls source'.calls → source'.calls.made ≤ source.calls.made + (limit + 1) → Refused (input_status fault)
   not_read inputs.Memory over within reads calls = out_of_memory (EndsAtFault-not (λ e. cc e) (λ no. no) reads, calls)
-  not_read inputs.Fault over within reads calls = record {
-    run = tt;
-    script = tt;
-    ran = λ no. absurd no;
-    none = record { journal = refl; receipts = refl };
-    ok = λ e. absurd (cc e);
-    part = tt;
-    back = tt;
-    unwritten = tt;
-    early = λ no. refl;
-    comes = λ line e. cc e;
-    end = λ asked no. absurd no;
-    complete = untold (HasStatus statuses.ReadFault) source.bytes (λ bytes. inr (EndsAtFault-rose refl reads));
-    usage = ((λ e. absurd (cc e)), (λ not. absurd (not refl)));
-    too_long = λ not known. ((λ e. absurd (cc e)), (λ gave. absurd (few_not_over limit source.bytes source'.bytes known (within refl) gave)));
-    fault = λ asked no. absurd no;
-    passes = λ asked no. absurd no;
-    reads = EndsAtFault-as (λ e. refl) (λ e. refl) reads;
-    calls = calls;
-    writes = EndsAtFault-none sink.calls (λ e. cc e);
-    unread = λ not. tt;
-  }
-  not_read inputs.TooLong over within reads calls = record {
-    run = tt;
-    script = tt;
-    ran = λ no. absurd no;
-    none = record { journal = refl; receipts = refl };
-    ok = λ e. absurd (cc e);
-    part = tt;
-    back = tt;
-    unwritten = tt;
-    early = λ no. refl;
-    comes = λ line e. cc e;
-    end = λ asked no. absurd no;
-    complete = had_over limit source.bytes source'.bytes (HasStatus statuses.TooLong) (over refl) (λ bytes long. inl (sym (input_is_long limit bytes long)));
-    usage = ((λ e. absurd (cc e)), (λ not. absurd (not refl)));
-    too_long = λ not known. ((λ e. over refl), (λ gave. refl));
-    fault = λ asked no. absurd no;
-    passes = λ asked no. absurd no;
-    reads = EndsAtFault-not (λ e. cc e) (λ e. cc e) reads;
-    calls = calls;
-    writes = EndsAtFault-none sink.calls (λ e. cc e);
-    unread = λ not. tt;
-  }
+  not_read inputs.Fault over within reads calls =
+      refused statuses.ReadFault (record { ran = λ no. no; comes = λ line e. cc e; usage = λ e. cc e; write = λ e. cc e })
+      (λ no. absurd no) (untold (HasStatus statuses.ReadFault) source.bytes (λ bytes. inr (EndsAtFault-rose refl reads)))
+      (λ not known. ((λ e. absurd (cc e)), (λ gave. absurd (few_not_over limit source.bytes source'.bytes known (within refl) gave))))
+      (λ no. absurd no) (λ no. absurd no) (EndsAtFault-as (λ e. refl) (λ e. refl) reads) calls
+  not_read inputs.TooLong over within reads calls =
+      refused statuses.TooLong (record { ran = λ no. no; comes = λ line e. cc e; usage = λ e. cc e; write = λ e. cc e })
+      (λ no. absurd no) (had_over limit source.bytes source'.bytes (HasStatus statuses.TooLong) (over refl) (λ bytes long. inl (sym (input_is_long limit bytes long))))
+      (λ not known. ((λ e. over refl), (λ gave. refl)))
+      (λ no. absurd no) (λ no. absurd no) (EndsAtFault-not (λ e. cc e) (λ e. cc e) reads) calls
 
   -- what is known of an input that was read to its end
   module _ (bytes : List ℕ) (all : Consumes source.bytes source'.bytes bytes) (end : IsAtEnd source'.bytes) (few : length bytes ≤ limit) where
@@ -204,31 +187,16 @@ module _ (limit : ℕ) (source source' sink : Ends) where
 
     -- the text has this fault
     faulty : (fault : ScriptFault) → ReadsWell → live_of bytes ≡ Err fault → Refused (statuses.Script fault.line fault.kind)
-    faulty fault read spells = record {
-      run = tt;
-      script = tt;
-      ran = λ no. absurd no;
-      none = record { journal = refl; receipts = refl };
-      ok = λ e. absurd (cc e);
-      part = tt;
-      back = tt;
-      unwritten = tt;
-      early = λ yes. refl;
-      comes = λ line e. cc e;
-      end = λ asked yes. end;
-      complete = has_status (Err fault) spells;
-      usage = ((λ e. absurd (cc e)), (λ not. absurd (not refl)));
-      too_long = λ not known. ((λ e. absurd (cc e)), (λ gave. absurd (not_over known gave)));
-      fault = λ asked yes. of_bytes (TellsFault (statuses.Script fault.line fault.kind)) (λ other. (
-        (λ e. spells ∙ ap (λ f. Err f) (same_fault fault other (cc e) (cc e))),
-        (λ e. let one : Err fault ≡ Err other = sym spells ∙ e in let equal : fault ≡ other = cc one in rw equal refl),
-      ));
-      passes = λ asked yes. of_bytes (TellsPasses (statuses.Script fault.line fault.kind)) (λ v says. absurd (let two : Err fault ≡ Ok v = sym spells ∙ says in cc two));
-      reads = EndsAtFault-not (λ no. no) (λ e. cc e) read.0;
-      calls = read.1;
-      writes = EndsAtFault-none sink.calls (λ e. cc e);
-      unread = λ not. tt;
-    }
+    faulty fault read spells =
+        refused (statuses.Script fault.line fault.kind) (record { ran = λ no. no; comes = λ line e. cc e; usage = λ e. cc e; write = λ e. cc e })
+        (λ yes. end) (has_status (Err fault) spells)
+        (λ not known. ((λ e. absurd (cc e)), (λ gave. absurd (not_over known gave))))
+        (λ yes. of_bytes (TellsFault (statuses.Script fault.line fault.kind)) (λ other. (
+          (λ e. spells ∙ ap (λ f. Err f) (same_fault fault other (cc e) (cc e))),
+          (λ e. let one : Err fault ≡ Err other = sym spells ∙ e in let equal : fault ≡ other = cc one in rw equal refl),
+        )))
+        (λ yes. of_bytes (TellsPasses (statuses.Script fault.line fault.kind)) (λ v says. absurd (let two : Err fault ≡ Ok v = sym spells ∙ says in cc two)))
+        (EndsAtFault-not (λ no. no) (λ e. cc e) read.0) read.1
 
     -- the text was not read as a live script
     pub not_spelled : (fail : ReadFail) → ReadsWell → ((fault : ScriptFault) → fail ≡ reads.Script fault → live_of bytes ≡ Err fault) → Refused (read_status fail)
@@ -237,35 +205,30 @@ module _ (limit : ℕ) (source source' sink : Ends) where
 
     -- the text is a live script with too many passes
     pub too_many : (v : LiveValue) → ReadsWell → live_of bytes ≡ Ok v → MAX_RESULTS < most_results v → Refused (statuses.TooManyPasses v.passes v.setup.cap)
-    too_many v read spells many = record {
-      run = tt;
-      script = tt;
-      ran = λ no. absurd no;
-      none = record { journal = refl; receipts = refl };
-      ok = λ e. absurd (cc e);
-      part = tt;
-      back = tt;
-      unwritten = tt;
-      early = λ yes. refl;
-      comes = λ line e. cc e;
-      end = λ asked yes. end;
-      complete = subst (λ status. IfSome source.bytes (HasStatus status)) (too_many_results v many) (has_status (Ok v) spells);
-      usage = ((λ e. absurd (cc e)), (λ not. absurd (not refl)));
-      too_long = λ not known. ((λ e. absurd (cc e)), (λ gave. absurd (not_over known gave)));
-      fault = λ asked yes. of_bytes (TellsFault (statuses.TooManyPasses v.passes v.setup.cap)) (λ other. (
-        (λ e. absurd (cc e)),
-        (λ e. absurd (let two : Ok v ≡ Err other = sym spells ∙ e in cc two)),
-      ));
-      passes = λ asked yes. of_bytes (TellsPasses (statuses.TooManyPasses v.passes v.setup.cap)) (λ w says.
-          let same : v ≡ w = cc (sym spells ∙ says) in
-          ((λ e. subst (λ u. MAX_RESULTS < most_results u) same many), (λ e. rw same refl)));
-      reads = EndsAtFault-not (λ no. no) (λ e. cc e) read.0;
-      calls = read.1;
-      writes = EndsAtFault-none sink.calls (λ e. cc e);
-      unread = λ not. tt;
-    }
+    too_many v read spells many =
+        refused (statuses.TooManyPasses v.passes v.setup.cap) (record { ran = λ no. no; comes = λ line e. cc e; usage = λ e. cc e; write = λ e. cc e })
+        (λ yes. end) (subst (λ status. IfSome source.bytes (HasStatus status)) (too_many_results v many) (has_status (Ok v) spells))
+        (λ not known. ((λ e. absurd (cc e)), (λ gave. absurd (not_over known gave))))
+        (λ yes. of_bytes (TellsFault (statuses.TooManyPasses v.passes v.setup.cap)) (λ other. (
+          (λ e. absurd (cc e)),
+          (λ e. absurd (let two : Ok v ≡ Err other = sym spells ∙ e in cc two)),
+        )))
+        (λ yes. of_bytes (TellsPasses (statuses.TooManyPasses v.passes v.setup.cap)) (λ w says.
+        let same : v ≡ w = cc (sym spells ∙ says) in
+        ((λ e. subst (λ u. MAX_RESULTS < most_results u) same many), (λ e. rw same refl))))
+        (EndsAtFault-not (λ no. no) (λ e. cc e) read.0) read.1
 
 -- ---- a script was carried out
+
+-- a status of a run that was carried out
+record IsAfterRun (status : Status) : Type 0 where
+  early : IsUnwritten status → ⊥
+  comes : (line : ℕ) → status ≢ statuses.Unlawful line
+  usage : status ≢ statuses.Usage
+  long : status ≢ statuses.TooLong
+  fault : (f : ScriptFault) → status ≢ statuses.Script f.line f.kind
+  passes : (n cap : ℕ) → status ≢ statuses.TooManyPasses n cap
+  read : status ≢ statuses.ReadFault
 
 module _ (limit : ℕ) (source source' sink sink' : Ends) (alone same : Type 0) (bytes : List ℕ) (all : Consumes source.bytes source'.bytes bytes) (end : IsAtEnd source'.bytes) (few : length bytes ≤ limit)
     (v : LiveValue) (j : JournalValue) (receipts : List (List Receipt)) (spells : live_of bytes ≡ Ok v) (fits : most_results v ≤ MAX_RESULTS) (whole : IsWholeRun v j receipts) (back : IsReadBack v j receipts) (reads : EndsAtFault ⊥ source.calls source'.calls) (calls : source'.calls.made ≤ source.calls.made + (limit + 1)) (part : WritesPart sink.bytes sink'.bytes (journal_text v j receipts)) where
@@ -281,86 +244,51 @@ module _ (limit : ℕ) (source source' sink sink' : Ends) (alone same : Type 0) 
   no_over : IsSome source.bytes → GaveOver limit source.bytes source'.bytes → ⊥
   no_over known gave = few_not_over limit source.bytes source'.bytes known (bytes, few, all) gave
 
-  -- the status is no fault of the text, and tells of no passes
-  no_fault : (status : Status) → ((fault : ScriptFault) → status ≡ statuses.Script fault.line fault.kind → ⊥) → TellsFault status bytes
-  no_fault status not fault = ((λ e. absurd (not fault e)), (λ e. absurd (let two : Ok v ≡ Err fault = sym spells ∙ e in cc two)))
-
-  no_passes : (status : Status) → ((passes cap : ℕ) → status ≡ statuses.TooManyPasses passes cap → ⊥) → TellsPasses status bytes
-  no_passes status not w says =
-      let one : v ≡ w = cc (sym spells ∙ says) in
-      ((λ e. absurd (not w.passes w.setup.cap e)), (λ many. absurd (omega (arith, many, subst (λ u. most_results u ≤ MAX_RESULTS) one fits))))
-
-  -- all of the text was written
-  written : EndsAtFault ⊥ sink.calls sink'.calls → Appends sink.bytes sink'.bytes (journal_text v j receipts) → IsEnding limit true source source' sink sink' alone same (ended statuses.Ok)
-  written silent taken = record {
+  -- the end of a run, by what differs from one such end to another
+  ran_to : (status : Status) → IsAfterRun status → (status ≡ statuses.Ok → Appends sink.bytes sink'.bytes (journal_text v j receipts))
+      → HasRunStatus status bytes → EndsAtFault (status ≡ statuses.WriteFault) sink.calls sink'.calls → IsEnding limit true source source' sink sink' alone same (ended status)
+  ran_to status is ok complete writes = record {
     run = whole;
     script = of_read (λ bs. live_of bs ≡ Ok v) spells;
     ran = λ yes. refl;
     none = tt;
-    ok = λ e. taken;
+    ok = ok;
     part = part;
     back = back;
     unwritten = tt;
-    early = λ no. absurd no;
-    comes = λ line e. cc e;
+    early = λ no. absurd (is.early no);
+    comes = is.comes;
     end = λ asked yes. end;
-    complete = of_read (HasRunStatus statuses.Ok) (inl (sym (input_is_spelled limit bytes (Ok v) few spells ∙ fits_results v fits)));
-    usage = ((λ e. absurd (cc e)), (λ not. absurd (not refl)));
-    too_long = λ not known. ((λ e. absurd (cc e)), (λ gave. absurd (no_over known gave)));
-    fault = λ asked yes. of_read (TellsFault statuses.Ok) (no_fault statuses.Ok (λ fault e. cc e));
-    passes = λ asked yes. of_read (TellsPasses statuses.Ok) (no_passes statuses.Ok (λ passes cap e. cc e));
-    reads = EndsAtFault-not (λ no. no) (λ e. cc e) reads;
-    calls = calls;
-    writes = EndsAtFault-not (λ no. no) (λ e. cc e) silent;
-    unread = λ not. absurd (not refl);
-  }
-
-  -- the text was not written whole
-  not_written : (status : Status) → EndsRun status → EndsAtFault (status ≡ statuses.WriteFault) sink.calls sink'.calls → IsEnding limit true source source' sink sink' alone same (ended status)
-  not_written statuses.WriteFault ends writes = record {
-    run = whole;
-    script = of_read (λ bs. live_of bs ≡ Ok v) spells;
-    ran = λ yes. refl;
-    none = tt;
-    ok = λ e. absurd (cc e);
-    part = part;
-    back = back;
-    unwritten = tt;
-    early = λ no. absurd no;
-    comes = λ line e. cc e;
-    end = λ asked yes. end;
-    complete = of_read (HasRunStatus statuses.WriteFault) (inr (EndsAtFault-rose refl writes));
-    usage = ((λ e. absurd (cc e)), (λ not. absurd (not refl)));
-    too_long = λ not known. ((λ e. absurd (cc e)), (λ gave. absurd (no_over known gave)));
-    fault = λ asked yes. of_read (TellsFault statuses.WriteFault) (no_fault statuses.WriteFault (λ fault e. cc e));
-    passes = λ asked yes. of_read (TellsPasses statuses.WriteFault) (no_passes statuses.WriteFault (λ passes cap e. cc e));
-    reads = EndsAtFault-not (λ no. no) (λ e. cc e) reads;
+    complete = of_read (HasRunStatus status) complete;
+    usage = ((λ e. absurd (is.usage e)), (λ not. absurd (not refl)));
+    too_long = λ not known. ((λ e. absurd (is.long e)), (λ gave. absurd (no_over known gave)));
+    fault = λ asked yes. of_read (TellsFault status) (λ fault. (
+      (λ e. absurd (is.fault fault e)),
+      (λ e. absurd (let two : Ok v ≡ Err fault = sym spells ∙ e in cc two)),
+    ));
+    passes = λ asked yes. of_read (TellsPasses status) (λ w says.
+        let one : v ≡ w = cc (sym spells ∙ says) in
+        ((λ e. absurd (is.passes w.passes w.setup.cap e)), (λ many. absurd (omega (arith, many, subst (λ u. most_results u ≤ MAX_RESULTS) one fits)))));
+    reads = EndsAtFault-not (λ no. no) is.read reads;
     calls = calls;
     writes = writes;
     unread = λ not. absurd (not refl);
   }
-  not_written statuses.Memory ends writes = record {
-    run = whole;
-    script = of_read (λ bs. live_of bs ≡ Ok v) spells;
-    ran = λ no. absurd no;
-    none = tt;
-    ok = λ e. absurd (cc e);
-    part = part;
-    back = back;
-    unwritten = tt;
-    early = λ no. absurd no;
-    comes = λ line e. cc e;
-    end = λ asked no. absurd no;
-    complete = of_read (HasRunStatus statuses.Memory) (inr tt);
-    usage = ((λ e. absurd (cc e)), (λ not. absurd (not refl)));
-    too_long = λ not known. absurd (not refl);
-    fault = λ asked no. absurd no;
-    passes = λ asked no. absurd no;
-    reads = EndsAtFault-not (λ no. no) (λ e. cc e) reads;
-    calls = calls;
-    writes = EndsAtFault-not (λ e. cc e) (λ e. cc e) writes;
-    unread = λ not. absurd (not refl);
-  }
+
+  -- all of the text was written
+  written : EndsAtFault ⊥ sink.calls sink'.calls → Appends sink.bytes sink'.bytes (journal_text v j receipts) → IsEnding limit true source source' sink sink' alone same (ended statuses.Ok)
+  written silent taken =
+      ran_to statuses.Ok (record { early = λ no. no; comes = λ line e. cc e; usage = λ e. cc e; long = λ e. cc e; fault = λ f e. cc e; passes = λ n cap e. cc e; read = λ e. cc e })
+      (λ e. taken) (inl (sym (input_is_spelled limit bytes (Ok v) few spells ∙ fits_results v fits))) (EndsAtFault-not (λ no. no) (λ e. cc e) silent)
+
+  -- the text was not written whole
+  not_written : (status : Status) → EndsRun status → EndsAtFault (status ≡ statuses.WriteFault) sink.calls sink'.calls → IsEnding limit true source source' sink sink' alone same (ended status)
+  not_written statuses.WriteFault ends writes =
+      ran_to statuses.WriteFault (record { early = λ no. no; comes = λ line e. cc e; usage = λ e. cc e; long = λ e. cc e; fault = λ f e. cc e; passes = λ n cap e. cc e; read = λ e. cc e })
+      (λ e. absurd (cc e)) (inr (EndsAtFault-rose refl writes)) writes
+  not_written statuses.Memory ends writes =
+      ran_to statuses.Memory (record { early = λ no. no; comes = λ line e. cc e; usage = λ e. cc e; long = λ e. cc e; fault = λ f e. cc e; passes = λ n cap e. cc e; read = λ e. cc e })
+      (λ e. absurd (cc e)) (inr tt) writes
   not_written statuses.Ok ends writes = absurd ends
   not_written statuses.Usage ends writes = absurd ends
   not_written (statuses.Script line kind) ends writes = absurd ends

@@ -1,12 +1,9 @@
--- Bytes that a source gave and a sink took.
-use Rattle.std.proofs.Common.{◌≡◌, ℕ, ◌<◌, List, [], ◌++◌, length, Some, None, Option, IsSome, take, ◌+◌, sym, ap, ◌∙◌, subst, append-nil, length-append, arith}
+-- Bytes that a source gave.
+use Rattle.std.proofs.Common.{◌≡◌, ℕ, ◌<◌, List, [], ◌++◌, length, Some, None, Option, IsSome, sym, ap, ◌∙◌, subst, append-nil, length-append, arith}
 use Rattle.std.specs.Prelude.{IfSome}
-use Rattle.std.specs.Io.KnownBytes.{Appends, Consumes, IsAtEnd}
-use Rattle.std.proofs.KnownBytes.{Appends-trans, Consumes-nil}
-use Rattle.std.proofs.Math.Seq.{take-append-add}
-use Rattle.std.proofs.lemmas.List.{take-append-le}
+use Rattle.std.specs.Io.KnownBytes.{Consumes, IsAtEnd}
+use Rattle.std.proofs.KnownBytes.{Consumes-nil}
 use Rattle.text_io.specs.Given.{GaveOver, GaveUpTo}
-use Rattle.text_io.specs.Taken.{WritesPart}
 
 -- known bytes that went once are as many as those that went
 Consumes-length : (a b : Option (List ℕ)) (xs ys : List ℕ) → IsSome a → Consumes a b xs → Consumes a b ys → length xs ≡ length ys
@@ -38,12 +35,3 @@ pub had_over : (limit : ℕ) (a b : Option (List ℕ)) (P : List ℕ → Type 0)
 had_over limit None b P gave long = tt
 had_over limit (Some bytes) None P (given, over, all) long = absurd all
 had_over limit (Some bytes) (Some rest) P (given, over, all) long = long bytes (omega (arith, over, ap length all, length-append given rest))
-
--- a text of which the front was taken, and a part of the piece after it
-pub part_after : (a b c : Option (List ℕ)) (front piece rest text : List ℕ) → Appends a b front → WritesPart b c piece → front ++ (piece ++ rest) ≡ text → WritesPart a c text
-part_after a b c front piece rest text first (n, within, more) is =
-    let first_bytes : take (length front + n) text ≡ front ++ take n piece = ap (λ t. take (length front + n) t) (sym is) ∙ take-append-add front (piece ++ rest) n ∙ ap (λ t. front ++ t) (take-append-le n piece rest within) in (
-      length front + n,
-      omega (arith, ap length is, length-append front (piece ++ rest), length-append piece rest),
-      subst (Appends a c) (sym first_bytes) (Appends-trans a b c front (take n piece) first more),
-    )

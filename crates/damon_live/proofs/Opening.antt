@@ -35,8 +35,8 @@ empty_run v table m seat g out can stands fresh generator words core = record {
 pub new_run : (v : LiveValue) (table : TableId) (m : MonitorView) (seat : MonitorSeatView) (j : JournalView) (g : Lcg) (out room bit_room : ℕ) → CanOpen v.setup → Stands m (opening v.setup) → j ≡ empty_journal room bit_room → seat ≡ record { table = table; entries = []; out = out } → g ≡ seeded v.seed → table.words ≡ pages_of v.setup.space → m.core ≡ opening_core v.setup → IsRun v table m seat j.value j.checked g 0
 new_run v table m seat j g out room bit_room can stands empty fresh generator words core = subst (λ (x : JournalView). IsRun v table m seat x.value x.checked g 0) (sym empty) (empty_run v table m seat g out can stands fresh generator words core)
 
-pub new_room : (v : LiveValue) (c : Core) (j : JournalView) (passes cap reserved places : ℕ) → c ≡ opening_core v.setup → j ≡ empty_journal (3 * passes + MAX_CALLS) (passes * cap) → passes ≡ v.passes → cap ≡ v.setup.cap → v.passes ≤ 1000000 → count_all v.controllers ≤ MAX_CALLS → 2 * cap ≤ reserved → cap ≤ places → HasRoom v c j 0 0 reserved places
-new_room v c j passes cap reserved places core empty same_passes same_cap few calls room hits =
+pub new_room : (v : LiveValue) (c : Core) (j : JournalView) (passes cap reserved places : ℕ) → c ≡ opening_core v.setup → j ≡ empty_journal (3 * passes + MAX_CALLS) (passes * cap) → passes ≡ v.passes → cap ≡ v.setup.cap → count_all v.controllers ≤ MAX_CALLS → 2 * cap ≤ reserved → cap ≤ places → HasRoom v c j 0 0 reserved places
+new_room v c j passes cap reserved places core empty same_passes same_cap calls room hits =
     let ticks : c.ticks ≡ 0 = ap (λ (d : Core). d.ticks) core in
     let closed : passes_open c.phase ≡ 0 = ap (λ (d : Core). passes_open d.phase) core in
     let owed : entries_owed c.phase ≡ 0 = ap (λ (d : Core). entries_owed d.phase) core in
@@ -55,7 +55,6 @@ new_room v c j passes cap reserved places core empty same_passes same_cap few ca
       made = ap (λ (x : JournalView). passes_made x.value) empty;
       passes_are = omega (arith, ticks, closed);
       most = omega arith;
-      few = few;
       entries = omega (arith, none, owed, left, calls, entries, same_passes);
       results = omega (arith, no_bits, product, bits);
       drawn = omega (arith, words);

@@ -115,7 +115,6 @@ prepared_room v m now mid j new ws passes count reserved places more pass h idle
       made = ap (λ (x : JournalView). passes_made x.value) longer ∙ (sum_by_push prepares j.value.entries (Prepare pass count) ∙ ap (λ k. k + 1) h.made);
       passes_are = omega (arith, h.passes_are, ticks, opened, closed);
       most = omega (arith, begun, left);
-      few = h.few;
       entries = (let left : calls_left v new.value.entries ≡ calls_left v j.value.entries = ap (λ (x : JournalView). calls_left v x.value.entries) longer ∙ omega (arith, sum_by_push call_in j.value.entries (Prepare pass count)) in omega (arith, h.entries, entries, owed, owes, room, later, left));
       results = subst (λ k. length new.value.bits + now.core.regions.cap * k ≤ new.bit_room) (sym times)
           (subst (λ c. length new.value.bits + c * (v.passes - passes + passes_open m.core.phase) ≤ new.bit_room) (sym cap)

@@ -70,7 +70,6 @@ room_left v c d j new e bs passes count more reserved places h plain t is =
       made = ap passes_made is.value ∙ (sum_by_push prepares j.value.entries e ∙ omega (arith, plain, h.made));
       passes_are = t.passes ∙ h.passes_are;
       most = h.most;
-      few = h.few;
       entries = (let left : calls_left v new.value.entries ≡ calls_left v (j.value.entries ++ e ∷ []) = ap (λ (x : JournalValue). calls_left v x.entries) is.value in omega (arith, h.entries, entries, t.entry, room, left));
       results = subst (λ x. length new.value.bits + x ≤ new.bit_room) joined now;
       drawn = omega (arith, h.drawn, t.words);

@@ -12,7 +12,8 @@ use Rattle.run_journal.specs.declared.entry.Entry.TheVariants.{Aggregate, Call, 
 use Rattle.std.specs.List.{AllByRecursion}
 use Rattle.std.specs.Prelude.{IsSome, slice_get}
 use Rattle.damon_live.specs.Plain.{IsPlain}
-use Rattle.damon_live.specs.Kept.{AreCounts, AreInTurn, index_in, indexes}
+use Rattle.run_journal.specs.Replay.{JournalValue}
+use Rattle.damon_live.specs.Kept.{AreCounts, AreInTurn, calls_made, index_in, indexes}
 use Rattle.damon_live.specs.Machine.{call_in, calls_left}
 
 pub indexes_of-snoc : (c : ℕ) (es : List Entry) (e : Entry) → indexes c (es ++ e ∷ []) ≡ indexes c es ++ index_in c e
@@ -135,6 +136,11 @@ length-range from (suc n) = ap suc (length-range (from + 1) n)
 -- how many calls a controller made, by its count
 pub made_is : (v : LiveValue) (es : List Entry) (counts : List ℕ) (c : ℕ) → AreInTurn v es counts → length (indexes c es) ≡ slice_index counts c
 made_is v es counts c turns = ap length (turns.each c) ∙ length-range 0 (slice_index counts c)
+
+-- the count of a controller is that of the calls that it made
+pub count_is : (v : LiveValue) (j now : JournalValue) (counts read : List ℕ) (c n : ℕ) → AreInTurn v j.entries counts → j ≡ now → read ≡ counts → n ≡ slice_index read c → n ≡ calls_made c now
+count_is v j now counts read c n turns same lent is =
+    is ∙ (ap (λ l. slice_index l c) lent ∙ (sym (made_is v j.entries counts c turns) ∙ ap (calls_made c) same))
 
 pub some_below : (xs : List CallValue) (i : ℕ) → i < length xs → IsSome (slice_get xs i)
 some_below [] i below = absurd (omega (arith, below))

@@ -89,7 +89,6 @@ pub record HasRoom (v : LiveValue) (c : Core) (j : JournalView) (passes count re
   pub made : passes_made j.value ≡ passes
   pub passes_are : c.ticks + passes_open c.phase ≡ passes
   pub most : passes ≤ v.passes
-  pub few : v.passes ≤ 1000000
   pub entries : length j.value.entries + (3 * (v.passes - passes) + entries_owed c.phase) + calls_left v j.value.entries ≤ j.room
   pub results : length j.value.bits + c.regions.cap * (v.passes - passes + passes_open c.phase) ≤ j.bit_room
   pub drawn : count + words_owed c.phase ≤ 2 ^ 34 * passes

@@ -1,11 +1,22 @@
 -- What workers are given, and what they did.
 use Rattle.std.specs.Prelude.{◌≡◌, ℕ, ◌<◌, List, [], ◌∷◌, ◌++◌, length, slice_index_or}
+use Rattle.atomic_table.specs.Seated.{TableId}
+use Rattle.damon_types.specs.Space.{pages_of}
 use Rattle.page_words.specs.declared.view.Entry.{Entry as Step}
 use Rattle.page_words.specs.declared.view.Entry.TheVariants.{Gathered}
 use Rattle.damon_control.specs.Live.{LiveValue}
+use Rattle.damon_control.specs.LiveView.{live_said}
+use Rattle.damon_control.specs.declared.live.LiveScript.{LiveScript}
 use Rattle.run_journal.specs.declared.entry.Receipt.{Receipt}
 use Rattle.run_journal.specs.Lawful.{touches_of}
-use Rattle.damon_live.specs.Whole.{pages_touched}
+use Rattle.damon_live.specs.Whole.{AreInSpace, pages_touched}
+
+-- what threads share is this table of page words, and a script that says this; there is a word for each page of its traces
+pub record IsShared (place : TableId) (v : LiveValue) (words : TableId) (script : LiveScript) : Type 0 where
+  pub table : words ≡ place
+  pub said : live_said script ≡ v
+  pub space : place.words ≡ pages_of v.setup.space
+  pub pages : AreInSpace v
 
 -- the trace of a worker, without a page where there is no such worker
 abbrev pub trace_of : LiveValue → ℕ → List ℕ

@@ -3,22 +3,22 @@ ghost use Rattle.std.specs.Prelude.{◌≡◌, ◌*◌, ◌≤◌, [], IfOk, len
 ghost use Rattle.damon_types.specs.Space.{pages_of};
 ghost use Rattle.damon_core.specs.Stands.{Stands};
 ghost use Rattle.damon_control.specs.LiveText.{KeepsLimits};
-ghost use Rattle.damon_control.specs.LiveView.{live_said, traces_of};
+ghost use Rattle.damon_control.specs.LiveView.{live_said};
 ghost use Rattle.run_journal.specs.Lawful.{receipts_said};
 ghost use Rattle.run_journal.specs.Replay.{check_sizes, replay};
 ghost use Rattle.damon_live.specs.Whole.{AreInSpace, IsWholeRun, TracesAreInSpace};
-ghost use Rattle.damon_live.specs.Work.{AreNumbered};
+ghost use Rattle.damon_live.specs.Work.{AreNumbered, IsShared};
 ghost use Rattle.damon_live.specs.declared.top.TheConstants.{MAX_RESULTS};
 
 use crate::begin::{Begun, begin_run};
 use crate::ends::{AloneRun, Ended, end_run, with_script};
 use crate::jobs::make_words;
 use crate::named::Named;
-use crate::pace::NoPace;
+use crate::pace::{NoPace, Pace};
 use crate::rest::make_rest;
-use crate::work::{Done, Job, work};
-use damon_control::{LiveScript, Traces};
-use page_words::{MonitorSeat, PageWords, WordsAndSeat};
+use crate::work::{Done, Job, Shared, work};
+use damon_control::LiveScript;
+use page_words::WordsAndSeat;
 use std::alloc::{AllocError, Global};
 use std::marker::Brand;
 
@@ -39,20 +39,19 @@ pub fn run_alone(alloc: Global, script: LiveScript) -> Result<AloneRun, AllocErr
     ensures sizes { IfOk result (λ r.
         r.journal.checked ≡ check_sizes (live_said script) r.journal.value) }
 {
-    let WordsAndSeat { words, seat } = make_words(alloc, &script)?;
-    let ended = run_named::<Brand>(alloc, words, seat, &script)?;
+    let table = make_words(alloc, &script)?;
+    let ended = run_named::<Brand>(alloc, table, &script)?;
     Ok(with_script(script, ended))
 }
 
-// The same on the named table.
+// Carries out a script on a table of page words, both of which have a name.
 fn run_named<N: Named>(
     alloc: Global,
-    words: PageWords,
-    seat: MonitorSeat,
+    table: WordsAndSeat,
     script: &LiveScript,
 ) -> Result<Ended, AllocError>
-    requires table { words ≡ N.table }
-    requires seat { seat ≡ record { table = N.table; entries = []; out = 0 } }
+    requires words { table.words ≡ N.table }
+    requires seat { table.seat ≡ record { table = N.table; entries = []; out = 0 } }
     requires said { live_said script.now ≡ N.script }
     requires seats { length N.script.workers ≡ N.seats }
     requires space { N.table.words ≡ pages_of N.script.setup.space }
@@ -64,34 +63,36 @@ fn run_named<N: Named>(
     ensures stands { IfOk result (λ r. Stands r.monitor (replay N.script r.journal.value).state) }
     ensures sizes { IfOk result (λ r. r.journal.checked ≡ check_sizes N.script r.journal.value) }
 {
+    let WordsAndSeat { words, seat } = table;
     let Begun {
         mut kept,
         jobs,
         receipts,
     } = begin_run::<N>(alloc, &words, seat, script)?;
     make_rest(&mut kept, &words);
-    let made = work_all(alloc, &words, &script.workers, jobs)?;
+    let shared = Shared {
+        words: &words,
+        script,
+        pace: &NoPace,
+    };
+    let made = work_all(alloc, &shared, jobs)?;
     Ok(end_run(words, kept, made, receipts))
 }
 
 // The touches of each worker, one worker after another.
-fn work_all<N: Named>(
+fn work_all<N: Named, P: Pace>(
     alloc: Global,
-    words: &PageWords,
-    traces: &Traces,
+    shared: &Shared<P>,
     jobs: Vec<Job<N>>,
 ) -> Result<Vec<Done<N>>, AllocError>
-    requires table { words.now ≡ N.table }
-    requires traces { traces_of traces.now.list ≡ N.script.workers }
-    requires space { N.table.words ≡ pages_of N.script.setup.space }
-    requires pages { AreInSpace N.script }
+    requires shared { IsShared N.table N.script shared.now.words.now shared.now.script.now }
     requires numbered { AreNumbered (λ j. j.worker) jobs.items }
     ensures len { IfOk result (λ d. vec_len d ≡ vec_len jobs) }
     ensures numbered { IfOk result (λ d. AreNumbered (λ d. d.worker) d.items) }
 {
     let mut made = Vec::with_capacity(alloc, jobs.len())?;
     for job in jobs {
-        made.push_reserved(work(words, traces, job, &NoPace));
+        made.push_reserved(work(shared, job));
     }
     Ok(made)
 }

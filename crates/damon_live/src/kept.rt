@@ -1,14 +1,15 @@
-ghost use Rattle.std.specs.Prelude.{◌≡◌, ℕ, ◌+◌, ◌*◌, ◌<◌, ◌≤◌, [], IfOk, length, replicate, slice_index};
+ghost use Rattle.std.specs.Prelude.{◌≡◌, ℕ, ◌+◌, ◌*◌, ◌<◌, ◌≤◌, [], IfOk, length, replicate, slice_index, Some};
 ghost use Rattle.damon_types.specs.Space.{pages_of};
 ghost use Rattle.live_commit.specs.declared.phase.Phase.TheVariants.{Armed, Idle};
 ghost use Rattle.damon_core.specs.Pass.{IsBetween};
 ghost use Rattle.damon_core.specs.Reached.{CanOpen};
 ghost use Rattle.damon_core.specs.Stands.{Stands};
+ghost use Rattle.damon_control.specs.Live.{CallValue};
 ghost use Rattle.damon_control.specs.LiveText.{KeepsLimits};
 ghost use Rattle.damon_control.specs.LiveView.{live_said};
 ghost use Rattle.run_journal.specs.declared.entry.Entry.TheVariants.{Call};
 ghost use Rattle.run_journal.specs.Phases.{IsFree, passes_open};
-ghost use Rattle.run_journal.specs.Replay.{IsJournalOf, check_sizes, replay};
+ghost use Rattle.run_journal.specs.Replay.{IsJournalOf, call_answer, call_at, check_sizes, replay};
 ghost use Rattle.run_journal.specs.Room.{nothing_said};
 ghost use Rattle.run_journal.specs.Steps.{steps};
 ghost use Rattle.damon_live.specs.Kept.{CallsAreInOrder, calls_asked, calls_made};
@@ -20,9 +21,9 @@ use crate::machine::Machine;
 use crate::named::Named;
 use damon_control::LiveScript;
 use damon_core::Monitor;
+use run_journal::{CallAnswer, Journal};
 use live_commit::Phase;
 use page_words::{MonitorSeat, PageWords};
-use run_journal::{CallAnswer, Journal};
 use std::alloc::{AllocError, Global};
 use std::marker::Model;
 
@@ -155,6 +156,9 @@ impl<'a, N: Named> Kept<'a, N> {
         ensures entry { self.new
             ≡ with_one (Call controller (calls_made controller self.old) result.answer) self.old }
         ensures place { result.place ≡ length self.old.entries }
+        ensures answer { (call : CallValue)
+            → call_at N.script controller (calls_made controller self.old) ≡ Some call
+            → result.answer ≡ call_answer call (replay N.script self.old).state.core }
         ensures idle { (replay N.script self.old).state.core.phase ≡ Idle
             → (replay N.script self.new).state.core.phase ≡ Idle }
         ensures made { passes_made self.new ≡ passes_made self.old }

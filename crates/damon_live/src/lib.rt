@@ -50,7 +50,6 @@ pub use alone::run_alone;
 pub use ends::AloneRun;
 pub use kept::{Kept, Kept1, KeptParts};
 pub use laws::whole_runs_are_read_back;
-pub use machine::Machine;
 pub use named::Named;
 pub use pace::{NoPace, Pace, Spot};
 pub use paces::{GatePace, Hold, SleepPace};

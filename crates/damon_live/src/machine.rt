@@ -22,10 +22,10 @@ use crate::named::Named;
 use crate::passes::load_all;
 use damon_control::{LiveScript, MAX_CALLS};
 use damon_core::Monitor;
+use run_journal::{Journal, journals_grow};
 use live_commit::Phase;
 use page_words::{MonitorSeat, PageWords};
 use rand_pcg::Lcg64Xsh32;
-use run_journal::{Journal, journals_grow};
 use sampler::{draw_words, generator};
 use std::alloc::{AllocError, Global};
 use std::marker::{Model, PhantomData};
@@ -33,12 +33,12 @@ use std::marker::{Model, PhantomData};
 /// The monitor of a live run with its journal and its seat. In contracts it is what the journal says: all
 /// else is what that replays to.
 #[derive(Drop)]
-pub struct Machine<'a, N: Named> {
+pub(crate) struct Machine<'a, N: Named> {
     script: &'a LiveScript,
     monitor: Monitor,
     seat: MonitorSeat,
     journal: Journal,
-    words: Lcg64Xsh32,
+    random: Lcg64Xsh32,
     drawn: u64,
     passes: u32,
     // The random words of an aggregation; the room for them is taken once.
@@ -58,12 +58,12 @@ impl<'a, N: Named> Model for Machine<'a, N> {
     ghost view = { λ m. m.journal.value };
 
     ghost invariant = { λ m. IsMachine N.script N.table N.seats m.script.now m.monitor m.seat
-        m.journal m.words m.drawn m.passes (vec_capacity m.buffer) (length m.places.items) };
+        m.journal m.random m.drawn m.passes (vec_capacity m.buffer) (length m.places.items) };
 }
 
 impl<'a, N: Named> Machine<'a, N> {
     /// A machine before the first pass. Takes memory; no other call does.
-    pub fn new(
+    pub(crate) fn new(
         alloc: Global,
         script: &'a LiveScript,
         seat: MonitorSeat,
@@ -81,13 +81,13 @@ impl<'a, N: Named> Machine<'a, N> {
         let journal = Journal::new(alloc, script.passes, script.setup.cap, MAX_CALLS)?;
         let buffer = Vec::with_capacity(alloc, 2 * script.setup.cap as usize)?;
         let places = vec![in alloc; false; script.setup.cap as usize]?;
-        let words = generator(script.seed);
+        let random = generator(script.seed);
         Ok(Machine {
             script,
             monitor,
             seat,
             journal,
-            words,
+            random,
             drawn: 0,
             passes: 0,
             buffer,
@@ -97,28 +97,28 @@ impl<'a, N: Named> Machine<'a, N> {
     }
 
     /// Where the monitor is.
-    pub fn phase(&self) -> Phase
+    pub(crate) fn phase(&self) -> Phase
         ensures { result ≡ (replay N.script self.now).state.core.phase }
     {
         self.monitor.phase()
     }
 
     /// The passes that were prepared.
-    pub fn passes(&self) -> u32
+    pub(crate) fn passes(&self) -> u32
         ensures { result ≡ passes_made self.now }
     {
         self.passes
     }
 
     /// The passes that the script asks for.
-    pub fn limit(&self) -> u32
+    pub(crate) fn limit(&self) -> u32
         ensures { result ≡ N.script.passes }
     {
         self.script.passes
     }
 
     /// How many calls of a controller are in the script.
-    pub fn call_limit(&self, controller: u32) -> u32
+    pub(crate) fn call_limit(&self, controller: u32) -> u32
         ensures { result ≡ length (slice_index_or N.script.controllers controller []) }
     {
         let controllers = &self.script.controllers;
@@ -130,7 +130,7 @@ impl<'a, N: Named> Machine<'a, N> {
     }
 
     /// Prepares a pass and clears its picks. The phase is Idle, and not all passes were made.
-    pub fn prepare(&mut self, words: &PageWords)
+    pub(crate) fn prepare(&mut self, words: &PageWords)
         requires table { words.now ≡ N.table }
         requires idle { (replay N.script self.old).state.core.phase ≡ Idle }
         requires left { passes_made self.old < N.script.passes }
@@ -142,7 +142,7 @@ impl<'a, N: Named> Machine<'a, N> {
         let pass = self.monitor.ticks() + 1;
         let at = self.drawn;
         let rows = self.monitor.rows().len();
-        self.monitor.prepare_from(&mut self.words);
+        self.monitor.prepare_from(&mut self.random);
         self.drawn += u64::from(rows);
         words.clear_each(&mut self.seat, self.monitor.picks().pages(), pass);
         self.monitor.cleared_next(rows);
@@ -151,7 +151,7 @@ impl<'a, N: Named> Machine<'a, N> {
     }
 
     /// Loads the picks and ends the pass. The phase is Armed.
-    pub fn check(&mut self, words: &PageWords)
+    pub(crate) fn check(&mut self, words: &PageWords)
         requires table { words.now ≡ N.table }
         requires armed { (replay N.script self.old).state.core.phase ≡ Armed }
         ensures entry { (results : List Bool) × (self.new
@@ -160,8 +160,6 @@ impl<'a, N: Named> Machine<'a, N> {
         ensures made { passes_made self.new ≡ passes_made self.old }
     {
         journals_grow();
-        // For its clauses alone: there are at most `cap` rows.
-        let _rows = self.monitor.rows().len();
         let pass = self.monitor.ticks() + 1;
         load_all(words, &mut self.seat, &mut self.monitor, &mut self.places);
         self.journal.check(pass, self.monitor.picks());
@@ -169,7 +167,7 @@ impl<'a, N: Named> Machine<'a, N> {
     }
 
     /// Ends a void pass. The phase is Void.
-    pub fn void(&mut self)
+    pub(crate) fn void(&mut self)
         requires { (replay N.script self.old).state.core.phase ≡ VoidPhase }
         ensures entry { self.new
             ≡ with_one (Void ((replay N.script self.old).state.core.ticks + 1)) self.old }
@@ -183,7 +181,7 @@ impl<'a, N: Named> Machine<'a, N> {
     }
 
     /// Carries out the aggregation that is due.
-    pub fn aggregate(&mut self)
+    pub(crate) fn aggregate(&mut self)
         requires { (replay N.script self.old).state.core.phase ≡ Due }
         ensures entry { self.new ≡ with_one (aggregate_after (replay N.script self.old)) self.old }
         ensures idle { (replay N.script self.new).state.core.phase ≡ Idle }
@@ -193,14 +191,14 @@ impl<'a, N: Named> Machine<'a, N> {
         let tick = self.monitor.ticks();
         let at = self.drawn;
         let max = self.monitor.attrs().max;
-        draw_words(&mut self.words, 2 * max as usize, &mut self.buffer);
+        draw_words(&mut self.random, 2 * max as usize, &mut self.buffer);
         self.drawn += 2 * u64::from(max);
         self.monitor.aggregate(&self.buffer);
         self.journal.aggregate(tick, at);
     }
 
     /// Carries out call `index` of a controller. No aggregation is due, and not all calls were made.
-    pub fn call(&mut self, controller: u32, index: u32) -> Kept1
+    pub(crate) fn call(&mut self, controller: u32, index: u32) -> Kept1
         requires free { IsFree (replay N.script self.old).state.core.phase }
         requires call { IsSome (call_at N.script controller index) }
         requires left { 0 < calls_left N.script self.old.entries }
@@ -221,14 +219,14 @@ impl<'a, N: Named> Machine<'a, N> {
     }
 
     /// The script.
-    pub fn script(&self) -> &'a LiveScript
+    pub(crate) fn script(&self) -> &'a LiveScript
         ensures { live_said result.now ≡ N.script }
     {
         self.script
     }
 
     /// Takes the machine apart.
-    pub fn into_parts(self) -> KeptParts
+    pub(crate) fn into_parts(self) -> KeptParts
         ensures journal { result.journal.value ≡ self.entry }
         ensures fits { IsJournalOf N.script self.entry }
         ensures sizes { result.journal.checked ≡ check_sizes N.script self.entry }
@@ -244,7 +242,7 @@ impl<'a, N: Named> Machine<'a, N> {
             monitor,
             seat,
             journal,
-            words: _,
+            random: _,
             drawn: _,
             passes: _,
             buffer: _,

@@ -34,8 +34,8 @@ fn make_passes<N: Named>(kept: &mut Kept<'_, N>, words: &PageWords)
     }
 }
 
-// Ends the pass that is begun, if there is one.
-fn end_begun<N: Named>(kept: &mut Kept<'_, N>, words: &PageWords)
+/// Ends the pass that is begun, if there is one.
+pub(crate) fn end_begun<N: Named>(kept: &mut Kept<'_, N>, words: &PageWords)
     requires table { words.now ≡ N.table }
     ensures idle { (replay N.script kept.new).state.core.phase ≡ Idle }
 {

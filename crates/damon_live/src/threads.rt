@@ -18,8 +18,9 @@ use crate::named::Named;
 use crate::pace::Pace;
 use crate::rest::make_rest;
 use crate::spread::Spread;
+use crate::work::Shared;
 use damon_control::LiveScript;
-use page_words::{MonitorSeat, PageWords, WordsAndSeat};
+use page_words::WordsAndSeat;
 use std::alloc::{AllocError, Global};
 use std::marker::Brand;
 use std::sync::Wait;
@@ -49,22 +50,21 @@ pub fn run_threads<R: Threads + Wait + Sync, P: Pace + Sync>(
     ensures sizes { IfOk result (λ r.
         r.journal.checked ≡ check_sizes (live_said script) r.journal.value) }
 {
-    let WordsAndSeat { words, seat } = make_words(alloc, &script)?;
-    let ended = run_named::<Brand, R, P>(rt, alloc, words, seat, &script, pace)?;
+    let table = make_words(alloc, &script)?;
+    let ended = run_named::<Brand, R, P>(rt, alloc, table, &script, pace)?;
     Ok(with_script(script, ended))
 }
 
-// The same on the named table.
+// Carries out a script on a table of page words, both of which have a name.
 fn run_named<N: Named + Send + Sync, R: Threads + Wait + Sync, P: Pace + Sync>(
     rt: &R,
     alloc: Global,
-    words: PageWords,
-    seat: MonitorSeat,
+    table: WordsAndSeat,
     script: &LiveScript,
     pace: &P,
 ) -> Result<Ended, AllocError>
-    requires table { words ≡ N.table }
-    requires seat { seat ≡ record { table = N.table; entries = []; out = 0 } }
+    requires words { table.words ≡ N.table }
+    requires seat { table.seat ≡ record { table = N.table; entries = []; out = 0 } }
     requires said { live_said script.now ≡ N.script }
     requires seats { length N.script.workers ≡ N.seats }
     requires space { N.table.words ≡ pages_of N.script.setup.space }
@@ -76,13 +76,19 @@ fn run_named<N: Named + Send + Sync, R: Threads + Wait + Sync, P: Pace + Sync>(
     ensures stands { IfOk result (λ r. Stands r.monitor (replay N.script r.journal.value).state) }
     ensures sizes { IfOk result (λ r. r.journal.checked ≡ check_sizes N.script r.journal.value) }
 {
+    let WordsAndSeat { words, seat } = table;
     let Begun {
         kept,
         jobs,
         receipts,
     } = begin_run::<N>(alloc, &words, seat, script)?;
     let pace = Spread::new(script, pace);
-    let (mut kept, made) = run_beside(rt, alloc, &words, kept, script, jobs, &pace)?;
+    let shared = Shared {
+        words: &words,
+        script,
+        pace: &pace,
+    };
+    let (mut kept, made) = run_beside(rt, alloc, &shared, kept, jobs)?;
     make_rest(&mut kept, &words);
     Ok(end_run(words, kept, made, receipts))
 }

@@ -1,17 +1,23 @@
 // Workers.
 ghost use Rattle.std.specs.Prelude.{◌≡◌, ◌-◌, ◌<◌, ◌≤◌, ◌++◌, ◌∷◌, [], All, length};
-ghost use Rattle.damon_types.specs.Space.{pages_of};
-ghost use Rattle.damon_control.specs.LiveView.{traces_of};
 ghost use Rattle.run_journal.specs.Lawful.{touches_of};
-ghost use Rattle.damon_live.specs.Whole.{AreInSpace, pages_touched};
-ghost use Rattle.damon_live.specs.Work.{trace_of};
+ghost use Rattle.damon_live.specs.Whole.{pages_touched};
+ghost use Rattle.damon_live.specs.Work.{IsShared, trace_of};
 
 use crate::named::Named;
 use crate::pace::{Pace, Spot};
-use damon_control::{Trace, Traces};
-use page_words::{PageWords, TouchSeat};
+use damon_control::{LiveScript, Trace};
 use run_journal::{Receipt, ReceiptList};
+use page_words::{PageWords, TouchSeat};
 use std::marker::PhantomData;
+
+/// What the threads of a run share: its page words, its script, and what holds them.
+#[derive(Drop)]
+pub(crate) struct Shared<'a, P> {
+    pub words: &'a PageWords,
+    pub script: &'a LiveScript,
+    pub pace: &'a P,
+}
 
 /// What a worker is given: its number, its seat, and room for the receipts of its trace.
 #[derive(Drop)]
@@ -42,16 +48,8 @@ pub(crate) struct Done<N: Named> {
 }
 
 /// Touches each page of the worker's trace, in order. Each touch is one atomic step.
-pub(crate) fn work<N: Named, P: Pace>(
-    words: &PageWords,
-    traces: &Traces,
-    job: Job<N>,
-    pace: &P,
-) -> Done<N>
-    requires table { words.now ≡ N.table }
-    requires traces { traces_of traces.now.list ≡ N.script.workers }
-    requires space { N.table.words ≡ pages_of N.script.setup.space }
-    requires pages { AreInSpace N.script }
+pub(crate) fn work<N: Named, P: Pace>(shared: &Shared<P>, job: Job<N>) -> Done<N>
+    requires { IsShared N.table N.script shared.now.words.now shared.now.script.now }
     ensures { result.worker ≡ job.worker }
 {
     let Job {
@@ -60,22 +58,21 @@ pub(crate) fn work<N: Named, P: Pace>(
         mut receipts,
         of: _,
     } = job;
-    let trace = traces.get(worker);
-    touch_all(words, trace, worker, &mut seat, &mut receipts, pace);
+    let trace = shared.script.workers.get(worker);
+    touch_all(shared, trace, worker, &mut seat, &mut receipts);
     make_done(worker, seat, receipts)
 }
 
 // Touches the pages of a trace, in order, and keeps a receipt of each touch.
 fn touch_all<P: Pace>(
-    words: &PageWords,
+    shared: &Shared<P>,
     trace: &Trace,
     worker: u32,
     seat: &mut TouchSeat,
     receipts: &mut ReceiptList,
-    pace: &P,
 )
-    requires table { seat.old.table ≡ words.now }
-    requires pages { All (λ p. p < words.now.words) trace.now.list }
+    requires table { seat.old.table ≡ shared.now.words.now }
+    requires pages { All (λ p. p < shared.now.words.now.words) trace.now.list }
     requires fresh { seat.old.touches ≡ [] }
     requires empty { receipts.old.list ≡ [] }
     requires room { length trace.now.list ≤ receipts.old.spare }
@@ -85,9 +82,9 @@ fn touch_all<P: Pace>(
     ensures pages { pages_touched receipts.new.list ≡ trace.now.list }
 {
     for index in 0..trace.len() {
-        pace.wait(Spot::BeforeTouch { worker, index });
-        touch_page(words, seat, *trace.get(index), receipts);
-        pace.wait(Spot::AfterTouch { worker, index });
+        shared.pace.wait(Spot::BeforeTouch { worker, index });
+        touch_page(shared.words, seat, *trace.get(index), receipts);
+        shared.pace.wait(Spot::AfterTouch { worker, index });
     }
 }
 

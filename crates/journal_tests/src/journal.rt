@@ -1,7 +1,8 @@
 // A journal in its room, the text of one without entries, and receipts that grow.
 use damon_control::LiveScript;
 use damon_core::Monitor;
-use damon_journal::{Entry, Journal, Receipt, ReceiptList, journal_text};
+use journal_text::journal_text;
+use run_journal::{Entry, Journal, Receipt, ReceiptList};
 use damon_types::{Attrs, PlainList, RangeSpec, Space, Target, Version};
 use live_commit::Setup;
 use std::alloc::Global;

@@ -1,5 +1,8 @@
 // Runs under gates, whose texts no run of one thread can write.
-use damon_journal::Status;
+use crate::texts::ONE_PAGE;
+use journal_check::verify;
+use run_journal::Lawful;
+use run_status::Status;
 use damon_live::{GatePace, Hold, LiveEnd, Pace, Spot, live_main};
 use damon_types::{MemSink, MemSource};
 use std::alloc::{AllocError, Global};
@@ -8,29 +11,10 @@ use std::sync::Wait;
 use std::test::Fail;
 use std::thread::Threads;
 
-// Two workers touch the one page, and a controller asks for what the monitor has.
-const SHOWN: &[u8] = b"\
-damon live 1
-seed 42
-unit 1
-cap 3
-attrs 3 3 5
-target 0x0 1
-range 0 0x0 0x1000 0
-passes 1
-worker
-touch 0 0x0
-worker
-touch 0 0x0
-controller
-show
-end
-";
-
 // The first touch comes after the clear, which makes the pass a hit, and the call between the clear and the
 // check. The second touch comes when it likes: workers begin after the first clear, and the check waits for
 // both touches.
-const SHOWN_JOURNAL: &[u8] = b"\
+const ONE_PAGE_JOURNAL: &[u8] = b"\
 damon journal 1
 seed 42
 unit 1
@@ -145,7 +129,7 @@ fn a_touch_between_clear_and_load_is_a_hit(rt: HostRuntime) -> Result<(), Fail> 
         },
     ];
     let pace = GatePace::new(rt.alloc(), &rt, &holds)?;
-    expect_journal(&rt, &pace, SHOWN, SHOWN_JOURNAL)?;
+    expect_journal(&rt, &pace, ONE_PAGE, ONE_PAGE_JOURNAL)?;
     Ok(())
 }
 
@@ -171,4 +155,14 @@ fn a_commit_makes_an_armed_pass_void(rt: HostRuntime) -> Result<(), Fail> {
     let pace = GatePace::new(rt.alloc(), &rt, &holds)?;
     expect_journal(&rt, &pace, VOIDED, VOIDED_JOURNAL)?;
     Ok(())
+}
+
+#[test]
+fn the_journal_of_a_void_pass_is_counted(rt: HostRuntime) {
+    let counts = Lawful {
+        passes: 2,
+        loads: 1,
+        hits: 0,
+    };
+    assert_eq!(rt; verify(rt.alloc(), VOIDED_JOURNAL), Ok(counts));
 }

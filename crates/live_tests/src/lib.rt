@@ -1,5 +1,5 @@
-//! Tests of live runs whose order is given, and of the page words that their threads share. They stand in a
-//! crate of their own, since a crate with tests is proved twice.
+//! Tests of live runs whose order is given, of their journals, and of the page words that their threads share.
+//! They stand in a crate of their own, since a crate with tests is proved twice.
 #![tactic(auto)]
 
 /// Runs under gates.
@@ -14,3 +14,6 @@ mod page_steps;
 /// Page words that eight threads touch.
 #[cfg(test)]
 mod page_threads;
+/// Texts of several tests.
+#[cfg(test)]
+mod texts;

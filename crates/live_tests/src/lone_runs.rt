@@ -1,31 +1,13 @@
 // A live script that is carried out in one thread.
 ghost use Rattle.std.specs.Prelude.{◌≤◌, length};
 
+use crate::texts::ONE_PAGE;
 use damon_control::{MAX_BYTES, live_scripts_are_sound, read_live};
-use damon_journal::journal_text;
+use journal_text::journal_text;
 use damon_live::{AloneRun, MAX_RESULTS, run_alone};
 use std::alloc::{AllocError, Global};
 use std::process::Abort;
 use std::test::Fail;
-
-// Two workers touch the one page, and a controller asks for what the monitor has.
-const SCRIPT: &[u8] = b"\
-damon live 1
-seed 42
-unit 1
-cap 3
-attrs 3 3 5
-target 0x0 1
-range 0 0x0 0x1000 0
-passes 1
-worker
-touch 0 0x0
-worker
-touch 0 0x0
-controller
-show
-end
-";
 
 // All passes come first, then the calls, then the touches, which find that the pass has cleared the page.
 const JOURNAL: &[u8] = b"\
@@ -77,7 +59,7 @@ fn text_of_run(alloc: Global, script: &[u8]) -> Result<Option<Vec<u8>>, AllocErr
 fn a_run_of_one_thread_makes_passes_calls_and_touches_in_this_order(
     rt: HostRuntime,
 ) -> Result<(), Fail> {
-    let text = text_of_run(rt.alloc(), SCRIPT)?;
+    let text = text_of_run(rt.alloc(), ONE_PAGE)?;
     assert_eq!(rt; text.as_deref(), Some(JOURNAL));
     Ok(())
 }

@@ -175,7 +175,7 @@ fn word_agrees(settled: &Settled, all: &[Vec<Touch>], page: u32) -> bool
     word / 2 == PASSES && (word % 2 == 1) == was_touched(all, page, PASSES)
 }
 
-// All settled words do.
+// Each settled word agrees with the touches.
 fn words_agree(settled: &Settled, all: &[Vec<Touch>]) -> bool
     requires { length settled.now ≡ 4 }
 {

@@ -56,7 +56,7 @@ pub fn read_all<S: Source>(alloc: Global, source: &mut S) -> Result<Vec<u8>, Inp
     ensures within { IsErrOf result InputFault.Fault →
         GaveUpTo INPUT_LIMIT (S.left source.old) (S.left source.new) }
 
-    // How often the source was read: each read gives a byte, finds the end, or is the last.
+    // How often the source was read. That each read but the last gives a byte is no clause.
     ensures reads { EndsAtFault (IsErrOf result InputFault.Fault)
         (S.calls source.old) (S.calls source.new) }
     ensures calls { (S.calls source.new).made ≤ (S.calls source.old).made + (INPUT_LIMIT + 1) }

@@ -4,4 +4,4 @@ use Rattle.damon_live.proofs.threads.run_threads.Given as goal
 
 -- the table that was just made, and the script that was given
 abbrev pub ghosts-run_named : goal.ghosts-run_named
-ghosts-run_named g a = record { table = a.words; script = live_said a.script.now; seats = length (live_said a.script.now).workers }
+ghosts-run_named g a = record { table = a.table.words; script = live_said a.script.now; seats = length (live_said a.script.now).workers }

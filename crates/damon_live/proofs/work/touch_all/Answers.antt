@@ -9,7 +9,7 @@ pub loop-index-init : goal.loop-index-init
 loop-index-init g c = (refl, refl, c.requires.fresh ∙ sym (ap touches_of c.requires.empty), ap pages_touched c.requires.empty, omega (arith, c.requires.room))
 
 pub touch_page-requires-clause-page : goal.touch_page-requires-clause-page
-touch_page-requires-clause-page g c = all_found (λ p. p < c.args.words.now.words) c.args.trace.now.list c.loop-index.index c.get.result.now c.requires.pages c.get.ensures
+touch_page-requires-clause-page g c = all_found (λ p. p < c.args.shared.now.words.now.words) c.args.trace.now.list c.loop-index.index c.get.result.now c.requires.pages c.get.ensures
 
 pub touch_page-requires-clause-room : goal.touch_page-requires-clause-room
 touch_page-requires-clause-room g c = omega (arith, c.loop-index.invariant.4, found_below c.args.trace.now.list c.loop-index.index c.get.result.now c.get.ensures)

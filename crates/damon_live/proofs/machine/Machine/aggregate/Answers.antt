@@ -27,11 +27,11 @@ invariant_of-self g c =
     let n : ℕ = 2 * m.core.attrs.max in
     let same : c.attrs-max.result.max ≡ m.core.attrs.max = ap (λ (a : Attrs). a.max) c.attrs-max.ensures.attrs in
     let due : m.core.phase ≡ Due = ap (λ (c : Core). c.phase) i.run.stands.same ∙ (ap (λ (j : JournalValue). (replay v j).state.core.phase) c.self.view_is ∙ c.requires) in
-    let words : c.deref.result.now ≡ drawn n (words_from s.words) = c.deref.ensures.value ∙ (c.draw_words.ensures.words ∙ ap (λ k. drawn (2 * k) (words_from s.words)) same) in
+    let words : c.deref.result.now ≡ drawn n (words_from s.random) = c.deref.ensures.value ∙ (c.draw_words.ensures.words ∙ ap (λ k. drawn (2 * k) (words_from s.random)) same) in
     let shows = c.aggregate.ensures.core in
-    let made : IsAggregated m now s.words c.draw_words.new.source = record {
+    let made : IsAggregated m now s.random c.draw_words.new.source = record {
       event = subst (λ ws. Makes Stands m now (aggregate_event ws ∷ [])) words c.aggregate.ensures.event;
-      rest = c.draw_words.ensures.rest ∙ ap (λ k. drawn_rest (2 * k) (words_from s.words)) same;
+      rest = c.draw_words.ensures.rest ∙ ap (λ k. drawn_rest (2 * k) (words_from s.random)) same;
       phase = ap (λ (d : Core). d.phase) shows;
       ticks = ap (λ (d : Core). d.ticks) shows;
       space = ap (λ (d : Core). d.space) shows;
@@ -47,7 +47,7 @@ invariant_of-self g c =
       limits = i.limits;
       pages = i.pages;
       out = i.out;
-      run = subst (λ ks. IsRun v g.N.Named.table now s.seat c.aggregate-2.new.self.value ks c.draw_words.new.source more) (sym kept) (aggregated_run v g.N.Named.table m now s.seat s.journal.value c.aggregate-2.new.self.value s.journal.checked s.words c.draw_words.new.source s.drawn tick more c.journals_grow.ensures.other i.run made due c.ticks-tick.ensures sum (ap (λ (j : JournalView). j.value) c.aggregate-2.ensures));
+      run = subst (λ ks. IsRun v g.N.Named.table now s.seat c.aggregate-2.new.self.value ks c.draw_words.new.source more) (sym kept) (aggregated_run v g.N.Named.table m now s.seat s.journal.value c.aggregate-2.new.self.value s.journal.checked s.random c.draw_words.new.source s.drawn tick more c.journals_grow.ensures.other i.run made due c.ticks-tick.ensures sum (ap (λ (j : JournalView). j.value) c.aggregate-2.ensures));
       room = subst (λ k. HasRoom v now.core c.aggregate-2.new.self s.passes more k (length s.places.items)) (sym c.draw_words.ensures.capacity) (room_left v m.core now.core s.journal c.aggregate-2.new.self (Aggregate tick s.drawn) [] s.passes s.drawn more _ _ i.room refl takes longer);
     }
 

@@ -1,9 +1,8 @@
-use Rattle.std.proofs.Common.{◌≡◌, ℕ, ◌+◌, ◌≤◌, length, refl, ap, sym, ◌∙◌, subst, arith}
+use Rattle.std.proofs.Common.{◌≡◌, ℕ, ◌+◌, length, refl, ap, sym, ◌∙◌, subst, arith}
 use Rattle.std.specs.Prelude.{vec_capacity}
 use Rattle.std.proofs.lemmas.List.{with_items_is}
 use Rattle.std.specs.Vec.{with_items}
 use Rattle.live_commit.specs.declared.phase.Phase.TheVariants.{Armed}
-use Rattle.region_list.specs.Regions.{RegionList}
 use Rattle.page_words.specs.Seats.{MonitorSeatView}
 use Rattle.damon_core.specs.Event.{IsObserving}
 use Rattle.damon_core.specs.Pass.{IsBetween}
@@ -19,10 +18,8 @@ use Rattle.damon_live.proofs.machine.Machine.check.Goals as goal
 
 pub load_all-requires-clause-room : goal.load_all-requires-clause-room
 load_all-requires-clause-room g c =
-    let r = ap (λ (x : RegionList). length x.rows) c.rows.ensures.rows in
-    let t = ap (λ (x : RegionList). x.cap) c.rows.ensures.rows in
     let places = ap length c.deref_mut.ensures.value in
-    omega (arith, r, t, places, c.len-rows.ensures.len, c.len-rows.ensures.few, c.len-rows.ensures.most, c.self.invariant.room.hits)
+    omega (arith, places, c.self.invariant.room.hits)
 
 pub check-requires-clause-bits : goal.check-requires-clause-bits
 check-requires-clause-bits g c =
@@ -30,9 +27,8 @@ check-requires-clause-bits g c =
     let i = c.self.invariant in
     let m = c.self.inside.monitor in
     let armed : m.core.phase ≡ Armed = ap (λ (c : Core). c.phase) i.run.stands.same ∙ (ap (λ (j : JournalValue). (replay v j).state.core.phase) c.self.view_is ∙ c.requires.armed) in
-    let rows : row_count m.core ≤ m.core.regions.cap = (let r = ap (λ (x : RegionList). length x.rows) c.rows.ensures.rows in let t = ap (λ (x : RegionList). x.cap) c.rows.ensures.rows in omega (arith, r, t, c.len-rows.ensures.len, c.len-rows.ensures.few, c.len-rows.ensures.most)) in
     let now : length c.picks.result.now.bits ≡ row_count m.core = ap length c.picks.ensures.bits ∙ c.load_all.ensures.loaded.each in
-    room_for_results v m.core c.self.inside.journal c.self.inside.passes c.self.inside.drawn _ _ (length c.picks.result.now.bits) i.room (ap passes_open armed) (omega (arith, now, rows))
+    room_for_results v m.core c.self.inside.journal c.self.inside.passes c.self.inside.drawn _ _ (length c.picks.result.now.bits) i.room (ap passes_open armed) (omega (arith, now, c.load_all.ensures.few))
 
 pub observe-requires-clause-phase : goal.observe-requires-clause-phase
 observe-requires-clause-phase g c = subst (λ (d : Core). IsObserving d.phase (row_count d)) (sym c.load_all.ensures.loaded.core) refl
@@ -48,7 +44,6 @@ invariant_of-self g c =
     let now = c.observe.new.self in
     let pass : ℕ = c.ticks-pass.result + 1 in
     let armed : m.core.phase ≡ Armed = ap (λ (c : Core). c.phase) i.run.stands.same ∙ (ap (λ (j : JournalValue). (replay v j).state.core.phase) c.self.view_is ∙ c.requires.armed) in
-    let rows : row_count m.core ≤ m.core.regions.cap = (let r = ap (λ (x : RegionList). length x.rows) c.rows.ensures.rows in let t = ap (λ (x : RegionList). x.cap) c.rows.ensures.rows in omega (arith, r, t, c.len-rows.ensures.len, c.len-rows.ensures.few, c.len-rows.ensures.most)) in
     let observed : IsObserved mid now = record { event = c.observe.ensures.event; core = c.observe.ensures.core; cap = c.observe.ensures.cap } in
     let is : c.check.new.self ≡ with_entry (Check pass) (with_results mid.bits s.journal) = c.check.ensures ∙ ap (λ l. with_entry (Check pass) (with_results l s.journal)) c.picks.ensures.bits in
     let more = by_check s.journal c.check.new.self (Check pass) mid.bits is in
@@ -56,13 +51,13 @@ invariant_of-self g c =
     let as_many : length places ≡ length s.places.items = c.load_all.ensures.room ∙ ap length c.deref_mut.ensures.value in
     let kept : length (with_items s.places places).items ≡ length s.places.items = ap length (with_items_is s.places places (omega (arith, as_many))) ∙ as_many in
     let room = room_left v m.core now.core s.journal c.check.new.self (Check pass) mid.bits s.passes s.drawn s.drawn _ _ i.room refl
-    (pass_takes m mid now mid.bits s.drawn observed (ap (λ (d : Core). d.ticks) loaded.core) (ap (λ (d : Core). d.regions.cap) loaded.core) (ap passes_open armed) (ap entries_owed armed) (ap words_owed armed) (omega (arith, loaded.each, rows)) _ _ (same_calls v s.journal.value.entries (Check pass) refl)) more in
+    (pass_takes m mid now mid.bits s.drawn observed (ap (λ (d : Core). d.ticks) loaded.core) (ap (λ (d : Core). d.regions.cap) loaded.core) (ap passes_open armed) (ap entries_owed armed) (ap words_owed armed) (omega (arith, loaded.each, c.load_all.ensures.few)) _ _ (same_calls v s.journal.value.entries (Check pass) refl)) more in
     record {
       said = i.said;
       limits = i.limits;
       pages = i.pages;
       out = ap (λ (x : MonitorSeatView). x.out) loaded.seat ∙ i.out;
-      run = checked_run v g.N.Named.table m mid now s.seat c.load_all.new.seat s.journal.value c.check.new.self.value s.journal.checked c.check.new.self.checked s.words s.drawn pass c.journals_grow.ensures.entry i.run loaded observed armed (ap (λ t. t + 1) c.ticks-pass.ensures) more.value (ap (λ (j : JournalView). j.checked) is);
+      run = checked_run v g.N.Named.table m mid now s.seat c.load_all.new.seat s.journal.value c.check.new.self.value s.journal.checked c.check.new.self.checked s.random s.drawn pass c.journals_grow.ensures.entry i.run loaded observed armed (ap (λ t. t + 1) c.ticks-pass.ensures) more.value (ap (λ (j : JournalView). j.checked) is);
       room = subst (λ k. HasRoom v now.core c.check.new.self s.passes s.drawn (vec_capacity s.buffer) k) (sym kept) room;
     }
 

@@ -22,7 +22,7 @@ invariant_of-result g c =
     let can : CanOpen (value_of s.setup) = record { space = c.targets-targets.ensures.sound; sound = s.setup.sound; order = c.len-ranges.ensures.order } in
     let passes : s.passes ≡ v.passes = ap (λ (x : LiveValue). x.passes) said in
     let cap : s.setup.cap ≡ v.setup.cap = ap (λ (x : SetupValue). x.cap) setup in
-    let generator = c.generator-words.ensures ∙ ap (λ (x : LiveValue). seeded x.seed) said in
+    let generator = c.generator-random.ensures ∙ ap (λ (x : LiveValue). seeded x.seed) said in
     let places : s.setup.cap ≤ length c.in_ok-places.places.items = search rules in
     let room : 2 * s.setup.cap ≤ vec_capacity c.in_ok-buffer.buffer = search rules in
     record {
@@ -30,6 +30,6 @@ invariant_of-result g c =
       limits = c.requires.limits;
       pages = c.requires.pages;
       out = ap (λ (x : MonitorSeatView). x.out) c.requires.seat;
-      run = new_run v g.N.Named.table m c.args.seat j c.generator-words.result g.N.Named.seats _ _ (subst CanOpen setup can) (subst (λ x. Stands m (opening x)) setup c.in_ok-monitor.ensures.opening) c.in_ok-journal.ensures c.requires.seat generator c.requires.pages (c.in_ok-monitor.ensures.core ∙ ap opening_core setup);
-      room = new_room v m.core j s.passes s.setup.cap _ _ (c.in_ok-monitor.ensures.core ∙ ap opening_core setup) c.in_ok-journal.ensures passes cap c.requires.limits.passes c.requires.limits.calls room places;
+      run = new_run v g.N.Named.table m c.args.seat j c.generator-random.result g.N.Named.seats _ _ (subst CanOpen setup can) (subst (λ x. Stands m (opening x)) setup c.in_ok-monitor.ensures.opening) c.in_ok-journal.ensures c.requires.seat generator c.requires.pages (c.in_ok-monitor.ensures.core ∙ ap opening_core setup);
+      room = new_room v m.core j s.passes s.setup.cap _ _ (c.in_ok-monitor.ensures.core ∙ ap opening_core setup) c.in_ok-journal.ensures passes cap c.requires.limits.calls room places;
     }

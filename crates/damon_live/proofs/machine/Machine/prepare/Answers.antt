@@ -34,7 +34,7 @@ invariant_of-self g c =
     let number : pass ≡ m.core.ticks + 1 = ap (λ t. t + 1) c.ticks-pass.ensures in
     let sum : more ≡ s.drawn + row_count m.core = ap (λ k. s.drawn + k) (c.from.ensures ∙ count) in
     let clear : now.core ≡ cleared_core (row_count m.core) mid.core = c.cleared_next.ensures.core ∙ ap (λ k. cleared_core k mid.core) count in
-    let prepared : IsPrepared m now s.seat c.clear_each.new.seat s.words c.prepare_from.new.source pass = record {
+    let prepared : IsPrepared m now s.seat c.clear_each.new.seat s.random c.prepare_from.new.source pass = record {
       mid = mid;
       begin = c.prepare_from.ensures.event;
       begin_core = c.prepare_from.ensures.core;
@@ -50,8 +50,8 @@ invariant_of-self g c =
       limits = i.limits;
       pages = i.pages;
       out = ap (λ (x : MonitorSeatView). x.out) c.clear_each.ensures.seat ∙ i.out;
-      run = subst (λ ks. IsRun v table now c.clear_each.new.seat c.prepare.new.self.value ks c.prepare_from.new.source more) (sym kept) (prepared_run v table m now s.seat c.clear_each.new.seat s.journal.value c.prepare.new.self.value s.journal.checked s.words c.prepare_from.new.source s.drawn pass more c.journals_grow.ensures.other i.run prepared idle number sum (ap (λ (j : JournalView). j.value) c.prepare.ensures));
-      room = prepared_room v m now mid s.journal c.prepare.new.self (drawn (row_count m.core) (words_from s.words)) s.passes s.drawn _ _ more pass i.room idle left c.prepare_from.ensures.core clear (omega (arith, count, c.len-rows.ensures.few, c.len-rows.ensures.most, c.len-rows.ensures.small)) sum c.prepare.ensures;
+      run = subst (λ ks. IsRun v table now c.clear_each.new.seat c.prepare.new.self.value ks c.prepare_from.new.source more) (sym kept) (prepared_run v table m now s.seat c.clear_each.new.seat s.journal.value c.prepare.new.self.value s.journal.checked s.random c.prepare_from.new.source s.drawn pass more c.journals_grow.ensures.other i.run prepared idle number sum (ap (λ (j : JournalView). j.value) c.prepare.ensures));
+      room = prepared_room v m now mid s.journal c.prepare.new.self (drawn (row_count m.core) (words_from s.random)) s.passes s.drawn _ _ more pass i.room idle left c.prepare_from.ensures.core clear (omega (arith, count, c.len-rows.ensures.few, c.len-rows.ensures.most, c.len-rows.ensures.small)) sum c.prepare.ensures;
     }
 
 pub returns-clause-armed : goal.returns-clause-armed
@@ -60,7 +60,7 @@ returns-clause-armed g c =
     let count : c.len-rows.result ≡ row_count m.core = c.len-rows.ensures.len ∙ ap (λ (r : RegionList). length r.rows) c.rows.ensures.rows in
     let mid = c.prepare_from.new.self in
     let clear : c.cleared_next.new.self.core ≡ cleared_core (row_count m.core) mid.core = c.cleared_next.ensures.core ∙ ap (λ k. cleared_core k mid.core) count in
-    sym (ap (λ (d : Core). d.phase) (invariant_of-self g c).run.stands.same) ∙ ap (λ (d : Core). d.phase) (armed_core m mid c.cleared_next.new.self (drawn (row_count m.core) (words_from c.self.inside.words)) c.prepare_from.ensures.core clear)
+    sym (ap (λ (d : Core). d.phase) (invariant_of-self g c).run.stands.same) ∙ ap (λ (d : Core). d.phase) (armed_core m mid c.cleared_next.new.self (drawn (row_count m.core) (words_from c.self.inside.random)) c.prepare_from.ensures.core clear)
 
 pub returns-clause-made : goal.returns-clause-made
 returns-clause-made g c = omega (arith, (invariant_of-self g c).room.made, c.self.invariant.room.made, ap passes_made c.self.view_is)
