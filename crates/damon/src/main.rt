@@ -3,8 +3,8 @@
 #![tactic(auto)]
 
 use damon_app::replay_main;
-use run_status::Status;
 use damon_types::{StdSink, StdSource};
+use run_status::Status;
 use std::env::Env;
 use std::process::ExitCode;
 use std::{env, io};

@@ -12,8 +12,8 @@ ghost use Rattle.damon_app.specs.declared.request.Request.TheVariants.{Admin as 
 
 use crate::pieces::hand_over;
 use damon_admin::Admin;
-use run_status::Status;
 use damon_types::{Sink, Source};
+use run_status::Status;
 use std::alloc::Global;
 use text_io::{INPUT_LIMIT, read_all, write_all};
 

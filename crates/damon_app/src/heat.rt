@@ -16,10 +16,10 @@ use crate::laws::heat_tables_add_up;
 use crate::pieces::hand_over;
 use crate::request::Columns;
 use damon_core::Monitor;
-use journal_check::Replayer;
-use run_status::Status;
 use damon_types::{Sink, Source};
 use heat_report::{Sizes, tiled_rows_lie_in, working_set, write_last, write_report};
+use journal_check::Replayer;
+use run_status::Status;
 use std::alloc::{AllocError, Global};
 use text_io::{INPUT_LIMIT, read_all, write_all};
 

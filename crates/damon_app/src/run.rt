@@ -17,10 +17,10 @@ ghost use Rattle.damon_app.specs.Replay.{report_of};
 
 use crate::Run;
 use damon_control::{MAX_WORK, Script};
-use run_status::Status;
 use damon_types::Sink;
 use quota_goal::Goals;
 use reclaim_run::Reclaimer;
+use run_status::Status;
 use script_run::{Callbacks, NoCallbacks, open_player_with};
 use snapshot_print::Form;
 use std::alloc::Global;

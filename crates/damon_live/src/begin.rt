@@ -11,8 +11,8 @@ use crate::kept::Kept;
 use crate::named::Named;
 use crate::work::Job;
 use damon_control::LiveScript;
-use run_journal::Receipts;
 use page_words::{MonitorSeat, PageWords};
+use run_journal::Receipts;
 use std::alloc::{AllocError, Global};
 
 /// A run before its first step: what the lock keeps, what workers are given, and room for the lists of

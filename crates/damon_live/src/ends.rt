@@ -11,8 +11,8 @@ use crate::named::Named;
 use crate::work::Done;
 use damon_control::LiveScript;
 use damon_core::Monitor;
-use run_journal::{Journal, Receipts};
 use page_words::{MonitorSeat, PageWords};
+use run_journal::{Journal, Receipts};
 
 /// A whole run: its script, its journal and receipts, and the monitor after it.
 #[derive(Drop)]

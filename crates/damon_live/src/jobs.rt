@@ -7,9 +7,9 @@ ghost use Rattle.damon_live.specs.Work.{AreNumbered, trace_of};
 use crate::named::Named;
 use crate::work::Job;
 use damon_control::LiveScript;
-use run_journal::{ReceiptList, Receipts};
 use damon_types::PlainList;
 use page_words::{MonitorSeat, PageWords, TouchSeat, WordsAndSeat};
+use run_journal::{ReceiptList, Receipts};
 use std::alloc::{AllocError, Global};
 use std::marker::PhantomData;
 

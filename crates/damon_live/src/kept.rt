@@ -21,9 +21,9 @@ use crate::machine::Machine;
 use crate::named::Named;
 use damon_control::LiveScript;
 use damon_core::Monitor;
-use run_journal::{CallAnswer, Journal};
 use live_commit::Phase;
 use page_words::{MonitorSeat, PageWords};
+use run_journal::{CallAnswer, Journal};
 use std::alloc::{AllocError, Global};
 use std::marker::Model;
 

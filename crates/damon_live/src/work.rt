@@ -7,8 +7,8 @@ ghost use Rattle.damon_live.specs.Work.{IsShared, trace_of};
 use crate::named::Named;
 use crate::pace::{Pace, Spot};
 use damon_control::{LiveScript, Trace};
-use run_journal::{Receipt, ReceiptList};
 use page_words::{PageWords, TouchSeat};
+use run_journal::{Receipt, ReceiptList};
 use std::marker::PhantomData;
 
 /// What the threads of a run share: its page words, its script, and what holds them.

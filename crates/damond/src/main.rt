@@ -2,9 +2,9 @@
 //! its run to standard output.
 #![tactic(auto)]
 
-use run_status::Status;
 use damon_live::{NoPace, live_main};
 use damon_types::{StdSink, StdSource};
+use run_status::Status;
 use std::env::Env;
 use std::process::ExitCode;
 use std::sync::Wait;
