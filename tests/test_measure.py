@@ -4,6 +4,7 @@
     tests/test_measure.py
 """
 import os
+import re
 import shutil
 import tempfile
 import unittest
@@ -188,9 +189,13 @@ class Page(unittest.TestCase):
                 self.assertEqual(measure.main(["--write", "--csv", str(kept)]), 0)
                 self.assertEqual(measure.main(["--check", "--csv", str(kept)]), 0)
 
-    def test_the_page_has_both_places(self) -> None:
+    def test_the_page_has_only_tables_between_its_marks(self) -> None:
+        """Sentences that are written by hand stand beside them, and stay."""
         page = measure.PAGE.read_text()
-        written(page, {}, WORKLOADS)
+        rows = "".join(re.findall(r"<!-- (?:figures|growth) -->\n(.*?)<!-- end -->", page, re.DOTALL)).splitlines()
+        self.assertEqual([row for row in rows if row and not row.startswith("| ") and not row.startswith("|-")], [])
+        new, old = ([line for line in text.splitlines() if line and not line.startswith("|")] for text in (written(page, {}, WORKLOADS), page))
+        self.assertEqual(new, old)
 
     @unittest.skipUnless(measure.KEPT.exists(), "no figures are kept: tests/measure.py TURNS --csv docs/performance.csv makes them")
     def test_the_page_is_that_of_its_figures(self) -> None:
