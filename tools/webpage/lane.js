@@ -12,7 +12,7 @@ class Lane {
     this.svg = this.root.append("svg").attr("aria-hidden", "true");
     this.lines = this.svg.append("path").attr("class", "commit-lines");
     this.cursor = this.svg.append("rect").attr("class", "cursor");
-    this.width = 0;
+    this.width = this.drawnAt = 0;
     this.setHeight(height);
   }
 
@@ -50,8 +50,14 @@ class Lane {
     return { width, height };
   }
 
-  draw() {
-    this.drawContent();
+  /** Draws the lane. Where there is no time, one that has a picture shows that at its new place, and stays stale. */
+  draw(hasTime) {
+    if (hasTime || !this.picture) {
+      this.drawContent();
+      Object.assign(this, { isStale: false, drawnAt: performance.now() });
+    } else {
+      this.movePicture();
+    }
     this.drawCursor();
   }
 
