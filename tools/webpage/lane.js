@@ -4,6 +4,12 @@
 
 const GUTTER = { left: 112, right: 18 };
 
+/** A canvas with this size. To give it the size that it has would clear it. */
+function resized(canvas, width, height) {
+  if (canvas.width !== width || canvas.height !== height) Object.assign(canvas, { width, height });
+  return canvas;
+}
+
 class Lane {
   constructor(view, parent, height) {
     this.view = view;
@@ -45,7 +51,7 @@ class Lane {
   /** Gives the canvas a point for each point of the screen; gives how many. */
   fitCanvas() {
     const ratio = window.devicePixelRatio, width = Math.max(1, Math.round(this.width * ratio)), height = Math.max(1, Math.round(this.height * ratio));
-    if (this.canvas.width !== width || this.canvas.height !== height) Object.assign(this.canvas, { width, height });
+    resized(this.canvas, width, height);
     Object.assign(this.canvas.style, { left: `${GUTTER.left}px`, width: `${this.width}px`, height: `${this.height}px` });
     return { width, height };
   }

@@ -1,8 +1,8 @@
 /* Puts the page together, and draws again what has changed. */
 "use strict";
 
-/** The milliseconds of a frame after which lanes are only moved. A screen shows sixty frames in a second. */
-const MOST_OF_FRAME = 12;
+/** The milliseconds of a frame after which pictures are only moved: half of what a screen with sixty frames in a second has. */
+const MOST_OF_FRAME = 8;
 
 class Page {
   constructor(meta, buffer) {

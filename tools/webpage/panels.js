@@ -31,7 +31,7 @@ class HeatLane extends Lane {
     const { width, height } = this.fitCanvas(), { view, page } = this;
     const frame = new Frame(this.number, view.time, view.pages[this.number], width, height);
     this.frame = frame;
-    this.picture = Object.assign(document.createElement("canvas"), { width, height });
+    this.picture = resized(this.picture ?? document.createElement("canvas"), width, height);
     if (this.reports.length === 1) {
       const marks = page.colours.size ? marksOf(this.reports[0], frame, page.colours) : null;
       paint(this.picture, frame, page.palette, sharesOf(this.reports[0], frame), share => page.palette.heat[levelOf(share)], marks);
