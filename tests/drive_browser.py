@@ -22,7 +22,8 @@ SECONDS = 60
 WORDS = ("--headless=new", "--disable-gpu", "--hide-scrollbars", f"--window-size={WIDTH},{HEIGHT}", "--force-device-scale-factor=1",
          # Chromium refuses to run as root with its sandbox, and tests may run as root.
          "--no-sandbox")
-FRAMES = "const done = arguments[0]; requestAnimationFrame(() => requestAnimationFrame(() => setTimeout(done, 0)))"
+FRAMES = """const done = arguments[0], look = () => document.body.dataset.isDrawn === "no" ? requestAnimationFrame(look) : setTimeout(done, 0);
+requestAnimationFrame(() => requestAnimationFrame(look))"""
 """Ends when what was changed until now is drawn."""
 ASKING = ("script", "log")
 """The commands that change nothing that is drawn."""

@@ -13,6 +13,8 @@ from typing import Callable
 from tool_runs import PROGRAM, SECONDS, TOP
 
 COMMANDS = ("mkdir ", "tools/", "./damon ", "grep ", "sed ", "xz ")
+UNTRIED = ("valgrind", "perf script", "drrun ", "out/shop.trace", "gnuplot", "./damond run")
+"""Blocks of the tutorial with these need programs that are not everywhere, or make another run each time."""
 BLOCK = re.compile(r"^```\n(.*?)^```", re.MULTILINE | re.DOTALL)
 CUT = ".."
 """A line of a page in place of any lines of the output."""

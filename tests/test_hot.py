@@ -7,6 +7,7 @@ import csv
 import io
 import json
 import re
+import tempfile
 import unittest
 from collections import Counter
 
@@ -106,6 +107,20 @@ class Areas(unittest.TestCase):
         self.assertRegex(text[-1], r"^3 of \d+ rows with \d+ pages, over \d+ aggregations up to tick \d+$")
         script = script_of(random_trace(9, 4000), "--interval", "10", "--aggr", "5", "--max", "40", *SCHEMES)
         self.assertEqual(lines_of(report_of(script, "json"), "-n3", "--label", "1=a heap"), text)
+
+    def test_names_by_a_file(self) -> None:
+        """A row has the name of most of its bytes; a label of its target comes before that."""
+        rows = [json.loads(line) for line in lines_of(self.REPORT, "-n99", "--json")]
+        first = next(row for row in rows if row["target"] == 1)
+        with tempfile.NamedTemporaryFile("w", suffix=".names") as file:
+            file.write(f"{first['from']}-{first['to']} an area\n")
+            file.flush()
+            for words, names in ((("--label", "2=mine"), {1: "an area", 2: "mine"}), (("--label", "1=mine"), {1: "mine"})):
+                named = [json.loads(line) for line in lines_of(self.REPORT, "-n99", "--json", "--names", file.name, *words)]
+                self.assertEqual(named[rows.index(first)]["name"], names[1])
+                for row, other in zip(named, rows):
+                    is_named = row["target"] in names and (row["from"] == first["from"] or names[row["target"]] == "mine")
+                    self.assertEqual(row, {**other, "name": names[row["target"]] if is_named else ""})
 
     def test_working_sets(self) -> None:
         sizes = sorted(sum(1 for count in one["counts"].values() if count) for one in aggregations_of(self.REPORT))

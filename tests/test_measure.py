@@ -4,6 +4,7 @@
     tests/test_measure.py
 """
 import os
+import re
 import shutil
 import tempfile
 import unittest
@@ -14,9 +15,11 @@ from unittest import mock
 
 
 import measure
+import measure_tools
 from figures import Figures, Measured, Subject, joined, lines_of, load, save, written
 from measure import Inputs, Job, Program, jobs_of, order_of, parse_words, program_of
 from speed_workloads import WORKLOADS, Workload
+from tool_runs import need_program
 
 SMALL = Workload("small", "a small one", "lines", ("replay",), (3, 1), lambda size: b"line\n" * size)
 OTHER = Workload("other", "another one", "", ("json",), (2,), lambda size: b"x" * size)
@@ -188,14 +191,40 @@ class Page(unittest.TestCase):
                 self.assertEqual(measure.main(["--write", "--csv", str(kept)]), 0)
                 self.assertEqual(measure.main(["--check", "--csv", str(kept)]), 0)
 
-    def test_the_page_has_both_places(self) -> None:
+    def test_the_page_has_only_tables_between_its_marks(self) -> None:
+        """Sentences that are written by hand stand beside them, and stay."""
         page = measure.PAGE.read_text()
-        written(page, {}, WORKLOADS)
+        rows = "".join(re.findall(r"<!-- (?:figures|growth) -->\n(.*?)<!-- end -->", page, re.DOTALL)).splitlines()
+        self.assertEqual([row for row in rows if row and not row.startswith("| ") and not row.startswith("|-")], [])
+        new, old = ([line for line in text.splitlines() if line and not line.startswith("|")] for text in (written(page, {}, WORKLOADS), page))
+        self.assertEqual(new, old)
 
     @unittest.skipUnless(measure.KEPT.exists(), "no figures are kept: tests/measure.py TURNS --csv docs/performance.csv makes them")
     def test_the_page_is_that_of_its_figures(self) -> None:
         self.assertEqual(measure.main(["--check"]), 0)
 
+
+
+class Tools(unittest.TestCase):
+    def test_the_commands_of_the_tutorial(self) -> None:
+        commands = measure_tools.commands_of(measure_tools.PAGE.read_text())
+        self.assertIn("--keep out/shop.cut", commands[1])
+        self.assertGreater(len(commands), 30)
+        self.assertEqual([line for line in commands if "valgrind" in line or "./damond run" in line], [])
+
+    def test_a_command_that_fails_is_no_time(self) -> None:
+        with self.assertRaisesRegex(RuntimeError, "^tools/flat.py no-such-file: status 2$"):
+            measure_tools.tutorial(["tools/flat.py no-such-file"])
+
+    def test_a_search_beside_its_runs(self) -> None:
+        need_program()
+        with tempfile.TemporaryDirectory() as folder:
+            plan = Path(folder) / "small.toml"
+            plan.write_text(measure_tools.SMALL.format(path=measure.TOP / "examples/cold.damon", runs=20))
+            found = measure_tools.searched(plan, 1)
+        self.assertEqual(found.runs, 20)
+        self.assertGreater(found.whole, found.alone)
+        self.assertGreater(found.alone, 0)
 
 
 if __name__ == "__main__":

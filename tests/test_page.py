@@ -2,12 +2,20 @@
 """Tests of a page of tools/page.py in a browser: its drawing and its zoom, beside the words of its reports."""
 from __future__ import annotations
 
+import json
 import unittest
 
 from page_parts import PAGE, Found, Row
 from page_shown import GUTTER, RIGHT, Pages, Shown, heat, middle, scheme_words
 
 from drawing.style import LIGHT
+
+
+PICTURES = "[...document.querySelectorAll('.target canvas')].map(one => one.toDataURL())"
+ZOOM = """
+const done = arguments[0], lane = document.querySelector(%s), { left, top } = lane.getBoundingClientRect();
+lane.dispatchEvent(new WheelEvent('wheel', { deltaY: -500, clientX: left + 500, clientY: top + 20, bubbles: true, cancelable: true, view: window }));
+requestAnimationFrame(() => done(%s))"""
 
 
 def setUpModule() -> None:
@@ -97,6 +105,24 @@ class Zoom(Shown):
         for found, row in asked[:: len(asked) // 6]:
             said = self.hover(self.TARGET, found.tick - found.passes / 2, int(middle(row)) + 0.5)
             self.assertEqual((said["addresses"], said["age"]), ([row.addresses], [str(row.age)]))
+
+    def test_lanes_that_a_frame_has_no_time_for_are_moved_and_drawn_later(self) -> None:
+        def zoomed() -> tuple[list[str], list[str]]:
+            """The pictures of all lanes in the frame after a turn of the wheel, and at the end."""
+            soon = self.browser.do("wait", ZOOM % (json.dumps(self.selector), PICTURES))
+            return soon, self.browser.do("script", f"return {PICTURES}")
+
+        before = self.browser.do("script", f"return {PICTURES}")
+        _, wanted = zoomed()
+        self.browser.do("click", "#whole")
+        self.assertEqual(self.browser.do("script", f"return {PICTURES}"), before)
+        # Each look at the clock takes a second: a frame has time for one lane.
+        self.browser.do("script", "let now = performance.now(); performance.now = () => now += 1000")
+        soon, found = zoomed()
+        self.assertEqual(found, wanted)
+        states = ["old" if one == old else "drawn" if one == new else "moved" for one, old, new in zip(soon, before, wanted)]
+        self.assertNotIn("old", [state for state, old, new in zip(states, before, wanted) if old != new])
+        self.assertGreater(states.count("moved"), 1)
 
     def test_one_direction_alone(self) -> None:
         for place, key, is_time, is_pages in ((500, "SHIFT", True, False), (500, "ALT", False, True), (40, "", False, True)):

@@ -4,6 +4,7 @@ from __future__ import annotations
 
 import csv
 import io
+import pickle
 import random
 import unittest
 from array import array
@@ -53,18 +54,29 @@ class ExactCounts(unittest.TestCase):
                 self.assertLessEqual(len(self.truths.known), 3)
 
     def test_pages_of_places(self) -> None:
-        found = self.truths.between(0, 7)
+        found, places = self.truths.between(0, 7), self.truths.places
         for number, (target, page) in enumerate(PAGES):
             place = f"{target} {page << 12:#x}-{page + 1 << 12:#x}"
-            self.assertEqual(self.truths.kinds_at(found, [place]), [found.kinds[number : number + 1]])
-        self.assertEqual(b"".join(self.truths.kinds_at(found, ["0 0x10000-0x28000", "0 0x32000-0x33000", "3 0x10000-0x1e000"])),
-                         found.kinds)
+            self.assertEqual(places.rows[f"{place} count={number}"], (slice(number, number + 1), number))
+            self.assertEqual(places.runs[f"cold {place} score"], ("cold", 1))
+        whole = [places.rows[f"{place} count=1"][0] for place in ("0 0x10000-0x28000", "0 0x32000-0x33000", "3 0x10000-0x1e000")]
+        self.assertEqual(b"".join(found.kinds[pages] for pages in whole), found.kinds)
         for text in ("0 0x10000-0x29000", "0 0x28000-0x32000", "1 0x10000-0x11000", "0 0x11000-0x11000", "0 0xf000-0x11000"):
             with self.assertRaisesRegex(LookupError, f"pages that are not watched: {text}"):
-                self.truths.kinds_at(found, [text])
+                places.rows[f"{text} count=1"]
+            with self.assertRaisesRegex(LookupError, f"pages that are not watched: {text}"):
+                places.runs[f"pageout {text} score"]
         for text in ("0", "0 0x10000", "x 0x10000-0x11000", "0 y-0x11000", "0 0x10000-0x11000-0x12000"):
-            with self.assertRaises(ValueError):
-                self.truths.kinds_at(found, [text])
+            self.assertRaises(ValueError, places.row, f"{text} count=1")
+            self.assertRaises(ValueError, places.run, f"pageout {text} score")
+
+    def test_places_are_kept_and_forgotten_where_they_are_many(self) -> None:
+        sent: Truths = pickle.loads(pickle.dumps(self.truths))
+        rows = sent.places.rows
+        with mock.patch.object(truth, "MOST_KEPT", 3):
+            for count in range(7):
+                self.assertEqual(rows[f"0 0x10000-0x28000 count={count}"], (slice(0, 24), count))
+                self.assertEqual(len(rows), 1 + count % 3)
 
     def test_no_interval(self) -> None:
         self.assertEqual(Truths(RANGES, [array("Q")], 0.5).between(0, 1).accessed, 0)

@@ -6,7 +6,7 @@ import unittest
 from pathlib import Path
 
 from page_parts import parts_of
-from pages import Page
+from pages import UNTRIED, Page
 from tool_runs import TOP, check_same, need_program
 
 from webpage.d3 import BUNDLE
@@ -22,7 +22,7 @@ class Tutorial(Page):
     HAS_D3 = BUNDLE.is_file()
 
     def test_commands_and_outputs(self) -> None:
-        skipped = ["valgrind", "perf script", "drrun ", "out/shop.trace", "gnuplot", "./damond run", *([] if self.HAS_D3 else ["tools/page.py"])]
+        skipped = [*UNTRIED, *([] if self.HAS_D3 else ["tools/page.py"])]
         self.follow("docs/TUTORIAL.md", lambda block: any(word in block for word in skipped), self.compare_pictures)
 
     def compare_pictures(self, folder: Path) -> None:

@@ -149,6 +149,10 @@ class Names(unittest.TestCase):
     def test_names_in_brackets(self) -> None:
         self.assertEqual([one.name for one in mappings(MAPS.splitlines())][-2:], ["stack", "jit code"])
 
+    def test_names_are_printable(self) -> None:
+        for text, name in (("[anon:]", "anonymous"), ("/tmp/a\tb", "a?b"), ("/tmp/ a ", "a"), ("/tmp/\N{BULLET}", "?")):
+            self.assertEqual([one.name for one in mappings([f"00400000-00401000 r--p 00000000 fe:00 10   {text}"])], [name])
+
     def test_a_program_without_a_loader(self) -> None:
         maps = mappings(["00400000-00401000 r--p 00000000 fe:00 10                  /bin/static", "004a8000-004ad000 rw-p 00000000 00:00 0 ",
                          "04000000-04022000 rwxp 00000000 00:00 0 "])

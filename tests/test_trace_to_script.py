@@ -9,7 +9,7 @@ import unittest
 from collections import Counter
 from pathlib import Path
 
-from tool_runs import KEPT, Refusals, counts_of_report, need_program, random_trace, report_of, run, script_of
+from tool_runs import KEPT, Refusals, counts_of_report, need_program, notes_of, random_trace, report_of, run, script_of
 
 from tracing.accesses import TraceError
 from tracing.areas import chosen, group_pages
@@ -121,6 +121,40 @@ class Scripts(unittest.TestCase):
             self.assertEqual(script_of(b"", "--interval", "9", str(path)), script_of(trace, "--interval", "9"))
 
 
+class Names(unittest.TestCase):
+    TRACE = b" L 00108000,4\n L 00109000,4\n L 00000000048470f0,8\n S 1ffeffe000,4\n"
+    MAPS = ("00108000-00110000 r--p 00000000 fe:00 248066   /usr/bin/sqlite3\n04847000-0486d000 r--p 00000000 fe:00 332835   /lib/my libc.so\n"
+            "1ffeffe000-1fff001000 rw-p 00000000 00:00 0\n")
+
+    def setUp(self) -> None:
+        folder = tempfile.TemporaryDirectory()
+        self.addCleanup(folder.cleanup)
+        self.maps, self.names = (Path(folder.name) / name for name in ("maps", "names"))
+        self.maps.write_text(self.MAPS)
+
+    def notes(self, trace: bytes, *words: str) -> str:
+        return notes_of(trace, "--interval", "3", "--aggr", "1", "--names", str(self.names), *words)
+
+    def test_the_file(self) -> None:
+        notes = self.notes(self.TRACE, "--maps", str(self.maps))
+        self.assertIn(f"note: names of 3 of 3 targets are in {self.names}\n", notes)
+        self.assertEqual(self.names.read_text(), "0x108000-0x10a000 sqlite3\n0x4847000-0x4848000 my libc.so\n0x1ffeffe000-0x1ffefff000 stack\n")
+        self.assertIn("names of 1 of 3 targets", self.notes(self.TRACE))
+        self.assertEqual(self.names.read_text(), "0x1ffeffe000-0x1ffefff000 stack\n")
+
+    def test_what_has_no_names(self) -> None:
+        self.assertIn("names of 0 of 1 target ", self.notes(b"1.5 0x1000\n"))
+        self.assertEqual(self.names.read_text(), "")
+
+    def test_other_tools_read_it(self) -> None:
+        report = report_of(script_of(self.TRACE, "--interval", "3", "--aggr", "1", "--names", str(self.names), "--maps", str(self.maps))).encode()
+        labels = ("--label", "0=sqlite3", "--label", "1=my libc.so", "--label", "2=stack")
+        for tool in ("picture.py", "hot.py"):
+            by_file, by_label = run(tool, "--names", str(self.names), text=report), run(tool, *labels, text=report)
+            self.assertEqual((by_file.returncode, by_file.stdout), (0, by_label.stdout), by_file.stderr)
+            self.assertIn(b"my libc.so", by_file.stdout)
+
+
 class Errors(Refusals):
     def taken_from(self, parts: list[str], trace: bytes, *words: str) -> None:
         self.refused(TOOL, parts, trace, *words)
@@ -159,6 +193,8 @@ class Errors(Refusals):
         self.taken_from(["--scheme"], trace, "--scheme", "scheme 0 stat\nbegin")
         self.taken_from(["--metric"], trace, "--metric", "5")
         self.taken_from(["--exact"], trace, "--exact", "--cap", "9")
+        for words, other in ((("a",), "the trace"), (("--keep", "./a"), "that of --keep"), (("--maps", "a"), "that of --maps")):
+            self.taken_from([f"--names needs a file of its own, and not {other}\n"], trace, "--names", "a", *words)
 
     def test_files(self) -> None:
         self.taken_from(["no-such-file: No such file or directory\n"], b"", "no-such-file")

@@ -10,6 +10,7 @@ import signal
 import sys
 import zlib
 from contextlib import contextmanager
+from pathlib import Path
 from typing import BinaryIO, Callable, Iterator, TextIO, cast
 
 STANDARD_INPUT = "-"
@@ -70,6 +71,18 @@ def opened_text(path: str) -> Iterator[TextIO]:
         finally:
             # Standard input stays open.
             text.detach()
+
+
+@contextmanager
+def whole_file(path: Path) -> Iterator[BinaryIO]:
+    """A file to write. It is there as a whole or not at all."""
+    unready = path.with_name(f".{path.name}.{os.getpid()}")
+    try:
+        with open(unready, "wb") as stream:
+            yield stream
+        os.replace(unready, path)
+    finally:
+        unready.unlink(missing_ok=True)
 
 
 def run(tool: str, work: Callable[[], int | None]) -> None:

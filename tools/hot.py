@@ -15,7 +15,8 @@ from asking.policy import PolicyError, followed
 from asking.why import Answer, answers_of
 from common import STANDARD_INPUT, UsageError, opened, opened_text, parser, run
 from reports.events import Aggregation, Event, Report, ReportError
-from reports.labels import check_labels, labels_of
+from reports.labels import check_labels, labels_of, names_read
+from reports.names import NamedArea, name_of
 from scripts.setup import Script
 from units import PAGE
 from wording import aligned, counted, size_words
@@ -54,6 +55,7 @@ def options_of() -> argparse.Namespace:
     add("-n", type=int, default=20, dest="most", metavar="N", help="the most rows (20)")
     add("--step", type=int, default=10, metavar="PERCENT", help="how far the shares of a row may differ; 0: not at all (10)")
     add("--label", action="append", default=[], metavar="TARGET=TEXT", help="names a target; may be repeated")
+    add("--names", metavar="FILE", help="names areas by lines START-END NAME; a label comes before them")
     add("--csv", action="store_true", help="write the rows as CSV")
     add("--json", action="store_true", help="write the rows as JSON, an object in a line for each")
     add("--wss", action="store_true", help="the sizes of the working set, in pages: least, quartiles, greatest")
@@ -100,9 +102,10 @@ def span_of(events: Sequence[Event], options: argparse.Namespace) -> list[Aggreg
     return found
 
 
-def row_of(area: Area, labels: dict[int, str]) -> dict[str, Any]:
+def row_of(area: Area, labels: dict[int, str], names: Sequence[NamedArea]) -> dict[str, Any]:
     """An area as it is written."""
-    return {"target": area.target, "name": labels.get(area.target, ""), "from": f"{area.start:#x}", "to": f"{area.end:#x}",
+    name = labels.get(area.target) or name_of(names, area.start, area.end) or ""
+    return {"target": area.target, "name": name, "from": f"{area.start:#x}", "to": f"{area.end:#x}",
             "pages": area.pages, "share": round(area.share, 4), "age": area.age, "slots": ", ".join(area.slots)}
 
 
@@ -110,11 +113,12 @@ def areas(options: argparse.Namespace) -> list[str]:
     """The hottest or the coldest areas, as lines."""
     span = span_of(events_of(options), options)
     labels = labels_of(options.label)
+    names = names_read(options.names) if options.names is not None else []
     check_labels(labels, sorted({region.target for one in span for region in one.regions}), "the report has")
     found = [area for area in areas_of(span, options.step) if options.target in (None, area.target)]
     if not found:
         raise UsageError(f"the report has no page of target {options.target}")
-    rows = [row_of(area, labels) for area in ranked(found, options.cold)[: options.most]]
+    rows = [row_of(area, labels, names) for area in ranked(found, options.cold)[: options.most]]
     return written(rows, options) or [*area_lines(rows), summary(span, found, len(rows))]
 
 

@@ -15,7 +15,8 @@ from typing import Callable
 sys.path.insert(0, str(Path(__file__).resolve().parent))
 
 import common
-from common import UsageError, opened_text
+from common import UsageError, opened_text, whole_file
+from reports.names import NamedArea, lines_of
 from scripts.grammar import HEADERS, MOST_CAP
 from scripts.judge import has_judge
 from tracing import commits, notes, reading
@@ -24,13 +25,15 @@ from tracing.areas import Area, chosen, group_pages
 from tracing.commits import commits_of, placed_lines
 from tracing.early import check_lines
 from tracing.fit import fitted, too_much_at_all, too_much_to_fit
+from tracing.forms import LACKEY
 from tracing.intervals import Recording, coarser
 from tracing.kept import Kept, is_kept, keep, kept_at
-from tracing.names import MapsError, Mapping, mappings
+from tracing.names import MapsError, Mapping, known_names, mappings
 from tracing.notes import Result
 from tracing.reading import no_limit, read_trace, touched
 from tracing.script import LimitError, Settings, check_ranges, check_settings, write_script
 from tracing.source import Interrupt
+from units import PAGE
 from wording import counted
 
 TOOL = "trace_to_script.py"
@@ -55,6 +58,12 @@ plans of search.py, so that the trace is read once:
 
   tools/trace_to_script.py --interval 3000 --grain 1000 --keep sort.cut sort.trace > sort.damon
   tools/trace_to_script.py --interval 5000 --max 200 sort.cut > sort-200.damon
+
+--names writes the names that it knows by --maps or, under valgrind, by the place of an area. Pictures, pages and
+tables take the file, in which more lines `START-END NAME` may be added:
+
+  tools/trace_to_script.py --maps sort.maps --names sort.names sort.cut > sort.damon
+  tools/picture.py --names sort.names sort.report > sort.svg
 
 An interrupt (Ctrl-C) while a trace is read ends the reading: the script is made of what was read. A second
 one ends the tool.
@@ -98,6 +107,7 @@ def parser() -> argparse.ArgumentParser:
     add("--grain", type=int, metavar="N", help="the intervals in that file, of which other intervals are multiples (--interval)")
     add("--gap", type=int, default=16, metavar="PAGES", help="untouched pages that a target may have between touched ones (16)")
     add("--maps", metavar="FILE", help="a copy of /proc/PID/maps of the traced program, which names the targets")
+    add("--names", metavar="FILE", help="also write the names of targets to this file, which --names of the other tools reads")
     add("--exact", action="store_true", help=f"one page a region: sets --unit, --cap, --min and --max; at most {MOST_CAP} pages")
     add("--unit", type=int, metavar="PAGES", help="the minimum size of a region (1)")
     add("--cap", type=int, metavar="N", help="the most regions that are ever allowed (--max)")
@@ -122,12 +132,20 @@ def check_options(options: argparse.Namespace) -> None:
             raise UsageError("--grain is for --keep without --fit, which makes its own intervals")
         if options.grain < 1 or options.interval % options.grain:
             raise UsageError("--interval must be a multiple of --grain")
-    if options.keep and Path(options.keep).resolve() == Path(options.trace).resolve():
-        raise UsageError("--keep needs a file of its own, and not the trace")
+    check_files(options)
     if options.gap < 0:
         raise UsageError("--gap must be at least 0")
     if options.exact and (options.unit or options.cap or options.min or options.max):
         raise UsageError("--exact sets --unit, --cap, --min and --max itself")
+
+
+def check_files(options: argparse.Namespace) -> None:
+    """Raises UsageError if a file that is written is another one as well."""
+    others = {Path(path).resolve(): name for name, path in (("the trace", options.trace), ("that of --maps", options.maps)) if path}
+    for option, path in (("--keep", options.keep), ("--names", options.names)):
+        if path and Path(path).resolve() in others:
+            raise UsageError(f"{option} needs a file of its own, and not {others[Path(path).resolve()]}")
+        others |= {Path(path).resolve(): f"that of {option}"} if path else {}
 
 
 def settings_of(options: argparse.Namespace, pages: int) -> Settings:
@@ -194,7 +212,18 @@ def result_of(options: argparse.Namespace, kept: Kept, maps: list[Mapping] | Non
         length, script = fitted(choice.kept, recording, settings)
     else:
         length, script = recording.length, write_script(choice.kept, iter(recording.intervals), settings)
-    return Result(script, choice, recording, length, settings, kept.origin, maps, said)
+    names = known_names(choice.kept, recording.uses, maps, kept.origin.form == LACKEY)
+    if options.names:
+        write_names(options.names, choice.kept, names)
+        said = [*said, f"names of {len(names)} of {counted(len(choice.kept), 'target')} are in {options.names}"]
+    return Result(script, choice, recording, length, settings, kept.origin, names, said)
+
+
+def write_names(path: str, areas: list[Area], names: dict[int, str]) -> None:
+    """Writes the names of targets, by their addresses."""
+    named = [NamedArea(areas[target].first * PAGE, areas[target].after * PAGE, names[target]) for target in sorted(names)]
+    with whole_file(Path(path)) as stream:
+        stream.write(lines_of(named).encode("ascii"))
 
 
 def usual_interval(options: argparse.Namespace) -> int:

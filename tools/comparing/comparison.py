@@ -23,7 +23,7 @@ class Comparison:
     def add(self, exact: Exact, found: Aggregation, target: int | None, share: float) -> None:
         """Adds one aggregation. Raises LookupError if the exact counts lack a page, and ReportError."""
         now = Moment(self.sums.aggregations, found.tick)
-        self.sums.add(exact.truth, exact.found_by(regions_of(found, target)), share * found.passes)
+        self.sums.add(exact.truth, exact.found_by(regions_of(found, target), share * found.passes))
         applied = applied_of(found, target)
         self.paging.add(now, exact.accessed, applied)
         self.uses.add(now, exact.accessed, applied)

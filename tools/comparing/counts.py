@@ -50,19 +50,13 @@ class Exact:
         """What the pages of a region were. Raises LookupError if the exact counts lack one."""
         return self.truth.kinds[self.places.at(region.target, region.start >> PAGE_BITS, region.end >> PAGE_BITS)]
 
-    def found_by(self, regions: list[Region]) -> Found:
-        """What a report with these regions found. Raises LookupError."""
-        watched = accessed = 0
-        kinds: list[bytes] = []
-        counts: list[int] = []
-        for region in regions:
-            pages = self.kinds_at(region)
-            watched += len(pages)
-            accessed += len(pages) - pages.count(UNTOUCHED)
-            if region.hits:
-                kinds.append(pages)
-                counts.append(region.hits)
-        return Found(watched, accessed, kinds, counts)
+    def found_by(self, regions: list[Region], least: float) -> Found:
+        """What a report with these regions found, which calls hot what has at least this count. Raises LookupError."""
+        kinds = [(self.kinds_at(region), region.hits) for region in regions]
+        watched = b"".join([pages for pages, _ in kinds])
+        called = b"".join([pages for pages, hits in kinds if hits])
+        called_hot = b"".join([pages for pages, hits in kinds if hits and hits >= least])
+        return Found(len(watched), len(watched) - watched.count(UNTOUCHED), called, called_hot)
 
 
 def ranges_of(regions: list[Region]) -> list[Range]:

@@ -5,7 +5,7 @@ All numbers but the first are page-aggregations: one page in one aggregation.
 from __future__ import annotations
 
 from dataclasses import dataclass
-from typing import NamedTuple, Sequence
+from typing import NamedTuple
 
 from .truth import HOT, UNTOUCHED, Truth
 
@@ -17,10 +17,10 @@ class Found(NamedTuple):
     """The pages of all its regions."""
     accessed: int
     """Those of them that were accessed."""
-    kinds: Sequence[bytes]
-    """What the pages of each region with a count above 0 were."""
-    counts: Sequence[int]
-    """The counts of these regions."""
+    called: bytes
+    """What the pages of all regions with a count above 0 were."""
+    called_hot: bytes
+    """The same of regions with a count that makes them hot."""
 
 
 @dataclass
@@ -45,21 +45,20 @@ class Sums:
     working_set_off: int = 0
     """The distances of the two working sets, aggregation by aggregation."""
 
-    def add(self, truth: Truth, found: Found, least: float) -> None:
-        """Adds one aggregation. A region is called hot from this count on."""
-        pages = b"".join(found.kinds)
-        called_hot = b"".join([kinds for kinds, count in zip(found.kinds, found.counts) if count >= least])
-        accessed = len(pages) - pages.count(UNTOUCHED)
-        called_cold = found.watched - len(pages)
+    def add(self, truth: Truth, found: Found) -> None:
+        """Adds one aggregation."""
+        called = len(found.called)
+        accessed = called - found.called.count(UNTOUCHED)
+        called_cold = found.watched - called
         self.aggregations += 1
         self.pages += truth.pages
         self.unwatched += truth.pages - found.watched
         self.hot += truth.hot
-        self.called_hot += len(called_hot)
-        self.hot_found += called_hot.count(HOT)
+        self.called_hot += len(found.called_hot)
+        self.hot_found += found.called_hot.count(HOT)
         self.cold += truth.pages - truth.accessed
         self.called_cold += called_cold
         self.cold_found += called_cold - (found.accessed - accessed)
         self.working_set += truth.accessed
-        self.working_set_found += len(pages)
-        self.working_set_off += abs(truth.accessed - len(pages))
+        self.working_set_found += called
+        self.working_set_off += abs(truth.accessed - called)

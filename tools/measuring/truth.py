@@ -4,7 +4,7 @@ The watched pages are numbered from 0: range by range, each by address.
 """
 from __future__ import annotations
 
-from typing import Iterable, NamedTuple, Sequence
+from typing import Callable, Iterable, NamedTuple, Sequence, TypeVar
 
 from tracing.intervals import Runs, touch_counts
 from units import PAGE_BITS
@@ -12,7 +12,7 @@ from units import PAGE_BITS
 UNTOUCHED, ACCESSED, HOT = b"\0", b"\1", b"\2"
 """What a page was in an aggregation. A hot one was accessed too."""
 MOST_KEPT = 1 << 16
-"""The most places whose pages are kept."""
+"""The most texts whose pages are kept."""
 MOST_BYTES = 1 << 28
 """The most bytes of aggregations that are kept."""
 
@@ -29,18 +29,49 @@ class Range(NamedTuple):
         return self.after - self.first
 
 
-class Places(dict[str, slice]):
-    """The numbers of the pages of `TARGET START-END`, as a report has it. It keeps the answers: the places of rows come again."""
+T = TypeVar("T")
+
+
+class Known(dict[str, T]):
+    """What a function says of texts. It is asked once for each, as the rows of reports come again."""
+
+    def __init__(self, answer: Callable[[str], T]) -> None:
+        super().__init__()
+        self.answer = answer
+
+    def __missing__(self, text: str) -> T:
+        """All other answers are forgotten where they are many."""
+        if len(self) >= MOST_KEPT:
+            self.clear()
+        result = self[text] = self.answer(text)
+        return result
+
+    def __reduce__(self) -> tuple[type[Known[T]], tuple[Callable[[str], T]]]:
+        return (Known, (self.answer,))
+
+
+class Places:
+    """The numbers of watched pages."""
 
     def __init__(self, ranges: Sequence[Range]) -> None:
-        super().__init__()
         self.ranges = list(ranges)
+        self.rows, self.runs = Known(self.row), Known(self.run)
 
-    def __missing__(self, text: str) -> slice:
-        """Raises LookupError if these pages are not watched, and ValueError if it is no such text."""
-        target, addresses = text.split(" ")
+    def row(self, text: str) -> tuple[slice, int]:
+        """The pages and the count of `TARGET START-END count=COUNT`. Raises LookupError and ValueError, as `of` does."""
+        target, addresses, count = text.split(" ")
+        return self.of(target, addresses), int(count.removeprefix("count="))
+
+    def run(self, text: str) -> tuple[str, int]:
+        """The action of `ACTION TARGET START-END score`, and how many pages it has. Raises LookupError and ValueError, as `of` does."""
+        action, target, addresses, _ = text.split(" ")
+        pages = self.of(target, addresses)
+        return action, pages.stop - pages.start
+
+    def of(self, target: str, addresses: str) -> slice:
+        """The pages of `TARGET` and `START-END`. Raises LookupError if they are not watched, and ValueError if these are no such texts."""
         start, end = (int(address, 16) >> PAGE_BITS for address in addresses.split("-"))
-        return self.kept(text, self.at(int(target), start, end))
+        return self.at(int(target), start, end)
 
     def at(self, target: int, first: int, after: int) -> slice:
         """The same of pages that are named by numbers. Raises LookupError."""
@@ -50,16 +81,6 @@ class Places(dict[str, slice]):
                 return slice(base + first - one.first, base + after - one.first)
             base += one.pages
         raise LookupError(f"pages that are not watched: {target} {first << PAGE_BITS:#x}-{after << PAGE_BITS:#x}")
-
-    def kept(self, text: str, pages: slice) -> slice:
-        """Keeps an answer, and forgets all others where they are many."""
-        if len(self) >= MOST_KEPT:
-            self.clear()
-        self[text] = pages
-        return pages
-
-    def __reduce__(self) -> tuple[type[Places], tuple[list[Range]]]:
-        return (Places, (self.ranges,))
 
 
 class Truth:
@@ -99,12 +120,3 @@ class Truths:
         runs = ((first, after, count >= least) for first, after, count in touch_counts(self.intervals[since:tick]))
         result = self.known[since, tick] = Truth(self.pages, runs)
         return result
-
-    def pages_at(self, place: str) -> int:
-        """How many pages are at this place. Raises LookupError and ValueError, as `Places` does."""
-        found = self.places[place]
-        return int(found.stop - found.start)
-
-    def kinds_at(self, truth: Truth, places: Iterable[str]) -> list[bytes]:
-        """What the pages at each of these places were. Raises LookupError and ValueError, as `Places` does."""
-        return [truth.kinds[self.places[place]] for place in places]

@@ -7,7 +7,7 @@ from __future__ import annotations
 
 from typing import Iterator, NamedTuple
 
-from .forms import ACCESSED_ROW, AGGREGATE_START, APPLIED_PLACE, APPLY_START, LAST_LINES, MEMORY, ROW_START, SHOW_START, ReportError
+from .forms import ACCESSED_ROW, AGGREGATE_START, APPLIED, LAST_LINES, MEMORY, MEMORY_START, OUT, ROW_START, SHOW_START, ReportError
 from .memory import Memory
 
 
@@ -16,23 +16,33 @@ class Block(NamedTuple):
 
     tick: int
     lines: str
+    rows: int
+    """Where its rows begin."""
 
-    def accessed_rows(self) -> list[tuple[str, str]]:
-        """The places and the counts of the rows that were found accessed, as texts."""
-        return ACCESSED_ROW.findall(self.lines)
+    def accessed_rows(self) -> list[str]:
+        """The rows that were found accessed, as `TARGET START-END count=COUNT`."""
+        return ACCESSED_ROW.findall(self.lines, self.rows)
 
-    def applied(self) -> list[tuple[str, str]]:
-        """The actions of the runs that schemes were applied to, and their places."""
-        if APPLY_START not in self.lines:
-            return []
-        return APPLIED_PLACE.findall(self.lines[: self.lines.find(ROW_START)])
+    def applied(self) -> list[str]:
+        """The runs that schemes were applied to, as `ACTION TARGET START-END score`."""
+        return APPLIED.findall(self.lines, 0, self.rows)
 
 
 def blocks_of(report: str) -> Iterator[Block]:
     """The aggregations. Raises ValueError where there is none."""
     for lines in f"\n{report}".split(AGGREGATE_START)[1:]:
         # Rows of a show are not those of the aggregation before it.
-        yield Block(int(lines[: lines.index(" ")]), lines.partition(SHOW_START)[0])
+        lines = lines.partition(SHOW_START)[0]
+        yield Block(int(lines[: lines.index(" ")]), lines, lines.find(ROW_START))
+
+
+def lines_of(report: str, start: str) -> Iterator[str]:
+    """The lines that begin with this, each with the end of the line before. A pattern would look at each character."""
+    place = report.find(start)
+    while place >= 0:
+        end = report.find("\n", place + 1)
+        yield report[place:end]
+        place = report.find(start, end)
 
 
 def checks_of(report: str) -> int:
@@ -43,9 +53,12 @@ def checks_of(report: str) -> int:
     return int(last[1])
 
 
-def memory_of(report: str) -> list[Memory]:
-    """What `damon reclaim` says of memory after each aggregation, and at the end. Raises ReportError."""
-    found = [Memory._make(map(int, numbers)) for numbers in MEMORY.findall(report)]
-    if len(found) != f"\n{report}".count(AGGREGATE_START) + 1:
+def memory_of(report: str) -> tuple[list[int], list[Memory]]:
+    """What `damon reclaim` says of memory: the pages that are out after each aggregation; and all of the last one, if there is one,
+    and of the end. Raises ReportError."""
+    lines = list(lines_of(report, MEMORY_START))
+    out = OUT.findall("".join(lines[:-1]))
+    last = MEMORY.findall("".join(lines[-2:]))
+    if len(out) != f"\n{report}".count(AGGREGATE_START) or len(last) != min(2, 1 + len(out)):
         raise ReportError("the report does not say after each aggregation how many pages are out")
-    return found
+    return [*map(int, out)], [Memory._make(map(int, numbers)) for numbers in last]

@@ -39,6 +39,11 @@ def named_areas_of(lines: Iterable[str]) -> list[NamedArea]:
     return areas
 
 
+def lines_of(areas: Iterable[NamedArea]) -> str:
+    """The text of a file of these areas."""
+    return "".join(f"{area.start:#x}-{area.end:#x} {area.name}\n" for area in areas)
+
+
 def name_of(areas: Sequence[NamedArea], start: int, end: int) -> str | None:
     """The name of most of these bytes, the first of several that have as many; None if no area has one of them."""
     best = max(areas, key=lambda area: area.shared(start, end), default=None)

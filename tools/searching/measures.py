@@ -42,13 +42,13 @@ class Measured:
 
     def add(self, since: int, block: Block) -> None:
         """Adds an aggregation. Raises ValueError or LookupError if it is none."""
-        truth = self.truths.between(since, block.tick)
-        rows = block.accessed_rows()
-        kinds = self.truths.kinds_at(truth, [place for place, _ in rows])
-        found = Found(truth.pages, truth.accessed, kinds, [int(count) for _, count in rows])
-        self.sums.add(truth, found, self.share * (block.tick - since))
-        for action, place in block.applied():
-            pages = self.truths.pages_at(place)
+        truth, places = self.truths.between(since, block.tick), self.truths.places
+        rows = [places.rows[row] for row in block.accessed_rows()]
+        least = self.share * (block.tick - since)
+        called = b"".join([truth.kinds[pages] for pages, _ in rows])
+        called_hot = b"".join([truth.kinds[pages] for pages, count in rows if count >= least])
+        self.sums.add(truth, Found(truth.pages, truth.accessed, called, called_hot))
+        for action, pages in map(places.runs.__getitem__, block.applied()):
             self.applied += pages
             self.pageout += pages if action == PAGEOUT else 0
 
@@ -90,11 +90,10 @@ def measures_of(found: Measured) -> dict[str, str]:
 
 def memory_measures(report: str, read: Measured | None) -> dict[str, str]:
     """The measures that `damon reclaim` alone has, from what it says after each aggregation and at the end. Raises ReportError."""
-    *each, end = memory_of(report)
+    each, (*last, end) = memory_of(report)
     # Through an aggregation those pages were out that are out after it, less those that it put out itself and with those that
     # it fetched back. Over all aggregations these add up to the numbers of the last one.
-    moved = each[-1].pageouts - each[-1].prefetches if each else 0
-    out = sum(one.out for one in each) - moved
+    out = sum(each) - sum(one.pageouts - one.prefetches for one in last)
     again = {"again": ratio(read.pageout - end.pageouts, read.pageout)} if read else {}
     return {"pageouts": str(end.pageouts), "refaults": str(end.refaults), "out": ratio(out, len(each)), **again}
 

@@ -12,7 +12,7 @@ from pathlib import Path
 from statistics import mean, stdev
 from typing import Iterable, Iterator, Self, Sequence
 
-from common import UsageError
+from common import UsageError, whole_file
 
 from .plan import SEED
 
@@ -106,16 +106,11 @@ def points_header(columns: Sequence[str], measures: Sequence[str]) -> list[str]:
 
 
 def write_points(runs: Path, path: Path, columns: Sequence[str], measures: Sequence[str], seeds: int) -> None:
-    """Writes the rows of points, each from the rows of its seeds. The file is there as a whole or not at all."""
-    unready = path.with_name(f".{path.name}.{os.getpid()}")
-    try:
-        with open(unready, "w", encoding="utf-8") as stream:
-            stream.write(line_of(points_header(columns, measures)))
-            for rows in rows_of_points(runs, seeds):
-                stream.write(line_of(point_cells(rows, len(columns) - 1, len(measures))))
-        os.replace(unready, path)
-    finally:
-        unready.unlink(missing_ok=True)
+    """Writes the rows of points, each from the rows of its seeds."""
+    with whole_file(path) as stream:
+        stream.write(line_of(points_header(columns, measures)).encode())
+        for rows in rows_of_points(runs, seeds):
+            stream.write(line_of(point_cells(rows, len(columns) - 1, len(measures))).encode())
 
 
 def rows_of_points(path: Path, seeds: int) -> Iterator[list[list[str]]]:

@@ -9,7 +9,6 @@ from __future__ import annotations
 
 import hashlib
 import json
-import os
 import sys
 import zlib
 from array import array
@@ -18,7 +17,7 @@ from itertools import accumulate, pairwise
 from pathlib import Path
 from typing import Any, NamedTuple
 
-from common import UsageError
+from common import UsageError, whole_file
 
 from .accesses import Origin
 from .intervals import Recording, Runs
@@ -45,7 +44,7 @@ def is_kept(path: str | Path) -> bool:
 
 
 def keep(path: str | Path, kept: Kept) -> None:
-    """Writes a kept trace. The file is there as a whole or not at all."""
+    """Writes a kept trace."""
     recording = kept.recording
     lists = [array(NUMBER, [len(runs) // 2 for runs in recording.intervals])]
     lists.append(array(NUMBER, [page for runs in recording.intervals for page in runs]))
@@ -53,13 +52,8 @@ def keep(path: str | Path, kept: Kept) -> None:
     said = {**kept.origin._asdict(), "length": recording.length, "accesses": recording.accesses,
             "duration": recording.duration, "lists": list(map(len, lists))}
     rest = json.dumps(said).encode() + b"\n" + zlib.compress(b"".join(map(bytes_of, lists)))
-    target = Path(path)
-    unready = target.with_name(f".{target.name}.{os.getpid()}")
-    try:
-        unready.write_bytes(HEADER + hashlib.sha256(rest).hexdigest().encode() + b"\n" + rest)
-        os.replace(unready, target)
-    finally:
-        unready.unlink(missing_ok=True)
+    with whole_file(Path(path)) as stream:
+        stream.write(HEADER + hashlib.sha256(rest).hexdigest().encode() + b"\n" + rest)
 
 
 def kept_at(path: str | Path) -> Kept:

@@ -12,6 +12,7 @@ from .areas import Area, Lookup
 LINE = re.compile(r"([0-9a-f]+)-([0-9a-f]+) ([-r][-w][-x][-ps]) [0-9a-f]+ [0-9a-f]+:[0-9a-f]+ [0-9]+ *(.*)")
 BRACKETS = re.compile(r"\[(?:anon:)?(.*)\]")
 DELETED = " (deleted)"
+UNPRINTED = re.compile(r"[^ -~]")
 ANONYMOUS = "anonymous"
 HEAP, STACK = "heap", "stack"
 
@@ -52,7 +53,8 @@ def mappings(lines: Iterable[str]) -> list[Mapping]:
 def name_of(text: str) -> str:
     """The last part of a path, or what stands in brackets."""
     match = BRACKETS.fullmatch(text)
-    return match[1] if match else text.removesuffix(DELETED).rsplit("/", 1)[-1]
+    name = match[1] if match else text.removesuffix(DELETED).rsplit("/", 1)[-1]
+    return UNPRINTED.sub("?", name).strip() or ANONYMOUS
 
 
 def anonymous_name(first: int, after: int) -> str:
@@ -60,6 +62,13 @@ def anonymous_name(first: int, after: int) -> str:
     if after == STACK_AFTER:
         return STACK
     return HEAP if LOADER_FIRST <= first < MAPPED_FIRST else ANONYMOUS
+
+
+def known_names(areas: list[Area], uses: Map[int, int], maps: list[Mapping] | None, is_valgrinds: bool) -> dict[int, str]:
+    """The names of targets that have one: by the maps, or else by the places at which valgrind puts things."""
+    if maps is None:
+        return names_by_place(areas) if is_valgrinds else {}
+    return {target: name for target, name in names_by_maps(areas, uses, maps).items() if name != ANONYMOUS}
 
 
 def names_by_maps(areas: list[Area], uses: Map[int, int], maps: list[Mapping]) -> dict[int, str]:

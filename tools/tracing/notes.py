@@ -13,8 +13,6 @@ from wording import counted
 from .accesses import Origin
 from .areas import Choice
 from .intervals import Recording
-from .lackey import LackeyTrace
-from .names import ANONYMOUS, Mapping, names_by_maps, names_by_place
 from .script import Settings, Writer
 
 
@@ -36,7 +34,8 @@ class Result:
     """What the clock counts of each interval."""
     settings: Settings
     origin: Origin
-    maps: list[Mapping] | None
+    names: dict[int, str]
+    """Of the targets that have one."""
     said: list[str]
     """What was said while the trace was read."""
 
@@ -75,13 +74,7 @@ def counted_accesses(number: int) -> str:
 
 def names(result: Result) -> Iterator[str]:
     """The names of targets, as options of the picture."""
-    areas = result.choice.kept
-    if result.maps is not None:
-        known = names_by_maps(areas, result.recording.uses, result.maps)
-    else:
-        # The places are those of valgrind.
-        known = names_by_place(areas) if result.origin.form == LackeyTrace.form else {}
-    words = [f"--label {shlex.quote(f'{target}={known[target]}')}" for target in sorted(known) if known[target] != ANONYMOUS]
+    words = [f"--label {shlex.quote(f'{target}={name}')}" for target, name in sorted(result.names.items())]
     if words:
         yield f"names of targets for tools/picture.py: {' '.join(words)}"
 

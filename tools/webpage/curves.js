@@ -9,17 +9,19 @@ function stepsOf(curve, x, width) {
   const points = [], { ticks, values } = curve;
   const first = Math.max(0, firstAbove(ticks, x.domain()[0], 0, ticks.length) - 1);
   const after = Math.min(ticks.length, firstAbove(ticks, x.domain()[1], first, ticks.length) + 1);
-  const isDense = after - first > 2 * width;
+  const isDense = after - first > 2 * width, [since, until] = x.domain(), placeOf = tick => width * (tick - since) / (until - since);
   let group = null;
   const flush = () => {
     if (group) for (const value of [group.first, group.least, group.most, group.last]) points.push([group.place, value]);
   };
   for (let at = first; at < after; at++) {
-    const from = x(at ? ticks[at - 1] : curve.start), to = x(ticks[at]), value = values[at], place = Math.round(from);
+    const from = placeOf(at ? ticks[at - 1] : curve.start), value = values[at], place = Math.round(from);
     if (!isDense) {
-      points.push([from, value], [to, value]);
+      points.push([from, value], [placeOf(ticks[at]), value]);
     } else if (group?.place === place) {
-      group = { place, first: group.first, least: Math.min(group.least, value), most: Math.max(group.most, value), last: value };
+      group.least = Math.min(group.least, value);
+      group.most = Math.max(group.most, value);
+      group.last = value;
     } else {
       flush();
       group = { place, first: value, least: value, most: value, last: value };

@@ -4,6 +4,12 @@
 
 const GUTTER = { left: 112, right: 18 };
 
+/** A canvas with this size. To give it the size that it has would clear it. */
+function resized(canvas, width, height) {
+  if (canvas.width !== width || canvas.height !== height) Object.assign(canvas, { width, height });
+  return canvas;
+}
+
 class Lane {
   constructor(view, parent, height) {
     this.view = view;
@@ -12,7 +18,7 @@ class Lane {
     this.svg = this.root.append("svg").attr("aria-hidden", "true");
     this.lines = this.svg.append("path").attr("class", "commit-lines");
     this.cursor = this.svg.append("rect").attr("class", "cursor");
-    this.width = 0;
+    this.width = this.drawnAt = 0;
     this.setHeight(height);
   }
 
@@ -45,13 +51,19 @@ class Lane {
   /** Gives the canvas a point for each point of the screen; gives how many. */
   fitCanvas() {
     const ratio = window.devicePixelRatio, width = Math.max(1, Math.round(this.width * ratio)), height = Math.max(1, Math.round(this.height * ratio));
-    if (this.canvas.width !== width || this.canvas.height !== height) Object.assign(this.canvas, { width, height });
+    resized(this.canvas, width, height);
     Object.assign(this.canvas.style, { left: `${GUTTER.left}px`, width: `${this.width}px`, height: `${this.height}px` });
     return { width, height };
   }
 
-  draw() {
-    this.drawContent();
+  /** Draws the lane. Where there is no time, one that has a picture shows that at its new place, and stays stale. */
+  draw(hasTime) {
+    if (hasTime || !this.picture) {
+      this.drawContent();
+      Object.assign(this, { isStale: false, drawnAt: performance.now() });
+    } else {
+      this.movePicture();
+    }
     this.drawCursor();
   }
 

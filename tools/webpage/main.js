@@ -1,6 +1,9 @@
 /* Puts the page together, and draws again what has changed. */
 "use strict";
 
+/** The milliseconds of a frame after which pictures are only moved: half of what a screen with sixty frames in a second has. */
+const MOST_OF_FRAME = 8;
+
 class Page {
   constructor(meta, buffer) {
     this.reports = meta.reports.map(report => new Report(report, buffer, meta.targets));
@@ -97,6 +100,7 @@ class Page {
   change(what) {
     if (!this.changed.size) requestAnimationFrame(() => this.draw());
     this.changed.add(what);
+    document.body.dataset.isDrawn = "no";
   }
 
   draw() {
@@ -113,16 +117,17 @@ class Page {
     }
     // All are measured before one is drawn: a measure after a change would lay the page out again each time.
     const seen = this.lanes.filter(lane => lane.isStale && lane.measure());
-    for (const lane of seen) {
-      lane.draw();
-      lane.isStale = false;
-    }
+    // While the view moves each lane comes to its turn, and one in each frame at least.
+    seen.sort((one, other) => one.drawnAt - other.drawnAt);
+    const end = performance.now() + MOST_OF_FRAME;
+    seen.forEach((lane, place) => lane.draw(place === 0 || performance.now() < end));
     if (changed.has("cursor")) {
       for (const lane of this.lanes) lane.drawCursor();
       this.focusedLane()?.followCursor();
     }
     if (changed.has("cursor") || changed.has("mode") || this.tables.root.node().childElementCount === 0) this.tables.draw();
-    document.body.dataset.drawn = Number(document.body.dataset.drawn ?? 0) + 1;
+    if (seen.some(lane => lane.isStale)) this.change("rest");
+    else if (!this.changed.size) document.body.dataset.isDrawn = "yes";
   }
 }
 

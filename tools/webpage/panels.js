@@ -26,17 +26,31 @@ class HeatLane extends Lane {
     return Math.floor(this.y.invert(clientY - this.node.getBoundingClientRect().top));
   }
 
+  /** Draws a picture of what the view has, and shows it. */
   drawContent() {
     const { width, height } = this.fitCanvas(), { view, page } = this;
     const frame = new Frame(this.number, view.time, view.pages[this.number], width, height);
+    this.frame = frame;
+    this.picture = resized(this.picture ?? document.createElement("canvas"), width, height);
     if (this.reports.length === 1) {
       const marks = page.colours.size ? marksOf(this.reports[0], frame, page.colours) : null;
-      paint(this.canvas, frame, page.palette, sharesOf(this.reports[0], frame), share => page.palette.heat[levelOf(share)], marks);
+      paint(this.picture, frame, page.palette, sharesOf(this.reports[0], frame), share => page.palette.heat[levelOf(share)], marks);
     } else {
       const [first, second] = this.reports.map(report => sharesOf(report, frame));
-      paint(this.canvas, frame, page.palette, second.map((share, at) => share - first[at]),
+      paint(this.picture, frame, page.palette, second.map((share, at) => share - first[at]),
         share => page.palette.difference[differenceLevel(share)], null);
     }
+    this.movePicture();
+  }
+
+  /** Shows the picture where its time and its pages are in the view. */
+  movePicture() {
+    const { width, height } = this.fitCanvas(), { x, y, picture, frame } = this, context = this.canvas.getContext("2d");
+    const [left, right] = frame.time.map(tick => Math.round(x(tick) * width / this.width));
+    const [bottom, top] = frame.pages.map(page => Math.round(y(page) * height / this.height));
+    context.imageSmoothingEnabled = false;
+    context.clearRect(0, 0, width, height);
+    context.drawImage(picture, left, top, right - left, bottom - top);
     this.drawAxis();
     this.drawCommits(this.reports);
   }
