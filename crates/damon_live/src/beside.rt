@@ -80,17 +80,19 @@ fn call_beside<N: Named + Send + Sync, R: Threads + Wait + Sync, P: Pace + Sync>
 )
     requires { shared.now.words.now ≡ N.table }
 {
-    let threads = made.len().max(1);
     thread::join(
         rt,
-        || thread::for_each_mut(
-            rt,
-            made,
-            threads,
-            &|controller: usize, calls: &mut u32| {
-                *calls = call_all(rt, shared, lock, controller);
-            },
-        ),
+        || {
+            let threads = made.len().max(1);
+            thread::for_each_mut(
+                rt,
+                made,
+                threads,
+                &|controller: usize, calls: &mut u32| {
+                    *calls = call_all(rt, shared, lock, controller);
+                },
+            );
+        },
         || -> ()
             requires { shared.now.words.now ≡ N.table }
         { pass_all(rt, shared, lock) },

@@ -1,10 +1,9 @@
 // A journal in its room, the text of one without entries, and receipts that grow.
 use damon_control::LiveScript;
 use damon_core::Monitor;
+use damon_journal::{Entry, Journal, Receipt, ReceiptList, journal_text};
 use damon_types::{Attrs, PlainList, RangeSpec, Space, Target, Version};
-use journal_text::journal_text;
 use live_commit::Setup;
-use run_journal::{Entry, Journal, Receipt, ReceiptList};
 use std::alloc::Global;
 use std::test::Fail;
 

@@ -1,5 +1,5 @@
 // Words from a later position on are the last of those from the first position on.
-use run_journal::words_at;
+use damon_journal::words_at;
 use std::process::Abort;
 
 // Checks that the words from position 3 on are the last two of five.

@@ -1,10 +1,8 @@
 // Runs under gates, whose texts no run of one thread can write.
 use crate::texts::ONE_PAGE;
+use damon_journal::{Lawful, Status, verify};
 use damon_live::{GatePace, Hold, LiveEnd, Pace, Spot, live_main};
 use damon_types::{MemSink, MemSource};
-use journal_check::verify;
-use run_journal::Lawful;
-use run_status::Status;
 use std::alloc::{AllocError, Global};
 use std::process::Abort;
 use std::sync::Wait;

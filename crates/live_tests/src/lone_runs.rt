@@ -3,8 +3,8 @@ ghost use Rattle.std.specs.Prelude.{◌≤◌, length};
 
 use crate::texts::ONE_PAGE;
 use damon_control::{MAX_BYTES, live_scripts_are_sound, read_live};
+use damon_journal::journal_text;
 use damon_live::{AloneRun, MAX_RESULTS, run_alone};
-use journal_text::journal_text;
 use std::alloc::{AllocError, Global};
 use std::process::Abort;
 use std::test::Fail;

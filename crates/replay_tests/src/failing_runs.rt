@@ -1,7 +1,7 @@
 // Runs whose input or output fails in the middle. Other whole runs are cases of tests/cases.
 use damon_app::replay_main;
+use damon_journal::Status;
 use damon_types::{FaultSink, FaultSource};
-use run_status::Status;
 use std::alloc::{AllocError, Global};
 use std::test::Fail;
 
