@@ -76,6 +76,12 @@ def kept_at(path: str | Path) -> Kept:
         raise UsageError(f"{path}: this kept trace is damaged: keep it again with --keep") from None
 
 
+def interval_of(kept: Kept, passes: int) -> int:
+    """The interval with which a kept trace has about so many passes."""
+    length, count = kept.recording.length, len(kept.recording.intervals)
+    return length * max(1, (2 * count + passes) // (2 * passes))
+
+
 def recording_of(said: dict[str, Any], block: bytes) -> Recording:
     lists = []
     for number in said["lists"]:
