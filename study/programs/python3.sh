@@ -1,0 +1,24 @@
+# Builds a graph of 300 towns with 1,200 roads, and finds the shortest ways from 4 of them; makes JSON of the result and reads it again.
+# Debian: python3
+cat > roads.py <<'PYTHON'
+import heapq, json, random
+
+def shortest(roads, start):
+    far, queue = {start: 0}, [(0, start)]
+    while queue:
+        passed, town = heapq.heappop(queue)
+        if passed > far[town]:
+            continue
+        for other, length in roads[town].items():
+            if passed + length < far.get(other, 1 << 30):
+                far[other] = passed + length
+                heapq.heappush(queue, (far[other], other))
+    return far
+
+random.seed(1)
+towns = [f"town {number}" for number in range(300)]
+roads = {town: {random.choice(towns): random.randrange(1, 100) for road in range(4)} for town in towns}
+ways = {start: shortest(roads, start) for start in towns[:4]}
+print(sum(map(len, json.loads(json.dumps(ways)).values())))
+PYTHON
+traced python3 -B -S roads.py
